@@ -7,11 +7,13 @@
 //! Crates above give these types again under the names that their callers expect.
 #![tactic(auto)]
 
+mod limits;
 mod refusal;
 mod row;
 mod status;
 mod verdict;
 
+pub use limits::{MAX_NODES, MAX_NUM, MAX_PORTS};
 pub use refusal::BuildError;
 pub use row::{NodePorts, NodeRow, Port, State};
 pub use status::Status;
