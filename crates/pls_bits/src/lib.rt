@@ -1,4 +1,5 @@
-//! Lists of bits: one that grows, borrowed ranges of it, and a cursor that reads from the front.
+//! Lists of bits: one that grows, borrowed ranges of it, a cursor that reads from the front, and
+//! their hex text.
 //!
 //! Each type is seen as a list of truth values, the first bit first. How the bits lie in memory is
 //! this crate's own business: a clause above it speaks of the list alone.
@@ -6,8 +7,14 @@
 
 mod bit_buf;
 mod bits;
+mod bytes;
 mod cursor;
+mod hex_error;
+mod hex_text;
 
 pub use bit_buf::BitBuf;
 pub use bits::Bits;
+pub use bytes::byte_count_of;
 pub use cursor::Cursor;
+pub use hex_error::HexError;
+pub use hex_text::{from_hex, spells_bits};
