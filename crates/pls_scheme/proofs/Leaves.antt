@@ -1,0 +1,13 @@
+-- What verdicts by rules name.
+use Rattle.std.proofs.Common.{ℕ, ◌+◌, Bool, true, false, List, [], ◌∷◌, if◌then◌else◌, arith}
+use Rattle.pls_model.specs.declared.verdict.Verdict.TheVariants.{Reject}
+use Rattle.pls_scheme.specs.Judging.{judged_from, LeafWithin}
+
+-- a verdict by rules names leaf 1
+pub judged-leaf : (number : ℕ) (rules : List Bool) → LeafWithin 1 (judged_from number rules)
+judged-leaf number [] = tt
+judged-leaf number (holds ∷ others) = by holds (judged-leaf (number + 1) others)
+  where
+    by : (b : Bool) → LeafWithin 1 (judged_from (number + 1) others) → LeafWithin 1 (if b then judged_from (number + 1) others else Reject 1 number)
+    by true later = later
+    by false later = omega arith
