@@ -7,6 +7,7 @@ ghost use Rattle.pls_base.specs.Decimal.{IsDecimal, IsNoDecimal};
 
 /// The number that a text spells in decimal, without leading zeros, where it is at most `most`;
 /// `None` for every other text.
+#[tactic(auto, using(crate::proofs::Numerals::numeral_from_decimal, crate::proofs::Numerals::decimal_from_numeral))]
 pub fn read_decimal(text: &[u8], most: u64) -> Option<u64>
     ensures spelled { IfSome result (λ number. IsDecimal text.now number) }
     ensures within { IfSome result (λ number. number ≤ most) }
@@ -20,6 +21,7 @@ pub fn read_decimal(text: &[u8], most: u64) -> Option<u64>
 }
 
 // The number that digits stand for, leading zeros allowed, where it is below 2^64.
+#[tactic(auto, using(crate::proofs::Numerals::digit_below, crate::proofs::Numerals::front_below))]
 fn digits_number(text: &[u8]) -> Option<u64>
     ensures digits { IfSome result (λ _. AllDigits 10 text.now) }
     ensures value { IfSome result (λ number. number ≡ digits_value 10 text.now) }
