@@ -1,3 +1,4 @@
 pub mod Packing
 pub mod Digits
 pub mod Text
+mod Worked

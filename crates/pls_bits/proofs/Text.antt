@@ -126,6 +126,14 @@ Spells-from len digits twice low clean =
       written = ap encode_lower (bytes_of-bits_in len t.bytes t.count t.small unused) ∙ t.text;
     }
 
+-- and no other digits are
+pub Spells-exact : (len : ℕ) (digits : List ℕ)
+    → Spells len digits ↔ ((length digits ≡ 2 * byte_count len) × (list_all is_lower_digit digits ≡ true) × (HasSpareBit len digits → ⊥))
+Spells-exact len digits = (
+  λ s. (Spells-length len digits s, Spells-lower len digits s, Spells-clean len digits s),
+  λ plain. Spells-from len digits plain.0 plain.1 plain.2,
+)
+
 -- ---- reading
 
 -- decoding a text gives the bytes of its bits

@@ -8,8 +8,8 @@ use crate::bit_buf::BitBuf;
 use pls_base::NoMemory;
 use std::alloc::Global;
 
-/// How many bytes hold `len` bits.
-pub fn byte_count_of(len: usize) -> usize
+// How many bytes hold `len` bits.
+pub(crate) fn byte_count_of(len: usize) -> usize
     ensures { result ≡ byte_count len }
 {
     len.div_ceil(8)

@@ -11,10 +11,12 @@ mod bytes;
 mod cursor;
 mod hex_error;
 mod hex_text;
+pub mod laws;
+#[cfg(test)]
+mod tests;
 
 pub use bit_buf::BitBuf;
 pub use bits::Bits;
-pub use bytes::byte_count_of;
 pub use cursor::Cursor;
 pub use hex_error::HexError;
 pub use hex_text::{from_hex, spells_bits};
