@@ -1,0 +1,4 @@
+mod Finds
+mod Rising
+mod Repeats
+mod Tables

@@ -1,0 +1,91 @@
+-- Rows whose identities rise.
+use Rattle.std.proofs.Common.{◌≡◌, ◌∙◌, ℕ, suc, ◌+◌, ◌<◌, ◌≤◌, Bool, true, false, cond, ◌==◌, List, [], ◌∷◌, zip, drop, take, length, get_or, Some, None, refl, sym, ap, arith, option_map, zero, is_some, nat_eq, nat_le}
+use Rattle.std.proofs.Math.Dec.{leb}
+use Rattle.std.specs.List.{find, list_any}
+use Rattle.std.proofs.lemmas.Bool.{leb-false, le-leb, lt-leb, ne_eqb}
+use Rattle.std.proofs.lemmas.List.{map-append, take_more, take_all, length-drop}
+use Rattle.std.proofs.lemmas.Slice.Zip.{length-zip, get_or-zip}
+use Rattle.pls_model.specs.declared.row.NodeRow.{NodeRow}
+use Rattle.pls_model.specs.Configuration.{ids_of, out_of_order, row_of}
+use Rattle.indexmap.specs.IndexSet.{insert_key}
+use Rattle.pls_graph.proofs.Finds.{list_any-map, find-here, find-past}
+
+-- each identity is at least `low`, and above those before it
+abbrev pub RiseFrom : ℕ → List NodeRow → Type 0
+RiseFrom low [] = Unit {0}
+RiseFrom low (row ∷ rows) = (low ≤ row.id) × RiseFrom (suc row.id) rows
+
+-- what no refusal of the order says
+pub rises : (rows : List NodeRow) → out_of_order rows ≡ None → RiseFrom 0 rows
+rises [] ordered = tt
+rises (row ∷ rows) ordered = (omega arith, after row rows ordered)
+  where
+    after : (row : NodeRow) (rows : List NodeRow) → out_of_order (row ∷ rows) ≡ None → RiseFrom (suc row.id) rows
+    after row [] ordered = tt
+    after row (next ∷ rows) ordered = by (leb next.id row.id) refl ordered (after next rows)
+      where
+        by : (b : Bool) → leb next.id row.id ≡ b → option_map (λ (pair : NodeRow × NodeRow). pair.1) (cond b (Some (row, next)) (find (λ pair. leb pair.1.id pair.0.id) (zip (next ∷ rows) rows))) ≡ None
+            → (out_of_order (next ∷ rows) ≡ None → RiseFrom (suc next.id) rows) → RiseFrom (suc row.id) (next ∷ rows)
+        by true e ordered rest = absurd (cc)
+        by false e ordered rest = (leb-false next.id row.id e, rest ordered)
+
+-- each identity is at least the lowest
+pub above : (low : ℕ) (rows : List NodeRow) (i : ℕ) (d : NodeRow) → RiseFrom low rows → i < length rows → low ≤ (get_or rows i d).id
+above low [] i d rise within = absurd (omega arith)
+above low (row ∷ rows) zero d rise within = rise.0
+above low (row ∷ rows) (suc i) d rise within =
+    let rest = above (suc row.id) rows i d rise.1 (omega arith) in
+    let first = rise.0 in
+    omega arith
+
+-- no row before a place has the identity at the place
+pub new_at : (low : ℕ) (rows : List NodeRow) (i : ℕ) (d : NodeRow) → RiseFrom low rows → i < length rows → row_of (take i rows) (get_or rows i d).id ≡ None
+new_at low rows zero d rise within = refl
+new_at low [] (suc i) d rise within = refl
+new_at low (row ∷ rows) (suc i) d rise within =
+    let higher = above (suc row.id) rows i d rise.1 (omega arith) in
+    let other : ((get_or rows i d).id == row.id) ≡ false = ne_eqb _ _ (λ e. omega arith) in
+    rw other (new_at (suc row.id) rows i d rise.1 (omega arith))
+
+-- the identities of one more row, put into the set of those before it
+pub ids-more : (rows : List NodeRow) (i : ℕ) (d : NodeRow) → RiseFrom 0 rows → i < length rows
+    → insert_key nat_eq (ids_of (take i rows)) (get_or rows i d).id ≡ ids_of (take (i + 1) rows)
+ids-more rows i d rise within =
+    let row = get_or rows i d in
+    let new : list_any (nat_eq row.id) (ids_of (take i rows)) ≡ false = list_any-map (λ (row : NodeRow). row.id) (nat_eq row.id) (take i rows) ∙ ap is_some (new_at 0 rows i d rise within) in
+    rw new (sym (ap ids_of (take_more rows i d within) ∙ map-append (λ (row : NodeRow). row.id) (take i rows) (row ∷ [])))
+
+-- each row with the next one
+abbrev pub neighbours : List NodeRow → List (NodeRow × NodeRow)
+neighbours rows = zip rows (drop 1 rows)
+
+-- the second of two rows is not above the first
+abbrev pub is_not_above : NodeRow × NodeRow → Bool
+is_not_above pair = nat_le pair.1.id pair.0.id
+
+module _ (rows : List NodeRow) (i : ℕ) (d e : NodeRow) (within : i < length (drop 1 rows)) (before : find is_not_above (take i (neighbours rows)) ≡ None) where
+  abbrev none : NodeRow × NodeRow
+  none = (d, e)
+
+  there : i < length (neighbours rows)
+  there = omega (arith, length-zip rows (drop 1 rows), length-drop 1 rows)
+
+  at : get_or (neighbours rows) i none ≡ (get_or rows i d, get_or (drop 1 rows) i e)
+  at = get_or-zip rows (drop 1 rows) i none (omega (arith, length-drop 1 rows)) within
+
+  -- the rows rise no further
+  pub out_of_order-here : (get_or (drop 1 rows) i e).id ≤ (get_or rows i d).id → out_of_order rows ≡ Some (get_or (drop 1 rows) i e)
+  out_of_order-here falls =
+      let test : is_not_above (get_or (neighbours rows) i none) ≡ true = ap is_not_above at ∙ le-leb _ _ falls in
+      rw (find-here is_not_above (neighbours rows) i none there before test, at)
+
+  -- the rows rise up to here
+  pub in_order-more : (get_or rows i d).id < (get_or (drop 1 rows) i e).id → find is_not_above (take (i + 1) (neighbours rows)) ≡ None
+  in_order-more rise =
+      let test : is_not_above (get_or (neighbours rows) i none) ≡ false = ap is_not_above at ∙ lt-leb _ _ rise in
+      find-past is_not_above (neighbours rows) i none there before test
+
+-- the rows rise up to their end
+pub in_order-all : (rows : List NodeRow) (i : ℕ) → length (drop 1 rows) ≤ i → find is_not_above (take i (neighbours rows)) ≡ None → out_of_order rows ≡ None
+in_order-all rows i past before = ap (option_map (λ (pair : NodeRow × NodeRow). pair.1))
+    (sym (ap (find is_not_above) (take_all i (neighbours rows) (omega (arith, length-zip rows (drop 1 rows))))) ∙ before)
