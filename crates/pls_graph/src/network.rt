@@ -64,6 +64,7 @@ impl Network {
         requires { i < length self.now }
         ensures id { option_map (λ row. row.id) (slice_get self.now i) ≡ Some result.0 }
         ensures state { option_map (λ row. row.state) (slice_get self.now i) ≡ Some result.1 }
+        ensures valid { IsNetwork self.now }
     {
         let row = &self.rows[i];
         (row.id, row.state)

@@ -1,0 +1,42 @@
+//! The words of the command line.
+
+ghost use Rattle.std.specs.Prelude.{◌≡◌, ◌↔◌, IsTrue, map, codes, bytes_eq};
+ghost use Rattle.pls_app.specs.Command.{command_of, scheme_of};
+
+/// A scheme by its name.
+#[derive(Clone, Copy, Debug, PartialEq, Eq)]
+pub enum SchemeName {
+    /// `bipartite`: a colour at each node, which differs across each edge.
+    Bipartite,
+}
+
+/// What a run is asked to do.
+#[derive(Clone, Copy, Debug, PartialEq, Eq)]
+pub enum Command {
+    /// `verify SCHEME`: read a network and labels, and report the verdict of each node.
+    Verify(SchemeName),
+}
+
+// The command that the words are, or `None` where they are none.
+pub(crate) fn read_words(words: &[&str]) -> Option<Command>
+    ensures { result ≡ command_of (map (λ word. word.now) words.now) }
+{
+    match words {
+        [command, scheme] if is_word(command, "verify") => read_scheme(scheme).map(Command::Verify),
+        _ => None,
+    }
+}
+
+// The scheme that a word names.
+fn read_scheme(word: &str) -> Option<SchemeName>
+    ensures { result ≡ scheme_of word.now }
+{
+    is_word(word, "bipartite").then_some(SchemeName::Bipartite)
+}
+
+// Whether two words are the same.
+fn is_word(word: &str, known: &str) -> bool
+    ensures { result ≡ bytes_eq word.now known.now }
+{
+    word == known
+}
