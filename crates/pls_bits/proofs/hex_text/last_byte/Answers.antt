@@ -1,4 +1,4 @@
-use Rattle.std.proofs.Common.{◌≡◌, ◌-◌, arith, drop, length, sym, take, ◌∙◌}
+use Rattle.std.proofs.Common.{◌-◌, arith, drop, length, sym, ◌∙◌}
 use Rattle.std.proofs.lemmas.List.{length-drop, take_all}
 use Rattle.pls_bits.proofs.Digits.{last_two_read}
 use Rattle.pls_bits.proofs.hex_text.last_byte.Goals as goal
