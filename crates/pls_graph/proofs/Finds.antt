@@ -1,10 +1,14 @@
 -- Searches in lists.
-use Rattle.std.proofs.Common.{◌≡◌, ◌∙◌, ℕ, Bool, true, false, cond, not, ◌||◌, ◌==◌, List, [], ◌∷◌, ◌++◌, map, length, position, Option, Some, None, refl, sym, ap, subst, ◌<◌, ◌+◌, is_some, option_map, take, drop, get_or}
-use Rattle.std.specs.List.{find, list_any, prefix_len}
+use Rattle.std.proofs.Common.{◌≡◌, ◌∙◌, ℕ, Bool, true, false, cond, not, ◌||◌, ◌==◌, List, [], ◌∷◌, ◌++◌, map, length, position, Option, Some, None, refl, sym, ap, subst, ◌<◌, ◌+◌, is_some, option_map, take, drop, get_or, zero, suc, arith, slice_get, nat_lt}
+use Rattle.std.specs.List.{find, list_any, prefix_len, position_or_len}
 use Rattle.std.specs.Option.{option_or}
-use Rattle.std.proofs.lemmas.Bool.{eqb-true, eqb-false, eq-eqb, ne_eqb}
+use Rattle.std.proofs.lemmas.Bool.{eqb-true, eqb-false, eq-eqb, ne_eqb, lt-ltb, false≢true, false_from_ne_true}
 use Rattle.std.proofs.lemmas.List.{length-map, take_more, take-append-drop}
-use Rattle.std.proofs.lemmas.List.Folds.{find-append}
+use Rattle.std.proofs.lemmas.List.Folds.{find-append, find_at}
+use Rattle.std.proofs.lemmas.List.Sums.{passes_at_first}
+use Rattle.std.proofs.lemmas.Map.Keys.{any_passes_from_place}
+use Rattle.std.proofs.lemmas.Option.{same_Some, slice_get_within, get_or_from_slice_get}
+use Rattle.pls_model.specs.Configuration.{has_repeat}
 
 prefix_len-map : {X Y : Type 0} (f : X → Y) (p : Y → Bool) (xs : List X) → prefix_len p (map f xs) ≡ prefix_len (λ x. p (f x)) xs
 prefix_len-map f p [] = refl
@@ -14,14 +18,22 @@ prefix_len-map f p (x ∷ xs) = rw (prefix_len-map f p xs) refl
 pub position-map : {X Y : Type 0} (f : X → Y) (p : Y → Bool) (xs : List X) → position p (map f xs) ≡ position (λ x. p (f x)) xs
 position-map f p xs = rw (prefix_len-map f (λ y. not (p y)) xs, length-map) refl
 
--- an image passes where an item is found
-pub list_any-map : {X Y : Type 0} (f : X → Y) (p : Y → Bool) (xs : List X) → list_any p (map f xs) ≡ is_some (find (λ x. p (f x)) xs)
-list_any-map f p [] = refl
-list_any-map {X} f p (x ∷ xs) = by (p (f x)) (list_any-map f p xs)
+-- an item passes where one is found
+pub list_any-find : {X : Type 0} (p : X → Bool) (xs : List X) → list_any p xs ≡ is_some (find p xs)
+list_any-find p [] = refl
+list_any-find {X} p (x ∷ xs) = by (p x) (list_any-find p xs)
   where
-    by : (b : Bool) → list_any p (map f xs) ≡ is_some (find (λ x. p (f x)) xs) → (b || list_any p (map f xs)) ≡ is_some (cond b (Some x) (find (λ x. p (f x)) xs))
+    by : (b : Bool) → list_any p xs ≡ is_some (find p xs) → (b || list_any p xs) ≡ is_some (cond b (Some x) (find p xs))
     by true e = refl
     by false e = e
+
+images_pass : {X Y : Type 0} (f : X → Y) (p : Y → Bool) (xs : List X) → list_any p (map f xs) ≡ list_any (λ x. p (f x)) xs
+images_pass f p [] = refl
+images_pass f p (x ∷ xs) = rw (images_pass f p xs) refl
+
+-- an image passes where an item is found
+pub list_any-map : {X Y : Type 0} (f : X → Y) (p : Y → Bool) (xs : List X) → list_any p (map f xs) ≡ is_some (find (λ x. p (f x)) xs)
+list_any-map f p xs = images_pass f p xs ∙ list_any-find (λ x. p (f x)) xs
 
 -- tests in either order
 pub eqb_comm : (a b : ℕ) → (a == b) ≡ (b == a)
@@ -72,3 +84,46 @@ module _ {X : Type 0} (p : X → Bool) (xs : List X) (i : ℕ) (d : X) (within :
       let split : xs ≡ (take i xs ++ get_or xs i d ∷ []) ++ drop (i + 1) xs = sym (take-append-drop (i + 1) xs) ∙ ap (λ (front : List X). front ++ drop (i + 1) xs) (take_more xs i d within) in
       let front : find p (take i xs ++ get_or xs i d ∷ []) ≡ Some (get_or xs i d) = rw (find-append p (take i xs) (get_or xs i d ∷ []), before, passes) refl in
       ap (find p) split ∙ find-append p (take i xs ++ get_or xs i d ∷ []) (drop (i + 1) xs) ∙ rw front refl
+
+module _ {X : Type 0} (p : X → Bool) (xs : List X) where
+  -- where no item passes, none at a place does
+  pub fails_at : (i : ℕ) (x : X) → list_any p xs ≡ false → slice_get xs i ≡ Some x → p x ≡ false
+  fails_at i x none at = false_from_ne_true (p x) (λ passes. false≢true (sym none ∙ any_passes_from_place p xs i x at passes))
+
+  -- where none is found, none at a place passes
+  pub fails_where_none : (i : ℕ) (x : X) → find p xs ≡ None → slice_get xs i ≡ Some x → p x ≡ false
+  fails_where_none i x none at = fails_at i x (list_any-find p xs ∙ ap is_some none) at
+
+  -- what is found stands at a place and passes
+  pub found_place : (x : X) → find p xs ≡ Some x → (i : ℕ) × (slice_get xs i ≡ Some x) × (p x ≡ true)
+  found_place x found =
+      let i : ℕ = position_or_len p xs in
+      let at : slice_get xs i ≡ Some x = sym (find_at p xs) ∙ found in
+      let passes = passes_at_first p xs x (slice_get_within xs i x at) in
+      (i, at, ap p (sym (get_or_from_slice_get xs i x x at)) ∙ passes)
+
+-- an item is the first with its key, where no key stands twice
+pub placed : {X : Type 0} (key : X → ℕ) (xs : List X) (i : ℕ) (x : X) → has_repeat (map key xs) ≡ false → slice_get xs i ≡ Some x → position_or_len (λ y. key x == key y) xs ≡ i
+placed key [] i x apart at = absurd (cc)
+placed key (first ∷ xs) zero x apart at =
+    let same : (key x == key first) ≡ true = eq-eqb (key x) (key first) (ap key (sym (same_Some first x at))) in
+    rw same refl
+placed {X} key (first ∷ xs) (suc i) x apart at =
+    let parts = or_none (list_any (λ other. key first == other) (map key xs)) (has_repeat (map key xs)) apart in
+    let other : (key x == key first) ≡ false = eqb_comm (key x) (key first) ∙ fails_at (λ (y : X). key first == key y) xs i x (sym (images_pass key (λ other. key first == other) xs) ∙ parts.0) at in
+    rw (other, placed key xs i x parts.1 at) (omega arith)
+  where
+    or_none : (a b : Bool) → (a || b) ≡ false → (a ≡ false) × (b ≡ false)
+    or_none true b none = absurd (cc)
+    or_none false b none = (refl, none)
+
+module _ {X : Type 0} (key : X → ℕ) (xs : List X) (i : ℕ) (x : X) (apart : has_repeat (map key xs) ≡ false) (at : slice_get xs i ≡ Some x) where
+  -- so its place is found by its key
+  pub position-placed : position (λ y. key x == key y) xs ≡ Some i
+  position-placed =
+      let within : nat_lt i (length xs) ≡ true = lt-ltb i (length xs) (slice_get_within xs i x at) in
+      rw (placed key xs i x apart at, within) refl
+
+  -- and it is found itself
+  pub find-placed : find (λ y. key x == key y) xs ≡ Some x
+  find-placed = find_at (λ y. key x == key y) xs ∙ ap (slice_get xs) (placed key xs i x apart at) ∙ at

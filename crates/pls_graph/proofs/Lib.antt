@@ -1,4 +1,8 @@
-mod Finds
+pub mod Members
+pub mod Finds
 mod Rising
 mod Repeats
 mod Tables
+pub mod Valid
+pub mod Placed
+pub mod Adjacent

@@ -1,12 +1,13 @@
 -- Rows whose identities rise.
-use Rattle.std.proofs.Common.{◌≡◌, ◌∙◌, ℕ, suc, ◌+◌, ◌<◌, ◌≤◌, Bool, true, false, cond, ◌==◌, List, [], ◌∷◌, zip, drop, take, length, get_or, Some, None, refl, sym, ap, arith, option_map, zero, is_some, nat_eq, nat_le}
+use Rattle.std.proofs.Common.{◌≡◌, ◌∙◌, ℕ, suc, ◌+◌, ◌<◌, ◌≤◌, Bool, true, false, cond, ◌==◌, List, [], ◌∷◌, zip, drop, take, length, get_or, Some, None, refl, sym, ap, arith, option_map, zero, is_some, nat_eq, nat_le, slice_get}
 use Rattle.std.proofs.Math.Dec.{leb}
 use Rattle.std.specs.List.{find, list_any}
 use Rattle.std.proofs.lemmas.Bool.{leb-false, le-leb, lt-leb, ne_eqb}
 use Rattle.std.proofs.lemmas.List.{map-append, take_more, take_all, length-drop}
+use Rattle.std.proofs.lemmas.Option.{same_Some, slice_get_within, get_or_from_slice_get}
 use Rattle.std.proofs.lemmas.Slice.Zip.{length-zip, get_or-zip}
 use Rattle.pls_model.specs.declared.row.NodeRow.{NodeRow}
-use Rattle.pls_model.specs.Configuration.{ids_of, out_of_order, row_of}
+use Rattle.pls_model.specs.Configuration.{ids_of, has_repeat, out_of_order, row_of}
 use Rattle.indexmap.specs.IndexSet.{insert_key}
 use Rattle.pls_graph.proofs.Finds.{list_any-map, find-here, find-past}
 
@@ -55,6 +56,18 @@ ids-more rows i d rise within =
     let new : list_any (nat_eq row.id) (ids_of (take i rows)) ≡ false = list_any-map (λ (row : NodeRow). row.id) (nat_eq row.id) (take i rows) ∙ ap is_some (new_at 0 rows i d rise within) in
     rw new (sym (ap ids_of (take_more rows i d within) ∙ map-append (λ (row : NodeRow). row.id) (take i rows) (row ∷ [])))
 
+-- no identity stands twice
+pub ids_apart : (low : ℕ) (rows : List NodeRow) → RiseFrom low rows → has_repeat (ids_of rows) ≡ false
+ids_apart low [] rise = refl
+ids_apart low (row ∷ rows) rise = rw (ids_apart (suc row.id) rows rise.1, absent row.id (suc row.id) rows (omega arith) rise.1) refl
+  where
+    absent : (id low : ℕ) (rows : List NodeRow) → id < low → RiseFrom low rows → list_any (λ other. id == other) (ids_of rows) ≡ false
+    absent id low [] below rise = refl
+    absent id low (row ∷ rows) below rise =
+        let first = rise.0 in
+        let other : (id == row.id) ≡ false = ne_eqb _ _ (λ e. omega arith) in
+        rw other (absent id (suc row.id) rows (omega arith) rise.1)
+
 -- each row with the next one
 abbrev pub neighbours : List NodeRow → List (NodeRow × NodeRow)
 neighbours rows = zip rows (drop 1 rows)
@@ -89,3 +102,14 @@ module _ (rows : List NodeRow) (i : ℕ) (d e : NodeRow) (within : i < length (d
 pub in_order-all : (rows : List NodeRow) (i : ℕ) → length (drop 1 rows) ≤ i → find is_not_above (take i (neighbours rows)) ≡ None → out_of_order rows ≡ None
 in_order-all rows i past before = ap (option_map (λ (pair : NodeRow × NodeRow). pair.1))
     (sym (ap (find is_not_above) (take_all i (neighbours rows) (omega (arith, length-zip rows (drop 1 rows))))) ∙ before)
+
+-- the identity at a later place is greater
+pub above_at : (low : ℕ) (rows : List NodeRow) (i j : ℕ) (row later : NodeRow) → RiseFrom low rows → i < j → slice_get rows i ≡ Some row → slice_get rows j ≡ Some later → row.id < later.id
+above_at low [] i j row later rise before at then = absurd (cc)
+above_at low (first ∷ rows) i zero row later rise before at then = absurd (omega arith)
+above_at low (first ∷ rows) zero (suc j) row later rise before at then =
+    let same : first.id ≡ row.id = ap (λ (row : NodeRow). row.id) (same_Some first row at) in
+    let higher : suc first.id ≤ (get_or rows j later).id = above (suc first.id) rows j later rise.1 (slice_get_within rows j later then) in
+    let last : (get_or rows j later).id ≡ later.id = ap (λ (row : NodeRow). row.id) (get_or_from_slice_get rows j later later then) in
+    omega arith
+above_at low (first ∷ rows) (suc i) (suc j) row later rise before at then = above_at (suc first.id) rows i j row later rise.1 (omega arith) at then
