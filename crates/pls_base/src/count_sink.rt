@@ -1,0 +1,38 @@
+//! A sink that takes everything and keeps nothing.
+
+ghost use Rattle.std.specs.Prelude.{◌≡◌, ◌<◌, length, None, IfOk, IsOk};
+ghost use Rattle.std.specs.Io.{WritesAtMost};
+ghost use Rattle.std.specs.Io.KnownBytes.{WriteAppends};
+ghost use Rattle.pls_base.specs.Streams.{HasCause};
+
+use crate::streams::{Failed, Sink};
+
+/// Takes every piece whole and never fails. It tells no bytes.
+#[derive(Clone, Copy, Debug)]
+pub struct CountSink;
+
+impl CountSink {
+    /// A sink that takes everything.
+    pub fn new() -> CountSink {
+        CountSink
+    }
+}
+
+impl Sink for CountSink {
+    ghost taken = { λ _. None };
+
+    ghost faults = { λ _. 0 };
+
+    fn write(&mut self, piece: &[u8]) -> Result<usize, Failed>
+        ensures bound { WritesAtMost result piece.now }
+        ensures some { IfOk result (λ n. 0 < length piece.now → 0 < n) }
+        ensures bytes { WriteAppends None None result piece.now }
+        ensures cause { HasCause 0 0 result }
+
+        // It is never refused, and takes all.
+        ensures sure { IsOk result }
+        ensures count { IfOk result (λ n. n ≡ length piece.now) }
+    {
+        Ok(piece.len())
+    }
+}

@@ -1,0 +1,70 @@
+//! Numbers in decimal.
+
+ghost use Rattle.std.specs.Prelude.{◌≡◌, ◌+◌, ◌*◌, ◌^◌, ◌<◌, ◌≤◌, IfNone, IfSome, decimal, length, take};
+ghost use Rattle.std.specs.Char.{digit_value};
+ghost use Rattle.std.specs.Str.Parse.{AllDigits, digits_value};
+ghost use Rattle.pls_base.specs.Decimal.{IsDecimal, IsNoDecimal};
+
+/// The number that a text spells in decimal, without leading zeros, where it is at most `most`;
+/// `None` for every other text.
+pub fn read_decimal(text: &[u8], most: u64) -> Option<u64>
+    ensures spelled { IfSome result (λ number. IsDecimal text.now number) }
+    ensures within { IfSome result (λ number. number ≤ most) }
+    ensures none { IfNone result (IsNoDecimal text.now most) }
+{
+    if text.is_empty() || (text.len() > 1 && text[0] == b'0') {
+        return None;
+    }
+    let number = digits_number(text)?;
+    if number <= most { Some(number) } else { None }
+}
+
+// The number that digits stand for, leading zeros allowed, where it is below 2^64.
+fn digits_number(text: &[u8]) -> Option<u64>
+    ensures digits { IfSome result (λ _. AllDigits 10 text.now) }
+    ensures value { IfSome result (λ number. number ≡ digits_value 10 text.now) }
+    ensures none { IfNone result (AllDigits 10 text.now → 2 ^ 64 ≤ digits_value 10 text.now) }
+{
+    let mut number = 0;
+    for byte in text {
+        number = with_digit(number, *byte)?;
+    }
+    Some(number)
+}
+
+// The number with one more digit behind it, where the byte is a digit and it is below 2^64.
+fn with_digit(number: u64, byte: u8) -> Option<u64>
+    ensures digit { IfSome result (λ _. digit_value byte < 10) }
+    ensures value { IfSome result (λ next. next ≡ number * 10 + digit_value byte) }
+    ensures none { IfNone result (digit_value byte < 10
+        → 2 ^ 64 ≤ number * 10 + digit_value byte) }
+{
+    match byte {
+        b'0'..=b'9' => number.checked_mul(10)?.checked_add((byte - b'0') as u64),
+        _ => None,
+    }
+}
+
+/// Writes a number in decimal, without leading zeros, into the front of `into`, and answers how
+/// many digits there are.
+pub fn write_decimal(value: u64, into: &mut [u8; 20]) -> usize
+    ensures digits { IsDecimal (take result into.new) value }
+    ensures within { result ≤ 20 }
+{
+    put_digits(value, into)
+}
+
+// Writes the digits of a number into the front of a slice that has room for them.
+fn put_digits(value: u64, into: &mut [u8]) -> usize
+    requires { length (decimal value) ≤ length into.old }
+    ensures digits { IsDecimal (take result into.new) value }
+    ensures count { result ≡ length (decimal value) }
+{
+    if value < 10 {
+        into[0] = b'0' + value as u8;
+        return 1;
+    }
+    let front = put_digits(value / 10, into);
+    into[front] = b'0' + (value % 10) as u8;
+    front + 1
+}

@@ -1,0 +1,114 @@
+//! A sink into memory, some of whose calls fail.
+
+ghost use Rattle.std.specs.Prelude.{◌≡◌, ◌⊎◌, ◌↔◌, ◌-◌, ◌<◌, ◌≤◌, min, length, Some, IfOk, IsErr, MatchResult};
+ghost use Rattle.std.specs.Io.{WritesAtMost};
+ghost use Rattle.std.specs.Io.KnownBytes.{WriteAppends};
+ghost use Rattle.pls_base.specs.Plan.{IsFullFor, IsPlanned, new_sink};
+ghost use Rattle.pls_base.specs.Steps.{up_by};
+ghost use Rattle.pls_base.specs.Streams.{HasCause};
+
+use crate::counter::Steps;
+use crate::memory::NoMemory;
+use crate::pieces::is_due;
+use crate::streams::{Failed, Sink};
+use std::alloc::Global;
+use std::marker::Model;
+
+/// Keeps the bytes that it takes, at most `room` in all and at most `step` in a call. It tells them.
+#[derive(Drop)]
+pub struct MemSink {
+    bytes: Vec<u8>,
+    room: usize,
+    step: usize,
+    fails: Vec<u64>,
+    calls: Steps,
+    faults: Steps,
+}
+
+impl Model for MemSink {
+    ghost use Rattle.std.specs.Prelude.{◌≤◌, vec_capacity, vec_len};
+    ghost use Rattle.pls_base.specs.Plan.{PlannedSink};
+
+    ghost Value = { PlannedSink };
+
+    ghost view = {
+        λ s. record {
+            taken = s.bytes.items;
+            room = s.room;
+            plan = record { step = s.step; fails = s.fails.items };
+            calls = s.calls;
+            faults = s.faults
+        }
+    };
+
+    ghost invariant = {
+        λ s. (1 ≤ s.step) × (vec_len s.bytes ≤ s.room) × (s.room ≤ vec_capacity s.bytes)
+    };
+}
+
+impl MemSink {
+    /// A sink that has taken nothing. It takes its memory here, and none later. Its k-th write,
+    /// counted from 1, fails exactly where k stands in `fails`, or where there is something to
+    /// write and no room is left.
+    pub fn new(
+        alloc: Global,
+        room: usize,
+        step: usize,
+        fails: Vec<u64>,
+    ) -> Result<MemSink, NoMemory>
+        requires { 1 ≤ step }
+        ensures { IfOk result (λ sink. sink ≡ new_sink room step fails.items) }
+    {
+        let bytes = Vec::with_capacity(alloc, room)?;
+        Ok(MemSink {
+            bytes,
+            room,
+            step,
+            fails,
+            calls: Steps::new(),
+            faults: Steps::new(),
+        })
+    }
+
+    /// All the bytes taken, in order.
+    pub fn bytes(&self) -> &[u8]
+        ensures { result.now ≡ self.now.taken }
+    {
+        self.bytes.as_slice()
+    }
+}
+
+impl Sink for MemSink {
+    ghost taken = { λ s. Some s.taken };
+
+    ghost faults = { λ s. s.faults };
+
+    fn write(&mut self, piece: &[u8]) -> Result<usize, Failed>
+        ensures bound { WritesAtMost result piece.now }
+        ensures some { IfOk result (λ n. 0 < length piece.now → 0 < n) }
+        ensures bytes { WriteAppends (Some self.old.taken) (Some self.new.taken) result piece.now }
+        ensures cause { HasCause self.old.faults self.new.faults result }
+
+        // Which calls fail, how far the others come, and what is counted.
+        ensures fails { IsErr result ↔
+            (IsPlanned self.old.plan self.old.calls ⊎ IsFullFor self.old piece.now) }
+        ensures count { IfOk result (λ n. n ≡ min (min (length piece.now) self.old.plan.step)
+            (self.old.room - length self.old.taken)) }
+        ensures raised { MatchResult result (λ _. self.new.faults ≡ self.old.faults)
+            (λ _. self.new.faults ≡ up_by 1 self.old.faults) }
+        ensures calls { self.new.calls ≡ up_by 1 self.old.calls }
+        ensures plan { self.new.plan ≡ self.old.plan }
+        ensures room { self.new.room ≡ self.old.room }
+    {
+        let due = is_due(&self.fails, self.calls.number());
+        let free = self.room - self.bytes.len();
+        self.calls.tick();
+        if due || (free == 0 && !piece.is_empty()) {
+            self.faults.tick();
+            return Err(Failed);
+        }
+        let count = piece.len().min(self.step).min(free);
+        self.bytes.extend_from_slice(&piece[..count]).unwrap();
+        Ok(count)
+    }
+}

@@ -1,0 +1,91 @@
+//! A source of bytes in memory, some of whose calls fail.
+
+ghost use Rattle.std.specs.Prelude.{◌≡◌, ◌↔◌, ◌<◌, ◌≤◌, min, length, Some, IfOk, IsErr, MatchResult};
+ghost use Rattle.std.specs.Io.{ReadsAtMost};
+ghost use Rattle.std.specs.Io.KnownBytes.{ReadConsumes};
+ghost use Rattle.pls_base.specs.Plan.{IsPlanned, new_source};
+ghost use Rattle.pls_base.specs.Steps.{up_by};
+ghost use Rattle.pls_base.specs.Streams.{HasCause};
+
+use crate::counter::Steps;
+use crate::pieces::{copy_front, is_due};
+use crate::streams::{Failed, Source};
+use std::marker::Model;
+
+/// Gives the bytes of a vector, at most `step` in a call. It tells its bytes.
+#[derive(Drop)]
+pub struct MemSource {
+    bytes: Vec<u8>,
+    at: usize,
+    step: usize,
+    fails: Vec<u64>,
+    calls: Steps,
+    faults: Steps,
+}
+
+impl Model for MemSource {
+    ghost use Rattle.std.specs.Prelude.{◌≤◌, drop, vec_len};
+    ghost use Rattle.pls_base.specs.Plan.{PlannedSource};
+
+    ghost Value = { PlannedSource };
+
+    ghost view = {
+        λ s. record {
+            left = drop s.at s.bytes.items;
+            plan = record { step = s.step; fails = s.fails.items };
+            calls = s.calls;
+            faults = s.faults
+        }
+    };
+
+    ghost invariant = { λ s. (1 ≤ s.step) × (s.at ≤ vec_len s.bytes) };
+}
+
+impl MemSource {
+    /// A source of all the bytes. Its k-th call, counted from 1, fails exactly where k stands in
+    /// `fails`.
+    pub fn new(bytes: Vec<u8>, step: usize, fails: Vec<u64>) -> MemSource
+        requires { 1 ≤ step }
+        ensures { result ≡ new_source bytes.items step fails.items }
+    {
+        MemSource {
+            bytes,
+            at: 0,
+            step,
+            fails,
+            calls: Steps::new(),
+            faults: Steps::new(),
+        }
+    }
+}
+
+impl Source for MemSource {
+    ghost left = { λ s. Some s.left };
+
+    ghost faults = { λ s. s.faults };
+
+    fn read(&mut self, into: &mut [u8]) -> Result<usize, Failed>
+        ensures bound { ReadsAtMost result into.new }
+        ensures bytes { ReadConsumes (Some self.old.left) (Some self.new.left) result into.new }
+        ensures cause { HasCause self.old.faults self.new.faults result }
+
+        // Which calls fail, how far the others come, and what is counted.
+        ensures fails { IsErr result ↔ IsPlanned self.old.plan self.old.calls }
+        ensures count { IfOk result (λ n.
+            n ≡ min (min self.old.plan.step (length into.new)) (length self.old.left)) }
+        ensures raised { MatchResult result (λ _. self.new.faults ≡ self.old.faults)
+            (λ _. self.new.faults ≡ up_by 1 self.old.faults) }
+        ensures calls { self.new.calls ≡ up_by 1 self.old.calls }
+        ensures plan { self.new.plan ≡ self.old.plan }
+    {
+        let due = is_due(&self.fails, self.calls.number());
+        self.calls.tick();
+        if due {
+            self.faults.tick();
+            return Err(Failed);
+        }
+        let count = copy_front(&self.bytes[self.at..], into, self.step);
+        self.at += count;
+        Ok(count)
+    }
+}

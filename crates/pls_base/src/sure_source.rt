@@ -1,0 +1,58 @@
+//! A source of bytes in memory that never fails.
+
+ghost use Rattle.std.specs.Prelude.{◌≡◌, min, length, IfOk, IsOk, Some};
+ghost use Rattle.std.specs.Io.{ReadsAtMost};
+ghost use Rattle.std.specs.Io.KnownBytes.{ReadConsumes};
+ghost use Rattle.pls_base.specs.Streams.{HasCause};
+
+use crate::pieces::copy_front;
+use crate::streams::{Failed, Source};
+use std::marker::Model;
+
+/// Gives the bytes of a vector, as many in a call as there is room for, and never fails. It is
+/// seen as the bytes that are left.
+#[derive(Drop)]
+pub struct SureSource {
+    bytes: Vec<u8>,
+    at: usize,
+}
+
+impl Model for SureSource {
+    ghost use Rattle.std.specs.Prelude.{ℕ, ◌≤◌, List, drop, vec_len};
+
+    ghost Value = { List ℕ };
+
+    ghost view = { λ s. drop s.at s.bytes.items };
+
+    ghost invariant = { λ s. s.at ≤ vec_len s.bytes };
+}
+
+impl SureSource {
+    /// A source of all the bytes.
+    pub fn new(bytes: Vec<u8>) -> SureSource
+        ensures { result ≡ bytes.items }
+    {
+        SureSource { bytes, at: 0 }
+    }
+}
+
+impl Source for SureSource {
+    ghost left = { λ s. Some s };
+
+    ghost faults = { λ _. 0 };
+
+    fn read(&mut self, into: &mut [u8]) -> Result<usize, Failed>
+        ensures bound { ReadsAtMost result into.new }
+        ensures bytes { ReadConsumes (Some self.old) (Some self.new) result into.new }
+        ensures cause { HasCause 0 0 result }
+
+        // It is never refused, and gives all that there is room for.
+        ensures sure { IsOk result }
+        ensures count { IfOk result (λ n. n ≡ min (length into.new) (length self.old)) }
+    {
+        let most = into.len();
+        let count = copy_front(&self.bytes[self.at..], into, most);
+        self.at += count;
+        Ok(count)
+    }
+}
