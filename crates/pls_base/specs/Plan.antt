@@ -35,7 +35,7 @@ new_sink room step fails = record {
   room = room;
   plan = record { step = step; fails = fails };
   calls = 0;
-  faults = 0
+  faults = 0;
 }
 
 -- the next call after so many is one that is to fail

@@ -55,6 +55,7 @@ pub fn write_decimal(value: u64, into: &mut [u8; 20]) -> usize
 }
 
 // Writes the digits of a number into the front of a slice that has room for them.
+#[tactic(auto, using(crate::proofs::Numerals::one_digit, crate::proofs::Numerals::one_more_digit))]
 fn put_digits(value: u64, into: &mut [u8]) -> usize
     requires { length (decimal value) ≤ length into.old }
     ensures digits { IsDecimal (take result into.new) value }

@@ -31,19 +31,15 @@ impl Model for MemSink {
 
     ghost Value = { PlannedSink };
 
-    ghost view = {
-        λ s. record {
-            taken = s.bytes.items;
-            room = s.room;
-            plan = record { step = s.step; fails = s.fails.items };
-            calls = s.calls;
-            faults = s.faults
-        }
-    };
+    ghost view = { λ s. record {
+      taken = s.bytes.items;
+      room = s.room;
+      plan = record { step = s.step; fails = s.fails.items };
+      calls = s.calls;
+      faults = s.faults;
+    } };
 
-    ghost invariant = {
-        λ s. (1 ≤ s.step) × (vec_len s.bytes ≤ s.room) × (s.room ≤ vec_capacity s.bytes)
-    };
+    ghost invariant = { λ s. record { step : 1 ≤ s.step; within : vec_len s.bytes ≤ s.room; memory : s.room ≤ vec_capacity s.bytes } };
 }
 
 impl MemSink {

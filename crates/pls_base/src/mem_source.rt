@@ -8,15 +8,15 @@ ghost use Rattle.pls_base.specs.Steps.{up_by};
 ghost use Rattle.pls_base.specs.Streams.{HasCause};
 
 use crate::counter::Steps;
-use crate::pieces::{copy_front, is_due};
+use crate::pieces::is_due;
 use crate::streams::{Failed, Source};
+use crate::sure_source::SureSource;
 use std::marker::Model;
 
 /// Gives the bytes of a vector, at most `step` in a call. It tells its bytes.
 #[derive(Drop)]
 pub struct MemSource {
-    bytes: Vec<u8>,
-    at: usize,
+    rest: SureSource,
     step: usize,
     fails: Vec<u64>,
     calls: Steps,
@@ -24,21 +24,19 @@ pub struct MemSource {
 }
 
 impl Model for MemSource {
-    ghost use Rattle.std.specs.Prelude.{◌≤◌, drop, vec_len};
+    ghost use Rattle.std.specs.Prelude.{◌≤◌};
     ghost use Rattle.pls_base.specs.Plan.{PlannedSource};
 
     ghost Value = { PlannedSource };
 
-    ghost view = {
-        λ s. record {
-            left = drop s.at s.bytes.items;
-            plan = record { step = s.step; fails = s.fails.items };
-            calls = s.calls;
-            faults = s.faults
-        }
-    };
+    ghost view = { λ s. record {
+      left = s.rest;
+      plan = record { step = s.step; fails = s.fails.items };
+      calls = s.calls;
+      faults = s.faults;
+    } };
 
-    ghost invariant = { λ s. (1 ≤ s.step) × (s.at ≤ vec_len s.bytes) };
+    ghost invariant = { λ s. 1 ≤ s.step };
 }
 
 impl MemSource {
@@ -49,8 +47,7 @@ impl MemSource {
         ensures { result ≡ new_source bytes.items step fails.items }
     {
         MemSource {
-            bytes,
-            at: 0,
+            rest: SureSource::new(bytes),
             step,
             fails,
             calls: Steps::new(),
@@ -84,8 +81,6 @@ impl Source for MemSource {
             self.faults.tick();
             return Err(Failed);
         }
-        let count = copy_front(&self.bytes[self.at..], into, self.step);
-        self.at += count;
-        Ok(count)
+        Ok(self.rest.give(into, self.step))
     }
 }

@@ -1,8 +1,9 @@
 //! A whole text from a source.
 
-ghost use Rattle.std.specs.Prelude.{◌≡◌, ◌≢◌, ◌+◌, ◌<◌, ◌≤◌, ◌^◌, Some, [], vec_len, IfErr, IfOk, IfSome, IsErrOf, OnOk};
-ghost use Rattle.pls_base.specs.Streams.{LosesAtMost, LosesFirst, Rose};
-ghost use Rattle.pls_base.specs.declared.reading.ReadError.TheVariants.{NoMemory as OutOfMemory};
+ghost use Rattle.std.specs.Prelude.{◌≡◌, ◌≢◌, ◌+◌, ◌<◌, ◌≤◌, ◌^◌, Some, [], length, vec_len, IfErr, IfOk, IfSome, IsErrOf, OnErr, OnOk};
+ghost use Rattle.std.specs.Io.KnownBytes.{Consumes, IsAtEnd, Keeps};
+ghost use Rattle.pls_base.specs.Streams.{HasCause, LosesAtMost, LosesFirst, Rose};
+ghost use Rattle.pls_base.specs.declared.reading.ReadError.TheVariants.{Fault as ReadFault, NoMemory as OutOfMemory};
 
 use crate::streams::{Failed, Source};
 use std::alloc::{AllocError, AllocFailed, Global};
@@ -22,6 +23,14 @@ pub enum ReadError {
     NoMemory,
 }
 
+impl From<Failed> for ReadError {
+    ghost from_gives = { λ _ error. error ≡ ReadFault };
+
+    fn from(_: Failed) -> Self {
+        ReadError::Fault
+    }
+}
+
 impl From<AllocError> for ReadError {
     ghost from_gives = { λ _ error. error ≡ OutOfMemory };
 
@@ -38,7 +47,7 @@ impl<T: Drop> From<AllocFailed<T>> for ReadError {
     }
 }
 
-// The most bytes that one read asks for.
+// The most bytes that one read asks for: 64 KiB.
 const PIECE: usize = 65536;
 
 /// Reads all that the source has left, up to its end: at most `limit` bytes.
@@ -46,11 +55,7 @@ const PIECE: usize = 65536;
 /// `Fault` comes only where the source's count of faults rose in this call, and `TooLong` exactly
 /// where `limit` + 1 bytes were taken. After a refusal the source has lost the bytes that were
 /// taken, and no others.
-pub fn read_all<S: Source>(
-    alloc: Global,
-    source: &mut S,
-    limit: u64,
-) -> Result<Vec<u8>, ReadError>
+pub fn read_all<S: Source>(alloc: Global, source: &mut S, limit: u64) -> Result<Vec<u8>, ReadError>
     requires { limit < 2 ^ 32 }
 
     // What is read is all that was left.
@@ -69,15 +74,35 @@ pub fn read_all<S: Source>(
     ensures never_falls { S.faults source.old ≤ S.faults source.new }
 {
     let most = limit as usize;
-    let mut piece = vec![in alloc; 0u8; PIECE.min(most + 1)]?;
+    let mut buffer = vec![in alloc; 0u8; PIECE.min(most + 1)]?;
     let mut bytes = Vec::new(alloc);
     loop {
-        let room = piece.len().min(most + 1 - bytes.len());
-        match source.read(&mut piece[..room]) {
-            Ok(0) => return Ok(bytes),
-            Ok(count) if count > most - bytes.len() => return Err(ReadError::TooLong),
-            Ok(count) => bytes.extend_from_slice(&piece[..count])?,
-            Err(Failed) => return Err(ReadError::Fault),
+        let piece = read_piece(source, &mut buffer, most + 1 - bytes.len())?;
+        if piece.is_empty() {
+            return Ok(bytes);
         }
+        if piece.len() > most - bytes.len() {
+            return Err(ReadError::TooLong);
+        }
+        bytes.extend_from_slice(piece)?;
     }
+}
+
+// Reads once into a buffer, at most `most` bytes, and lends what came.
+fn read_piece<'a, S: Source>(
+    source: &mut S,
+    buffer: &'a mut [u8],
+    most: usize,
+) -> Result<&'a [u8], Failed>
+    ensures short { IfOk result (λ piece. length piece.now ≤ most) }
+    ensures bytes { IfOk result (λ piece.
+        Consumes (S.left source.old) (S.left source.new) piece.now) }
+    ensures end { IfOk result (λ piece. length piece.now ≡ 0 → 0 < most
+        → 0 < length buffer.old → IsAtEnd (S.left source.new)) }
+    ensures unmoved { OnErr result (Keeps (S.left source.old) (S.left source.new)) }
+    ensures cause { HasCause (S.faults source.old) (S.faults source.new) result }
+{
+    let room = most.min(buffer.len());
+    let count = source.read(&mut buffer[..room])?;
+    Ok(&buffer[..count])
 }

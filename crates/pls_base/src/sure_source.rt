@@ -1,6 +1,6 @@
 //! A source of bytes in memory that never fails.
 
-ghost use Rattle.std.specs.Prelude.{◌≡◌, min, length, IfOk, IsOk, Some};
+ghost use Rattle.std.specs.Prelude.{◌≡◌, ◌<◌, ◌++◌, [], min, length, take, IfOk, IsOk, Some};
 ghost use Rattle.std.specs.Io.{ReadsAtMost};
 ghost use Rattle.std.specs.Io.KnownBytes.{ReadConsumes};
 ghost use Rattle.pls_base.specs.Streams.{HasCause};
@@ -34,6 +34,18 @@ impl SureSource {
     {
         SureSource { bytes, at: 0 }
     }
+
+    // Moves the next bytes into the front of `into`, as many as there are and as there is room for,
+    // and at most `most`.
+    pub(crate) fn give(&mut self, into: &mut [u8], most: usize) -> usize
+        ensures count { result ≡ min (min most (length into.new)) (length self.old) }
+        ensures given { self.old ≡ take result into.new ++ self.new }
+        ensures end { result < most → result < length into.new → self.new ≡ [] }
+    {
+        let count = copy_front(&self.bytes[self.at..], into, most);
+        self.at += count;
+        count
+    }
 }
 
 impl Source for SureSource {
@@ -51,8 +63,6 @@ impl Source for SureSource {
         ensures count { IfOk result (λ n. n ≡ min (length into.new) (length self.old)) }
     {
         let most = into.len();
-        let count = copy_front(&self.bytes[self.at..], into, most);
-        self.at += count;
-        Ok(count)
+        Ok(self.give(into, most))
     }
 }
