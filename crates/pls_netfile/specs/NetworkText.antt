@@ -12,10 +12,13 @@ abbrev pub up_word : Option ℕ → List ℕ
 up_word None = codes "-"
 up_word (Some port) = decimal port
 
+-- the words of a node's identity and state: `ID UP MARK NUM`
+abbrev pub state_words : ℕ → State → List (List ℕ)
+state_words id state = decimal id ∷ up_word state.up ∷ decimal state.mark ∷ decimal state.num ∷ []
+
 -- `node ID UP MARK NUM`
 abbrev pub node_line : ℕ → State → List ℕ
-node_line id state =
-    line_of (codes "node" ∷ decimal id ∷ up_word state.up ∷ decimal state.mark ∷ decimal state.num ∷ [])
+node_line id state = line_of (codes "node" ∷ state_words id state)
 
 -- `port NBR WEIGHT`
 abbrev pub port_line : Port → List ℕ

@@ -1,4 +1,13 @@
 //! Lines of a text, and the text of a network.
 #![tactic(auto)]
 
+mod line_kind;
+mod lines;
+mod network_line;
+mod words;
+
+pub use line_kind::{LineKind, next_of};
+pub use lines::Lines;
+pub use network_line::{NodeLine, pointer_then, read_state};
 pub use pls_base::NoMemory;
+pub use words::{after_word, first_word, is_same, last_u32, number_then, u32_then};

@@ -1,0 +1,37 @@
+//! Kinds of line, and how the next line is read as one.
+
+ghost use Rattle.std.specs.Prelude.{◌≡◌, ℕ, List, [], ◌∷◌, IfNone, IfSome};
+ghost use Rattle.pls_netfile.specs.Lines.{Passes, Stands};
+ghost use Rattle.pls_netfile.specs.LineKind.{Says};
+
+use crate::lines::Lines;
+
+/// A kind of line. A value is what one line of the kind says; it may lend parts of the line.
+pub trait LineKind<'a>: Sized + Drop {
+    /// The line that says the value.
+    ghost written: { Self → List ℕ };
+
+    /// The value's parts are in their ranges.
+    ghost Fits: { Self → Type 0 };
+
+    /// What a line says; `None` where it is not of the kind.
+    fn read(line: &'a [u8]) -> Option<Self>
+        ensures fits { IfSome result (λ value. Fits value) }
+        ensures written { IfSome result (λ value. line.now ≡ written value) }
+        ensures none { IfNone result (Says Fits written line.now → ⊥) };
+}
+
+/// What the next line says, which the reader passes; `None` where no line of the kind stands next,
+/// finished by its line feed, and then the reader stays.
+pub fn next_of<'a, K: LineKind<'a>>(lines: &mut Lines<'a>) -> Option<K>
+    ensures fits { IfSome result (λ value. K.Fits value) }
+    ensures passed { IfSome result (λ value. Passes lines.old lines.new (K.written value ∷ [])) }
+    ensures none { IfNone result (Stands (Says K.Fits K.written) lines.old.rest → ⊥) }
+    ensures unchanged { IfNone result (lines.new ≡ lines.old) }
+{
+    let mut ahead = lines.again();
+    let line = ahead.next_line()?;
+    let value = K::read(line)?;
+    *lines = ahead;
+    Some(value)
+}
