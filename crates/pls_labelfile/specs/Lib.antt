@@ -1,1 +1,2 @@
 pub mod LabelsText
+pub mod Misfit

@@ -5,6 +5,8 @@ use Rattle.std.proofs.lemmas.Option.{slice_get-map}
 use Rattle.pls_model.specs.declared.row.State.{State}
 use Rattle.pls_model.specs.declared.row.Port.{Port}
 use Rattle.pls_model.specs.declared.row.NodeRow.{NodeRow}
+use Rattle.pls_model.specs.Configuration.{IsNetwork}
+use Rattle.pls_graph.proofs.Placed.{place_of_row}
 use Rattle.pls_view.specs.Seen.{SeenPort, label_of, seen, seen_port, views}
 
 -- what a port with this weight and label shows
@@ -37,3 +39,12 @@ view_by_parts rows labels i id state ports own shows id_is state_is ports_is own
         let at_state : row.state ≡ state = cc in
         let at_ports : row.ports ≡ ports = cc in
         rw (view_at rows labels i row at, at_id, at_state, at_ports, own_is, ← shows_is) refl
+
+-- in a network the identity at a place is found at that place
+pub placed : (rows : List NodeRow) → IsNetwork rows → (i id : ℕ) → option_map (λ row. row.id) (slice_get rows i) ≡ Some id
+    → position (λ row. id == row.id) rows ≡ Some i
+placed rows net i id id_is = by (slice_get rows i) refl id_is
+  where
+    by : (found : Option NodeRow) → slice_get rows i ≡ found → option_map (λ row. row.id) found ≡ Some id → position (λ row. id == row.id) rows ≡ Some i
+    by None at same = absurd (cc)
+    by (Some row) at same = let same_id : row.id ≡ id = cc in rw same_id at (place_of_row rows net i row at)
