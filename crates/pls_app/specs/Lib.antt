@@ -1,5 +1,2 @@
 pub mod Command
 pub mod Report
-pub mod Input
-pub mod Answer
-pub mod Run

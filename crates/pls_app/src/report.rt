@@ -1,6 +1,6 @@
 //! The text of a report.
 
-ghost use Rattle.std.specs.Prelude.{◌≡◌, ◌++◌, ◌∷◌, IfOk, OnOk, OnErr, string_bytes};
+ghost use Rattle.std.specs.Prelude.{◌≡◌, [], ◌++◌, ◌∷◌, IfOk, OnOk, string_bytes};
 ghost use Rattle.pls_app.specs.Report.{rejecting, rejects, report_text, verdict_line};
 
 use pls_base::NoMemory;
