@@ -1,6 +1,6 @@
 //! The lines of a text, lent one after another.
 
-ghost use Rattle.std.specs.Prelude.{◌≡◌, ◌==◌, ◌+◌, [], ◌∷◌, length, IfNone, IfSome};
+ghost use Rattle.std.specs.Prelude.{◌≡◌, ◌==◌, ◌+◌, ◌<◌, ◌≤◌, ◌^◌, [], ◌∷◌, length, IfNone, IfSome};
 ghost use Rattle.std.specs.Bool.{OnFalse, OnTrue};
 ghost use Rattle.pls_netfile.specs.Plain.{Lacks};
 ghost use Rattle.pls_netfile.specs.Lines.{Passes, Stands};
@@ -76,6 +76,8 @@ impl<'a> Lines<'a> {
     pub fn next_line(&mut self) -> Option<&'a [u8]>
         ensures passed { IfSome result (λ line. Passes self.old self.new (line.now ∷ [])) }
         ensures plain { IfSome result (λ line. Lacks 10 line.now) }
+        ensures fewer { IfSome result (λ _. length self.new.rest < length self.old.rest) }
+        ensures small { self.new.number ≤ 2 ^ 63 }
         ensures none { IfNone result (Lacks 10 self.old.rest) }
         ensures unchanged { IfNone result (self.new ≡ self.old) }
     {
