@@ -18,13 +18,19 @@ use Rattle.pls_netfile.proofs.Passing.{passes_none, passes_then}
 pub no_ports : (old : Left) → PassesPorts old old
 no_ports old = record { ports = []; fits = All-nil FitsPort; passed = passes_none old }
 
+-- the lines of some ports, and then of one more
+pub passes_port : (old mid new : Left) (ports : List Port) (port : Port) → Passes old mid (map port_line ports)
+    → Passes mid new (port_line port ∷ []) → Passes old new (map port_line (ports ++ port ∷ []))
+passes_port old mid new ports port so_far passed =
+    subst (Passes old new) (sym (map_push port_line ports port))
+      (passes_then old mid new (map port_line ports) (port_line port ∷ []) so_far passed)
+
 pub one_port_more : (old mid new : Left) (port : Port) → PassesPorts old mid → FitsPort port
     → Passes mid new (port_line port ∷ []) → PassesPorts old new
 one_port_more old mid new port so_far fits passed = record {
   ports = so_far.ports ++ port ∷ [];
   fits = All-push FitsPort so_far.ports port so_far.fits fits;
-  passed = subst (Passes old new) (sym (map_push port_line so_far.ports port))
-      (passes_then old mid new (map port_line so_far.ports) (port_line port ∷ []) so_far.passed passed)
+  passed = passes_port old mid new so_far.ports port so_far.passed passed
 }
 
 -- a node line and the ports behind it are a row

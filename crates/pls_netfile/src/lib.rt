@@ -4,6 +4,7 @@
 mod line_kind;
 mod lines;
 mod network_line;
+mod network_rows;
 mod network_scan;
 mod network_text;
 mod words;
