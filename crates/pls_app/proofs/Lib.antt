@@ -1,2 +1,4 @@
+mod Outcomes
 mod Reports
+mod Rounds
 mod Worked

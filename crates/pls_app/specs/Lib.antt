@@ -1,2 +1,5 @@
 pub mod Command
 pub mod Report
+pub mod Input
+pub mod Answer
+pub mod Run

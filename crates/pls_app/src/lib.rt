@@ -1,9 +1,19 @@
-//! x
+//! What the program does, whole: [`run`] reads words and an input, and answers with a status and a
+//! text.
+//!
+//! `specs/Answer` says which answer belongs to which words and bytes; the clauses of [`run`] say that
+//! it comes, what a fault or want of memory means, and what `Done` says of the network.
 #![tactic(auto)]
 
+mod answer;
 mod command;
+mod input;
 mod limits;
+mod outcome;
 mod report;
+mod top;
 
 pub use command::{Command, SchemeName};
 pub use limits::MAX_INPUT;
+pub use pls_base::Status;
+pub use top::run;

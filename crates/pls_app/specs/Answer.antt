@@ -1,0 +1,64 @@
+-- What a run answers: a status and a text, from its words and its input.
+use Rattle.std.specs.Prelude.{◌≡◌, ℕ, Bool, true, false, List, [], ◌∷◌, map, codes, decimal, Option, Some, None, if◌then◌else◌, ◌==◌, ◌⊎◌}
+use Rattle.pls_base.specs.declared.text_error.TextError.{TextError}
+use Rattle.pls_base.specs.declared.text_error.TextError.TheVariants.{Form, Limit, Sense, NoMemory}
+use Rattle.pls_base.specs.Quantity.{quantity_text}
+use Rattle.pls_model.specs.declared.status.Status.{Status}
+use Rattle.pls_model.specs.declared.status.Status.TheVariants.{Done, No, Usage, Refused, Limit as OverLimit, NoMemory as OutOfMemory}
+use Rattle.pls_model.specs.declared.row.NodeRow.{NodeRow}
+use Rattle.pls_model.specs.declared.verdict.Verdict.{Verdict}
+use Rattle.pls_netfile.specs.Text.{line_of, text_of}
+use Rattle.pls_scheme.specs.Judging.{round_by}
+use Rattle.pls_colour.specs.Bipartite.{judge_bipartite}
+use Rattle.pls_app.specs.declared.command.Command.{Command}
+use Rattle.pls_app.specs.declared.command.Command.TheVariants.{Verify}
+use Rattle.pls_app.specs.declared.command.SchemeName.TheVariants.{Bipartite}
+use Rattle.pls_app.specs.Command.{command_of}
+use Rattle.pls_app.specs.Report.{rejecting, report_text}
+use Rattle.pls_app.specs.Input.{IsInput, IsRefused}
+
+-- how a run ends, and the text that it writes
+pub record Answer : Type 0 where
+  pub status : Status
+  pub text : List ℕ
+
+-- the answer to words that are no command
+abbrev pub usage : Answer
+usage = record { status = Usage; text = text_of (codes "usage" ∷ []) }
+
+-- the status of a refusal
+abbrev pub refusal_status : TextError → Status
+refusal_status (Form line) = Refused
+refusal_status (Limit quantity) = OverLimit
+refusal_status (Sense number place) = Refused
+refusal_status NoMemory = OutOfMemory
+
+-- the line that says a refusal; want of memory has none
+abbrev pub refusal_line : TextError → List ℕ
+refusal_line (Form line) = line_of (codes "refused" ∷ codes "form" ∷ codes "at" ∷ decimal line ∷ [])
+refusal_line (Limit quantity) = line_of (codes "limit" ∷ quantity_text quantity ∷ [])
+refusal_line (Sense number place) = line_of (codes "refused" ∷ decimal number ∷ codes "at" ∷ decimal place ∷ [])
+refusal_line NoMemory = []
+
+-- the answer to an input that is refused
+abbrev pub refusal : TextError → Answer
+refusal error = record { status = refusal_status error; text = text_of (refusal_line error ∷ []) }
+
+-- the answer to a round: its report, and whether all accept
+abbrev pub report : List (ℕ × Verdict) → Answer
+report rows = record { status = if rejecting rows == 0 then Done else No; text = report_text rows }
+
+-- the answer to a command on an input
+abbrev pub Answers : Command → List ℕ → Answer → Type 0
+Answers (Verify Bipartite) bytes answer =
+    ((error : TextError) × IsRefused bytes error × (answer ≡ refusal error))
+    ⊎ ((rows : List NodeRow) × (labels : List (List Bool)) × IsInput bytes rows labels × (answer ≡ report (round_by judge_bipartite rows labels)))
+
+-- the answer to words on an input
+abbrev pub AnswersWords : Option Command → List ℕ → Answer → Type 0
+AnswersWords None bytes answer = answer ≡ usage
+AnswersWords (Some command) bytes answer = Answers command bytes answer
+
+-- the answer of a run
+abbrev pub IsAnswer : List (List ℕ) → List ℕ → Answer → Type 0
+IsAnswer words bytes answer = AnswersWords (command_of words) bytes answer

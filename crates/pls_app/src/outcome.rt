@@ -1,0 +1,41 @@
+//! What a run comes to before it writes.
+
+ghost use Rattle.std.specs.Prelude.{◌≡◌, ◌+◌, ◌<◌, ◌≤◌, ◌⊎◌, ℕ, List, [], Some, drop, length, IfOk, IfErr, MatchResult, OnOk, Ok, Err};
+ghost use Rattle.pls_base.specs.Streams.{Rose};
+ghost use Rattle.pls_app.specs.Answer.{Answers};
+ghost use Rattle.pls_app.specs.Run.{IsAnswered, IsCause, HasLost, HasRead};
+
+use crate::answer::{Answer, answer_to, refuse};
+use crate::command::Command;
+use crate::limits::MAX_INPUT;
+use pls_base::{NoMemory, Quantity, ReadError, Source, Status, TextError, read_all};
+use std::alloc::Global;
+
+// The answer to a command on all that the source has left, or the status of a run that comes to none:
+// a fault of the source, or want of memory.
+pub(crate) fn answer_from<S: Source>(
+    alloc: Global,
+    command: Command,
+    source: &mut S,
+) -> Result<Answer, Status>
+    ensures answer { IfOk result (λ answer. (bytes : List ℕ) → S.left source.old ≡ Some bytes
+        → Answers command bytes answer) }
+    ensures answered { IfOk result (λ answer. IsAnswered answer.status) }
+    ensures read { OnOk result (HasRead (S.left source.old) (S.left source.new)) }
+    ensures cause { IfErr result (λ status. IsCause status (S.faults source.old) (S.faults source.new)) }
+    ensures lost { HasLost (S.left source.old) (S.left source.new) }
+{
+    match read_all(alloc, source, MAX_INPUT) {
+        Ok(bytes) => or_no_memory(answer_to(alloc, command, &bytes)),
+        Err(ReadError::TooLong) => or_no_memory(refuse(alloc, TextError::Limit(Quantity::Input))),
+        Err(ReadError::NoMemory) => Err(Status::NoMemory),
+        Err(ReadError::Fault) => Err(Status::ReadFault),
+    }
+}
+
+// An answer, or the status of a run that has no memory for one.
+fn or_no_memory(answer: Result<Answer, NoMemory>) -> Result<Answer, Status>
+    ensures { MatchResult answer (λ found. result ≡ Ok found) (λ _. result ≡ Err Status.NoMemory) }
+{
+    answer.map_err(|_| Status::NoMemory)
+}
