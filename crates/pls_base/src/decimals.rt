@@ -1,6 +1,6 @@
 //! Numbers in decimal.
 
-ghost use Rattle.std.specs.Prelude.{◌≡◌, ◌+◌, ◌*◌, ◌^◌, ◌<◌, ◌≤◌, IfNone, IfSome, decimal, length, take};
+ghost use Rattle.std.specs.Prelude.{◌≡◌, ◌+◌, ◌*◌, ◌^◌, ◌<◌, ◌≤◌, ◌↔◌, IfNone, IfSome, IsTrue, decimal, length, slice_index, take};
 ghost use Rattle.std.specs.Char.{digit_value};
 ghost use Rattle.std.specs.Str.Parse.{AllDigits, digits_value};
 ghost use Rattle.pls_base.specs.Decimal.{IsDecimal, IsNoDecimal};
@@ -13,11 +13,19 @@ pub fn read_decimal(text: &[u8], most: u64) -> Option<u64>
     ensures within { IfSome result (λ number. number ≤ most) }
     ensures none { IfNone result (IsNoDecimal text.now most) }
 {
-    if text.is_empty() || (text.len() > 1 && text[0] == b'0') {
+    if !is_plain(text) {
         return None;
     }
     let number = digits_number(text)?;
     if number <= most { Some(number) } else { None }
+}
+
+// Whether there is a digit, and no zero before other digits.
+fn is_plain(text: &[u8]) -> bool
+    ensures { IsTrue result ↔ ((0 < length text.now)
+        × (slice_index text.now 0 ≡ 48 → length text.now ≡ 1)) }
+{
+    !text.is_empty() && (text.len() == 1 || text[0] != b'0')
 }
 
 // The number that digits stand for, leading zeros allowed, where it is below 2^64.
