@@ -53,7 +53,7 @@ digit-is_lower : (v : ℕ) → v < 16 → is_lower_digit (slice_index lower_digi
 digit-is_lower v h = below is_lower_at 16 refl v h
 
 -- a test that holds of each element holds of each that is left
-pub list_all-drop : (test : ℕ → Bool) (xs : List ℕ) (k : ℕ) → list_all test xs ≡ true → list_all test (drop k xs) ≡ true
+list_all-drop : (test : ℕ → Bool) (xs : List ℕ) (k : ℕ) → list_all test xs ≡ true → list_all test (drop k xs) ≡ true
 list_all-drop test xs zero h = h
 list_all-drop test [] (suc k) h = refl
 list_all-drop test (x ∷ xs) (suc k) h = list_all-drop test xs k (and_parts (test x) _ h).1

@@ -1,6 +1,6 @@
 //! A list of bits that grows.
 
-ghost use Rattle.std.specs.Prelude.{◌≡◌, ◌≤◌, ◌++◌, ◌∷◌, ◌↔◌, [], IsTrue, OnErr, OnOk, length};
+ghost use Rattle.std.specs.Prelude.{◌≡◌, ◌++◌, ◌∷◌, ◌↔◌, [], IsTrue, OnErr, OnOk, length};
 
 use crate::bits::Bits;
 use pls_base::NoMemory;

@@ -1,6 +1,6 @@
 //! A borrowed range of bits.
 
-ghost use Rattle.std.specs.Prelude.{◌≡◌, ◌≤◌, ◌<◌, ◌==◌, ◌↔◌, IsTrue, Some, [], length, slice_get, slice_range};
+ghost use Rattle.std.specs.Prelude.{◌≡◌, ◌≤◌, ◌<◌, ◌↔◌, IsTrue, Some, [], length, slice_get, slice_range};
 
 use crate::cursor::Cursor;
 use std::marker::Model;

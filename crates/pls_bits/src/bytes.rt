@@ -1,6 +1,6 @@
 //! Bits packed into bytes, the first bit of a byte the greatest.
 
-ghost use Rattle.std.specs.Prelude.{◌≡◌, ◌≤◌, ◌<◌, ◌+◌, ◌-◌, ◌*◌, ◌==◌, IfOk, length};
+ghost use Rattle.std.specs.Prelude.{◌≡◌, ◌≤◌, ◌<◌, ◌-◌, ◌*◌, IfOk, length};
 ghost use Rattle.std.specs.List.{list_any, range_with_len};
 ghost use Rattle.pls_bits.specs.Bytes.{bit_number, bit_of, bits_in, byte_at, byte_count, bytes_of};
 

@@ -3,7 +3,7 @@
 //! The text has two lower-case digits for each byte that the bits need. The first bit is the
 //! greatest of the first byte, and the bits of the last byte that are not used are 0.
 
-ghost use Rattle.std.specs.Prelude.{◌≡◌, ◌≢◌, ◌≤◌, ◌+◌, ◌-◌, ◌*◌, ◌↔◌, IfOk, IsTrue, Ok, [], ◌∷◌, drop, length, true, false};
+ghost use Rattle.std.specs.Prelude.{◌≡◌, ◌≢◌, ◌≤◌, ◌-◌, ◌*◌, ◌↔◌, IfOk, IsTrue, Ok, [], ◌∷◌, drop, length, true, false};
 ghost use Rattle.std.specs.Result.{IsErrOf};
 ghost use Rattle.std.specs.List.{list_all};
 ghost use Rattle.std.specs.String.{string_bytes};
@@ -35,7 +35,8 @@ pub fn from_hex(alloc: Global, len: usize, digits: &[u8]) -> Result<BitBuf, HexE
     ensures written { IfOk result (λ buf. hex_digits buf ≡ digits.now) }
     ensures length { IsErrOf result HexError.Length ↔ (length digits.now ≢ 2 * byte_count len) }
     ensures digit { IsErrOf result HexError.Digit
-        ↔ ((length digits.now ≡ 2 * byte_count len) × (list_all is_lower_digit digits.now ≡ false)) }
+        ↔ ((length digits.now ≡ 2 * byte_count len)
+        × (list_all is_lower_digit digits.now ≡ false)) }
     ensures spare { IsErrOf result HexError.Spare ↔ HasSpareBit len digits.now }
 {
     if digits.len() != 2 * byte_count_of(len) {

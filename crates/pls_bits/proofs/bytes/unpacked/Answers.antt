@@ -5,4 +5,5 @@ use Rattle.pls_bits.proofs.bytes.unpacked.Goals as goal
 
 pub loop-k-preserved : goal.loop-k-preserved
 loop-k-preserved c =
-    rw (map-range_with_len_more (bit_in c.args.bytes.now) 0 c.loop-k.k c.loop-k.k (omega arith), c.in_ok-push.ensures.pushed, c.loop-k.invariant, c.is_set.ensures) refl
+    let more = map-range_with_len_more (bit_in c.args.bytes.now) 0 c.loop-k.k c.loop-k.k (omega arith) in
+    rw (more, c.in_ok-push.ensures.pushed, c.loop-k.invariant, c.is_set.ensures) refl

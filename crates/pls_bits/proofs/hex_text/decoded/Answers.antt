@@ -24,4 +24,5 @@ returns-in-Ok-clause-long c =
 pub returns-in-Ok-clause-written : goal.returns-in-Ok-clause-written
 returns-in-Ok-clause-written c =
     let same = decoded_bits c.args.len c.args.digits.now c.in-Ok.bytes.items c.requires c.in-Ok.ensures.ok in
-    IfOk-weaker c.unpacked.result _ _ (λ buf e. ap hex_digits (e ∙ ap (bits_in c.args.len) c.as_slice.ensures.value ∙ same) ∙ c.requires.written) c.unpacked.ensures
+    IfOk-weaker c.unpacked.result _ _ (λ buf e. ap hex_digits (e ∙ ap (bits_in c.args.len) c.as_slice.ensures.value ∙ same) ∙ c.requires.written)
+    c.unpacked.ensures

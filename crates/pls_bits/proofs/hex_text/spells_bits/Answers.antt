@@ -12,7 +12,9 @@ pub returns-then-are_lower : goal.returns-then-are_lower
 returns-then-are_lower c = (
   λ clean. Spells-from c.args.len c.args.digits.now (omega arith) (cc)
       (λ spare. clashes c.has_spare_bit.result clean (c.has_spare_bit.ensures.1 spare)),
-  λ text. is_clean c.has_spare_bit.result (λ set. Spells-clean c.args.len c.args.digits.now text (c.has_spare_bit.ensures.0 set)),
+  λ text.
+      is_clean c.has_spare_bit.result
+      (λ set. Spells-clean c.args.len c.args.digits.now text (c.has_spare_bit.ensures.0 set)),
 )
 
 pub returns-else-are_lower : goal.returns-else-are_lower
