@@ -9,11 +9,12 @@ use Rattle.pls_model.specs.declared.row.NodeRow.{NodeRow}
 use Rattle.pls_netfile.specs.Plain.{Lacks, ArePlain}
 use Rattle.pls_netfile.specs.Text.{text_of}
 use Rattle.pls_netfile.specs.Lines.{Stands}
-use Rattle.pls_netfile.specs.NetworkText.{FitsPort, FitsRow, AreRows, AreRowLines, node_line, port_line, row_lines, network_text}
+use Rattle.pls_netfile.specs.NetworkText.{FitsPort, FitsRow, AreRows, AreRowLines, node_line, port_line, row_lines, network_lines, network_text, IsNetworkPart}
 use Rattle.pls_netfile.specs.NetworkLine.{FitsNode, IsNodeLine, IsPortLine}
 use Rattle.pls_netfile.proofs.Cuts.{each-append, each_back, same_first}
 use Rattle.pls_netfile.proofs.Fronts.{text_of-append, first_line, same_line}
-use Rattle.pls_netfile.proofs.Frames.{IsBody, Next, end_plain}
+use Rattle.pls_netfile.proofs.Frames.{IsBody, end_plain, framed_part}
+use Rattle.pls_netfile.proofs.Parts.{IsPart}
 use Rattle.pls_netfile.proofs.NetworkLines.{node_plain, port_plain, node_no_end, port_no_end, node_no_port, end_no_port, end_no_node, same_port, same_node}
 
 -- the node of a row that fits
@@ -159,3 +160,11 @@ pub one_network : (a b : List NodeRow) (x y : List ℕ) → AreRows a → AreRow
 one_network a b x y p q e =
     let behind = same_line (codes "network") (codes "network") (to_end a) (to_end b) x y network_plain network_plain e in
     same_rows a b x y p.each q.each behind.1
+
+-- the lines of a network are a part
+pub network_is_part : IsPart IsNetworkPart
+network_is_part = framed_part (codes "network") AreRowLines network_plain rows_are_body
+
+pub rows_are_part : (rows : List NodeRow) → AreRows rows → IsNetworkPart (network_lines rows)
+rows_are_part rows fits =
+    record { body = flat_map row_lines rows; fits = record { rows = rows; fits = fits; is = refl }; is = refl }

@@ -1,6 +1,7 @@
 -- A reader that passes lines, and then more.
-use Rattle.std.proofs.Common.{◌≡◌, ℕ, ◌+◌, List, [], ◌∷◌, ◌++◌, length, refl, sym, ◌∙◌, ap, subst, append_assoc, length-append, arith}
+use Rattle.std.proofs.Common.{◌≡◌, ℕ, ◌+◌, List, [], ◌∷◌, ◌++◌, length, refl, sym, ◌∙◌, ap, append_assoc, length-append, arith}
 use Rattle.pls_netfile.specs.Text.{text_of}
+use Rattle.pls_base.specs.declared.text_error.TextError.{TextError}
 use Rattle.pls_base.specs.declared.text_error.TextError.TheVariants.{Form}
 use Rattle.pls_netfile.specs.Lines.{Left, Passes, IsFault, IsFormFault}
 use Rattle.pls_netfile.proofs.Fronts.{text_of-append}
@@ -19,8 +20,8 @@ passes_then old mid new front back p q = record {
   number = omega (arith, p.number, q.number, length-append front back)
 }
 
--- a refusal that names the line at which the reader stopped
-pub names_line : (format : List (List ℕ) → Type 0) (old now stopped : Left) (number : ℕ) → number ≡ stopped.number
-    → stopped ≡ now → IsFault format old now.number → IsFormFault format old (Form number)
-names_line format old now stopped number is same fault =
-    (number, refl, subst (IsFault format old) (sym (is ∙ ap (λ left. left.number) same)) fault)
+-- a refusal that names the line in front of which the reader stopped
+pub names_line : (format : List (List ℕ) → Type 0) (old now stopped : Left) (error : TextError)
+    → error ≡ Form stopped.number → stopped ≡ now → IsFault format old now.number → IsFormFault format old error
+names_line format old now stopped error is same fault =
+    (now.number, is ∙ ap (λ left. Form left.number) same, fault)

@@ -69,18 +69,3 @@ pub one_row_less : (written : Written) (read : List NodeRow) (row : NodeRow) (ol
 one_row_less written read row old new remains fits passes no_port =
     one_less written read row old.rest new.rest remains.more remains.fits remains.tells
       (sym passes.stands ∙ remains.stands) fits no_port
-
--- behind the heading all rows are left
-pub all_remains : (written : Written) (passed : Bool) (old new : Left) → IsTold written → old.rest ≡ written.text
-    → OnTrue passed (Passes old new (codes "network" ∷ []))
-    → OnFalse passed (Stands (λ next. next ≡ codes "network") old.rest → ⊥) → Remains written [] new.rest
-all_remains written true old new told starts heading other =
-    let rows = told.rows in
-    let e : codes "network" ++ 10 ∷ new.rest ≡ codes "network" ++ 10 ∷ text_of (to_end rows) =
-        sym heading.stands ∙ starts ∙ told.tells.text in
-    record { more = rows; fits = told.tells.fits.each; tells = told.tells; stands = cc }
-all_remains written false old new told starts heading other =
-    absurd (other (record {
-      line = codes "network"; after = text_of (to_end told.rows); is = refl; plain = network_plain;
-      cut = starts ∙ told.tells.text
-    }))

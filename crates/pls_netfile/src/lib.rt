@@ -1,6 +1,7 @@
 //! Lines of a text, and the text of a network.
 #![tactic(auto)]
 
+mod laws;
 mod line_kind;
 mod lines;
 mod network_line;
@@ -9,6 +10,7 @@ mod network_scan;
 mod network_text;
 mod words;
 
+pub use laws::{no_fault, one_first_fault, one_network};
 pub use line_kind::{LineKind, next_of};
 pub use lines::Lines;
 pub use network_line::{NodeLine, pointer_then, read_state};

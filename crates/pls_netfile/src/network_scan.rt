@@ -36,14 +36,14 @@ fn pass_network<'a>(lines: &mut Lines<'a>) -> Result<NetworkText<'a>, TextError>
 {
     let start = lines.rest();
     if !lines.pass(b"network") {
-        return Err(TextError::Form(lines.number()));
+        return Err(lines.form_error());
     }
     let (nodes, ports) = pass_rows(lines);
     if nodes == 0 {
-        return Err(TextError::Form(lines.number()));
+        return Err(lines.form_error());
     }
     if !lines.pass(b"end") {
-        return Err(TextError::Form(lines.number()));
+        return Err(lines.form_error());
     }
     let text = &start[..start.len() - lines.rest().len()];
     Ok(NetworkText { text, nodes, ports })

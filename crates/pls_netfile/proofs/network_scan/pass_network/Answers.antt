@@ -8,13 +8,13 @@ use Rattle.pls_netfile.proofs.network_scan.pass_network.Goals as goal
 
 pub returns-then-not-pass-clause-form : goal.returns-then-not-pass-clause-form
 returns-then-not-pass-clause-form c =
-    names_line IsNetworkPart c.args.lines.now c.args.lines.now c.pass.new.self c.number.result c.number.ensures
+    names_line IsNetworkPart c.args.lines.now c.args.lines.now c.pass.new.self c.form_error.result c.form_error.ensures
       c.if-not-pass.ensures.unchanged (fault_at_heading c.args.lines.now c.if-not-pass.ensures.other)
 
 pub returns-then-nodes-eq0-clause-form : goal.returns-then-nodes-eq0-clause-form
 returns-then-nodes-eq0-clause-form c =
     let now = c.pass_rows-nodes.new.lines in
-    names_line IsNetworkPart c.args.lines.now now now c.number-then-nodes-eq0.result c.number-then-nodes-eq0.ensures refl
+    names_line IsNetworkPart c.args.lines.now now now c.form_error-then-nodes-eq0.result c.form_error-then-nodes-eq0.ensures refl
       (fault_at_first c.args.lines.now now
         (first_place _ _ _ _ _ c.if-not-pass.ensures.passed c.pass_rows-nodes.ensures.rows c.if-nodes-eq0.true)
         c.pass_rows-nodes.ensures.no_node)
@@ -23,8 +23,8 @@ pub returns-then-not-pass-2-clause-form : goal.returns-then-not-pass-2-clause-fo
 returns-then-not-pass-2-clause-form c =
     let now = c.pass_rows-nodes.new.lines in
     let rows = c.pass_rows-nodes.ensures.rows in
-    names_line IsNetworkPart c.args.lines.now now c.pass-2.new.self c.number-then-not-pass-2.result
-      c.number-then-not-pass-2.ensures c.if-not-pass-2.ensures.unchanged
+    names_line IsNetworkPart c.args.lines.now now c.pass-2.new.self c.form_error-then-not-pass-2.result
+      c.form_error-then-not-pass-2.ensures c.if-not-pass-2.ensures.unchanged
       (fault_at_next c.args.lines.now now rows.rows
         (rows_some _ _ _ _ rows (λ none. c.if-nodes-eq0.false none))
         (next_place _ _ _ _ _ c.if-not-pass.ensures.passed rows) c.pass_rows-nodes.ensures.no_node
