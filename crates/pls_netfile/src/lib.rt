@@ -1,15 +1,19 @@
 //! Lines of a text, and the text of a network.
 #![tactic(auto)]
 
+mod laws;
 mod line_kind;
 mod lines;
 mod network_line;
 mod network_rows;
 mod network_scan;
 mod network_text;
+#[cfg(test)]
+mod tests;
 mod words;
 
-pub use line_kind::{LineKind, next_of};
+pub use laws::{no_fault, one_first_fault, one_network};
+pub use line_kind::{LineKind, count_of, list_of, next_of};
 pub use lines::Lines;
 pub use network_line::{NodeLine, pointer_then, read_state};
 pub use network_scan::scan_network;

@@ -1,11 +1,13 @@
 //! The lines of a text, lent one after another.
 
-ghost use Rattle.std.specs.Prelude.{◌≡◌, ◌==◌, ◌+◌, ◌<◌, ◌≤◌, ◌^◌, [], ◌∷◌, length, IfNone, IfSome};
+ghost use Rattle.std.specs.Prelude.{◌≡◌, ◌↔◌, ◌==◌, ◌+◌, ◌<◌, ◌≤◌, ◌^◌, [], ◌∷◌, length, IfNone, IfSome, IsTrue};
 ghost use Rattle.std.specs.Bool.{OnFalse, OnTrue};
+ghost use Rattle.pls_base.specs.declared.text_error.TextError.TheVariants.{Form};
 ghost use Rattle.pls_netfile.specs.Plain.{Lacks};
 ghost use Rattle.pls_netfile.specs.Lines.{Passes, Stands};
 
 use crate::words::is_same;
+use pls_base::TextError;
 use std::marker::Model;
 
 /// A reader of the lines of a text, which it lends. Each line ends in a line feed.
@@ -57,6 +59,13 @@ impl<'a> Lines<'a> {
         self.number
     }
 
+    /// The refusal that names the next line as the first that is not of the form that is due.
+    pub fn form_error(&self) -> TextError
+        ensures { result ≡ Form self.now.number }
+    {
+        TextError::Form(self.number)
+    }
+
     /// What is left of the text.
     pub fn rest(&self) -> &'a [u8]
         ensures { result.now ≡ self.now.rest }
@@ -66,7 +75,7 @@ impl<'a> Lines<'a> {
 
     /// Whether no byte is left.
     pub fn at_end(&self) -> bool
-        ensures { result ≡ (length self.now.rest == 0) }
+        ensures { IsTrue result ↔ (self.now.rest ≡ []) }
     {
         self.rest.is_empty()
     }
