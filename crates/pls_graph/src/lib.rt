@@ -6,6 +6,8 @@
 mod index;
 mod network;
 mod refusal;
+mod size;
 
 pub use network::Network;
 pub use pls_model::{BuildError, NodePorts, NodeRow, Port, State};
+pub use size::Size;
