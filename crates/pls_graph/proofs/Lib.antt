@@ -4,6 +4,10 @@ mod Rising
 mod Repeats
 mod Tables
 mod Greatest
+pub mod Joined
+mod Spreading
+mod Reaches
+mod Apart
 pub mod Valid
 pub mod Placed
 pub mod Adjacent
