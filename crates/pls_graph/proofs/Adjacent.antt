@@ -1,11 +1,11 @@
 -- In a network two nodes are adjacent exactly where one has a port to the other.
-use Rattle.std.proofs.Common.{◌≡◌, ◌∙◌, ℕ, ◌<◌, ◌⊎◌, inl, inr, Bool, true, false, ◌==◌, nat_lt, List, map, Option, Some, refl, sym, ap, subst, arith, slice_get, Contains}
-use Rattle.std.specs.List.{filter, flat_map, find}
+use Rattle.std.proofs.Common.{◌≡◌, ◌∙◌, ℕ, ◌<◌, inl, inr, true, ◌==◌, nat_lt, List, Some, refl, sym, ap, subst, arith, slice_get, Contains}
+use Rattle.std.specs.List.{filter}
 use Rattle.std.proofs.lemmas.Bool.{cases_order, lt-ltb, eqb-true}
 use Rattle.pls_model.specs.declared.row.Port.{Port}
 use Rattle.pls_model.specs.declared.row.NodeRow.{NodeRow}
 use Rattle.pls_model.specs.Configuration.{row_of, port_to, IsNetwork}
-use Rattle.pls_model.specs.Walk.{Edge, edges_from, edges_of, Joins, Adjacent}
+use Rattle.pls_model.specs.Walk.{Edge, edges_from, edges_of, Adjacent}
 use Rattle.pls_graph.proofs.Members.{Contains-map, Contains-filter, Contains-flat_map, Contains-from_map, Contains-from_filter, Contains-from_flat_map, place_from_Contains, Contains-from_place}
 use Rattle.pls_graph.proofs.Finds.{found_place}
 use Rattle.pls_graph.proofs.Placed.{row_place, row_of_place, port_of_place, names_another, way_back, WayBack}

@@ -1,11 +1,11 @@
 -- Searches in lists.
 use Rattle.std.proofs.Common.{◌≡◌, ◌∙◌, ℕ, Bool, true, false, cond, not, ◌||◌, ◌==◌, List, [], ◌∷◌, ◌++◌, map, length, position, Option, Some, None, refl, sym, ap, subst, ◌<◌, ◌+◌, is_some, option_map, take, drop, get_or, zero, suc, arith, slice_get, nat_lt}
 use Rattle.std.specs.List.{find, list_any, prefix_len, position_or_len}
-use Rattle.std.specs.Option.{option_or}
-use Rattle.std.proofs.lemmas.Bool.{eqb-true, eqb-false, eq-eqb, ne_eqb, lt-ltb, false≢true, false_from_ne_true}
+use Rattle.std.specs.Option.{option_or, IsSome}
+use Rattle.std.proofs.lemmas.Bool.{eqb-true, eqb-false, eq-eqb, ne_eqb, lt-ltb, ltb-false, false≢true, false_from_ne_true}
 use Rattle.std.proofs.lemmas.List.{length-map, take_more, take-append-drop}
 use Rattle.std.proofs.lemmas.List.Folds.{find-append, find_at}
-use Rattle.std.proofs.lemmas.List.Sums.{passes_at_first}
+use Rattle.std.proofs.lemmas.List.Sums.{passes_at_first, fails_before_first}
 use Rattle.std.proofs.lemmas.Map.Keys.{any_passes_from_place}
 use Rattle.std.proofs.lemmas.Option.{same_Some, slice_get_within, get_or_from_slice_get}
 use Rattle.pls_model.specs.Configuration.{has_repeat}
@@ -62,6 +62,11 @@ find-new {X} key done x k new = find-append (λ y. k == key y) done (x ∷ []) �
 pub is_some-option_map : {X Y : Type 0} (f : X → Y) (o : Option X) → is_some (option_map f o) ≡ is_some o
 is_some-option_map f None = refl
 is_some-option_map f (Some x) = refl
+
+-- an image is that of a value
+pub from_option_map : {X Y : Type 0} (f : X → Y) (o : Option X) (y : Y) → option_map f o ≡ Some y → (x : X) × (o ≡ Some x) × (f x ≡ y)
+from_option_map f None y image = absurd (cc)
+from_option_map f (Some x) y image = (x, refl, same_Some (f x) y image)
 
 -- where there is no image there is no value
 pub None-option_map : {X Y : Type 0} (f : X → Y) (o : Option X) → None ≡ option_map f o → o ≡ None
@@ -127,3 +132,22 @@ module _ {X : Type 0} (key : X → ℕ) (xs : List X) (i : ℕ) (x : X) (apart :
   -- and it is found itself
   pub find-placed : find (λ y. key x == key y) xs ≡ Some x
   find-placed = find_at (λ y. key x == key y) xs ∙ ap (slice_get xs) (placed key xs i x apart at) ∙ at
+
+-- an item that is found has a place
+pub position-found : {X : Type 0} (p : X → Bool) (xs : List X) → IsSome (find p xs) → (position p xs ≡ Some (position_or_len p xs)) × (position_or_len p xs < length xs)
+position-found {X} p xs some = by (find p xs) refl some
+  where
+    by : (o : Option X) → find p xs ≡ o → IsSome o → (position p xs ≡ Some (position_or_len p xs)) × (position_or_len p xs < length xs)
+    by None found none = absurd (false≢true none)
+    by (Some x) found some =
+        let within = slice_get_within xs (position_or_len p xs) x (sym (find_at p xs) ∙ found) in
+        let test : nat_lt (position_or_len p xs) (length xs) ≡ true = lt-ltb (position_or_len p xs) (length xs) within in
+        (rw test refl, within)
+
+-- where no place is found, each item fails
+pub fails_where_no_position : {X : Type 0} (p : X → Bool) (xs : List X) (i : ℕ) (d : X) → position p xs ≡ None → i < length xs → p (get_or xs i d) ≡ false
+fails_where_no_position {X} p xs i d none within = by (nat_lt (position_or_len p xs) (length xs)) refl none
+  where
+    by : (b : Bool) → nat_lt (position_or_len p xs) (length xs) ≡ b → cond b (Some (position_or_len p xs)) None ≡ None → p (get_or xs i d) ≡ false
+    by true e none = absurd (cc)
+    by false e none = let past = ltb-false (position_or_len p xs) (length xs) e in fails_before_first p xs i d (omega arith)

@@ -3,6 +3,11 @@ pub mod Finds
 mod Rising
 mod Repeats
 mod Tables
+mod Greatest
+pub mod Joined
+mod Spreading
+mod Reaches
+mod Apart
 pub mod Valid
 pub mod Placed
 pub mod Adjacent

@@ -1,14 +1,14 @@
 -- Where the rows and the ports of a network are found.
-use Rattle.std.proofs.Common.{◌≡◌, ◌≢◌, ◌∙◌, ℕ, ◌<◌, ◌≤◌, Bool, true, false, not, ◌==◌, List, map, length, position, Option, Some, None, refl, sym, ap, arith, is_some, slice_get, get_or, Contains, option_map}
-use Rattle.std.specs.List.{find, list_any}
+use Rattle.std.proofs.Common.{◌≡◌, ◌≢◌, ◌∙◌, ℕ, ◌<◌, true, false, not, ◌==◌, List, [], ◌∷◌, map, length, position, Option, Some, None, refl, ap, slice_get}
 use Rattle.std.specs.Option.{is_none, option_map_or, option_and_then}
 use Rattle.std.proofs.lemmas.Bool.{eqb-true, eqb-false, leb-false, not-false}
-use Rattle.std.proofs.lemmas.Option.{slice_get_within, get_or_from_slice_get}
+use Rattle.std.proofs.lemmas.Option.{same_Some}
 use Rattle.pls_model.specs.declared.row.Port.{Port}
 use Rattle.pls_model.specs.declared.row.NodeRow.{NodeRow}
 use Rattle.pls_model.specs.Configuration.{ids_of, row_of, port_to, has_repeat, links_itself, names_twice, names_unknown, lacks_way_back, differs_in_weight, points_nowhere, IsNetwork}
+use Rattle.pls_graph.specs.Connected.{smallest_id}
 use Rattle.pls_graph.proofs.Finds.{position-placed, find-placed, found_place, fails_at, fails_where_none}
-use Rattle.pls_graph.proofs.Rising.{RiseFrom, rises, ids_apart, above_at}
+use Rattle.pls_graph.proofs.Rising.{RiseFrom, rises, ids_apart, above_at, smallest-first}
 use Rattle.pls_graph.proofs.Valid.{NothingRefused, nothing_refused}
 
 -- the value of an option that is not `None`
@@ -38,6 +38,14 @@ module _ (rows : List NodeRow) (net : IsNetwork rows) where
   -- no identity stands at two places
   pub ids_differ : has_repeat (ids_of rows) ≡ false
   ids_differ = ids_apart 0 rows (rises rows valid.order)
+
+  -- the smallest identity is that of the first row
+  pub smallest_first : (row : NodeRow) → slice_get rows 0 ≡ Some row → smallest_id rows ≡ row.id
+  smallest_first row at = by rows (rises rows valid.order) at
+    where
+      by : (rows : List NodeRow) → RiseFrom 0 rows → slice_get rows 0 ≡ Some row → smallest_id rows ≡ row.id
+      by [] rise at = absurd (cc)
+      by (first ∷ rows) rise at = smallest-first first rows rise.1 ∙ ap (λ (row : NodeRow). row.id) (same_Some first row at)
 
   -- what is found by an identity has it, and stands at a place
   pub row_place : (id : ℕ) (row : NodeRow) → row_of rows id ≡ Some row → (i : ℕ) × (slice_get rows i ≡ Some row) × (id ≡ row.id)

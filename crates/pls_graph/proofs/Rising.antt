@@ -1,5 +1,5 @@
 -- Rows whose identities rise.
-use Rattle.std.proofs.Common.{◌≡◌, ◌∙◌, ℕ, suc, ◌+◌, ◌<◌, ◌≤◌, Bool, true, false, cond, ◌==◌, List, [], ◌∷◌, zip, drop, take, length, get_or, Some, None, refl, sym, ap, arith, option_map, zero, is_some, nat_eq, nat_le, slice_get}
+use Rattle.std.proofs.Common.{◌≡◌, ◌∙◌, ℕ, suc, ◌+◌, ◌<◌, ◌≤◌, Bool, true, false, cond, ◌==◌, List, [], ◌∷◌, zip, drop, take, length, get_or, Some, None, refl, sym, ap, arith, option_map, zero, is_some, nat_eq, nat_le, slice_get, min, fold}
 use Rattle.std.proofs.Math.Dec.{leb}
 use Rattle.std.specs.List.{find, list_any}
 use Rattle.std.proofs.lemmas.Bool.{leb-false, le-leb, lt-leb, ne_eqb}
@@ -113,3 +113,14 @@ above_at low (first ∷ rows) zero (suc j) row later rise before at then =
     let last : (get_or rows j later).id ≡ later.id = ap (λ (row : NodeRow). row.id) (get_or_from_slice_get rows j later later then) in
     omega arith
 above_at low (first ∷ rows) (suc i) (suc j) row later rise before at then = above_at (suc first.id) rows i j row later rise.1 (omega arith) at then
+
+-- the first identity is the smallest
+pub smallest-first : (row : NodeRow) (rows : List NodeRow) → RiseFrom (suc row.id) rows → fold min row.id (ids_of rows) ≡ row.id
+smallest-first row rows rise = least row.id (suc row.id) rows (omega arith) rise
+  where
+    least : (id low : ℕ) (rows : List NodeRow) → id < low → RiseFrom low rows → fold min id (ids_of rows) ≡ id
+    least id low [] below rise = refl
+    least id low (next ∷ rows) below rise =
+        let first = rise.0 in
+        let same : min id next.id ≡ id = omega arith in
+        ap (λ (least : ℕ). fold min least (ids_of rows)) same ∙ least id (suc next.id) rows (omega arith) rise.1

@@ -1,12 +1,11 @@
 -- What holds of a network, one fact for each refusal that does not occur.
-use Rattle.std.proofs.Common.{◌≡◌, List, Option, Some, None, refl, sym, option_map}
+use Rattle.std.proofs.Common.{◌≡◌, List, Option, Some, None, refl, option_map}
 use Rattle.std.specs.List.{find}
 use Rattle.std.specs.Option.{option_or}
 use Rattle.pls_model.specs.declared.row.NodeRow.{NodeRow}
 use Rattle.pls_model.specs.declared.refusal.BuildError.{BuildError}
 use Rattle.pls_model.specs.declared.refusal.BuildError.TheVariants.{Order, SelfLink, Twice, Unknown, OneWay, Weights, Pointer}
-use Rattle.pls_model.specs.Configuration.{out_of_order, links_itself, names_twice, names_unknown, lacks_way_back, differs_in_weight, points_nowhere, first_of, refusal_of}
-use Rattle.pls_graph.proofs.Finds.{None-option_map}
+use Rattle.pls_model.specs.Configuration.{out_of_order, links_itself, names_twice, names_unknown, lacks_way_back, differs_in_weight, points_nowhere, refusal_of}
 
 -- none of the conditions occurs at a row
 pub record NothingRefused (rows : List NodeRow) : Type 0 where

@@ -5,9 +5,11 @@
 
 mod index;
 mod network;
+mod reach;
 mod refusal;
 mod size;
 
 pub use network::Network;
 pub use pls_model::{BuildError, NodePorts, NodeRow, Port, State};
+pub use reach::connected;
 pub use size::Size;

@@ -3,8 +3,10 @@
 ghost use Rattle.std.specs.Prelude.{◌≡◌, ◌<◌, ◌==◌, length, position, slice_get, option_map, None, Some, IfOk, IfErr, OnOk};
 ghost use Rattle.pls_model.specs.Configuration.{IsNetwork, refusal_of, AreWithinLimits};
 ghost use Rattle.pls_graph.specs.Build.{IsRefusal};
+ghost use Rattle.pls_graph.specs.Size.{size_of};
 
 use crate::refusal::checked_ids;
+use crate::size::{Size, size_of_rows};
 use indexmap::IndexSet;
 use pls_model::{BuildError, NodeRow, Port, State};
 use std::alloc::Global;
@@ -50,6 +52,13 @@ impl Network {
         ensures valid { IsNetwork self.now }
     {
         self.rows.len()
+    }
+
+    /// How large the network is. It takes no memory.
+    pub fn size(&self) -> Size
+        ensures { result ≡ size_of self.now }
+    {
+        size_of_rows(self.rows.as_slice())
     }
 
     /// The place of an identity, or `None` where no node has it.
