@@ -36,3 +36,74 @@ framed_part heading Body plain body = record {
 abbrev pub Next : (List (List ℕ) → Type 0) → List (List ℕ) → List ℕ → Type 0
 Next Body front line =
     (Body front × (line ≡ codes "end")) ⊎ ((more : List (List ℕ)) × Body (front ++ line ∷ more))
+
+-- the two ways in which lines of a body and a line behind them begin a body and its `end`
+behind_end : (Body : List (List ℕ) → Type 0) (front : List (List ℕ)) (line : List ℕ) (others body more : List (List ℕ))
+    → Body body → front ≡ body ++ more → codes "end" ∷ [] ≡ more ++ line ∷ others → Next Body front line
+behind_end Body front line others body [] fits longer rest =
+    let last : line ≡ codes "end" = cc in
+    inl (subst Body (sym (append-nil body) ∙ sym longer) fits, last)
+behind_end Body front line others body (first ∷ more) fits longer rest =
+    let none : [] ≡ more ++ line ∷ others = cc in
+    let long : 0 ≡ length more + length (line ∷ others) = ap length none ∙ length-append more (line ∷ others) in
+    absurd (omega arith)
+
+before_end : (Body : List (List ℕ) → Type 0) (front : List (List ℕ)) (line : List ℕ) (others body more : List (List ℕ))
+    → Body body → body ≡ front ++ more → line ∷ others ≡ more ++ codes "end" ∷ [] → Next Body front line
+before_end Body front line others body [] fits longer rest =
+    let last : line ≡ codes "end" = cc in
+    inl (subst Body (longer ∙ append-nil front) fits, last)
+before_end Body front line others body (first ∷ more) fits longer rest =
+    let same : first ≡ line = cc in
+    inr (more, subst Body (longer ∙ ap (λ next. front ++ next ∷ more) same) fits)
+
+-- after some lines of the body of a part comes `end`, or one line more of the body
+pub framed_next : (heading : List ℕ) (Body : List (List ℕ) → Type 0) (front : List (List ℕ)) (line : List ℕ)
+    (others : List (List ℕ)) → IsFramed heading Body (heading ∷ front ++ line ∷ others) → Next Body front line
+framed_next heading Body front line others is =
+    let whole : heading ∷ (is.body ++ codes "end" ∷ []) ≡ heading ∷ (front ++ line ∷ others) = sym is.is in
+    let bodies : is.body ++ codes "end" ∷ [] ≡ front ++ line ∷ others = cc in
+    elim (one_begins is.body front (codes "end" ∷ []) (line ∷ others) bodies) [
+        inl w ↦ behind_end Body front line others is.body w.more is.fits w.longer w.rest
+      | inr w ↦ before_end Body front line others is.body w.more is.fits w.longer w.rest
+    ]
+
+-- some lines of the body of a part, and what may follow them
+due_in_body : (heading : List ℕ) (Body : List (List ℕ) → Type 0) (front more : List (List ℕ)) → Body (front ++ more)
+    → IsFramed heading Body (heading ∷ front ++ (more ++ codes "end" ∷ []))
+due_in_body heading Body front more fits = record {
+  body = front ++ more; fits = fits; is = ap (λ lines. heading ∷ lines) (sym (append_assoc front more (codes "end" ∷ [])))
+}
+
+-- the heading is due, and another line stands next
+pub fault_in_heading : (heading : List ℕ) (Body : List (List ℕ) → Type 0) (some : List (List ℕ)) (old : Left)
+    → Lacks 10 heading → IsBody Body → Body some
+    → (Stands (λ line. line ≡ heading) old.rest → ⊥) → IsFault (IsFramed heading Body) old old.number
+fault_in_heading heading Body some old plain body fits absent = (
+  0,
+  omega arith,
+  faulty (IsFramed heading Body) (λ line. line ≡ heading) [] heading (some ++ codes "end" ∷ []) old.rest old.rest
+    (framed_part heading Body plain body) (due_in_body heading Body [] some fits) refl absent
+    (λ line others is. let e = is.is in cc)
+)
+
+-- a line of the body or `end` is due, and another line stands next
+pub fault_in_body : (heading : List ℕ) (Body : List (List ℕ) → Type 0) (Due : List ℕ → Type 0)
+    (front more : List (List ℕ)) (old now : Left) → Lacks 10 heading → IsBody Body
+    → Passes old now (heading ∷ front) → Body (front ++ more)
+    → (Stands Due now.rest → ⊥) → ((line : List ℕ) → Next Body front line → Due line)
+    → IsFault (IsFramed heading Body) old now.number
+fault_in_body heading Body Due front [] old now plain body passes fits absent due = (
+  length (heading ∷ front),
+  passes.number,
+  faulty (IsFramed heading Body) Due (heading ∷ front) (codes "end") [] old.rest now.rest
+    (framed_part heading Body plain body) (due_in_body heading Body front [] fits) passes.stands absent
+    (λ line others is. due line (framed_next heading Body front line others is))
+)
+fault_in_body heading Body Due front (next ∷ more) old now plain body passes fits absent due = (
+  length (heading ∷ front),
+  passes.number,
+  faulty (IsFramed heading Body) Due (heading ∷ front) next (more ++ codes "end" ∷ []) old.rest now.rest
+    (framed_part heading Body plain body) (due_in_body heading Body front (next ∷ more) fits) passes.stands absent
+    (λ line others is. due line (framed_next heading Body front line others is))
+)

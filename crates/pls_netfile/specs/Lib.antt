@@ -6,3 +6,4 @@ pub mod LineKind
 pub mod Frame
 pub mod NetworkText
 pub mod NetworkLine
+pub mod NetworkScan

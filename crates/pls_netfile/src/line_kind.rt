@@ -1,6 +1,6 @@
 //! Kinds of line, and how the next line is read as one.
 
-ghost use Rattle.std.specs.Prelude.{◌≡◌, ℕ, List, [], ◌∷◌, IfNone, IfSome};
+ghost use Rattle.std.specs.Prelude.{◌≡◌, ℕ, ◌<◌, ◌≤◌, ◌^◌, List, [], ◌∷◌, length, IfNone, IfSome};
 ghost use Rattle.pls_netfile.specs.Lines.{Passes, Stands};
 ghost use Rattle.pls_netfile.specs.LineKind.{Says};
 
@@ -28,6 +28,8 @@ pub fn next_of<'a, K: LineKind<'a>>(lines: &mut Lines<'a>) -> Option<K>
     ensures passed { IfSome result (λ value. Passes lines.old lines.new (K.written value ∷ [])) }
     ensures none { IfNone result (Stands (Says K.Fits K.written) lines.old.rest → ⊥) }
     ensures unchanged { IfNone result (lines.new ≡ lines.old) }
+    ensures fewer { IfSome result (λ _. length lines.new.rest < length lines.old.rest) }
+    ensures small { lines.new.number ≤ 2 ^ 63 }
 {
     let mut ahead = lines.again();
     let line = ahead.next_line()?;

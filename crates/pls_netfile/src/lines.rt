@@ -1,11 +1,13 @@
 //! The lines of a text, lent one after another.
 
-ghost use Rattle.std.specs.Prelude.{◌≡◌, ◌==◌, ◌+◌, [], ◌∷◌, length, IfNone, IfSome};
+ghost use Rattle.std.specs.Prelude.{◌≡◌, ◌↔◌, ◌==◌, ◌+◌, ◌<◌, ◌≤◌, ◌^◌, [], ◌∷◌, length, IfNone, IfSome, IsTrue};
 ghost use Rattle.std.specs.Bool.{OnFalse, OnTrue};
+ghost use Rattle.pls_base.specs.declared.text_error.TextError.TheVariants.{Form};
 ghost use Rattle.pls_netfile.specs.Plain.{Lacks};
 ghost use Rattle.pls_netfile.specs.Lines.{Passes, Stands};
 
 use crate::words::is_same;
+use pls_base::TextError;
 use std::marker::Model;
 
 /// A reader of the lines of a text, which it lends. Each line ends in a line feed.
@@ -57,6 +59,13 @@ impl<'a> Lines<'a> {
         self.number
     }
 
+    /// The refusal that names the next line as the first that is not of the form that is due.
+    pub fn form_error(&self) -> TextError
+        ensures { result ≡ Form self.now.number }
+    {
+        TextError::Form(self.number)
+    }
+
     /// What is left of the text.
     pub fn rest(&self) -> &'a [u8]
         ensures { result.now ≡ self.now.rest }
@@ -66,7 +75,7 @@ impl<'a> Lines<'a> {
 
     /// Whether no byte is left.
     pub fn at_end(&self) -> bool
-        ensures { result ≡ (length self.now.rest == 0) }
+        ensures { IsTrue result ↔ (self.now.rest ≡ []) }
     {
         self.rest.is_empty()
     }
@@ -76,6 +85,8 @@ impl<'a> Lines<'a> {
     pub fn next_line(&mut self) -> Option<&'a [u8]>
         ensures passed { IfSome result (λ line. Passes self.old self.new (line.now ∷ [])) }
         ensures plain { IfSome result (λ line. Lacks 10 line.now) }
+        ensures fewer { IfSome result (λ _. length self.new.rest < length self.old.rest) }
+        ensures small { self.new.number ≤ 2 ^ 63 }
         ensures none { IfNone result (Lacks 10 self.old.rest) }
         ensures unchanged { IfNone result (self.new ≡ self.old) }
     {

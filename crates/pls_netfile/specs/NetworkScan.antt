@@ -1,0 +1,51 @@
+-- What a reader of a network part has passed, and what it keeps of the part.
+use Rattle.std.specs.Prelude.{◌≡◌, ℕ, List, map, flat_map, length, All}
+use Rattle.pls_model.specs.declared.row.Port.{Port}
+use Rattle.pls_model.specs.declared.row.NodeRow.{NodeRow}
+use Rattle.pls_model.specs.Configuration.{ports_in}
+use Rattle.pls_netfile.specs.Lines.{Left, Passes}
+use Rattle.pls_netfile.specs.NetworkText.{FitsPort, FitsRow, AreRows, port_line, row_lines, network_lines, network_text}
+
+-- the text of a network, and how many nodes and ports it has
+pub record Written : Type 0 where
+  pub text : List ℕ
+  pub nodes : ℕ
+  pub ports : ℕ
+
+-- these are the rows that the text says
+pub record Tells (written : Written) (rows : List NodeRow) : Type 0 where
+  pub fits : AreRows rows
+  pub text : written.text ≡ network_text rows
+  pub nodes : written.nodes ≡ length rows
+  pub ports : written.ports ≡ ports_in rows
+
+-- the text says some rows
+pub record IsTold (written : Written) : Type 0 where
+  pub rows : List NodeRow
+  pub tells : Tells written rows
+
+-- the reader has passed the lines of some ports
+pub record PassesPorts (old new : Left) : Type 0 where
+  pub ports : List Port
+  pub fits : All FitsPort ports
+  pub passed : Passes old new (map port_line ports)
+
+-- the reader has passed the lines of one row
+pub record PassesRow (old new : Left) : Type 0 where
+  pub row : NodeRow
+  pub fits : FitsRow row
+  pub passed : Passes old new (row_lines row)
+
+-- the reader has passed the lines of rows with so many nodes and ports
+pub record PassesRows (old new : Left) (nodes ports : ℕ) : Type 0 where
+  pub rows : List NodeRow
+  pub fits : All FitsRow rows
+  pub passed : Passes old new (flat_map row_lines rows)
+  pub many : nodes ≡ length rows
+  pub sum : ports ≡ ports_in rows
+
+-- the reader has passed a network part, and kept its text
+pub record PassesNetwork (old new : Left) (written : Written) : Type 0 where
+  pub rows : List NodeRow
+  pub tells : Tells written rows
+  pub passed : Passes old new (network_lines rows)
