@@ -1,2 +1,4 @@
 pub mod LabelsText
+pub mod LabelLine
+pub mod LabelsScan
 pub mod Misfit

@@ -1,4 +1,13 @@
 //! The text of labels.
 #![tactic(auto)]
 
-pub use pls_base::NoMemory;
+mod label_line;
+mod labels_scan;
+mod labels_text;
+mod limits;
+
+pub use label_line::LabelLine;
+pub use labels_scan::scan_labels;
+pub use labels_text::LabelsText;
+pub use limits::MAX_BITS;
+pub use pls_base::{NoMemory, TextError};

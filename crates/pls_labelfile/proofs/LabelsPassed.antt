@@ -1,0 +1,81 @@
+-- What a reader of labels has passed grows by one label more, and by the heading and the `end`.
+use Rattle.std.proofs.Common.{◌≡◌, ℕ, ◌+◌, ◌-◌, ◌<◌, ◌≤◌, ◌^◌, List, [], ◌∷◌, ◌++◌, map, min, take, length, codes, refl, sym, ◌∙◌, ap, subst, length-append, arith}
+use Rattle.std.specs.List.{All}
+use Rattle.std.proofs.lemmas.List.{map_push, take_at}
+use Rattle.std.proofs.lemmas.List.Sums.{sum_by_push}
+use Rattle.std.proofs.lemmas.List.Elements.{All-nil, All-push}
+use Rattle.pls_netfile.specs.Text.{text_of}
+use Rattle.pls_netfile.specs.Lines.{Left, Passes}
+use Rattle.pls_netfile.proofs.Passing.{passes_none, passes_then}
+use Rattle.pls_labelfile.specs.LabelsText.{NamedLabel, FitsLabel, label_line, labels_lines, labels_text}
+use Rattle.pls_labelfile.specs.LabelLine.{LabelWords, FitsWords, written_label}
+use Rattle.pls_labelfile.specs.LabelsScan.{IsTold, PassesLabels, PassesPart, Written, bits_of, capped}
+use Rattle.pls_labelfile.proofs.LabelLines.{label_of, label_of-line, label_fits}
+
+pub no_labels : (old : Left) → PassesLabels old old 0
+no_labels old = record { labels = []; fits = All-nil FitsLabel; passed = passes_none old; sum = refl }
+
+-- the bits of one label more
+capped_push : (labels : List NamedLabel) (label : NamedLabel) (bits len : ℕ) → bits ≡ capped (bits_of labels)
+    → length label.bits ≡ len → min (bits + len) (2 ^ 64 - 1) ≡ capped (bits_of (labels ++ label ∷ []))
+capped_push labels label bits len so_far long =
+    omega (arith, so_far, long, sum_by_push (λ (l : NamedLabel). length l.bits) labels label)
+
+pub one_label_more : (old mid new : Left) (bits len : ℕ) (words : LabelWords) → PassesLabels old mid bits → FitsWords words
+    → Passes mid new (written_label words ∷ []) → len ≡ words.len → PassesLabels old new (min (bits + len) (2 ^ 64 - 1))
+one_label_more old mid new bits len words so_far fits passed same =
+    let label = label_of words fits in
+    let line : Passes mid new (label_line label ∷ []) =
+    subst (λ (line : List ℕ). Passes mid new (line ∷ [])) (sym (label_of-line words fits)) passed in
+    record {
+      labels = so_far.labels ++ label ∷ [];
+      fits = All-push FitsLabel so_far.labels label so_far.fits
+          (label_fits words fits.hex.bits fits.in_range fits.hex.long);
+      passed = subst (Passes old new) (sym (map_push label_line so_far.labels label))
+          (passes_then old mid new (map label_line so_far.labels) (label_line label ∷ []) so_far.passed line);
+      sum = capped_push so_far.labels label bits len so_far.sum (fits.hex.long ∙ sym same);
+    }
+
+-- what was passed of a text is what it had and has no more
+front_text : (whole a b : List ℕ) → whole ≡ a ++ b → take (length whole - length b) whole ≡ a
+front_text whole a b e =
+    let count : length a ≡ length whole - length b = omega (arith, ap length e, length-append a b) in
+    ap (take (length whole - length b)) e ∙ take_at a b (length whole - length b) count
+
+-- heading, labels and `end` are a labels part
+pub part_passed : (old behind before new : Left) (number bits : ℕ) (start rest : List ℕ)
+    → Passes old behind (codes "labels" ∷ []) → PassesLabels behind before bits
+    → Passes before new (codes "end" ∷ []) → number ≡ old.number → start ≡ old.rest → rest ≡ new.rest
+    → PassesPart old new (record { text = take (length start - length rest) start; number = number; bits = bits })
+part_passed old behind before new number bits start rest heading labels end numbers starts rests =
+    let body = map label_line labels.labels in
+    let passed : Passes old new (labels_lines labels.labels) =
+    passes_then old behind new (codes "labels" ∷ []) (body ++ codes "end" ∷ []) heading
+    (passes_then behind before new body (codes "end" ∷ []) labels.passed end) in
+    record {
+      labels = labels.labels;
+      tells = record {
+        fits = labels.fits;
+        is = front_text start (labels_text labels.labels) rest
+            (starts ∙ passed.stands ∙ ap (λ more. labels_text labels.labels ++ more) (sym rests));
+      };
+      passed = passed;
+      heading = numbers;
+      sum = labels.sum;
+    }
+
+-- the part that was passed says its labels
+pub part_told : (old behind before new : Left) (written : Written) (bits : ℕ) → Passes old behind (codes "labels" ∷ [])
+    → PassesLabels behind before bits → before.number ≤ 2 ^ 63 → PassesPart old new written → IsTold written
+part_told old behind before new written bits heading labels small part = record {
+  labels = part.labels;
+  tells = part.tells;
+  sum = part.sum;
+  within = omega (arith, part.heading, heading.number, labels.passed.number);
+}
+
+-- the place between the heading and what follows some labels
+pub next_place : (old behind now : Left) (bits : ℕ) → Passes old behind (codes "labels" ∷ [])
+    → (labels : PassesLabels behind now bits) → Passes old now (codes "labels" ∷ map label_line labels.labels)
+next_place old behind now bits heading labels =
+    passes_then old behind now (codes "labels" ∷ []) (map label_line labels.labels) heading labels.passed

@@ -1,0 +1,46 @@
+-- What a reader of a labels part has passed, and what it keeps of the part.
+use Rattle.std.specs.Prelude.{◌≡◌, ℕ, ◌+◌, ◌-◌, ◌≤◌, ◌^◌, List, [], ◌∷◌, ◌++◌, map, length, min, sum_by, All, codes}
+use Rattle.pls_netfile.specs.Text.{text_of}
+use Rattle.pls_netfile.specs.Lines.{Left, Passes}
+use Rattle.pls_labelfile.specs.LabelsText.{NamedLabel, FitsLabel, label_line, labels_lines, labels_text}
+
+-- how many bits all labels have together
+abbrev pub bits_of : List NamedLabel → ℕ
+bits_of labels = sum_by (λ label. length label.bits) labels
+
+-- a number, or 2^64 - 1 where that is less
+abbrev pub capped : ℕ → ℕ
+capped number = min number (2 ^ 64 - 1)
+
+-- the text of labels, the number of its heading line, and how many bits the labels have together
+pub record Written : Type 0 where
+  pub text : List ℕ
+  pub number : ℕ
+  pub bits : ℕ
+
+-- these are the labels that the text says
+pub record Tells (text : List ℕ) (labels : List NamedLabel) : Type 0 where
+  pub fits : All FitsLabel labels
+  pub is : text ≡ labels_text labels
+
+-- the text says some labels, and their bits are counted
+pub record IsTold (written : Written) : Type 0 where
+  pub labels : List NamedLabel
+  pub tells : Tells written.text labels
+  pub sum : written.bits ≡ capped (bits_of labels)
+  pub within : written.number ≤ 2 ^ 63
+
+-- the reader has passed the lines of labels with so many bits
+pub record PassesLabels (old new : Left) (bits : ℕ) : Type 0 where
+  pub labels : List NamedLabel
+  pub fits : All FitsLabel labels
+  pub passed : Passes old new (map label_line labels)
+  pub sum : bits ≡ capped (bits_of labels)
+
+-- the reader has passed a labels part, and kept its text, its place and the sum of its lengths
+pub record PassesPart (old new : Left) (written : Written) : Type 0 where
+  pub labels : List NamedLabel
+  pub tells : Tells written.text labels
+  pub passed : Passes old new (labels_lines labels)
+  pub heading : written.number ≡ old.number
+  pub sum : written.bits ≡ capped (bits_of labels)

@@ -1,0 +1,74 @@
+//! The line of a label.
+
+ghost use Rattle.std.specs.Prelude.{◌≡◌, ◌≢◌, ◌↔◌, IfNone, IfSome, IsTrue};
+ghost use Rattle.pls_labelfile.specs.LabelLine.{AreInRange, IsHexWord, LabelWords, written_label};
+
+use crate::limits::MAX_BITS;
+use pls_bits::spells_bits;
+use pls_netfile::{LineKind, after_word, is_same, number_then, u32_then};
+use std::marker::Model;
+
+/// What a line `label ID LEN HEX` says. Its last word is lent.
+#[derive(Drop)]
+pub struct LabelLine<'a> {
+    /// The identity that the label names.
+    pub id: u32,
+    /// How many bits the label has.
+    pub len: usize,
+    /// The hex digits of the bits, or `-` where there are none.
+    pub hex: &'a [u8],
+}
+
+impl<'a> Model for LabelLine<'a> {
+    ghost use Rattle.pls_labelfile.specs.LabelLine.{LabelWords};
+
+    ghost Value = { LabelWords };
+
+    ghost view = { λ line. record { id = line.id; len = line.len; hex = line.hex.now } };
+}
+
+impl<'a> LineKind<'a> for LabelLine<'a> {
+    ghost use Rattle.pls_labelfile.specs.LabelLine.{FitsWords, written_label as written_words};
+
+    ghost written = { written_words };
+
+    ghost Fits = { FitsWords };
+
+    fn read(line: &'a [u8]) -> Option<Self> {
+        let words = label_words(line)?;
+        if is_hex_word(words.len, words.hex) {
+            Some(words)
+        } else {
+            None
+        }
+    }
+}
+
+// The words of a line `label ID LEN HEX`, with the last of them as it stands; `None` where the line
+// has no such words.
+fn label_words<'a>(line: &'a [u8]) -> Option<LabelLine<'a>>
+    ensures in_range { IfSome result (λ words. AreInRange words) }
+    ensures written { IfSome result (λ words. line.now ≡ written_label words) }
+    ensures none { IfNone result ((words : LabelWords) → AreInRange words
+        → line.now ≢ written_label words) }
+{
+    let words = after_word(line, b"label")?;
+    let (id, words) = u32_then(words)?;
+    let (len, hex) = number_then(words, MAX_BITS)?;
+    Some(LabelLine {
+        id,
+        len: len as usize,
+        hex,
+    })
+}
+
+// Whether a word is that for some list of `len` bits. It looks at each digit once.
+fn is_hex_word(len: usize, word: &[u8]) -> bool
+    ensures { IsTrue result ↔ IsHexWord len word.now }
+{
+    if len == 0 {
+        is_same(word, b"-")
+    } else {
+        spells_bits(len, word)
+    }
+}
