@@ -7,3 +7,4 @@ pub mod Frame
 pub mod NetworkText
 pub mod NetworkLine
 pub mod NetworkScan
+pub mod NetworkBuild
