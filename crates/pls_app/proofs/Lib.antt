@@ -1,4 +1,5 @@
 mod Outcomes
+mod Proved
 mod Reports
 mod Rounds
 mod Worked

@@ -1,11 +1,24 @@
 -- From what a run comes to, what it says.
-use Rattle.std.proofs.Common.{◌≡◌, ℕ, List, Option, Some, None, ◌⊎◌, inl, inr, Result, Ok, Err, IfOk, MatchResult}
+use Rattle.std.proofs.Common.{◌≡◌, ℕ, ◌+◌, ◌≤◌, Bool, List, [], length, drop, Option, Some, None, IfSome, IfOk, MatchResult, ◌⊎◌, inl, inr, Result, Ok, Err, OnOk, ap, subst, refl, arith}
 use Rattle.std.specs.Io.KnownBytes.{Appends}
-use Rattle.pls_base.specs.Streams.{AppendsPart, Rose}
+use Rattle.std.proofs.lemmas.List.{drop_all}
+use Rattle.pls_base.specs.declared.text_error.TextError.{TextError}
+use Rattle.pls_base.specs.declared.text_error.TextError.TheVariants.{Limit}
+use Rattle.pls_base.specs.declared.text_error.Quantity.TheVariants.{Input}
+use Rattle.pls_base.specs.Streams.{AppendsPart, LosesAtMost, LosesFirst, Rose}
+use Rattle.pls_model.specs.declared.row.NodeRow.{NodeRow}
 use Rattle.pls_model.specs.declared.status.Status.{Status}
-use Rattle.pls_model.specs.declared.status.Status.TheVariants.{NoMemory, WriteFault}
-use Rattle.pls_app.specs.Answer.{Answer, IsAnswer}
-use Rattle.pls_app.specs.Run.{IsAnswered, Tells, TellsPart, Told}
+use Rattle.pls_model.specs.declared.status.Status.TheVariants.{Done, WriteFault}
+use Rattle.pls_scheme.specs.Judging.{round_by}
+use Rattle.pls_colour.specs.Bipartite.{judge_bipartite}
+use Rattle.pls_app.specs.declared.command.Command.{Command}
+use Rattle.pls_app.specs.declared.command.Command.TheVariants.{Verify}
+use Rattle.pls_app.specs.declared.command.SchemeName.TheVariants.{Bipartite}
+use Rattle.pls_app.specs.declared.limits.TheConstants.{MAX_INPUT}
+use Rattle.pls_app.specs.Command.{command_of}
+use Rattle.pls_app.specs.Input.{IsInput, IsRefused}
+use Rattle.pls_app.specs.Answer.{Answer, Answers, IsAnswer, refusal, report, usage}
+use Rattle.pls_app.specs.Run.{HasRead, IsAnswered, Tells, TellsPart, Told}
 
 -- an answer that was told in the end
 pub tells : (words : List (List ℕ)) (bytes : List ℕ) (answer : Answer) (status : Status) (before after : ℕ) (old new : Option (List ℕ)) → IsAnswer words bytes answer
@@ -22,3 +35,70 @@ tells_part words bytes answer status before after old new is answered told fault
     inl whole ↦ let same : answer.status ≡ WriteFault = cc in absurd (rw same at answered)
   | inr part ↦ record { answer = answer; is = is; took = part.2 }
 ]
+
+-- what holds anyhow holds of an `Ok`
+pub on_ok : {T E : Type 0} (r : Result T E) (P : Type 0) → P → OnOk r P
+on_ok (Ok x) P p = p
+on_ok (Err e) P p = tt
+
+-- a source whose bytes were all read
+pub read_all_of : (old new : Option (List ℕ)) (read : List ℕ) → IfSome old (λ bytes. read ≡ bytes) → IfSome old (λ _. new ≡ Some []) → length read ≤ MAX_INPUT → HasRead old new
+read_all_of None new read same end short = tt
+read_all_of (Some bytes) new read same end short = (λ _. end, λ long. absurd (omega (arith, ap length same)))
+
+pub lost_all_of : (old new : Option (List ℕ)) (read : List ℕ) → IfSome old (λ bytes. read ≡ bytes) → IfSome old (λ _. new ≡ Some []) → length read ≤ MAX_INPUT → LosesAtMost old new (MAX_INPUT + 1)
+lost_all_of None new read same end short = (0, omega arith, tt)
+lost_all_of (Some bytes) new read same end short =
+    let gone : drop (length bytes) bytes ≡ [] = drop_all (length bytes) bytes (omega arith) in
+    (length bytes, omega (arith, ap length same), (omega arith, rw gone end))
+
+-- a source that has more bytes than the limit
+pub read_past : (old new : Option (List ℕ)) → LosesFirst old new (MAX_INPUT + 1) → HasRead old new
+read_past None new lost = tt
+read_past (Some bytes) new lost = (λ short. absurd (omega (arith, lost.0)), λ _. lost.1)
+
+pub lost_past : (old new : Option (List ℕ)) → LosesFirst old new (MAX_INPUT + 1) → LosesAtMost old new (MAX_INPUT + 1)
+lost_past old new lost = (MAX_INPUT + 1, omega arith, lost)
+
+-- more bytes than the limit are refused
+pub too_long : (old new : Option (List ℕ)) (bytes : List ℕ) → LosesFirst old new (MAX_INPUT + 1) → old ≡ Some bytes → IsRefused bytes (Limit Input)
+too_long old new bytes lost told =
+    let here : LosesFirst (Some bytes) new (MAX_INPUT + 1) = rw told at lost in
+    omega (arith, here.0)
+
+-- a network and labels that were read are judged
+pub judged_answer : (command : Command) (bytes : List ℕ) (rows : List NodeRow) (labels : List (List Bool)) (answer : Answer) → IsInput bytes rows labels
+    → answer ≡ report (round_by judge_bipartite rows labels) → Answers command bytes answer
+judged_answer (Verify Bipartite) bytes rows labels answer input same = inr (rows, labels, input, same)
+
+-- an input that is refused is answered so
+pub refused_answer : (command : Command) (bytes : List ℕ) (error : TextError) (answer : Answer) → IsRefused bytes error → answer ≡ refusal error → Answers command bytes answer
+refused_answer (Verify Bipartite) bytes error answer refused same = inl (error, refused, same)
+
+-- a result with another error holds what the first did
+pub ok_again : {T E F : Type 0} (first : Result T E) (second : Result T F) (other : F) (P : T → Type 0) → IfOk first P
+    → MatchResult first (λ found. second ≡ Ok found) (λ _. second ≡ Err other) → IfOk second P
+ok_again (Ok x) second other P holds same = rw same holds
+ok_again (Err e) second other P holds same = rw same tt
+
+-- words that are no command are answered so
+pub usage_answer : (words : List (List ℕ)) (bytes : List ℕ) → command_of words ≡ None → IsAnswer words bytes usage
+usage_answer words bytes none = rw none refl
+
+-- the answer to a command is the answer to its words
+pub command_answer : (words : List (List ℕ)) (bytes : List ℕ) (command : Command) (answer : Answer) → command_of words ≡ Some command → Answers command bytes answer → IsAnswer words bytes answer
+command_answer words bytes command answer is answers = rw is answers
+
+-- a run that ends in `Done` was due to
+pub told_done : (due status : Status) (before after : ℕ) (old new : Option (List ℕ)) (text : List ℕ) → Told due status before after old new text → status ≡ Done → due ≡ Done
+told_done due status before after old new text told done = elim told [
+    inl whole ↦ cc
+  | inr part ↦ absurd (let no : WriteFault ≡ Done = cc in cc)
+]
+
+-- the command of the words is one
+pub same_command : (words : List (List ℕ)) (command other : Command) (bytes : List ℕ) (answer : Answer) → Some command ≡ command_of words → command_of words ≡ Some other
+    → Answers command bytes answer → Answers other bytes answer
+same_command words command other bytes answer is is_other answers =
+    let same : command ≡ other = cc in
+    subst (λ (command : Command). Answers command bytes answer) same answers

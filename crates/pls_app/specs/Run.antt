@@ -54,11 +54,6 @@ HasRead None new = ⊤
 HasRead (Some bytes) new =
     (length bytes ≤ MAX_INPUT → new ≡ Some []) × (MAX_INPUT < length bytes → new ≡ Some (drop (MAX_INPUT + 1) bytes))
 
--- a source that tells its bytes has lost a front of them, and no others
-abbrev pub HasLost : Option (List ℕ) → Option (List ℕ) → Type 0
-HasLost None new = ⊤
-HasLost (Some bytes) new = (count : ℕ) × (count ≤ length bytes) × (new ≡ Some (drop count bytes))
-
 -- the property of a scheme
 abbrev pub HasProperty : SchemeName → List NodeRow → Type 0
 HasProperty Bipartite rows = IsBipartite rows

@@ -1,9 +1,9 @@
 //! What a run comes to before it writes.
 
-ghost use Rattle.std.specs.Prelude.{◌≡◌, ◌+◌, ◌<◌, ◌≤◌, ◌⊎◌, ℕ, List, [], Some, drop, length, IfOk, IfErr, MatchResult, OnOk, Ok, Err};
-ghost use Rattle.pls_base.specs.Streams.{Rose};
+ghost use Rattle.std.specs.Prelude.{◌≡◌, ◌+◌, ℕ, List, Some, Ok, Err, IfOk, IfErr, MatchResult, OnOk};
+ghost use Rattle.pls_base.specs.Streams.{LosesAtMost};
 ghost use Rattle.pls_app.specs.Answer.{Answers};
-ghost use Rattle.pls_app.specs.Run.{IsAnswered, IsCause, HasLost, HasRead};
+ghost use Rattle.pls_app.specs.Run.{IsAnswered, IsCause, HasRead};
 
 use crate::answer::{Answer, answer_to, refuse};
 use crate::command::Command;
@@ -23,7 +23,7 @@ pub(crate) fn answer_from<S: Source>(
     ensures answered { IfOk result (λ answer. IsAnswered answer.status) }
     ensures read { OnOk result (HasRead (S.left source.old) (S.left source.new)) }
     ensures cause { IfErr result (λ status. IsCause status (S.faults source.old) (S.faults source.new)) }
-    ensures lost { HasLost (S.left source.old) (S.left source.new) }
+    ensures lost { LosesAtMost (S.left source.old) (S.left source.new) (MAX_INPUT + 1) }
 {
     match read_all(alloc, source, MAX_INPUT) {
         Ok(bytes) => or_no_memory(answer_to(alloc, command, &bytes)),

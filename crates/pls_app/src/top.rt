@@ -1,11 +1,12 @@
 //! The one call that does all that the program does.
 
-ghost use Rattle.std.specs.Prelude.{◌≡◌, ◌⊎◌, ℕ, List, Some, None, map};
-ghost use Rattle.pls_base.specs.Streams.{Rose};
+ghost use Rattle.std.specs.Prelude.{◌≡◌, ◌+◌, ◌⊎◌, ℕ, List, Some, None, map};
+ghost use Rattle.pls_base.specs.Streams.{LosesAtMost, Rose};
 ghost use Rattle.pls_app.specs.Command.{command_of};
-ghost use Rattle.pls_app.specs.Run.{IsAnswered, Tells, TellsPart, HasLost, HasRead, Proves, Told};
+ghost use Rattle.pls_app.specs.Run.{IsAnswered, Tells, TellsPart, HasRead, Proves, Told};
 
 use crate::command::{Command, SchemeName, read_words};
+use crate::limits::MAX_INPUT;
 use crate::outcome::answer_from;
 use pls_base::{Fault, Sink, Source, Status, write_all};
 use std::alloc::Global;
@@ -44,19 +45,19 @@ pub fn run<'w, S: Source, K: Sink>(
         → source.new ≡ source.old }
     ensures read { (command : Command) → command_of (map (λ word. word.now) words.now) ≡ Some command
         → IsAnswered result → HasRead (S.left source.old) (S.left source.new) }
-    ensures lost { HasLost (S.left source.old) (S.left source.new) }
+    ensures lost { LosesAtMost (S.left source.old) (S.left source.new) (MAX_INPUT + 1) }
 
     // What `Done` says of the network.
     ensures check { (scheme : SchemeName) (bytes : List ℕ) → S.left source.old ≡ Some bytes
         → command_of (map (λ word. word.now) words.now) ≡ Some (Command.Verify scheme)
         → result ≡ Status.Done → Proves scheme bytes }
 {
-    let Some(command) = read_words(words) else {
-        return tell(sink, Status::Usage, b"usage\n");
-    };
-    match answer_from(alloc, command, source) {
-        Ok(answer) => tell(sink, answer.status, answer.text.as_bytes()),
-        Err(status) => status,
+    match read_words(words) {
+        None => tell(sink, Status::Usage, b"usage\n"),
+        Some(command) => match answer_from(alloc, command, source) {
+            Ok(answer) => tell(sink, answer.status, answer.text.as_bytes()),
+            Err(status) => status,
+        },
     }
 }
 

@@ -1,0 +1,65 @@
+-- What `Done` says of a network.
+use Rattle.std.proofs.Common.{◌≡◌, ℕ, Bool, true, false, cond, eqb, List, map, length, All, if◌then◌else◌, ◌==◌, ◌⊎◌, inl, inr, get_or, refl, sym, ap, ◌∙◌}
+use Rattle.std.specs.List.{list_all, sum_by}
+use Rattle.std.proofs.lemmas.Bool.{eqb-true, eq-eqb}
+use Rattle.std.proofs.lemmas.List.Folds.{sum_by-zero, list_all-map}
+use Rattle.std.proofs.lemmas.List.Sums.{AllPass-from_list_all}
+use Rattle.pls_base.specs.declared.text_error.TextError.{TextError}
+use Rattle.pls_base.specs.declared.text_error.TextError.TheVariants.{Form, Limit, Sense, NoMemory}
+use Rattle.pls_model.specs.declared.row.NodeRow.{NodeRow}
+use Rattle.pls_model.specs.declared.status.Status.TheVariants.{Done, No}
+use Rattle.pls_model.specs.declared.verdict.Verdict.{Verdict}
+use Rattle.pls_model.specs.declared.verdict.Verdict.TheVariants.{Accept, Reject}
+use Rattle.pls_view.specs.Seen.{Seen, views}
+use Rattle.pls_scheme.specs.Judging.{AllAccept, round_by}
+use Rattle.pls_colour.specs.Bipartite.{judge_bipartite}
+use Rattle.pls_colour.proofs.Sound.{bipartite_sound}
+use Rattle.pls_app.specs.declared.command.Command.TheVariants.{Verify}
+use Rattle.pls_app.specs.declared.command.SchemeName.{SchemeName}
+use Rattle.pls_app.specs.declared.command.SchemeName.TheVariants.{Bipartite}
+use Rattle.pls_app.specs.Report.{rejects, rejecting}
+use Rattle.pls_app.specs.Input.{IsInput}
+use Rattle.pls_app.specs.Answer.{Answer, Answers, refusal_status, report}
+use Rattle.pls_app.specs.Run.{Proves}
+
+-- a verdict that counts for nothing accepts
+accepts : (verdict : Verdict) → eqb (cond (rejects verdict) 1 0) 0 ≡ true → verdict ≡ Accept
+accepts Accept none = refl
+accepts (Reject leaf rule) none = absurd (cc)
+
+-- where no node rejects, all accept
+none_reject : (judge : Seen → Verdict) (seen : List Seen) → rejecting (map (λ view. (view.id, judge view)) seen) ≡ 0 → All (λ view. judge view ≡ Accept) seen
+none_reject judge seen none =
+    let row : Seen → ℕ × Verdict = λ view. (view.id, judge view) in
+    let weight : ℕ × Verdict → ℕ = λ row. cond (rejects row.1) 1 0 in
+    let counted : list_all (λ r. eqb (weight r) 0) (map row seen) ≡ true = sym (sum_by-zero weight (map row seen)) ∙ eq-eqb (sum_by weight (map row seen)) 0 none in
+    let each : list_all (λ view. eqb (weight (row view)) 0) seen ≡ true = sym (list_all-map (λ r. eqb (weight r) 0) row seen) ∙ counted in
+    λ k d within. accepts (judge (get_or seen k d)) (AllPass-from_list_all (λ view. eqb (weight (row view)) 0) seen each k d within)
+
+-- a refusal is not `Done`
+refused_not_done : (error : TextError) → refusal_status error ≡ Done → ⊥
+refused_not_done (Form line) done = cc
+refused_not_done (Limit quantity) done = cc
+refused_not_done (Sense number place) done = cc
+refused_not_done NoMemory done = cc
+
+-- a report is `Done` where no node rejects
+report_done : (count : ℕ) → (if count == 0 then Done else No) ≡ Done → count ≡ 0
+report_done count done = by (count == 0) refl done
+  where
+    by : (b : Bool) → (count == 0) ≡ b → (if b then Done else No) ≡ Done → count ≡ 0
+    by true is done = eqb-true count 0 is
+    by false is done = absurd (cc)
+
+-- `Done` says that the network of the input has the property
+pub done_proves : (scheme : SchemeName) (bytes : List ℕ) (answer : Answer) → Answers (Verify scheme) bytes answer → answer.status ≡ Done → Proves scheme bytes
+done_proves Bipartite bytes answer answers done = elim answers [
+    inl refused ↦ absurd (refused_not_done refused.0 (sym (ap (λ (answer : Answer). answer.status) refused.2) ∙ done))
+  | inr judged ↦
+      let rows : List NodeRow = judged.0 in
+      let labels : List (List Bool) = judged.1 in
+      let count : ℕ = rejecting (round_by judge_bipartite rows labels) in
+      let none : count ≡ 0 = report_done count (sym (ap (λ (answer : Answer). answer.status) judged.3) ∙ done) in
+      let accepted : AllAccept judge_bipartite rows labels = none_reject judge_bipartite (views rows labels) none in
+      record { rows = rows; labels = labels; input = judged.2; holds = bipartite_sound rows labels accepted }
+]
