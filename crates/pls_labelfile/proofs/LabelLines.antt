@@ -10,14 +10,11 @@ use Rattle.pls_netfile.specs.Text.{line_of}
 use Rattle.pls_netfile.proofs.NumberWords.{decimal_lacks, same_number, behind_word}
 use Rattle.pls_netfile.proofs.NetworkLines.{line_lacks, same_head}
 use Rattle.pls_labelfile.specs.LabelsText.{NamedLabel, FitsLabel, hex_word, label_line}
-use Rattle.pls_labelfile.specs.LabelLine.{LabelWords, AreInRange, FitsWords, IsHexWord, IsLabelLine, written_label}
+use Rattle.pls_labelfile.specs.LabelLine.{LabelWords, AreInRange, FitsWords, IsHexWord, IsLabelLine, words_of, written_label}
 
 -- ---- labels and the words of their lines
 
--- the words of a label's line
-abbrev pub words_of : NamedLabel → LabelWords
-words_of label = record { id = label.id; len = length label.bits; hex = hex_word label.bits }
-
+-- the words of a label that fits are in range, and the last is that for its bits
 pub words_in_range : (label : NamedLabel) → FitsLabel label → AreInRange (words_of label)
 words_in_range label fits = record { id = fits.id; short = fits.short }
 
@@ -108,7 +105,7 @@ same_words a b line fits_a fits_b p q =
     record { id = id.0; len = len.0; hex = len.1 }
 
 -- so many bits are told by their word
-same_bits : (a b : List Bool) → length a ≡ length b → hex_word a ≡ hex_word b → a ≡ b
+pub same_bits : (a b : List Bool) → length a ≡ length b → hex_word a ≡ hex_word b → a ≡ b
 same_bits [] [] long e = refl
 same_bits [] (bit ∷ b) long e = absurd (omega arith)
 same_bits (bit ∷ a) [] long e = absurd (omega arith)

@@ -2,13 +2,17 @@
 use Rattle.std.specs.Prelude.{◌≡◌, ℕ, ◌<◌, ◌≤◌, ◌^◌, Bool, List, [], ◌∷◌, length, codes, decimal}
 use Rattle.pls_netfile.specs.Text.{line_of}
 use Rattle.pls_netfile.specs.LineKind.{Says}
-use Rattle.pls_labelfile.specs.LabelsText.{hex_word}
+use Rattle.pls_labelfile.specs.LabelsText.{NamedLabel, hex_word}
 
 -- an identity, a number of bits, and the word for them
 pub record LabelWords : Type 0 where
   pub id : ℕ
   pub len : ℕ
   pub hex : List ℕ
+
+-- the words of a label's line
+abbrev pub words_of : NamedLabel → LabelWords
+words_of label = record { id = label.id; len = length label.bits; hex = hex_word label.bits }
 
 -- `label ID LEN HEX`
 abbrev pub written_label : LabelWords → List ℕ

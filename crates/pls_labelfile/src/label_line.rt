@@ -1,11 +1,14 @@
 //! The line of a label.
 
-ghost use Rattle.std.specs.Prelude.{◌≡◌, ◌≢◌, ◌↔◌, IfNone, IfSome, IsTrue};
+ghost use Rattle.std.specs.Prelude.{◌≡◌, ◌≢◌, ◌↔◌, length, IfNone, IfOk, IfSome, IsTrue};
+ghost use Rattle.pls_labelfile.specs.LabelsText.{hex_word};
 ghost use Rattle.pls_labelfile.specs.LabelLine.{AreInRange, IsHexWord, LabelWords, written_label};
 
 use crate::limits::MAX_BITS;
-use pls_bits::spells_bits;
+use pls_base::NoMemory;
+use pls_bits::{BitBuf, HexError, from_hex, spells_bits};
 use pls_netfile::{LineKind, after_word, is_same, number_then, u32_then};
+use std::alloc::Global;
 use std::marker::Model;
 
 /// What a line `label ID LEN HEX` says. Its last word is lent.
@@ -44,9 +47,29 @@ impl<'a> LineKind<'a> for LabelLine<'a> {
     }
 }
 
+impl LabelLine<'_> {
+    /// The bits of the label.
+    pub fn bits(&self, alloc: Global) -> Result<BitBuf, NoMemory>
+        requires { IsHexWord self.now.len self.now.hex }
+        ensures long { IfOk result (λ bits. length bits ≡ self.now.len) }
+        ensures written { IfOk result (λ bits. hex_word bits ≡ self.now.hex) }
+    {
+        if self.len == 0 {
+            return Ok(BitBuf::new(alloc));
+        }
+        match from_hex(alloc, self.len, self.hex) {
+            Ok(bits) => Ok(bits),
+            Err(error) => {
+                prove!(error == HexError::NoMemory);
+                Err(NoMemory)
+            }
+        }
+    }
+}
+
 // The words of a line `label ID LEN HEX`, with the last of them as it stands; `None` where the line
 // has no such words.
-fn label_words<'a>(line: &'a [u8]) -> Option<LabelLine<'a>>
+pub(crate) fn label_words<'a>(line: &'a [u8]) -> Option<LabelLine<'a>>
     ensures in_range { IfSome result (λ words. AreInRange words) }
     ensures written { IfSome result (λ words. line.now ≡ written_label words) }
     ensures none { IfNone result ((words : LabelWords) → AreInRange words

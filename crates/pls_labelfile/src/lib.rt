@@ -2,6 +2,7 @@
 #![tactic(auto)]
 
 mod label_line;
+mod labels_build;
 mod labels_scan;
 mod labels_text;
 mod limits;
