@@ -4,6 +4,7 @@
 mod laws;
 mod line_kind;
 mod lines;
+mod network_build;
 mod network_line;
 mod network_rows;
 mod network_scan;
