@@ -1,3 +1,4 @@
+mod Inputs
 mod Outcomes
 mod Proved
 mod Reports

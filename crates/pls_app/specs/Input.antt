@@ -5,8 +5,9 @@ use Rattle.pls_base.specs.declared.text_error.TextError.TheVariants.{Form, Limit
 use Rattle.pls_base.specs.declared.text_error.Quantity.TheVariants.{Input}
 use Rattle.pls_model.specs.declared.row.NodeRow.{NodeRow}
 use Rattle.pls_model.specs.Configuration.{IsNetwork, ids_of}
-use Rattle.pls_netfile.specs.NetworkText.{AreRows, network_text}
-use Rattle.pls_labelfile.specs.LabelsText.{labels_text, named}
+use Rattle.pls_netfile.specs.Fault.{Then}
+use Rattle.pls_netfile.specs.NetworkText.{AreRows, IsNetworkPart, network_text}
+use Rattle.pls_labelfile.specs.LabelsText.{IsLabelsPart, labels_text, named}
 use Rattle.pls_app.specs.declared.limits.TheConstants.{MAX_INPUT}
 
 -- the rows are a network whose numbers can stand in a text, and each node has a label of one bit
@@ -25,6 +26,10 @@ pub record IsInput (bytes : List ℕ) (rows : List NodeRow) (labels : List (List
   pub short : length bytes ≤ MAX_INPUT
   pub parts : AreParts rows labels
   pub is : bytes ≡ input_text rows labels
+
+-- the lines of an input: those of a network, and then those of labels
+abbrev pub IsInputLines : List (List ℕ) → Type 0
+IsInputLines lines = Then IsNetworkPart IsLabelsPart lines
 
 -- the bytes are refused: they are too many, or the text of no parts
 abbrev pub IsRefused : List ℕ → TextError → Type 0

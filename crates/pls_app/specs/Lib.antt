@@ -1,5 +1,6 @@
 pub mod Command
 pub mod Report
 pub mod Input
+pub mod Scanned
 pub mod Answer
 pub mod Run

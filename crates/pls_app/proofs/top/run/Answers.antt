@@ -1,6 +1,6 @@
-use Rattle.std.proofs.Common.{◌≡◌, ◌∙◌, sym, ℕ, List, Bor, map}
+use Rattle.std.proofs.Common.{◌≡◌, ◌∙◌, ap, sym, ℕ, List, Bor, map}
 use Rattle.pls_app.specs.declared.command.Command.TheVariants.{Verify}
-use Rattle.pls_app.specs.Answer.{usage}
+use Rattle.pls_app.specs.Answer.{Answer, usage}
 use Rattle.pls_app.proofs.Outcomes.{tells, tells_part, usage_answer, told_done, same_command}
 use Rattle.pls_app.proofs.Proved.{done_proves}
 use Rattle.pls_app.proofs.top.run.Goals as goal
@@ -19,4 +19,5 @@ pub returns-in-Ok-clause-check : goal.returns-in-Ok-clause-check
 returns-in-Ok-clause-check g c scheme bytes told is done =
     let words : List (List ℕ) = map (λ (word : Bor (List ℕ)). word.now) c.args.words.now in
     let answers = same_command words c.in-Some.command (Verify scheme) bytes _ c.in-Some.ensures is (c.in-Ok.ensures.answer bytes told) in
-    done_proves scheme bytes _ answers (told_done _ _ _ _ _ _ _ c.tell-in-Ok.ensures done)
+    let due = told_done _ _ _ _ _ _ _ c.tell-in-Ok.ensures done in
+    done_proves scheme bytes _ answers (sym (ap (λ (answer : Answer). answer.status) c.answer.view_is) ∙ due)

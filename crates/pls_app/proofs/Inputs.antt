@@ -1,0 +1,230 @@
+-- What is scanned of an input, and what an input is.
+use Rattle.std.proofs.Common.{◌≡◌, ◌≢◌, ◌∙◌, ℕ, ◌+◌, ◌≤◌, ◌<◌, ◌^◌, Bool, true, false, List, [], ◌∷◌, ◌++◌, map, length, nat_lt, ◌==◌, All, Option, Some, None, if◌then◌else◌, option_map, ap, subst, refl, sym, arith}
+use Rattle.std.specs.List.{sum_by}
+use Rattle.std.proofs.lemmas.Bool.{eq-eqb}
+use Rattle.std.proofs.lemmas.Bool.Decides.{nat_tests}
+use Rattle.std.proofs.lemmas.List.{length-map}
+use Rattle.std.proofs.lemmas.List.Elements.{All-cons, All-head, All-tail}
+use Rattle.std.proofs.lemmas.List.Sums.{sum_by-cons}
+use Rattle.pls_base.specs.declared.text_error.TextError.{TextError}
+use Rattle.pls_base.specs.declared.text_error.TextError.TheVariants.{Form, Limit, Sense, NoMemory}
+use Rattle.pls_base.specs.declared.text_error.Quantity.TheVariants.{Input, Nodes, Ports, Bits, Events, Rounds, Labels}
+use Rattle.pls_model.specs.declared.row.NodeRow.{NodeRow}
+use Rattle.pls_model.specs.Configuration.{IsNetwork, ids_of, refusal_of}
+use Rattle.pls_netfile.specs.Text.{text_of}
+use Rattle.pls_netfile.specs.Lines.{Left, Passes, IsFormFault}
+use Rattle.pls_netfile.specs.NetworkText.{AreRows, FitsRow, IsNetworkPart, network_lines, network_text}
+use Rattle.pls_netfile.specs.NetworkScan.{PassesNetwork, Written as WrittenNetwork, Tells as TellsNetwork}
+use Rattle.pls_netfile.specs.NetworkBuild.{IsRefusedBuild}
+use Rattle.pls_netfile.proofs.Fronts.{text_of-append}
+use Rattle.pls_netfile.proofs.NetworkRows.{network_is_part, one_network, rows_are_part}
+use Rattle.pls_netfile.proofs.WholeTexts.{fault_alone, fault_behind, fault_in_first, fault_in_second, fault_of_text}
+use Rattle.pls_labelfile.specs.LabelsText.{FitsLabel, IsLabelsPart, NamedLabel, labels_lines, labels_text, named}
+use Rattle.pls_labelfile.specs.LabelsScan.{PassesPart, bits_of, Written as WrittenLabels, Tells as TellsLabels}
+use Rattle.pls_labelfile.specs.Misfit.{misfit}
+use Rattle.pls_labelfile.specs.Refusal.{IsRefusal, misfit_error, refusal_of as labels_refusal}
+use Rattle.pls_labelfile.proofs.LabelsPart.{is_labels_part, labels_part, one_labels}
+use Rattle.pls_app.specs.declared.limits.TheConstants.{MAX_INPUT}
+use Rattle.pls_app.specs.Input.{AreParts, IsInput, IsInputLines, input_text}
+use Rattle.pls_app.specs.Scanned.{IsFormError, IsNoInput, IsScanned}
+
+-- a fault in the network part is the first fault of the input
+pub fault_in_network : (bytes : List ℕ) (old : Left) (error : TextError) → old.number ≡ 1 → old.rest ≡ bytes → IsFormFault IsNetworkPart old error → IsFormError bytes error
+fault_in_network bytes old error first rest fault =
+    let none : All FitsLabel [] = λ k d within. absurd (omega (arith, within)) in
+    (fault.0, fault.1, fault_of_text IsInputLines bytes old fault.0 first rest
+      (fault_in_first IsNetworkPart IsLabelsPart (labels_lines []) old fault.0 network_is_part (is_labels_part [] none) fault.2))
+
+-- a fault in the labels part
+pub fault_in_labels : (bytes : List ℕ) (old mid : Left) (network : WrittenNetwork) (error : TextError) → old.number ≡ 1 → old.rest ≡ bytes → PassesNetwork old mid network
+    → IsFormFault IsLabelsPart mid error → IsFormError bytes error
+fault_in_labels bytes old mid network error first rest passes fault =
+    (fault.0, fault.1, fault_of_text IsInputLines bytes old fault.0 first rest
+      (fault_in_second IsNetworkPart IsLabelsPart (network_lines passes.rows) old mid fault.0 network_is_part labels_part (rows_are_part passes.rows passes.tells.fits) passes.passed
+        (fault_alone IsLabelsPart mid fault.0 labels_part fault.2)))
+
+-- something left over behind the parts
+pub fault_left_over : (bytes : List ℕ) (old mid now : Left) (network : WrittenNetwork) (labels : WrittenLabels) → old.number ≡ 1 → old.rest ≡ bytes → PassesNetwork old mid network
+    → PassesPart mid now labels → (now.rest ≡ [] → ⊥) → IsFormError bytes (Form now.number)
+fault_left_over bytes old mid now network labels first rest passes passes_labels some =
+    (now.number, refl, fault_of_text IsInputLines bytes old now.number first rest
+      (fault_in_second IsNetworkPart IsLabelsPart (network_lines passes.rows) old mid now.number network_is_part labels_part (rows_are_part passes.rows passes.tells.fits) passes.passed
+        (fault_behind IsLabelsPart (labels_lines passes_labels.labels) mid now labels_part (is_labels_part passes_labels.labels passes_labels.tells.fits) passes_labels.passed some)))
+
+-- the labels of nodes fit where each is one bit
+named_fit : (rows : List NodeRow) (labels : List (List Bool)) → All FitsRow rows → All (λ label. length label ≡ 1) labels → All FitsLabel (named (ids_of rows) labels)
+named_fit [] labels fits one = λ k d within. absurd (omega (arith, within))
+named_fit (row ∷ rows) [] fits one = λ k d within. absurd (omega (arith, within))
+named_fit (row ∷ rows) (label ∷ labels) fits one =
+    let short : length label ≤ 2 ^ 28 = omega (arith, All-head (λ (label : List Bool). length label ≡ 1) label labels one) in
+    All-cons FitsLabel (record { id = row.id; bits = label }) (named (ids_of rows) labels)
+    (record { id = (All-head FitsRow row rows fits).id; short = short })
+    (named_fit rows labels (All-tail FitsRow row rows fits) (All-tail (λ (label : List Bool). length label ≡ 1) label labels one))
+
+-- the labels of parts fit
+parts_fit : (rows : List NodeRow) (labels : List (List Bool)) → AreParts rows labels → All FitsLabel (named (ids_of rows) labels)
+parts_fit rows labels parts = named_fit rows labels parts.ranges.each parts.one_bit
+
+-- an input with a faulty line is the text of no parts
+pub no_input_by_form : (bytes : List ℕ) (error : TextError) → IsFormError bytes error → IsNoInput bytes error
+no_input_by_form bytes error fault = subst (IsNoInput bytes) (sym fault.1) none
+  where
+    none : (rows : List NodeRow) (labels : List (List Bool)) → IsInput bytes rows labels → ⊥
+    none rows labels input =
+        let parts = named (ids_of rows) labels in
+        fault.2.2.none (network_lines rows ++ labels_lines parts)
+        (record {
+          front = network_lines rows;
+          back = labels_lines parts;
+          is_first = rows_are_part rows input.parts.ranges;
+          is_second = is_labels_part parts (parts_fit rows labels input.parts);
+          parts = refl;
+        })
+        (input.is ∙ sym (text_of-append (network_lines rows) (labels_lines parts)))
+
+-- the parts of an input are those that were scanned
+record SameParts (rows : List NodeRow) (labels : List (List Bool)) (network : WrittenNetwork) (text : WrittenLabels) : Type 0 where
+  tells_rows : TellsNetwork network rows
+  tells_labels : TellsLabels text.text (named (ids_of rows) labels)
+
+same_parts : (bytes : List ℕ) (network : WrittenNetwork) (text : WrittenLabels) (rows : List NodeRow) (labels : List (List Bool)) → IsScanned bytes network text → IsInput bytes rows labels
+    → SameParts rows labels network text
+same_parts bytes network text rows labels scanned input =
+    let parts = named (ids_of rows) labels in
+    let fit = parts_fit rows labels input.parts in
+    let both : network_text scanned.rows ++ labels_text scanned.named ≡ network_text rows ++ labels_text parts = sym scanned.is ∙ input.is in
+    let first = one_network scanned.rows rows (labels_text scanned.named) (labels_text parts) scanned.tells_rows.fits input.parts.ranges both in
+    let ends : labels_text scanned.named ++ [] ≡ labels_text parts ++ [] = ap (λ (text : List ℕ). text ++ []) first.1 in
+    let second = one_labels scanned.named parts [] [] scanned.tells_labels.fits fit ends in
+    record {
+      tells_rows = subst (TellsNetwork network) first.0 scanned.tells_rows;
+      tells_labels = subst (TellsLabels text.text) second.0 scanned.tells_labels;
+    }
+
+-- rows that are refused are no network
+not_refused : (rows : List NodeRow) (error : TextError) → IsNetwork rows → error ≢ NoMemory → IsRefusedBuild rows error → ⊥
+not_refused rows (Form line) net some refused = refused
+not_refused rows (Limit Nodes) net some refused = omega (arith, refused, net.limits.few_nodes)
+not_refused rows (Limit Ports) net some refused = omega (arith, refused.1, net.limits.few_ports)
+not_refused rows (Limit Input) net some refused = refused
+not_refused rows (Limit Bits) net some refused = refused
+not_refused rows (Limit Events) net some refused = refused
+not_refused rows (Limit Rounds) net some refused = refused
+not_refused rows (Limit Labels) net some refused = refused
+not_refused rows (Sense number place) net some refused = let none : None ≡ Some refused.refusal = sym net.valid ∙ refused.first in cc
+not_refused rows NoMemory net some refused = some refl
+
+-- what is no input for an error that is not want of memory
+no_input : (bytes : List ℕ) (error : TextError) → (error ≢ NoMemory → (rows : List NodeRow) (labels : List (List Bool)) → IsInput bytes rows labels → ⊥) → IsNoInput bytes error
+no_input bytes (Form line) none = none (λ e. cc)
+no_input bytes (Limit quantity) none = none (λ e. cc)
+no_input bytes (Sense number place) none = none (λ e. cc)
+no_input bytes NoMemory none = tt
+
+-- an input whose rows are refused is the text of no parts
+pub no_input_by_rows : (bytes : List ℕ) (network : WrittenNetwork) (text : WrittenLabels) (error : TextError) → IsScanned bytes network text
+    → ((rows : List NodeRow) → TellsNetwork network rows → IsRefusedBuild rows error) → IsNoInput bytes error
+no_input_by_rows bytes network text error scanned refused =
+    no_input bytes error (λ some rows labels input.
+      not_refused rows error input.parts.network some (refused rows (same_parts bytes network text rows labels scanned input).tells_rows))
+
+-- one bit a label
+bits_of-single : (ids : List ℕ) (labels : List (List Bool)) → All (λ label. length label ≡ 1) labels → bits_of (named ids labels) ≤ length ids
+bits_of-single [] labels one = omega arith
+bits_of-single (id ∷ ids) [] one = omega arith
+bits_of-single (id ∷ ids) (label ∷ labels) one =
+    let first = All-head (λ (label : List Bool). length label ≡ 1) label labels one in
+    let rest = bits_of-single ids labels (All-tail (λ (label : List Bool). length label ≡ 1) label labels one) in
+    let sum = sum_by-cons (λ (label : NamedLabel). length label.bits) (record { id = id; bits = label }) (named ids labels) in
+    omega (arith, first, rest, sum)
+
+-- labels that are named by the nodes fit them
+misfit-named : (ids : List ℕ) (labels : List (List Bool)) → length labels ≡ length ids → misfit ids (named ids labels) ≡ None
+misfit-named [] [] same = refl
+misfit-named [] (label ∷ labels) same = absurd (omega arith)
+misfit-named (id ∷ ids) [] same = absurd (omega arith)
+misfit-named (id ∷ ids) (label ∷ labels) same =
+    let here : (id == id) ≡ true = eq-eqb id id refl in
+    let rest : misfit ids (named ids labels) ≡ None = misfit-named ids labels (omega arith) in
+    rw (here, rest) refl
+
+-- the labels of parts are not refused
+labels_accepted : (rows : List NodeRow) (labels : List (List Bool)) (heading : ℕ) → AreParts rows labels → labels_refusal (ids_of rows) heading (named (ids_of rows) labels) ≡ None
+labels_accepted rows labels heading parts =
+    let ids : List ℕ = ids_of rows in
+    let many : length ids ≡ length rows = length-map rows (λ (row : NodeRow). row.id) in
+    let few : bits_of (named ids labels) ≤ 2 ^ 28 = omega (arith, many, bits_of-single ids labels parts.one_bit, parts.network.limits.few_nodes) in
+    let within : nat_lt (2 ^ 28) (bits_of (named ids labels)) ≡ false = grind (arith, nat_tests) in
+    let fits : misfit ids (named ids labels) ≡ None = misfit-named ids labels (parts.each ∙ sym many) in
+    rw (within, fits) refl
+
+-- an error that is a refusal is the refusal
+refusal_is : (ids : List ℕ) (heading : ℕ) (labels : List NamedLabel) (error : TextError) → error ≢ NoMemory → IsRefusal ids heading labels error → labels_refusal ids heading labels ≡ Some error
+refusal_is ids heading labels (Form line) some refused = refused
+refusal_is ids heading labels (Limit quantity) some refused = refused
+refusal_is ids heading labels (Sense number place) some refused = refused
+refusal_is ids heading labels NoMemory some refused = absurd (some refl)
+
+-- an input whose labels are refused is the text of no parts
+pub no_input_by_labels : (bytes : List ℕ) (network : WrittenNetwork) (text : WrittenLabels) (net : List NodeRow) (error : TextError) → IsScanned bytes network text
+    → ((rows : List NodeRow) → TellsNetwork network rows → net ≡ rows)
+    → ((labels : List NamedLabel) → TellsLabels text.text labels → IsRefusal (ids_of net) text.number labels error) → IsNoInput bytes error
+no_input_by_labels bytes network text net error scanned built refused =
+    no_input bytes error (λ some rows labels input.
+      let same = same_parts bytes network text rows labels scanned input in
+      let is_net : net ≡ rows = built rows same.tells_rows in
+      let parts : List NamedLabel = named (ids_of rows) labels in
+      let here : IsRefusal (ids_of rows) text.number parts error = subst (λ (net : List NodeRow). IsRefusal (ids_of net) text.number parts error) is_net (refused parts same.tells_labels) in
+      let told = refusal_is (ids_of rows) text.number parts error some here in
+      let none : None ≡ Some error = sym (labels_accepted rows labels text.number input.parts) ∙ told in
+      cc)
+
+-- the bits of named labels are the labels
+bits-named : (ids : List ℕ) (labels : List (List Bool)) → length labels ≡ length ids → map (λ label. label.bits) (named ids labels) ≡ labels
+bits-named [] [] same = refl
+bits-named [] (label ∷ labels) same = absurd (omega arith)
+bits-named (id ∷ ids) [] same = absurd (omega arith)
+bits-named (id ∷ ids) (label ∷ labels) same = ap (λ rest. label ∷ rest) (bits-named ids labels (omega arith))
+
+-- an input whose labels are not one bit each is the text of no parts
+pub no_input_by_bits : (bytes : List ℕ) (network : WrittenNetwork) (text : WrittenLabels) (store : List (List Bool)) → IsScanned bytes network text
+    → ((labels : List NamedLabel) → TellsLabels text.text labels → store ≡ map (λ label. label.bits) labels)
+    → (All (λ label. length label ≡ 1) store → ⊥) → (rows : List NodeRow) (labels : List (List Bool)) → IsInput bytes rows labels → ⊥
+no_input_by_bits bytes network text store scanned stored some rows labels input =
+    let same = same_parts bytes network text rows labels scanned input in
+    let many = length-map rows (λ (row : NodeRow). row.id) in
+    let is_store : store ≡ labels = stored (named (ids_of rows) labels) same.tells_labels ∙ bits-named (ids_of rows) labels (input.parts.each ∙ sym many) in
+    some (subst (λ (labels : List (List Bool)). All (λ label. length label ≡ 1) labels) (sym is_store) input.parts.one_bit)
+
+-- named labels are their names and their bits
+named-parts : (labels : List NamedLabel) → named (map (λ label. label.id) labels) (map (λ label. label.bits) labels) ≡ labels
+named-parts [] = refl
+named-parts (label ∷ labels) = ap (λ rest. label ∷ rest) (named-parts labels)
+
+-- what was scanned and built is an input
+pub input_of : (bytes : List ℕ) (network : WrittenNetwork) (text : WrittenLabels) (net : List NodeRow) (store : List (List Bool)) → length bytes ≤ MAX_INPUT → IsScanned bytes network text
+    → ((rows : List NodeRow) → TellsNetwork network rows → net ≡ rows) → IsNetwork net
+    → ((labels : List NamedLabel) → TellsLabels text.text labels → store ≡ map (λ label. label.bits) labels)
+    → ((labels : List NamedLabel) → TellsLabels text.text labels → map (λ label. label.id) labels ≡ ids_of net)
+    → All (λ label. length label ≡ 1) store → IsInput bytes net store
+input_of bytes network text net store short scanned built valid stored names one =
+    let is_net : net ≡ scanned.rows = built scanned.rows scanned.tells_rows in
+    let is_store = stored scanned.named scanned.tells_labels in
+    let is_named = names scanned.named scanned.tells_labels in
+    let back : named (ids_of net) store ≡ scanned.named = rw (← is_named, is_store) (named-parts scanned.named) in
+    record {
+      short = short;
+      parts = record {
+        network = valid;
+        ranges = subst AreRows (sym is_net) scanned.tells_rows.fits;
+        each = ap length is_store ∙ length-map scanned.named (λ (label : NamedLabel). label.bits)
+            ∙ sym (length-map scanned.named (λ (label : NamedLabel). label.id)) ∙ ap length is_named ∙ length-map net (λ (row : NodeRow). row.id);
+        one_bit = one;
+      };
+      is = scanned.is ∙ ap (λ (rows : List NodeRow). network_text rows ++ labels_text scanned.named) (sym is_net)
+          ∙ ap (λ (parts : List NamedLabel). network_text net ++ labels_text parts) (sym back);
+    }
+
+-- a test that failed does not hold
+pub no_truth : (b : Bool) → b ≡ false → b ≡ true → ⊥
+no_truth b fails holds = cc
