@@ -3,6 +3,7 @@ pub mod Finds
 mod Rising
 mod Repeats
 mod Tables
+mod Mutual
 mod Greatest
 pub mod Joined
 mod Spreading

@@ -1,12 +1,14 @@
 //! Tables over rows, by which the node that a port names and the port back are found.
 
-ghost use Rattle.std.specs.Prelude.{◌≡◌, ℕ, ◌==◌, not, false, find, length, option_map, None, Some, Ok, IfOk, IfErr, OnOk, if◌then◌else◌};
+ghost use Rattle.std.specs.Prelude.{◌≡◌, ◌≤◌, ℕ, ◌==◌, not, false, find, length, option_map, None, Some, Ok, IfOk, IfErr, OnOk, if◌then◌else◌};
 ghost use Rattle.std.specs.Option.{is_none, is_some, option_map_or};
-ghost use Rattle.pls_model.specs.Configuration.{out_of_order, names_twice, names_unknown, lacks_way_back, differs_in_weight, ids_of, row_of, port_to};
+ghost use Rattle.pls_model.specs.Configuration.{out_of_order, names_twice, names_unknown, lacks_way_back, differs_in_weight, ids_of, ports_in, row_of, port_to};
+ghost use Rattle.pls_model.specs.declared.limits.TheConstants.{MAX_PORTS};
 ghost use Rattle.pls_model.specs.declared.refusal.BuildError.TheVariants.{Twice};
 ghost use Rattle.pls_graph.specs.Build.{Tells};
-ghost use Rattle.pls_graph.specs.Ways.{weight_in, weight_between};
+ghost use Rattle.pls_graph.specs.Ways.{weight_in, weight_between, is_mutual};
 
+use crate::size::count_ports;
 use indexmap::{IndexMap, IndexSet};
 use pls_model::{BuildError, NodeRow, Port};
 use std::alloc::{AllocError, Global};
@@ -32,13 +34,15 @@ impl<'a> Model for Index<'a> {
     ghost view = { λ index. index.rows.now };
 
     ghost invariant = { λ index. (index.ids.keys ≡ ids_of index.rows.now)
-        × ((owner nbr : ℕ) → weight_in index.ways owner nbr ≡ weight_between index.rows.now owner nbr) };
+        × ((owner nbr : ℕ) → weight_in index.ways owner nbr
+        ≡ weight_between index.rows.now owner nbr) };
 }
 
 impl<'a> Index<'a> {
     /// The tables of rows whose identities rise, unless one names a node twice.
     pub(crate) fn of(alloc: Global, rows: &'a [NodeRow]) -> Result<Index<'a>, BuildError>
-        requires { out_of_order rows.now ≡ None }
+        requires order { out_of_order rows.now ≡ None }
+        requires few_ports { ports_in rows.now ≤ MAX_PORTS }
         ensures ok { IfOk result (λ index. index ≡ rows.now) }
         ensures valid { OnOk result (find names_twice rows.now ≡ None) }
         ensures refused { IfErr result (λ error.
@@ -97,7 +101,8 @@ impl<'a> Index<'a> {
 
     /// Whether the neighbour is a row that has no port to the identity.
     fn has_no_way_back(&self, id: u32, nbr: u32) -> bool
-        ensures { result ≡ option_map_or (λ other. is_none (port_to other id)) (row_of self.now nbr) false }
+        ensures { result
+            ≡ option_map_or (λ other. is_none (port_to other id)) (row_of self.now nbr) false }
     {
         self.weight(nbr, id).is_none() && self.knows(nbr)
     }
@@ -112,12 +117,32 @@ impl<'a> Index<'a> {
             .any(|port| self.differs_back(row.id, *port))
     }
 
-    /// Whether a port of an owner weighs otherwise than the port back.
+    /// Whether a port of the node weighs otherwise than the port back.
     fn differs_back(&self, id: u32, port: Port) -> bool
-        ensures { result ≡ option_map_or (λ weight. not (port.weight == weight)) (weight_between self.now port.nbr id) false }
+        ensures { result ≡ option_map_or (λ weight. not (port.weight == weight))
+            (weight_between self.now port.nbr id) false }
     {
         self.weight(port.nbr, id)
             .is_some_and(|weight| port.weight != weight)
+    }
+
+    /// Whether each port of the row has a port back of the same weight.
+    pub(crate) fn is_mutual(&self, row: &NodeRow) -> bool
+        ensures { result ≡ is_mutual self.now row.now }
+    {
+        row.ports
+            .as_slice()
+            .iter()
+            .all(|port| self.agrees_back(row.id, *port))
+    }
+
+    /// Whether a port of the node has a port back of the same weight.
+    fn agrees_back(&self, id: u32, port: Port) -> bool
+        ensures { result ≡ option_map_or (λ weight. port.weight == weight)
+            (weight_between self.now port.nbr id) false }
+    {
+        self.weight(port.nbr, id)
+            .is_some_and(|weight| port.weight == weight)
     }
 }
 
@@ -135,14 +160,15 @@ fn identities(alloc: Global, rows: &[NodeRow]) -> Result<IndexSet<u32>, AllocErr
 
 /// The weight of each port by its owner and the node that it names, unless a row names one twice.
 fn ways_of(alloc: Global, rows: &[NodeRow]) -> Result<IndexMap<(u32, u32), u32>, BuildError>
-    requires { out_of_order rows.now ≡ None }
+    requires order { out_of_order rows.now ≡ None }
+    requires few_ports { ports_in rows.now ≤ MAX_PORTS }
     ensures ok { IfOk result (λ ways. (owner nbr : ℕ)
         → weight_in ways owner nbr ≡ weight_between rows.now owner nbr) }
     ensures valid { OnOk result (find names_twice rows.now ≡ None) }
     ensures refused { IfErr result (λ error.
         Tells (option_map (λ row. Twice row.id) (find names_twice rows.now)) error) }
 {
-    let mut ways = IndexMap::new(alloc);
+    let mut ways = IndexMap::with_capacity(alloc, count_ports(rows) as usize)?;
     for row in rows {
         if add_ports(&mut ways, row)? {
             return Err(BuildError::Twice(row.id));

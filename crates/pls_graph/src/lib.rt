@@ -8,6 +8,8 @@ mod network;
 mod reach;
 mod refusal;
 mod size;
+#[cfg(test)]
+mod tests;
 
 pub use network::Network;
 pub use pls_model::{BuildError, NodePorts, NodeRow, Port, State};
