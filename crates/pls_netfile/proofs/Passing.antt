@@ -36,7 +36,7 @@ pub passes_push : {X : Type 0} (written : X → List ℕ) (old mid new : Left) (
     → Passes old new (map written (values ++ value ∷ []))
 passes_push written old mid new values value so_far passed =
     subst (Passes old new) (sym (map_push written values value))
-      (passes_then old mid new (map written values) (written value ∷ []) so_far passed)
+    (passes_then old mid new (map written values) (written value ∷ []) so_far passed)
 
 -- no line of a kind, and one more
 pub none_passed : {X : Type 0} (Fits : X → Type 0) (written : X → List ℕ) (old : Left) → PassesAll Fits written old old 0
@@ -49,7 +49,7 @@ one_more_passed Fits written old mid new count value so_far fits passed = record
   values = so_far.values ++ value ∷ [];
   fits = All-push Fits so_far.values value so_far.fits fits;
   passed = passes_push written old mid new so_far.values value so_far.passed passed;
-  many = omega (arith, so_far.many, length-append so_far.values (value ∷ []))
+  many = omega (arith, so_far.many, length-append so_far.values (value ∷ []));
 }
 
 -- no more lines of a kind than the number of the line

@@ -23,7 +23,7 @@ row_passed old mid new id state ports fits passed all = record {
   row = record { id = id; state = state; ports = all.values };
   fits = record { id = fits.small; state = fits.fits; ports = all.fits };
   passed = passes_then old mid new (node_line id state ∷ []) (map port_line all.values) passed all.passed;
-  many = all.many
+  many = all.many;
 }
 
 pub no_rows : (old : Left) → PassesRows old old 0 0
@@ -39,7 +39,7 @@ one_row_more old mid new nodes ports more so_far row = record {
       ∙ sym (flat_map-append row_lines so_far.rows (row.row ∷ [])))
       (passes_then old mid new (flat_map row_lines so_far.rows) (row_lines row.row) so_far.passed row.passed);
   many = omega (arith, so_far.many, length-append so_far.rows (row.row ∷ []));
-  sum = omega (arith, so_far.sum, row.many, sum_by_push (λ (r : NodeRow). length r.ports) so_far.rows row.row)
+  sum = omega (arith, so_far.sum, row.many, sum_by_push (λ (r : NodeRow). length r.ports) so_far.rows row.row);
 }
 
 -- there are as many lines as nodes and ports

@@ -1,6 +1,24 @@
-//! Lines of a text, and the text of a network.
+//! Texts of lines, and the text of a network.
+//!
+//! [`Lines`] lends the lines of a text, one after another. A [`LineKind`] says how its values are
+//! written, one a line: [`next_of`] reads the next line as such a value, and [`count_of`] and
+//! [`list_of`] read as many as stand. The words of a line are read by [`after_word`],
+//! [`number_then`], [`u32_then`] and [`last_u32`]. The parts of an input that other crates read
+//! are made of these too.
+//!
+//! A format is a fact about lists of lines: those that are its texts. `specs/Fault` says which line of
+//! a text is the first faulty one, and `specs/Frame` what each part of an input has: a heading, a
+//! body of lines, and the line `end`. `proofs/Frames` has the faults of such a part, and
+//! `proofs/WholeTexts` those of a whole text of one part or of several in turn.
+//!
+//! `specs/NetworkText` says how a network is written. [`scan_network`] passes one network part, or
+//! names its first faulty line; the [`NetworkText`] that it gives lends the text, counts its nodes
+//! and ports, and gives their rows. Laws: a text fixes its network ([`one_network`]), and it has one
+//! first faulty line at most ([`one_first_fault`]), none where it is the text of a network
+//! ([`no_fault`]).
 #![tactic(auto)]
 
+mod cut;
 mod laws;
 mod line_kind;
 mod lines;
@@ -13,6 +31,7 @@ mod network_text;
 mod tests;
 mod words;
 
+pub use cut::cut_at;
 pub use laws::{no_fault, one_first_fault, one_network};
 pub use line_kind::{LineKind, count_of, list_of, next_of};
 pub use lines::Lines;
@@ -20,4 +39,4 @@ pub use network_line::{NodeLine, pointer_then, read_state};
 pub use network_scan::scan_network;
 pub use network_text::NetworkText;
 pub use pls_base::NoMemory;
-pub use words::{after_word, first_word, is_same, last_u32, number_then, u32_then};
+pub use words::{after_word, is_same, last_u32, number_then, u32_then};

@@ -1,11 +1,12 @@
 //! The lines of a text, lent one after another.
 
-ghost use Rattle.std.specs.Prelude.{◌≡◌, ◌↔◌, ◌==◌, ◌+◌, ◌<◌, ◌≤◌, ◌^◌, [], ◌∷◌, length, IfNone, IfSome, IsTrue};
+ghost use Rattle.std.specs.Prelude.{◌≡◌, ◌↔◌, ◌<◌, ◌≤◌, ◌^◌, [], ◌∷◌, length, IfNone, IfSome, IsTrue};
 ghost use Rattle.std.specs.Bool.{OnFalse, OnTrue};
 ghost use Rattle.pls_base.specs.declared.text_error.TextError.TheVariants.{Form};
 ghost use Rattle.pls_netfile.specs.Plain.{Lacks};
 ghost use Rattle.pls_netfile.specs.Lines.{Passes, Stands};
 
+use crate::cut::cut_at;
 use crate::words::is_same;
 use pls_base::TextError;
 use std::marker::Model;
@@ -90,9 +91,8 @@ impl<'a> Lines<'a> {
         ensures none { IfNone result (Lacks 10 self.old.rest) }
         ensures unchanged { IfNone result (self.new ≡ self.old) }
     {
-        let end = self.rest.iter().position(|byte| *byte == b'\n')?;
-        let line = &self.rest[..end];
-        self.rest = &self.rest[end + 1..];
+        let (line, rest) = cut_at(self.rest, b'\n')?;
+        self.rest = rest;
         self.number += 1;
         Some(line)
     }

@@ -53,7 +53,7 @@ impl<'a> LineKind<'a> for Port {
 /// none.
 pub fn read_state(words: &[u8]) -> Option<(u32, State)>
     ensures fits { IfSome result (λ node. FitsNode node.0 node.1) }
-    ensures some { IfSome result (λ node. words.now ≡ line_of (state_words node.0 node.1)) }
+    ensures stands { IfSome result (λ node. words.now ≡ line_of (state_words node.0 node.1)) }
     ensures none { IfNone result ((id : ℕ) (state : State) → FitsNode id state
         → words.now ≢ line_of (state_words id state)) }
 {
@@ -67,7 +67,7 @@ pub fn read_state(words: &[u8]) -> Option<(u32, State)>
 /// A pointer at the front of a text, `-` or the number of a port, and what follows the space behind
 /// it; `None` where they do not stand there.
 pub fn pointer_then(text: &[u8]) -> Option<(Option<u32>, &[u8])>
-    ensures some { IfSome result (λ parts. text.now ≡ up_word parts.0 ++ 32 ∷ parts.1.now) }
+    ensures stands { IfSome result (λ parts. text.now ≡ up_word parts.0 ++ 32 ∷ parts.1.now) }
     ensures within { IfSome result (λ parts. IfSome parts.0 (λ port. port < 2 ^ 32)) }
     ensures none { IfNone result ((up : Option ℕ) (rest : List ℕ) → IfSome up (λ port. port < 2 ^ 32)
         → text.now ≢ up_word up ++ 32 ∷ rest) }
@@ -80,7 +80,7 @@ pub fn pointer_then(text: &[u8]) -> Option<(Option<u32>, &[u8])>
 
 // The number of a port at the front of a text, as a pointer.
 fn port_then(text: &[u8]) -> Option<(Option<u32>, &[u8])>
-    ensures some { IfSome result (λ parts. text.now ≡ up_word parts.0 ++ 32 ∷ parts.1.now) }
+    ensures stands { IfSome result (λ parts. text.now ≡ up_word parts.0 ++ 32 ∷ parts.1.now) }
     ensures within { IfSome result (λ parts. IfSome parts.0 (λ port. port < 2 ^ 32)) }
     ensures none { IfNone result ((port : ℕ) (rest : List ℕ) → port < 2 ^ 32
         → text.now ≢ up_word (Some port) ++ 32 ∷ rest) }

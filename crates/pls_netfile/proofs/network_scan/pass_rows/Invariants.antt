@@ -7,7 +7,7 @@ use Rattle.pls_netfile.proofs.network_scan.pass_rows.Given as goal
 abbrev pub invariant-loop-more : goal.invariant-loop-more
 invariant-loop-more l = record {
   rows : PassesRows l.fn.lines l.lines l.nodes l.ports;
-  no_port : 0 < l.nodes → Stands IsPortLine l.lines.rest → ⊥
+  no_port : 0 < l.nodes → Stands IsPortLine l.lines.rest → ⊥;
 }
 
 abbrev pub decreases-loop-more : goal.decreases-loop-more

@@ -12,6 +12,6 @@ pub returns-in_err-number-clause-none : goal.returns-in_err-number-clause-none
 returns-in_err-number-clause-none c =
     rw c.from_residual-in_err-number.ensures
     (λ number rest within e.
-    let cut = same_first 32 c.in_ok-word.word.now (decimal number) _ rest c.in_ok-word.ensures.short
-    (decimal_lacks 32 number (omega arith) (omega arith)) (sym c.in_ok-word.ensures.some ∙ e) in
+    let cut = same_first 32 c.in_ok-word.word.now (decimal number) _ rest c.in_ok-word.ensures.front
+    (decimal_lacks 32 number (omega arith) (omega arith)) (sym c.in_ok-word.ensures.stands ∙ e) in
     c.in_err-number.ensures.none number within cut.0)
