@@ -8,3 +8,4 @@ pub mod NetworkText
 pub mod NetworkLine
 pub mod NetworkScan
 pub mod NetworkBuild
+pub mod NetworkFile
