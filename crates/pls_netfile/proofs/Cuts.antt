@@ -39,7 +39,7 @@ one_begins (c ∷ a) (d ∷ b) x y e =
     let head : c ≡ d = cc in
     let tail : a ++ x ≡ b ++ y = cc in
     elim (one_begins a b x y tail) [
-        inl w ↦ let is = w.longer in inl (record { more = w.more; longer = cc; rest = w.rest })
+      | inl w ↦ let is = w.longer in inl (record { more = w.more; longer = cc; rest = w.rest })
       | inr w ↦ let is = w.longer in inr (record { more = w.more; longer = cc; rest = w.rest })
     ]
 

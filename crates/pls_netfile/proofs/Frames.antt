@@ -1,11 +1,9 @@
 -- Parts with a heading, a body and the line `end`: what is due in each place, and their faults.
-use Rattle.std.proofs.Common.{◌≡◌, ◌≢◌, ℕ, ◌+◌, ◌⊎◌, List, [], ◌∷◌, ◌++◌, length, codes, refl, sym, ◌∙◌, ap, subst, inl, inr, append_assoc, append-nil, length-append, arith}
-use Rattle.std.proofs.lemmas.List.{append_cancel_left}
+use Rattle.std.proofs.Common.{◌≡◌, ℕ, ◌+◌, ◌⊎◌, List, [], ◌∷◌, ◌++◌, length, codes, refl, sym, ◌∙◌, ap, subst, inl, inr, append_assoc, append-nil, length-append, arith}
 use Rattle.pls_netfile.specs.Plain.{Lacks, ArePlain}
-use Rattle.pls_netfile.specs.Text.{text_of}
 use Rattle.pls_netfile.specs.Lines.{Left, Passes, Stands, IsFault}
 use Rattle.pls_netfile.specs.Frame.{part_lines, IsFramed}
-use Rattle.pls_netfile.proofs.Cuts.{each-append, same_first, Begun, one_begins}
+use Rattle.pls_netfile.proofs.Cuts.{each-append, same_first, one_begins}
 use Rattle.pls_netfile.proofs.Parts.{IsPart, faulty}
 
 -- each body has plain lines, none of which is `end`
@@ -20,16 +18,16 @@ pub framed_part : (heading : List ℕ) (Body : List (List ℕ) → Type 0) → L
     → IsPart (IsFramed heading Body)
 framed_part heading Body plain body = record {
   plain = λ lines is.
-    subst ArePlain (sym is.is)
+      subst ArePlain (sym is.is)
       (plain, each-append (Lacks 10) is.body (codes "end" ∷ []) (body.plain is.body is.fits) (end_plain, tt));
   own = λ a b x y p q e.
-    let whole : (heading ∷ p.body ++ codes "end" ∷ []) ++ x ≡ (heading ∷ q.body ++ codes "end" ∷ []) ++ y =
-        ap (λ lines. lines ++ x) (sym p.is) ∙ e ∙ ap (λ lines. lines ++ y) q.is in
-    let bodies : (p.body ++ codes "end" ∷ []) ++ x ≡ (q.body ++ codes "end" ∷ []) ++ y = cc in
-    let cut = same_first (codes "end") p.body q.body x y
-        (body.open_ended p.body p.fits) (body.open_ended q.body q.fits)
-        (sym (append_assoc p.body (codes "end" ∷ []) x) ∙ bodies ∙ append_assoc q.body (codes "end" ∷ []) y) in
-    p.is ∙ ap (λ lines. part_lines heading lines) cut.0 ∙ sym q.is
+      let whole : (heading ∷ p.body ++ codes "end" ∷ []) ++ x ≡ (heading ∷ q.body ++ codes "end" ∷ []) ++ y =
+      ap (λ lines. lines ++ x) (sym p.is) ∙ e ∙ ap (λ lines. lines ++ y) q.is in
+      let bodies : (p.body ++ codes "end" ∷ []) ++ x ≡ (q.body ++ codes "end" ∷ []) ++ y = cc in
+      let cut = same_first (codes "end") p.body q.body x y
+      (body.open_ended p.body p.fits) (body.open_ended q.body q.fits)
+      (sym (append_assoc p.body (codes "end" ∷ []) x) ∙ bodies ∙ append_assoc q.body (codes "end" ∷ []) y) in
+      p.is ∙ ap (λ lines. part_lines heading lines) cut.0 ∙ sym q.is;
 }
 
 -- the line that comes next in a part, after these lines of its body: `end`, or one more of the body
@@ -64,7 +62,7 @@ framed_next heading Body front line others is =
     let whole : heading ∷ (is.body ++ codes "end" ∷ []) ≡ heading ∷ (front ++ line ∷ others) = sym is.is in
     let bodies : is.body ++ codes "end" ∷ [] ≡ front ++ line ∷ others = cc in
     elim (one_begins is.body front (codes "end" ∷ []) (line ∷ others) bodies) [
-        inl w ↦ behind_end Body front line others is.body w.more is.fits w.longer w.rest
+      | inl w ↦ behind_end Body front line others is.body w.more is.fits w.longer w.rest
       | inr w ↦ before_end Body front line others is.body w.more is.fits w.longer w.rest
     ]
 
@@ -72,7 +70,9 @@ framed_next heading Body front line others is =
 due_in_body : (heading : List ℕ) (Body : List (List ℕ) → Type 0) (front more : List (List ℕ)) → Body (front ++ more)
     → IsFramed heading Body (heading ∷ front ++ (more ++ codes "end" ∷ []))
 due_in_body heading Body front more fits = record {
-  body = front ++ more; fits = fits; is = ap (λ lines. heading ∷ lines) (sym (append_assoc front more (codes "end" ∷ [])))
+  body = front ++ more;
+  fits = fits;
+  is = ap (λ lines. heading ∷ lines) (sym (append_assoc front more (codes "end" ∷ [])));
 }
 
 -- the heading is due, and another line stands next
@@ -83,8 +83,8 @@ fault_in_heading heading Body some old plain body fits absent = (
   0,
   omega arith,
   faulty (IsFramed heading Body) (λ line. line ≡ heading) [] heading (some ++ codes "end" ∷ []) old.rest old.rest
-    (framed_part heading Body plain body) (due_in_body heading Body [] some fits) refl absent
-    (λ line others is. let e = is.is in cc)
+      (framed_part heading Body plain body) (due_in_body heading Body [] some fits) refl absent
+      (λ line others is. let e = is.is in cc),
 )
 
 -- a line of the body or `end` is due, and another line stands next
@@ -97,13 +97,13 @@ fault_in_body heading Body Due front [] old now plain body passes fits absent du
   length (heading ∷ front),
   passes.number,
   faulty (IsFramed heading Body) Due (heading ∷ front) (codes "end") [] old.rest now.rest
-    (framed_part heading Body plain body) (due_in_body heading Body front [] fits) passes.stands absent
-    (λ line others is. due line (framed_next heading Body front line others is))
+      (framed_part heading Body plain body) (due_in_body heading Body front [] fits) passes.stands absent
+      (λ line others is. due line (framed_next heading Body front line others is)),
 )
 fault_in_body heading Body Due front (next ∷ more) old now plain body passes fits absent due = (
   length (heading ∷ front),
   passes.number,
   faulty (IsFramed heading Body) Due (heading ∷ front) next (more ++ codes "end" ∷ []) old.rest now.rest
-    (framed_part heading Body plain body) (due_in_body heading Body front (next ∷ more) fits) passes.stands absent
-    (λ line others is. due line (framed_next heading Body front line others is))
+      (framed_part heading Body plain body) (due_in_body heading Body front (next ∷ more) fits) passes.stands absent
+      (λ line others is. due line (framed_next heading Body front line others is)),
 )

@@ -1,5 +1,5 @@
 -- Lines at the front of a text.
-use Rattle.std.proofs.Common.{◌≡◌, ℕ, ◌+◌, ◌≤◌, List, [], ◌∷◌, ◌++◌, length, refl, sym, ◌∙◌, ap, append_assoc, append-nil, length-append, arith}
+use Rattle.std.proofs.Common.{◌≡◌, ℕ, ◌+◌, ◌≤◌, List, [], ◌∷◌, ◌++◌, length, refl, sym, ◌∙◌, ap, append_assoc, arith}
 use Rattle.pls_netfile.specs.Plain.{Lacks, ArePlain}
 use Rattle.pls_netfile.specs.Text.{text_of}
 use Rattle.pls_netfile.proofs.Cuts.{same_first}

@@ -1,17 +1,13 @@
 -- The places of a network part at which another line can be faulty.
-use Rattle.std.proofs.Common.{◌≡◌, ℕ, ◌+◌, ◌<◌, ◌≤◌, ◌⊎◌, List, [], ◌∷◌, ◌++◌, map, length, Option, None, codes, refl, sym, ◌∙◌, ap, subst, inl, inr, append-nil, length-append, arith}
-use Rattle.std.specs.List.{All, AllByRecursion, flat_map}
+use Rattle.std.proofs.Common.{◌≡◌, ℕ, ◌⊎◌, List, [], ◌∷◌, ◌++◌, None, codes, refl, sym, subst, inl, inr, append-nil, arith}
+use Rattle.std.specs.List.{AllByRecursion, flat_map}
 use Rattle.std.proofs.lemmas.List.Elements.{All-nil, All-cons, All-head}
-use Rattle.pls_model.specs.declared.row.Port.{Port}
-use Rattle.pls_model.specs.declared.row.State.{State}
 use Rattle.pls_model.specs.declared.row.NodeRow.{NodeRow}
-use Rattle.pls_base.specs.declared.text_error.TextError.{TextError}
-use Rattle.pls_base.specs.declared.text_error.TextError.TheVariants.{Form}
-use Rattle.pls_netfile.specs.Lines.{Left, Passes, Stands, IsFault, IsFormFault}
-use Rattle.pls_netfile.specs.NetworkText.{FitsPort, FitsRow, AreRows, AreRowLines, IsNetworkPart, node_line, port_line, row_lines}
-use Rattle.pls_netfile.specs.NetworkLine.{FitsNode, IsNodeLine, IsPortLine}
+use Rattle.pls_netfile.specs.Lines.{Left, Passes, Stands, IsFault}
+use Rattle.pls_netfile.specs.NetworkText.{FitsPort, FitsRow, AreRows, AreRowLines, IsNetworkPart, node_line, row_lines}
+use Rattle.pls_netfile.specs.NetworkLine.{IsNodeLine, IsPortLine}
 use Rattle.pls_netfile.proofs.Cuts.{each_back}
-use Rattle.pls_netfile.proofs.Frames.{Next, fault_in_heading, fault_in_body}
+use Rattle.pls_netfile.proofs.Frames.{fault_in_heading, fault_in_body}
 use Rattle.pls_netfile.proofs.NetworkRows.{node_of, each_row_line, rows_are_body, network_plain}
 
 -- a row that fits
@@ -24,10 +20,12 @@ blank_is_row = record {
   fits = record {
     some = omega arith;
     each = All-cons FitsRow blank_row [] (record {
-      id = omega arith; state = record { up = tt; mark = omega arith; num = omega arith }; ports = All-nil FitsPort
-    }) (All-nil FitsRow)
+      id = omega arith;
+      state = record { up = tt; mark = omega arith; num = omega arith };
+      ports = All-nil FitsPort;
+    }) (All-nil FitsRow);
   };
-  is = refl
+  is = refl;
 }
 
 -- the heading is due
@@ -35,7 +33,7 @@ pub fault_at_heading : (old : Left) → (Stands (λ line. line ≡ codes "networ
     → IsFault IsNetworkPart old old.number
 fault_at_heading old absent =
     fault_in_heading (codes "network") AreRowLines (flat_map row_lines (blank_row ∷ [])) old network_plain rows_are_body
-      blank_is_row absent
+    blank_is_row absent
 
 -- the line of a node
 says_node : (row : NodeRow) → FitsRow row → IsNodeLine (node_line row.id row.state)
@@ -59,11 +57,11 @@ pub fault_at_first : (old now : Left) → Passes old now (codes "network" ∷ []
     → IsFault IsNetworkPart old now.number
 fault_at_first old now passes absent =
     fault_in_body (codes "network") AreRowLines IsNodeLine [] (flat_map row_lines (blank_row ∷ [])) old now network_plain
-      rows_are_body passes blank_is_row absent
-      (λ line next. elim next [
-          inl last ↦ absurd (no_empty_body last.0.rows last.0.fits last.0.is)
-        | inr more ↦ first_is_node more.1.rows line more.0 more.1.fits more.1.is
-        ])
+    rows_are_body passes blank_is_row absent
+    (λ line next. elim next [
+      | inl last ↦ absurd (no_empty_body last.0.rows last.0.fits last.0.is)
+      | inr more ↦ first_is_node more.1.rows line more.0 more.1.fits more.1.is
+    ])
 
 -- a node line, a port line or `end`
 abbrev IsBodyLine : List ℕ → Type 0
@@ -74,18 +72,18 @@ body_line : (rows : List NodeRow) (front : List (List ℕ)) (line : List ℕ) (m
     → front ++ line ∷ more ≡ flat_map row_lines rows → IsBodyLine line
 body_line rows front line more fits e =
     let each = each_row_line IsBodyLine
-        (λ id state node. inl (record { value = record { id = id; state = state }; fits = node; is = refl }))
-        (λ port port_fits. inr (inl (record { value = port; fits = port_fits; is = refl })))
-        rows fits.each in
+    (λ id state node. inl (record { value = record { id = id; state = state }; fits = node; is = refl }))
+    (λ port port_fits. inr (inl (record { value = port; fits = port_fits; is = refl })))
+    rows fits.each in
     (each_back IsBodyLine front (line ∷ more) (subst (AllByRecursion IsBodyLine) (sym e) each)).0
 
 -- no line of a kind stands next, where none of one kind nor of another does
 neither : (P Q : List ℕ → Type 0) (text : List ℕ) → (Stands P text → ⊥) → (Stands Q text → ⊥)
     → Stands (λ line. P line ⊎ Q line) text → ⊥
 neither P Q text no_p no_q next = elim next.is [
-    inl p ↦ no_p (record { line = next.line; after = next.after; is = p; plain = next.plain; cut = next.cut })
+  | inl p ↦ no_p (record { line = next.line; after = next.after; is = p; plain = next.plain; cut = next.cut })
   | inr q ↦ no_q (record { line = next.line; after = next.after; is = q; plain = next.plain; cut = next.cut })
-  ]
+]
 
 -- behind some rows a node line, a port line or `end` is due
 pub fault_at_next : (old now : Left) (rows : List NodeRow) → AreRows rows
@@ -95,10 +93,10 @@ pub fault_at_next : (old now : Left) (rows : List NodeRow) → AreRows rows
 fault_at_next old now rows fits passes no_node no_port no_end =
     let body = flat_map row_lines rows in
     fault_in_body (codes "network") AreRowLines IsBodyLine body [] old now network_plain rows_are_body passes
-      (record { rows = rows; fits = fits; is = append-nil body })
-      (neither IsNodeLine (λ line. IsPortLine line ⊎ (line ≡ codes "end")) now.rest no_node
-        (neither IsPortLine (λ line. line ≡ codes "end") now.rest no_port no_end))
-      (λ line next. elim next [
-          inl last ↦ inr (inr last.1)
-        | inr more ↦ body_line more.1.rows body line more.0 more.1.fits more.1.is
-        ])
+    (record { rows = rows; fits = fits; is = append-nil body })
+    (neither IsNodeLine (λ line. IsPortLine line ⊎ (line ≡ codes "end")) now.rest no_node
+    (neither IsPortLine (λ line. line ≡ codes "end") now.rest no_port no_end))
+    (λ line next. elim next [
+      | inl last ↦ inr (inr last.1)
+      | inr more ↦ body_line more.1.rows body line more.0 more.1.fits more.1.is
+    ])

@@ -1,12 +1,12 @@
 -- The lines of a network part: plain, told apart, and told by what they say.
-use Rattle.std.proofs.Common.{◌≡◌, ◌≢◌, ℕ, ◌<◌, ◌≤◌, ◌^◌, List, [], ◌∷◌, ◌++◌, codes, decimal, refl, sym, ◌∙◌, ap, arith}
+use Rattle.std.proofs.Common.{◌≡◌, ◌≢◌, ℕ, List, [], ◌∷◌, codes, decimal, refl, arith}
 use Rattle.std.specs.List.{AllByRecursion}
 use Rattle.std.proofs.lemmas.Fmt.{decimal_injective}
 use Rattle.pls_model.specs.declared.row.Port.{Port}
 use Rattle.pls_model.specs.declared.row.State.{State}
 use Rattle.pls_netfile.specs.Plain.{Lacks}
 use Rattle.pls_netfile.specs.Text.{line_of}
-use Rattle.pls_netfile.specs.NetworkText.{FitsState, FitsPort, up_word, state_words, node_line, port_line}
+use Rattle.pls_netfile.specs.NetworkText.{FitsPort, up_word, state_words, node_line, port_line}
 use Rattle.pls_netfile.specs.NetworkLine.{FitsNode, IsNodeLine, IsPortLine}
 use Rattle.pls_netfile.proofs.Cuts.{each-append, same_first}
 use Rattle.pls_netfile.proofs.NumberWords.{decimal_lacks, same_number, behind_word}
@@ -23,35 +23,33 @@ line_lacks byte [] space p = tt
 line_lacks byte (word ∷ []) space p = p.0
 line_lacks byte (word ∷ next ∷ words) space p =
     each-append (λ other. other ≢ byte) word (32 ∷ line_of (next ∷ words)) p.0
-      (space, line_lacks byte (next ∷ words) space p.1)
+    (space, line_lacks byte (next ∷ words) space p.1)
 
 pub node_plain : (id : ℕ) (state : State) → FitsNode id state → Lacks 10 (node_line id state)
 node_plain id state fits =
-    line_lacks 10 (codes "node" ∷ state_words id state) (omega arith)
+    line_lacks 10 (codes "node" ∷ state_words id state) (omega arith) (
+      (omega arith, (omega arith, (omega arith, (omega arith, tt)))),
       (
-        (omega arith, (omega arith, (omega arith, (omega arith, tt)))),
+        decimal_lacks 10 id (omega arith) (omega (arith, fits.small)),
         (
-          decimal_lacks 10 id (omega arith) (omega (arith, fits.small)),
+          up_lacks 10 state.up (omega arith) fits.fits.up,
           (
-            up_lacks 10 state.up (omega arith) fits.fits.up,
-            (
-              decimal_lacks 10 state.mark (omega arith) (omega (arith, fits.fits.mark)),
-              (decimal_lacks 10 state.num (omega arith) (omega (arith, fits.fits.num)), tt)
-            )
-          )
-        )
-      )
+            decimal_lacks 10 state.mark (omega arith) (omega (arith, fits.fits.mark)),
+            (decimal_lacks 10 state.num (omega arith) (omega (arith, fits.fits.num)), tt),
+          ),
+        ),
+      ),
+    )
 
 pub port_plain : (port : Port) → FitsPort port → Lacks 10 (port_line port)
 port_plain port fits =
-    line_lacks 10 (codes "port" ∷ decimal port.nbr ∷ decimal port.weight ∷ []) (omega arith)
+    line_lacks 10 (codes "port" ∷ decimal port.nbr ∷ decimal port.weight ∷ []) (omega arith) (
+      (omega arith, (omega arith, (omega arith, (omega arith, tt)))),
       (
-        (omega arith, (omega arith, (omega arith, (omega arith, tt)))),
-        (
-          decimal_lacks 10 port.nbr (omega arith) (omega (arith, fits.nbr)),
-          (decimal_lacks 10 port.weight (omega arith) (omega (arith, fits.weight)), tt)
-        )
-      )
+        decimal_lacks 10 port.nbr (omega arith) (omega (arith, fits.nbr)),
+        (decimal_lacks 10 port.weight (omega arith) (omega (arith, fits.weight)), tt),
+      ),
+    )
 
 -- the first letters tell the kinds of line apart
 pub node_no_end : (id : ℕ) (state : State) → node_line id state ≢ codes "end"
@@ -73,9 +71,9 @@ end_no_node node = omega (arith, same_head 101 110 _ _ node.is)
 pub same_port : (a b : Port) → FitsPort a → FitsPort b → port_line a ≡ port_line b → a ≡ b
 same_port a b fits_a fits_b e =
     let words = behind_word (codes "port") (port_line a) (line_of (decimal a.nbr ∷ decimal a.weight ∷ []))
-        (line_of (decimal b.nbr ∷ decimal b.weight ∷ [])) refl e in
+    (line_of (decimal b.nbr ∷ decimal b.weight ∷ [])) refl e in
     let nbr = same_number a.nbr b.nbr (decimal a.weight) (decimal b.weight) (omega (arith, fits_a.nbr))
-        (omega (arith, fits_b.nbr)) words in
+    (omega (arith, fits_b.nbr)) words in
     let weight = decimal_injective a.weight b.weight (omega (arith, fits_a.weight)) (omega (arith, fits_b.weight)) nbr.1 in
     λ i. record { nbr = nbr.0 i; weight = weight i }
 
@@ -89,7 +87,7 @@ same_node a b s t fits_a fits_b e =
     let words = behind_word (codes "node") (node_line a s) (line_of (state_words a s)) (line_of (state_words b t)) refl e in
     let id = same_number a b _ _ (omega (arith, fits_a.small)) (omega (arith, fits_b.small)) words in
     let up = same_first 32 (up_word s.up) (up_word t.up) _ _ (up_lacks 32 s.up (omega arith) fits_a.fits.up)
-        (up_lacks 32 t.up (omega arith) fits_b.fits.up) id.1 in
+    (up_lacks 32 t.up (omega arith) fits_b.fits.up) id.1 in
     let mark = same_number s.mark t.mark _ _ (omega (arith, fits_a.fits.mark)) (omega (arith, fits_b.fits.mark)) up.1 in
     let num = decimal_injective s.num t.num (omega (arith, fits_a.fits.num)) (omega (arith, fits_b.fits.num)) mark.1 in
     let pointer = same_up s.up t.up fits_a.fits.up fits_b.fits.up up.0 in

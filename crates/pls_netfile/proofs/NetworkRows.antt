@@ -1,8 +1,8 @@
 -- The rows of a network part: plain lines, and one list of rows for one text.
-use Rattle.std.proofs.Common.{◌≡◌, ◌≢◌, ℕ, ◌+◌, ◌<◌, ◌≤◌, ◌^◌, ◌⊎◌, List, [], ◌∷◌, ◌++◌, map, length, codes, refl, sym, ◌∙◌, ap, subst, inl, inr, append_assoc, length-append, arith}
+use Rattle.std.proofs.Common.{◌≡◌, ◌≢◌, ℕ, List, [], ◌∷◌, ◌++◌, map, codes, refl, sym, ◌∙◌, ap, subst, append_assoc, arith}
 use Rattle.std.specs.List.{All, AllByRecursion, flat_map}
 use Rattle.std.proofs.lemmas.List.{append_cancel_left}
-use Rattle.std.proofs.lemmas.List.Elements.{All-head, All-tail, All-nil}
+use Rattle.std.proofs.lemmas.List.Elements.{All-head, All-tail}
 use Rattle.pls_model.specs.declared.row.Port.{Port}
 use Rattle.pls_model.specs.declared.row.State.{State}
 use Rattle.pls_model.specs.declared.row.NodeRow.{NodeRow}
@@ -11,7 +11,7 @@ use Rattle.pls_netfile.specs.Text.{text_of}
 use Rattle.pls_netfile.specs.Lines.{Stands}
 use Rattle.pls_netfile.specs.NetworkText.{FitsPort, FitsRow, AreRows, AreRowLines, node_line, port_line, row_lines, network_lines, network_text, IsNetworkPart}
 use Rattle.pls_netfile.specs.NetworkLine.{FitsNode, IsNodeLine, IsPortLine}
-use Rattle.pls_netfile.proofs.Cuts.{each-append, each_back, same_first}
+use Rattle.pls_netfile.proofs.Cuts.{each-append, same_first}
 use Rattle.pls_netfile.proofs.Fronts.{text_of-append, first_line, same_line}
 use Rattle.pls_netfile.proofs.Frames.{IsBody, end_plain, framed_part}
 use Rattle.pls_netfile.proofs.Parts.{IsPart}
@@ -32,22 +32,21 @@ module _ (P : List ℕ → Type 0) (node : (id : ℕ) (state : State) → FitsNo
   pub each_row_line : (rows : List NodeRow) → All FitsRow rows → AllByRecursion P (flat_map row_lines rows)
   each_row_line [] fits = tt
   each_row_line (row ∷ rows) fits =
-      let here = All-head FitsRow row rows fits in
-      (
+      let here = All-head FitsRow row rows fits in (
         node row.id row.state (node_of row here),
         each-append P (map port_line row.ports) (flat_map row_lines rows) (each_port row.ports here.ports)
-          (each_row_line rows (All-tail FitsRow row rows fits))
+            (each_row_line rows (All-tail FitsRow row rows fits)),
       )
 
 -- the lines of rows are plain, and none of them is `end`
 pub rows_are_body : IsBody AreRowLines
 rows_are_body = record {
   plain = λ lines is.
-    subst ArePlain (sym is.is) (each_row_line (Lacks 10) node_plain port_plain is.rows is.fits.each);
+      subst ArePlain (sym is.is) (each_row_line (Lacks 10) node_plain port_plain is.rows is.fits.each);
   open_ended = λ lines is.
-    subst (Lacks (codes "end")) (sym is.is)
+      subst (Lacks (codes "end")) (sym is.is)
       (each_row_line (λ line. line ≢ codes "end") (λ id state fits. node_no_end id state)
-        (λ port fits. port_no_end port) is.rows is.fits.each)
+      (λ port fits. port_no_end port) is.rows is.fits.each);
 }
 
 -- the first line of a text that begins with a line of another kind is not of this kind
@@ -55,14 +54,18 @@ other_first : (Kind : List ℕ → Type 0) (line : List ℕ) (lines : List (List
     → Lacks 10 line → (Kind line → ⊥) → Stands Kind (text_of (line ∷ lines) ++ rest) → ⊥
 other_first Kind line lines rest plain other next =
     let cut = same_first 10 next.line line next.after (text_of lines ++ rest) next.plain plain
-        (sym next.cut ∙ first_line line lines rest) in
+    (sym next.cut ∙ first_line line lines rest) in
     other (subst Kind cut.0 next.is)
 
 -- the text of a line and more stands with that line next
 pub line_stands : (Kind : List ℕ → Type 0) (line : List ℕ) (lines : List (List ℕ)) (rest : List ℕ)
     → Lacks 10 line → Kind line → Stands Kind (text_of (line ∷ lines) ++ rest)
 line_stands Kind line lines rest plain is = record {
-  line = line; after = text_of lines ++ rest; is = is; plain = plain; cut = first_line line lines rest
+  line = line;
+  after = text_of lines ++ rest;
+  is = is;
+  plain = plain;
+  cut = first_line line lines rest;
 }
 
 -- a text tells its ports, where none follows them
@@ -73,18 +76,18 @@ same_ports [] [] x y p q no_x no_y e = (refl, e)
 same_ports [] (d ∷ b) x y p q no_x no_y e =
     let fits = All-head FitsPort d b q in
     absurd (no_x (subst (Stands IsPortLine) (sym e)
-      (line_stands IsPortLine (port_line d) (map port_line b) y (port_plain d fits)
-        (record { value = d; fits = fits; is = refl }))))
+    (line_stands IsPortLine (port_line d) (map port_line b) y (port_plain d fits)
+    (record { value = d; fits = fits; is = refl }))))
 same_ports (c ∷ a) [] x y p q no_x no_y e =
     let fits = All-head FitsPort c a p in
     absurd (no_y (subst (Stands IsPortLine) e
-      (line_stands IsPortLine (port_line c) (map port_line a) x (port_plain c fits)
-        (record { value = c; fits = fits; is = refl }))))
+    (line_stands IsPortLine (port_line c) (map port_line a) x (port_plain c fits)
+    (record { value = c; fits = fits; is = refl }))))
 same_ports (c ∷ a) (d ∷ b) x y p q no_x no_y e =
     let fits_c = All-head FitsPort c a p in
     let fits_d = All-head FitsPort d b q in
     let cut = same_line (port_line c) (port_line d) (map port_line a) (map port_line b) x y
-        (port_plain c fits_c) (port_plain d fits_d) e in
+    (port_plain c fits_c) (port_plain d fits_d) e in
     let port = same_port c d fits_c fits_d cut.0 in
     let rest = same_ports a b x y (All-tail FitsPort c a p) (All-tail FitsPort d b q) no_x no_y cut.1 in
     let ports = rest.0 in
@@ -96,7 +99,7 @@ pub same_row : (a b : NodeRow) (x y : List ℕ) → FitsRow a → FitsRow b
     → text_of (row_lines a) ++ x ≡ text_of (row_lines b) ++ y → (a ≡ b) × (x ≡ y)
 same_row a b x y p q no_x no_y e =
     let cut = same_line (node_line a.id a.state) (node_line b.id b.state) (map port_line a.ports) (map port_line b.ports) x y
-        (node_plain a.id a.state (node_of a p)) (node_plain b.id b.state (node_of b q)) e in
+    (node_plain a.id a.state (node_of a p)) (node_plain b.id b.state (node_of b q)) e in
     let node = same_node a.id b.id a.state b.state (node_of a p) (node_of b q) cut.0 in
     let rest = same_ports a.ports b.ports x y p.ports q.ports no_x no_y cut.1 in
     (λ i. record { id = node.id i; state = node.state i; ports = rest.0 i }, rest.1)
@@ -120,7 +123,7 @@ no_port_next [] rest fits = other_first IsPortLine (codes "end") [] rest end_pla
 no_port_next (row ∷ rows) rest fits =
     let node = node_of row (All-head FitsRow row rows fits) in
     other_first IsPortLine (node_line row.id row.state) (map port_line row.ports ++ flat_map row_lines rows ++ codes "end" ∷ [])
-      rest (node_plain row.id row.state node) (node_no_port row.id row.state)
+    rest (node_plain row.id row.state node) (node_no_port row.id row.state)
 
 -- at the `end` no node stands next, and before it one does
 pub no_node_next : (rest : List ℕ) → Stands IsNodeLine (text_of (to_end []) ++ rest) → ⊥
@@ -131,8 +134,8 @@ pub node_next : (row : NodeRow) (rows : List NodeRow) (rest : List ℕ) → All 
 node_next row rows rest fits =
     let node = node_of row (All-head FitsRow row rows fits) in
     line_stands IsNodeLine (node_line row.id row.state) (map port_line row.ports ++ flat_map row_lines rows ++ codes "end" ∷ [])
-      rest (node_plain row.id row.state node)
-      (record { value = record { id = row.id; state = row.state }; fits = node; is = refl })
+    rest (node_plain row.id row.state node)
+    (record { value = record { id = row.id; state = row.state }; fits = node; is = refl })
 
 -- a text tells its rows
 pub same_rows : (a b : List NodeRow) (x y : List ℕ) → All FitsRow a → All FitsRow b
@@ -144,8 +147,8 @@ same_rows (c ∷ a) (d ∷ b) x y p q e =
     let later_c = All-tail FitsRow c a p in
     let later_d = All-tail FitsRow d b q in
     let row = same_row c d (text_of (to_end a) ++ x) (text_of (to_end b) ++ y) (All-head FitsRow c a p)
-        (All-head FitsRow d b q) (no_port_next a x later_c) (no_port_next b y later_d)
-        (sym (text_of-to_end c a x) ∙ e ∙ text_of-to_end d b y) in
+    (All-head FitsRow d b q) (no_port_next a x later_c) (no_port_next b y later_d)
+    (sym (text_of-to_end c a x) ∙ e ∙ text_of-to_end d b y) in
     let rest = same_rows a b x y later_c later_d row.1 in
     let first = row.0 in
     let rows = rest.0 in

@@ -1,5 +1,5 @@
 -- When no line of a kind stands next.
-use Rattle.std.proofs.Common.{◌≡◌, ℕ, List, [], ◌∷◌, ◌++◌, sym, ◌∙◌, subst}
+use Rattle.std.proofs.Common.{ℕ, List, [], ◌∷◌, sym, ◌∙◌, subst}
 use Rattle.pls_netfile.specs.Plain.{Lacks}
 use Rattle.pls_netfile.specs.Lines.{Left, Passes, Stands}
 use Rattle.pls_netfile.proofs.Cuts.{same_first, lacks_here}
@@ -14,5 +14,5 @@ pub other_line : (Kind : List ℕ → Type 0) (old new : Left) (line : List ℕ)
     → Passes old new (line ∷ []) → Lacks 10 line → (Kind line → ⊥) → Stands Kind old.rest → ⊥
 other_line Kind old new line passes plain other next =
     let cut = same_first 10 next.line line next.after new.rest next.plain plain
-        (sym next.cut ∙ passes.stands ∙ first_line line [] new.rest) in
+    (sym next.cut ∙ passes.stands ∙ first_line line [] new.rest) in
     other (subst Kind cut.0 next.is)

@@ -1,5 +1,5 @@
 -- The words of a node's line, one after another.
-use Rattle.std.proofs.Common.{◌≡◌, ◌≢◌, ℕ, ◌<◌, ◌≤◌, ◌^◌, List, [], ◌∷◌, ◌++◌, Option, Some, None, IfSome, codes, decimal, refl, sym, ◌∙◌, ap, arith}
+use Rattle.std.proofs.Common.{◌≡◌, ℕ, ◌<◌, ◌^◌, List, [], ◌∷◌, ◌++◌, Option, Some, None, IfSome, codes, decimal, refl, sym, ◌∙◌, ap, arith}
 use Rattle.std.proofs.lemmas.Fmt.{decimal_injective}
 use Rattle.pls_netfile.specs.Plain.{Lacks}
 use Rattle.pls_netfile.specs.NetworkText.{up_word}
@@ -28,4 +28,4 @@ pub behind_up : (a b : Option ℕ) (text x y : List ℕ) → IfSome a (λ port. 
     → IfSome b (λ port. port < 2 ^ 32) → text ≡ up_word a ++ 32 ∷ x → text ≡ up_word b ++ 32 ∷ y → x ≡ y
 behind_up a b text x y small_a small_b p q =
     (same_first 32 (up_word a) (up_word b) x y (up_lacks 32 a (omega arith) small_a)
-      (up_lacks 32 b (omega arith) small_b) (sym p ∙ q)).1
+    (up_lacks 32 b (omega arith) small_b) (sym p ∙ q)).1

@@ -1,5 +1,5 @@
 -- Numbers as words of a line.
-use Rattle.std.proofs.Common.{◌≡◌, ◌≢◌, ℕ, ◌+◌, ◌/◌, ◌%◌, ◌<◌, ◌≤◌, ◌^◌, List, [], ◌∷◌, ◌++◌, decimal, sym, ◌∙◌, arith}
+use Rattle.std.proofs.Common.{◌≡◌, ◌≢◌, ℕ, ◌+◌, ◌%◌, ◌<◌, ◌^◌, List, [], ◌∷◌, ◌++◌, decimal, sym, ◌∙◌, arith}
 use Rattle.std.proofs.lemmas.Fmt.{decimal_by_steps, decimal_injective}
 use Rattle.std.proofs.lemmas.List.{append_cancel_left}
 use Rattle.pls_netfile.specs.Plain.{Lacks}
@@ -9,16 +9,16 @@ use Rattle.pls_netfile.proofs.Cuts.{each-append, same_first}
 pub decimal_lacks : (byte number : ℕ) → byte < 48 → number < 2 ^ 64 → Lacks byte (decimal number)
 decimal_lacks byte number low small =
     decimal_by_steps (λ n ds. Lacks byte ds)
-      (λ n below. (omega arith, tt))
-      (λ n ds above front. each-append (λ other. other ≢ byte) ds ((48 + n % 10) ∷ []) front (omega arith, tt))
-      number small
+    (λ n below. (omega arith, tt))
+    (λ n ds above front. each-append (λ other. other ≢ byte) ds ((48 + n % 10) ∷ []) front (omega arith, tt))
+    number small
 
 -- two numbers with a space behind them are one where their texts are, and so is what follows
 pub same_number : (a b : ℕ) (x y : List ℕ) → a < 2 ^ 64 → b < 2 ^ 64
     → decimal a ++ 32 ∷ x ≡ decimal b ++ 32 ∷ y → (a ≡ b) × (x ≡ y)
 same_number a b x y small_a small_b e =
     let cut = same_first 32 (decimal a) (decimal b) x y
-        (decimal_lacks 32 a (omega arith) small_a) (decimal_lacks 32 b (omega arith) small_b) e in
+    (decimal_lacks 32 a (omega arith) small_a) (decimal_lacks 32 b (omega arith) small_b) e in
     (decimal_injective a b small_a small_b cut.0, cut.1)
 
 -- what follows a word and a space is told by the text

@@ -1,5 +1,5 @@
 -- Parts are formats that tell where they end; here is what their faults are.
-use Rattle.std.proofs.Common.{◌≡◌, ℕ, ◌+◌, ◌<◌, ◌≤◌, ◌⊎◌, List, [], ◌∷◌, ◌++◌, length, take, drop, refl, sym, ◌∙◌, ap, subst, inl, inr, append_assoc, append-nil, length-append, length-take-le, take-append-drop, arith}
+use Rattle.std.proofs.Common.{◌≡◌, ℕ, ◌+◌, ◌≤◌, List, [], ◌∷◌, ◌++◌, length, take, drop, refl, sym, ◌∙◌, ap, subst, inl, inr, append_assoc, append-nil, length-append, length-take-le, take-append-drop, arith}
 use Rattle.std.proofs.lemmas.Bool.{cases_lt, cases_order}
 use Rattle.std.proofs.lemmas.List.{append_cancel_left}
 use Rattle.pls_netfile.specs.Plain.{Lacks, ArePlain}
@@ -7,7 +7,7 @@ use Rattle.pls_netfile.specs.Text.{text_of}
 use Rattle.pls_netfile.specs.Lines.{Stands}
 use Rattle.pls_netfile.specs.Fault.{Begins, Awaits, FaultAt, FirstFault}
 use Rattle.pls_netfile.proofs.Cuts.{each_front}
-use Rattle.pls_netfile.proofs.Fronts.{text_of-append, Further, further, OneMore, one_more}
+use Rattle.pls_netfile.proofs.Fronts.{text_of-append, further, one_more}
 
 -- no line of the format's texts has a line feed, and none of its texts begins another
 pub record IsPart (format : List (List ℕ) → Type 0) : Type 0 where
@@ -28,15 +28,19 @@ pub faulty : (format : List (List ℕ) → Type 0) (Due : List ℕ → Type 0)
 faulty format Due front next more text rest part is stands absent due = record {
   good = record { front = front; next = next; more = more; after = rest; is = is; many = refl; stands = stands };
   bad = λ b.
-    let w = one_more front b.front rest b.after
-        (plain_front format front (next ∷ more) part is)
-        (plain_front format b.front b.more part b.is)
-        b.many (sym stands ∙ b.stands) in
-    let same : b.front ++ b.more ≡ front ++ w.line ∷ b.more =
-        ap (λ lines. lines ++ b.more) w.lines ∙ append_assoc front (w.line ∷ []) b.more in
-    absent (record {
-      line = w.line; after = b.after; is = due w.line b.more (subst format same b.is); plain = w.plain; cut = w.rest
-    })
+      let w = one_more front b.front rest b.after
+      (plain_front format front (next ∷ more) part is)
+      (plain_front format b.front b.more part b.is)
+      b.many (sym stands ∙ b.stands) in
+      let same : b.front ++ b.more ≡ front ++ w.line ∷ b.more =
+      ap (λ lines. lines ++ b.more) w.lines ∙ append_assoc front (w.line ∷ []) b.more in
+      absent (record {
+        line = w.line;
+        after = b.after;
+        is = due w.line b.more (subst format same b.is);
+        plain = w.plain;
+        cut = w.rest;
+      });
 }
 
 -- so many lines at the front of a text begin one of the format, and as many fewer
@@ -53,7 +57,7 @@ begins_front format front more text after count is stands l = record {
   stands = stands
       ∙ ap (λ whole. text_of whole ++ after) (sym (take-append-drop count front))
       ∙ ap (λ whole. whole ++ after) (text_of-append (take count front) (drop count front))
-      ∙ append_assoc (text_of (take count front)) (text_of (drop count front)) after
+      ∙ append_assoc (text_of (take count front)) (text_of (drop count front)) after;
 }
 
 -- so many lines at most of a whole text of the format begin one
@@ -70,13 +74,13 @@ longer_than_front format lines text rest count part good is stands l =
     let whole = good.front ++ good.next ∷ good.more in
     let l2 : length lines ≤ length good.front = omega (arith, good.many) in
     let w = further lines good.front rest good.after (part.plain lines is)
-        (plain_front format good.front (good.next ∷ good.more) part good.is) l2 (sym stands ∙ good.stands) in
+    (plain_front format good.front (good.next ∷ good.more) part good.is) l2 (sym stands ∙ good.stands) in
     let same : lines ++ (w.more ++ good.next ∷ good.more) ≡ whole ++ [] =
-        sym (append_assoc lines w.more (good.next ∷ good.more))
-        ∙ ap (λ front. front ++ good.next ∷ good.more) (sym w.lines) ∙ sym (append-nil whole) in
+    sym (append_assoc lines w.more (good.next ∷ good.more))
+    ∙ ap (λ front. front ++ good.next ∷ good.more) (sym w.lines) ∙ sym (append-nil whole) in
     let e : lines ≡ whole = part.own lines whole (w.more ++ good.next ∷ good.more) [] is good.is same in
     let sum : length lines ≡ length good.front + length (good.next ∷ good.more) =
-        ap length e ∙ length-append good.front (good.next ∷ good.more) in
+    ap length e ∙ length-append good.front (good.next ∷ good.more) in
     omega arith
 
 -- no whole text of the part stands at the front of a text with a fault in it
@@ -84,7 +88,7 @@ pub no_whole : (format : List (List ℕ) → Type 0) (lines : List (List ℕ)) (
     → IsPart format → FaultAt format text count → format lines → text ≡ text_of lines ++ rest → ⊥
 no_whole format lines text rest count part fault is stands =
     elim (cases_lt count (length lines)) [
-        inl l ↦ fault.bad (begins_within format lines text rest (count + 1) is stands (omega arith))
+      | inl l ↦ fault.bad (begins_within format lines text rest (count + 1) is stands (omega arith))
       | inr l ↦ longer_than_front format lines text rest count part fault.good is stands l
     ]
 
@@ -93,11 +97,15 @@ pub first_fault : (format : List (List ℕ) → Type 0) (text : List ℕ) (count
     → IsPart format → FaultAt format text count → FirstFault format text count
 first_fault format text count part fault = record {
   good = record {
-    front = fault.good.front; more = fault.good.next ∷ fault.good.more; after = fault.good.after;
-    is = fault.good.is; many = fault.good.many; stands = fault.good.stands
+    front = fault.good.front;
+    more = fault.good.next ∷ fault.good.more;
+    after = fault.good.after;
+    is = fault.good.is;
+    many = fault.good.many;
+    stands = fault.good.stands;
   };
   bad = fault.bad;
-  none = λ lines is e. no_whole format lines text [] count part fault is (e ∙ sym (append-nil (text_of lines)))
+  none = λ lines is e. no_whole format lines text [] count part fault is (e ∙ sym (append-nil (text_of lines)));
 }
 
 -- of two texts of a part at the front of one text, the one that is not longer is the other
@@ -112,7 +120,7 @@ same_whole : (format : List (List ℕ) → Type 0) (a b : List (List ℕ)) (x y 
     → IsPart format → format a → format b → text_of a ++ x ≡ text_of b ++ y → a ≡ b
 same_whole format a b x y part is_a is_b e =
     elim (cases_lt (length a) (length b)) [
-        inl l ↦ not_longer format a b x y part is_a is_b (omega arith) e
+      | inl l ↦ not_longer format a b x y part is_a is_b (omega arith) e
       | inr l ↦ sym (not_longer format b a y x part is_b is_a l (sym e))
     ]
 
@@ -132,10 +140,10 @@ nothing_more : (format : List (List ℕ) → Type 0) (lines : List (List ℕ)) (
 nothing_more format lines text rest part is stands b =
     let whole = b.front ++ b.more in
     let w = further lines b.front rest b.after (part.plain lines is)
-        (plain_front format b.front b.more part b.is) (omega (arith, b.many)) (sym stands ∙ b.stands) in
+    (plain_front format b.front b.more part b.is) (omega (arith, b.many)) (sym stands ∙ b.stands) in
     let same : lines ++ (w.more ++ b.more) ≡ whole ++ [] =
-        sym (append_assoc lines w.more b.more)
-        ∙ ap (λ front. front ++ b.more) (sym w.lines) ∙ sym (append-nil whole) in
+    sym (append_assoc lines w.more b.more)
+    ∙ ap (λ front. front ++ b.more) (sym w.lines) ∙ sym (append-nil whole) in
     let e : lines ≡ whole = part.own lines whole (w.more ++ b.more) [] is b.is same in
     let sum : length lines ≡ length b.front + length b.more = ap length e ∙ length-append b.front b.more in
     omega (arith, b.many)
@@ -148,8 +156,8 @@ left_over format lines text rest part is stands some = record {
   good = begins_within format lines text rest (length lines) is stands (omega arith);
   bad = nothing_more format lines text rest part is stands;
   none = λ others other e.
-    let end : text_of others ++ [] ≡ text_of lines ++ rest = append-nil (text_of others) ∙ sym e ∙ stands in
-    some (sym (whole_once format others lines [] rest part other is end).1)
+      let end : text_of others ++ [] ≡ text_of lines ++ rest = append-nil (text_of others) ∙ sym e ∙ stands in
+      some (sym (whole_once format others lines [] rest part other is end).1);
 }
 
 -- fewer lines of a text begin one too
@@ -163,9 +171,9 @@ pub one_fault : (format : List (List ℕ) → Type 0) (text : List ℕ) (a b : �
     → FirstFault format text a → FirstFault format text b → a ≡ b
 one_fault format text a b p q =
     elim (cases_order a b) [
-        inl e ↦ e
+      | inl e ↦ e
       | inr w ↦ elim w [
-          inl l ↦ absurd (p.bad (fewer_begin format text b (a + 1) q.good (omega arith)))
+        | inl l ↦ absurd (p.bad (fewer_begin format text b (a + 1) q.good (omega arith)))
         | inr l ↦ absurd (q.bad (fewer_begin format text a (b + 1) p.good (omega arith)))
-        ]
+      ]
     ]

@@ -1,9 +1,13 @@
 -- A reader that passes lines, and then more.
-use Rattle.std.proofs.Common.{◌≡◌, ℕ, ◌+◌, List, [], ◌∷◌, ◌++◌, length, refl, sym, ◌∙◌, ap, append_assoc, length-append, arith}
+use Rattle.std.proofs.Common.{◌≡◌, ℕ, ◌+◌, ◌≤◌, List, [], ◌∷◌, ◌++◌, map, length, refl, sym, ◌∙◌, ap, subst, append_assoc, length-append, arith}
+use Rattle.std.specs.List.{All}
+use Rattle.std.proofs.lemmas.List.{map_push, length-map}
+use Rattle.std.proofs.lemmas.List.Elements.{All-nil, All-push}
 use Rattle.pls_netfile.specs.Text.{text_of}
 use Rattle.pls_base.specs.declared.text_error.TextError.{TextError}
 use Rattle.pls_base.specs.declared.text_error.TextError.TheVariants.{Form}
 use Rattle.pls_netfile.specs.Lines.{Left, Passes, IsFault, IsFormFault}
+use Rattle.pls_netfile.specs.LineKind.{PassesAll}
 use Rattle.pls_netfile.proofs.Fronts.{text_of-append}
 
 -- a reader has passed no line so far
@@ -17,7 +21,7 @@ passes_then old mid new front back p q = record {
   stands = p.stands ∙ ap (λ rest. text_of front ++ rest) q.stands
       ∙ sym (append_assoc (text_of front) (text_of back) new.rest)
       ∙ ap (λ text. text ++ new.rest) (sym (text_of-append front back));
-  number = omega (arith, p.number, q.number, length-append front back)
+  number = omega (arith, p.number, q.number, length-append front back);
 }
 
 -- a refusal that names the line in front of which the reader stopped
@@ -25,3 +29,31 @@ pub names_line : (format : List (List ℕ) → Type 0) (old now stopped : Left) 
     → error ≡ Form stopped.number → stopped ≡ now → IsFault format old now.number → IsFormFault format old error
 names_line format old now stopped error is same fault =
     (now.number, is ∙ ap (λ left. Form left.number) same, fault)
+
+-- the lines of some values, and then of one more
+pub passes_push : {X : Type 0} (written : X → List ℕ) (old mid new : Left) (values : List X) (value : X)
+    → Passes old mid (map written values) → Passes mid new (written value ∷ [])
+    → Passes old new (map written (values ++ value ∷ []))
+passes_push written old mid new values value so_far passed =
+    subst (Passes old new) (sym (map_push written values value))
+      (passes_then old mid new (map written values) (written value ∷ []) so_far passed)
+
+-- no line of a kind, and one more
+pub none_passed : {X : Type 0} (Fits : X → Type 0) (written : X → List ℕ) (old : Left) → PassesAll Fits written old old 0
+none_passed Fits written old = record { values = []; fits = All-nil Fits; passed = passes_none old; many = refl }
+
+pub one_more_passed : {X : Type 0} (Fits : X → Type 0) (written : X → List ℕ) (old mid new : Left) (count : ℕ) (value : X)
+    → PassesAll Fits written old mid count → Fits value → Passes mid new (written value ∷ [])
+    → PassesAll Fits written old new (count + 1)
+one_more_passed Fits written old mid new count value so_far fits passed = record {
+  values = so_far.values ++ value ∷ [];
+  fits = All-push Fits so_far.values value so_far.fits fits;
+  passed = passes_push written old mid new so_far.values value so_far.passed passed;
+  many = omega (arith, so_far.many, length-append so_far.values (value ∷ []))
+}
+
+-- no more lines of a kind than the number of the line
+pub count_within : {X : Type 0} (Fits : X → Type 0) (written : X → List ℕ) (old new : Left) (count : ℕ)
+    → PassesAll Fits written old new count → old.number + count ≤ new.number
+count_within Fits written old new count all =
+    omega (arith, all.many, all.passed.number, length-map all.values written)

@@ -1,8 +1,8 @@
--- A reader of a network part that passes one row, or one port, more.
-use Rattle.std.proofs.Common.{◌≡◌, ℕ, ◌≢◌, ◌+◌, ◌-◌, ◌<◌, ◌≤◌, List, [], ◌∷◌, ◌++◌, map, take, length, codes, refl, sym, ◌∙◌, ap, subst, append-nil, length-append, arith}
+-- A reader of a network part that passes one row more, and one that has passed all.
+use Rattle.std.proofs.Common.{◌≡◌, ℕ, ◌≢◌, ◌+◌, ◌-◌, ◌≤◌, List, [], ◌∷◌, ◌++◌, map, take, length, codes, refl, sym, ◌∙◌, ap, subst, append-nil, length-append, arith}
 use Rattle.std.specs.List.{All, flat_map}
-use Rattle.std.proofs.lemmas.List.{map_push, length-map, take_at}
-use Rattle.std.proofs.lemmas.List.Sums.{sum_by-cons}
+use Rattle.std.proofs.lemmas.List.{length-map, take_at}
+use Rattle.std.proofs.lemmas.List.Sums.{sum_by-cons, sum_by_push}
 use Rattle.std.proofs.lemmas.List.Concat.{flat_map-append}
 use Rattle.std.proofs.lemmas.List.Elements.{All-nil, All-push}
 use Rattle.pls_model.specs.declared.row.Port.{Port}
@@ -11,78 +11,54 @@ use Rattle.pls_model.specs.declared.row.NodeRow.{NodeRow}
 use Rattle.pls_netfile.specs.Lines.{Left, Passes}
 use Rattle.pls_netfile.specs.NetworkText.{FitsPort, FitsRow, AreRows, node_line, port_line, row_lines, network_lines, network_text}
 use Rattle.pls_netfile.specs.NetworkLine.{FitsNode}
-use Rattle.pls_netfile.specs.NetworkScan.{PassesRow, PassesRows, PassesPorts, PassesNetwork}
+use Rattle.pls_netfile.specs.NetworkScan.{PassesRow, PassesRows, PassesNetwork}
+use Rattle.pls_netfile.specs.LineKind.{PassesAll}
 use Rattle.pls_model.specs.Configuration.{ports_in}
 use Rattle.pls_netfile.proofs.Passing.{passes_none, passes_then}
 
-pub no_ports : (old : Left) → PassesPorts old old
-no_ports old = record { ports = []; fits = All-nil FitsPort; passed = passes_none old }
-
--- the lines of some ports, and then of one more
-pub passes_port : (old mid new : Left) (ports : List Port) (port : Port) → Passes old mid (map port_line ports)
-    → Passes mid new (port_line port ∷ []) → Passes old new (map port_line (ports ++ port ∷ []))
-passes_port old mid new ports port so_far passed =
-    subst (Passes old new) (sym (map_push port_line ports port))
-      (passes_then old mid new (map port_line ports) (port_line port ∷ []) so_far passed)
-
-pub one_port_more : (old mid new : Left) (port : Port) → PassesPorts old mid → FitsPort port
-    → Passes mid new (port_line port ∷ []) → PassesPorts old new
-one_port_more old mid new port so_far fits passed = record {
-  ports = so_far.ports ++ port ∷ [];
-  fits = All-push FitsPort so_far.ports port so_far.fits fits;
-  passed = passes_port old mid new so_far.ports port so_far.passed passed
-}
-
 -- a node line and the ports behind it are a row
-pub row_passed : (old mid new : Left) (id : ℕ) (state : State) → FitsNode id state
-    → Passes old mid (node_line id state ∷ []) → PassesPorts mid new → PassesRow old new
-row_passed old mid new id state fits passed ports = record {
-  row = record { id = id; state = state; ports = ports.ports };
-  fits = record { id = fits.small; state = fits.fits; ports = ports.fits };
-  passed = passes_then old mid new (node_line id state ∷ []) (map port_line ports.ports) passed ports.passed
+pub row_passed : (old mid new : Left) (id : ℕ) (state : State) (ports : ℕ) → FitsNode id state
+    → Passes old mid (node_line id state ∷ []) → PassesAll FitsPort port_line mid new ports → PassesRow old new ports
+row_passed old mid new id state ports fits passed all = record {
+  row = record { id = id; state = state; ports = all.values };
+  fits = record { id = fits.small; state = fits.fits; ports = all.fits };
+  passed = passes_then old mid new (node_line id state ∷ []) (map port_line all.values) passed all.passed;
+  many = all.many
 }
 
--- the reader has passed the lines of so many rows
-pub record CountsRows (old new : Left) (nodes : ℕ) : Type 0 where
-  pub rows : List NodeRow
-  pub fits : All FitsRow rows
-  pub passed : Passes old new (flat_map row_lines rows)
-  pub many : nodes ≡ length rows
+pub no_rows : (old : Left) → PassesRows old old 0 0
+no_rows old = record { rows = []; fits = All-nil FitsRow; passed = passes_none old; many = refl; sum = refl }
 
-pub no_rows : (old : Left) → CountsRows old old 0
-no_rows old = record { rows = []; fits = All-nil FitsRow; passed = passes_none old; many = refl }
-
-pub one_row_more : (old mid new : Left) (nodes : ℕ) → CountsRows old mid nodes → PassesRow mid new
-    → CountsRows old new (nodes + 1)
-one_row_more old mid new nodes so_far row = record {
+pub one_row_more : (old mid new : Left) (nodes ports more : ℕ) → PassesRows old mid nodes ports → PassesRow mid new more
+    → PassesRows old new (nodes + 1) (ports + more)
+one_row_more old mid new nodes ports more so_far row = record {
   rows = so_far.rows ++ row.row ∷ [];
   fits = All-push FitsRow so_far.rows row.row so_far.fits row.fits;
   passed = subst (Passes old new)
       (ap (λ lines. flat_map row_lines so_far.rows ++ lines) (sym (append-nil (row_lines row.row)))
-        ∙ sym (flat_map-append row_lines so_far.rows (row.row ∷ [])))
+      ∙ sym (flat_map-append row_lines so_far.rows (row.row ∷ [])))
       (passes_then old mid new (flat_map row_lines so_far.rows) (row_lines row.row) so_far.passed row.passed);
-  many = omega (arith, so_far.many, length-append so_far.rows (row.row ∷ []))
+  many = omega (arith, so_far.many, length-append so_far.rows (row.row ∷ []));
+  sum = omega (arith, so_far.sum, row.many, sum_by_push (λ (r : NodeRow). length r.ports) so_far.rows row.row)
 }
 
 -- there are as many lines as nodes and ports
-pub length_rows : (rows : List NodeRow) → length (flat_map row_lines rows) ≡ length rows + ports_in rows
+length_rows : (rows : List NodeRow) → length (flat_map row_lines rows) ≡ length rows + ports_in rows
 length_rows [] = refl
 length_rows (row ∷ rows) =
-    omega (arith, length_rows rows, length-append (row_lines row) (flat_map row_lines rows),
-      length-map row.ports port_line, sum_by-cons (λ (r : NodeRow). length r.ports) row rows)
+    omega (
+      arith,
+      length_rows rows,
+      length-append (row_lines row) (flat_map row_lines rows),
+      length-map row.ports port_line,
+      sum_by-cons (λ (r : NodeRow). length r.ports) row rows,
+    )
 
--- the nodes and what the lines are more
-pub counted : (old new : Left) (nodes : ℕ) → CountsRows old new nodes
-    → PassesRows old new nodes (new.number - old.number - nodes)
-counted old new nodes so_far = record {
-  rows = so_far.rows; fits = so_far.fits; passed = so_far.passed; many = so_far.many;
-  sum = omega (arith, so_far.many, so_far.passed.number, length_rows so_far.rows)
-}
-
--- no more nodes than the number of the line
-pub nodes_within : (old new : Left) (nodes : ℕ) → CountsRows old new nodes → old.number + nodes ≤ new.number
-nodes_within old new nodes so_far =
-    omega (arith, so_far.many, so_far.passed.number, length_rows so_far.rows)
+-- the number of the line rises by the nodes and the ports
+pub as_many_lines : (old new : Left) (nodes ports : ℕ) → PassesRows old new nodes ports
+    → new.number ≡ old.number + (nodes + ports)
+as_many_lines old new nodes ports rows =
+    omega (arith, rows.many, rows.sum, rows.passed.number, length_rows rows.rows)
 
 -- a heading and rows with a node make a place between whole rows, and without a node the first place
 pub rows_some : (old new : Left) (nodes ports : ℕ) (rows : PassesRows old new nodes ports) → nodes ≢ 0 → AreRows rows.rows
@@ -101,7 +77,7 @@ pub first_place : (old behind now : Left) (nodes ports : ℕ) → Passes old beh
     → PassesRows behind now nodes ports → nodes ≡ 0 → Passes old now (codes "network" ∷ [])
 first_place old behind now nodes ports heading rows none =
     subst (Passes old now) (ap (λ lines. codes "network" ∷ lines) (no_lines rows.rows (sym none ∙ rows.many)))
-      (next_place old behind now nodes ports heading rows)
+    (next_place old behind now nodes ports heading rows)
 
 -- what was passed of a text is what it had and has no more
 front_text : (whole a b : List ℕ) → whole ≡ a ++ b → take (length whole - length b) whole ≡ a
@@ -117,8 +93,8 @@ pub network_passed : (old behind before new : Left) (nodes ports : ℕ) (start r
 network_passed old behind before new nodes ports start rest heading rows end some starts rests =
     let body = flat_map row_lines rows.rows in
     let passed : Passes old new (network_lines rows.rows) =
-        passes_then old behind new (codes "network" ∷ []) (body ++ codes "end" ∷ []) heading
-          (passes_then behind before new body (codes "end" ∷ []) rows.passed end) in
+    passes_then old behind new (codes "network" ∷ []) (body ++ codes "end" ∷ []) heading
+    (passes_then behind before new body (codes "end" ∷ []) rows.passed end) in
     record {
       rows = rows.rows;
       tells = record {
@@ -126,7 +102,7 @@ network_passed old behind before new nodes ports start rest heading rows end som
         text = front_text start (network_text rows.rows) rest
             (starts ∙ passed.stands ∙ ap (λ more. network_text rows.rows ++ more) (sym rests));
         nodes = rows.many;
-        ports = rows.sum
+        ports = rows.sum;
       };
-      passed = passed
+      passed = passed;
     }

@@ -1,17 +1,15 @@
 -- The text of a network part read again, row by row.
-use Rattle.std.proofs.Common.{◌≡◌, Bool, true, false, ℕ, ◌+◌, ◌<◌, ◌≤◌, List, [], ◌∷◌, ◌++◌, map, length, codes, refl, sym, ◌∙◌, ap, subst, append_assoc, append-nil, arith}
-use Rattle.std.specs.Bool.{OnTrue, OnFalse}
-use Rattle.std.specs.List.{All, flat_map}
-use Rattle.std.proofs.lemmas.List.{append_cancel_left}
+use Rattle.std.proofs.Common.{◌≡◌, ℕ, List, [], ◌∷◌, ◌++◌, map, refl, sym, ◌∙◌, ap, subst, append_assoc, append-nil}
+use Rattle.std.specs.List.{All}
 use Rattle.std.proofs.lemmas.List.Elements.{All-head, All-tail}
 use Rattle.pls_model.specs.declared.row.NodeRow.{NodeRow}
 use Rattle.pls_netfile.specs.Text.{text_of}
 use Rattle.pls_netfile.specs.Lines.{Left, Passes, Stands}
-use Rattle.pls_netfile.specs.NetworkText.{FitsRow, AreRows, node_line, port_line, row_lines, network_text}
+use Rattle.pls_netfile.specs.NetworkText.{FitsRow, node_line, port_line, row_lines, network_text}
 use Rattle.pls_netfile.specs.NetworkLine.{IsNodeLine, IsPortLine}
-use Rattle.pls_netfile.specs.NetworkScan.{Written, Tells, IsTold}
+use Rattle.pls_netfile.specs.NetworkScan.{Written, Tells}
 use Rattle.pls_netfile.proofs.NetworkLines.{node_plain}
-use Rattle.pls_netfile.proofs.NetworkRows.{node_of, line_stands, to_end, text_of-to_end, same_row, one_network, no_port_next, no_node_next, node_next, network_plain}
+use Rattle.pls_netfile.proofs.NetworkRows.{node_of, line_stands, to_end, text_of-to_end, same_row, one_network, no_port_next, no_node_next, node_next}
 
 -- these rows were read of a text, and what is left says the others, to the `end`
 pub record Remains (written : Written) (read : List NodeRow) (rest : List ℕ) : Type 0 where
@@ -24,7 +22,7 @@ pub record Remains (written : Written) (read : List NodeRow) (rest : List ℕ) :
 pub same_told : (written : Written) (a b : List NodeRow) → Tells written a → Tells written b → a ≡ b
 same_told written a b p q =
     (one_network a b [] [] p.fits q.fits
-      (append-nil (network_text a) ∙ sym p.text ∙ q.text ∙ sym (append-nil (network_text b)))).0
+    (append-nil (network_text a) ∙ sym p.text ∙ q.text ∙ sym (append-nil (network_text b)))).0
 
 no_more : (written : Written) (read : List NodeRow) (rest : List ℕ) (more : List NodeRow) → All FitsRow more
     → Tells written (read ++ more) → rest ≡ text_of (to_end more) → (Stands IsNodeLine rest → ⊥) → Tells written read
@@ -40,20 +38,20 @@ one_less : (written : Written) (read : List NodeRow) (row : NodeRow) (old new : 
 one_less written read row old new [] all tells e fits no_port =
     let node = node_of row fits in
     let here = line_stands IsNodeLine (node_line row.id row.state) (map port_line row.ports) new
-        (node_plain row.id row.state node)
-        (record { value = record { id = row.id; state = row.state }; fits = node; is = refl }) in
+    (node_plain row.id row.state node)
+    (record { value = record { id = row.id; state = row.state }; fits = node; is = refl }) in
     absurd (no_node_next [] (subst (Stands IsNodeLine) (e ∙ sym (append-nil (text_of (to_end [])))) here))
 one_less written read row old new (next ∷ more) all tells e fits no_port =
     let later = All-tail FitsRow next more all in
     let first = same_row row next new (text_of (to_end more) ++ []) fits (All-head FitsRow next more all) no_port
-        (no_port_next more [] later)
-        (e ∙ sym (append-nil (text_of (to_end (next ∷ more)))) ∙ text_of-to_end next more []) in
+    (no_port_next more [] later)
+    (e ∙ sym (append-nil (text_of (to_end (next ∷ more)))) ∙ text_of-to_end next more []) in
     record {
       more = more;
       fits = later;
       tells = subst (Tells written)
           (ap (λ r. read ++ r ∷ more) (sym first.0) ∙ sym (append_assoc read (row ∷ []) more)) tells;
-      stands = first.1 ∙ append-nil (text_of (to_end more))
+      stands = first.1 ∙ append-nil (text_of (to_end more));
     }
 
 -- where no node line stands next all rows were read
@@ -68,4 +66,4 @@ pub one_row_less : (written : Written) (read : List NodeRow) (row : NodeRow) (ol
     → (Stands IsPortLine new.rest → ⊥) → Remains written (read ++ row ∷ []) new.rest
 one_row_less written read row old new remains fits passes no_port =
     one_less written read row old.rest new.rest remains.more remains.fits remains.tells
-      (sym passes.stands ∙ remains.stands) fits no_port
+    (sym passes.stands ∙ remains.stands) fits no_port

@@ -1,5 +1,5 @@
 -- First faults of a whole text, by the numbers of its lines.
-use Rattle.std.proofs.Common.{◌≡◌, ℕ, ◌+◌, List, [], ◌++◌, length, refl, sym, ◌∙◌, ap, subst, add_assoc, append-nil, arith}
+use Rattle.std.proofs.Common.{◌≡◌, ℕ, ◌+◌, List, [], ◌++◌, length, sym, ◌∙◌, subst, append-nil, arith}
 use Rattle.pls_netfile.specs.Text.{text_of}
 use Rattle.pls_netfile.specs.Lines.{Left, Passes, IsFault}
 use Rattle.pls_netfile.specs.Fault.{FirstFault, IsFirstFault, Then}
@@ -36,7 +36,7 @@ module _ (format : List (List ℕ) → Type 0) where
   pub one_text : (a b : List (List ℕ)) → IsPart format → format a → format b → text_of a ≡ text_of b → a ≡ b
   one_text a b part is_a is_b e =
       (whole_once format a b [] [] part is_a is_b
-        (append-nil (text_of a) ∙ e ∙ sym (append-nil (text_of b)))).0
+      (append-nil (text_of a) ∙ e ∙ sym (append-nil (text_of b)))).0
 
   -- a text has one first faulty line at most
   pub one_first_fault : (text : List ℕ) (j k : ℕ) → IsFirstFault format text j → IsFirstFault format text k → j ≡ k
@@ -55,5 +55,5 @@ module _ (first second : List (List ℕ) → Type 0) where
   fault_in_second lines old mid k one two is passes fault = (
     length lines + fault.0,
     omega (arith, fault.1, passes.number),
-    fault_of_second first second lines old.rest mid.rest fault.0 one two is passes.stands fault.2
+    fault_of_second first second lines old.rest mid.rest fault.0 one two is passes.stands fault.2,
   )

@@ -1,6 +1,5 @@
 -- The two kinds of line of a network part, as values that a reader gives.
 use Rattle.std.specs.Prelude.{ℕ, ◌<◌, ◌^◌, List}
-use Rattle.pls_model.specs.declared.row.Port.{Port}
 use Rattle.pls_model.specs.declared.row.State.{State}
 use Rattle.pls_netfile.specs.declared.network_line.NodeLine.{NodeLine}
 use Rattle.pls_netfile.specs.NetworkText.{FitsState, FitsPort, node_line, port_line}

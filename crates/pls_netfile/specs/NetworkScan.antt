@@ -24,17 +24,12 @@ pub record IsTold (written : Written) : Type 0 where
   pub rows : List NodeRow
   pub tells : Tells written rows
 
--- the reader has passed the lines of some ports
-pub record PassesPorts (old new : Left) : Type 0 where
-  pub ports : List Port
-  pub fits : All FitsPort ports
-  pub passed : Passes old new (map port_line ports)
-
--- the reader has passed the lines of one row
-pub record PassesRow (old new : Left) : Type 0 where
+-- the reader has passed the lines of one row with so many ports
+pub record PassesRow (old new : Left) (ports : ℕ) : Type 0 where
   pub row : NodeRow
   pub fits : FitsRow row
   pub passed : Passes old new (row_lines row)
+  pub many : ports ≡ length row.ports
 
 -- the reader has passed the lines of rows with so many nodes and ports
 pub record PassesRows (old new : Left) (nodes ports : ℕ) : Type 0 where

@@ -8,10 +8,12 @@ mod network_line;
 mod network_rows;
 mod network_scan;
 mod network_text;
+#[cfg(test)]
+mod tests;
 mod words;
 
 pub use laws::{no_fault, one_first_fault, one_network};
-pub use line_kind::{LineKind, next_of};
+pub use line_kind::{LineKind, count_of, list_of, next_of};
 pub use lines::Lines;
 pub use network_line::{NodeLine, pointer_then, read_state};
 pub use network_scan::scan_network;

@@ -7,7 +7,7 @@ ghost use Rattle.pls_netfile.specs.NetworkText.{FitsPort, FitsRow, port_line, ro
 ghost use Rattle.pls_netfile.specs.NetworkLine.{IsNodeLine, IsPortLine};
 ghost use Rattle.pls_netfile.specs.NetworkScan.{Tells};
 
-use crate::line_kind::next_of;
+use crate::line_kind::{list_of, next_of};
 use crate::lines::Lines;
 use crate::network_line::NodeLine;
 use crate::network_text::NetworkText;
@@ -45,24 +45,10 @@ fn next_row(alloc: Global, lines: &mut Lines<'_>) -> Result<Option<NodeRow>, NoM
     let Some(node) = next_of::<NodeLine>(lines) else {
         return Ok(None);
     };
-    let ports = next_ports(alloc, lines)?;
+    let ports = list_of::<Port>(alloc, lines)?;
     Ok(Some(NodeRow {
         id: node.id,
         state: node.state,
         ports: NodePorts::from_vec(ports),
     }))
-}
-
-// The ports whose lines stand next, which the reader passes.
-fn next_ports(alloc: Global, lines: &mut Lines<'_>) -> Result<Vec<Port>, NoMemory>
-    ensures fits { IfOk result (λ ports. All FitsPort ports.items) }
-    ensures passed { IfOk result (λ ports. Passes lines.old lines.new (map port_line ports.items)) }
-    ensures no_port { OnOk result (Stands IsPortLine lines.new.rest → ⊥) }
-    ensures no_more { OnOk result (length lines.new.rest ≤ length lines.old.rest) }
-{
-    let mut ports = Vec::new(alloc);
-    while let Some(port) = next_of::<Port>(lines) {
-        ports.push(port)?;
-    }
-    Ok(ports)
 }

@@ -1,13 +1,12 @@
 //! How a network part is passed without memory.
 
-ghost use Rattle.std.specs.Prelude.{◌≡◌, ◌<◌, ◌≤◌, ◌^◌, length, IfErr, IfOk, OnErr};
-ghost use Rattle.std.specs.Bool.{OnFalse, OnTrue};
+ghost use Rattle.std.specs.Prelude.{◌≡◌, ◌<◌, ◌≤◌, ◌^◌, length, IfErr, IfNone, IfOk, IfSome, OnErr, OnSome};
 ghost use Rattle.pls_netfile.specs.Lines.{IsFormFault, Stands};
 ghost use Rattle.pls_netfile.specs.NetworkText.{IsNetworkPart};
 ghost use Rattle.pls_netfile.specs.NetworkLine.{IsNodeLine, IsPortLine};
-ghost use Rattle.pls_netfile.specs.NetworkScan.{PassesNetwork, PassesPorts, PassesRow, PassesRows};
+ghost use Rattle.pls_netfile.specs.NetworkScan.{PassesNetwork, PassesRow, PassesRows};
 
-use crate::line_kind::next_of;
+use crate::line_kind::{count_of, next_of};
 use crate::lines::Lines;
 use crate::network_line::NodeLine;
 use crate::network_text::NetworkText;
@@ -56,38 +55,25 @@ fn pass_rows(lines: &mut Lines<'_>) -> (u64, u64)
     ensures no_node { Stands IsNodeLine lines.new.rest → ⊥ }
     ensures no_port { 0 < result.0 → Stands IsPortLine lines.new.rest → ⊥ }
 {
-    let first = lines.number();
     let mut nodes = 0;
-    while pass_row(lines) {
+    let mut ports = 0;
+    while let Some(more) = pass_row(lines) {
         nodes += 1;
+        ports += more;
     }
-    (nodes, lines.number() - first - nodes)
+    (nodes, ports)
 }
 
-// Passes the node line that stands next and the port lines behind it, if one does.
-fn pass_row(lines: &mut Lines<'_>) -> bool
-    ensures row { OnTrue result (PassesRow lines.old lines.new) }
-    ensures no_port { OnTrue result (Stands IsPortLine lines.new.rest → ⊥) }
-    ensures no_node { OnFalse result (Stands IsNodeLine lines.old.rest → ⊥) }
-    ensures unchanged { OnFalse result (lines.new ≡ lines.old) }
-    ensures fewer { OnTrue result (length lines.new.rest < length lines.old.rest) }
-    ensures small { lines.new.number ≤ 2 ^ 63 }
+// Passes the node line that stands next and the port lines behind it, and answers how many ports
+// there are; `None` where no node line stands next.
+fn pass_row(lines: &mut Lines<'_>) -> Option<u64>
+    ensures row { IfSome result (λ ports. PassesRow lines.old lines.new ports) }
+    ensures no_port { OnSome result (Stands IsPortLine lines.new.rest → ⊥) }
+    ensures no_node { IfNone result (Stands IsNodeLine lines.old.rest → ⊥) }
+    ensures unchanged { IfNone result (lines.new ≡ lines.old) }
+    ensures fewer { OnSome result (length lines.new.rest < length lines.old.rest) }
+    ensures small { OnSome result (lines.new.number ≤ 2 ^ 63) }
 {
-    match next_of::<NodeLine>(lines) {
-        Some(_) => {
-            pass_ports(lines);
-            true
-        }
-        None => false,
-    }
-}
-
-// Passes the port lines that stand next, as many as there are.
-fn pass_ports(lines: &mut Lines<'_>)
-    ensures ports { PassesPorts lines.old lines.new }
-    ensures no_port { Stands IsPortLine lines.new.rest → ⊥ }
-    ensures no_more { length lines.new.rest ≤ length lines.old.rest }
-    ensures small { lines.new.number ≤ 2 ^ 63 }
-{
-    while let Some(_) = next_of::<Port>(lines) {}
+    next_of::<NodeLine>(lines)?;
+    Some(count_of::<Port>(lines))
 }

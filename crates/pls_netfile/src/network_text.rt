@@ -19,9 +19,7 @@ impl<'a> Model for NetworkText<'a> {
 
     ghost view = { λ part. record { text = part.text.now; nodes = part.nodes; ports = part.ports } };
 
-    ghost invariant = {
-        λ part. IsTold (record { text = part.text.now; nodes = part.nodes; ports = part.ports })
-    };
+    ghost invariant = { λ part. IsTold (record { text = part.text.now; nodes = part.nodes; ports = part.ports }) };
 }
 
 impl<'a> NetworkText<'a> {

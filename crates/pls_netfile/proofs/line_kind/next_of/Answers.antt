@@ -9,5 +9,5 @@ returns-in_err-line-clause-none g c =
 pub returns-in_err-value-clause-none : goal.returns-in_err-value-clause-none
 returns-in_err-value-clause-none g c =
     rw (c.from_residual-in_err-value.ensures, ← c.again-ahead.ensures)
-      (other_line (Says g.K.LineKind.Fits g.K.LineKind.written) _ _ _ c.in_ok-line.ensures.passed
-        c.in_ok-line.ensures.plain c.in_err-value.ensures.none)
+    (other_line (Says g.K.LineKind.Fits g.K.LineKind.written) _ _ _ c.in_ok-line.ensures.passed
+    c.in_ok-line.ensures.plain c.in_err-value.ensures.none)

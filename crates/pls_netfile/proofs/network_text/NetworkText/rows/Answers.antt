@@ -5,8 +5,8 @@ pub loop-rows-preserved : goal.loop-rows-preserved
 loop-rows-preserved c =
     let next = c.in_ok-row.ensures in
     rw c.in_ok-push.ensures.items
-      (one_row_less _ _ c.in-Some.row c.loop-rows.lines c.next_row.new.lines c.loop-rows.invariant
-        (rw c.in-Some.is at next.fits) (rw c.in-Some.is at next.passed) (rw c.in-Some.is at next.no_port))
+    (one_row_less _ _ c.in-Some.row c.loop-rows.lines c.next_row.new.lines c.loop-rows.invariant
+    (rw c.in-Some.is at next.fits) (rw c.in-Some.is at next.passed) (rw c.in-Some.is at next.no_port))
 
 pub returns-clause-ok : goal.returns-clause-ok
 returns-clause-ok c =
