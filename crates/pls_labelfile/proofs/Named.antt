@@ -1,0 +1,81 @@
+-- Labels of nodes in order, each with the identity of its node.
+use Rattle.std.proofs.Common.{◌≡◌, ℕ, ◌+◌, ◌<◌, ◌≤◌, ◌^◌, zero, suc, Bool, List, [], ◌∷◌, ◌++◌, map, take, length, Some, None, refl, sym, ◌∙◌, ap, slice_get, arith}
+use Rattle.std.specs.List.{All, sum_by}
+use Rattle.std.proofs.lemmas.List.{take_all, length-map}
+use Rattle.std.proofs.lemmas.List.Sums.{sum_by-cons}
+use Rattle.std.proofs.lemmas.List.Elements.{All-nil, All-cons, All-head, All-tail}
+use Rattle.pls_labelfile.specs.LabelsText.{NamedLabel, FitsLabel, named}
+use Rattle.pls_labelfile.specs.LabelsScan.{bits_of}
+use Rattle.pls_labelfile.specs.Misfit.{misfit}
+use Rattle.pls_labelfile.proofs.Misfits.{names_of, misfit-named}
+use Rattle.pls_labelfile.proofs.Filled.{bits_in}
+
+-- labels are those with their identities and their bits
+pub named-parts : (labels : List NamedLabel) → named (names_of labels) (bits_in labels) ≡ labels
+named-parts [] = refl
+named-parts (label ∷ labels) = ap (λ (others : List NamedLabel). label ∷ others) (named-parts labels)
+
+pub names_of-named : (ids : List ℕ) (labels : List (List Bool)) → length labels ≡ length ids → names_of (named ids labels) ≡ ids
+names_of-named [] labels long = refl
+names_of-named (id ∷ ids) [] long = absurd (omega arith)
+names_of-named (id ∷ ids) (bits ∷ labels) long = ap (λ (others : List ℕ). id ∷ others) (names_of-named ids labels (omega arith))
+
+pub bits_in-named : (ids : List ℕ) (labels : List (List Bool)) → length labels ≡ length ids → bits_in (named ids labels) ≡ labels
+bits_in-named [] [] long = refl
+bits_in-named [] (bits ∷ labels) long = absurd (omega arith)
+bits_in-named (id ∷ ids) [] long = absurd (omega arith)
+bits_in-named (id ∷ ids) (bits ∷ labels) long =
+    ap (λ (others : List (List Bool)). bits ∷ others) (bits_in-named ids labels (omega arith))
+
+-- as many bits as the labels have
+pub bits_of-named : (ids : List ℕ) (labels : List (List Bool)) → length labels ≡ length ids
+    → bits_of (named ids labels) ≡ sum_by length labels
+bits_of-named [] [] long = refl
+bits_of-named [] (bits ∷ labels) long = absurd (omega arith)
+bits_of-named (id ∷ ids) [] long = absurd (omega arith)
+bits_of-named (id ∷ ids) (bits ∷ labels) long =
+    omega (
+      arith,
+      bits_of-named ids labels (omega arith),
+      sum_by-cons (length {A = Bool}) bits labels,
+      sum_by-cons (λ (label : NamedLabel). length label.bits) (record { id = id; bits = bits }) (named ids labels),
+    )
+
+-- each fits where the identities and the labels do
+pub named_fit : (ids : List ℕ) (labels : List (List Bool)) → All (λ id. id < 2 ^ 32) ids
+    → All (λ bits. length bits ≤ 2 ^ 28) labels → All FitsLabel (named ids labels)
+named_fit [] labels p q = All-nil FitsLabel
+named_fit (id ∷ ids) [] p q = All-nil FitsLabel
+named_fit (id ∷ ids) (bits ∷ labels) p q =
+    All-cons FitsLabel (record { id = id; bits = bits }) (named ids labels)
+    (record {
+      id = All-head (λ (id : ℕ). id < 2 ^ 32) id ids p;
+      short = All-head (λ (bits : List Bool). length bits ≤ 2 ^ 28) bits labels q;
+    })
+    (named_fit ids labels (All-tail (λ (id : ℕ). id < 2 ^ 32) id ids p)
+    (All-tail (λ (bits : List Bool). length bits ≤ 2 ^ 28) bits labels q))
+
+-- and they fit the nodes
+pub named_no_misfit : (ids : List ℕ) (labels : List (List Bool)) → length labels ≡ length ids
+    → misfit ids (named ids labels) ≡ None
+named_no_misfit ids labels long =
+    ap (λ (names : List ℕ). misfit names (named ids labels)) (sym (names_of-named ids labels long))
+    ∙ misfit-named (named ids labels)
+
+-- one label more
+pub named-take : (ids : List ℕ) (labels : List (List Bool)) (i : ℕ) (id : ℕ) (bits : List Bool) → slice_get ids i ≡ Some id
+    → slice_get labels i ≡ Some bits
+    → named (take (suc i) ids) (take (suc i) labels) ≡ named (take i ids) (take i labels) ++ record { id = id; bits = bits } ∷ []
+named-take [] labels i id bits p q = absurd (cc)
+named-take (x ∷ ids) [] i id bits p q = absurd (cc)
+named-take (x ∷ ids) (y ∷ labels) zero id bits p q =
+    let id_is : x ≡ id = cc in
+    let bits_are : y ≡ bits = cc in
+    λ i. record { id = id_is i; bits = bits_are i } ∷ []
+named-take (x ∷ ids) (y ∷ labels) (suc i) id bits p q =
+    ap (λ (others : List NamedLabel). record { id = x; bits = y } ∷ others) (named-take ids labels i id bits p q)
+
+-- all labels
+pub named-all : (ids : List ℕ) (labels : List (List Bool)) (i : ℕ) → length ids ≤ i → length labels ≤ i
+    → named (take i ids) (take i labels) ≡ named ids labels
+named-all ids labels i p q = rw (take_all i ids p, take_all i labels q) refl
