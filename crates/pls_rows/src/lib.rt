@@ -1,13 +1,8 @@
-// A library with one function.
+//! Runs of the program in memory, and the worked examples as tests over them.
 #![tactic(auto)]
 
-ghost use Rattle.std.specs.Prelude.{◌≡◌};
-ghost use Rattle.pls_rows.specs.Echo.{echo_of};
+mod memory_run;
+#[cfg(test)]
+mod tests;
 
-// The `ensures` clause is the contract: what `echo` returns is `echo_of` of its argument, a definition
-// in `specs/Echo.antt`, which a caller's clause can cite too.
-pub fn echo(x: usize) -> usize
-    ensures { result ≡ echo_of x }
-{
-    x
-}
+pub use memory_run::{ROOM, run_in_memory};

@@ -1,0 +1,28 @@
+# The toolchain's command `rt` is expected on the path.
+#
+#   make run    runs `verify bipartite` on examples/two-nodes.txt
+#   make pls    proves and builds everything, and leaves the program as ./pls
+#   make test   the gate: every proof, every edit that must be refused, every test and the program
+
+.PHONY: run test
+
+SOURCES := Makefile crates.txt $(shell find crates -path '*/out' -prune -o -type f \( -name '*.rt' -o -name '*.antt' \) -print)
+
+# The proved program where it is built and nothing changed since; else the sources as they are, which
+# takes less time than their proofs.
+run:
+	@if [ -x pls ] && $(MAKE) --silent --question pls; then \
+		./pls verify bipartite < examples/two-nodes.txt; \
+	else \
+		echo 'pls is not built from these sources: running them unproved (make pls proves them)' >&2; \
+		cd crates/pls_main && rt try -- verify bipartite < ../../examples/two-nodes.txt 2> /dev/null; \
+	fi
+
+# The program is run without words, and answers `usage`.
+pls: $(SOURCES)
+	rm -f pls crates/pls_main/out/pls_main
+	cd crates/pls_main && rt run < /dev/null > /dev/null; test -x out/pls_main
+	cp crates/pls_main/out/pls_main pls
+
+test:
+	.ci/run

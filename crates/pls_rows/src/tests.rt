@@ -1,0 +1,88 @@
+//! The worked examples, as tables of words, inputs, texts and statuses.
+
+use crate::run_in_memory;
+use pls_app::run;
+use pls_base::{MemSink, MemSource, Status};
+use std::alloc::Global;
+use std::process::Abort;
+use std::test::Fail;
+
+const PAIR: &str = "network\nnode 1 - 0 0\nport 2 1\nnode 2 - 0 0\nport 1 1\nend\n";
+
+const COLOURS: &str = "labels\nlabel 1 1 00\nlabel 2 1 80\nend\n";
+
+const ACCEPTED: &str = "node 1 accept\nnode 2 accept\nrejecting 0\n";
+
+// Runs on an input in two parts, and asserts the text and the status.
+fn assert_run(
+    rt: &impl Abort,
+    alloc: Global,
+    words: &[&str],
+    input: [&str; 2],
+    text: &str,
+    status: Status,
+) -> Result<(), Fail> {
+    let [front, back] = input;
+    let mut bytes = front.as_bytes().to_vec(alloc)?;
+    bytes.extend_from_slice(back.as_bytes())?;
+    let (end, sink) = run_in_memory(alloc, words, bytes)?;
+    assert_eq!(rt; sink.bytes(), text.as_bytes(), "{front}{back}");
+    assert_eq!(rt; end, status, "{front}{back}");
+    Ok(())
+}
+
+#[test]
+fn a_network_of_two_nodes_is_judged(rt: HostRuntime) -> Result<(), Fail> {
+    let rejected = "node 1 reject 1 3\nnode 2 reject 1 3\nrejecting 2\n";
+    let same = "labels\nlabel 1 1 80\nlabel 2 1 80\nend\n";
+    let apart = "network\nnode 1 - 0 0\nnode 2 - 0 0\nend\n";
+    let cases = [
+        (PAIR, COLOURS, ACCEPTED, Status::Done),
+        (PAIR, same, rejected, Status::No),
+        (apart, same, ACCEPTED, Status::Done),
+    ];
+    for (network, labels, text, status) in cases {
+        assert_run(&rt, rt.alloc(), &["verify", "bipartite"], [network, labels], text, status)?;
+    }
+    Ok(())
+}
+
+#[test]
+fn words_and_forms_are_refused(rt: HostRuntime) -> Result<(), Fail> {
+    let cut = "network\nnode 1 - 0 0\nport 2 1\nnode 2 - 0 0\nport 1 1\n";
+    let two_bits = "labels\nlabel 1 2 00\nlabel 2 1 80\nend\n";
+    let turned = "labels\nlabel 2 1 80\nlabel 1 1 00\nend\n";
+    let refused = "refused form at 0\n";
+    let cases = [
+        ("colour", PAIR, COLOURS, "usage\n", Status::Usage),
+        ("bipartite", cut, "", refused, Status::Refused),
+        ("bipartite", PAIR, "", refused, Status::Refused),
+        ("bipartite", PAIR, two_bits, refused, Status::Refused),
+        ("bipartite", PAIR, turned, refused, Status::Refused),
+        ("bipartite", "", "", refused, Status::Refused),
+    ];
+    for (scheme, network, labels, text, status) in cases {
+        assert_run(&rt, rt.alloc(), &["verify", scheme], [network, labels], text, status)?;
+    }
+    Ok(())
+}
+
+#[test]
+fn reads_and_writes_of_one_byte(rt: HostRuntime) -> Result<(), Fail> {
+    let alloc = rt.alloc();
+    let cases = [
+        (0, 0, ACCEPTED, Status::Done),
+        (3, 0, "", Status::ReadFault),
+        (0, 5, "node", Status::WriteFault),
+    ];
+    for (failing_read, failing_write, text, status) in cases {
+        let mut bytes = PAIR.as_bytes().to_vec(alloc)?;
+        bytes.extend_from_slice(COLOURS.as_bytes())?;
+        let mut source = MemSource::new(bytes, 1, vec![in alloc; failing_read]?);
+        let mut sink = MemSink::new(alloc, 1000, 1, vec![in alloc; failing_write]?)?;
+        let end = run(alloc, &["verify", "bipartite"], &mut source, &mut sink);
+        assert_eq!(rt; sink.bytes(), text.as_bytes());
+        assert_eq!(rt; end, status);
+    }
+    Ok(())
+}
