@@ -1,25 +1,35 @@
 //! Numbers in decimal.
 
-ghost use Rattle.std.specs.Prelude.{◌≡◌, ◌+◌, ◌*◌, ◌^◌, ◌<◌, ◌≤◌, IfNone, IfSome, decimal, length, take};
+ghost use Rattle.std.specs.Prelude.{◌≡◌, ◌+◌, ◌*◌, ◌^◌, ◌<◌, ◌≤◌, ◌↔◌, IfNone, IfSome, IsTrue, decimal, length, slice_index, take};
 ghost use Rattle.std.specs.Char.{digit_value};
 ghost use Rattle.std.specs.Str.Parse.{AllDigits, digits_value};
 ghost use Rattle.pls_base.specs.Decimal.{IsDecimal, IsNoDecimal};
 
 /// The number that a text spells in decimal, without leading zeros, where it is at most `most`;
 /// `None` for every other text.
+#[tactic(auto, using(crate::proofs::Numerals::numeral_from_decimal, crate::proofs::Numerals::decimal_from_numeral))]
 pub fn read_decimal(text: &[u8], most: u64) -> Option<u64>
     ensures spelled { IfSome result (λ number. IsDecimal text.now number) }
     ensures within { IfSome result (λ number. number ≤ most) }
     ensures none { IfNone result (IsNoDecimal text.now most) }
 {
-    if text.is_empty() || (text.len() > 1 && text[0] == b'0') {
+    if !is_plain(text) {
         return None;
     }
     let number = digits_number(text)?;
     if number <= most { Some(number) } else { None }
 }
 
+// Whether there is a digit, and no zero before other digits.
+fn is_plain(text: &[u8]) -> bool
+    ensures { IsTrue result ↔ ((0 < length text.now)
+        × (slice_index text.now 0 ≡ 48 → length text.now ≡ 1)) }
+{
+    !text.is_empty() && (text.len() == 1 || text[0] != b'0')
+}
+
 // The number that digits stand for, leading zeros allowed, where it is below 2^64.
+#[tactic(auto, using(crate::proofs::Numerals::digit_below, crate::proofs::Numerals::front_below))]
 fn digits_number(text: &[u8]) -> Option<u64>
     ensures digits { IfSome result (λ _. AllDigits 10 text.now) }
     ensures value { IfSome result (λ number. number ≡ digits_value 10 text.now) }

@@ -21,6 +21,8 @@ mod reading;
 mod std_streams;
 mod streams;
 mod sure_source;
+#[cfg(test)]
+mod tests;
 mod text_error;
 mod writing;
 

@@ -1,7 +1,6 @@
 use Rattle.std.proofs.Common.{ℕ, ◌+◌, ◌*◌, get_or, sym, ap, ◌∙◌}
 use Rattle.std.specs.Char.{digit_value}
 use Rattle.std.proofs.lemmas.Int.Digits.{digits_more, digits_value_more}
-use Rattle.pls_base.proofs.Numerals.{digit_below, front_below}
 use Rattle.pls_base.proofs.decimals.digits_number.Goals as goal
 
 pub loop-byte-preserved : goal.loop-byte-preserved
@@ -13,12 +12,3 @@ loop-byte-preserved c =
       value = c.in_ok-number.ensures.value ∙ ap (λ (n : ℕ). n * 10 + digit) c.loop-byte.invariant.value
           ∙ sym (digits_value_more 10 text i c.loop-byte-test.true);
     }
-
-pub returns-in_err-number-clause-none : goal.returns-in_err-number-clause-none
-returns-in_err-number-clause-none c =
-    let text = c.args.text.now in
-    let i = c.loop-byte.byte-index in
-    let h = c.in_err-number.ensures.none in
-    rw c.from_residual.ensures (λ digits.
-    front_below text i c.loop-byte.number c.loop-byte-test.true c.loop-byte.invariant.value
-    (h (digit_below text i digits c.loop-byte-test.true)))
