@@ -1,0 +1,5 @@
+pub mod Build
+pub mod Ways
+pub mod Size
+pub mod Connected
+pub mod Reach
