@@ -1,5 +1,5 @@
 -- How a store is filled from a text, node by node.
-use Rattle.std.proofs.Common.{◌≡◌, ◌≢◌, ℕ, ◌+◌, ◌<◌, ◌≤◌, Bool, List, [], ◌∷◌, ◌++◌, map, length, Option, Some, None, replicate, refl, sym, ◌∙◌, ap, subst, append_assoc, append-nil, length-append, arith}
+use Rattle.std.proofs.Common.{◌≡◌, ◌≢◌, ℕ, ◌+◌, ◌<◌, ◌≤◌, Bool, List, [], ◌∷◌, ◌++◌, map, length, Some, None, replicate, refl, sym, ◌∙◌, ap, subst, append_assoc, append-nil, length-append, arith}
 use Rattle.std.specs.List.{All, slice_get, slice_set}
 use Rattle.std.specs.Option.{option_map}
 use Rattle.std.proofs.Math.Seq.{set-append_seam}
@@ -10,7 +10,7 @@ use Rattle.pls_model.specs.declared.row.NodeRow.{NodeRow}
 use Rattle.pls_model.specs.Configuration.{ids_of}
 use Rattle.pls_netfile.specs.Text.{text_of}
 use Rattle.pls_labelfile.specs.LabelsText.{NamedLabel, FitsLabel, hex_word}
-use Rattle.pls_labelfile.specs.LabelLine.{LabelWords, words_of}
+use Rattle.pls_labelfile.specs.LabelLine.{LabelWords}
 use Rattle.pls_labelfile.specs.Behind.{Behind, IsBehind, NextLabel, to_end}
 use Rattle.pls_labelfile.specs.Misfit.{misfit}
 use Rattle.pls_labelfile.proofs.LabelLines.{same_bits}

@@ -1,5 +1,5 @@
 -- Hex words, and the digits that they are.
-use Rattle.std.proofs.Common.{◌≡◌, ◌≢◌, ℕ, ◌*◌, Bool, true, false, List, [], ◌∷◌, length, Err, refl, sym, ◌∙◌}
+use Rattle.std.proofs.Common.{◌≡◌, ◌≢◌, ℕ, ◌*◌, Bool, false, List, [], ◌∷◌, length, Err, refl, sym}
 use Rattle.std.specs.Prelude.{Result}
 use Rattle.std.specs.Result.{IsErrOf}
 use Rattle.std.specs.List.{list_all}

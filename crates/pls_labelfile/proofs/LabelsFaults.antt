@@ -1,10 +1,10 @@
 -- The places of a labels part at which another line can be faulty.
-use Rattle.std.proofs.Common.{◌≡◌, ℕ, ◌+◌, ◌⊎◌, List, [], ◌∷◌, ◌++◌, map, codes, refl, sym, ◌∙◌, subst, inl, inr, append-nil}
+use Rattle.std.proofs.Common.{◌≡◌, ℕ, ◌⊎◌, List, [], ◌∷◌, ◌++◌, map, codes, refl, sym, subst, inl, inr, append-nil}
 use Rattle.std.specs.List.{All, AllByRecursion}
 use Rattle.std.proofs.lemmas.List.Elements.{All-nil}
 use Rattle.pls_netfile.specs.Lines.{Left, Passes, Stands, IsFault}
 use Rattle.pls_netfile.proofs.Cuts.{each_back}
-use Rattle.pls_netfile.proofs.Frames.{Next, fault_in_heading, fault_in_body}
+use Rattle.pls_netfile.proofs.Frames.{fault_in_heading, fault_in_body}
 use Rattle.pls_labelfile.specs.LabelsText.{NamedLabel, FitsLabel, AreLabelLines, IsLabelsPart, label_line}
 use Rattle.pls_labelfile.specs.LabelLine.{IsLabelLine}
 use Rattle.pls_labelfile.proofs.LabelLines.{says_label}

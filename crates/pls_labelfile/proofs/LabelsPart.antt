@@ -1,9 +1,8 @@
 -- The labels part: it tells where it ends, and its text fixes its labels.
-use Rattle.std.proofs.Common.{◌≡◌, ◌≢◌, ℕ, ◌+◌, ◌<◌, ◌≤◌, List, [], ◌∷◌, ◌++◌, map, length, codes, refl, sym, ◌∙◌, ap, subst, arith}
+use Rattle.std.proofs.Common.{◌≡◌, ◌≢◌, ℕ, List, [], ◌∷◌, ◌++◌, map, codes, refl, sym, subst, arith}
 use Rattle.std.specs.List.{All, AllByRecursion}
 use Rattle.std.proofs.lemmas.List.Elements.{All-head, All-tail}
 use Rattle.pls_netfile.specs.Plain.{Lacks, ArePlain}
-use Rattle.pls_netfile.specs.Text.{text_of}
 use Rattle.pls_netfile.proofs.Frames.{IsBody, framed_part}
 use Rattle.pls_netfile.proofs.Cuts.{same_first}
 use Rattle.pls_netfile.proofs.Parts.{IsPart, whole_once}

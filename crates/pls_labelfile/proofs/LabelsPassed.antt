@@ -1,12 +1,10 @@
 -- What a reader of labels has passed grows by one label more, and by the heading and the `end`.
-use Rattle.std.proofs.Common.{◌≡◌, ℕ, ◌+◌, ◌-◌, ◌<◌, ◌≤◌, ◌^◌, List, [], ◌∷◌, ◌++◌, map, min, take, length, codes, refl, sym, ◌∙◌, ap, subst, length-append, arith}
-use Rattle.std.specs.List.{All}
-use Rattle.std.proofs.lemmas.List.{map_push, take_at}
+use Rattle.std.proofs.Common.{◌≡◌, ℕ, ◌+◌, ◌-◌, ◌≤◌, ◌^◌, List, [], ◌∷◌, ◌++◌, map, min, take, length, codes, refl, sym, ◌∙◌, ap, subst, length-append, arith}
+use Rattle.std.proofs.lemmas.List.{take_at}
 use Rattle.std.proofs.lemmas.List.Sums.{sum_by_push}
 use Rattle.std.proofs.lemmas.List.Elements.{All-nil, All-push}
-use Rattle.pls_netfile.specs.Text.{text_of}
 use Rattle.pls_netfile.specs.Lines.{Left, Passes}
-use Rattle.pls_netfile.proofs.Passing.{passes_none, passes_then}
+use Rattle.pls_netfile.proofs.Passing.{passes_none, passes_push, passes_then}
 use Rattle.pls_labelfile.specs.LabelsText.{NamedLabel, FitsLabel, label_line, labels_lines, labels_text}
 use Rattle.pls_labelfile.specs.LabelLine.{LabelWords, FitsWords, written_label}
 use Rattle.pls_labelfile.specs.LabelsScan.{IsTold, PassesLabels, PassesPart, Written, bits_of, capped}
@@ -31,8 +29,7 @@ one_label_more old mid new bits len words so_far fits passed same =
       labels = so_far.labels ++ label ∷ [];
       fits = All-push FitsLabel so_far.labels label so_far.fits
           (label_fits words fits.hex.bits fits.in_range fits.hex.long);
-      passed = subst (Passes old new) (sym (map_push label_line so_far.labels label))
-          (passes_then old mid new (map label_line so_far.labels) (label_line label ∷ []) so_far.passed line);
+      passed = passes_push label_line old mid new so_far.labels label so_far.passed line;
       sum = capped_push so_far.labels label bits len so_far.sum (fits.hex.long ∙ sym same);
     }
 

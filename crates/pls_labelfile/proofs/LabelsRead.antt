@@ -1,15 +1,15 @@
 -- A text that is to be one labels part, read for the nodes of a network.
-use Rattle.std.proofs.Common.{◌≡◌, ℕ, ◌+◌, ◌<◌, ◌≤◌, ◌^◌, ◌==◌, ◌↔◌, nat_lt, Bool, true, false, List, [], ◌∷◌, ◌++◌, map, length, Option, Some, None, Ok, Err, if◌then◌else◌, refl, sym, ◌∙◌, ap, subst, append-nil, arith}
+use Rattle.std.proofs.Common.{◌≡◌, ℕ, ◌^◌, ◌↔◌, nat_lt, Bool, true, false, List, [], ◌++◌, length, Option, Some, None, Ok, Err, if◌then◌else◌, sym, ◌∙◌, ap, subst, append-nil, arith}
 use Rattle.std.specs.Prelude.{Result, IfErr, IfOk, OnOk}
 use Rattle.std.specs.Option.{option_map}
 use Rattle.std.specs.Result.{IsErrOf}
 use Rattle.std.proofs.lemmas.List.{length-map}
 use Rattle.std.proofs.lemmas.Result.{IfErr-at_err}
 use Rattle.pls_base.specs.declared.text_error.TextError.{TextError}
-use Rattle.pls_base.specs.declared.text_error.TextError.TheVariants.{Form, Limit, NoMemory, Sense}
+use Rattle.pls_base.specs.declared.text_error.TextError.TheVariants.{Form, Limit}
 use Rattle.pls_base.specs.declared.text_error.Quantity.TheVariants.{Bits}
 use Rattle.pls_netfile.specs.Fault.{IsFirstFault}
-use Rattle.pls_netfile.specs.Lines.{Left, Passes, IsFault, IsFormFault}
+use Rattle.pls_netfile.specs.Lines.{Left, IsFormFault}
 use Rattle.pls_netfile.proofs.WholeTexts.{fault_alone, fault_behind, fault_of_text, one_first_fault}
 use Rattle.pls_labelfile.specs.LabelsText.{NamedLabel, IsLabelsPart, labels_lines, labels_text, named}
 use Rattle.pls_labelfile.specs.LabelsScan.{PassesPart, Tells, Written, bits_of}

@@ -1,5 +1,5 @@
 -- The text of labels, written line by line.
-use Rattle.std.proofs.Common.{◌≡◌, ℕ, ◌+◌, ◌<◌, ◌≤◌, Bool, List, [], ◌∷◌, ◌++◌, map, take, length, Some, codes, decimal, sym, ◌∙◌, ap, slice_get, option_map, append_assoc, add-one, arith}
+use Rattle.std.proofs.Common.{◌≡◌, ℕ, ◌+◌, ◌≤◌, Bool, List, [], ◌∷◌, ◌++◌, map, take, length, Some, codes, decimal, sym, ◌∙◌, ap, slice_get, option_map, append_assoc, add-one, arith}
 use Rattle.std.specs.Fmt.{digits}
 use Rattle.std.proofs.lemmas.List.{map_push, length-map}
 use Rattle.std.proofs.lemmas.Option.{slice_get-map}
@@ -7,7 +7,7 @@ use Rattle.pls_model.specs.declared.row.NodeRow.{NodeRow}
 use Rattle.pls_model.specs.Configuration.{ids_of}
 use Rattle.pls_netfile.specs.Text.{text_of}
 use Rattle.pls_netfile.proofs.Fronts.{text_of-append}
-use Rattle.pls_labelfile.specs.LabelsText.{NamedLabel, label_line, labels_lines, labels_text, named}
+use Rattle.pls_labelfile.specs.LabelsText.{NamedLabel, label_line, labels_text, named}
 use Rattle.pls_labelfile.proofs.Named.{named-take, named-all}
 
 -- the lines of a labels part up to the labels of the first nodes

@@ -1,9 +1,14 @@
 -- Labels of nodes in order, each with the identity of its node.
-use Rattle.std.proofs.Common.{◌≡◌, ℕ, ◌+◌, ◌<◌, ◌≤◌, ◌^◌, zero, suc, Bool, List, [], ◌∷◌, ◌++◌, map, take, length, Some, None, refl, sym, ◌∙◌, ap, slice_get, arith}
+use Rattle.std.proofs.Common.{◌≡◌, ℕ, ◌<◌, ◌≤◌, ◌^◌, zero, suc, nat_lt, Bool, false, List, [], ◌∷◌, ◌++◌, take, length, Some, None, refl, sym, ◌∙◌, ap, slice_get, arith}
 use Rattle.std.specs.List.{All, sum_by}
 use Rattle.std.proofs.lemmas.List.{take_all, length-map}
 use Rattle.std.proofs.lemmas.List.Sums.{sum_by-cons}
 use Rattle.std.proofs.lemmas.List.Elements.{All-nil, All-cons, All-head, All-tail}
+use Rattle.std.proofs.lemmas.Bool.{le-ltb}
+use Rattle.pls_model.specs.declared.row.NodeRow.{NodeRow}
+use Rattle.pls_model.specs.Configuration.{ids_of}
+use Rattle.pls_netfile.specs.NetworkText.{AreRows, FitsRow}
+use Rattle.pls_labelfile.specs.Refusal.{refusal_of}
 use Rattle.pls_labelfile.specs.LabelsText.{NamedLabel, FitsLabel, named}
 use Rattle.pls_labelfile.specs.LabelsScan.{bits_of}
 use Rattle.pls_labelfile.specs.Misfit.{misfit}
@@ -79,3 +84,32 @@ named-take (x ∷ ids) (y ∷ labels) (suc i) id bits p q =
 pub named-all : (ids : List ℕ) (labels : List (List Bool)) (i : ℕ) → length ids ≤ i → length labels ≤ i
     → named (take i ids) (take i labels) ≡ named ids labels
 named-all ids labels i p q = rw (take_all i ids p, take_all i labels q) refl
+
+-- no label has more bits than all of them
+each_short : (labels : List (List Bool)) (most : ℕ) → sum_by length labels ≤ most → All (λ bits. length bits ≤ most) labels
+each_short [] most few = All-nil (λ bits. length bits ≤ most)
+each_short (bits ∷ labels) most few =
+    let sum = sum_by-cons (length {A = Bool}) bits labels in
+    All-cons (λ bits. length bits ≤ most) bits labels (omega arith) (each_short labels most (omega arith))
+
+-- the identities of rows that can stand in a text are below 2^32
+ids_small : (rows : List NodeRow) → All FitsRow rows → All (λ id. id < 2 ^ 32) (ids_of rows)
+ids_small [] fits = All-nil (λ id. id < 2 ^ 32)
+ids_small (row ∷ rows) fits =
+    All-cons (λ id. id < 2 ^ 32) row.id (ids_of rows) (All-head FitsRow row rows fits).id
+    (ids_small rows (All-tail FitsRow row rows fits))
+
+-- labels with few bits, named by the nodes of a network, can stand in a text
+pub net_labels_fit : (rows : List NodeRow) (labels : List (List Bool)) → AreRows rows → sum_by length labels ≤ 2 ^ 28
+    → All FitsLabel (named (ids_of rows) labels)
+net_labels_fit rows labels rows_fit few =
+    named_fit (ids_of rows) labels (ids_small rows rows_fit.each) (each_short labels (2 ^ 28) few)
+
+-- and nothing refuses them
+pub net_labels_accepted : (rows : List NodeRow) (labels : List (List Bool)) (heading : ℕ) → length labels ≡ length rows
+    → sum_by length labels ≤ 2 ^ 28 → refusal_of (ids_of rows) heading (named (ids_of rows) labels) ≡ None
+net_labels_accepted rows labels heading long few =
+    let ids_long : length labels ≡ length (ids_of rows) = long ∙ sym (length-map rows (λ row. row.id)) in
+    let test : nat_lt (2 ^ 28) (bits_of (named (ids_of rows) labels)) ≡ false =
+    le-ltb (2 ^ 28) (bits_of (named (ids_of rows) labels)) (omega (arith, bits_of-named (ids_of rows) labels ids_long)) in
+    rw (test, named_no_misfit (ids_of rows) labels ids_long) refl

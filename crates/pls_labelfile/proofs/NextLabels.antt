@@ -1,7 +1,6 @@
 -- The labels behind the heading of a labels part, one after another.
-use Rattle.std.proofs.Common.{◌≡◌, ◌≢◌, ℕ, ◌<◌, ◌≤◌, List, [], ◌∷◌, ◌++◌, map, Option, Some, None, IfSome, IfNone, codes, refl, sym, ◌∙◌, ap, subst, append-nil}
-use Rattle.std.specs.List.{All}
-use Rattle.std.proofs.lemmas.List.Elements.{All-head, All-tail, All-cons, All-nil}
+use Rattle.std.proofs.Common.{◌≡◌, ◌≢◌, ℕ, List, [], ◌∷◌, ◌++◌, Option, Some, None, IfSome, IfNone, codes, sym, ◌∙◌, ap, append-nil}
+use Rattle.std.proofs.lemmas.List.Elements.{All-head}
 use Rattle.pls_netfile.specs.Plain.{Lacks}
 use Rattle.pls_netfile.specs.Text.{text_of}
 use Rattle.pls_netfile.specs.Lines.{Left, Passes}

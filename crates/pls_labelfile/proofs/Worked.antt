@@ -1,8 +1,9 @@
--- The text of labels at a worked example.
-use Rattle.std.proofs.Common.{◌≡◌, true, false, [], ◌∷◌, ◌++◌, codes, refl}
+-- The text of labels, and which labels fit their nodes, at worked examples.
+use Rattle.std.proofs.Common.{◌≡◌, Some, None, true, false, [], ◌∷◌, ◌++◌, codes, refl}
 use Rattle.std.specs.Fmt.{digits}
 use Rattle.pls_bits.specs.Hex.{hex_digits}
-use Rattle.pls_labelfile.specs.LabelsText.{labels_text}
+use Rattle.pls_labelfile.specs.LabelsText.{labels_text, named}
+use Rattle.pls_labelfile.specs.Misfit.{misfit}
 
 -- labels of one bit, of none, and of nine
 some : labels_text (record { id = 1; bits = true ∷ [] } ∷ record { id = 20; bits = [] }
@@ -14,3 +15,18 @@ some : labels_text (record { id = 1; bits = true ∷ [] } ∷ record { id = 20; 
     ++ codes "\nend\n")))
 unfolding digits
 some = refl
+
+-- each node has its label
+all_fit : misfit (1 ∷ 20 ∷ []) (named (1 ∷ 20 ∷ []) ([] ∷ [] ∷ [])) ≡ None
+all_fit = refl
+
+-- the second label names another node
+other : misfit (1 ∷ 20 ∷ []) (named (1 ∷ 21 ∷ []) ([] ∷ [] ∷ [])) ≡ Some 1
+other = refl
+
+-- a label is missing, and there is one too many
+missing : misfit (1 ∷ 20 ∷ []) (named (1 ∷ []) ([] ∷ [])) ≡ Some 1
+missing = refl
+
+too_many : misfit (1 ∷ []) (named (1 ∷ 20 ∷ []) ([] ∷ [] ∷ [])) ≡ Some 1
+too_many = refl

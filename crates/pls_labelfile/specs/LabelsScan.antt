@@ -1,6 +1,5 @@
 -- What a reader of a labels part has passed, and what it keeps of the part.
-use Rattle.std.specs.Prelude.{◌≡◌, ℕ, ◌+◌, ◌-◌, ◌≤◌, ◌^◌, List, [], ◌∷◌, ◌++◌, map, length, min, sum_by, All, codes}
-use Rattle.pls_netfile.specs.Text.{text_of}
+use Rattle.std.specs.Prelude.{◌≡◌, ℕ, ◌-◌, ◌≤◌, ◌^◌, List, map, length, min, sum_by, All}
 use Rattle.pls_netfile.specs.Lines.{Left, Passes}
 use Rattle.pls_labelfile.specs.LabelsText.{NamedLabel, FitsLabel, label_line, labels_lines, labels_text}
 

@@ -1,4 +1,4 @@
-use Rattle.std.proofs.Common.{◌≡◌, ◌≤◌, length, ap, sym, ◌∙◌, arith}
+use Rattle.std.proofs.Common.{◌≡◌, ap, sym, ◌∙◌, arith}
 use Rattle.pls_labelfile.specs.LabelLine.{LabelWords}
 use Rattle.pls_labelfile.proofs.Filled.{nothing_read, is_behind, store_length, end_too_early, other_node, label_too_many, none_misfits, all_filled, one_filled_more}
 use Rattle.pls_labelfile.proofs.labels_build.fill.Goals as goal

@@ -1,4 +1,4 @@
-use Rattle.std.proofs.Common.{◌≡◌, ◌∙◌, ◌↔◌, ℕ, Err, List, ap, subst, sym, length}
+use Rattle.std.proofs.Common.{◌∙◌, ◌↔◌, ℕ, Err, List, ap, subst, length}
 use Rattle.std.specs.Prelude.{IfOk}
 use Rattle.std.specs.Result.{IsErrOf}
 use Rattle.std.proofs.lemmas.List.{length-map}

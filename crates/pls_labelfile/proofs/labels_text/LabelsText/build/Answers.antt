@@ -1,4 +1,4 @@
-use Rattle.std.proofs.Common.{◌≡◌, ap, subst, sym, ◌∙◌, option_map, arith}
+use Rattle.std.proofs.Common.{ap, subst, sym, ◌∙◌, option_map, arith}
 use Rattle.pls_model.specs.Configuration.{ids_of}
 use Rattle.pls_labelfile.specs.LabelsScan.{IsTold, Written}
 use Rattle.pls_labelfile.specs.Refusal.{misfit_error}
