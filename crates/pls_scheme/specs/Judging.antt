@@ -1,5 +1,5 @@
 -- Verdicts by numbered rules, and the round of all nodes.
-use Rattle.std.specs.Prelude.{◌≡◌, ℕ, ◌+◌, ◌≤◌, Bool, if◌then◌else◌, List, [], ◌∷◌, map, All}
+use Rattle.std.specs.Prelude.{◌≡◌, ℕ, ◌+◌, ◌≤◌, Bool, true, false, if◌then◌else◌, List, [], ◌∷◌, map, All}
 use Rattle.pls_model.specs.declared.row.NodeRow.{NodeRow}
 use Rattle.pls_model.specs.declared.verdict.Verdict.{Verdict}
 use Rattle.pls_model.specs.declared.verdict.Verdict.TheVariants.{Accept, Reject}
@@ -30,3 +30,8 @@ AllAccept judge rows labels = All (λ view. judge view ≡ Accept) (views rows l
 abbrev pub LeafWithin : ℕ → Verdict → Type 0
 LeafWithin leaves Accept = Unit {0}
 LeafWithin leaves (Reject leaf rule) = leaf ≤ leaves
+
+-- the verdict accepts
+abbrev pub accepts : Verdict → Bool
+accepts Accept = true
+accepts (Reject leaf rule) = false

@@ -8,10 +8,12 @@
 #![tactic(auto)]
 
 mod checker;
+mod consequences;
 mod property;
 mod scheme;
 
 pub use checker::Checker;
+pub use consequences::{certifies, has_spelling, spelled};
 pub use pls_model::Verdict;
 pub use property::Property;
 pub use scheme::Scheme;
