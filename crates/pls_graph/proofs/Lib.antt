@@ -1,3 +1,4 @@
+mod Worked
 pub mod Members
 pub mod Finds
 mod Rising

@@ -1,11 +1,12 @@
 -- Where the rows and the ports of a network are found.
 use Rattle.std.proofs.Common.{◌≡◌, ◌≢◌, ◌∙◌, ℕ, ◌<◌, true, false, not, ◌==◌, List, [], ◌∷◌, map, length, position, Option, Some, None, refl, ap, slice_get}
-use Rattle.std.specs.Option.{is_none, option_map_or, option_and_then}
+use Rattle.std.specs.Option.{is_none}
 use Rattle.std.proofs.lemmas.Bool.{eqb-true, eqb-false, leb-false, not-false}
 use Rattle.std.proofs.lemmas.Option.{same_Some}
 use Rattle.pls_model.specs.declared.row.Port.{Port}
 use Rattle.pls_model.specs.declared.row.NodeRow.{NodeRow}
 use Rattle.pls_model.specs.Configuration.{ids_of, row_of, port_to, has_repeat, links_itself, names_twice, names_unknown, lacks_way_back, differs_in_weight, points_nowhere, IsNetwork}
+use Rattle.pls_graph.specs.Ways.{lacks_back, differs_back}
 use Rattle.pls_graph.specs.Connected.{smallest_id}
 use Rattle.pls_graph.proofs.Finds.{position-placed, find-placed, found_place, fails_at, fails_where_none}
 use Rattle.pls_graph.proofs.Rising.{RiseFrom, rises, ids_apart, above_at, smallest-first}
@@ -32,8 +33,10 @@ module _ (rows : List NodeRow) (net : IsNetwork rows) where
   valid = nothing_refused rows net.valid
 
   -- identities rise with places
-  pub ids_rise : (i j : ℕ) (row later : NodeRow) → i < j → slice_get rows i ≡ Some row → slice_get rows j ≡ Some later → row.id < later.id
-  ids_rise i j row later before at then = above_at 0 rows i j row later (rises rows valid.order) before at then
+  pub ids_rise : (i j : ℕ) (row later : NodeRow) → i < j → slice_get rows i ≡ Some row
+      → slice_get rows j ≡ Some later → row.id < later.id
+  ids_rise i j row later before at then =
+      above_at 0 rows i j row later (rises rows valid.order) before at then
 
   -- no identity stands at two places
   pub ids_differ : has_repeat (ids_of rows) ≡ false
@@ -43,14 +46,18 @@ module _ (rows : List NodeRow) (net : IsNetwork rows) where
   pub smallest_first : (row : NodeRow) → slice_get rows 0 ≡ Some row → smallest_id rows ≡ row.id
   smallest_first row at = by rows (rises rows valid.order) at
     where
-      by : (rows : List NodeRow) → RiseFrom 0 rows → slice_get rows 0 ≡ Some row → smallest_id rows ≡ row.id
+      by : (rows : List NodeRow) → RiseFrom 0 rows → slice_get rows 0 ≡ Some row
+          → smallest_id rows ≡ row.id
       by [] rise at = absurd (cc)
-      by (first ∷ rows) rise at = smallest-first first rows rise.1 ∙ ap (λ (row : NodeRow). row.id) (same_Some first row at)
+      by (first ∷ rows) rise at = smallest-first first rows rise.1
+          ∙ ap (λ (row : NodeRow). row.id) (same_Some first row at)
 
   -- what is found by an identity has it, and stands at a place
-  pub row_place : (id : ℕ) (row : NodeRow) → row_of rows id ≡ Some row → (i : ℕ) × (slice_get rows i ≡ Some row) × (id ≡ row.id)
+  pub row_place : (id : ℕ) (row : NodeRow) → row_of rows id ≡ Some row
+      → (i : ℕ) × (slice_get rows i ≡ Some row) × (id ≡ row.id)
   row_place id row found =
-      let place : (i : ℕ) × (slice_get rows i ≡ Some row) × ((id == row.id) ≡ true) = found_place (λ row. id == row.id) rows row found in
+      let place : (i : ℕ) × (slice_get rows i ≡ Some row) × ((id == row.id) ≡ true) =
+      found_place (λ row. id == row.id) rows row found in
       (place.0, place.1, eqb-true id row.id place.2)
 
   module _ (i : ℕ) (row : NodeRow) (at : slice_get rows i ≡ Some row) where
@@ -82,24 +89,32 @@ module _ (rows : List NodeRow) (net : IsNetwork rows) where
 
       -- a port names another node
       pub names_another : row.id ≢ port.nbr
-      names_another = eqb-false row.id port.nbr (fails_at (λ (port : Port). row.id == port.nbr) row.ports p port (fails_where_none links_itself rows i row valid.self_link at) has)
+      names_another = eqb-false row.id port.nbr
+          (fails_at (λ (port : Port). row.id == port.nbr) row.ports p port
+          (fails_where_none links_itself rows i row valid.self_link at) has)
 
       -- a port names a row
       pub neighbour_found : (other : NodeRow) × (row_of rows port.nbr ≡ Some other)
-      neighbour_found = known (row_of rows port.nbr) (fails_at (λ (port : Port). is_none (row_of rows port.nbr)) row.ports p port (fails_where_none (names_unknown rows) rows i row valid.unknown at) has)
+      neighbour_found = known (row_of rows port.nbr)
+          (fails_at (λ (port : Port). is_none (row_of rows port.nbr)) row.ports p port
+          (fails_where_none (names_unknown rows) rows i row valid.unknown at) has)
 
       -- the row that a port names has a port back of the same weight
       pub way_back : WayBack rows row port
       way_back =
           let found : (other : NodeRow) × (row_of rows port.nbr ≡ Some other) = neighbour_found in
-          let lacks = fails_at (λ (port : Port). option_map_or (λ other. is_none (port_to other row.id)) (row_of rows port.nbr) false) row.ports p port (fails_where_none (lacks_way_back rows) rows i row valid.one_way at) has in
-          let back : Known (port_to found.0 row.id) = known (port_to found.0 row.id) (rw found.1 at lacks) in
-          let differs = fails_at (λ (port : Port). option_map_or (λ back. not (port.weight == back.weight)) (option_and_then (λ other. port_to other row.id) (row_of rows port.nbr)) false) row.ports p port (fails_where_none (differs_in_weight rows) rows i row valid.weights at) has in
+          let lacks = fails_at (lacks_back rows row) row.ports p port
+          (fails_where_none (lacks_way_back rows) rows i row valid.one_way at) has in
+          let back : Known (port_to found.0 row.id) =
+          known (port_to found.0 row.id) (rw found.1 at lacks) in
+          let differs = fails_at (differs_back rows row) row.ports p port
+          (fails_where_none (differs_in_weight rows) rows i row valid.weights at) has in
           let same : not (port.weight == back.0.weight) ≡ false = rw (found.1, back.1) at differs in
           record {
             other = found.0;
             back = back.0;
             named = found.1;
             returns = back.1;
-            weight = eqb-true port.weight back.0.weight (not-false (port.weight == back.0.weight) same);
+            weight = eqb-true port.weight back.0.weight
+                (not-false (port.weight == back.0.weight) same);
           }

@@ -20,11 +20,13 @@ Spreads-none marks stack = record {
 
 -- the places of one list and then those of another
 pub Spreads-append : (old mid new : List Bool) (stack later last : List ℕ) (places others : List ℕ)
-    → Spreads old mid stack later places → Spreads mid new later last others → Spreads old new stack last (places ++ others)
+    → Spreads old mid stack later places → Spreads mid new later last others
+    → Spreads old new stack last (places ++ others)
 Spreads-append old mid new stack later last places others s t = record {
   size = t.size ∙ s.size;
   kept = λ place marked. t.kept place (s.kept place marked);
-  all = λ place in'. elim (Contains-append_cases places others place in') [ inl one ↦ t.kept place (s.all place one) | inr other ↦ t.all place other ];
+  all = λ place in'. elim (Contains-append_cases places others place in')
+      [ inl one ↦ t.kept place (s.all place one) | inr other ↦ t.all place other ];
   fresh = λ place marked. elim (t.fresh place marked) [
     | inl before ↦ elim (s.fresh place before) [
       | inl old ↦ inl old
@@ -34,7 +36,8 @@ Spreads-append old mid new stack later last places others s t = record {
   ];
   stacked = λ place in'. t.stacked place (s.stacked place in');
   marked = λ place in'. elim (t.marked place in') [
-    | inl before ↦ elim (s.marked place before) [ inl old ↦ inl old | inr new ↦ inr (t.kept place new) ]
+    | inl before ↦ elim (s.marked place before)
+        [ inl old ↦ inl old | inr new ↦ inr (t.kept place new) ]
     | inr new ↦ inr new
   ];
   left = t.left ∙ s.left;
@@ -42,7 +45,8 @@ Spreads-append old mid new stack later last places others s t = record {
 
 module _ (marks : List Bool) (stack : List ℕ) (place : ℕ) where
   only : (other : ℕ) → Contains (place ∷ []) other → place ≡ other
-  only other in' = elim (Contains-push_cases [] place other in') [ inl before ↦ absurd (omega (arith, before.1)) | inr same ↦ same ]
+  only other in' = elim (Contains-push_cases [] place other in')
+      [ inl before ↦ absurd (omega (arith, before.1)) | inr same ↦ same ]
 
   -- a place that is marked already
   pub Spreads-marked : IsMarked marks place → Spreads marks marks stack stack (place ∷ [])
@@ -60,23 +64,39 @@ module _ (marks : List Bool) (stack : List ℕ) (place : ℕ) where
     here : IsMarked (set marks place true) place
     here = get_or-set_same marks place true false within
 
-    elsewhere : (other : ℕ) → (place ≡ other → ⊥) → get_or (set marks place true) other false ≡ get_or marks other false
-    elsewhere other apart = let differs : other ≢ place = λ e. apart (sym e) in get_or-set_other marks place other true false differs
+    elsewhere : (other : ℕ) → (place ≡ other → ⊥)
+        → get_or (set marks place true) other false ≡ get_or marks other false
+    elsewhere other apart = let differs : other ≢ place =
+        λ e. apart (sym e) in get_or-set_other marks place other true false differs
 
     -- a place that is not marked
     pub Spreads-new : Spreads marks (set marks place true) stack (stack ++ place ∷ []) (place ∷ [])
     Spreads-new = record {
       size = length-set marks place true;
-      kept = λ other marked. elim (cases_eq place other) [ inl same ↦ subst (IsMarked (set marks place true)) same here | inr apart ↦ elsewhere other apart ∙ marked ];
+      kept = λ other marked. elim (cases_eq place other) [
+        | inl same ↦ subst (IsMarked (set marks place true)) same here
+        | inr apart ↦ elsewhere
+            other apart ∙ marked
+      ];
       all = λ other in'. subst (IsMarked (set marks place true)) (only other in') here;
       fresh = λ other marked. elim (cases_eq place other) [
-        | inl same ↦ inr (subst (Contains (place ∷ [])) same (Contains-push [] place), subst (Contains (stack ++ place ∷ [])) same (Contains-push stack place))
+        | inl same ↦ inr (
+          subst (Contains (place ∷ [])) same (Contains-push [] place),
+          subst (Contains (stack ++ place ∷ [])) same (Contains-push stack place),
+        )
         | inr apart ↦ inl (sym (elsewhere other apart) ∙ marked)
       ];
       stacked = λ other in'. Contains-append_left stack (place ∷ []) other in';
-      marked = λ other in'. elim (Contains-push_cases stack place other in') [ inl old ↦ inl old | inr same ↦ inr (subst (IsMarked (set marks place true)) same here) ];
+      marked = λ other in'. elim (Contains-push_cases stack place other in') [
+        | inl old ↦ inl old
+        | inr same ↦ inr
+            (subst (IsMarked (set marks place true)) same here)
+      ];
       left =
-          let sum : count_by not (set marks place true) + cond (not (get_or marks place false)) 1 0 ≡ count_by not marks + 0 = sum_by-set (λ mark. cond (not mark) 1 0) marks place true false within in
-          let one : count_by not (set marks place true) + 1 ≡ count_by not marks + 0 = rw blank at sum in
+          let sum : count_by not (set marks place true) + cond (not (get_or marks place false)) 1 0
+          ≡ count_by not marks + 0 = sum_by-set
+          (λ mark. cond (not mark) 1 0) marks place true false within in
+          let one : count_by not (set marks place true) + 1 ≡ count_by not marks + 0 =
+          rw blank at sum in
           omega (arith, length-append stack (place ∷ []));
     }

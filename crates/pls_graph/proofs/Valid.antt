@@ -36,6 +36,7 @@ nothing_refused rows valid =
       pointer = pointer.0;
     }
   where
-    first : (f : NodeRow → BuildError) (o : Option NodeRow) (later : Option BuildError) → option_or (option_map f o) later ≡ None → (o ≡ None) × (later ≡ None)
+    first : (f : NodeRow → BuildError) (o : Option NodeRow) (later : Option BuildError)
+        → option_or (option_map f o) later ≡ None → (o ≡ None) × (later ≡ None)
     first f None later none = (refl, none)
     first f (Some row) later none = absurd (cc)

@@ -24,17 +24,21 @@ pub record Spreads (old new : List Bool) (stack later : List ℕ) (places : List
   pub size : length new ≡ length old
   pub kept : (place : ℕ) → IsMarked old place → IsMarked new place
   pub all : (place : ℕ) → Contains places place → IsMarked new place
-  pub fresh : (place : ℕ) → IsMarked new place → IsMarked old place ⊎ (Contains places place × Contains later place)
+  pub fresh : (place : ℕ) → IsMarked new place
+      → IsMarked old place ⊎ (Contains places place × Contains later place)
   pub stacked : (place : ℕ) → Contains stack place → Contains later place
   pub marked : (place : ℕ) → Contains later place → Contains stack place ⊎ IsMarked new place
   pub left : count_by not new + length later ≡ count_by not old + length stack
 
 -- so a search marks the places
 abbrev pub Marks : Search → Search → List ℕ → Type 0
-Marks old new places = Spreads old.reached.items new.reached.items old.stack.items new.stack.items places
+Marks old new places = Spreads old.reached.items new.reached.items old.stack.items new.stack.items
+    places
 
 -- just the places are marked whose nodes a walk joins to the smallest node
 pub record IsReach (rows : List NodeRow) (marks : List Bool) : Type 0 where
   pub size : length marks ≡ length rows
-  pub joined : (place : ℕ) (row : NodeRow) → slice_get rows place ≡ Some row → IsMarked marks place → AreJoined (edges_of rows) (smallest_id rows) row.id
-  pub marked : (place : ℕ) (row : NodeRow) → slice_get rows place ≡ Some row → AreJoined (edges_of rows) (smallest_id rows) row.id → IsMarked marks place
+  pub joined : (place : ℕ) (row : NodeRow) → slice_get rows place ≡ Some row → IsMarked marks place
+      → AreJoined (edges_of rows) (smallest_id rows) row.id
+  pub marked : (place : ℕ) (row : NodeRow) → slice_get rows place ≡ Some row
+      → AreJoined (edges_of rows) (smallest_id rows) row.id → IsMarked marks place

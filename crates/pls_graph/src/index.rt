@@ -6,7 +6,7 @@ ghost use Rattle.pls_model.specs.Configuration.{out_of_order, names_twice, names
 ghost use Rattle.pls_model.specs.declared.limits.TheConstants.{MAX_PORTS};
 ghost use Rattle.pls_model.specs.declared.refusal.BuildError.TheVariants.{Twice};
 ghost use Rattle.pls_graph.specs.Build.{Tells};
-ghost use Rattle.pls_graph.specs.Ways.{weight_in, weight_between, is_mutual};
+ghost use Rattle.pls_graph.specs.Ways.{weight_in, weight_between, lacks_back, differs_back, agrees_back, is_mutual};
 
 use crate::size::count_ports;
 use indexmap::{IndexMap, IndexSet};
@@ -65,14 +65,14 @@ impl<'a> Index<'a> {
         ids
     }
 
-    /// Whether a row has the identity.
+    // Whether a row has the identity.
     fn knows(&self, id: u32) -> bool
         ensures { result ≡ is_some (row_of self.now id) }
     {
         self.ids.contains(&id)
     }
 
-    /// The weight of the port by which the row of an owner names a neighbour.
+    // The weight of the port by which the row of an owner names a neighbour.
     fn weight(&self, owner: u32, nbr: u32) -> Option<u32>
         ensures { result ≡ weight_between self.now owner nbr }
     {
@@ -96,15 +96,14 @@ impl<'a> Index<'a> {
         row.ports
             .as_slice()
             .iter()
-            .any(|port| self.has_no_way_back(row.id, port.nbr))
+            .any(|port| self.lacks_back(row, *port))
     }
 
-    /// Whether the neighbour is a row that has no port to the identity.
-    fn has_no_way_back(&self, id: u32, nbr: u32) -> bool
-        ensures { result
-            ≡ option_map_or (λ other. is_none (port_to other id)) (row_of self.now nbr) false }
+    // Whether the port names a row that has no port back.
+    fn lacks_back(&self, row: &NodeRow, port: Port) -> bool
+        ensures { result ≡ lacks_back self.now row.now port }
     {
-        self.weight(nbr, id).is_none() && self.knows(nbr)
+        self.weight(port.nbr, row.id).is_none() && self.knows(port.nbr)
     }
 
     /// Whether a port of the row weighs otherwise than the port back.
@@ -114,15 +113,14 @@ impl<'a> Index<'a> {
         row.ports
             .as_slice()
             .iter()
-            .any(|port| self.differs_back(row.id, *port))
+            .any(|port| self.differs_back(row, *port))
     }
 
-    /// Whether a port of the node weighs otherwise than the port back.
-    fn differs_back(&self, id: u32, port: Port) -> bool
-        ensures { result ≡ option_map_or (λ weight. not (port.weight == weight))
-            (weight_between self.now port.nbr id) false }
+    // Whether the port weighs otherwise than the port back.
+    fn differs_back(&self, row: &NodeRow, port: Port) -> bool
+        ensures { result ≡ differs_back self.now row.now port }
     {
-        self.weight(port.nbr, id)
+        self.weight(port.nbr, row.id)
             .is_some_and(|weight| port.weight != weight)
     }
 
@@ -133,20 +131,19 @@ impl<'a> Index<'a> {
         row.ports
             .as_slice()
             .iter()
-            .all(|port| self.agrees_back(row.id, *port))
+            .all(|port| self.agrees_back(row, *port))
     }
 
-    /// Whether a port of the node has a port back of the same weight.
-    fn agrees_back(&self, id: u32, port: Port) -> bool
-        ensures { result ≡ option_map_or (λ weight. port.weight == weight)
-            (weight_between self.now port.nbr id) false }
+    // Whether the port has a port back of the same weight.
+    fn agrees_back(&self, row: &NodeRow, port: Port) -> bool
+        ensures { result ≡ agrees_back self.now row.now port }
     {
-        self.weight(port.nbr, id)
+        self.weight(port.nbr, row.id)
             .is_some_and(|weight| port.weight == weight)
     }
 }
 
-/// The identities of rows, in their order.
+// The identities of rows, in their order.
 fn identities(alloc: Global, rows: &[NodeRow]) -> Result<IndexSet<u32>, AllocError>
     requires { out_of_order rows.now ≡ None }
     ensures { IfOk result (λ ids. ids.keys ≡ ids_of rows.now) }
@@ -158,7 +155,7 @@ fn identities(alloc: Global, rows: &[NodeRow]) -> Result<IndexSet<u32>, AllocErr
     Ok(ids)
 }
 
-/// The weight of each port by its owner and the node that it names, unless a row names one twice.
+// The weight of each port by its owner and the node that it names, unless a row names one twice.
 fn ways_of(alloc: Global, rows: &[NodeRow]) -> Result<IndexMap<(u32, u32), u32>, BuildError>
     requires order { out_of_order rows.now ≡ None }
     requires few_ports { ports_in rows.now ≤ MAX_PORTS }
@@ -177,8 +174,8 @@ fn ways_of(alloc: Global, rows: &[NodeRow]) -> Result<IndexMap<(u32, u32), u32>,
     Ok(ways)
 }
 
-/// Puts the ports of a row of a new identity into the table. True where two name one node: then not
-/// all are in it.
+// Puts the ports of a row of a new identity into the table. True where two name one node: then not
+// all are in it.
 fn add_ports(ways: &mut IndexMap<(u32, u32), u32>, row: &NodeRow) -> Result<bool, AllocError>
     requires new { (nbr : ℕ) → weight_in ways.old row.now.id nbr ≡ None }
     ensures twice { IfOk result (λ twice. twice ≡ names_twice row.now) }

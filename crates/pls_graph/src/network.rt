@@ -34,8 +34,9 @@ impl Model for Network {
 }
 
 impl Network {
-    /// The network of these rows, in their order. Where they are none, the error is the first of the
-    /// conditions of [`BuildError`] that occurs, with the identity of the first row at which it does.
+    /// The network of these rows, in their order. Where they are none, the error is the first of
+    /// the conditions of [`BuildError`] that occurs, with the identity of the first row at which it
+    /// does; the conditions are tried in the order of its variants.
     pub fn build(alloc: Global, rows: Vec<NodeRow>) -> Result<Network, BuildError>
         requires within_limits { AreWithinLimits rows.items }
         ensures ok { IfOk result (λ network. network ≡ rows.items) }
@@ -46,7 +47,7 @@ impl Network {
         Ok(Network { rows, ids })
     }
 
-    /// The number of nodes.
+    /// The number of nodes, at least 1. `valid` says what holds of each network.
     pub fn len(&self) -> usize
         ensures len { result ≡ length self.now }
         ensures valid { IsNetwork self.now }

@@ -24,14 +24,14 @@ pub fn connected(alloc: Global, net: &Network) -> Result<Option<u32>, NoMemory>
     }
 }
 
-/// The first place that is not reached.
+// The first place that is not reached.
 fn first_blank(reached: &[bool]) -> Option<usize>
     ensures { result ≡ position not reached.now }
 {
     reached.iter().position(|reached| !*reached)
 }
 
-/// Which places have a node that a walk joins to the smallest.
+// Which places have a node that a walk joins to the smallest.
 fn reach(alloc: Global, net: &Network) -> Result<Vec<bool>, NoMemory>
     ensures reached { IfOk result (λ reached. IsReach net.now reached.items) }
     ensures valid { IsNetwork net.now }
@@ -47,8 +47,8 @@ fn reach(alloc: Global, net: &Network) -> Result<Vec<bool>, NoMemory>
     Ok(reached)
 }
 
-/// A search over the places of a network: which are reached, and those whose neighbours are still to
-/// be marked.
+// A search over the places of a network: which are reached, and those whose neighbours are still to
+// be marked.
 #[derive(Drop)]
 struct Search {
     reached: Vec<bool>,
@@ -56,7 +56,7 @@ struct Search {
 }
 
 impl Search {
-    /// Marks the places that ports name.
+    // Marks the places that ports name.
     fn mark_named(&mut self, net: &Network, ports: &[Port]) -> Result<(), NoMemory>
         requires sized { length self.old.reached.items ≡ length net.now }
         requires known { All (λ port. IsSome (row_of net.now port.nbr)) ports.now }
@@ -68,7 +68,7 @@ impl Search {
         Ok(())
     }
 
-    /// Marks a place, and puts it on the stack where it was not marked.
+    // Marks a place, and puts it on the stack where it was not marked.
     fn mark(&mut self, place: usize) -> Result<(), NoMemory>
         requires { place < length self.old.reached.items }
         ensures { OnOk result (Marks self.old self.new (place ∷ [])) }
@@ -81,7 +81,7 @@ impl Search {
     }
 }
 
-/// The place of an identity that is known.
+// The place of an identity that is known.
 fn known_place(net: &Network, id: u32) -> usize
     requires { IsSome (row_of net.now id) }
     ensures place { result ≡ place_in net.now id }

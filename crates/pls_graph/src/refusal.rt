@@ -35,6 +35,7 @@ pub(crate) fn checked_ids(alloc: Global, rows: &[NodeRow]) -> Result<IndexSet<u3
     Ok(index.into_ids())
 }
 
+// Identities that do not rise.
 fn order(rows: &[NodeRow]) -> Option<BuildError>
     requires { 1 ≤ length rows.now }
     ensures { result ≡ option_map (λ row. Order row.id) (out_of_order rows.now) }
@@ -47,6 +48,7 @@ fn order(rows: &[NodeRow]) -> Option<BuildError>
     None
 }
 
+// A port to its own node.
 fn self_link(rows: &[NodeRow]) -> Option<BuildError>
     ensures { result ≡ option_map (λ row. SelfLink row.id) (find links_itself rows.now) }
 {
@@ -55,15 +57,15 @@ fn self_link(rows: &[NodeRow]) -> Option<BuildError>
         .map(|row| BuildError::SelfLink(row.id))
 }
 
-/// Whether a port names the row's own node.
+// Whether a port names the row's own node.
 fn links_itself(row: &NodeRow) -> bool
     ensures { result ≡ links_itself row.now }
 {
     row.ports.as_slice().iter().any(|port| row.id == port.nbr)
 }
 
-/// The first refusal that looks at what a port names. The tests apart are tried only where some row
-/// fails all of them together, since each looks up every port.
+// The first refusal that looks at what a port names. The tests apart are tried only where some row
+// fails all of them together, since each looks up every port.
 fn naming(rows: &[NodeRow], index: &Index<'_>) -> Option<BuildError>
     requires { index.now ≡ rows.now }
     ensures { result ≡ first_of (
@@ -84,13 +86,14 @@ fn naming(rows: &[NodeRow], index: &Index<'_>) -> Option<BuildError>
     weights(rows, index)
 }
 
-/// Whether each port of the rows has a port back of the same weight.
+// Whether each port of the rows has a port back of the same weight.
 fn are_mutual(rows: &[NodeRow], index: &Index<'_>) -> bool
     ensures { result ≡ list_all (is_mutual index.now) rows.now }
 {
     rows.iter().all(|row| index.is_mutual(row))
 }
 
+// A port to a node that is not there.
 fn unknown(rows: &[NodeRow], index: &Index<'_>) -> Option<BuildError>
     ensures { result ≡ option_map (λ row. Unknown row.id)
         (find (names_unknown index.now) rows.now) }
@@ -100,6 +103,7 @@ fn unknown(rows: &[NodeRow], index: &Index<'_>) -> Option<BuildError>
         .map(|row| BuildError::Unknown(row.id))
 }
 
+// A port without a port back.
 fn one_way(rows: &[NodeRow], index: &Index<'_>) -> Option<BuildError>
     ensures { result ≡ option_map (λ row. OneWay row.id)
         (find (lacks_way_back index.now) rows.now) }
@@ -109,6 +113,7 @@ fn one_way(rows: &[NodeRow], index: &Index<'_>) -> Option<BuildError>
         .map(|row| BuildError::OneWay(row.id))
 }
 
+// A port that weighs otherwise than the port back.
 fn weights(rows: &[NodeRow], index: &Index<'_>) -> Option<BuildError>
     ensures { result ≡ option_map (λ row. Weights row.id)
         (find (differs_in_weight index.now) rows.now) }
@@ -118,6 +123,7 @@ fn weights(rows: &[NodeRow], index: &Index<'_>) -> Option<BuildError>
         .map(|row| BuildError::Weights(row.id))
 }
 
+// A pointer to no port.
 fn pointer(rows: &[NodeRow]) -> Option<BuildError>
     ensures { result ≡ option_map (λ row. Pointer row.id) (find points_nowhere rows.now) }
 {
@@ -126,7 +132,7 @@ fn pointer(rows: &[NodeRow]) -> Option<BuildError>
         .map(|row| BuildError::Pointer(row.id))
 }
 
-/// Whether the pointer names no port of the row.
+// Whether the pointer names no port of the row.
 fn points_nowhere(row: &NodeRow) -> bool
     ensures { result ≡ points_nowhere row.now }
 {
