@@ -1,6 +1,8 @@
 //! Lines of a text, and the text of a network.
 #![tactic(auto)]
 
+#[cfg(test)]
+mod file_tests;
 mod laws;
 mod line_kind;
 mod lines;
