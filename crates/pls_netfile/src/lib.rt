@@ -13,12 +13,15 @@
 //!
 //! `specs/NetworkText` says how a network is written. [`scan_network`] passes one network part, or
 //! names its first faulty line; the [`NetworkText`] that it gives lends the text, counts its nodes
-//! and ports, and gives their rows. Laws: a text fixes its network ([`one_network`]), and it has one
+//! and ports, gives their rows, and builds their network. [`read_network`] and [`write_network`] are
+//! inverse to each other ([`read_written`], [`write_read`]). Laws: a text fixes its network ([`one_network`]), and it has one
 //! first faulty line at most ([`one_first_fault`]), none where it is the text of a network
 //! ([`no_fault`]).
 #![tactic(auto)]
 
 mod cut;
+#[cfg(test)]
+mod file_tests;
 mod laws;
 mod line_kind;
 mod lines;
