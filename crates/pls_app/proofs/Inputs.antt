@@ -31,25 +31,34 @@ use Rattle.pls_app.specs.Scanned.{IsFormError, IsNoInput, IsScanned}
 -- a fault in the network part is the first fault of the input
 pub fault_in_network : (bytes : List ℕ) (old : Left) (error : TextError) → old.number ≡ 1 → old.rest ≡ bytes → IsFormFault IsNetworkPart old error → IsFormError bytes error
 fault_in_network bytes old error first rest fault =
-    let none : All FitsLabel [] = λ k d within. absurd (omega (arith, within)) in
-    (fault.0, fault.1, fault_of_text IsInputLines bytes old fault.0 first rest
-      (fault_in_first IsNetworkPart IsLabelsPart (labels_lines []) old fault.0 network_is_part (is_labels_part [] none) fault.2))
+    let none : All FitsLabel [] = λ k d within. absurd (omega (arith, within)) in (
+      fault.0,
+      fault.1,
+      fault_of_text IsInputLines bytes old fault.0 first rest
+          (fault_in_first IsNetworkPart IsLabelsPart (labels_lines []) old fault.0 network_is_part (is_labels_part [] none) fault.2),
+    )
 
 -- a fault in the labels part
 pub fault_in_labels : (bytes : List ℕ) (old mid : Left) (network : WrittenNetwork) (error : TextError) → old.number ≡ 1 → old.rest ≡ bytes → PassesNetwork old mid network
     → IsFormFault IsLabelsPart mid error → IsFormError bytes error
-fault_in_labels bytes old mid network error first rest passes fault =
-    (fault.0, fault.1, fault_of_text IsInputLines bytes old fault.0 first rest
+fault_in_labels bytes old mid network error first rest passes fault = (
+  fault.0,
+  fault.1,
+  fault_of_text IsInputLines bytes old fault.0 first rest
       (fault_in_second IsNetworkPart IsLabelsPart (network_lines passes.rows) old mid fault.0 network_is_part labels_part (rows_are_part passes.rows passes.tells.fits) passes.passed
-        (fault_alone IsLabelsPart mid fault.0 labels_part fault.2)))
+      (fault_alone IsLabelsPart mid fault.0 labels_part fault.2)),
+)
 
 -- something left over behind the parts
 pub fault_left_over : (bytes : List ℕ) (old mid now : Left) (network : WrittenNetwork) (labels : WrittenLabels) → old.number ≡ 1 → old.rest ≡ bytes → PassesNetwork old mid network
     → PassesPart mid now labels → (now.rest ≡ [] → ⊥) → IsFormError bytes (Form now.number)
-fault_left_over bytes old mid now network labels first rest passes passes_labels some =
-    (now.number, refl, fault_of_text IsInputLines bytes old now.number first rest
+fault_left_over bytes old mid now network labels first rest passes passes_labels some = (
+  now.number,
+  refl,
+  fault_of_text IsInputLines bytes old now.number first rest
       (fault_in_second IsNetworkPart IsLabelsPart (network_lines passes.rows) old mid now.number network_is_part labels_part (rows_are_part passes.rows passes.tells.fits) passes.passed
-        (fault_behind IsLabelsPart (labels_lines passes_labels.labels) mid now labels_part (is_labels_part passes_labels.labels passes_labels.tells.fits) passes_labels.passed some)))
+      (fault_behind IsLabelsPart (labels_lines passes_labels.labels) mid now labels_part (is_labels_part passes_labels.labels passes_labels.tells.fits) passes_labels.passed some)),
+)
 
 -- the labels of nodes fit where each is one bit
 named_fit : (rows : List NodeRow) (labels : List (List Bool)) → All FitsRow rows → All (λ label. length label ≡ 1) labels → All FitsLabel (named (ids_of rows) labels)
@@ -126,7 +135,7 @@ pub no_input_by_rows : (bytes : List ℕ) (network : WrittenNetwork) (text : Wri
     → ((rows : List NodeRow) → TellsNetwork network rows → IsRefusedBuild rows error) → IsNoInput bytes error
 no_input_by_rows bytes network text error scanned refused =
     no_input bytes error (λ some rows labels input.
-      not_refused rows error input.parts.network some (refused rows (same_parts bytes network text rows labels scanned input).tells_rows))
+    not_refused rows error input.parts.network some (refused rows (same_parts bytes network text rows labels scanned input).tells_rows))
 
 -- one bit a label
 bits_of-single : (ids : List ℕ) (labels : List (List Bool)) → All (λ label. length label ≡ 1) labels → bits_of (named ids labels) ≤ length ids
@@ -171,13 +180,13 @@ pub no_input_by_labels : (bytes : List ℕ) (network : WrittenNetwork) (text : W
     → ((labels : List NamedLabel) → TellsLabels text.text labels → IsRefusal (ids_of net) text.number labels error) → IsNoInput bytes error
 no_input_by_labels bytes network text net error scanned built refused =
     no_input bytes error (λ some rows labels input.
-      let same = same_parts bytes network text rows labels scanned input in
-      let is_net : net ≡ rows = built rows same.tells_rows in
-      let parts : List NamedLabel = named (ids_of rows) labels in
-      let here : IsRefusal (ids_of rows) text.number parts error = subst (λ (net : List NodeRow). IsRefusal (ids_of net) text.number parts error) is_net (refused parts same.tells_labels) in
-      let told = refusal_is (ids_of rows) text.number parts error some here in
-      let none : None ≡ Some error = sym (labels_accepted rows labels text.number input.parts) ∙ told in
-      cc)
+    let same = same_parts bytes network text rows labels scanned input in
+    let is_net : net ≡ rows = built rows same.tells_rows in
+    let parts : List NamedLabel = named (ids_of rows) labels in
+    let here : IsRefusal (ids_of rows) text.number parts error = subst (λ (net : List NodeRow). IsRefusal (ids_of net) text.number parts error) is_net (refused parts same.tells_labels) in
+    let told = refusal_is (ids_of rows) text.number parts error some here in
+    let none : None ≡ Some error = sym (labels_accepted rows labels text.number input.parts) ∙ told in
+    cc)
 
 -- the bits of named labels are the labels
 bits-named : (ids : List ℕ) (labels : List (List Bool)) → length labels ≡ length ids → map (λ label. label.bits) (named ids labels) ≡ labels
@@ -228,3 +237,17 @@ input_of bytes network text net store short scanned built valid stored names one
 -- a test that failed does not hold
 pub no_truth : (b : Bool) → b ≡ false → b ≡ true → ⊥
 no_truth b fails holds = cc
+
+-- the bytes of an input fix its parts
+pub one_input : (bytes : List ℕ) (rows other_rows : List NodeRow) (labels other_labels : List (List Bool)) → IsInput bytes rows labels → IsInput bytes other_rows other_labels
+    → (rows ≡ other_rows) × (labels ≡ other_labels)
+one_input bytes rows other_rows labels other_labels one other =
+    let parts : List NamedLabel = named (ids_of rows) labels in
+    let other_parts : List NamedLabel = named (ids_of other_rows) other_labels in
+    let first = one_network rows other_rows (labels_text parts) (labels_text other_parts) one.parts.ranges other.parts.ranges (sym one.is ∙ other.is) in
+    let ends : labels_text parts ++ [] ≡ labels_text other_parts ++ [] = ap (λ (text : List ℕ). text ++ []) first.1 in
+    let second = one_labels parts other_parts [] [] (parts_fit rows labels one.parts) (parts_fit other_rows other_labels other.parts) ends in
+    let bits : List NamedLabel → List (List Bool) = map (λ label. label.bits) in
+    let mine : bits parts ≡ labels = bits-named (ids_of rows) labels (one.parts.each ∙ sym (length-map rows (λ (row : NodeRow). row.id))) in
+    let others : bits other_parts ≡ other_labels = bits-named (ids_of other_rows) other_labels (other.parts.each ∙ sym (length-map other_rows (λ (row : NodeRow). row.id))) in
+    (first.0, sym mine ∙ ap bits second.0 ∙ others)

@@ -1,4 +1,5 @@
 mod Inputs
+mod OneAnswer
 mod Outcomes
 mod Proved
 mod Reports

@@ -24,7 +24,7 @@ use Rattle.pls_app.specs.Run.{HasRead, IsAnswered, Tells, TellsPart, Told}
 pub tells : (words : List (List ℕ)) (bytes : List ℕ) (answer : Answer) (status : Status) (before after : ℕ) (old new : Option (List ℕ)) → IsAnswer words bytes answer
     → Told answer.status status before after old new answer.text → IsAnswered status → Tells words bytes status old new
 tells words bytes answer status before after old new is told answered = elim told [
-    inl whole ↦ record { answer = answer; is = is; ends = whole.0; took = whole.1 }
+  | inl whole ↦ record { answer = answer; is = is; ends = whole.0; took = whole.1 }
   | inr part ↦ absurd (rw part.0 at answered)
 ]
 
@@ -32,7 +32,7 @@ tells words bytes answer status before after old new is told answered = elim tol
 pub tells_part : (words : List (List ℕ)) (bytes : List ℕ) (answer : Answer) (status : Status) (before after : ℕ) (old new : Option (List ℕ)) → IsAnswer words bytes answer → IsAnswered answer.status
     → Told answer.status status before after old new answer.text → status ≡ WriteFault → TellsPart words bytes old new
 tells_part words bytes answer status before after old new is answered told fault = elim told [
-    inl whole ↦ let same : answer.status ≡ WriteFault = cc in absurd (rw same at answered)
+  | inl whole ↦ let same : answer.status ≡ WriteFault = cc in absurd (rw same at answered)
   | inr part ↦ record { answer = answer; is = is; took = part.2 }
 ]
 
@@ -92,7 +92,7 @@ command_answer words bytes command answer is answers = rw is answers
 -- a run that ends in `Done` was due to
 pub told_done : (due status : Status) (before after : ℕ) (old new : Option (List ℕ)) (text : List ℕ) → Told due status before after old new text → status ≡ Done → due ≡ Done
 told_done due status before after old new text told done = elim told [
-    inl whole ↦ cc
+  | inl whole ↦ cc
   | inr part ↦ absurd (let no : WriteFault ≡ Done = cc in cc)
 ]
 

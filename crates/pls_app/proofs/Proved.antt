@@ -54,7 +54,7 @@ report_done count done = by (count == 0) refl done
 -- `Done` says that the network of the input has the property
 pub done_proves : (scheme : SchemeName) (bytes : List ℕ) (answer : Answer) → Answers (Verify scheme) bytes answer → answer.status ≡ Done → Proves scheme bytes
 done_proves Bipartite bytes answer answers done = elim answers [
-    inl refused ↦ absurd (refused_not_done refused.0 (sym (ap (λ (answer : Answer). answer.status) refused.2) ∙ done))
+  | inl refused ↦ absurd (refused_not_done refused.0 (sym (ap (λ (answer : Answer). answer.status) refused.2) ∙ done))
   | inr judged ↦
       let rows : List NodeRow = judged.0 in
       let labels : List (List Bool) = judged.1 in

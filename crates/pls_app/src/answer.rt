@@ -38,11 +38,7 @@ impl Model for Answer {
 }
 
 // The answer to a command on an input within the limit. The one error is want of memory.
-pub(crate) fn answer_to(
-    alloc: Global,
-    command: Command,
-    bytes: &[u8],
-) -> Result<Answer, NoMemory>
+pub(crate) fn answer_to(alloc: Global, command: Command, bytes: &[u8]) -> Result<Answer, NoMemory>
     requires { length bytes.now ≤ MAX_INPUT }
     ensures { IfOk result (λ answer. Answers command bytes.now answer) }
 {

@@ -13,10 +13,7 @@ use pls_view::LabelStore;
 use std::alloc::Global;
 
 // The network and the labels of an input, or why it is refused.
-pub(crate) fn read_parts(
-    alloc: Global,
-    bytes: &[u8],
-) -> Result<(Network, LabelStore), TextError>
+pub(crate) fn read_parts(alloc: Global, bytes: &[u8]) -> Result<(Network, LabelStore), TextError>
     requires { length bytes.now ≤ MAX_INPUT }
     ensures parts { IfOk result (λ parts. IsInput bytes.now parts.0 parts.1) }
     ensures refused { IfErr result (λ error. error ≢ TextError.NoMemory → IsRefused bytes.now error) }

@@ -8,12 +8,14 @@
 mod answer;
 mod command;
 mod input;
+mod laws;
 mod limits;
 mod outcome;
 mod report;
 mod top;
 
 pub use command::{Command, SchemeName};
+pub use laws::{one_answer, one_input};
 pub use limits::MAX_INPUT;
 pub use pls_base::Status;
 pub use top::run;

@@ -35,7 +35,7 @@ accepted_port label row port accepted in' =
     let test : SeenPort → Bool = λ p. differ (colour_in (label row.id)) (colour_in p.label) in
     let each = AllPass-from_list_all test (map (seen_port label) row.ports) rules.1.1.0 in
     let here : test (seen_port label port) ≡ true =
-        All-contains (λ p. test p ≡ true) (map (seen_port label) row.ports) (seen_port label port) each (Contains-map (seen_port label) row.ports port in') in
+    All-contains (λ p. test p ≡ true) (map (seen_port label) row.ports) (seen_port label port) each (Contains-map (seen_port label) row.ports port in') in
     differ-shown (colour_in (label row.id)) (colour_in (label port.nbr)) here
 
 -- labels that every node accepts are a two-colouring
@@ -44,6 +44,7 @@ bipartite_sound rows labels accepted = (λ id. shown_colour (label id), across)
   where
     label : ℕ → List Bool
     label = label_of rows labels
+
     across : (edge : Edge) → Contains (edges_of rows) edge → shown_colour (label edge.a) ≢ shown_colour (label edge.b)
     across edge in' =
         let from : (row : NodeRow) × Contains rows row × Contains (edges_from row) edge = Contains-from_flat_map edges_from rows edge in' in
@@ -53,6 +54,6 @@ bipartite_sound rows labels accepted = (λ id. shown_colour (label id), across)
         let given : (port : Port) × Contains (filter up row.ports) port × (edge_of port ≡ edge) = Contains-from_map edge_of (filter up row.ports) edge from.2 in
         let port : Port = given.0 in
         let accepts : judge_bipartite (seen label row) ≡ Accept =
-            All-contains (λ view. judge_bipartite view ≡ Accept) (map (seen label) rows) (seen label row) accepted (Contains-map (seen label) rows row from.1) in
+        All-contains (λ view. judge_bipartite view ≡ Accept) (map (seen label) rows) (seen label row) accepted (Contains-map (seen label) rows row from.1) in
         let differs = accepted_port label row port accepts (Contains-from_filter up row.ports port given.1).0 in
         subst (λ (edge : Edge). shown_colour (label edge.a) ≢ shown_colour (label edge.b)) given.2 differs

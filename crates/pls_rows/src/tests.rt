@@ -42,7 +42,14 @@ fn a_network_of_two_nodes_is_judged(rt: HostRuntime) -> Result<(), Fail> {
         (apart, same, ACCEPTED, Status::Done),
     ];
     for (network, labels, text, status) in cases {
-        assert_run(&rt, rt.alloc(), &["verify", "bipartite"], [network, labels], text, status)?;
+        assert_run(
+            &rt,
+            rt.alloc(),
+            &["verify", "bipartite"],
+            [network, labels],
+            text,
+            status,
+        )?;
     }
     Ok(())
 }
@@ -62,7 +69,14 @@ fn words_and_forms_are_refused(rt: HostRuntime) -> Result<(), Fail> {
         ("bipartite", "", "", refused, Status::Refused),
     ];
     for (scheme, network, labels, text, status) in cases {
-        assert_run(&rt, rt.alloc(), &["verify", scheme], [network, labels], text, status)?;
+        assert_run(
+            &rt,
+            rt.alloc(),
+            &["verify", scheme],
+            [network, labels],
+            text,
+            status,
+        )?;
     }
     Ok(())
 }

@@ -40,12 +40,7 @@ pub trait Checker {
 
     /// The verdict on a view. It adds one step, whatever it answers. The one error is want of
     /// memory, which a type that takes none does not answer, nor one that lends at up to 8 ports.
-    fn verify(
-        &self,
-        alloc: Global,
-        view: &View<'_>,
-        steps: &mut Steps,
-    ) -> Result<Verdict, NoMemory>
+    fn verify(&self, alloc: Global, view: &View<'_>, steps: &mut Steps) -> Result<Verdict, NoMemory>
         ensures verdict { IfOk result (λ verdict. verdict ≡ judge self.now view.now) }
         ensures one_step { steps.new ≡ up_by 1 steps.old }
         ensures no_memory { TAKES_MEMORY ≡ false → IsOk result }

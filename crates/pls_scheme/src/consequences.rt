@@ -49,11 +49,7 @@ fn accepts(verdict: Verdict) -> bool
 }
 
 /// The one spelling of a label that can be written. The one error is want of memory.
-pub fn spelled<S: Scheme>(
-    alloc: Global,
-    scheme: &S,
-    label: &S::Label,
-) -> Result<BitBuf, NoMemory>
+pub fn spelled<S: Scheme>(alloc: Global, scheme: &S, label: &S::Label) -> Result<BitBuf, NoMemory>
     requires { S.writable scheme.now label.now }
     ensures spells { IfOk result (λ bits. S.layout scheme.now bits label.now) }
     ensures alone { IfOk result (λ bits. (others : List Bool) → S.layout scheme.now others label.now

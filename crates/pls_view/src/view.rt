@@ -3,14 +3,13 @@
 ghost use Rattle.std.specs.Prelude.{◌≡◌, ◌≤◌, ◌<◌, length, map, slice_get, IsOk, IfOk, IfSome, Some};
 ghost use Rattle.pls_view.specs.Seen.{label_of};
 
+use crate::label_store::LabelStore;
 use pls_base::NoMemory;
 use pls_bits::Bits;
 use pls_graph::{Network, Port, State};
 use smallvec::SmallVec;
 use std::alloc::Global;
 use std::marker::Model;
-
-use crate::label_store::LabelStore;
 
 /// What a node sees at one of its ports.
 #[derive(Default, Drop)]
@@ -42,10 +41,10 @@ impl<'a> Model for View<'a> {
     ghost Value = { Seen };
 
     ghost view = { λ view. record {
-        id = view.id;
-        state = view.state;
-        own = view.own;
-        ports = map (λ port. record { weight = port.weight; label = port.label }) view.ports.items
+      id = view.id;
+      state = view.state;
+      own = view.own;
+      ports = map (λ port. record { weight = port.weight; label = port.label }) view.ports.items;
     } };
 }
 

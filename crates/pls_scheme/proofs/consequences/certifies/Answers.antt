@@ -7,9 +7,10 @@ pub returns-clause-accepted : goal.returns-clause-accepted
 returns-clause-accepted g c =
     let judge = g.S.Checker.judge c.args.scheme.now in
     let seen = views c.args.net.now c.args.labels.now in
-    let same = c.deref.ensures.value ∙ c.in_ok-verdicts.ensures.verdicts in
-    ( (λ told. all_accepted judge seen c.deref.result.now same (sym c.all_accept.ensures ∙ told))
-    , (λ accepted. c.all_accept.ensures ∙ all_pass judge seen c.deref.result.now same accepted))
+    let same = c.deref.ensures.value ∙ c.in_ok-verdicts.ensures.verdicts in (
+      (λ told. all_accepted judge seen c.deref.result.now same (sym c.all_accept.ensures ∙ told)),
+      (λ accepted. c.all_accept.ensures ∙ all_pass judge seen c.deref.result.now same accepted),
+    )
 
 pub returns-clause-holds : goal.returns-clause-holds
 returns-clause-holds g c told =
