@@ -19,5 +19,5 @@ IsFound edges u v (Some count) = IsLevel edges u v count
 pub record AreLevels (rows : List NodeRow) (root : ℕ) (found : List (Option ℕ)) : Type 0 where
   pub each : length found ≡ length rows
   pub level : (first row : NodeRow) (place : ℕ) (entry : Option ℕ) → slice_get rows root ≡ Some first
-    → slice_get rows place ≡ Some row → slice_get found place ≡ Some entry
-    → IsFound (edges_of rows) first.id row.id entry
+      → slice_get rows place ≡ Some row → slice_get found place ≡ Some entry
+      → IsFound (edges_of rows) first.id row.id entry
