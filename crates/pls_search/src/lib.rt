@@ -2,5 +2,7 @@
 #![tactic(auto)]
 
 mod breadth;
+#[cfg(test)]
+mod tests;
 
 pub use breadth::levels;
