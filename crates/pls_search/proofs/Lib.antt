@@ -1,0 +1,3 @@
+mod Gaining
+mod Beside
+mod Searched
