@@ -1,1 +1,2 @@
 pub mod Bipartite
+pub mod Marked
