@@ -1,5 +1,5 @@
 -- What is scanned of an input, and what an input is.
-use Rattle.std.proofs.Common.{◌≡◌, ◌≢◌, ◌∙◌, ℕ, ◌+◌, ◌≤◌, ◌<◌, ◌^◌, Bool, true, false, List, [], ◌∷◌, ◌++◌, map, length, nat_lt, ◌==◌, All, Option, Some, None, if◌then◌else◌, option_map, ap, subst, refl, sym, arith}
+use Rattle.std.proofs.Common.{◌≡◌, ◌≢◌, ◌∙◌, ℕ, ◌+◌, ◌≤◌, ◌<◌, ◌^◌, Bool, true, false, List, [], ◌∷◌, ◌++◌, map, length, nat_lt, ◌==◌, All, Contains, Option, Some, None, if◌then◌else◌, option_map, ap, subst, refl, sym, arith}
 use Rattle.std.specs.List.{sum_by}
 use Rattle.std.proofs.lemmas.Bool.{eq-eqb}
 use Rattle.std.proofs.lemmas.Bool.Decides.{nat_tests}
@@ -11,6 +11,8 @@ use Rattle.pls_base.specs.declared.text_error.TextError.TheVariants.{Form, Limit
 use Rattle.pls_base.specs.declared.text_error.Quantity.TheVariants.{Input, Nodes, Ports, Bits, Events, Rounds, Labels}
 use Rattle.pls_model.specs.declared.row.NodeRow.{NodeRow}
 use Rattle.pls_model.specs.Configuration.{IsNetwork, ids_of, refusal_of}
+use Rattle.pls_model.specs.Walk.{IsConnected}
+use Rattle.pls_view.specs.Labels.{bits_in}
 use Rattle.pls_netfile.specs.Text.{text_of}
 use Rattle.pls_netfile.specs.Lines.{Left, Passes, IsFormFault}
 use Rattle.pls_netfile.specs.NetworkText.{AreRows, FitsRow, IsNetworkPart, network_lines, network_text}
@@ -25,7 +27,11 @@ use Rattle.pls_labelfile.specs.Misfit.{misfit}
 use Rattle.pls_labelfile.specs.Refusal.{IsRefusal, misfit_error, refusal_of as labels_refusal}
 use Rattle.pls_labelfile.proofs.LabelsPart.{is_labels_part, labels_part, one_labels}
 use Rattle.pls_app.specs.declared.limits.TheConstants.{MAX_INPUT}
-use Rattle.pls_app.specs.Input.{AreParts, IsInput, IsInputLines, input_text}
+use Rattle.pls_app.specs.declared.command.Command.{Command}
+use Rattle.pls_app.specs.declared.command.Command.TheVariants.{Mark, Verify}
+use Rattle.pls_app.specs.declared.command.SchemeName.{SchemeName}
+use Rattle.pls_graph.specs.Connected.{IsFirstApart, smallest_id}
+use Rattle.pls_app.specs.Input.{AreLabels, IsInput, IsInputLines, IsNetworkInput, IsReadable, Reads}
 use Rattle.pls_app.specs.Scanned.{IsFormError, IsNoInput, IsScanned}
 
 -- a fault in the network part is the first fault of the input
@@ -60,23 +66,30 @@ fault_left_over bytes old mid now network labels first rest passes passes_labels
       (fault_behind IsLabelsPart (labels_lines passes_labels.labels) mid now labels_part (is_labels_part passes_labels.labels passes_labels.tells.fits) passes_labels.passed some)),
 )
 
--- the labels of nodes fit where each is one bit
-named_fit : (rows : List NodeRow) (labels : List (List Bool)) → All FitsRow rows → All (λ label. length label ≡ 1) labels → All FitsLabel (named (ids_of rows) labels)
-named_fit [] labels fits one = λ k d within. absurd (omega (arith, within))
-named_fit (row ∷ rows) [] fits one = λ k d within. absurd (omega (arith, within))
-named_fit (row ∷ rows) (label ∷ labels) fits one =
-    let short : length label ≤ 2 ^ 28 = omega (arith, All-head (λ (label : List Bool). length label ≡ 1) label labels one) in
+-- the labels of nodes fit where there are few bits of them
+named_fit : (rows : List NodeRow) (labels : List (List Bool)) → All FitsRow rows → bits_in labels ≤ 2 ^ 28 → All FitsLabel (named (ids_of rows) labels)
+named_fit [] labels fits few = λ k d within. absurd (omega (arith, within))
+named_fit (row ∷ rows) [] fits few = λ k d within. absurd (omega (arith, within))
+named_fit (row ∷ rows) (label ∷ labels) fits few =
+    let sum = sum_by-cons (length {A = Bool}) label labels in
     All-cons FitsLabel (record { id = row.id; bits = label }) (named (ids_of rows) labels)
-    (record { id = (All-head FitsRow row rows fits).id; short = short })
-    (named_fit rows labels (All-tail FitsRow row rows fits) (All-tail (λ (label : List Bool). length label ≡ 1) label labels one))
+    (record { id = (All-head FitsRow row rows fits).id; short = omega (arith, sum, few) })
+    (named_fit rows labels (All-tail FitsRow row rows fits) (omega (arith, sum, few)))
 
--- the labels of parts fit
-parts_fit : (rows : List NodeRow) (labels : List (List Bool)) → AreParts rows labels → All FitsLabel (named (ids_of rows) labels)
-parts_fit rows labels parts = named_fit rows labels parts.ranges.each parts.one_bit
+-- the labels of an input fit
+parts_fit : (rows : List NodeRow) (labels : List (List Bool)) → IsReadable rows → AreLabels rows labels → All FitsLabel (named (ids_of rows) labels)
+parts_fit rows labels readable labelled = named_fit rows labels readable.ranges.each labelled.few
 
--- an input with a faulty line is the text of no parts
-pub no_input_by_form : (bytes : List ℕ) (error : TextError) → IsFormError bytes error → IsNoInput bytes error
-no_input_by_form bytes error fault = subst (IsNoInput bytes) (sym fault.1) none
+-- what is no input for an error that is not want of memory
+pub no_input : (command : Command) (bytes : List ℕ) (error : TextError) → (error ≢ NoMemory → Reads command bytes → ⊥) → IsNoInput command bytes error
+no_input command bytes (Form line) none = none (λ e. cc)
+no_input command bytes (Limit quantity) none = none (λ e. cc)
+no_input command bytes (Sense number place) none = none (λ e. cc)
+no_input command bytes NoMemory none = tt
+
+-- an input with a faulty line is the text of no network and labels
+pub no_input_by_form : (scheme : SchemeName) (bytes : List ℕ) (error : TextError) → IsFormError bytes error → IsNoInput (Verify scheme) bytes error
+no_input_by_form scheme bytes error fault = no_input (Verify scheme) bytes error (λ some read. none read.0 read.1 read.2)
   where
     none : (rows : List NodeRow) (labels : List (List Bool)) → IsInput bytes rows labels → ⊥
     none rows labels input =
@@ -85,8 +98,8 @@ no_input_by_form bytes error fault = subst (IsNoInput bytes) (sym fault.1) none
         (record {
           front = network_lines rows;
           back = labels_lines parts;
-          is_first = rows_are_part rows input.parts.ranges;
-          is_second = is_labels_part parts (parts_fit rows labels input.parts);
+          is_first = rows_are_part rows input.readable.ranges;
+          is_second = is_labels_part parts (parts_fit rows labels input.readable input.labelled);
           parts = refl;
         })
         (input.is ∙ sym (text_of-append (network_lines rows) (labels_lines parts)))
@@ -100,9 +113,9 @@ same_parts : (bytes : List ℕ) (network : WrittenNetwork) (text : WrittenLabels
     → SameParts rows labels network text
 same_parts bytes network text rows labels scanned input =
     let parts = named (ids_of rows) labels in
-    let fit = parts_fit rows labels input.parts in
+    let fit = parts_fit rows labels input.readable input.labelled in
     let both : network_text scanned.rows ++ labels_text scanned.named ≡ network_text rows ++ labels_text parts = sym scanned.is ∙ input.is in
-    let first = one_network scanned.rows rows (labels_text scanned.named) (labels_text parts) scanned.tells_rows.fits input.parts.ranges both in
+    let first = one_network scanned.rows rows (labels_text scanned.named) (labels_text parts) scanned.tells_rows.fits input.readable.ranges both in
     let ends : labels_text scanned.named ++ [] ≡ labels_text parts ++ [] = ap (λ (text : List ℕ). text ++ []) first.1 in
     let second = one_labels scanned.named parts [] [] scanned.tells_labels.fits fit ends in
     record {
@@ -123,29 +136,30 @@ not_refused rows (Limit Labels) net some refused = refused
 not_refused rows (Sense number place) net some refused = let none : None ≡ Some refused.refusal = sym net.valid ∙ refused.first in cc
 not_refused rows NoMemory net some refused = some refl
 
--- what is no input for an error that is not want of memory
-no_input : (bytes : List ℕ) (error : TextError) → (error ≢ NoMemory → (rows : List NodeRow) (labels : List (List Bool)) → IsInput bytes rows labels → ⊥) → IsNoInput bytes error
-no_input bytes (Form line) none = none (λ e. cc)
-no_input bytes (Limit quantity) none = none (λ e. cc)
-no_input bytes (Sense number place) none = none (λ e. cc)
-no_input bytes NoMemory none = tt
+-- an input whose rows are refused is none
+pub no_input_by_rows : (scheme : SchemeName) (bytes : List ℕ) (network : WrittenNetwork) (text : WrittenLabels) (error : TextError) → IsScanned bytes network text
+    → ((rows : List NodeRow) → TellsNetwork network rows → IsRefusedBuild rows error) → IsNoInput (Verify scheme) bytes error
+no_input_by_rows scheme bytes network text error scanned refused =
+    no_input (Verify scheme) bytes error (λ some read.
+      not_refused read.0 error read.2.readable.network some (refused read.0 (same_parts bytes network text read.0 read.1 scanned read.2).tells_rows))
 
--- an input whose rows are refused is the text of no parts
-pub no_input_by_rows : (bytes : List ℕ) (network : WrittenNetwork) (text : WrittenLabels) (error : TextError) → IsScanned bytes network text
-    → ((rows : List NodeRow) → TellsNetwork network rows → IsRefusedBuild rows error) → IsNoInput bytes error
-no_input_by_rows bytes network text error scanned refused =
-    no_input bytes error (λ some rows labels input.
-    not_refused rows error input.parts.network some (refused rows (same_parts bytes network text rows labels scanned input).tells_rows))
+-- an input whose network is not connected is none
+pub no_input_by_walks : (scheme : SchemeName) (bytes : List ℕ) (network : WrittenNetwork) (text : WrittenLabels) (net : List NodeRow) (error : TextError) → IsScanned bytes network text
+    → ((rows : List NodeRow) → TellsNetwork network rows → net ≡ rows) → (error ≢ NoMemory → IsConnected net → ⊥) → IsNoInput (Verify scheme) bytes error
+no_input_by_walks scheme bytes network text net error scanned built apart =
+    no_input (Verify scheme) bytes error (λ some read.
+      apart some (subst IsConnected (sym (built read.0 (same_parts bytes network text read.0 read.1 scanned read.2).tells_rows)) read.2.readable.connected))
 
--- one bit a label
-bits_of-single : (ids : List ℕ) (labels : List (List Bool)) → All (λ label. length label ≡ 1) labels → bits_of (named ids labels) ≤ length ids
-bits_of-single [] labels one = omega arith
-bits_of-single (id ∷ ids) [] one = omega arith
-bits_of-single (id ∷ ids) (label ∷ labels) one =
-    let first = All-head (λ (label : List Bool). length label ≡ 1) label labels one in
-    let rest = bits_of-single ids labels (All-tail (λ (label : List Bool). length label ≡ 1) label labels one) in
-    let sum = sum_by-cons (λ (label : NamedLabel). length label.bits) (record { id = id; bits = label }) (named ids labels) in
-    omega (arith, first, rest, sum)
+-- the bits of named labels are those of the labels
+bits_of-named : (ids : List ℕ) (labels : List (List Bool)) → length labels ≡ length ids → bits_of (named ids labels) ≡ bits_in labels
+bits_of-named [] [] same = refl
+bits_of-named [] (label ∷ labels) same = absurd (omega arith)
+bits_of-named (id ∷ ids) [] same = absurd (omega arith)
+bits_of-named (id ∷ ids) (label ∷ labels) same =
+    let rest = bits_of-named ids labels (omega arith) in
+    let left = sum_by-cons (λ (label : NamedLabel). length label.bits) (record { id = id; bits = label }) (named ids labels) in
+    let right = sum_by-cons (length {A = Bool}) label labels in
+    omega (arith, rest, left, right)
 
 -- labels that are named by the nodes fit them
 misfit-named : (ids : List ℕ) (labels : List (List Bool)) → length labels ≡ length ids → misfit ids (named ids labels) ≡ None
@@ -157,15 +171,15 @@ misfit-named (id ∷ ids) (label ∷ labels) same =
     let rest : misfit ids (named ids labels) ≡ None = misfit-named ids labels (omega arith) in
     rw (here, rest) refl
 
--- the labels of parts are not refused
-labels_accepted : (rows : List NodeRow) (labels : List (List Bool)) (heading : ℕ) → AreParts rows labels → labels_refusal (ids_of rows) heading (named (ids_of rows) labels) ≡ None
-labels_accepted rows labels heading parts =
+-- the labels of an input are not refused
+labels_accepted : (rows : List NodeRow) (labels : List (List Bool)) (heading : ℕ) → AreLabels rows labels → labels_refusal (ids_of rows) heading (named (ids_of rows) labels) ≡ None
+labels_accepted rows labels heading labelled =
     let ids : List ℕ = ids_of rows in
     let many : length ids ≡ length rows = length-map rows (λ (row : NodeRow). row.id) in
-    let few : bits_of (named ids labels) ≤ 2 ^ 28 = omega (arith, many, bits_of-single ids labels parts.one_bit, parts.network.limits.few_nodes) in
+    let each : length labels ≡ length ids = labelled.each ∙ sym many in
+    let few : bits_of (named ids labels) ≤ 2 ^ 28 = omega (arith, bits_of-named ids labels each, labelled.few) in
     let within : nat_lt (2 ^ 28) (bits_of (named ids labels)) ≡ false = grind (arith, nat_tests) in
-    let fits : misfit ids (named ids labels) ≡ None = misfit-named ids labels (parts.each ∙ sym many) in
-    rw (within, fits) refl
+    rw (within, misfit-named ids labels each) refl
 
 -- an error that is a refusal is the refusal
 refusal_is : (ids : List ℕ) (heading : ℕ) (labels : List NamedLabel) (error : TextError) → error ≢ NoMemory → IsRefusal ids heading labels error → labels_refusal ids heading labels ≡ Some error
@@ -174,19 +188,22 @@ refusal_is ids heading labels (Limit quantity) some refused = refused
 refusal_is ids heading labels (Sense number place) some refused = refused
 refusal_is ids heading labels NoMemory some refused = absurd (some refl)
 
--- an input whose labels are refused is the text of no parts
-pub no_input_by_labels : (bytes : List ℕ) (network : WrittenNetwork) (text : WrittenLabels) (net : List NodeRow) (error : TextError) → IsScanned bytes network text
+-- an input whose labels are refused is none
+pub no_input_by_labels : (scheme : SchemeName) (bytes : List ℕ) (network : WrittenNetwork) (text : WrittenLabels) (net : List NodeRow) (error : TextError) → IsScanned bytes network text
     → ((rows : List NodeRow) → TellsNetwork network rows → net ≡ rows)
-    → ((labels : List NamedLabel) → TellsLabels text.text labels → IsRefusal (ids_of net) text.number labels error) → IsNoInput bytes error
-no_input_by_labels bytes network text net error scanned built refused =
-    no_input bytes error (λ some rows labels input.
-    let same = same_parts bytes network text rows labels scanned input in
-    let is_net : net ≡ rows = built rows same.tells_rows in
-    let parts : List NamedLabel = named (ids_of rows) labels in
-    let here : IsRefusal (ids_of rows) text.number parts error = subst (λ (net : List NodeRow). IsRefusal (ids_of net) text.number parts error) is_net (refused parts same.tells_labels) in
-    let told = refusal_is (ids_of rows) text.number parts error some here in
-    let none : None ≡ Some error = sym (labels_accepted rows labels text.number input.parts) ∙ told in
-    cc)
+    → ((labels : List NamedLabel) → TellsLabels text.text labels → IsRefusal (ids_of net) text.number labels error) → IsNoInput (Verify scheme) bytes error
+no_input_by_labels scheme bytes network text net error scanned built refused =
+    no_input (Verify scheme) bytes error (λ some read. none some read.0 read.1 read.2)
+  where
+    none : error ≢ NoMemory → (rows : List NodeRow) (labels : List (List Bool)) → IsInput bytes rows labels → ⊥
+    none some rows labels input =
+        let same = same_parts bytes network text rows labels scanned input in
+        let is_net : net ≡ rows = built rows same.tells_rows in
+        let parts : List NamedLabel = named (ids_of rows) labels in
+        let here : IsRefusal (ids_of rows) text.number parts error = subst (λ (net : List NodeRow). IsRefusal (ids_of net) text.number parts error) is_net (refused parts same.tells_labels) in
+        let told = refusal_is (ids_of rows) text.number parts error some here in
+        let none : None ≡ Some error = sym (labels_accepted rows labels text.number input.labelled) ∙ told in
+        cc
 
 -- the bits of named labels are the labels
 bits-named : (ids : List ℕ) (labels : List (List Bool)) → length labels ≡ length ids → map (λ label. label.bits) (named ids labels) ≡ labels
@@ -195,44 +212,71 @@ bits-named [] (label ∷ labels) same = absurd (omega arith)
 bits-named (id ∷ ids) [] same = absurd (omega arith)
 bits-named (id ∷ ids) (label ∷ labels) same = ap (λ rest. label ∷ rest) (bits-named ids labels (omega arith))
 
--- an input whose labels are not one bit each is the text of no parts
-pub no_input_by_bits : (bytes : List ℕ) (network : WrittenNetwork) (text : WrittenLabels) (store : List (List Bool)) → IsScanned bytes network text
-    → ((labels : List NamedLabel) → TellsLabels text.text labels → store ≡ map (λ label. label.bits) labels)
-    → (All (λ label. length label ≡ 1) store → ⊥) → (rows : List NodeRow) (labels : List (List Bool)) → IsInput bytes rows labels → ⊥
-no_input_by_bits bytes network text store scanned stored some rows labels input =
-    let same = same_parts bytes network text rows labels scanned input in
-    let many = length-map rows (λ (row : NodeRow). row.id) in
-    let is_store : store ≡ labels = stored (named (ids_of rows) labels) same.tells_labels ∙ bits-named (ids_of rows) labels (input.parts.each ∙ sym many) in
-    some (subst (λ (labels : List (List Bool)). All (λ label. length label ≡ 1) labels) (sym is_store) input.parts.one_bit)
-
 -- named labels are their names and their bits
 named-parts : (labels : List NamedLabel) → named (map (λ label. label.id) labels) (map (λ label. label.bits) labels) ≡ labels
 named-parts [] = refl
 named-parts (label ∷ labels) = ap (λ rest. label ∷ rest) (named-parts labels)
 
+-- labels that are not refused have few bits
+few_bits : (ids : List ℕ) (heading : ℕ) (labels : List NamedLabel) → labels_refusal ids heading labels ≡ None → bits_of labels ≤ 2 ^ 28
+few_bits ids heading labels accepted = by (nat_lt (2 ^ 28) (bits_of labels)) refl accepted
+  where
+    by : (b : Bool) → nat_lt (2 ^ 28) (bits_of labels) ≡ b → (if b then Some (Limit Bits) else option_map (misfit_error heading) (misfit ids labels)) ≡ None → bits_of labels ≤ 2 ^ 28
+    by true is accepted = absurd (cc)
+    by false is accepted = grind (arith, nat_tests)
+
 -- what was scanned and built is an input
 pub input_of : (bytes : List ℕ) (network : WrittenNetwork) (text : WrittenLabels) (net : List NodeRow) (store : List (List Bool)) → length bytes ≤ MAX_INPUT → IsScanned bytes network text
-    → ((rows : List NodeRow) → TellsNetwork network rows → net ≡ rows) → IsNetwork net
+    → ((rows : List NodeRow) → TellsNetwork network rows → net ≡ rows) → IsNetwork net → IsConnected net
     → ((labels : List NamedLabel) → TellsLabels text.text labels → store ≡ map (λ label. label.bits) labels)
     → ((labels : List NamedLabel) → TellsLabels text.text labels → map (λ label. label.id) labels ≡ ids_of net)
-    → All (λ label. length label ≡ 1) store → IsInput bytes net store
-input_of bytes network text net store short scanned built valid stored names one =
+    → ((labels : List NamedLabel) → TellsLabels text.text labels → labels_refusal (ids_of net) text.number labels ≡ None)
+    → IsInput bytes net store
+input_of bytes network text net store short scanned built valid connected stored names accepted =
     let is_net : net ≡ scanned.rows = built scanned.rows scanned.tells_rows in
     let is_store = stored scanned.named scanned.tells_labels in
     let is_named = names scanned.named scanned.tells_labels in
     let back : named (ids_of net) store ≡ scanned.named = rw (← is_named, is_store) (named-parts scanned.named) in
+    let each : length store ≡ length net =
+        ap length is_store ∙ length-map scanned.named (λ (label : NamedLabel). label.bits)
+        ∙ sym (length-map scanned.named (λ (label : NamedLabel). label.id)) ∙ ap length is_named ∙ length-map net (λ (row : NodeRow). row.id) in
+    let many : length store ≡ length (ids_of net) = each ∙ sym (length-map net (λ (row : NodeRow). row.id)) in
+    let sum : bits_of scanned.named ≡ bits_in store = ap bits_of (sym back) ∙ bits_of-named (ids_of net) store many in
+    let few = few_bits (ids_of net) text.number scanned.named (accepted scanned.named scanned.tells_labels) in
     record {
       short = short;
-      parts = record {
-        network = valid;
-        ranges = subst AreRows (sym is_net) scanned.tells_rows.fits;
-        each = ap length is_store ∙ length-map scanned.named (λ (label : NamedLabel). label.bits)
-            ∙ sym (length-map scanned.named (λ (label : NamedLabel). label.id)) ∙ ap length is_named ∙ length-map net (λ (row : NodeRow). row.id);
-        one_bit = one;
-      };
+      readable = record { network = valid; connected = connected; ranges = subst AreRows (sym is_net) scanned.tells_rows.fits };
+      labelled = record { each = each; few = omega (arith, sum, few) };
       is = scanned.is ∙ ap (λ (rows : List NodeRow). network_text rows ++ labels_text scanned.named) (sym is_net)
           ∙ ap (λ (parts : List NamedLabel). network_text net ++ labels_text parts) (sym back);
     }
+
+-- a text that was read is an input of a network
+pub network_input_of : (bytes : List ℕ) (net : List NodeRow) → length bytes ≤ MAX_INPUT → bytes ≡ network_text net → AreRows net → IsNetwork net → IsConnected net → IsNetworkInput bytes net
+network_input_of bytes net short is ranges valid connected =
+    record { short = short; readable = record { network = valid; connected = connected; ranges = ranges }; is = is }
+
+-- a text that was refused is no input of a network
+pub no_network : (scheme : SchemeName) (bytes : List ℕ) (error : TextError)
+    → ((rows : List NodeRow) → AreRows rows → IsNetwork rows → bytes ≡ network_text rows → error ≡ NoMemory) → IsNoInput (Mark scheme) bytes error
+no_network scheme bytes error refused =
+    no_input (Mark scheme) bytes error (λ some read. some (refused read.0 read.1.readable.ranges read.1.readable.network read.1.is))
+
+-- a network that is not connected is no input
+pub no_network_by_walks : (scheme : SchemeName) (bytes : List ℕ) (net : List NodeRow) (error : TextError) → AreRows net → bytes ≡ network_text net → (error ≢ NoMemory → IsConnected net → ⊥)
+    → IsNoInput (Mark scheme) bytes error
+no_network_by_walks scheme bytes net error ranges is apart =
+    no_input (Mark scheme) bytes error (λ some read.
+      let ends : network_text read.0 ++ [] ≡ network_text net ++ [] = ap (λ (text : List ℕ). text ++ []) (sym read.1.is ∙ is) in
+      let same = one_network read.0 net [] [] read.1.readable.ranges ranges ends in
+      apart some (subst IsConnected same.0 read.1.readable.connected))
+
+-- a node that is apart is joined to the smallest by no walk, so the network is not connected
+pub apart_from : (rows : List NodeRow) (id : ℕ) → IsNetwork rows → IsFirstApart rows id → IsConnected rows → ⊥
+apart_from rows id net apart connected = apart.apart (connected (smallest_id rows) id (smallest_in rows net) apart.node)
+  where
+    smallest_in : (rows : List NodeRow) → IsNetwork rows → Contains (ids_of rows) (smallest_id rows)
+    smallest_in rows net = ?
 
 -- a test that failed does not hold
 pub no_truth : (b : Bool) → b ≡ false → b ≡ true → ⊥
@@ -244,10 +288,16 @@ pub one_input : (bytes : List ℕ) (rows other_rows : List NodeRow) (labels othe
 one_input bytes rows other_rows labels other_labels one other =
     let parts : List NamedLabel = named (ids_of rows) labels in
     let other_parts : List NamedLabel = named (ids_of other_rows) other_labels in
-    let first = one_network rows other_rows (labels_text parts) (labels_text other_parts) one.parts.ranges other.parts.ranges (sym one.is ∙ other.is) in
+    let first = one_network rows other_rows (labels_text parts) (labels_text other_parts) one.readable.ranges other.readable.ranges (sym one.is ∙ other.is) in
     let ends : labels_text parts ++ [] ≡ labels_text other_parts ++ [] = ap (λ (text : List ℕ). text ++ []) first.1 in
-    let second = one_labels parts other_parts [] [] (parts_fit rows labels one.parts) (parts_fit other_rows other_labels other.parts) ends in
+    let second = one_labels parts other_parts [] [] (parts_fit rows labels one.readable one.labelled) (parts_fit other_rows other_labels other.readable other.labelled) ends in
     let bits : List NamedLabel → List (List Bool) = map (λ label. label.bits) in
-    let mine : bits parts ≡ labels = bits-named (ids_of rows) labels (one.parts.each ∙ sym (length-map rows (λ (row : NodeRow). row.id))) in
-    let others : bits other_parts ≡ other_labels = bits-named (ids_of other_rows) other_labels (other.parts.each ∙ sym (length-map other_rows (λ (row : NodeRow). row.id))) in
+    let mine : bits parts ≡ labels = bits-named (ids_of rows) labels (one.labelled.each ∙ sym (length-map rows (λ (row : NodeRow). row.id))) in
+    let others : bits other_parts ≡ other_labels = bits-named (ids_of other_rows) other_labels (other.labelled.each ∙ sym (length-map other_rows (λ (row : NodeRow). row.id))) in
     (first.0, sym mine ∙ ap bits second.0 ∙ others)
+
+-- the bytes of a network fix it
+pub one_network_input : (bytes : List ℕ) (rows other_rows : List NodeRow) → IsNetworkInput bytes rows → IsNetworkInput bytes other_rows → rows ≡ other_rows
+one_network_input bytes rows other_rows one other =
+    let ends : network_text rows ++ [] ≡ network_text other_rows ++ [] = ap (λ (text : List ℕ). text ++ []) (sym one.is ∙ other.is) in
+    (one_network rows other_rows [] [] one.readable.ranges other.readable.ranges ends).0

@@ -7,15 +7,17 @@ use Rattle.pls_model.specs.declared.status.Status.{Status}
 use Rattle.pls_model.specs.declared.status.Status.TheVariants.{Done, No, Usage, Refused, Limit as OverLimit, NoMemory as OutOfMemory}
 use Rattle.pls_model.specs.declared.row.NodeRow.{NodeRow}
 use Rattle.pls_model.specs.declared.verdict.Verdict.{Verdict}
+use Rattle.pls_model.specs.Configuration.{ids_of}
 use Rattle.pls_netfile.specs.Text.{line_of, text_of}
+use Rattle.pls_labelfile.specs.LabelsText.{labels_text, named}
 use Rattle.pls_scheme.specs.Judging.{round_by}
-use Rattle.pls_colour.specs.Bipartite.{judge_bipartite}
 use Rattle.pls_app.specs.declared.command.Command.{Command}
-use Rattle.pls_app.specs.declared.command.Command.TheVariants.{Verify}
-use Rattle.pls_app.specs.declared.command.SchemeName.TheVariants.{Bipartite}
+use Rattle.pls_app.specs.declared.command.Command.TheVariants.{Mark, Verify}
+use Rattle.pls_app.specs.declared.command.SchemeName.{SchemeName}
 use Rattle.pls_app.specs.Command.{command_of}
+use Rattle.pls_app.specs.Meaning.{HasProperty, IsMarked, judge_of}
 use Rattle.pls_app.specs.Report.{rejecting, report_text}
-use Rattle.pls_app.specs.Input.{IsInput, IsRefused}
+use Rattle.pls_app.specs.Input.{IsInput, IsNetworkInput, IsRefused}
 
 -- how a run ends, and the text that it writes
 pub record Answer : Type 0 where
@@ -48,13 +50,34 @@ refusal error = record { status = refusal_status error; text = text_of (refusal_
 abbrev pub report : List (ℕ × Verdict) → Answer
 report rows = record { status = if rejecting rows == 0 then Done else No; text = report_text rows }
 
--- the answer to a command on an input
-abbrev pub Answers : Command → List ℕ → Answer → Type 0
-Answers (Verify Bipartite) bytes answer =
-    ((error : TextError) × IsRefused bytes error × (answer ≡ refusal error))
-    ⊎ ((rows : List NodeRow) × (labels : List (List Bool)) × IsInput bytes rows labels × (answer ≡ report (round_by judge_bipartite rows labels)))
+-- the answer to a network that lacks the property
+abbrev pub no : Answer
+no = record { status = No; text = text_of (codes "no" ∷ []) }
 
--- the answer to words on an input
+-- the answer with the labels of a network
+abbrev pub labelled : List NodeRow → List (List Bool) → Answer
+labelled rows labels = record { status = Done; text = labels_text (named (ids_of rows) labels) }
+
+-- the answer to `mark` on a network: its labels, where it has the property, else `no`
+abbrev pub Marks : SchemeName → List NodeRow → Answer → Type 0
+Marks scheme rows answer =
+    ((labels : List (List Bool)) × HasProperty scheme rows × IsMarked scheme rows labels × (answer ≡ labelled rows labels))
+    ⊎ ((HasProperty scheme rows → ⊥) × (answer ≡ no))
+
+-- the answer to a command on the input that it reads
+abbrev pub Works : Command → List ℕ → Answer → Type 0
+Works (Mark scheme) bytes answer =
+    (rows : List NodeRow) × IsNetworkInput bytes rows × Marks scheme rows answer
+Works (Verify scheme) bytes answer =
+    (rows : List NodeRow) × (labels : List (List Bool)) × IsInput bytes rows labels
+    × (answer ≡ report (round_by (judge_of scheme) rows labels))
+
+-- the answer to a command on bytes
+abbrev pub Answers : Command → List ℕ → Answer → Type 0
+Answers command bytes answer =
+    ((error : TextError) × IsRefused command bytes error × (answer ≡ refusal error)) ⊎ Works command bytes answer
+
+-- the answer to words on bytes
 abbrev pub AnswersWords : Option Command → List ℕ → Answer → Type 0
 AnswersWords None bytes answer = answer ≡ usage
 AnswersWords (Some command) bytes answer = Answers command bytes answer

@@ -1,41 +1,68 @@
--- What `verify` reads: a network, and one label of one bit for each of its nodes in their order.
-use Rattle.std.specs.Prelude.{◌≡◌, ℕ, ◌≤◌, ◌<◌, Bool, List, ◌++◌, length, All}
+-- What the commands read: a connected network, and for `verify` a label for each of its nodes.
+use Rattle.std.specs.Prelude.{◌≡◌, ℕ, ◌≤◌, ◌<◌, Bool, List, ◌++◌, length}
 use Rattle.pls_base.specs.declared.text_error.TextError.{TextError}
 use Rattle.pls_base.specs.declared.text_error.TextError.TheVariants.{Form, Limit, Sense, NoMemory}
 use Rattle.pls_base.specs.declared.text_error.Quantity.TheVariants.{Input}
 use Rattle.pls_model.specs.declared.row.NodeRow.{NodeRow}
 use Rattle.pls_model.specs.Configuration.{IsNetwork, ids_of}
+use Rattle.pls_model.specs.Walk.{IsConnected}
 use Rattle.pls_netfile.specs.Fault.{Then}
 use Rattle.pls_netfile.specs.NetworkText.{AreRows, IsNetworkPart, network_text}
+use Rattle.pls_view.specs.Labels.{bits_in}
 use Rattle.pls_labelfile.specs.LabelsText.{IsLabelsPart, labels_text, named}
+use Rattle.pls_labelfile.specs.declared.limits.TheConstants.{MAX_BITS}
+use Rattle.pls_app.specs.declared.command.Command.{Command}
+use Rattle.pls_app.specs.declared.command.Command.TheVariants.{Mark, Verify}
 use Rattle.pls_app.specs.declared.limits.TheConstants.{MAX_INPUT}
 
--- the rows are a network whose numbers can stand in a text, and each node has a label of one bit
-pub record AreParts (rows : List NodeRow) (labels : List (List Bool)) : Type 0 where
+-- the rows are a connected network, and its numbers can stand in a text
+pub record IsReadable (rows : List NodeRow) : Type 0 where
   pub network : IsNetwork rows
+  pub connected : IsConnected rows
   pub ranges : AreRows rows
-  pub each : length labels ≡ length rows
-  pub one_bit : All (λ label. length label ≡ 1) labels
 
--- the text of the parts
+-- the labels are one for each node, within the limit on their bits
+pub record AreLabels (rows : List NodeRow) (labels : List (List Bool)) : Type 0 where
+  pub each : length labels ≡ length rows
+  pub few : bits_in labels ≤ MAX_BITS
+
+-- the bytes are the text of a network, within the limit
+pub record IsNetworkInput (bytes : List ℕ) (rows : List NodeRow) : Type 0 where
+  pub short : length bytes ≤ MAX_INPUT
+  pub readable : IsReadable rows
+  pub is : bytes ≡ network_text rows
+
+-- the text of a network and of its labels
 abbrev pub input_text : List NodeRow → List (List Bool) → List ℕ
 input_text rows labels = network_text rows ++ labels_text (named (ids_of rows) labels)
 
--- the bytes are the text of these parts, within the limit
+-- the bytes are the text of a network and of its labels, within the limit
 pub record IsInput (bytes : List ℕ) (rows : List NodeRow) (labels : List (List Bool)) : Type 0 where
   pub short : length bytes ≤ MAX_INPUT
-  pub parts : AreParts rows labels
+  pub readable : IsReadable rows
+  pub labelled : AreLabels rows labels
   pub is : bytes ≡ input_text rows labels
 
--- the lines of an input: those of a network, and then those of labels
+-- the lines of a network and its labels
 abbrev pub IsInputLines : List (List ℕ) → Type 0
 IsInputLines lines = Then IsNetworkPart IsLabelsPart lines
 
--- the bytes are refused: they are too many, or the text of no parts
-abbrev pub IsRefused : List ℕ → TextError → Type 0
-IsRefused bytes (Limit Input) = MAX_INPUT < length bytes
-IsRefused bytes (Limit quantity) = ⊥
-IsRefused bytes (Form line) =
-    (line ≡ 0) × (length bytes ≤ MAX_INPUT) × ((rows : List NodeRow) (labels : List (List Bool)) → IsInput bytes rows labels → ⊥)
-IsRefused bytes (Sense number place) = ⊥
-IsRefused bytes NoMemory = ⊥
+-- the bytes are an input of the command
+abbrev pub Reads : Command → List ℕ → Type 0
+Reads (Mark scheme) bytes = (rows : List NodeRow) × IsNetworkInput bytes rows
+Reads (Verify scheme) bytes = (rows : List NodeRow) × (labels : List (List Bool)) × IsInput bytes rows labels
+
+-- the bytes are refused: they are too many, or no input of the command
+abbrev pub IsRefused : Command → List ℕ → TextError → Type 0
+IsRefused command bytes (Limit Input) = MAX_INPUT < length bytes
+IsRefused command bytes (Limit quantity) = ⊥
+IsRefused command bytes (Form line) = (line ≡ 0) × (length bytes ≤ MAX_INPUT) × (Reads command bytes → ⊥)
+IsRefused command bytes (Sense number place) = ⊥
+IsRefused command bytes NoMemory = ⊥
+
+-- the one refusal of form that stands for all refusals of an input
+abbrev pub only : TextError → TextError
+only NoMemory = NoMemory
+only (Form line) = Form 0
+only (Limit quantity) = Form 0
+only (Sense number place) = Form 0

@@ -1,4 +1,5 @@
 pub mod Command
+pub mod Meaning
 pub mod Report
 pub mod Input
 pub mod Scanned

@@ -1,21 +1,17 @@
 //! How a run ends, and the text that it writes.
 
-ghost use Rattle.std.specs.Prelude.{◌≡◌, ◌≢◌, ◌==◌, if◌then◌else◌, ◌≤◌, length, map, zip, IfOk, OnOk};
-ghost use Rattle.pls_app.specs.Report.{rejecting};
-ghost use Rattle.pls_app.specs.Answer.{refusal, refusal_status, report, Answers};
-ghost use Rattle.pls_scheme.specs.Judging.{round_by};
-ghost use Rattle.pls_colour.specs.Bipartite.{judge_bipartite};
+ghost use Rattle.std.specs.Prelude.{◌≡◌, ◌≢◌, ◌≤◌, length, IfOk, OnOk};
+ghost use Rattle.pls_model.specs.declared.status.Status.TheVariants.{Done};
+ghost use Rattle.pls_app.specs.Input.{only};
+ghost use Rattle.pls_app.specs.Answer.{Answers, refusal, refusal_status};
+ghost use Rattle.pls_app.specs.Run.{Certifies};
 
 use crate::command::{Command, SchemeName};
-use crate::input::read_parts;
+use crate::input::{read_connected, read_labelled};
 use crate::limits::MAX_INPUT;
-use crate::report::{rejecting, report_text};
-use pls_base::{NoMemory, Status, Steps, TextError};
-use pls_colour::Bipartite;
-use pls_graph::Network;
-use pls_model::Verdict;
-use pls_scheme::Checker;
-use pls_view::LabelStore;
+use crate::mark::mark;
+use crate::verify::verify;
+use pls_base::{NoMemory, Status, TextError};
 use std::alloc::Global;
 use std::marker::Model;
 
@@ -25,70 +21,62 @@ pub struct Answer {
     /// How the run ends.
     pub status: Status,
     /// All that it writes.
-    pub text: String,
+    pub text: Vec<u8>,
 }
 
 impl Model for Answer {
-    ghost use Rattle.std.specs.Prelude.{string_bytes};
     ghost use Rattle.pls_app.specs.Answer.{Answer as Said};
 
     ghost Value = { Said };
 
-    ghost view = { λ answer. record { status = answer.status; text = string_bytes answer.text } };
+    ghost view = { λ answer. record { status = answer.status; text = answer.text.items } };
 }
 
 // The answer to a command on an input within the limit. The one error is want of memory.
 pub(crate) fn answer_to(alloc: Global, command: Command, bytes: &[u8]) -> Result<Answer, NoMemory>
     requires { length bytes.now ≤ MAX_INPUT }
-    ensures { IfOk result (λ answer. Answers command bytes.now answer) }
+    ensures answer { IfOk result (λ answer. Answers command bytes.now answer) }
+    ensures certified { IfOk result (λ answer. (scheme : SchemeName) → command ≡ Command.Mark scheme
+        → answer.status ≡ Done → Certifies scheme bytes.now answer.text) }
 {
     match command {
-        Command::Verify(SchemeName::Bipartite) => match read_parts(alloc, bytes) {
-            Ok((net, labels)) => verify(alloc, &net, &labels),
-            Err(error) => refuse(alloc, error),
-        },
+        Command::Mark(scheme) => answer_mark(alloc, scheme, bytes),
+        Command::Verify(scheme) => answer_verify(alloc, scheme, bytes),
     }
 }
 
-// The report of the round under these labels.
-fn verify(alloc: Global, net: &Network, labels: &LabelStore) -> Result<Answer, NoMemory>
-    requires { length labels.now ≡ length net.now }
-    ensures { IfOk result (λ answer. answer ≡ report (round_by judge_bipartite net.now labels.now)) }
+// The answer to `mark`.
+fn answer_mark(alloc: Global, scheme: SchemeName, bytes: &[u8]) -> Result<Answer, NoMemory>
+    requires { length bytes.now ≤ MAX_INPUT }
+    ensures answer { IfOk result (λ answer. Answers (Command.Mark scheme) bytes.now answer) }
+    ensures certified { IfOk result (λ answer. answer.status ≡ Done
+        → Certifies scheme bytes.now answer.text) }
 {
-    let mut steps = Steps::new();
-    let verdicts = Bipartite::new().round(alloc, net, labels, &mut steps)?;
-    let rows = with_ids(alloc, net, &verdicts)?;
-    Ok(Answer {
-        status: round_status(&rows),
-        text: report_text(alloc, &rows)?,
-    })
-}
-
-// The status of a round: whether all nodes accept.
-fn round_status(rows: &[(u32, Verdict)]) -> Status
-    ensures { result ≡ (if rejecting rows.now == 0 then Status.Done else Status.No) }
-{
-    if rejecting(rows) == 0 {
-        Status::Done
-    } else {
-        Status::No
+    match read_connected(alloc, bytes) {
+        Ok(net) => mark(alloc, scheme, &net),
+        Err(error) => refuse(alloc, one_refusal(error)),
     }
 }
 
-// Each verdict with the identity of its node.
-fn with_ids(
-    alloc: Global,
-    net: &Network,
-    verdicts: &[Verdict],
-) -> Result<Vec<(u32, Verdict)>, NoMemory>
-    requires { length verdicts.now ≡ length net.now }
-    ensures { IfOk result (λ rows. rows.items ≡ zip (map (λ row. row.id) net.now) verdicts.now) }
+// The answer to `verify`.
+fn answer_verify(alloc: Global, scheme: SchemeName, bytes: &[u8]) -> Result<Answer, NoMemory>
+    requires { length bytes.now ≤ MAX_INPUT }
+    ensures { IfOk result (λ answer. Answers (Command.Verify scheme) bytes.now answer) }
 {
-    let mut rows = Vec::with_capacity(alloc, verdicts.len())?;
-    for (i, verdict) in verdicts.iter().enumerate() {
-        rows.push((net.node(i).0, *verdict))?;
+    match read_labelled(alloc, bytes) {
+        Ok((net, labels)) => verify(alloc, scheme, &net, &labels),
+        Err(error) => refuse(alloc, one_refusal(error)),
     }
-    Ok(rows)
+}
+
+// The one refusal of form that stands for all refusals of an input.
+fn one_refusal(error: TextError) -> TextError
+    ensures { result ≡ only error }
+{
+    match error {
+        TextError::NoMemory => TextError::NoMemory,
+        _ => TextError::Form(0),
+    }
 }
 
 // The answer that says a refusal. Want of memory has none, and is answered by itself.
@@ -104,7 +92,7 @@ pub(crate) fn refuse(alloc: Global, error: TextError) -> Result<Answer, NoMemory
     }?;
     Ok(Answer {
         status: refusal_status(error),
-        text,
+        text: text.into_bytes(),
     })
 }
 

@@ -1,7 +1,7 @@
 //! The words of the command line.
 
 ghost use Rattle.std.specs.Prelude.{◌≡◌, ◌↔◌, IsTrue, map, codes, bytes_eq};
-ghost use Rattle.pls_app.specs.Command.{command_of, scheme_of};
+ghost use Rattle.pls_app.specs.Command.{command_of, command_of_two, scheme_of};
 
 /// A scheme by its name.
 #[derive(Clone, Copy, Debug, PartialEq, Eq)]
@@ -13,6 +13,8 @@ pub enum SchemeName {
 /// What a run is asked to do.
 #[derive(Clone, Copy, Debug, PartialEq, Eq)]
 pub enum Command {
+    /// `mark SCHEME`: read a network, and write labels that prove its property, or `no`.
+    Mark(SchemeName),
     /// `verify SCHEME`: read a network and labels, and report the verdict of each node.
     Verify(SchemeName),
 }
@@ -22,8 +24,21 @@ pub(crate) fn read_words(words: &[&str]) -> Option<Command>
     ensures { result ≡ command_of (map (λ word. word.now) words.now) }
 {
     match words {
-        [command, scheme] if is_word(command, "verify") => read_scheme(scheme).map(Command::Verify),
+        [command, scheme] => read_two(command, scheme),
         _ => None,
+    }
+}
+
+// The command of two words.
+fn read_two(command: &str, scheme: &str) -> Option<Command>
+    ensures { result ≡ command_of_two command.now scheme.now }
+{
+    if is_word(command, "mark") {
+        read_scheme(scheme).map(Command::Mark)
+    } else if is_word(command, "verify") {
+        read_scheme(scheme).map(Command::Verify)
+    } else {
+        None
     }
 }
 

@@ -1,43 +1,59 @@
 //! The parts of an input.
 
-ghost use Rattle.std.specs.Prelude.{◌≡◌, ◌≢◌, ◌≤◌, ◌↔◌, All, IfErr, IfOk, IsTrue, length};
-ghost use Rattle.pls_app.specs.Input.{IsInput, IsRefused};
+ghost use Rattle.std.specs.Prelude.{◌≢◌, ◌≤◌, IfErr, IfOk, OnOk, length};
+ghost use Rattle.pls_model.specs.Walk.{IsConnected};
+ghost use Rattle.pls_app.specs.Input.{IsInput, IsNetworkInput};
 ghost use Rattle.pls_app.specs.Scanned.{IsFormError, IsNoInput, IsScanned};
 
+use crate::command::{Command, SchemeName};
 use crate::limits::MAX_INPUT;
 use pls_base::TextError;
-use pls_graph::Network;
+use pls_graph::{Network, connected};
 use pls_labelfile::{LabelsText, scan_labels};
-use pls_netfile::{Lines, NetworkText, scan_network};
+use pls_netfile::{Lines, NetworkText, read_network, scan_network};
 use pls_view::LabelStore;
 use std::alloc::Global;
 
-// The network and the labels of an input, or why it is refused.
-pub(crate) fn read_parts(alloc: Global, bytes: &[u8]) -> Result<(Network, LabelStore), TextError>
+// The connected network that an input is, or why it is none. Its refusals stand for one another.
+pub(crate) fn read_connected(alloc: Global, bytes: &[u8]) -> Result<Network, TextError>
     requires { length bytes.now ≤ MAX_INPUT }
-    ensures parts { IfOk result (λ parts. IsInput bytes.now parts.0 parts.1) }
-    ensures refused { IfErr result (λ error. error ≢ TextError.NoMemory → IsRefused bytes.now error) }
+    ensures network { IfOk result (λ net. IsNetworkInput bytes.now net) }
+    ensures refused { IfErr result (λ error. (scheme : SchemeName)
+        → IsNoInput (Command.Mark scheme) bytes.now error) }
 {
-    match parts_of(alloc, bytes) {
-        Ok(parts) => Ok(parts),
-        Err(TextError::NoMemory) => Err(TextError::NoMemory),
-        Err(_) => Err(TextError::Form(0)),
-    }
+    let net = read_network(alloc, bytes)?;
+    test_connected(alloc, &net)?;
+    Ok(net)
 }
 
-// The network and the labels of an input, or that it is the text of none.
-fn parts_of(alloc: Global, bytes: &[u8]) -> Result<(Network, LabelStore), TextError>
+// The connected network and the labels that an input is, or why it is none.
+pub(crate) fn read_labelled(
+    alloc: Global,
+    bytes: &[u8],
+) -> Result<(Network, LabelStore), TextError>
     requires { length bytes.now ≤ MAX_INPUT }
     ensures parts { IfOk result (λ parts. IsInput bytes.now parts.0 parts.1) }
-    ensures refused { IfErr result (λ error. IsNoInput bytes.now error) }
+    ensures refused { IfErr result (λ error. (scheme : SchemeName)
+        → IsNoInput (Command.Verify scheme) bytes.now error) }
 {
     let (network, labels) = scan_parts(bytes)?;
     let net = network.build(alloc)?;
+    test_connected(alloc, &net)?;
     let store = labels.build(alloc, &net)?;
-    if are_single_bits(&store) {
-        Ok((net, store))
-    } else {
-        Err(TextError::Form(0))
+    Ok((net, store))
+}
+
+// Refuses a network whose edges do not join all nodes.
+fn test_connected(alloc: Global, net: &Network) -> Result<(), TextError>
+    ensures connected { OnOk result (IsConnected net.now) }
+    ensures refused { IfErr result (λ error. error ≢ TextError.NoMemory → IsConnected net.now → ⊥) }
+{
+    match connected(alloc, net)? {
+        None => Ok(()),
+        Some(id) => Err(TextError::Sense {
+            number: 17,
+            place: id as u64,
+        }),
     }
 }
 
@@ -54,16 +70,4 @@ fn scan_parts<'a>(bytes: &'a [u8]) -> Result<(NetworkText<'a>, LabelsText<'a>), 
     } else {
         Err(TextError::Form(lines.number()))
     }
-}
-
-// Whether each label is one bit.
-fn are_single_bits(labels: &LabelStore) -> bool
-    ensures { IsTrue result ↔ All (λ label. length label ≡ 1) labels.now }
-{
-    for i in 0..labels.len() {
-        if labels.bits(i).len() != 1 {
-            return false;
-        }
-    }
-    true
 }

@@ -10,9 +10,11 @@ mod command;
 mod input;
 mod laws;
 mod limits;
+mod mark;
 mod outcome;
 mod report;
 mod top;
+mod verify;
 
 pub use command::{Command, SchemeName};
 pub use laws::{one_answer, one_input};

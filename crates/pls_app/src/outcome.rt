@@ -3,10 +3,10 @@
 ghost use Rattle.std.specs.Prelude.{◌≡◌, ◌+◌, ℕ, List, Some, Ok, Err, IfOk, IfErr, MatchResult, OnOk};
 ghost use Rattle.pls_base.specs.Streams.{LosesAtMost};
 ghost use Rattle.pls_app.specs.Answer.{Answers};
-ghost use Rattle.pls_app.specs.Run.{IsAnswered, IsCause, HasRead};
+ghost use Rattle.pls_app.specs.Run.{Certifies, HasRead, IsAnswered, IsCause};
 
 use crate::answer::{Answer, answer_to, refuse};
-use crate::command::Command;
+use crate::command::{Command, SchemeName};
 use crate::limits::MAX_INPUT;
 use pls_base::{NoMemory, Quantity, ReadError, Source, Status, TextError, read_all};
 use std::alloc::Global;
@@ -20,6 +20,9 @@ pub(crate) fn answer_from<S: Source>(
 ) -> Result<Answer, Status>
     ensures answer { IfOk result (λ answer. (bytes : List ℕ) → S.left source.old ≡ Some bytes
         → Answers command bytes answer) }
+    ensures certified { IfOk result (λ answer. (scheme : SchemeName) (bytes : List ℕ)
+        → S.left source.old ≡ Some bytes → command ≡ Command.Mark scheme
+        → answer.status ≡ Status.Done → Certifies scheme bytes answer.text) }
     ensures answered { IfOk result (λ answer. IsAnswered answer.status) }
     ensures read { OnOk result (HasRead (S.left source.old) (S.left source.new)) }
     ensures cause { IfErr result (λ status. IsCause status (S.faults source.old) (S.faults source.new)) }

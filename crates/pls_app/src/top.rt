@@ -3,7 +3,7 @@
 ghost use Rattle.std.specs.Prelude.{◌≡◌, ◌+◌, ◌⊎◌, ℕ, List, Some, None, map};
 ghost use Rattle.pls_base.specs.Streams.{LosesAtMost, Rose};
 ghost use Rattle.pls_app.specs.Command.{command_of};
-ghost use Rattle.pls_app.specs.Run.{IsAnswered, Tells, TellsPart, HasRead, Proves, Told};
+ghost use Rattle.pls_app.specs.Run.{IsAnswered, Tells, TellsPart, HasRead, Lacks, Proves, Told, TookCertificate};
 
 use crate::command::{Command, SchemeName, read_words};
 use crate::limits::MAX_INPUT;
@@ -51,11 +51,18 @@ pub fn run<'w, S: Source, K: Sink>(
     ensures check { (scheme : SchemeName) (bytes : List ℕ) → S.left source.old ≡ Some bytes
         → command_of (map (λ word. word.now) words.now) ≡ Some (Command.Verify scheme)
         → result ≡ Status.Done → Proves scheme bytes }
+    ensures mark { (scheme : SchemeName) (bytes : List ℕ) → S.left source.old ≡ Some bytes
+        → command_of (map (λ word. word.now) words.now) ≡ Some (Command.Mark scheme)
+        → result ≡ Status.Done
+        → TookCertificate scheme bytes (K.taken sink.old) (K.taken sink.new) }
+    ensures mark_no { (scheme : SchemeName) (bytes : List ℕ) → S.left source.old ≡ Some bytes
+        → command_of (map (λ word. word.now) words.now) ≡ Some (Command.Mark scheme)
+        → result ≡ Status.No → Lacks scheme bytes }
 {
     match read_words(words) {
         None => tell(sink, Status::Usage, b"usage\n"),
         Some(command) => match answer_from(alloc, command, source) {
-            Ok(answer) => tell(sink, answer.status, answer.text.as_bytes()),
+            Ok(answer) => tell(sink, answer.status, &answer.text),
             Err(status) => status,
         },
     }

@@ -4,7 +4,7 @@ use Rattle.std.proofs.lemmas.Option.{slice_get-map, slice_get-get_or}
 use Rattle.std.proofs.lemmas.Slice.Zip.{length-zip}
 use Rattle.pls_model.specs.declared.row.NodeRow.{NodeRow}
 use Rattle.pls_app.proofs.Rounds.{zip_more}
-use Rattle.pls_app.proofs.answer.with_ids.Goals as goal
+use Rattle.pls_app.proofs.verify.with_ids.Goals as goal
 
 pub loop-i-preserved : goal.loop-i-preserved
 loop-i-preserved c =

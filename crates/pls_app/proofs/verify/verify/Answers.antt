@@ -5,7 +5,7 @@ use Rattle.pls_view.specs.Seen.{label_of}
 use Rattle.pls_scheme.specs.Judging.{round_by}
 use Rattle.pls_colour.specs.Bipartite.{judge_bipartite}
 use Rattle.pls_app.proofs.Rounds.{zip-round}
-use Rattle.pls_app.proofs.answer.verify.Goals as goal
+use Rattle.pls_app.proofs.verify.verify.Goals as goal
 
 pub returns : goal.returns
 returns c =
