@@ -1,4 +1,5 @@
-//! The fewest edges of a walk from one node to each.
+//! The fewest edges of a walk from one node to each, found one level after another: each place is
+//! entered once, and the neighbour at each port is looked up once.
 
 ghost use Rattle.std.specs.Prelude.{◌≡◌, ◌<◌, ◌==◌, length, All, IsSome, IfOk, OnOk, None, replicate, [], ◌∷◌};
 ghost use Rattle.pls_model.specs.Configuration.{row_of, IsNetwork};
