@@ -13,7 +13,7 @@ use Rattle.pls_model.specs.declared.verdict.Verdict.TheVariants.{Accept, Reject}
 use Rattle.pls_view.specs.Seen.{Seen, views}
 use Rattle.pls_scheme.specs.Judging.{AllAccept, round_by}
 use Rattle.pls_colour.specs.Bipartite.{judge_bipartite}
-use Rattle.pls_colour.proofs.Sound.{bipartite_sound}
+use Rattle.pls_colour.specs.BipartiteLaws.{bipartite_sound}
 use Rattle.pls_app.specs.declared.command.Command.TheVariants.{Verify}
 use Rattle.pls_app.specs.declared.command.SchemeName.{SchemeName}
 use Rattle.pls_app.specs.declared.command.SchemeName.TheVariants.{Bipartite}

@@ -1,1 +1,3 @@
-pub mod Sound
+pub mod Parity
+pub mod Marking
+pub mod Places

@@ -1,11 +1,11 @@
 -- Two-colourings: the property, the layout of a label, and what a node judges.
-use Rattle.std.specs.Prelude.{◌≡◌, ◌≢◌, ℕ, Bool, true, false, not, List, [], ◌∷◌, map, Contains, Option, Some, None}
+use Rattle.std.specs.Prelude.{◌≢◌, ℕ, Bool, true, false, List, [], ◌∷◌, Contains, Option, Some, None}
 use Rattle.std.specs.List.{list_all}
 use Rattle.std.specs.Option.{is_some}
 use Rattle.pls_model.specs.declared.row.NodeRow.{NodeRow}
 use Rattle.pls_model.specs.declared.verdict.Verdict.{Verdict}
 use Rattle.pls_model.specs.Walk.{Edge, edges_of}
-use Rattle.pls_view.specs.Seen.{Seen, SeenPort}
+use Rattle.pls_view.specs.Seen.{Seen}
 use Rattle.pls_scheme.specs.Judging.{judged}
 
 -- the map from nodes to two colours differs across each edge

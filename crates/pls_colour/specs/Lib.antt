@@ -1,2 +1,4 @@
 pub mod Bipartite
 pub mod Marked
+pub mod Parities
+pub mod BipartiteLaws

@@ -14,4 +14,4 @@ is_odd number = number % 2 == 1
 pub record IsParityMarked (rows : List NodeRow) (labels : List (List Bool)) : Type 0 where
   pub each : length labels ≡ length rows
   pub parity : (first row : NodeRow) (level : ℕ) → slice_get rows 0 ≡ Some first → Contains rows row
-    → IsLevel (edges_of rows) first.id row.id level → label_of rows labels row.id ≡ is_odd level ∷ []
+      → IsLevel (edges_of rows) first.id row.id level → label_of rows labels row.id ≡ is_odd level ∷ []

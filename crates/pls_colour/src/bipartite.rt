@@ -125,7 +125,7 @@ fn all_differ(own: Option<bool>, ports: &[PortView<'_>]) -> bool
 }
 
 // Whether two labels say different colours.
-fn differ(one: Option<bool>, other: Option<bool>) -> bool
+pub(crate) fn differ(one: Option<bool>, other: Option<bool>) -> bool
     ensures { result ≡ differ one other }
 {
     match (one, other) {
@@ -135,7 +135,7 @@ fn differ(one: Option<bool>, other: Option<bool>) -> bool
 }
 
 // The colour that a label says: its one bit.
-fn colour_of(bits: &Bits<'_>) -> Option<bool>
+pub(crate) fn colour_of(bits: &Bits<'_>) -> Option<bool>
     ensures { result ≡ colour_in bits.now }
 {
     if bits.len() == 1 {

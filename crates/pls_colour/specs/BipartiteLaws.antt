@@ -1,6 +1,6 @@
--- Labels that every node accepts are a two-colouring.
-use Rattle.std.proofs.Common.{◌≡◌, ◌≢◌, ℕ, Bool, true, false, List, map, Option, Some, None, unwrap_or, Contains, nat_lt, ap, subst, refl}
-use Rattle.std.specs.List.{filter, list_all}
+-- What the labels of two-colourings say: one colour each, and all together a two-colouring.
+use Rattle.std.proofs.Common.{◌≡◌, ◌≢◌, ◌∙◌, sym, ℕ, Bool, true, false, List, [], ◌∷◌, map, Option, Some, None, unwrap_or, Contains, nat_lt, ap, subst}
+use Rattle.std.specs.List.{filter}
 use Rattle.std.proofs.lemmas.List.Elements.{All-contains}
 use Rattle.std.proofs.lemmas.List.Sums.{AllPass-from_list_all}
 use Rattle.pls_model.specs.declared.row.Port.{Port}
@@ -8,10 +8,11 @@ use Rattle.pls_model.specs.declared.row.NodeRow.{NodeRow}
 use Rattle.pls_model.specs.declared.verdict.Verdict.TheVariants.{Accept}
 use Rattle.pls_model.specs.Walk.{Edge, edges_from, edges_of}
 use Rattle.pls_graph.proofs.Members.{Contains-map, Contains-from_map, Contains-from_filter, Contains-from_flat_map}
-use Rattle.pls_view.specs.Seen.{Seen, SeenPort, label_of, seen, seen_port}
+use Rattle.pls_view.specs.Seen.{SeenPort, label_of, seen, seen_port}
 use Rattle.pls_scheme.specs.Judging.{AllAccept}
 use Rattle.pls_scheme.proofs.Leaves.{judged-each}
-use Rattle.pls_colour.specs.Bipartite.{IsBipartite, colour_in, differ, differs_from_neighbours, bipartite_rules, judge_bipartite}
+use Rattle.pls_colour.specs.declared.bipartite.ColourLabel.{ColourLabel}
+use Rattle.pls_colour.specs.Bipartite.{IsBipartite, colour_in, differ, bipartite_rules, judge_bipartite}
 
 -- the colour of a label, and one of the two where it says none
 abbrev shown_colour : List Bool → Bool
@@ -57,3 +58,16 @@ bipartite_sound rows labels accepted = (λ id. shown_colour (label id), across)
         All-contains (λ view. judge_bipartite view ≡ Accept) (map (seen label) rows) (seen label row) accepted (Contains-map (seen label) rows row from.1) in
         let differs = accepted_port label row port accepts (Contains-from_filter up row.ports port given.1).0 in
         subst (λ (edge : Edge). shown_colour (label edge.a) ≢ shown_colour (label edge.b)) given.2 differs
+
+-- bits say one colour
+pub one_colour : (bits : List Bool) (a b : ColourLabel) → bits ≡ a.colour ∷ [] → bits ≡ b.colour ∷ [] → a ≡ b
+one_colour bits a b first second =
+    let same : a.colour ≡ b.colour = cc in
+    ap (λ (colour : Bool). the_label colour) same
+  where
+    the_label : Bool → ColourLabel
+    the_label colour = record { colour = colour }
+
+-- a label has one spelling
+pub one_spelling : (label : ColourLabel) (a b : List Bool) → a ≡ label.colour ∷ [] → b ≡ label.colour ∷ [] → a ≡ b
+one_spelling label a b first second = first ∙ sym second
