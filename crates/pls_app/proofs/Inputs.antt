@@ -31,6 +31,8 @@ use Rattle.pls_app.specs.declared.command.Command.{Command}
 use Rattle.pls_app.specs.declared.command.Command.TheVariants.{Mark, Verify}
 use Rattle.pls_app.specs.declared.command.SchemeName.{SchemeName}
 use Rattle.pls_graph.specs.Connected.{IsFirstApart, smallest_id}
+use Rattle.pls_graph.proofs.Members.{Contains-first}
+use Rattle.pls_graph.proofs.Placed.{smallest_first}
 use Rattle.pls_app.specs.Input.{AreLabels, IsInput, IsInputLines, IsNetworkInput, IsReadable, Reads}
 use Rattle.pls_app.specs.Scanned.{IsFormError, IsNoInput, IsScanned}
 
@@ -271,12 +273,16 @@ no_network_by_walks scheme bytes net error ranges is apart =
       let same = one_network read.0 net [] [] read.1.readable.ranges ranges ends in
       apart some (subst IsConnected same.0 read.1.readable.connected))
 
--- a node that is apart is joined to the smallest by no walk, so the network is not connected
+-- the smallest node is a node
+smallest_in : (rows : List NodeRow) → IsNetwork rows → Contains (ids_of rows) (smallest_id rows)
+smallest_in [] net = absurd (omega (arith, net.limits.some))
+smallest_in (first ∷ rows) net =
+    let smallest : smallest_id (first ∷ rows) ≡ first.id = smallest_first (first ∷ rows) net first refl in
+    subst (Contains (ids_of (first ∷ rows))) (sym smallest) (Contains-first first.id (ids_of rows))
+
+-- where a node is joined to the smallest by no walk, the network is not connected
 pub apart_from : (rows : List NodeRow) (id : ℕ) → IsNetwork rows → IsFirstApart rows id → IsConnected rows → ⊥
 apart_from rows id net apart connected = apart.apart (connected (smallest_id rows) id (smallest_in rows net) apart.node)
-  where
-    smallest_in : (rows : List NodeRow) → IsNetwork rows → Contains (ids_of rows) (smallest_id rows)
-    smallest_in rows net = ?
 
 -- a test that failed does not hold
 pub no_truth : (b : Bool) → b ≡ false → b ≡ true → ⊥

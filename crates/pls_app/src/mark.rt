@@ -10,8 +10,10 @@ ghost use Rattle.pls_app.specs.Run.{Shows, ShowsIn};
 use crate::answer::Answer;
 use crate::command::SchemeName;
 use pls_base::{NoMemory, Status};
+use pls_colour::Bipartite;
 use pls_graph::Network;
 use pls_labelfile::write_labels;
+use pls_scheme::Scheme;
 use pls_view::LabelStore;
 use std::alloc::Global;
 
@@ -44,5 +46,7 @@ fn labels_of(
     ensures marked { IfOk result (λ found. IfSome found (λ labels. IsMarked scheme net.now labels)) }
     ensures shows { IfOk result (λ found. IfSome found (λ labels. Shows scheme net.now labels)) }
 {
-    Err(NoMemory)
+    match scheme {
+        SchemeName::Bipartite => Bipartite::new().mark(alloc, net),
+    }
 }

@@ -1,6 +1,6 @@
 -- Colours by parities of levels: that they differ at each port just where the network has a
 -- two-colouring, and that their labels are then accepted.
-use Rattle.std.proofs.Common.{◌≡◌, ◌≢◌, ◌∙◌, ℕ, ◌<◌, ◌≤◌, ◌==◌, Bool, true, false, List, [], ◌∷◌, map, length, position, Option, Some, None, refl, sym, ap, subst, arith, get_or, slice_get, unwrap_or, is_some, All, option_map, IsTrue, ◌↔◌}
+use Rattle.std.proofs.Common.{◌≡◌, ◌≢◌, ◌∙◌, ℕ, suc, ◌<◌, ◌≤◌, ◌==◌, Bool, true, false, List, [], ◌∷◌, map, length, position, Option, Some, None, refl, sym, ap, subst, arith, get_or, slice_get, unwrap_or, is_some, All, option_map, IsTrue, ◌↔◌}
 use Rattle.std.specs.Option.{option_and_then}
 use Rattle.std.proofs.lemmas.List.{length-map}
 use Rattle.std.proofs.lemmas.List.Elements.{All-map}
@@ -156,23 +156,46 @@ module _ (rows : List NodeRow) (net : IsNetwork rows) (colours : List Bool) wher
   pub parities_marked : AreParities rows colours → IsParityMarked rows (map label_of_colour colours)
   parities_marked parities = record {
     each = length-map colours label_of_colour ∙ parities.each;
-    parity = λ first row level at_first in' is_level. by first row level at_first is_level (place_from_Contains rows row in');
+    parity = λ first row place label at_first at at_label.
+        by first row place label at_first at (slice_get colours place) refl (sym (slice_get-map label_of_colour colours place) ∙ at_label);
   }
     where
-      by : (first row : NodeRow) (level : ℕ) → slice_get rows 0 ≡ Some first → IsLevel (edges_of rows) first.id row.id level → (i : ℕ) × (slice_get rows i ≡ Some row)
-          → label_of rows (map label_of_colour colours) row.id ≡ is_odd level ∷ []
-      by first row level at_first is_level (i, at) =
-          let own : (colour : Bool) × (slice_get colours i ≡ Some colour) × (colour_at rows colours row.id ≡ Some colour) = colour_of_row parities.each i row at in
-          let found : (known : ℕ) × IsLevel (edges_of rows) first.id row.id known × (own.0 ≡ is_odd known) = parities.parity first row i own.0 at_first at own.1 in
-          let same : known_is found.0 = one_level (edges_of rows) first.id row.id found.0 level found.1 is_level in
-          let label_is : slice_get (map label_of_colour colours) i ≡ Some (own.0 ∷ []) = slice_get-map label_of_colour colours i ∙ ap (option_map label_of_colour) own.1 in
-          ap (λ (place : Option ℕ). unwrap_or (option_and_then (slice_get (map label_of_colour colours)) place) []) (place_of_row rows net i row at)
-          ∙ ap (λ (label : Option (List Bool)). unwrap_or label []) label_is
-          ∙ ap label_of_colour (found.2 ∙ ap is_odd same)
-        where
-          known_is : ℕ → Type 0
-          known_is known = known ≡ level
+      by : (first row : NodeRow) (place : ℕ) (label : List Bool) → slice_get rows 0 ≡ Some first → slice_get rows place ≡ Some row
+          → (colour : Option Bool) → slice_get colours place ≡ colour → option_map label_of_colour colour ≡ Some label
+          → (level : ℕ) × IsLevel (edges_of rows) first.id row.id level × (label ≡ is_odd level ∷ [])
+      by first row place label at_first at None at_colour same = absurd (cc)
+      by first row place label at_first at (Some colour) at_colour same =
+          let found : (level : ℕ) × IsLevel (edges_of rows) first.id row.id level × (colour ≡ is_odd level) = parities.parity first row place colour at_first at at_colour in
+          let is_label : label_of_colour colour ≡ label = cc in
+          (found.0, found.1, sym is_label ∙ ap label_of_colour found.2)
 
 -- a label that says a colour is one bit long
 pub labels_short : (colours : List Bool) → All (λ (label : List Bool). length label ≤ 1) (map label_of_colour colours)
 labels_short colours = All-map (λ (label : List Bool). length label ≤ 1) label_of_colour colours (λ i d within. omega arith)
+
+-- lists that agree at each place are one
+same_list : {X : Type 0} (xs ys : List X) → length xs ≡ length ys → ((i : ℕ) (x y : X) → slice_get xs i ≡ Some x → slice_get ys i ≡ Some y → x ≡ y) → xs ≡ ys
+same_list [] [] long agree = refl
+same_list [] (y ∷ ys) long agree = absurd (omega arith)
+same_list (x ∷ xs) [] long agree = absurd (omega arith)
+same_list (x ∷ xs) (y ∷ ys) long agree =
+    let first : x ≡ y = agree 0 x y refl refl in
+    let rest : xs ≡ ys = same_list xs ys (omega arith) (λ i a b at_a at_b. agree (suc i) a b at_a at_b) in
+    rw (first, rest) refl
+
+-- a network is marked in one way
+pub one_marking : (rows : List NodeRow) (labels others : List (List Bool)) → 1 ≤ length rows → IsParityMarked rows labels → IsParityMarked rows others → labels ≡ others
+one_marking [] labels others some one two = absurd (omega arith)
+one_marking (first ∷ rows) labels others some one two = same_list labels others (one.each ∙ sym two.each) agree
+  where
+    all : List NodeRow
+    all = first ∷ rows
+    agree : (i : ℕ) (label other : List Bool) → slice_get labels i ≡ Some label → slice_get others i ≡ Some other → label ≡ other
+    agree i label other at_label at_other =
+        let within : i < length all = omega (arith, slice_get_within labels i label at_label, one.each) in
+        let row : NodeRow = get_or all i first in
+        let at : slice_get all i ≡ Some row = slice_get-get_or all i first within in
+        let mine = one.parity first row i label refl at at_label in
+        let theirs = two.parity first row i other refl at at_other in
+        let same : mine.0 ≡ theirs.0 = one_level (edges_of all) first.id row.id mine.0 theirs.0 mine.1 theirs.1 in
+        mine.2 ∙ ap (λ (level : ℕ). is_odd level ∷ []) same ∙ sym theirs.2

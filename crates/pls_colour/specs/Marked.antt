@@ -1,9 +1,8 @@
 -- The labels of a connected network with a two-colouring: the parity of each node's level.
-use Rattle.std.specs.Prelude.{◌≡◌, ℕ, ◌%◌, ◌==◌, Bool, List, [], ◌∷◌, length, slice_get, Some, Contains}
+use Rattle.std.specs.Prelude.{◌≡◌, ℕ, ◌%◌, ◌==◌, Bool, List, [], ◌∷◌, length, slice_get, Some}
 use Rattle.pls_model.specs.declared.row.NodeRow.{NodeRow}
 use Rattle.pls_model.specs.Walk.{edges_of}
 use Rattle.pls_search.specs.Levels.{IsLevel}
-use Rattle.pls_view.specs.Seen.{label_of}
 
 -- the number is odd
 abbrev pub is_odd : ℕ → Bool
@@ -13,5 +12,6 @@ is_odd number = number % 2 == 1
 -- which stands first, are an odd number
 pub record IsParityMarked (rows : List NodeRow) (labels : List (List Bool)) : Type 0 where
   pub each : length labels ≡ length rows
-  pub parity : (first row : NodeRow) (level : ℕ) → slice_get rows 0 ≡ Some first → Contains rows row
-      → IsLevel (edges_of rows) first.id row.id level → label_of rows labels row.id ≡ is_odd level ∷ []
+  pub parity : (first row : NodeRow) (place : ℕ) (label : List Bool) → slice_get rows 0 ≡ Some first
+      → slice_get rows place ≡ Some row → slice_get labels place ≡ Some label
+      → (level : ℕ) × IsLevel (edges_of rows) first.id row.id level × (label ≡ is_odd level ∷ [])
