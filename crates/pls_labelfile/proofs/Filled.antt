@@ -17,9 +17,9 @@ use Rattle.pls_labelfile.proofs.LabelLines.{same_bits}
 use Rattle.pls_labelfile.proofs.NextLabels.{one_behind}
 use Rattle.pls_labelfile.proofs.Misfits.{names_of, misfit-append, misfit-first}
 
--- the bits of labels
-abbrev pub bits_in : List NamedLabel → List (List Bool)
-bits_in labels = map (λ label. label.bits) labels
+-- the labels without the identities that they name
+abbrev pub bare : List NamedLabel → List (List Bool)
+bare labels = map (λ label. label.bits) labels
 
 -- so many labels were read of the text and name the first nodes; what is left says the others, and
 -- the store has the bits of those that were read
@@ -31,7 +31,7 @@ pub record Filled (ids text rest : List ℕ) (store : List (List Bool)) (count :
   pub left : List ℕ
   pub names : ids ≡ names_of read ++ left
   pub many : count ≡ length read
-  pub filled : store ≡ bits_in read ++ replicate (length left) []
+  pub filled : store ≡ bare read ++ replicate (length left) []
 
 -- nothing was read yet
 pub nothing_read : (rows : List NodeRow) (text : List ℕ) (store : List (List Bool)) → IsBehind text
@@ -47,6 +47,7 @@ nothing_read rows text store behind blank = record {
   filled = blank ∙ ap (λ (n : ℕ). replicate n []) (sym (length-map rows (λ row. row.id)));
 }
 
+-- what is left fits where all do
 All-behind : (read more : List NamedLabel) → All FitsLabel (read ++ more) → All FitsLabel more
 All-behind [] more fits = fits
 All-behind (label ∷ read) more fits = All-behind read more (All-tail FitsLabel label (read ++ more) fits)
@@ -57,6 +58,7 @@ pub rest_behind : (ids text rest : List ℕ) (store : List (List Bool)) (count :
 rest_behind ids text rest store count f =
     record { fits = All-behind f.read f.more f.behind.fits; is = f.rest_is }
 
+-- and so there are labels that it says
 pub is_behind : (ids text rest : List ℕ) (store : List (List Bool)) (count : ℕ) → Filled ids text rest store count
     → IsBehind rest
 is_behind ids text rest store count f = (f.more, rest_behind ids text rest store count f)
@@ -68,11 +70,13 @@ pub record FirstLeft (left : List ℕ) (id : ℕ) : Type 0 where
   pub others : List ℕ
   pub is : left ≡ id ∷ others
 
+-- where a list ends and another begins
 seam : (a left : List ℕ) (id : ℕ) → slice_get (a ++ left) (length a) ≡ Some id → FirstLeft left id
 seam [] [] id e = absurd (cc)
 seam [] (x ∷ left) id e = let same : x ≡ id = cc in record { others = left; is = ap (λ (y : ℕ). y ∷ left) same }
 seam (y ∷ a) left id e = seam a left id e
 
+-- the node at the place is the first of those that are left
 pub first_left : (rows : List NodeRow) (text rest : List ℕ) (store : List (List Bool)) (place id : ℕ)
     → (f : Filled (ids_of rows) text rest store place) → option_map (λ row. row.id) (slice_get rows place) ≡ Some id
     → FirstLeft f.left id
@@ -104,7 +108,7 @@ store_length rows text rest store count f =
       f.many,
       left_count rows text rest store count f,
       ap length f.filled,
-      length-append (bits_in f.read) (replicate (length f.left) []),
+      length-append (bare f.read) (replicate (length f.left) []),
       length-map f.read (λ label. label.bits),
       length-replicate {A = List Bool} (length f.left) [],
     )
@@ -127,6 +131,7 @@ stops ids text rest store count f first labels behind =
     sym (decided ids text rest store count f labels behind ∙ ap (option_map (λ p. p + count)) first
     ∙ ap (λ (n : ℕ). Some n) place)
 
+-- nodes are left, labels are left, neither is left
 misfit-nodes_left : (left : List ℕ) → 0 < length left → misfit left [] ≡ Some 0
 misfit-nodes_left [] some = absurd (omega arith)
 misfit-nodes_left (id ∷ left) some = refl
@@ -183,18 +188,18 @@ none_misfits rows text rest store count f all end labels behind =
     sym (decided (ids_of rows) text rest store count f labels behind
     ∙ ap (option_map (λ p. p + count)) (ap (misfit f.left) more ∙ misfit-none_left f.left none))
 
+-- and then the store has the bits of all
 pub all_filled : (rows : List NodeRow) (text rest : List ℕ) (store : List (List Bool)) (count : ℕ)
     → Filled (ids_of rows) text rest store count → length rows ≤ count → Behind rest []
-    → (labels : List NamedLabel) → Behind text labels → store ≡ bits_in labels
+    → (labels : List NamedLabel) → Behind text labels → store ≡ bare labels
 all_filled rows text rest store count f all end labels behind =
     let more = one_behind rest f.more [] (rest_behind _ _ _ _ _ f) end in
     let none : length f.left ≡ 0 = omega (arith, left_count rows text rest store count f) in
     let same = one_behind text (f.read ++ f.more) labels f.behind behind in
-    f.filled ∙ ap (λ (n : ℕ). bits_in f.read ++ replicate n []) none ∙ append-nil (bits_in f.read)
-    ∙ ap bits_in (sym (ap (λ (ls : List NamedLabel). f.read ++ ls) more ∙ append-nil f.read) ∙ same)
+    f.filled ∙ ap (λ (n : ℕ). bare f.read ++ replicate n []) none ∙ append-nil (bare f.read)
+    ∙ ap bare (sym (ap (λ (ls : List NamedLabel). f.read ++ ls) more ∙ append-nil f.read) ∙ same)
 
--- ---- one label more
-
+-- the next label names the node at the place, and its bits were put there
 pub one_filled_more : (rows : List NodeRow) (text rest after : List ℕ) (store now : List (List Bool)) (place id : ℕ)
     (words : LabelWords) (bits : List Bool) → Filled (ids_of rows) text rest store place
     → option_map (λ row. row.id) (slice_get rows place) ≡ Some id → NextLabel rest words after → words.id ≡ id
@@ -206,7 +211,7 @@ one_filled_more rows text rest after store now place id words bits f at next sam
     let name : id ≡ next.label.id = sym same ∙ ap (λ (w : LabelWords). w.id) next.words_are in
     let bits_are : bits ≡ next.label.bits = same_bits bits next.label.bits
     (long ∙ ap (λ (w : LabelWords). w.len) next.words_are) (is ∙ ap (λ (w : LabelWords). w.hex) next.words_are) in
-    let count : place ≡ length (bits_in f.read) = f.many ∙ sym (length-map f.read (λ label. label.bits)) in
+    let count : place ≡ length (bare f.read) = f.many ∙ sym (length-map f.read (λ label. label.bits)) in
     record {
       read = f.read ++ next.label ∷ [];
       more = next.more;
@@ -220,11 +225,11 @@ one_filled_more rows text rest after store now place id words bits f at next sam
       many = omega (arith, f.many, length-append f.read (next.label ∷ []));
       filled = set
           ∙ ap (λ (s : List (List Bool)). slice_set s place bits)
-          (f.filled ∙ ap (λ (ids : List ℕ). bits_in f.read ++ replicate (length ids) []) first.is)
-          ∙ ap (λ (n : ℕ). slice_set (bits_in f.read ++ [] ∷ replicate (length first.others) []) n bits) count
-          ∙ set-append_seam (bits_in f.read) [] (replicate (length first.others) []) bits
-          ∙ ap (λ (b : List Bool). bits_in f.read ++ b ∷ replicate (length first.others) []) bits_are
-          ∙ sym (append_assoc (bits_in f.read) (next.label.bits ∷ []) (replicate (length first.others) []))
+          (f.filled ∙ ap (λ (ids : List ℕ). bare f.read ++ replicate (length ids) []) first.is)
+          ∙ ap (λ (n : ℕ). slice_set (bare f.read ++ [] ∷ replicate (length first.others) []) n bits) count
+          ∙ set-append_seam (bare f.read) [] (replicate (length first.others) []) bits
+          ∙ ap (λ (b : List Bool). bare f.read ++ b ∷ replicate (length first.others) []) bits_are
+          ∙ sym (append_assoc (bare f.read) (next.label.bits ∷ []) (replicate (length first.others) []))
           ∙ ap (λ (s : List (List Bool)). s ++ replicate (length first.others) [])
           (sym (map_push (λ (label : NamedLabel). label.bits) f.read next.label));
     }

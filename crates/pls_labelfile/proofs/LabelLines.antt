@@ -18,6 +18,7 @@ use Rattle.pls_labelfile.specs.LabelLine.{LabelWords, AreInRange, FitsWords, IsH
 pub words_in_range : (label : NamedLabel) → FitsLabel label → AreInRange (words_of label)
 words_in_range label fits = record { id = fits.id; short = fits.short }
 
+-- and so they fit
 pub words_fit : (label : NamedLabel) → FitsLabel label → FitsWords (words_of label)
 words_fit label fits = record {
   in_range = words_in_range label fits;
@@ -38,6 +39,7 @@ pub line_of_words : (words : LabelWords) (bits : List Bool) → length bits ≡ 
 line_of_words words bits long is =
     λ i. line_of (codes "label" ∷ decimal words.id ∷ decimal (long i) ∷ is i ∷ [])
 
+-- its line is that of the words
 pub label_of-line : (words : LabelWords) (fits : FitsWords words)
     → label_line (label_of words fits) ≡ written_label words
 label_of-line words fits = line_of_words words fits.hex.bits fits.hex.long fits.hex.is
@@ -59,11 +61,13 @@ lower_lacks byte (digit ∷ digits) low h =
     above : (digit : ℕ) → is_lower_digit digit ≡ true → digit ≢ byte
     above digit h same = grind (arith, nat_tests)
 
+-- the last word of a line has no byte below its dash and its digits
 hex_word_lacks : (byte : ℕ) (bits : List Bool) → byte < 45 → Lacks byte (hex_word bits)
 hex_word_lacks byte [] low = (omega arith, tt)
 hex_word_lacks byte (bit ∷ bits) low =
     lower_lacks byte (hex_digits (bit ∷ bits)) (omega arith) (hex_digits-is_lower (bit ∷ bits))
 
+-- no line of a label has a line feed
 pub label_plain : (label : NamedLabel) → FitsLabel label → Lacks 10 (label_line label)
 label_plain label fits =
     line_lacks 10 (codes "label" ∷ decimal label.id ∷ decimal (length label.bits) ∷ hex_word label.bits ∷ []) (omega arith) (
@@ -81,20 +85,23 @@ label_plain label fits =
 pub label_no_end : (label : NamedLabel) → label_line label ≢ codes "end"
 label_no_end label e = omega (arith, same_head 108 101 _ _ e)
 
+-- and back
 pub end_no_words : (words : LabelWords) → codes "end" ≢ written_label words
 end_no_words words e = omega (arith, same_head 101 108 _ _ e)
 
+-- `end` is no label line
 pub end_no_label : IsLabelLine (codes "end") → ⊥
 end_no_label says = end_no_words says.value says.is
 
 -- ---- what they tell
 
--- a line tells its words
+-- the words are the same
 pub record SameWords (a b : LabelWords) : Type 0 where
   pub id : a.id ≡ b.id
   pub len : a.len ≡ b.len
   pub hex : a.hex ≡ b.hex
 
+-- a line tells its words
 pub same_words : (a b : LabelWords) (line : List ℕ) → AreInRange a → AreInRange b
     → line ≡ written_label a → line ≡ written_label b → SameWords a b
 same_words a b line fits_a fits_b p q =

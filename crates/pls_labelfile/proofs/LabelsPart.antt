@@ -25,6 +25,7 @@ labels_are_body = record {
       (each_label_line (λ line. line ≢ codes "end") (λ label fits. label_no_end label) is.labels is.fits);
 }
 
+-- the heading has no line feed
 pub heading_plain : Lacks 10 (codes "labels")
 heading_plain = (omega arith, (omega arith, (omega arith, (omega arith, (omega arith, (omega arith, tt))))))
 

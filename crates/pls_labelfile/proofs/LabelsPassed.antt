@@ -7,18 +7,20 @@ use Rattle.pls_netfile.specs.Lines.{Left, Passes}
 use Rattle.pls_netfile.proofs.Passing.{passes_none, passes_push, passes_then}
 use Rattle.pls_labelfile.specs.LabelsText.{NamedLabel, FitsLabel, label_line, labels_lines, labels_text}
 use Rattle.pls_labelfile.specs.LabelLine.{LabelWords, FitsWords, written_label}
-use Rattle.pls_labelfile.specs.LabelsScan.{IsTold, PassesLabels, PassesPart, Written, bits_of, capped}
+use Rattle.pls_labelfile.specs.LabelsScan.{IsTold, PassesLabels, PassesPart, Written, total_bits, capped}
 use Rattle.pls_labelfile.proofs.LabelLines.{label_of, label_of-line, label_fits}
 
+-- no label was passed so far
 pub no_labels : (old : Left) → PassesLabels old old 0
 no_labels old = record { labels = []; fits = All-nil FitsLabel; passed = passes_none old; sum = refl }
 
 -- the bits of one label more
-capped_push : (labels : List NamedLabel) (label : NamedLabel) (bits len : ℕ) → bits ≡ capped (bits_of labels)
-    → length label.bits ≡ len → min (bits + len) (2 ^ 64 - 1) ≡ capped (bits_of (labels ++ label ∷ []))
+capped_push : (labels : List NamedLabel) (label : NamedLabel) (bits len : ℕ) → bits ≡ capped (total_bits labels)
+    → length label.bits ≡ len → min (bits + len) (2 ^ 64 - 1) ≡ capped (total_bits (labels ++ label ∷ []))
 capped_push labels label bits len so_far long =
     omega (arith, so_far, long, sum_by_push (λ (l : NamedLabel). length l.bits) labels label)
 
+-- one label more was passed
 pub one_label_more : (old mid new : Left) (bits len : ℕ) (words : LabelWords) → PassesLabels old mid bits → FitsWords words
     → Passes mid new (written_label words ∷ []) → len ≡ words.len → PassesLabels old new (min (bits + len) (2 ^ 64 - 1))
 one_label_more old mid new bits len words so_far fits passed same =

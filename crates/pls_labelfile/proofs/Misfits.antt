@@ -9,10 +9,12 @@ use Rattle.pls_labelfile.specs.Misfit.{misfit}
 abbrev pub names_of : List NamedLabel → List ℕ
 names_of labels = map (λ label. label.id) labels
 
+-- a place raised by none stays
 raised_by_none : (place : Option ℕ) → place ≡ option_map (λ p. p + 0) place
 raised_by_none None = refl
 raised_by_none (Some p) = ap (λ (n : ℕ). Some n) (omega arith)
 
+-- a place raised, and by one more
 raised_once_more : (place : Option ℕ) (n m : ℕ) → m ≡ n + 1
     → option_map (λ p. p + 1) (option_map (λ p. p + n) place) ≡ option_map (λ p. p + m) place
 raised_once_more None n m e = refl
@@ -37,6 +39,7 @@ misfit-named [] = refl
 misfit-named (label ∷ labels) =
     rw (eq-eqb label.id label.id refl, misfit-named labels) refl
 
+-- no place was raised
 raised_none : (place : Option ℕ) → option_map (λ p. p + 1) place ≡ None → place ≡ None
 raised_none None e = refl
 raised_none (Some p) e = cc

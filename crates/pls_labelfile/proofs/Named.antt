@@ -10,38 +10,40 @@ use Rattle.pls_model.specs.Configuration.{ids_of}
 use Rattle.pls_netfile.specs.NetworkText.{AreRows, FitsRow}
 use Rattle.pls_labelfile.specs.Refusal.{refusal_of}
 use Rattle.pls_labelfile.specs.LabelsText.{NamedLabel, FitsLabel, named}
-use Rattle.pls_labelfile.specs.LabelsScan.{bits_of}
+use Rattle.pls_labelfile.specs.LabelsScan.{total_bits}
 use Rattle.pls_labelfile.specs.Misfit.{misfit}
 use Rattle.pls_labelfile.proofs.Misfits.{names_of, misfit-named}
-use Rattle.pls_labelfile.proofs.Filled.{bits_in}
+use Rattle.pls_labelfile.proofs.Filled.{bare}
 
 -- labels are those with their identities and their bits
-pub named-parts : (labels : List NamedLabel) → named (names_of labels) (bits_in labels) ≡ labels
+pub named-parts : (labels : List NamedLabel) → named (names_of labels) (bare labels) ≡ labels
 named-parts [] = refl
 named-parts (label ∷ labels) = ap (λ (others : List NamedLabel). label ∷ others) (named-parts labels)
 
+-- they name the nodes
 pub names_of-named : (ids : List ℕ) (labels : List (List Bool)) → length labels ≡ length ids → names_of (named ids labels) ≡ ids
 names_of-named [] labels long = refl
 names_of-named (id ∷ ids) [] long = absurd (omega arith)
 names_of-named (id ∷ ids) (bits ∷ labels) long = ap (λ (others : List ℕ). id ∷ others) (names_of-named ids labels (omega arith))
 
-pub bits_in-named : (ids : List ℕ) (labels : List (List Bool)) → length labels ≡ length ids → bits_in (named ids labels) ≡ labels
-bits_in-named [] [] long = refl
-bits_in-named [] (bits ∷ labels) long = absurd (omega arith)
-bits_in-named (id ∷ ids) [] long = absurd (omega arith)
-bits_in-named (id ∷ ids) (bits ∷ labels) long =
-    ap (λ (others : List (List Bool)). bits ∷ others) (bits_in-named ids labels (omega arith))
+-- without the identities they are the labels
+pub bare-named : (ids : List ℕ) (labels : List (List Bool)) → length labels ≡ length ids → bare (named ids labels) ≡ labels
+bare-named [] [] long = refl
+bare-named [] (bits ∷ labels) long = absurd (omega arith)
+bare-named (id ∷ ids) [] long = absurd (omega arith)
+bare-named (id ∷ ids) (bits ∷ labels) long =
+    ap (λ (others : List (List Bool)). bits ∷ others) (bare-named ids labels (omega arith))
 
 -- as many bits as the labels have
-pub bits_of-named : (ids : List ℕ) (labels : List (List Bool)) → length labels ≡ length ids
-    → bits_of (named ids labels) ≡ sum_by length labels
-bits_of-named [] [] long = refl
-bits_of-named [] (bits ∷ labels) long = absurd (omega arith)
-bits_of-named (id ∷ ids) [] long = absurd (omega arith)
-bits_of-named (id ∷ ids) (bits ∷ labels) long =
+pub total_bits-named : (ids : List ℕ) (labels : List (List Bool)) → length labels ≡ length ids
+    → total_bits (named ids labels) ≡ sum_by length labels
+total_bits-named [] [] long = refl
+total_bits-named [] (bits ∷ labels) long = absurd (omega arith)
+total_bits-named (id ∷ ids) [] long = absurd (omega arith)
+total_bits-named (id ∷ ids) (bits ∷ labels) long =
     omega (
       arith,
-      bits_of-named ids labels (omega arith),
+      total_bits-named ids labels (omega arith),
       sum_by-cons (length {A = Bool}) bits labels,
       sum_by-cons (λ (label : NamedLabel). length label.bits) (record { id = id; bits = bits }) (named ids labels),
     )
@@ -110,6 +112,6 @@ pub net_labels_accepted : (rows : List NodeRow) (labels : List (List Bool)) (hea
     → sum_by length labels ≤ 2 ^ 28 → refusal_of (ids_of rows) heading (named (ids_of rows) labels) ≡ None
 net_labels_accepted rows labels heading long few =
     let ids_long : length labels ≡ length (ids_of rows) = long ∙ sym (length-map rows (λ row. row.id)) in
-    let test : nat_lt (2 ^ 28) (bits_of (named (ids_of rows) labels)) ≡ false =
-    le-ltb (2 ^ 28) (bits_of (named (ids_of rows) labels)) (omega (arith, bits_of-named (ids_of rows) labels ids_long)) in
+    let test : nat_lt (2 ^ 28) (total_bits (named (ids_of rows) labels)) ≡ false =
+    le-ltb (2 ^ 28) (total_bits (named (ids_of rows) labels)) (omega (arith, total_bits-named (ids_of rows) labels ids_long)) in
     rw (test, named_no_misfit (ids_of rows) labels ids_long) refl

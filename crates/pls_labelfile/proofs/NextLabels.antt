@@ -16,6 +16,7 @@ use Rattle.pls_labelfile.proofs.LabelsPart.{one_labels}
 
 -- ---- one text says one list of labels
 
+-- as a whole
 pub one_told : (text : List ℕ) (a b : List NamedLabel) → Tells text a → Tells text b → a ≡ b
 one_told text a b p q =
     (one_labels a b [] [] p.fits q.fits
@@ -29,6 +30,7 @@ behind_told text labels behind = record {
   is = ap (λ (more : List ℕ). text_of (codes "labels" ∷ []) ++ more) behind.is;
 }
 
+-- and behind its heading
 pub one_behind : (text : List ℕ) (a b : List NamedLabel) → Behind text a → Behind text b → a ≡ b
 one_behind text a b p q =
     one_told (text_of (codes "labels" ∷ []) ++ text) a b (behind_told text a p) (behind_told text b q)
@@ -43,17 +45,19 @@ some_line text is lacks = by is.0 is.1.is
     by [] e = lacks_here 10 text (codes "end") [] lacks e
     by (label ∷ labels) e = lacks_here 10 text (label_line label) (text_of (to_end labels)) lacks e
 
--- the first line is that of the first label, or `end`
+-- where no label is said the first line is `end`
 first_is_end : (old new : Left) (line : List ℕ) → Behind old.rest [] → Passes old new (line ∷ []) → Lacks 10 line
     → line ≡ codes "end"
 first_is_end old new line behind passes plain =
     (same_line line (codes "end") [] [] new.rest [] plain end_plain
     (sym passes.stands ∙ behind.is ∙ sym (append-nil (text_of (to_end []))))).0
 
+-- the first line is that of the label, and the rest says the others
 pub record FirstLabel (label : NamedLabel) (more : List NamedLabel) (line rest : List ℕ) : Type 0 where
   pub line_is : line ≡ label_line label
   pub rest_is : rest ≡ text_of (to_end more)
 
+-- where a label is said the first line is its
 first_is_label : (old new : Left) (line : List ℕ) (label : NamedLabel) (more : List NamedLabel)
     → Behind old.rest (label ∷ more) → Passes old new (line ∷ []) → Lacks 10 line → FirstLabel label more line new.rest
 first_is_label old new line label more behind passes plain =
@@ -69,6 +73,7 @@ words_are words label line in_range fits p q =
     let same = same_words words (words_of label) line in_range (words_in_range label fits) p q in
     λ i. record { id = same.id i; len = same.len i; hex = same.hex i }
 
+-- the words that were read are those of the next label
 next_said : (old new : Left) (line : List ℕ) (words : LabelWords) (labels : List NamedLabel) → Behind old.rest labels
     → Passes old new (line ∷ []) → Lacks 10 line → AreInRange words → line ≡ written_label words
     → NextLabel old.rest words new.rest
@@ -92,6 +97,7 @@ next_label old new line None behind passes plain in_range is = tt
 next_label old new line (Some words) behind passes plain in_range is =
     next_said old new line words behind.0 behind.1 passes plain in_range is
 
+-- where no words were read no label is said
 no_more : (old new : Left) (line : List ℕ) (labels : List NamedLabel) → Behind old.rest labels
     → Passes old new (line ∷ []) → Lacks 10 line
     → ((words : LabelWords) → AreInRange words → line ≢ written_label words) → Behind old.rest []

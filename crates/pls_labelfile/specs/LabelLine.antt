@@ -16,7 +16,8 @@ words_of label = record { id = label.id; len = length label.bits; hex = hex_word
 
 -- `label ID LEN HEX`
 abbrev pub written_label : LabelWords → List ℕ
-written_label words = line_of (codes "label" ∷ decimal words.id ∷ decimal words.len ∷ words.hex ∷ [])
+written_label words =
+    line_of (codes "label" ∷ decimal words.id ∷ decimal words.len ∷ words.hex ∷ [])
 
 -- the word is that for some list of so many bits
 pub record IsHexWord (len : ℕ) (word : List ℕ) : Type 0 where

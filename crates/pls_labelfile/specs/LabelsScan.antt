@@ -4,8 +4,8 @@ use Rattle.pls_netfile.specs.Lines.{Left, Passes}
 use Rattle.pls_labelfile.specs.LabelsText.{NamedLabel, FitsLabel, label_line, labels_lines, labels_text}
 
 -- how many bits all labels have together
-abbrev pub bits_of : List NamedLabel → ℕ
-bits_of labels = sum_by (λ label. length label.bits) labels
+abbrev pub total_bits : List NamedLabel → ℕ
+total_bits labels = sum_by (λ label. length label.bits) labels
 
 -- a number, or 2^64 - 1 where that is less
 abbrev pub capped : ℕ → ℕ
@@ -26,7 +26,7 @@ pub record Tells (text : List ℕ) (labels : List NamedLabel) : Type 0 where
 pub record IsTold (written : Written) : Type 0 where
   pub labels : List NamedLabel
   pub tells : Tells written.text labels
-  pub sum : written.bits ≡ capped (bits_of labels)
+  pub sum : written.bits ≡ capped (total_bits labels)
   pub within : written.number ≤ 2 ^ 63
 
 -- the reader has passed the lines of labels with so many bits
@@ -34,7 +34,7 @@ pub record PassesLabels (old new : Left) (bits : ℕ) : Type 0 where
   pub labels : List NamedLabel
   pub fits : All FitsLabel labels
   pub passed : Passes old new (map label_line labels)
-  pub sum : bits ≡ capped (bits_of labels)
+  pub sum : bits ≡ capped (total_bits labels)
 
 -- the reader has passed a labels part, and kept its text, its place and the sum of its lengths
 pub record PassesPart (old new : Left) (written : Written) : Type 0 where
@@ -42,4 +42,11 @@ pub record PassesPart (old new : Left) (written : Written) : Type 0 where
   pub tells : Tells written.text labels
   pub passed : Passes old new (labels_lines labels)
   pub heading : written.number ≡ old.number
-  pub sum : written.bits ≡ capped (bits_of labels)
+  pub sum : written.bits ≡ capped (total_bits labels)
+
+-- the part is all of the text, and was read from its first line
+pub record IsWhole (text : List ℕ) (written : Written) : Type 0 where
+  pub labels : List NamedLabel
+  pub tells : Tells text labels
+  pub all : written.text ≡ text
+  pub first : written.number ≡ 1

@@ -1,10 +1,11 @@
 -- With which error the labels of a text are refused for the nodes of a network.
 use Rattle.std.specs.Prelude.{◌≡◌, ℕ, ◌+◌, ◌^◌, nat_lt, if◌then◌else◌, List, Option, Some, option_map}
 use Rattle.pls_base.specs.declared.text_error.TextError.{TextError}
-use Rattle.pls_base.specs.declared.text_error.TextError.TheVariants.{Limit, NoMemory, Sense}
+use Rattle.pls_base.specs.declared.text_error.TextError.TheVariants.{Form, Limit, NoMemory, Sense}
 use Rattle.pls_base.specs.declared.text_error.Quantity.TheVariants.{Bits}
-use Rattle.pls_labelfile.specs.LabelsText.{NamedLabel}
-use Rattle.pls_labelfile.specs.LabelsScan.{bits_of}
+use Rattle.pls_netfile.specs.Fault.{IsFirstFault}
+use Rattle.pls_labelfile.specs.LabelsText.{IsLabelsPart, NamedLabel}
+use Rattle.pls_labelfile.specs.LabelsScan.{total_bits}
 use Rattle.pls_labelfile.specs.Misfit.{misfit}
 
 -- labels that do not fit the nodes, by the line of the first that does not; the label at place 0
@@ -16,9 +17,14 @@ misfit_error heading place = Sense 20 (heading + 1 + place)
 -- number: they have more than 2^28 bits together, or else do not fit the nodes
 abbrev pub refusal_of : List ℕ → ℕ → List NamedLabel → Option TextError
 refusal_of ids heading labels =
-    if nat_lt (2 ^ 28) (bits_of labels) then Some (Limit Bits) else option_map (misfit_error heading) (misfit ids labels)
+    if nat_lt (2 ^ 28) (total_bits labels) then Some (Limit Bits)
+    else option_map (misfit_error heading) (misfit ids labels)
 
 -- the error is the refusal of the labels, or there was no memory
 abbrev pub IsRefusal : List ℕ → ℕ → List NamedLabel → TextError → Type 0
 IsRefusal ids heading labels NoMemory = Unit {0}
 IsRefusal ids heading labels error = refusal_of ids heading labels ≡ Some error
+
+-- the refusal is one of form, and names the first line of the text that is not of the form
+abbrev pub IsFormRefusal : List ℕ → TextError → Type 0
+IsFormRefusal text error = (line : ℕ) × (error ≡ Form line) × IsFirstFault IsLabelsPart text line

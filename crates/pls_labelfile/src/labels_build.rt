@@ -25,14 +25,14 @@ impl<'a> LabelsText<'a> {
     /// label line does not name the node at its place, or names one where no node is left, or the
     /// `end` comes while nodes are left. It names the first such line.
     pub fn build(&self, alloc: Global, net: &Network) -> Result<LabelStore, TextError>
-        ensures ok { IfOk result (λ store. (labels : List NamedLabel) → Tells self.now.text labels
-            → store ≡ map (λ label. label.bits) labels) }
-        ensures named { OnOk result ((labels : List NamedLabel) → Tells self.now.text labels
-            → map (λ label. label.id) labels ≡ ids_of net.now) }
-        ensures accepted { OnOk result ((labels : List NamedLabel) → Tells self.now.text labels
-            → refusal_of (ids_of net.now) self.now.number labels ≡ None) }
-        ensures refused { IfErr result (λ error. (labels : List NamedLabel) → Tells self.now.text labels
-            → IsRefusal (ids_of net.now) self.now.number labels error) }
+        ensures ok { (labels : List NamedLabel) → Tells self.now.text labels
+            → IfOk result (λ store. store ≡ map (λ label. label.bits) labels) }
+        ensures named { (labels : List NamedLabel) → Tells self.now.text labels
+            → OnOk result (map (λ label. label.id) labels ≡ ids_of net.now) }
+        ensures accepted { (labels : List NamedLabel) → Tells self.now.text labels
+            → OnOk result (refusal_of (ids_of net.now) self.now.number labels ≡ None) }
+        ensures refused { (labels : List NamedLabel) → Tells self.now.text labels
+            → IfErr result (λ error. IsRefusal (ids_of net.now) self.now.number labels error) }
     {
         if self.bits > MAX_BITS {
             return Err(TextError::Limit(Quantity::Bits));
@@ -67,8 +67,8 @@ impl<'a> LabelsText<'a> {
     }
 }
 
-// Puts the labels whose lines stand next into the store, node by node, up to the first that does not
-// fit, and answers the place of that; `None` where all fit.
+// Puts the labels whose lines stand next into the store, node by node, up to the first that does
+// not fit, and answers the place of that; `None` where all fit.
 fn fill(
     alloc: Global,
     net: &Network,

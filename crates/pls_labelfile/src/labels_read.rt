@@ -4,11 +4,12 @@ ghost use Rattle.std.specs.Prelude.{◌≡◌, ◌↔◌, ℕ, List, length, map
 ghost use Rattle.std.specs.Result.{IsErrOf};
 ghost use Rattle.pls_model.specs.Configuration.{ids_of};
 ghost use Rattle.pls_netfile.specs.Fault.{IsFirstFault};
-ghost use Rattle.pls_labelfile.specs.LabelsText.{IsLabelsPart, NamedLabel, labels_text, named};
-ghost use Rattle.pls_labelfile.specs.LabelsScan.{Tells};
-ghost use Rattle.pls_labelfile.specs.Refusal.{IsRefusal, refusal_of};
+ghost use Rattle.pls_labelfile.specs.LabelsText.{IsLabelsPart, NamedLabel, named};
+ghost use Rattle.pls_labelfile.specs.LabelsScan.{IsWhole, Tells};
+ghost use Rattle.pls_labelfile.specs.Refusal.{IsFormRefusal, IsRefusal, refusal_of};
 
 use crate::labels_scan::scan_labels;
+use crate::labels_text::LabelsText;
 use pls_base::TextError;
 use pls_graph::Network;
 use pls_netfile::Lines;
@@ -19,8 +20,6 @@ use std::alloc::Global;
 ///
 /// `Form` with the number of the first line that is not of the form, which may stand behind `end`;
 /// else the refusals of [`LabelsText::build`].
-///
-/// [`LabelsText::build`]: crate::LabelsText::build
 pub fn read_labels(alloc: Global, text: &[u8], net: &Network) -> Result<LabelStore, TextError>
     ensures ok { IfOk result (λ store. Tells text.now (named (ids_of net.now) store)) }
     ensures lengths { IfOk result (λ store. length store ≡ length net.now) }
@@ -30,12 +29,22 @@ pub fn read_labels(alloc: Global, text: &[u8], net: &Network) -> Result<LabelSto
         → OnOk result (refusal_of (ids_of net.now) 1 labels ≡ None) }
     ensures refused { (labels : List NamedLabel) → Tells text.now labels
         → IfErr result (λ error. IsRefusal (ids_of net.now) 1 labels error) }
-    ensures form { (line : ℕ) → IsErrOf result (TextError.Form line) ↔ IsFirstFault IsLabelsPart text.now line }
+    ensures form { (line : ℕ) → IsErrOf result (TextError.Form line)
+        ↔ IsFirstFault IsLabelsPart text.now line }
+{
+    let part = scan_whole(text)?;
+    part.build(alloc, net)
+}
+
+// Scans a text that is one labels part and nothing more.
+fn scan_whole(text: &[u8]) -> Result<LabelsText<'_>, TextError>
+    ensures ok { IfOk result (λ part. IsWhole text.now part) }
+    ensures form { IfErr result (λ error. IsFormRefusal text.now error) }
 {
     let mut lines = Lines::new(text);
     let part = scan_labels(&mut lines)?;
     if !lines.at_end() {
         return Err(lines.form_error());
     }
-    part.build(alloc, net)
+    Ok(part)
 }

@@ -44,8 +44,8 @@ fn pass_part<'a>(lines: &mut Lines<'a>) -> Result<LabelsText<'a>, TextError>
     Ok(LabelsText { text, number, bits })
 }
 
-// Passes the label lines that stand next, as many as there are, and answers how many bits the labels
-// have, or 2^64 - 1 where that is less.
+// Passes the label lines that stand next, as many as there are, and answers how many bits the
+// labels have, or 2^64 - 1 where that is less.
 fn pass_labels(lines: &mut Lines<'_>) -> u64
     ensures labels { PassesLabels lines.old lines.new result }
     ensures no_label { Stands IsLabelLine lines.new.rest → ⊥ }

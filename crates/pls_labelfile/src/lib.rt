@@ -1,9 +1,9 @@
 //! The text of labels: one `label` line for each node of a network, in the order of the nodes.
 //!
 //! [`scan_labels`] passes a labels part without memory and keeps its text as a [`LabelsText`], which
-//! [`LabelsText::build`] turns into the labels of a network's nodes, or into the first line that does
-//! not fit them. [`read_labels`] does both for a text that is one part, and [`write_labels`] is the
-//! way back. `specs/LabelsText` says which text belongs to which labels, and `specs/Refusal` why
+//! [`LabelsText::build`] turns into the labels of a network's nodes, or names the first line that
+//! does not fit them. [`read_labels`] does both for a text that is one part, and [`write_labels`] is
+//! the way back. `specs/LabelsText` says which text belongs to which labels, and `specs/Refusal` why
 //! labels are refused.
 #![tactic(auto)]
 

@@ -1,7 +1,7 @@
 use Rattle.std.proofs.Common.{◌∙◌, refl, sym}
 use Rattle.std.proofs.lemmas.List.{length-map}
 use Rattle.pls_model.specs.Configuration.{ids_of}
-use Rattle.pls_labelfile.proofs.Named.{bits_in-named, net_labels_fit, net_labels_accepted}
+use Rattle.pls_labelfile.proofs.Named.{bare-named, net_labels_fit, net_labels_accepted}
 use Rattle.pls_labelfile.proofs.laws.written_is_read.Goals as goal
 
 pub returns-clause-tells : goal.returns-clause-tells
@@ -13,5 +13,5 @@ returns-clause-accepted c = net_labels_accepted c.args.net.now c.args.labels.now
 
 pub returns-clause-bits : goal.returns-clause-bits
 returns-clause-bits c =
-    bits_in-named (ids_of c.args.net.now) c.args.labels.now
+    bare-named (ids_of c.args.net.now) c.args.labels.now
     (c.requires.lengths ∙ sym (length-map c.args.net.now (λ row. row.id)))
