@@ -22,7 +22,7 @@ use Rattle.pls_netfile.proofs.Fronts.{text_of-append}
 use Rattle.pls_netfile.proofs.NetworkRows.{network_is_part, one_network, rows_are_part}
 use Rattle.pls_netfile.proofs.WholeTexts.{fault_alone, fault_behind, fault_in_first, fault_in_second, fault_of_text}
 use Rattle.pls_labelfile.specs.LabelsText.{FitsLabel, IsLabelsPart, NamedLabel, labels_lines, labels_text, named}
-use Rattle.pls_labelfile.specs.LabelsScan.{PassesPart, bits_of, Written as WrittenLabels, Tells as TellsLabels}
+use Rattle.pls_labelfile.specs.LabelsScan.{PassesPart, total_bits, Written as WrittenLabels, Tells as TellsLabels}
 use Rattle.pls_labelfile.specs.Misfit.{misfit}
 use Rattle.pls_labelfile.specs.Refusal.{IsRefusal, misfit_error, refusal_of as labels_refusal}
 use Rattle.pls_labelfile.proofs.LabelsPart.{is_labels_part, labels_part, one_labels}
@@ -153,12 +153,12 @@ no_input_by_walks scheme bytes network text net error scanned built apart =
       apart some (subst IsConnected (sym (built read.0 (same_parts bytes network text read.0 read.1 scanned read.2).tells_rows)) read.2.readable.connected))
 
 -- the bits of named labels are those of the labels
-bits_of-named : (ids : List ℕ) (labels : List (List Bool)) → length labels ≡ length ids → bits_of (named ids labels) ≡ bits_in labels
-bits_of-named [] [] same = refl
-bits_of-named [] (label ∷ labels) same = absurd (omega arith)
-bits_of-named (id ∷ ids) [] same = absurd (omega arith)
-bits_of-named (id ∷ ids) (label ∷ labels) same =
-    let rest = bits_of-named ids labels (omega arith) in
+total_bits-named : (ids : List ℕ) (labels : List (List Bool)) → length labels ≡ length ids → total_bits (named ids labels) ≡ bits_in labels
+total_bits-named [] [] same = refl
+total_bits-named [] (label ∷ labels) same = absurd (omega arith)
+total_bits-named (id ∷ ids) [] same = absurd (omega arith)
+total_bits-named (id ∷ ids) (label ∷ labels) same =
+    let rest = total_bits-named ids labels (omega arith) in
     let left = sum_by-cons (λ (label : NamedLabel). length label.bits) (record { id = id; bits = label }) (named ids labels) in
     let right = sum_by-cons (length {A = Bool}) label labels in
     omega (arith, rest, left, right)
@@ -179,8 +179,8 @@ labels_accepted rows labels heading labelled =
     let ids : List ℕ = ids_of rows in
     let many : length ids ≡ length rows = length-map rows (λ (row : NodeRow). row.id) in
     let each : length labels ≡ length ids = labelled.each ∙ sym many in
-    let few : bits_of (named ids labels) ≤ 2 ^ 28 = omega (arith, bits_of-named ids labels each, labelled.few) in
-    let within : nat_lt (2 ^ 28) (bits_of (named ids labels)) ≡ false = grind (arith, nat_tests) in
+    let few : total_bits (named ids labels) ≤ 2 ^ 28 = omega (arith, total_bits-named ids labels each, labelled.few) in
+    let within : nat_lt (2 ^ 28) (total_bits (named ids labels)) ≡ false = grind (arith, nat_tests) in
     rw (within, misfit-named ids labels each) refl
 
 -- an error that is a refusal is the refusal
@@ -220,10 +220,10 @@ named-parts [] = refl
 named-parts (label ∷ labels) = ap (λ rest. label ∷ rest) (named-parts labels)
 
 -- labels that are not refused have few bits
-few_bits : (ids : List ℕ) (heading : ℕ) (labels : List NamedLabel) → labels_refusal ids heading labels ≡ None → bits_of labels ≤ 2 ^ 28
-few_bits ids heading labels accepted = by (nat_lt (2 ^ 28) (bits_of labels)) refl accepted
+few_bits : (ids : List ℕ) (heading : ℕ) (labels : List NamedLabel) → labels_refusal ids heading labels ≡ None → total_bits labels ≤ 2 ^ 28
+few_bits ids heading labels accepted = by (nat_lt (2 ^ 28) (total_bits labels)) refl accepted
   where
-    by : (b : Bool) → nat_lt (2 ^ 28) (bits_of labels) ≡ b → (if b then Some (Limit Bits) else option_map (misfit_error heading) (misfit ids labels)) ≡ None → bits_of labels ≤ 2 ^ 28
+    by : (b : Bool) → nat_lt (2 ^ 28) (total_bits labels) ≡ b → (if b then Some (Limit Bits) else option_map (misfit_error heading) (misfit ids labels)) ≡ None → total_bits labels ≤ 2 ^ 28
     by true is accepted = absurd (cc)
     by false is accepted = grind (arith, nat_tests)
 
@@ -243,7 +243,7 @@ input_of bytes network text net store short scanned built valid connected stored
         ap length is_store ∙ length-map scanned.named (λ (label : NamedLabel). label.bits)
         ∙ sym (length-map scanned.named (λ (label : NamedLabel). label.id)) ∙ ap length is_named ∙ length-map net (λ (row : NodeRow). row.id) in
     let many : length store ≡ length (ids_of net) = each ∙ sym (length-map net (λ (row : NodeRow). row.id)) in
-    let sum : bits_of scanned.named ≡ bits_in store = ap bits_of (sym back) ∙ bits_of-named (ids_of net) store many in
+    let sum : total_bits scanned.named ≡ bits_in store = ap total_bits (sym back) ∙ total_bits-named (ids_of net) store many in
     let few = few_bits (ids_of net) text.number scanned.named (accepted scanned.named scanned.tells_labels) in
     record {
       short = short;

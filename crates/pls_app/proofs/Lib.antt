@@ -1,7 +1,9 @@
+mod Certified
 mod Inputs
 mod OneAnswer
 mod Outcomes
 mod Proved
 mod Reports
 mod Rounds
+mod TextLengths
 mod Worked

@@ -1,24 +1,25 @@
 -- From what a run comes to, what it says.
-use Rattle.std.proofs.Common.{◌≡◌, ℕ, ◌+◌, ◌≤◌, Bool, List, [], length, drop, Option, Some, None, IfSome, IfOk, MatchResult, ◌⊎◌, inl, inr, Result, Ok, Err, OnOk, ap, subst, refl, arith}
+use Rattle.std.proofs.Common.{◌≡◌, ◌≢◌, ℕ, ◌+◌, ◌≤◌, Bool, List, [], length, drop, Option, Some, None, IfSome, IfOk, MatchResult, ◌⊎◌, inl, inr, Result, Ok, Err, OnOk, ap, subst, refl, arith}
 use Rattle.std.specs.Io.KnownBytes.{Appends}
 use Rattle.std.proofs.lemmas.List.{drop_all}
 use Rattle.pls_base.specs.declared.text_error.TextError.{TextError}
-use Rattle.pls_base.specs.declared.text_error.TextError.TheVariants.{Limit}
+use Rattle.pls_base.specs.declared.text_error.TextError.TheVariants.{Form, Limit, NoMemory, Sense}
 use Rattle.pls_base.specs.declared.text_error.Quantity.TheVariants.{Input}
 use Rattle.pls_base.specs.Streams.{AppendsPart, LosesAtMost, LosesFirst, Rose}
 use Rattle.pls_model.specs.declared.row.NodeRow.{NodeRow}
 use Rattle.pls_model.specs.declared.status.Status.{Status}
-use Rattle.pls_model.specs.declared.status.Status.TheVariants.{Done, WriteFault}
+use Rattle.pls_model.specs.declared.status.Status.TheVariants.{Done, No, WriteFault}
 use Rattle.pls_scheme.specs.Judging.{round_by}
-use Rattle.pls_colour.specs.Bipartite.{judge_bipartite}
 use Rattle.pls_app.specs.declared.command.Command.{Command}
-use Rattle.pls_app.specs.declared.command.Command.TheVariants.{Verify}
-use Rattle.pls_app.specs.declared.command.SchemeName.TheVariants.{Bipartite}
+use Rattle.pls_app.specs.declared.command.Command.TheVariants.{Mark, Verify}
+use Rattle.pls_app.specs.declared.command.SchemeName.{SchemeName}
 use Rattle.pls_app.specs.declared.limits.TheConstants.{MAX_INPUT}
 use Rattle.pls_app.specs.Command.{command_of}
-use Rattle.pls_app.specs.Input.{IsInput, IsRefused}
-use Rattle.pls_app.specs.Answer.{Answer, Answers, IsAnswer, refusal, report, usage}
-use Rattle.pls_app.specs.Run.{HasRead, IsAnswered, Tells, TellsPart, Told}
+use Rattle.pls_app.specs.Input.{IsInput, IsNetworkInput, IsRefused, only}
+use Rattle.pls_app.specs.Answer.{Answer, Answers, IsAnswer, Marks, refusal, report, usage}
+use Rattle.pls_app.specs.Meaning.{judge_of}
+use Rattle.pls_app.specs.Scanned.{IsNoInput}
+use Rattle.pls_app.specs.Run.{Certifies, HasRead, IsAnswered, Tells, TellsPart, Told, TookCertificate}
 
 -- an answer that was told in the end
 pub tells : (words : List (List ℕ)) (bytes : List ℕ) (answer : Answer) (status : Status) (before after : ℕ) (old new : Option (List ℕ)) → IsAnswer words bytes answer
@@ -61,19 +62,30 @@ pub lost_past : (old new : Option (List ℕ)) → LosesFirst old new (MAX_INPUT 
 lost_past old new lost = (MAX_INPUT + 1, omega arith, lost)
 
 -- more bytes than the limit are refused
-pub too_long : (old new : Option (List ℕ)) (bytes : List ℕ) → LosesFirst old new (MAX_INPUT + 1) → old ≡ Some bytes → IsRefused bytes (Limit Input)
-too_long old new bytes lost told =
+pub too_long : (command : Command) (old new : Option (List ℕ)) (bytes : List ℕ) → LosesFirst old new (MAX_INPUT + 1) → old ≡ Some bytes → IsRefused command bytes (Limit Input)
+too_long command old new bytes lost told =
     let here : LosesFirst (Some bytes) new (MAX_INPUT + 1) = rw told at lost in
     omega (arith, here.0)
 
 -- a network and labels that were read are judged
-pub judged_answer : (command : Command) (bytes : List ℕ) (rows : List NodeRow) (labels : List (List Bool)) (answer : Answer) → IsInput bytes rows labels
-    → answer ≡ report (round_by judge_bipartite rows labels) → Answers command bytes answer
-judged_answer (Verify Bipartite) bytes rows labels answer input same = inr (rows, labels, input, same)
+pub judged_answer : (scheme : SchemeName) (bytes : List ℕ) (rows : List NodeRow) (labels : List (List Bool)) (answer : Answer) → IsInput bytes rows labels
+    → answer ≡ report (round_by (judge_of scheme) rows labels) → Answers (Verify scheme) bytes answer
+judged_answer scheme bytes rows labels answer input same = inr (rows, labels, input, same)
+
+-- a network that was read is marked
+pub marked_answer : (scheme : SchemeName) (bytes : List ℕ) (rows : List NodeRow) (answer : Answer) → IsNetworkInput bytes rows → Marks scheme rows answer → Answers (Mark scheme) bytes answer
+marked_answer scheme bytes rows answer input marks = inr (rows, input, marks)
 
 -- an input that is refused is answered so
-pub refused_answer : (command : Command) (bytes : List ℕ) (error : TextError) (answer : Answer) → IsRefused bytes error → answer ≡ refusal error → Answers command bytes answer
-refused_answer (Verify Bipartite) bytes error answer refused same = inl (error, refused, same)
+pub refused_answer : (command : Command) (bytes : List ℕ) (error : TextError) (answer : Answer) → IsRefused command bytes error → answer ≡ refusal error → Answers command bytes answer
+refused_answer command bytes error answer refused same = inl (error, refused, same)
+
+-- what is no input is refused by the one refusal
+pub only_refused : (command : Command) (bytes : List ℕ) (error : TextError) → length bytes ≤ MAX_INPUT → IsNoInput command bytes error → only error ≢ NoMemory → IsRefused command bytes (only error)
+only_refused command bytes (Form line) short none some = (refl, short, none)
+only_refused command bytes (Limit quantity) short none some = (refl, short, none)
+only_refused command bytes (Sense number place) short none some = (refl, short, none)
+only_refused command bytes NoMemory short none some = absurd (some refl)
 
 -- a result with another error holds what the first did
 pub ok_again : {T E F : Type 0} (first : Result T E) (second : Result T F) (other : F) (P : T → Type 0) → IfOk first P
@@ -102,3 +114,28 @@ pub same_command : (words : List (List ℕ)) (command other : Command) (bytes : 
 same_command words command other bytes answer is is_other answers =
     let same : command ≡ other = cc in
     subst (λ (command : Command). Answers command bytes answer) same answers
+
+-- what is no input is answered by the one refusal
+pub no_input_answer : {E : Type 0} (command : Command) (bytes : List ℕ) (error : TextError) (r : Result Answer E) → length bytes ≤ MAX_INPUT → IsNoInput command bytes error
+    → IfOk r (λ answer. answer ≡ refusal (only error)) → OnOk r (only error ≢ NoMemory) → IfOk r (λ answer. Answers command bytes answer)
+no_input_answer command bytes error (Ok answer) short none says some = refused_answer command bytes (only error) answer (only_refused command bytes error short none some) says
+no_input_answer command bytes error (Err e) short none says some = tt
+
+-- the command that was read is the command of the words
+pub the_command : (words : List (List ℕ)) (command other : Command) → Some command ≡ command_of words → command_of words ≡ Some other → command ≡ other
+the_command words command other read is = cc
+
+-- the sink of a run that ends in `Done` took the whole text
+pub took_certificate : (scheme : SchemeName) (bytes text : List ℕ) (due status : Status) (before after : ℕ) (old new : Option (List ℕ)) → Certifies scheme bytes text
+    → Told due status before after old new text → status ≡ Done → TookCertificate scheme bytes old new
+took_certificate scheme bytes text due status before after old new certifies told done = elim told [
+  | inl whole ↦ record { text = text; took = whole.1; certifies = certifies }
+  | inr part ↦ absurd (let other : WriteFault ≡ Done = cc in cc)
+]
+
+-- a run that ends in `No` was due to
+pub told_no : (due status : Status) (before after : ℕ) (old new : Option (List ℕ)) (text : List ℕ) → Told due status before after old new text → status ≡ No → due ≡ No
+told_no due status before after old new text told ends = elim told [
+  | inl whole ↦ cc
+  | inr part ↦ absurd (let other : WriteFault ≡ No = cc in cc)
+]

@@ -3,7 +3,7 @@ use Rattle.std.proofs.Common.{◌≡◌, ℕ, Bool, true, false, cond, eqb, List
 use Rattle.std.specs.List.{list_all, sum_by}
 use Rattle.std.proofs.lemmas.Bool.{eqb-true, eq-eqb}
 use Rattle.std.proofs.lemmas.List.Folds.{sum_by-zero, list_all-map}
-use Rattle.std.proofs.lemmas.List.Sums.{AllPass-from_list_all}
+use Rattle.std.proofs.lemmas.List.Sums.{AllPass-from_list_all, list_all-from_AllPass}
 use Rattle.pls_base.specs.declared.text_error.TextError.{TextError}
 use Rattle.pls_base.specs.declared.text_error.TextError.TheVariants.{Form, Limit, Sense, NoMemory}
 use Rattle.pls_model.specs.declared.row.NodeRow.{NodeRow}
@@ -12,15 +12,15 @@ use Rattle.pls_model.specs.declared.verdict.Verdict.{Verdict}
 use Rattle.pls_model.specs.declared.verdict.Verdict.TheVariants.{Accept, Reject}
 use Rattle.pls_view.specs.Seen.{Seen, views}
 use Rattle.pls_scheme.specs.Judging.{AllAccept, round_by}
-use Rattle.pls_colour.specs.Bipartite.{judge_bipartite}
 use Rattle.pls_colour.specs.BipartiteLaws.{bipartite_sound}
-use Rattle.pls_app.specs.declared.command.Command.TheVariants.{Verify}
+use Rattle.pls_app.specs.declared.command.Command.TheVariants.{Mark, Verify}
 use Rattle.pls_app.specs.declared.command.SchemeName.{SchemeName}
 use Rattle.pls_app.specs.declared.command.SchemeName.TheVariants.{Bipartite}
 use Rattle.pls_app.specs.Report.{rejects, rejecting}
 use Rattle.pls_app.specs.Input.{IsInput}
 use Rattle.pls_app.specs.Answer.{Answer, Answers, refusal_status, report}
-use Rattle.pls_app.specs.Run.{Proves}
+use Rattle.pls_app.specs.Meaning.{HasProperty, judge_of}
+use Rattle.pls_app.specs.Run.{Lacks, Proves}
 
 -- a verdict that counts for nothing accepts
 accepts : (verdict : Verdict) → eqb (cond (rejects verdict) 1 0) 0 ≡ true → verdict ≡ Accept
@@ -51,15 +51,52 @@ report_done count done = by (count == 0) refl done
     by true is done = eqb-true count 0 is
     by false is done = absurd (cc)
 
--- `Done` says that the network of the input has the property
+-- labels that every node accepts show the property
+pub scheme_sound : (scheme : SchemeName) (rows : List NodeRow) (labels : List (List Bool)) → AllAccept (judge_of scheme) rows labels → HasProperty scheme rows
+scheme_sound Bipartite rows labels accepted = bipartite_sound rows labels accepted
+
+-- `Done` after `verify` says that the network of the input has the property
 pub done_proves : (scheme : SchemeName) (bytes : List ℕ) (answer : Answer) → Answers (Verify scheme) bytes answer → answer.status ≡ Done → Proves scheme bytes
-done_proves Bipartite bytes answer answers done = elim answers [
-  | inl refused ↦ absurd (refused_not_done refused.0 (sym (ap (λ (answer : Answer). answer.status) refused.2) ∙ done))
+done_proves scheme bytes answer answers done = elim answers [
+    inl refused ↦ absurd (refused_not_done refused.0 (sym (ap (λ (answer : Answer). answer.status) refused.2) ∙ done))
   | inr judged ↦
       let rows : List NodeRow = judged.0 in
       let labels : List (List Bool) = judged.1 in
-      let count : ℕ = rejecting (round_by judge_bipartite rows labels) in
+      let count : ℕ = rejecting (round_by (judge_of scheme) rows labels) in
       let none : count ≡ 0 = report_done count (sym (ap (λ (answer : Answer). answer.status) judged.3) ∙ done) in
-      let accepted : AllAccept judge_bipartite rows labels = none_reject judge_bipartite (views rows labels) none in
-      record { rows = rows; labels = labels; input = judged.2; holds = bipartite_sound rows labels accepted }
+      let accepted : AllAccept (judge_of scheme) rows labels = none_reject (judge_of scheme) (views rows labels) none in
+      record { rows = rows; labels = labels; input = judged.2; holds = scheme_sound scheme rows labels accepted }
 ]
+
+-- a refusal is not `No`
+refused_not_no : (error : TextError) → refusal_status error ≡ No → ⊥
+refused_not_no (Form line) ends = cc
+refused_not_no (Limit quantity) ends = cc
+refused_not_no (Sense number place) ends = cc
+refused_not_no NoMemory ends = cc
+
+-- `No` after `mark` says that the network lacks the property
+pub no_lacks : (scheme : SchemeName) (bytes : List ℕ) (answer : Answer) → Answers (Mark scheme) bytes answer → answer.status ≡ No → Lacks scheme bytes
+no_lacks scheme bytes answer answers ends = elim answers [
+    inl refused ↦ absurd (refused_not_no refused.0 (sym (ap (λ (answer : Answer). answer.status) refused.2) ∙ ends))
+  | inr marked ↦ elim marked.2 [
+      inl labels ↦ absurd (let other : Done ≡ No = sym (ap (λ (answer : Answer). answer.status) labels.3) ∙ ends in cc)
+    | inr lacks ↦ record { rows = marked.0; input = marked.1; lacks = lacks.0 }
+    ]
+]
+
+-- where all accept, no node rejects
+all_accept_none : (judge : Seen → Verdict) (seen : List Seen) → All (λ view. judge view ≡ Accept) seen → rejecting (map (λ view. (view.id, judge view)) seen) ≡ 0
+all_accept_none judge seen accepted =
+    let row : Seen → ℕ × Verdict = λ view. (view.id, judge view) in
+    let weight : ℕ × Verdict → ℕ = λ row. cond (rejects row.1) 1 0 in
+    let each : list_all (λ view. eqb (weight (row view)) 0) seen ≡ true =
+        list_all-from_AllPass (λ view. eqb (weight (row view)) 0) seen (λ k d within. ap (λ (verdict : Verdict). eqb (cond (rejects verdict) 1 0) 0) (accepted k d within)) in
+    eqb-true (sum_by weight (map row seen)) 0 (sum_by-zero weight (map row seen) ∙ list_all-map (λ r. eqb (weight r) 0) row seen ∙ each)
+
+-- labels that all accept make a round `Done`
+pub accepted_report : (scheme : SchemeName) (rows : List NodeRow) (labels : List (List Bool)) → AllAccept (judge_of scheme) rows labels
+    → (report (round_by (judge_of scheme) rows labels)).status ≡ Done
+accepted_report scheme rows labels accepted =
+    let none : rejecting (round_by (judge_of scheme) rows labels) ≡ 0 = all_accept_none (judge_of scheme) (views rows labels) accepted in
+    rw none refl

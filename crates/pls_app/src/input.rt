@@ -1,6 +1,7 @@
 //! The parts of an input.
 
 ghost use Rattle.std.specs.Prelude.{◌≢◌, ◌≤◌, IfErr, IfOk, OnOk, length};
+ghost use Rattle.pls_model.specs.Configuration.{IsNetwork};
 ghost use Rattle.pls_model.specs.Walk.{IsConnected};
 ghost use Rattle.pls_app.specs.Input.{IsInput, IsNetworkInput};
 ghost use Rattle.pls_app.specs.Scanned.{IsFormError, IsNoInput, IsScanned};
@@ -45,6 +46,7 @@ pub(crate) fn read_labelled(
 
 // Refuses a network whose edges do not join all nodes.
 fn test_connected(alloc: Global, net: &Network) -> Result<(), TextError>
+    requires { IsNetwork net.now }
     ensures connected { OnOk result (IsConnected net.now) }
     ensures refused { IfErr result (λ error. error ≢ TextError.NoMemory → IsConnected net.now → ⊥) }
 {

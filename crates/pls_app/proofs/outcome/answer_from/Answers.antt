@@ -21,7 +21,7 @@ returns-in-Err-TooLong-clause-answer g c =
     let lost = c.in-Err-TooLong.ensures.too_long (rw c.in-Err-TooLong.field-0-is refl) in
     ok_again c.refuse.result c.or_no_memory-in-Err-TooLong.result _ (λ answer. (bytes : List ℕ) → old ≡ Some bytes → Answers c.args.command bytes answer)
     (IfOk-weaker c.refuse.result (λ answer. answer ≡ refusal (Limit Input)) (λ answer. (bytes : List ℕ) → old ≡ Some bytes → Answers c.args.command bytes answer)
-    (λ answer same bytes told. refused_answer c.args.command bytes (Limit Input) answer (too_long old new bytes lost told) same) c.refuse.ensures.says)
+    (λ answer same bytes told. refused_answer c.args.command bytes (Limit Input) answer (too_long c.args.command old new bytes lost told) same) c.refuse.ensures.says)
     c.or_no_memory-in-Err-TooLong.ensures
 
 pub returns-in-Err-TooLong-clause-lost : goal.returns-in-Err-TooLong-clause-lost

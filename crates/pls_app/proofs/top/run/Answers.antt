@@ -1,8 +1,9 @@
-use Rattle.std.proofs.Common.{◌≡◌, ◌∙◌, ap, sym, ℕ, List, Bor, map}
-use Rattle.pls_app.specs.declared.command.Command.TheVariants.{Verify}
+use Rattle.std.proofs.Common.{◌≡◌, ◌∙◌, ap, subst, sym, ℕ, List, Bor, map}
+use Rattle.pls_app.specs.declared.command.Command.TheVariants.{Mark, Verify}
 use Rattle.pls_app.specs.Answer.{Answer, usage}
-use Rattle.pls_app.proofs.Outcomes.{tells, tells_part, usage_answer, told_done, same_command}
-use Rattle.pls_app.proofs.Proved.{done_proves}
+use Rattle.pls_app.specs.Run.{Certifies}
+use Rattle.pls_app.proofs.Outcomes.{same_command, tells, tells_part, the_command, told_done, told_no, took_certificate, usage_answer}
+use Rattle.pls_app.proofs.Proved.{done_proves, no_lacks}
 use Rattle.pls_app.proofs.top.run.Goals as goal
 
 pub returns-in-None-clause-text : goal.returns-in-None-clause-text
@@ -21,3 +22,17 @@ returns-in-Ok-clause-check g c scheme bytes told is done =
     let answers = same_command words c.in-Some.command (Verify scheme) bytes _ c.in-Some.ensures is (c.in-Ok.ensures.answer bytes told) in
     let due = told_done _ _ _ _ _ _ _ c.tell-in-Ok.ensures done in
     done_proves scheme bytes _ answers (sym (ap (λ (answer : Answer). answer.status) c.answer.view_is) ∙ due)
+
+pub returns-in-Ok-clause-mark : goal.returns-in-Ok-clause-mark
+returns-in-Ok-clause-mark g c scheme bytes told is done =
+    let words : List (List ℕ) = map (λ (word : Bor (List ℕ)). word.now) c.args.words.now in
+    let due = told_done _ _ _ _ _ _ _ c.tell-in-Ok.ensures done in
+    let certifies = c.in-Ok.ensures.certified scheme bytes told (the_command words c.in-Some.command (Mark scheme) c.in-Some.ensures is) (sym (ap (λ (answer : Answer). answer.status) c.answer.view_is) ∙ due) in
+    took_certificate scheme bytes _ _ _ _ _ _ _ (subst (λ (answer : Answer). Certifies scheme bytes answer.text) (sym c.answer.view_is) certifies) c.tell-in-Ok.ensures done
+
+pub returns-in-Ok-clause-mark_no : goal.returns-in-Ok-clause-mark_no
+returns-in-Ok-clause-mark_no g c scheme bytes told is ends =
+    let words : List (List ℕ) = map (λ (word : Bor (List ℕ)). word.now) c.args.words.now in
+    let answers = same_command words c.in-Some.command (Mark scheme) bytes _ c.in-Some.ensures is (c.in-Ok.ensures.answer bytes told) in
+    let due = told_no _ _ _ _ _ _ _ c.tell-in-Ok.ensures ends in
+    no_lacks scheme bytes _ answers (sym (ap (λ (answer : Answer). answer.status) c.answer.view_is) ∙ due)

@@ -1,0 +1,29 @@
+use Rattle.std.proofs.Common.{◌≡◌}
+use Rattle.std.proofs.lemmas.Result.{err_from_is_err_and}
+use Rattle.pls_app.proofs.Inputs.{input_of, no_input_by_form, no_input_by_labels, no_input_by_rows, no_input_by_walks}
+use Rattle.pls_app.proofs.input.read_labelled.Goals as goal
+
+pub returns-in_err-network-clause-refused : goal.returns-in_err-network-clause-refused
+returns-in_err-network-clause-refused c =
+    let p = err_from_is_err_and c.from_residual.result c.from_residual.ensures.1 in
+    rw (p.1, p.2) (λ scheme. no_input_by_form scheme c.args.bytes.now _ c.in_err-network.ensures.form)
+
+pub returns-in_err-net-clause-refused : goal.returns-in_err-net-clause-refused
+returns-in_err-net-clause-refused c =
+    let p = err_from_is_err_and c.from_residual-in_err-net.result c.from_residual-in_err-net.ensures.1 in
+    rw (p.1, p.2) (λ scheme. no_input_by_rows scheme c.args.bytes.now _ _ _ c.in_ok-network.ensures.scanned c.in_err-net.ensures.refused)
+
+pub returns-in_err-test_connected-clause-refused : goal.returns-in_err-test_connected-clause-refused
+returns-in_err-test_connected-clause-refused c =
+    let p = err_from_is_err_and c.from_residual-in_err-test_connected.result c.from_residual-in_err-test_connected.ensures.1 in
+    rw (p.1, p.2) (λ scheme. no_input_by_walks scheme c.args.bytes.now _ _ c.in_ok-net.net _ c.in_ok-network.ensures.scanned c.in_ok-net.ensures.ok c.in_err-test_connected.ensures.refused)
+
+pub returns-in_err-store-clause-refused : goal.returns-in_err-store-clause-refused
+returns-in_err-store-clause-refused c =
+    let p = err_from_is_err_and c.from_residual-in_err-store.result c.from_residual-in_err-store.ensures.1 in
+    rw (p.1, p.2) (λ scheme. no_input_by_labels scheme c.args.bytes.now _ _ c.in_ok-net.net _ c.in_ok-network.ensures.scanned c.in_ok-net.ensures.ok c.in_err-store.ensures.refused)
+
+pub returns-clause-parts : goal.returns-clause-parts
+returns-clause-parts c =
+    input_of c.args.bytes.now _ _ c.in_ok-net.net c.in_ok-store.store c.requires c.in_ok-network.ensures.scanned c.in_ok-net.ensures.ok c.in_ok-net.ensures.valid c.in_ok-test_connected.ensures.connected
+    c.in_ok-store.ensures.ok c.in_ok-store.ensures.named c.in_ok-store.ensures.accepted
