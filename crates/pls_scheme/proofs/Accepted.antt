@@ -1,5 +1,5 @@
 -- When all nodes accept.
-use Rattle.std.proofs.Common.{◌≡◌, ◌∙◌, Bool, true, false, List, map, get_or, ap, refl, sym}
+use Rattle.std.proofs.Common.{◌≡◌, ◌∙◌, true, List, map, get_or, ap, refl, sym}
 use Rattle.std.specs.List.{All, list_all}
 use Rattle.std.proofs.lemmas.List.Folds.{list_all-map}
 use Rattle.std.proofs.lemmas.List.Sums.{AllPass-from_list_all, list_all-from_AllPass}

@@ -1,3 +1,4 @@
 pub mod Accepted
 pub mod Leaves
 pub mod Rounds
+pub mod Uniform

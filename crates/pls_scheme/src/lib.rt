@@ -11,6 +11,8 @@ mod checker;
 mod consequences;
 mod property;
 mod scheme;
+#[cfg(test)]
+mod tests;
 
 pub use checker::Checker;
 pub use consequences::{certifies, has_spelling, spelled};

@@ -1,6 +1,7 @@
 -- What a node sees: itself, its label, and at each port the weight and the neighbour's label, and
 -- nothing else (the local view of Korman, Kutten and Peleg 2010).
-use Rattle.std.specs.Prelude.{ℕ, ◌==◌, Bool, List, [], map, position, slice_get, unwrap_or, option_and_then}
+use Rattle.std.specs.Prelude.{ℕ, ◌==◌, ◌<◌, ◌≤◌, Bool, List, [], map, position, slice_get, Option, unwrap_or, option_and_then}
+use Rattle.std.specs.Option.{ForSome}
 use Rattle.pls_model.specs.declared.row.State.{State}
 use Rattle.pls_model.specs.declared.row.Port.{Port}
 use Rattle.pls_model.specs.declared.row.NodeRow.{NodeRow}
@@ -16,6 +17,12 @@ pub record Seen : Type 0 where
   pub state : State
   pub own : List Bool
   pub ports : List SeenPort
+
+-- a pointer and a number of ports that a node of a network has: the pointer is a port's number, and
+-- the ports name some of the 32,767 other nodes that there are at most
+pub record IsProper (up : Option ℕ) (count : ℕ) : Type 0 where
+  pub pointer : ForSome up (λ port. port < count)
+  pub few : count ≤ 32767
 
 -- the labels as a function: the label of an identity, the empty one where it is no node's
 abbrev pub label_of : List NodeRow → List (List Bool) → ℕ → List Bool

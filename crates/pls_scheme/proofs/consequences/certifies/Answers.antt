@@ -1,4 +1,4 @@
-use Rattle.std.proofs.Common.{◌≡◌, ◌∙◌, sym}
+use Rattle.std.proofs.Common.{◌∙◌, sym}
 use Rattle.pls_view.specs.Seen.{views}
 use Rattle.pls_scheme.proofs.Accepted.{all_accepted, all_pass}
 use Rattle.pls_scheme.proofs.consequences.certifies.Goals as goal

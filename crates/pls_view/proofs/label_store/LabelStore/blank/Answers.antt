@@ -1,4 +1,4 @@
-use Rattle.std.proofs.Common.{[], length, Bool, List, arith}
+use Rattle.std.proofs.Common.{[], length, Bool, arith}
 use Rattle.std.proofs.lemmas.List.Folds.{sum_by-replicate}
 use Rattle.pls_view.proofs.label_store.LabelStore.blank.Goals as goal
 

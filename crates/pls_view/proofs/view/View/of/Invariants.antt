@@ -1,5 +1,5 @@
 use Rattle.std.proofs.Common.{◌≡◌, ◌≤◌, map, take}
-use Rattle.pls_view.specs.Seen.{label_of, seen_port, SeenPort}
+use Rattle.pls_view.specs.Seen.{label_of, seen_port}
 use Rattle.pls_view.proofs.Views.{shown}
 use Rattle.pls_view.proofs.view.View.of.Given as goal
 
