@@ -1,23 +1,20 @@
 -- Labels that `mark` wrote are accepted by `verify`.
-use Rattle.std.proofs.Common.{◌≡◌, ◌∙◌, ℕ, ◌+◌, ◌≤◌, ◌<◌, ◌^◌, Bool, List, [], ◌∷◌, ◌++◌, length, All, Some, ap, subst, refl, sym, arith}
-use Rattle.std.specs.List.{sum_by}
+use Rattle.std.proofs.Common.{◌≡◌, ℕ, ◌≤◌, Bool, List, [], ◌∷◌, ◌++◌, length, All, Some, ap, subst, refl, sym, arith}
 use Rattle.std.proofs.lemmas.List.Elements.{All-head, All-tail}
 use Rattle.std.proofs.lemmas.List.Sums.{sum_by-cons}
 use Rattle.pls_model.specs.declared.row.NodeRow.{NodeRow}
-use Rattle.pls_model.specs.declared.status.Status.TheVariants.{Done}
-use Rattle.pls_model.specs.Configuration.{IsNetwork, ids_of}
+use Rattle.pls_model.specs.Configuration.{ids_of}
 use Rattle.pls_graph.specs.Size.{size_of}
-use Rattle.pls_netfile.specs.NetworkText.{AreRows, network_text}
+use Rattle.pls_netfile.specs.NetworkText.{network_text}
 use Rattle.pls_view.specs.Labels.{bits_in}
 use Rattle.pls_labelfile.specs.LabelsText.{labels_text, named}
 use Rattle.pls_scheme.specs.Judging.{round_by}
 use Rattle.pls_app.specs.declared.command.Command.TheVariants.{Verify}
 use Rattle.pls_app.specs.declared.command.SchemeName.{SchemeName}
 use Rattle.pls_app.specs.declared.command.SchemeName.TheVariants.{Bipartite}
-use Rattle.pls_app.specs.declared.limits.TheConstants.{MAX_INPUT}
 use Rattle.pls_app.specs.Command.{command_of, verify_words}
 use Rattle.pls_app.specs.Meaning.{judge_of, longest_of}
-use Rattle.pls_app.specs.Input.{AreLabels, IsInput, IsNetworkInput}
+use Rattle.pls_app.specs.Input.{IsInput, IsNetworkInput}
 use Rattle.pls_app.specs.Answer.{Answers, report}
 use Rattle.pls_app.specs.Run.{Certifies, IsDone, Shows, ShowsIn}
 use Rattle.pls_app.proofs.Outcomes.{command_answer, judged_answer}
@@ -61,7 +58,7 @@ certified scheme bytes rows text input shown =
     let labels = shown.labels in
     let mine : List ℕ = labels_text (named (ids_of rows) labels) in
     let answers : Answers (Verify scheme) (bytes ++ mine) (report (round_by (judge_of scheme) rows labels)) =
-        judged_answer scheme (bytes ++ mine) rows labels _ (marked_input scheme bytes rows labels input shown.shows) refl in
+    judged_answer scheme (bytes ++ mine) rows labels _ (marked_input scheme bytes rows labels input shown.shows) refl in
     let verified : IsDone (verify_words scheme) (bytes ++ mine) = record {
       answer = report (round_by (judge_of scheme) rows labels);
       is = command_answer (verify_words scheme) (bytes ++ mine) (Verify scheme) _ (verify_is scheme) answers;

@@ -1,6 +1,5 @@
 -- What is scanned of an input, and what an input is.
-use Rattle.std.proofs.Common.{◌≡◌, ◌≢◌, ◌∙◌, ℕ, ◌+◌, ◌≤◌, ◌<◌, ◌^◌, Bool, true, false, List, [], ◌∷◌, ◌++◌, map, length, nat_lt, ◌==◌, All, Contains, Option, Some, None, if◌then◌else◌, option_map, ap, subst, refl, sym, arith}
-use Rattle.std.specs.List.{sum_by}
+use Rattle.std.proofs.Common.{◌≡◌, ◌≢◌, ◌∙◌, ℕ, ◌≤◌, ◌^◌, Bool, true, false, List, [], ◌∷◌, ◌++◌, map, length, nat_lt, ◌==◌, All, Contains, Some, None, if◌then◌else◌, option_map, ap, subst, refl, sym, arith}
 use Rattle.std.proofs.lemmas.Bool.{eq-eqb}
 use Rattle.std.proofs.lemmas.Bool.Decides.{nat_tests}
 use Rattle.std.proofs.lemmas.List.{length-map}
@@ -10,11 +9,10 @@ use Rattle.pls_base.specs.declared.text_error.TextError.{TextError}
 use Rattle.pls_base.specs.declared.text_error.TextError.TheVariants.{Form, Limit, Sense, NoMemory}
 use Rattle.pls_base.specs.declared.text_error.Quantity.TheVariants.{Input, Nodes, Ports, Bits, Events, Rounds, Labels}
 use Rattle.pls_model.specs.declared.row.NodeRow.{NodeRow}
-use Rattle.pls_model.specs.Configuration.{IsNetwork, ids_of, refusal_of}
+use Rattle.pls_model.specs.Configuration.{IsNetwork, ids_of}
 use Rattle.pls_model.specs.Walk.{IsConnected}
 use Rattle.pls_view.specs.Labels.{bits_in}
-use Rattle.pls_netfile.specs.Text.{text_of}
-use Rattle.pls_netfile.specs.Lines.{Left, Passes, IsFormFault}
+use Rattle.pls_netfile.specs.Lines.{Left, IsFormFault}
 use Rattle.pls_netfile.specs.NetworkText.{AreRows, FitsRow, IsNetworkPart, network_lines, network_text}
 use Rattle.pls_netfile.specs.NetworkScan.{PassesNetwork, Written as WrittenNetwork, Tells as TellsNetwork}
 use Rattle.pls_netfile.specs.NetworkBuild.{IsRefusedBuild}
@@ -143,14 +141,14 @@ pub no_input_by_rows : (scheme : SchemeName) (bytes : List ℕ) (network : Writt
     → ((rows : List NodeRow) → TellsNetwork network rows → IsRefusedBuild rows error) → IsNoInput (Verify scheme) bytes error
 no_input_by_rows scheme bytes network text error scanned refused =
     no_input (Verify scheme) bytes error (λ some read.
-      not_refused read.0 error read.2.readable.network some (refused read.0 (same_parts bytes network text read.0 read.1 scanned read.2).tells_rows))
+    not_refused read.0 error read.2.readable.network some (refused read.0 (same_parts bytes network text read.0 read.1 scanned read.2).tells_rows))
 
 -- an input whose network is not connected is none
 pub no_input_by_walks : (scheme : SchemeName) (bytes : List ℕ) (network : WrittenNetwork) (text : WrittenLabels) (net : List NodeRow) (error : TextError) → IsScanned bytes network text
     → ((rows : List NodeRow) → TellsNetwork network rows → net ≡ rows) → (error ≢ NoMemory → IsConnected net → ⊥) → IsNoInput (Verify scheme) bytes error
 no_input_by_walks scheme bytes network text net error scanned built apart =
     no_input (Verify scheme) bytes error (λ some read.
-      apart some (subst IsConnected (sym (built read.0 (same_parts bytes network text read.0 read.1 scanned read.2).tells_rows)) read.2.readable.connected))
+    apart some (subst IsConnected (sym (built read.0 (same_parts bytes network text read.0 read.1 scanned read.2).tells_rows)) read.2.readable.connected))
 
 -- the bits of named labels are those of the labels
 total_bits-named : (ids : List ℕ) (labels : List (List Bool)) → length labels ≡ length ids → total_bits (named ids labels) ≡ bits_in labels
@@ -240,8 +238,8 @@ input_of bytes network text net store short scanned built valid connected stored
     let is_named = names scanned.named scanned.tells_labels in
     let back : named (ids_of net) store ≡ scanned.named = rw (← is_named, is_store) (named-parts scanned.named) in
     let each : length store ≡ length net =
-        ap length is_store ∙ length-map scanned.named (λ (label : NamedLabel). label.bits)
-        ∙ sym (length-map scanned.named (λ (label : NamedLabel). label.id)) ∙ ap length is_named ∙ length-map net (λ (row : NodeRow). row.id) in
+    ap length is_store ∙ length-map scanned.named (λ (label : NamedLabel). label.bits)
+    ∙ sym (length-map scanned.named (λ (label : NamedLabel). label.id)) ∙ ap length is_named ∙ length-map net (λ (row : NodeRow). row.id) in
     let many : length store ≡ length (ids_of net) = each ∙ sym (length-map net (λ (row : NodeRow). row.id)) in
     let sum : total_bits scanned.named ≡ bits_in store = ap total_bits (sym back) ∙ total_bits-named (ids_of net) store many in
     let few = few_bits (ids_of net) text.number scanned.named (accepted scanned.named scanned.tells_labels) in
@@ -269,9 +267,9 @@ pub no_network_by_walks : (scheme : SchemeName) (bytes : List ℕ) (net : List N
     → IsNoInput (Mark scheme) bytes error
 no_network_by_walks scheme bytes net error ranges is apart =
     no_input (Mark scheme) bytes error (λ some read.
-      let ends : network_text read.0 ++ [] ≡ network_text net ++ [] = ap (λ (text : List ℕ). text ++ []) (sym read.1.is ∙ is) in
-      let same = one_network read.0 net [] [] read.1.readable.ranges ranges ends in
-      apart some (subst IsConnected same.0 read.1.readable.connected))
+    let ends : network_text read.0 ++ [] ≡ network_text net ++ [] = ap (λ (text : List ℕ). text ++ []) (sym read.1.is ∙ is) in
+    let same = one_network read.0 net [] [] read.1.readable.ranges ranges ends in
+    apart some (subst IsConnected same.0 read.1.readable.connected))
 
 -- the smallest node is a node
 smallest_in : (rows : List NodeRow) → IsNetwork rows → Contains (ids_of rows) (smallest_id rows)

@@ -2,7 +2,6 @@
 use Rattle.std.proofs.Common.{◌≡◌, ◌∙◌, ℕ, ◌<◌, ◌≤◌, ◌⊎◌, Bool, List, length, Option, Some, None, inl, inr, ap, subst, refl, sym, arith}
 use Rattle.pls_base.specs.declared.text_error.TextError.{TextError}
 use Rattle.pls_base.specs.declared.text_error.TextError.TheVariants.{Form, Limit, Sense, NoMemory}
-use Rattle.pls_base.specs.declared.text_error.Quantity.{Quantity}
 use Rattle.pls_base.specs.declared.text_error.Quantity.TheVariants.{Input, Nodes, Ports, Bits, Events, Rounds, Labels}
 use Rattle.pls_model.specs.declared.row.NodeRow.{NodeRow}
 use Rattle.pls_colour.proofs.Marking.{one_marking}
@@ -34,14 +33,14 @@ kind_of command bytes NoMemory refused = absurd refused
 -- bytes are refused in one way
 one_refusal : (command : Command) (bytes : List ℕ) (error other : TextError) → IsRefused command bytes error → IsRefused command bytes other → error ≡ other
 one_refusal command bytes error other one two = elim (kind_of command bytes error one) [
-    inl many ↦ elim (kind_of command bytes other two) [
-      inl too ↦ many.0 ∙ sym too.0
+  | inl many ↦ elim (kind_of command bytes other two) [
+    | inl too ↦ many.0 ∙ sym too.0
     | inr form ↦ absurd (omega (arith, many.1, form.1))
-    ]
+  ]
   | inr form ↦ elim (kind_of command bytes other two) [
-      inl many ↦ absurd (omega (arith, many.1, form.1))
+    | inl many ↦ absurd (omega (arith, many.1, form.1))
     | inr too ↦ form.0 ∙ sym too.0
-    ]
+  ]
 ]
 
 -- an input is within the limit
@@ -74,14 +73,14 @@ one_marked Bipartite rows labels others some one two = one_marking rows labels o
 -- the marks of a network have one answer
 one_mark : (scheme : SchemeName) (rows : List NodeRow) (answer other : Answer) → 1 ≤ length rows → Marks scheme rows answer → Marks scheme rows other → answer ≡ other
 one_mark scheme rows answer other some one two = elim one [
-    inl mine ↦ elim two [
-      inl theirs ↦ mine.3 ∙ ap (labelled rows) (one_marked scheme rows mine.0 theirs.0 some mine.2 theirs.2) ∙ sym theirs.3
+  | inl mine ↦ elim two [
+    | inl theirs ↦ mine.3 ∙ ap (labelled rows) (one_marked scheme rows mine.0 theirs.0 some mine.2 theirs.2) ∙ sym theirs.3
     | inr lacks ↦ absurd (lacks.0 mine.1)
-    ]
+  ]
   | inr lacks ↦ elim two [
-      inl theirs ↦ absurd (lacks.0 theirs.1)
+    | inl theirs ↦ absurd (lacks.0 theirs.1)
     | inr too ↦ lacks.1 ∙ sym too.1
-    ]
+  ]
 ]
 
 -- a command works in one way
@@ -96,14 +95,14 @@ one_work (Verify scheme) bytes answer other one two =
 -- a command on bytes has one answer
 one_of_command : (command : Command) (bytes : List ℕ) (answer other : Answer) → Answers command bytes answer → Answers command bytes other → answer ≡ other
 one_of_command command bytes answer other one two = elim one [
-    inl refused ↦ elim two [
-      inl too ↦ refused.2 ∙ ap refusal (one_refusal command bytes refused.0 too.0 refused.1 too.1) ∙ sym too.2
+  | inl refused ↦ elim two [
+    | inl too ↦ refused.2 ∙ ap refusal (one_refusal command bytes refused.0 too.0 refused.1 too.1) ∙ sym too.2
     | inr works ↦ absurd (refused_unread command bytes refused.0 refused.1 (works_read command bytes other works))
-    ]
+  ]
   | inr works ↦ elim two [
-      inl refused ↦ absurd (refused_unread command bytes refused.0 refused.1 (works_read command bytes answer works))
+    | inl refused ↦ absurd (refused_unread command bytes refused.0 refused.1 (works_read command bytes answer works))
     | inr too ↦ one_work command bytes answer other works too
-    ]
+  ]
 ]
 
 -- words and bytes have one answer

@@ -1,11 +1,10 @@
 -- From what a run comes to, what it says.
-use Rattle.std.proofs.Common.{◌≡◌, ◌≢◌, ℕ, ◌+◌, ◌≤◌, Bool, List, [], length, drop, Option, Some, None, IfSome, IfOk, MatchResult, ◌⊎◌, inl, inr, Result, Ok, Err, OnOk, ap, subst, refl, arith}
-use Rattle.std.specs.Io.KnownBytes.{Appends}
+use Rattle.std.proofs.Common.{◌≡◌, ◌≢◌, ℕ, ◌+◌, ◌≤◌, Bool, List, [], length, drop, Option, Some, None, IfSome, IfOk, MatchResult, inl, inr, Result, Ok, Err, OnOk, ap, subst, refl, arith}
 use Rattle.std.proofs.lemmas.List.{drop_all}
 use Rattle.pls_base.specs.declared.text_error.TextError.{TextError}
 use Rattle.pls_base.specs.declared.text_error.TextError.TheVariants.{Form, Limit, NoMemory, Sense}
 use Rattle.pls_base.specs.declared.text_error.Quantity.TheVariants.{Input}
-use Rattle.pls_base.specs.Streams.{AppendsPart, LosesAtMost, LosesFirst, Rose}
+use Rattle.pls_base.specs.Streams.{LosesAtMost, LosesFirst}
 use Rattle.pls_model.specs.declared.row.NodeRow.{NodeRow}
 use Rattle.pls_model.specs.declared.status.Status.{Status}
 use Rattle.pls_model.specs.declared.status.Status.TheVariants.{Done, No, WriteFault}
@@ -139,3 +138,9 @@ told_no due status before after old new text told ends = elim told [
   | inl whole ↦ cc
   | inr part ↦ absurd (let other : WriteFault ≡ No = cc in cc)
 ]
+
+-- what was read of a source that tells its bytes is these
+pub read_them : (old : Option (List ℕ)) (read bytes : List ℕ) → IfSome old (λ found. read ≡ found) → old ≡ Some bytes → read ≡ bytes
+read_them old read bytes all told =
+    let here : IfSome (Some bytes) (λ found. read ≡ found) = rw told at all in
+    here

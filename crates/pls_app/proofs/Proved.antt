@@ -1,5 +1,5 @@
 -- What `Done` says of a network.
-use Rattle.std.proofs.Common.{◌≡◌, ℕ, Bool, true, false, cond, eqb, List, map, length, All, if◌then◌else◌, ◌==◌, ◌⊎◌, inl, inr, get_or, refl, sym, ap, ◌∙◌}
+use Rattle.std.proofs.Common.{◌≡◌, ℕ, Bool, true, false, cond, eqb, List, map, All, if◌then◌else◌, ◌==◌, inl, inr, get_or, refl, sym, ap, ◌∙◌}
 use Rattle.std.specs.List.{list_all, sum_by}
 use Rattle.std.proofs.lemmas.Bool.{eqb-true, eq-eqb}
 use Rattle.std.proofs.lemmas.List.Folds.{sum_by-zero, list_all-map}
@@ -17,7 +17,6 @@ use Rattle.pls_app.specs.declared.command.Command.TheVariants.{Mark, Verify}
 use Rattle.pls_app.specs.declared.command.SchemeName.{SchemeName}
 use Rattle.pls_app.specs.declared.command.SchemeName.TheVariants.{Bipartite}
 use Rattle.pls_app.specs.Report.{rejects, rejecting}
-use Rattle.pls_app.specs.Input.{IsInput}
 use Rattle.pls_app.specs.Answer.{Answer, Answers, refusal_status, report}
 use Rattle.pls_app.specs.Meaning.{HasProperty, judge_of}
 use Rattle.pls_app.specs.Run.{Lacks, Proves}
@@ -37,7 +36,7 @@ none_reject judge seen none =
     λ k d within. accepts (judge (get_or seen k d)) (AllPass-from_list_all (λ view. eqb (weight (row view)) 0) seen each k d within)
 
 -- a refusal is not `Done`
-refused_not_done : (error : TextError) → refusal_status error ≡ Done → ⊥
+pub refused_not_done : (error : TextError) → refusal_status error ≡ Done → ⊥
 refused_not_done (Form line) done = cc
 refused_not_done (Limit quantity) done = cc
 refused_not_done (Sense number place) done = cc
@@ -58,7 +57,7 @@ scheme_sound Bipartite rows labels accepted = bipartite_sound rows labels accept
 -- `Done` after `verify` says that the network of the input has the property
 pub done_proves : (scheme : SchemeName) (bytes : List ℕ) (answer : Answer) → Answers (Verify scheme) bytes answer → answer.status ≡ Done → Proves scheme bytes
 done_proves scheme bytes answer answers done = elim answers [
-    inl refused ↦ absurd (refused_not_done refused.0 (sym (ap (λ (answer : Answer). answer.status) refused.2) ∙ done))
+  | inl refused ↦ absurd (refused_not_done refused.0 (sym (ap (λ (answer : Answer). answer.status) refused.2) ∙ done))
   | inr judged ↦
       let rows : List NodeRow = judged.0 in
       let labels : List (List Bool) = judged.1 in
@@ -78,11 +77,11 @@ refused_not_no NoMemory ends = cc
 -- `No` after `mark` says that the network lacks the property
 pub no_lacks : (scheme : SchemeName) (bytes : List ℕ) (answer : Answer) → Answers (Mark scheme) bytes answer → answer.status ≡ No → Lacks scheme bytes
 no_lacks scheme bytes answer answers ends = elim answers [
-    inl refused ↦ absurd (refused_not_no refused.0 (sym (ap (λ (answer : Answer). answer.status) refused.2) ∙ ends))
+  | inl refused ↦ absurd (refused_not_no refused.0 (sym (ap (λ (answer : Answer). answer.status) refused.2) ∙ ends))
   | inr marked ↦ elim marked.2 [
-      inl labels ↦ absurd (let other : Done ≡ No = sym (ap (λ (answer : Answer). answer.status) labels.3) ∙ ends in cc)
+    | inl labels ↦ absurd (let other : Done ≡ No = sym (ap (λ (answer : Answer). answer.status) labels.3) ∙ ends in cc)
     | inr lacks ↦ record { rows = marked.0; input = marked.1; lacks = lacks.0 }
-    ]
+  ]
 ]
 
 -- where all accept, no node rejects
@@ -91,7 +90,7 @@ all_accept_none judge seen accepted =
     let row : Seen → ℕ × Verdict = λ view. (view.id, judge view) in
     let weight : ℕ × Verdict → ℕ = λ row. cond (rejects row.1) 1 0 in
     let each : list_all (λ view. eqb (weight (row view)) 0) seen ≡ true =
-        list_all-from_AllPass (λ view. eqb (weight (row view)) 0) seen (λ k d within. ap (λ (verdict : Verdict). eqb (cond (rejects verdict) 1 0) 0) (accepted k d within)) in
+    list_all-from_AllPass (λ view. eqb (weight (row view)) 0) seen (λ k d within. ap (λ (verdict : Verdict). eqb (cond (rejects verdict) 1 0) 0) (accepted k d within)) in
     eqb-true (sum_by weight (map row seen)) 0 (sum_by-zero weight (map row seen) ∙ list_all-map (λ r. eqb (weight r) 0) row seen ∙ each)
 
 -- labels that all accept make a round `Done`

@@ -1,5 +1,5 @@
 -- Reports line by line.
-use Rattle.std.proofs.Common.{◌≡◌, ◌∙◌, ℕ, ◌+◌, ◌<◌, ◌≤◌, List, [], ◌∷◌, ◌++◌, map, take, length, get_or, ap, refl}
+use Rattle.std.proofs.Common.{◌≡◌, ◌∙◌, ℕ, ◌+◌, ◌<◌, ◌≤◌, List, [], ◌∷◌, ◌++◌, map, take, length, get_or, refl}
 use Rattle.std.proofs.lemmas.List.{take_all, take_more, map-append}
 use Rattle.pls_netfile.specs.Text.{text_of}
 use Rattle.pls_netfile.proofs.Fronts.{text_of-append}

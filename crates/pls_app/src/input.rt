@@ -28,10 +28,7 @@ pub(crate) fn read_connected(alloc: Global, bytes: &[u8]) -> Result<Network, Tex
 }
 
 // The connected network and the labels that an input is, or why it is none.
-pub(crate) fn read_labelled(
-    alloc: Global,
-    bytes: &[u8],
-) -> Result<(Network, LabelStore), TextError>
+pub(crate) fn read_labelled(alloc: Global, bytes: &[u8]) -> Result<(Network, LabelStore), TextError>
     requires { length bytes.now ≤ MAX_INPUT }
     ensures parts { IfOk result (λ parts. IsInput bytes.now parts.0 parts.1) }
     ensures refused { IfErr result (λ error. (scheme : SchemeName)

@@ -1,4 +1,3 @@
-use Rattle.std.proofs.Common.{◌≡◌}
 use Rattle.std.proofs.lemmas.Result.{err_from_is_err_and}
 use Rattle.pls_app.proofs.Inputs.{no_network_by_walks}
 use Rattle.pls_app.proofs.input.read_connected.Goals as goal

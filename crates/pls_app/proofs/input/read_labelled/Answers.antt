@@ -1,4 +1,3 @@
-use Rattle.std.proofs.Common.{◌≡◌}
 use Rattle.std.proofs.lemmas.Result.{err_from_is_err_and}
 use Rattle.pls_app.proofs.Inputs.{input_of, no_input_by_form, no_input_by_labels, no_input_by_rows, no_input_by_walks}
 use Rattle.pls_app.proofs.input.read_labelled.Goals as goal

@@ -1,4 +1,3 @@
-use Rattle.std.proofs.Common.{◌≡◌}
 use Rattle.std.proofs.lemmas.Result.{err_from_is_err_and}
 use Rattle.pls_app.proofs.Inputs.{fault_in_network, fault_in_labels, fault_left_over, no_truth}
 use Rattle.pls_app.proofs.input.scan_parts.Goals as goal

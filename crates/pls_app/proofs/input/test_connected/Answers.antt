@@ -1,4 +1,3 @@
-use Rattle.std.proofs.Common.{◌≡◌}
 use Rattle.pls_app.proofs.Inputs.{apart_from}
 use Rattle.pls_app.proofs.input.test_connected.Goals as goal
 

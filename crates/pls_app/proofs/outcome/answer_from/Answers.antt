@@ -1,9 +1,14 @@
-use Rattle.std.proofs.Common.{◌≡◌, ℕ, List, Some, refl, arith}
+use Rattle.std.proofs.Common.{◌≡◌, ◌∙◌, ℕ, List, Some, ap, subst, refl, sym, arith}
 use Rattle.std.proofs.lemmas.Result.{IfOk-weaker}
 use Rattle.pls_base.specs.declared.text_error.TextError.TheVariants.{Limit}
 use Rattle.pls_base.specs.declared.text_error.Quantity.TheVariants.{Input}
-use Rattle.pls_app.specs.Answer.{Answers, refusal}
-use Rattle.pls_app.proofs.Outcomes.{on_ok, ok_again, read_all_of, lost_all_of, read_past, lost_past, too_long, refused_answer}
+use Rattle.pls_model.specs.declared.status.Status.TheVariants.{Done}
+use Rattle.pls_app.specs.declared.command.Command.TheVariants.{Mark}
+use Rattle.pls_app.specs.declared.command.SchemeName.{SchemeName}
+use Rattle.pls_app.specs.Answer.{Answer, Answers, refusal}
+use Rattle.pls_app.specs.Run.{Certifies}
+use Rattle.pls_app.proofs.Outcomes.{lost_all_of, lost_past, ok_again, on_ok, read_all_of, read_them, refused_answer, too_long}
+use Rattle.pls_app.proofs.Proved.{refused_not_done}
 use Rattle.pls_app.proofs.outcome.answer_from.Goals as goal
 
 pub returns-in-Ok-clause-read : goal.returns-in-Ok-clause-read
@@ -26,3 +31,38 @@ returns-in-Err-TooLong-clause-answer g c =
 
 pub returns-in-Err-TooLong-clause-lost : goal.returns-in-Err-TooLong-clause-lost
 returns-in-Err-TooLong-clause-lost g c = lost_past _ _ (c.in-Err-TooLong.ensures.too_long (rw c.in-Err-TooLong.field-0-is refl))
+
+pub returns-in-Ok-clause-answer : goal.returns-in-Ok-clause-answer
+returns-in-Ok-clause-answer g c =
+    let command = c.args.command in
+    let old = g.S.Source.left c.args.source.now in
+    let read = c.deref.result.now in
+    ok_again c.answer_to.result c.or_no_memory.result _ (λ answer. (bytes : List ℕ) → old ≡ Some bytes → Answers command bytes answer)
+    (IfOk-weaker c.answer_to.result (λ answer. Answers command read answer) (λ answer. (bytes : List ℕ) → old ≡ Some bytes → Answers command bytes answer)
+    (λ answer is bytes told. subst (λ (bytes : List ℕ). Answers command bytes answer) (c.deref.ensures.value ∙ read_them old c.in-Ok.bytes.items bytes c.in-Ok.ensures.all told) is) c.answer_to.ensures.answer)
+    c.or_no_memory.ensures
+
+pub returns-in-Ok-clause-certified : goal.returns-in-Ok-clause-certified
+returns-in-Ok-clause-certified g c =
+    let command = c.args.command in
+    let old = g.S.Source.left c.args.source.now in
+    let read = c.deref.result.now in
+    ok_again c.answer_to.result c.or_no_memory.result _
+    (λ answer. (scheme : SchemeName) (bytes : List ℕ) → old ≡ Some bytes → command ≡ Mark scheme → answer.status ≡ Done → Certifies scheme bytes answer.text)
+    (IfOk-weaker c.answer_to.result (λ answer. (scheme : SchemeName) → command ≡ Mark scheme → answer.status ≡ Done → Certifies scheme read answer.text)
+    (λ answer. (scheme : SchemeName) (bytes : List ℕ) → old ≡ Some bytes → command ≡ Mark scheme → answer.status ≡ Done → Certifies scheme bytes answer.text)
+    (λ answer is scheme bytes told mark done.
+    subst (λ (bytes : List ℕ). Certifies scheme bytes answer.text) (c.deref.ensures.value ∙ read_them old c.in-Ok.bytes.items bytes c.in-Ok.ensures.all told) (is scheme mark done))
+    c.answer_to.ensures.certified)
+    c.or_no_memory.ensures
+
+pub returns-in-Err-TooLong-clause-certified : goal.returns-in-Err-TooLong-clause-certified
+returns-in-Err-TooLong-clause-certified g c =
+    let command = c.args.command in
+    let old = g.S.Source.left c.args.source.now in
+    ok_again c.refuse.result c.or_no_memory-in-Err-TooLong.result _
+    (λ answer. (scheme : SchemeName) (bytes : List ℕ) → old ≡ Some bytes → command ≡ Mark scheme → answer.status ≡ Done → Certifies scheme bytes answer.text)
+    (IfOk-weaker c.refuse.result (λ answer. answer ≡ refusal (Limit Input))
+    (λ answer. (scheme : SchemeName) (bytes : List ℕ) → old ≡ Some bytes → command ≡ Mark scheme → answer.status ≡ Done → Certifies scheme bytes answer.text)
+    (λ answer same scheme bytes told mark done. absurd (refused_not_done (Limit Input) (sym (ap (λ (answer : Answer). answer.status) same) ∙ done))) c.refuse.ensures.says)
+    c.or_no_memory-in-Err-TooLong.ensures

@@ -1,4 +1,3 @@
-use Rattle.std.proofs.Common.{◌≡◌}
 use Rattle.pls_app.specs.Report.{verdict_line, closing_line}
 use Rattle.pls_app.proofs.Reports.{lines_more, lines_closed}
 use Rattle.pls_app.proofs.report.report_text.Goals as goal

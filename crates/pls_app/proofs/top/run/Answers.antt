@@ -1,4 +1,4 @@
-use Rattle.std.proofs.Common.{◌≡◌, ◌∙◌, ap, subst, sym, ℕ, List, Bor, map}
+use Rattle.std.proofs.Common.{◌∙◌, ap, subst, sym, ℕ, List, Bor, map}
 use Rattle.pls_app.specs.declared.command.Command.TheVariants.{Mark, Verify}
 use Rattle.pls_app.specs.Answer.{Answer, usage}
 use Rattle.pls_app.specs.Run.{Certifies}
@@ -28,7 +28,9 @@ returns-in-Ok-clause-mark g c scheme bytes told is done =
     let words : List (List ℕ) = map (λ (word : Bor (List ℕ)). word.now) c.args.words.now in
     let due = told_done _ _ _ _ _ _ _ c.tell-in-Ok.ensures done in
     let certifies = c.in-Ok.ensures.certified scheme bytes told (the_command words c.in-Some.command (Mark scheme) c.in-Some.ensures is) (sym (ap (λ (answer : Answer). answer.status) c.answer.view_is) ∙ due) in
-    took_certificate scheme bytes _ _ _ _ _ _ _ (subst (λ (answer : Answer). Certifies scheme bytes answer.text) (sym c.answer.view_is) certifies) c.tell-in-Ok.ensures done
+    let written : Certifies scheme bytes c.deref.result.now =
+    subst (Certifies scheme bytes) (sym c.deref.ensures.value) (subst (λ (answer : Answer). Certifies scheme bytes answer.text) (sym c.answer.view_is) certifies) in
+    took_certificate scheme bytes _ _ _ _ _ _ _ written c.tell-in-Ok.ensures done
 
 pub returns-in-Ok-clause-mark_no : goal.returns-in-Ok-clause-mark_no
 returns-in-Ok-clause-mark_no g c scheme bytes told is ends =
