@@ -13,6 +13,10 @@ const COLOURS: &str = "labels\nlabel 1 1 00\nlabel 2 1 80\nend\n";
 
 const ACCEPTED: &str = "node 1 accept\nnode 2 accept\nrejecting 0\n";
 
+const APART: &str = "network\nnode 1 - 0 0\nnode 2 - 0 0\nend\n";
+
+const REFUSED: &str = "refused form at 0\n";
+
 // Runs on an input in two parts, and asserts the text and the status.
 fn assert_run(
     rt: &impl Abort,
@@ -32,14 +36,61 @@ fn assert_run(
 }
 
 #[test]
+fn networks_are_marked(rt: HostRuntime) -> Result<(), Fail> {
+    let triangle = "network\nnode 1 - 0 0\nport 2 1\nport 3 1\nnode 2 - 0 0\nport 1 1\nport 3 1\n\
+                    node 3 - 0 0\nport 1 1\nport 2 1\nend\n";
+    let alone = "network\nnode 5 - 0 0\nend\n";
+    let cases = [
+        (PAIR, "", COLOURS, Status::Done),
+        (alone, "", "labels\nlabel 5 1 00\nend\n", Status::Done),
+        (triangle, "", "no\n", Status::No),
+        (APART, "", REFUSED, Status::Refused),
+        (PAIR, COLOURS, REFUSED, Status::Refused),
+        ("", "", REFUSED, Status::Refused),
+    ];
+    for (network, behind, text, status) in cases {
+        assert_run(
+            &rt,
+            rt.alloc(),
+            &["mark", "bipartite"],
+            [network, behind],
+            text,
+            status,
+        )?;
+    }
+    Ok(())
+}
+
+#[test]
+fn marked_labels_are_accepted(rt: HostRuntime) -> Result<(), Fail> {
+    let alloc = rt.alloc();
+    let square = "network\nnode 3 - 0 0\nport 5 2\nport 9 0\nnode 5 0 1 7\nport 3 2\nport 6 1\n\
+                  node 6 - 0 0\nport 5 1\nport 9 1\nnode 9 - 0 0\nport 3 0\nport 6 1\nend\n";
+    let bytes = square.as_bytes().to_vec(alloc)?;
+    let (end, sink) = run_in_memory(alloc, &["mark", "bipartite"], bytes)?;
+    assert_eq!(rt; end, Status::Done);
+    let mut again = square.as_bytes().to_vec(alloc)?;
+    again.extend_from_slice(sink.bytes())?;
+    let (end, sink) = run_in_memory(alloc, &["verify", "bipartite"], again)?;
+    let accepted = "node 3 accept\nnode 5 accept\nnode 6 accept\nnode 9 accept\nrejecting 0\n";
+    assert_eq!(rt; sink.bytes(), accepted.as_bytes());
+    assert_eq!(rt; end, Status::Done);
+    Ok(())
+}
+
+#[test]
 fn a_network_of_two_nodes_is_judged(rt: HostRuntime) -> Result<(), Fail> {
     let rejected = "node 1 reject 1 3\nnode 2 reject 1 3\nrejecting 2\n";
     let same = "labels\nlabel 1 1 80\nlabel 2 1 80\nend\n";
-    let apart = "network\nnode 1 - 0 0\nnode 2 - 0 0\nend\n";
+    let two_bits = "labels\nlabel 1 2 00\nlabel 2 1 80\nend\n";
+    let bare = "labels\nlabel 1 0 -\nlabel 2 1 80\nend\n";
+    let spelling = "node 1 reject 1 1\nnode 2 reject 1 2\nrejecting 2\n";
     let cases = [
         (PAIR, COLOURS, ACCEPTED, Status::Done),
         (PAIR, same, rejected, Status::No),
-        (apart, same, ACCEPTED, Status::Done),
+        (PAIR, two_bits, spelling, Status::No),
+        (PAIR, bare, spelling, Status::No),
+        (APART, same, REFUSED, Status::Refused),
     ];
     for (network, labels, text, status) in cases {
         assert_run(
@@ -57,16 +108,15 @@ fn a_network_of_two_nodes_is_judged(rt: HostRuntime) -> Result<(), Fail> {
 #[test]
 fn words_and_forms_are_refused(rt: HostRuntime) -> Result<(), Fail> {
     let cut = "network\nnode 1 - 0 0\nport 2 1\nnode 2 - 0 0\nport 1 1\n";
-    let two_bits = "labels\nlabel 1 2 00\nlabel 2 1 80\nend\n";
+    let spare = "labels\nlabel 1 1 40\nlabel 2 1 80\nend\n";
     let turned = "labels\nlabel 2 1 80\nlabel 1 1 00\nend\n";
-    let refused = "refused form at 0\n";
     let cases = [
         ("colour", PAIR, COLOURS, "usage\n", Status::Usage),
-        ("bipartite", cut, "", refused, Status::Refused),
-        ("bipartite", PAIR, "", refused, Status::Refused),
-        ("bipartite", PAIR, two_bits, refused, Status::Refused),
-        ("bipartite", PAIR, turned, refused, Status::Refused),
-        ("bipartite", "", "", refused, Status::Refused),
+        ("bipartite", cut, "", REFUSED, Status::Refused),
+        ("bipartite", PAIR, "", REFUSED, Status::Refused),
+        ("bipartite", PAIR, spare, REFUSED, Status::Refused),
+        ("bipartite", PAIR, turned, REFUSED, Status::Refused),
+        ("bipartite", "", "", REFUSED, Status::Refused),
     ];
     for (scheme, network, labels, text, status) in cases {
         assert_run(
