@@ -190,6 +190,7 @@ one_marking (first ∷ rows) labels others some one two = same_list labels other
   where
     all : List NodeRow
     all = first ∷ rows
+
     agree : (i : ℕ) (label other : List Bool) → slice_get labels i ≡ Some label → slice_get others i ≡ Some other → label ≡ other
     agree i label other at_label at_other =
         let within : i < length all = omega (arith, slice_get_within labels i label at_label, one.each) in
