@@ -1,5 +1,5 @@
 -- What is scanned of an input, and what an input is.
-use Rattle.std.proofs.Common.{◌≡◌, ◌≢◌, ◌∙◌, ℕ, ◌≤◌, ◌^◌, Bool, true, false, List, [], ◌∷◌, ◌++◌, map, length, nat_lt, ◌==◌, All, Contains, Some, None, if◌then◌else◌, option_map, ap, subst, refl, sym, arith}
+use Rattle.std.proofs.Common.{◌≡◌, ◌≢◌, ◌∙◌, ℕ, ◌≤◌, ◌<◌, ◌^◌, Bool, true, false, List, [], ◌∷◌, ◌++◌, map, length, nat_lt, ◌==◌, All, Contains, Some, None, if◌then◌else◌, option_map, ap, subst, refl, sym, arith}
 use Rattle.std.proofs.lemmas.Bool.{eq-eqb}
 use Rattle.std.proofs.lemmas.Bool.Decides.{nat_tests}
 use Rattle.std.proofs.lemmas.List.{length-map}
@@ -31,11 +31,12 @@ use Rattle.pls_app.specs.declared.command.SchemeName.{SchemeName}
 use Rattle.pls_graph.specs.Connected.{IsFirstApart, smallest_id}
 use Rattle.pls_graph.proofs.Members.{Contains-first}
 use Rattle.pls_graph.proofs.Placed.{smallest_first}
-use Rattle.pls_app.specs.Input.{AreLabels, IsInput, IsInputLines, IsNetworkInput, IsReadable, Reads}
-use Rattle.pls_app.specs.Scanned.{IsFormError, IsNoInput, IsScanned}
+use Rattle.pls_app.specs.Input.{AreLabels, IsInput, IsInputLines, IsNetworkInput, IsReadable}
+use Rattle.pls_app.specs.Order.{IsFormError}
+use Rattle.pls_app.specs.Scanned.{IsScanned}
 
 -- a fault in the network part is the first fault of the input
-pub fault_in_network : (bytes : List ℕ) (old : Left) (error : TextError) → old.number ≡ 1 → old.rest ≡ bytes → IsFormFault IsNetworkPart old error → IsFormError bytes error
+pub fault_in_network : (bytes : List ℕ) (old : Left) (error : TextError) → old.number ≡ 1 → old.rest ≡ bytes → IsFormFault IsNetworkPart old error → IsFormError IsInputLines bytes error
 fault_in_network bytes old error first rest fault =
     let none : All FitsLabel [] = λ k d within. absurd (omega (arith, within)) in (
       fault.0,
@@ -46,7 +47,7 @@ fault_in_network bytes old error first rest fault =
 
 -- a fault in the labels part
 pub fault_in_labels : (bytes : List ℕ) (old mid : Left) (network : WrittenNetwork) (error : TextError) → old.number ≡ 1 → old.rest ≡ bytes → PassesNetwork old mid network
-    → IsFormFault IsLabelsPart mid error → IsFormError bytes error
+    → IsFormFault IsLabelsPart mid error → IsFormError IsInputLines bytes error
 fault_in_labels bytes old mid network error first rest passes fault = (
   fault.0,
   fault.1,
@@ -57,7 +58,7 @@ fault_in_labels bytes old mid network error first rest passes fault = (
 
 -- something left over behind the parts
 pub fault_left_over : (bytes : List ℕ) (old mid now : Left) (network : WrittenNetwork) (labels : WrittenLabels) → old.number ≡ 1 → old.rest ≡ bytes → PassesNetwork old mid network
-    → PassesPart mid now labels → (now.rest ≡ [] → ⊥) → IsFormError bytes (Form now.number)
+    → PassesPart mid now labels → (now.rest ≡ [] → ⊥) → IsFormError IsInputLines bytes (Form now.number)
 fault_left_over bytes old mid now network labels first rest passes passes_labels some = (
   now.number,
   refl,
@@ -77,81 +78,11 @@ named_fit (row ∷ rows) (label ∷ labels) fits few =
     (named_fit rows labels (All-tail FitsRow row rows fits) (omega (arith, sum, few)))
 
 -- the labels of an input fit
-parts_fit : (rows : List NodeRow) (labels : List (List Bool)) → IsReadable rows → AreLabels rows labels → All FitsLabel (named (ids_of rows) labels)
+pub parts_fit : (rows : List NodeRow) (labels : List (List Bool)) → IsReadable rows → AreLabels rows labels → All FitsLabel (named (ids_of rows) labels)
 parts_fit rows labels readable labelled = named_fit rows labels readable.ranges.each labelled.few
 
--- what is no input for an error that is not want of memory
-pub no_input : (command : Command) (bytes : List ℕ) (error : TextError) → (error ≢ NoMemory → Reads command bytes → ⊥) → IsNoInput command bytes error
-no_input command bytes (Form line) none = none (λ e. cc)
-no_input command bytes (Limit quantity) none = none (λ e. cc)
-no_input command bytes (Sense number place) none = none (λ e. cc)
-no_input command bytes NoMemory none = tt
-
--- an input with a faulty line is the text of no network and labels
-pub no_input_by_form : (scheme : SchemeName) (bytes : List ℕ) (error : TextError) → IsFormError bytes error → IsNoInput (Verify scheme) bytes error
-no_input_by_form scheme bytes error fault = no_input (Verify scheme) bytes error (λ some read. none read.0 read.1 read.2)
-  where
-    none : (rows : List NodeRow) (labels : List (List Bool)) → IsInput bytes rows labels → ⊥
-    none rows labels input =
-        let parts = named (ids_of rows) labels in
-        fault.2.2.none (network_lines rows ++ labels_lines parts)
-        (record {
-          front = network_lines rows;
-          back = labels_lines parts;
-          is_first = rows_are_part rows input.readable.ranges;
-          is_second = is_labels_part parts (parts_fit rows labels input.readable input.labelled);
-          parts = refl;
-        })
-        (input.is ∙ sym (text_of-append (network_lines rows) (labels_lines parts)))
-
--- the parts of an input are those that were scanned
-record SameParts (rows : List NodeRow) (labels : List (List Bool)) (network : WrittenNetwork) (text : WrittenLabels) : Type 0 where
-  tells_rows : TellsNetwork network rows
-  tells_labels : TellsLabels text.text (named (ids_of rows) labels)
-
-same_parts : (bytes : List ℕ) (network : WrittenNetwork) (text : WrittenLabels) (rows : List NodeRow) (labels : List (List Bool)) → IsScanned bytes network text → IsInput bytes rows labels
-    → SameParts rows labels network text
-same_parts bytes network text rows labels scanned input =
-    let parts = named (ids_of rows) labels in
-    let fit = parts_fit rows labels input.readable input.labelled in
-    let both : network_text scanned.rows ++ labels_text scanned.named ≡ network_text rows ++ labels_text parts = sym scanned.is ∙ input.is in
-    let first = one_network scanned.rows rows (labels_text scanned.named) (labels_text parts) scanned.tells_rows.fits input.readable.ranges both in
-    let ends : labels_text scanned.named ++ [] ≡ labels_text parts ++ [] = ap (λ (text : List ℕ). text ++ []) first.1 in
-    let second = one_labels scanned.named parts [] [] scanned.tells_labels.fits fit ends in
-    record {
-      tells_rows = subst (TellsNetwork network) first.0 scanned.tells_rows;
-      tells_labels = subst (TellsLabels text.text) second.0 scanned.tells_labels;
-    }
-
--- rows that are refused are no network
-not_refused : (rows : List NodeRow) (error : TextError) → IsNetwork rows → error ≢ NoMemory → IsRefusedBuild rows error → ⊥
-not_refused rows (Form line) net some refused = refused
-not_refused rows (Limit Nodes) net some refused = omega (arith, refused, net.limits.few_nodes)
-not_refused rows (Limit Ports) net some refused = omega (arith, refused.1, net.limits.few_ports)
-not_refused rows (Limit Input) net some refused = refused
-not_refused rows (Limit Bits) net some refused = refused
-not_refused rows (Limit Events) net some refused = refused
-not_refused rows (Limit Rounds) net some refused = refused
-not_refused rows (Limit Labels) net some refused = refused
-not_refused rows (Sense number place) net some refused = let none : None ≡ Some refused.refusal = sym net.valid ∙ refused.first in cc
-not_refused rows NoMemory net some refused = some refl
-
--- an input whose rows are refused is none
-pub no_input_by_rows : (scheme : SchemeName) (bytes : List ℕ) (network : WrittenNetwork) (text : WrittenLabels) (error : TextError) → IsScanned bytes network text
-    → ((rows : List NodeRow) → TellsNetwork network rows → IsRefusedBuild rows error) → IsNoInput (Verify scheme) bytes error
-no_input_by_rows scheme bytes network text error scanned refused =
-    no_input (Verify scheme) bytes error (λ some read.
-    not_refused read.0 error read.2.readable.network some (refused read.0 (same_parts bytes network text read.0 read.1 scanned read.2).tells_rows))
-
--- an input whose network is not connected is none
-pub no_input_by_walks : (scheme : SchemeName) (bytes : List ℕ) (network : WrittenNetwork) (text : WrittenLabels) (net : List NodeRow) (error : TextError) → IsScanned bytes network text
-    → ((rows : List NodeRow) → TellsNetwork network rows → net ≡ rows) → (error ≢ NoMemory → IsConnected net → ⊥) → IsNoInput (Verify scheme) bytes error
-no_input_by_walks scheme bytes network text net error scanned built apart =
-    no_input (Verify scheme) bytes error (λ some read.
-    apart some (subst IsConnected (sym (built read.0 (same_parts bytes network text read.0 read.1 scanned read.2).tells_rows)) read.2.readable.connected))
-
 -- the bits of named labels are those of the labels
-total_bits-named : (ids : List ℕ) (labels : List (List Bool)) → length labels ≡ length ids → total_bits (named ids labels) ≡ bits_in labels
+pub total_bits-named : (ids : List ℕ) (labels : List (List Bool)) → length labels ≡ length ids → total_bits (named ids labels) ≡ bits_in labels
 total_bits-named [] [] same = refl
 total_bits-named [] (label ∷ labels) same = absurd (omega arith)
 total_bits-named (id ∷ ids) [] same = absurd (omega arith)
@@ -162,7 +93,7 @@ total_bits-named (id ∷ ids) (label ∷ labels) same =
     omega (arith, rest, left, right)
 
 -- labels that are named by the nodes fit them
-misfit-named : (ids : List ℕ) (labels : List (List Bool)) → length labels ≡ length ids → misfit ids (named ids labels) ≡ None
+pub misfit-named : (ids : List ℕ) (labels : List (List Bool)) → length labels ≡ length ids → misfit ids (named ids labels) ≡ None
 misfit-named [] [] same = refl
 misfit-named [] (label ∷ labels) same = absurd (omega arith)
 misfit-named (id ∷ ids) [] same = absurd (omega arith)
@@ -171,39 +102,12 @@ misfit-named (id ∷ ids) (label ∷ labels) same =
     let rest : misfit ids (named ids labels) ≡ None = misfit-named ids labels (omega arith) in
     rw (here, rest) refl
 
--- the labels of an input are not refused
-labels_accepted : (rows : List NodeRow) (labels : List (List Bool)) (heading : ℕ) → AreLabels rows labels → labels_refusal (ids_of rows) heading (named (ids_of rows) labels) ≡ None
-labels_accepted rows labels heading labelled =
-    let ids : List ℕ = ids_of rows in
-    let many : length ids ≡ length rows = length-map rows (λ (row : NodeRow). row.id) in
-    let each : length labels ≡ length ids = labelled.each ∙ sym many in
-    let few : total_bits (named ids labels) ≤ 2 ^ 28 = omega (arith, total_bits-named ids labels each, labelled.few) in
-    let within : nat_lt (2 ^ 28) (total_bits (named ids labels)) ≡ false = grind (arith, nat_tests) in
-    rw (within, misfit-named ids labels each) refl
-
 -- an error that is a refusal is the refusal
-refusal_is : (ids : List ℕ) (heading : ℕ) (labels : List NamedLabel) (error : TextError) → error ≢ NoMemory → IsRefusal ids heading labels error → labels_refusal ids heading labels ≡ Some error
+pub refusal_is : (ids : List ℕ) (heading : ℕ) (labels : List NamedLabel) (error : TextError) → error ≢ NoMemory → IsRefusal ids heading labels error → labels_refusal ids heading labels ≡ Some error
 refusal_is ids heading labels (Form line) some refused = refused
 refusal_is ids heading labels (Limit quantity) some refused = refused
 refusal_is ids heading labels (Sense number place) some refused = refused
 refusal_is ids heading labels NoMemory some refused = absurd (some refl)
-
--- an input whose labels are refused is none
-pub no_input_by_labels : (scheme : SchemeName) (bytes : List ℕ) (network : WrittenNetwork) (text : WrittenLabels) (net : List NodeRow) (error : TextError) → IsScanned bytes network text
-    → ((rows : List NodeRow) → TellsNetwork network rows → net ≡ rows)
-    → ((labels : List NamedLabel) → TellsLabels text.text labels → IsRefusal (ids_of net) text.number labels error) → IsNoInput (Verify scheme) bytes error
-no_input_by_labels scheme bytes network text net error scanned built refused =
-    no_input (Verify scheme) bytes error (λ some read. none some read.0 read.1 read.2)
-  where
-    none : error ≢ NoMemory → (rows : List NodeRow) (labels : List (List Bool)) → IsInput bytes rows labels → ⊥
-    none some rows labels input =
-        let same = same_parts bytes network text rows labels scanned input in
-        let is_net : net ≡ rows = built rows same.tells_rows in
-        let parts : List NamedLabel = named (ids_of rows) labels in
-        let here : IsRefusal (ids_of rows) text.number parts error = subst (λ (net : List NodeRow). IsRefusal (ids_of net) text.number parts error) is_net (refused parts same.tells_labels) in
-        let told = refusal_is (ids_of rows) text.number parts error some here in
-        let none : None ≡ Some error = sym (labels_accepted rows labels text.number input.labelled) ∙ told in
-        cc
 
 -- the bits of named labels are the labels
 bits-named : (ids : List ℕ) (labels : List (List Bool)) → length labels ≡ length ids → map (λ label. label.bits) (named ids labels) ≡ labels
@@ -256,21 +160,6 @@ pub network_input_of : (bytes : List ℕ) (net : List NodeRow) → length bytes 
 network_input_of bytes net short is ranges valid connected =
     record { short = short; readable = record { network = valid; connected = connected; ranges = ranges }; is = is }
 
--- a text that was refused is no input of a network
-pub no_network : (scheme : SchemeName) (bytes : List ℕ) (error : TextError)
-    → ((rows : List NodeRow) → AreRows rows → IsNetwork rows → bytes ≡ network_text rows → error ≡ NoMemory) → IsNoInput (Mark scheme) bytes error
-no_network scheme bytes error refused =
-    no_input (Mark scheme) bytes error (λ some read. some (refused read.0 read.1.readable.ranges read.1.readable.network read.1.is))
-
--- a network that is not connected is no input
-pub no_network_by_walks : (scheme : SchemeName) (bytes : List ℕ) (net : List NodeRow) (error : TextError) → AreRows net → bytes ≡ network_text net → (error ≢ NoMemory → IsConnected net → ⊥)
-    → IsNoInput (Mark scheme) bytes error
-no_network_by_walks scheme bytes net error ranges is apart =
-    no_input (Mark scheme) bytes error (λ some read.
-    let ends : network_text read.0 ++ [] ≡ network_text net ++ [] = ap (λ (text : List ℕ). text ++ []) (sym read.1.is ∙ is) in
-    let same = one_network read.0 net [] [] read.1.readable.ranges ranges ends in
-    apart some (subst IsConnected same.0 read.1.readable.connected))
-
 -- the smallest node is a node
 smallest_in : (rows : List NodeRow) → IsNetwork rows → Contains (ids_of rows) (smallest_id rows)
 smallest_in [] net = absurd (omega (arith, net.limits.some))
@@ -281,6 +170,22 @@ smallest_in (first ∷ rows) net =
 -- where a node is joined to the smallest by no walk, the network is not connected
 pub apart_from : (rows : List NodeRow) (id : ℕ) → IsNetwork rows → IsFirstApart rows id → IsConnected rows → ⊥
 apart_from rows id net apart connected = apart.apart (connected (smallest_id rows) id (smallest_in rows net) apart.node)
+
+-- the smallest node that is joined to the smallest of all by no walk is one
+pub one_apart : (rows : List NodeRow) (id other : ℕ) → IsFirstApart rows id → IsFirstApart rows other → id ≡ other
+one_apart rows id other one two = by (nat_lt id other) (nat_lt other id) refl refl
+  where
+    by : (a b : Bool) → nat_lt id other ≡ a → nat_lt other id ≡ b → id ≡ other
+    by true b less greater =
+        let before : id < other = grind (arith, nat_tests) in
+        absurd (one.apart (two.first id one.node before))
+    by false true less greater =
+        let before : other < id = grind (arith, nat_tests) in
+        absurd (two.apart (one.first other two.node before))
+    by false false less greater =
+        let up : other ≤ id = grind (arith, nat_tests) in
+        let down : id ≤ other = grind (arith, nat_tests) in
+        omega (arith, up, down)
 
 -- a test that failed does not hold
 pub no_truth : (b : Bool) → b ≡ false → b ≡ true → ⊥

@@ -3,6 +3,7 @@ mod Inputs
 mod OneAnswer
 mod Outcomes
 mod Proved
+mod Refused
 mod Reports
 mod Rounds
 mod TextLengths

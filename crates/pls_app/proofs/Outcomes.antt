@@ -1,24 +1,28 @@
 -- From what a run comes to, what it says.
-use Rattle.std.proofs.Common.{◌≡◌, ◌≢◌, ℕ, ◌+◌, ◌≤◌, Bool, List, [], length, drop, Option, Some, None, IfSome, IfOk, MatchResult, inl, inr, Result, Ok, Err, OnOk, ap, subst, refl, arith}
+use Rattle.std.proofs.Common.{◌≡◌, ◌≢◌, ℕ, ◌+◌, ◌≤◌, Bool, true, false, List, [], length, drop, Option, Some, None, IfSome, IfOk, MatchResult, inl, inr, Result, Ok, Err, OnOk, ap, subst, refl, arith, ◌∙◌, ◌⊎◌, ◌==◌, if◌then◌else◌, sym}
 use Rattle.std.proofs.lemmas.List.{drop_all}
+use Rattle.std.specs.Io.KnownBytes.{Appends}
 use Rattle.pls_base.specs.declared.text_error.TextError.{TextError}
 use Rattle.pls_base.specs.declared.text_error.TextError.TheVariants.{Form, Limit, NoMemory, Sense}
 use Rattle.pls_base.specs.declared.text_error.Quantity.TheVariants.{Input}
 use Rattle.pls_base.specs.Streams.{LosesAtMost, LosesFirst}
 use Rattle.pls_model.specs.declared.row.NodeRow.{NodeRow}
 use Rattle.pls_model.specs.declared.status.Status.{Status}
-use Rattle.pls_model.specs.declared.status.Status.TheVariants.{Done, No, WriteFault}
+use Rattle.pls_model.specs.declared.status.Status.TheVariants.{Done, No, Refused, WriteFault, Limit as OverLimit}
 use Rattle.pls_scheme.specs.Judging.{round_by}
 use Rattle.pls_app.specs.declared.command.Command.{Command}
 use Rattle.pls_app.specs.declared.command.Command.TheVariants.{Mark, Verify}
 use Rattle.pls_app.specs.declared.command.SchemeName.{SchemeName}
 use Rattle.pls_app.specs.declared.limits.TheConstants.{MAX_INPUT}
 use Rattle.pls_app.specs.Command.{command_of}
-use Rattle.pls_app.specs.Input.{IsInput, IsNetworkInput, IsRefused, only}
-use Rattle.pls_app.specs.Answer.{Answer, Answers, IsAnswer, Marks, refusal, report, usage}
+use Rattle.pls_app.specs.Input.{IsInput, IsNetworkInput}
+use Rattle.pls_app.specs.Order.{IsRefused}
+use Rattle.pls_app.specs.Answer.{Answer, Answers, IsAnswer, Marks, Works, refusal, report, usage}
 use Rattle.pls_app.specs.Meaning.{judge_of}
 use Rattle.pls_app.specs.Scanned.{IsNoInput}
-use Rattle.pls_app.specs.Run.{Certifies, HasRead, IsAnswered, Tells, TellsPart, Told, TookCertificate}
+use Rattle.pls_app.specs.Run.{Certifies, HasRead, IsAnswered, IsRefusal, Tells, TellsPart, TellsRefusal, Told, TookCertificate}
+use Rattle.pls_app.specs.Report.{rejecting}
+use Rattle.pls_app.proofs.OneAnswer.{one_answer}
 
 -- an answer that was told in the end
 pub tells : (words : List (List ℕ)) (bytes : List ℕ) (answer : Answer) (status : Status) (before after : ℕ) (old new : Option (List ℕ)) → IsAnswer words bytes answer
@@ -64,7 +68,7 @@ lost_past old new lost = (MAX_INPUT + 1, omega arith, lost)
 pub too_long : (command : Command) (old new : Option (List ℕ)) (bytes : List ℕ) → LosesFirst old new (MAX_INPUT + 1) → old ≡ Some bytes → IsRefused command bytes (Limit Input)
 too_long command old new bytes lost told =
     let here : LosesFirst (Some bytes) new (MAX_INPUT + 1) = rw told at lost in
-    omega (arith, here.0)
+    inl (refl, omega (arith, here.0))
 
 -- a network and labels that were read are judged
 pub judged_answer : (scheme : SchemeName) (bytes : List ℕ) (rows : List NodeRow) (labels : List (List Bool)) (answer : Answer) → IsInput bytes rows labels
@@ -78,13 +82,6 @@ marked_answer scheme bytes rows answer input marks = inr (rows, input, marks)
 -- an input that is refused is answered so
 pub refused_answer : (command : Command) (bytes : List ℕ) (error : TextError) (answer : Answer) → IsRefused command bytes error → answer ≡ refusal error → Answers command bytes answer
 refused_answer command bytes error answer refused same = inl (error, refused, same)
-
--- what is no input is refused by the one refusal
-pub only_refused : (command : Command) (bytes : List ℕ) (error : TextError) → length bytes ≤ MAX_INPUT → IsNoInput command bytes error → only error ≢ NoMemory → IsRefused command bytes (only error)
-only_refused command bytes (Form line) short none some = (refl, short, none)
-only_refused command bytes (Limit quantity) short none some = (refl, short, none)
-only_refused command bytes (Sense number place) short none some = (refl, short, none)
-only_refused command bytes NoMemory short none some = absurd (some refl)
 
 -- a result with another error holds what the first did
 pub ok_again : {T E F : Type 0} (first : Result T E) (second : Result T F) (other : F) (P : T → Type 0) → IfOk first P
@@ -114,11 +111,11 @@ same_command words command other bytes answer is is_other answers =
     let same : command ≡ other = cc in
     subst (λ (command : Command). Answers command bytes answer) same answers
 
--- what is no input is answered by the one refusal
+-- what is refused is answered so
 pub no_input_answer : {E : Type 0} (command : Command) (bytes : List ℕ) (error : TextError) (r : Result Answer E) → length bytes ≤ MAX_INPUT → IsNoInput command bytes error
-    → IfOk r (λ answer. answer ≡ refusal (only error)) → OnOk r (only error ≢ NoMemory) → IfOk r (λ answer. Answers command bytes answer)
-no_input_answer command bytes error (Ok answer) short none says some = refused_answer command bytes (only error) answer (only_refused command bytes error short none some) says
-no_input_answer command bytes error (Err e) short none says some = tt
+    → IfOk r (λ answer. answer ≡ refusal error) → OnOk r (error ≢ NoMemory) → IfOk r (λ answer. Answers command bytes answer)
+no_input_answer command bytes error (Ok answer) short refused says some = refused_answer command bytes error answer (inr (short, refused some)) says
+no_input_answer command bytes error (Err e) short refused says some = tt
 
 -- the command that was read is the command of the words
 pub the_command : (words : List (List ℕ)) (command other : Command) → Some command ≡ command_of words → command_of words ≡ Some other → command ≡ other
@@ -144,3 +141,76 @@ pub read_them : (old : Option (List ℕ)) (read bytes : List ℕ) → IfSome old
 read_them old read bytes all told =
     let here : IfSome (Some bytes) (λ found. read ≡ found) = rw told at all in
     here
+
+-- the answer to a refusal is told
+pub tells_refusal : (words : List (List ℕ)) (command : Command) (bytes : List ℕ) (error : TextError) (status : Status) (old new : Option (List ℕ)) → command_of words ≡ Some command
+    → IsRefused command bytes error → Tells words bytes status old new → TellsRefusal error status old new
+tells_refusal words command bytes error status old new is refused told =
+    let due : IsAnswer words bytes (refusal error) = command_answer words bytes command (refusal error) is (refused_answer command bytes error (refusal error) refused refl) in
+    let same = one_answer words bytes told.answer (refusal error) told.is due in
+    record { ends = told.ends ∙ ap (λ (answer : Answer). answer.status) same; took = subst (λ (answer : Answer). Appends old new answer.text) same told.took }
+
+-- the answer to the words is the answer to their command
+answer_of_command : (words : List (List ℕ)) (bytes : List ℕ) (command : Command) (answer : Answer) → command_of words ≡ Some command → IsAnswer words bytes answer → Answers command bytes answer
+answer_of_command words bytes command answer is answers = rw is at answers
+
+-- a report is `Done` or `No`
+report_ends : (count : ℕ) → ((if count == 0 then Done else No) ≡ Done) ⊎ ((if count == 0 then Done else No) ≡ No)
+report_ends count = by (count == 0)
+  where
+    by : (b : Bool) → ((if b then Done else No) ≡ Done) ⊎ ((if b then Done else No) ≡ No)
+    by true = inl refl
+    by false = inr refl
+
+-- what a command works out is `Done` or `No`
+works_end : (command : Command) (bytes : List ℕ) (answer : Answer) → Works command bytes answer → (answer.status ≡ Done) ⊎ (answer.status ≡ No)
+works_end (Mark scheme) bytes answer works = elim works.2 [
+    inl marked ↦ inl (ap (λ (answer : Answer). answer.status) marked.3)
+  | inr lacks ↦ inr (ap (λ (answer : Answer). answer.status) lacks.1)
+]
+works_end (Verify scheme) bytes answer works =
+    subst (λ (status : Status). (status ≡ Done) ⊎ (status ≡ No)) (sym (ap (λ (answer : Answer). answer.status) works.3)) (report_ends (rejecting (round_by (judge_of scheme) works.0 works.1)))
+
+-- `Done` and `No` are no refusals
+no_refusal : (status : Status) → (status ≡ Done) ⊎ (status ≡ No) → IsRefusal status → ⊥
+no_refusal status ends refusal = elim ends [
+    inl done ↦ elim refusal [
+      inl refused ↦ let other : Refused ≡ Done = sym refused ∙ done in cc
+    | inr limit ↦ let other : OverLimit ≡ Done = sym limit ∙ done in cc
+    ]
+  | inr lacks ↦ elim refusal [
+      inl refused ↦ let other : Refused ≡ No = sym refused ∙ lacks in cc
+    | inr limit ↦ let other : OverLimit ≡ No = sym limit ∙ lacks in cc
+    ]
+]
+
+-- a refusal is an answer
+pub refusal_answered : (status : Status) → IsRefusal status → IsAnswered status
+refusal_answered status refusal = elim refusal [
+    inl refused ↦ rw refused tt
+  | inr limit ↦ rw limit tt
+]
+
+-- a run that ends in a refusal has refused
+pub refusal_has_cause : (words : List (List ℕ)) (command : Command) (bytes : List ℕ) (status : Status) (old new : Option (List ℕ)) → command_of words ≡ Some command
+    → Tells words bytes status old new → IsRefusal status → (error : TextError) × IsRefused command bytes error
+refusal_has_cause words command bytes status old new is told refusal = elim (answer_of_command words bytes command told.answer is told.is) [
+    inl refused ↦ (refused.0, refused.1)
+  | inr works ↦ absurd (no_refusal told.answer.status (works_end command bytes told.answer works) (subst IsRefusal told.ends refusal))
+]
+
+-- the answer that is handed on is told in the end
+pub tells_viewed : (words : List (List ℕ)) (bytes : List ℕ) (command : Command) (answer shown : Answer) (status : Status) (before after : ℕ) (old new : Option (List ℕ)) (text : List ℕ)
+    → Some command ≡ command_of words → Answers command bytes answer → shown ≡ answer → text ≡ shown.text → Told shown.status status before after old new text → IsAnswered status
+    → Tells words bytes status old new
+tells_viewed words bytes command answer shown status before after old new text read answers viewed same told answered =
+    tells words bytes shown status before after old new (command_answer words bytes command shown (sym read) (subst (λ (answer : Answer). Answers command bytes answer) (sym viewed) answers))
+    (subst (λ (text : List ℕ). Told shown.status status before after old new text) same told) answered
+
+-- the answer that is handed on is told in part
+pub tells_part_viewed : (words : List (List ℕ)) (bytes : List ℕ) (command : Command) (answer shown : Answer) (status : Status) (before after : ℕ) (old new : Option (List ℕ)) (text : List ℕ)
+    → Some command ≡ command_of words → Answers command bytes answer → IsAnswered answer.status → shown ≡ answer → text ≡ shown.text → Told shown.status status before after old new text
+    → status ≡ WriteFault → TellsPart words bytes old new
+tells_part_viewed words bytes command answer shown status before after old new text read answers ended viewed same told fault =
+    tells_part words bytes shown status before after old new (command_answer words bytes command shown (sym read) (subst (λ (answer : Answer). Answers command bytes answer) (sym viewed) answers))
+    (subst (λ (answer : Answer). IsAnswered answer.status) (sym viewed) ended) (subst (λ (text : List ℕ). Told shown.status status before after old new text) same told) fault

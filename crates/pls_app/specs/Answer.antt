@@ -17,7 +17,8 @@ use Rattle.pls_app.specs.declared.command.SchemeName.{SchemeName}
 use Rattle.pls_app.specs.Command.{command_of}
 use Rattle.pls_app.specs.Meaning.{HasProperty, IsMarked, judge_of}
 use Rattle.pls_app.specs.Report.{rejecting, report_text}
-use Rattle.pls_app.specs.Input.{IsInput, IsNetworkInput, IsRefused}
+use Rattle.pls_app.specs.Input.{IsInput, IsNetworkInput}
+use Rattle.pls_app.specs.Order.{IsRefused}
 
 -- how a run ends, and the text that it writes
 pub record Answer : Type 0 where

@@ -1,8 +1,5 @@
 -- What the commands read: a connected network, and for `verify` a label for each of its nodes.
-use Rattle.std.specs.Prelude.{◌≡◌, ℕ, ◌≤◌, ◌<◌, Bool, List, ◌++◌, length}
-use Rattle.pls_base.specs.declared.text_error.TextError.{TextError}
-use Rattle.pls_base.specs.declared.text_error.TextError.TheVariants.{Form, Limit, Sense, NoMemory}
-use Rattle.pls_base.specs.declared.text_error.Quantity.TheVariants.{Input}
+use Rattle.std.specs.Prelude.{◌≡◌, ℕ, ◌≤◌, Bool, List, ◌++◌, length}
 use Rattle.pls_model.specs.declared.row.NodeRow.{NodeRow}
 use Rattle.pls_model.specs.Configuration.{IsNetwork, ids_of}
 use Rattle.pls_model.specs.Walk.{IsConnected}
@@ -51,18 +48,3 @@ IsInputLines lines = Then IsNetworkPart IsLabelsPart lines
 abbrev pub Reads : Command → List ℕ → Type 0
 Reads (Mark scheme) bytes = (rows : List NodeRow) × IsNetworkInput bytes rows
 Reads (Verify scheme) bytes = (rows : List NodeRow) × (labels : List (List Bool)) × IsInput bytes rows labels
-
--- the bytes are refused: they are too many, or no input of the command
-abbrev pub IsRefused : Command → List ℕ → TextError → Type 0
-IsRefused command bytes (Limit Input) = MAX_INPUT < length bytes
-IsRefused command bytes (Limit quantity) = ⊥
-IsRefused command bytes (Form line) = (line ≡ 0) × (length bytes ≤ MAX_INPUT) × (Reads command bytes → ⊥)
-IsRefused command bytes (Sense number place) = ⊥
-IsRefused command bytes NoMemory = ⊥
-
--- the one refusal of form that stands for all refusals of an input
-abbrev pub only : TextError → TextError
-only NoMemory = NoMemory
-only (Form line) = Form 0
-only (Limit quantity) = Form 0
-only (Sense number place) = Form 0

@@ -1,6 +1,7 @@
 -- What the public call says of its source and its sink.
 use Rattle.std.specs.Prelude.{◌≡◌, ℕ, ◌+◌, ◌≤◌, ◌<◌, List, [], length, drop, ◌++◌, All, Bool, Option, Some, None, ⊤, ◌⊎◌}
 use Rattle.std.specs.Io.KnownBytes.{Appends}
+use Rattle.pls_base.specs.declared.text_error.TextError.{TextError}
 use Rattle.pls_base.specs.Streams.{AppendsPart, Rose}
 use Rattle.pls_model.specs.declared.status.Status.{Status}
 use Rattle.pls_model.specs.declared.status.Status.TheVariants.{Done, No, Usage, Refused, ReadFault, WriteFault, NoMemory, Limit}
@@ -14,7 +15,7 @@ use Rattle.pls_app.specs.declared.command.SchemeName.{SchemeName}
 use Rattle.pls_app.specs.Command.{verify_words}
 use Rattle.pls_app.specs.Meaning.{HasProperty, judge_of, longest_of}
 use Rattle.pls_app.specs.Input.{IsInput, IsNetworkInput}
-use Rattle.pls_app.specs.Answer.{Answer, IsAnswer}
+use Rattle.pls_app.specs.Answer.{Answer, IsAnswer, refusal, refusal_status}
 
 -- the run came to its answer: no fault, and no want of memory
 abbrev pub IsAnswered : Status → Type 0
@@ -57,6 +58,15 @@ abbrev pub HasRead : Option (List ℕ) → Option (List ℕ) → Type 0
 HasRead None new = ⊤
 HasRead (Some bytes) new =
     (length bytes ≤ MAX_INPUT → new ≡ Some []) × (MAX_INPUT < length bytes → new ≡ Some (drop (MAX_INPUT + 1) bytes))
+
+-- the status is that of the refusal, and the sink took exactly the line that says it
+pub record TellsRefusal (error : TextError) (status : Status) (old new : Option (List ℕ)) : Type 0 where
+  pub ends : status ≡ refusal_status error
+  pub took : Appends old new (refusal error).text
+
+-- the status of a refusal
+abbrev pub IsRefusal : Status → Type 0
+IsRefusal status = (status ≡ Refused) ⊎ (status ≡ Limit)
 
 -- the bytes are the text of a connected network with the property, and of its labels
 pub record Proves (scheme : SchemeName) (bytes : List ℕ) : Type 0 where

@@ -2,9 +2,8 @@
 
 ghost use Rattle.std.specs.Prelude.{◌≡◌, ◌≢◌, ◌≤◌, length, IfOk, OnOk};
 ghost use Rattle.pls_model.specs.declared.status.Status.TheVariants.{Done};
-ghost use Rattle.pls_app.specs.Input.{only};
 ghost use Rattle.pls_app.specs.Answer.{Answers, refusal, refusal_status};
-ghost use Rattle.pls_app.specs.Run.{Certifies};
+ghost use Rattle.pls_app.specs.Run.{Certifies, IsAnswered};
 
 use crate::command::{Command, SchemeName};
 use crate::input::{read_connected, read_labelled};
@@ -36,6 +35,7 @@ impl Model for Answer {
 pub(crate) fn answer_to(alloc: Global, command: Command, bytes: &[u8]) -> Result<Answer, NoMemory>
     requires { length bytes.now ≤ MAX_INPUT }
     ensures answer { IfOk result (λ answer. Answers command bytes.now answer) }
+    ensures answered { IfOk result (λ answer. IsAnswered answer.status) }
     ensures certified { IfOk result (λ answer. (scheme : SchemeName) → command ≡ Command.Mark scheme
         → answer.status ≡ Done → Certifies scheme bytes.now answer.text) }
 {
@@ -49,33 +49,25 @@ pub(crate) fn answer_to(alloc: Global, command: Command, bytes: &[u8]) -> Result
 fn answer_mark(alloc: Global, scheme: SchemeName, bytes: &[u8]) -> Result<Answer, NoMemory>
     requires { length bytes.now ≤ MAX_INPUT }
     ensures answer { IfOk result (λ answer. Answers (Command.Mark scheme) bytes.now answer) }
+    ensures answered { IfOk result (λ answer. IsAnswered answer.status) }
     ensures certified { IfOk result (λ answer. answer.status ≡ Done
         → Certifies scheme bytes.now answer.text) }
 {
     match read_connected(alloc, bytes) {
         Ok(net) => mark(alloc, scheme, &net),
-        Err(error) => refuse(alloc, one_refusal(error)),
+        Err(error) => refuse(alloc, error),
     }
 }
 
 // The answer to `verify`.
 fn answer_verify(alloc: Global, scheme: SchemeName, bytes: &[u8]) -> Result<Answer, NoMemory>
     requires { length bytes.now ≤ MAX_INPUT }
-    ensures { IfOk result (λ answer. Answers (Command.Verify scheme) bytes.now answer) }
+    ensures answer { IfOk result (λ answer. Answers (Command.Verify scheme) bytes.now answer) }
+    ensures answered { IfOk result (λ answer. IsAnswered answer.status) }
 {
     match read_labelled(alloc, bytes) {
         Ok((net, labels)) => verify(alloc, scheme, &net, &labels),
-        Err(error) => refuse(alloc, one_refusal(error)),
-    }
-}
-
-// The one refusal of form that stands for all refusals of an input.
-fn one_refusal(error: TextError) -> TextError
-    ensures { result ≡ only error }
-{
-    match error {
-        TextError::NoMemory => TextError::NoMemory,
-        _ => TextError::Form(0),
+        Err(error) => refuse(alloc, error),
     }
 }
 
@@ -83,6 +75,7 @@ fn one_refusal(error: TextError) -> TextError
 pub(crate) fn refuse(alloc: Global, error: TextError) -> Result<Answer, NoMemory>
     ensures says { IfOk result (λ answer. answer ≡ refusal error) }
     ensures refused { OnOk result (error ≢ TextError.NoMemory) }
+    ensures answered { IfOk result (λ answer. IsAnswered answer.status) }
 {
     let text = match error {
         TextError::Form(line) => format!(in alloc; "refused form at {line}\n"),

@@ -1,21 +1,23 @@
 //! The parts of an input.
 
-ghost use Rattle.std.specs.Prelude.{◌≢◌, ◌≤◌, IfErr, IfOk, OnOk, length};
+ghost use Rattle.std.specs.Prelude.{◌≡◌, ◌≢◌, ◌≤◌, IfErr, IfOk, OnOk, None, Some, length};
 ghost use Rattle.pls_model.specs.Configuration.{IsNetwork};
 ghost use Rattle.pls_model.specs.Walk.{IsConnected};
-ghost use Rattle.pls_app.specs.Input.{IsInput, IsNetworkInput};
-ghost use Rattle.pls_app.specs.Scanned.{IsFormError, IsNoInput, IsScanned};
+ghost use Rattle.pls_app.specs.Input.{IsInput, IsInputLines, IsNetworkInput};
+ghost use Rattle.pls_app.specs.Order.{IsApart, IsFormError, first_of, limits_of};
+ghost use Rattle.pls_app.specs.Scanned.{IsNoInput, IsScanned};
 
 use crate::command::{Command, SchemeName};
 use crate::limits::MAX_INPUT;
-use pls_base::TextError;
+use pls_base::{Quantity, TextError};
 use pls_graph::{Network, connected};
-use pls_labelfile::{LabelsText, scan_labels};
+use pls_labelfile::{LabelsText, MAX_BITS, scan_labels};
+use pls_model::{MAX_NODES, MAX_PORTS};
 use pls_netfile::{Lines, NetworkText, read_network, scan_network};
 use pls_view::LabelStore;
 use std::alloc::Global;
 
-// The connected network that an input is, or why it is none. Its refusals stand for one another.
+// The connected network that an input is, or why it is refused.
 pub(crate) fn read_connected(alloc: Global, bytes: &[u8]) -> Result<Network, TextError>
     requires { length bytes.now ≤ MAX_INPUT }
     ensures network { IfOk result (λ net. IsNetworkInput bytes.now net) }
@@ -27,7 +29,7 @@ pub(crate) fn read_connected(alloc: Global, bytes: &[u8]) -> Result<Network, Tex
     Ok(net)
 }
 
-// The connected network and the labels that an input is, or why it is none.
+// The connected network and the labels that an input is, or why it is refused.
 pub(crate) fn read_labelled(alloc: Global, bytes: &[u8]) -> Result<(Network, LabelStore), TextError>
     requires { length bytes.now ≤ MAX_INPUT }
     ensures parts { IfOk result (λ parts. IsInput bytes.now parts.0 parts.1) }
@@ -35,17 +37,35 @@ pub(crate) fn read_labelled(alloc: Global, bytes: &[u8]) -> Result<(Network, Lab
         → IsNoInput (Command.Verify scheme) bytes.now error) }
 {
     let (network, labels) = scan_parts(bytes)?;
+    test_limits(&network, &labels)?;
     let net = network.build(alloc)?;
-    test_connected(alloc, &net)?;
     let store = labels.build(alloc, &net)?;
+    test_connected(alloc, &net)?;
     Ok((net, store))
+}
+
+// Refuses parts with too many nodes, ports or bits, in this order. It takes no memory.
+fn test_limits(network: &NetworkText<'_>, labels: &LabelsText<'_>) -> Result<(), TextError>
+    ensures within { OnOk result (first_of (limits_of network.now.nodes network.now.ports labels.now.bits) ≡ None) }
+    ensures refused { IfErr result (λ error.
+        first_of (limits_of network.now.nodes network.now.ports labels.now.bits) ≡ Some error) }
+{
+    if network.nodes() > MAX_NODES as u64 {
+        Err(TextError::Limit(Quantity::Nodes))
+    } else if network.ports() > MAX_PORTS as u64 {
+        Err(TextError::Limit(Quantity::Ports))
+    } else if labels.bits() > MAX_BITS {
+        Err(TextError::Limit(Quantity::Bits))
+    } else {
+        Ok(())
+    }
 }
 
 // Refuses a network whose edges do not join all nodes.
 fn test_connected(alloc: Global, net: &Network) -> Result<(), TextError>
     requires { IsNetwork net.now }
     ensures connected { OnOk result (IsConnected net.now) }
-    ensures refused { IfErr result (λ error. error ≢ TextError.NoMemory → IsConnected net.now → ⊥) }
+    ensures refused { IfErr result (λ error. error ≢ TextError.NoMemory → IsApart net.now error) }
 {
     match connected(alloc, net)? {
         None => Ok(()),
@@ -59,7 +79,7 @@ fn test_connected(alloc: Global, net: &Network) -> Result<(), TextError>
 // The texts of the parts of an input, or the number of its first faulty line. It takes no memory.
 fn scan_parts<'a>(bytes: &'a [u8]) -> Result<(NetworkText<'a>, LabelsText<'a>), TextError>
     ensures scanned { IfOk result (λ parts. IsScanned bytes.now parts.0 parts.1) }
-    ensures form { IfErr result (λ error. IsFormError bytes.now error) }
+    ensures form { IfErr result (λ error. IsFormError IsInputLines bytes.now error) }
 {
     let mut lines = Lines::new(bytes);
     let network = scan_network(&mut lines)?;

@@ -5,7 +5,7 @@ ghost use Rattle.pls_model.specs.Walk.{IsConnected};
 ghost use Rattle.pls_model.specs.declared.status.Status.TheVariants.{Done};
 ghost use Rattle.pls_app.specs.Meaning.{HasProperty, IsMarked};
 ghost use Rattle.pls_app.specs.Answer.{Marks, labelled};
-ghost use Rattle.pls_app.specs.Run.{Shows, ShowsIn};
+ghost use Rattle.pls_app.specs.Run.{IsAnswered, Shows, ShowsIn};
 
 use crate::answer::Answer;
 use crate::command::SchemeName;
@@ -21,6 +21,7 @@ use std::alloc::Global;
 pub(crate) fn mark(alloc: Global, scheme: SchemeName, net: &Network) -> Result<Answer, NoMemory>
     requires { IsConnected net.now }
     ensures marks { IfOk result (λ answer. Marks scheme net.now answer) }
+    ensures answered { IfOk result (λ answer. IsAnswered answer.status) }
     ensures shows { IfOk result (λ answer. answer.status ≡ Done → ShowsIn scheme net.now answer.text) }
 {
     match labels_of(alloc, scheme, net)? {

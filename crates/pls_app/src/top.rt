@@ -3,7 +3,9 @@
 ghost use Rattle.std.specs.Prelude.{◌≡◌, ◌+◌, ◌⊎◌, ℕ, List, Some, None, map};
 ghost use Rattle.pls_base.specs.Streams.{LosesAtMost, Rose};
 ghost use Rattle.pls_app.specs.Command.{command_of};
-ghost use Rattle.pls_app.specs.Run.{IsAnswered, Tells, TellsPart, HasRead, Lacks, Proves, Told, TookCertificate};
+ghost use Rattle.pls_base.specs.declared.text_error.TextError.{TextError};
+ghost use Rattle.pls_app.specs.Order.{IsRefused};
+ghost use Rattle.pls_app.specs.Run.{HasRead, IsAnswered, IsRefusal, Lacks, Proves, Tells, TellsPart, TellsRefusal, Told, TookCertificate};
 
 use crate::command::{Command, SchemeName, read_words};
 use crate::limits::MAX_INPUT;
@@ -29,6 +31,16 @@ pub fn run<'w, S: Source, K: Sink>(
     ensures answers { (Rose (S.faults source.old) (S.faults source.new) → ⊥)
         → (Rose (K.faults sink.old) (K.faults sink.new) → ⊥)
         → (result ≡ Status.NoMemory) ⊎ IsAnswered result }
+
+    // A refusal has its cause, and is the answer exactly where it has.
+    ensures refused { (command : Command) (bytes : List ℕ) (error : TextError)
+        → S.left source.old ≡ Some bytes
+        → command_of (map (λ word. word.now) words.now) ≡ Some command
+        → IsRefused command bytes error → IsAnswered result
+        → TellsRefusal error result (K.taken sink.old) (K.taken sink.new) }
+    ensures refusal_cause { (command : Command) (bytes : List ℕ) → S.left source.old ≡ Some bytes
+        → command_of (map (λ word. word.now) words.now) ≡ Some command
+        → IsRefusal result → (error : TextError) × IsRefused command bytes error }
 
     // A fault has its cause, and what was written then.
     ensures read_fault { result ≡ Status.ReadFault

@@ -5,6 +5,7 @@ ghost use Rattle.pls_scheme.specs.Judging.{round_by, verdicts_by};
 ghost use Rattle.pls_app.specs.Meaning.{judge_of};
 ghost use Rattle.pls_app.specs.Report.{rejecting};
 ghost use Rattle.pls_app.specs.Answer.{report};
+ghost use Rattle.pls_app.specs.Run.{IsAnswered};
 
 use crate::answer::Answer;
 use crate::command::SchemeName;
@@ -25,7 +26,8 @@ pub(crate) fn verify(
     labels: &LabelStore,
 ) -> Result<Answer, NoMemory>
     requires { length labels.now ≡ length net.now }
-    ensures { IfOk result (λ answer. answer ≡ report (round_by (judge_of scheme) net.now labels.now)) }
+    ensures reports { IfOk result (λ answer. answer ≡ report (round_by (judge_of scheme) net.now labels.now)) }
+    ensures answered { IfOk result (λ answer. IsAnswered answer.status) }
 {
     let verdicts = round(alloc, scheme, net, labels)?;
     let rows = with_ids(alloc, net, &verdicts)?;
@@ -53,7 +55,8 @@ fn round(
 
 // The status of a round: whether all nodes accept.
 fn round_status(rows: &[(u32, Verdict)]) -> Status
-    ensures { result ≡ (if rejecting rows.now == 0 then Status.Done else Status.No) }
+    ensures status { result ≡ (if rejecting rows.now == 0 then Status.Done else Status.No) }
+    ensures answered { IsAnswered result }
 {
     if rejecting(rows) == 0 {
         Status::Done

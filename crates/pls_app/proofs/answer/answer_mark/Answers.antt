@@ -18,4 +18,4 @@ returns-in-Ok-clause-certified c =
 pub returns-in-Err-clause-answer : goal.returns-in-Err-clause-answer
 returns-in-Err-clause-answer c =
     no_input_answer (Mark c.args.scheme) c.args.bytes.now c.in-Err.error c.refuse.result c.requires (c.in-Err.ensures.refused c.args.scheme)
-    (rw c.one_refusal.ensures at c.refuse.ensures.says) (rw c.one_refusal.ensures at c.refuse.ensures.refused)
+    c.refuse.ensures.says c.refuse.ensures.refused

@@ -7,16 +7,16 @@ use Rattle.pls_app.specs.Answer.{Answers, report}
 use Rattle.pls_app.proofs.Outcomes.{judged_answer, no_input_answer}
 use Rattle.pls_app.proofs.answer.answer_verify.Goals as goal
 
-pub returns-in-Ok : goal.returns-in-Ok
-returns-in-Ok c =
+pub returns-in-Ok-clause-answer : goal.returns-in-Ok-clause-answer
+returns-in-Ok-clause-answer c =
     let scheme = c.args.scheme in
     let bytes = c.args.bytes.now in
     let net = c.in-Ok.net in
     let labels = c.in-Ok.labels in
     IfOk-weaker c.verify.result (λ answer. answer ≡ report (round_by (judge_of scheme) net labels)) (λ answer. Answers (Verify scheme) bytes answer)
-    (λ answer same. judged_answer scheme bytes net labels answer c.in-Ok.ensures.parts same) c.verify.ensures
+    (λ answer same. judged_answer scheme bytes net labels answer c.in-Ok.ensures.parts same) c.verify.ensures.reports
 
-pub returns-in-Err : goal.returns-in-Err
-returns-in-Err c =
+pub returns-in-Err-clause-answer : goal.returns-in-Err-clause-answer
+returns-in-Err-clause-answer c =
     no_input_answer (Verify c.args.scheme) c.args.bytes.now c.in-Err.error c.refuse.result c.requires (c.in-Err.ensures.refused c.args.scheme)
-    (rw c.one_refusal.ensures at c.refuse.ensures.says) (rw c.one_refusal.ensures at c.refuse.ensures.refused)
+    c.refuse.ensures.says c.refuse.ensures.refused

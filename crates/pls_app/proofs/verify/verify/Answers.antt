@@ -6,8 +6,8 @@ use Rattle.pls_app.specs.Meaning.{judge_of}
 use Rattle.pls_app.proofs.Rounds.{zip-round}
 use Rattle.pls_app.proofs.verify.verify.Goals as goal
 
-pub returns : goal.returns
-returns c =
+pub returns-clause-reports : goal.returns-clause-reports
+returns-clause-reports c =
     let judge = judge_of c.args.scheme in
     let net = c.args.net.now in
     let labels = c.args.labels.now in
@@ -15,4 +15,4 @@ returns c =
     let rows : c.in_ok-rows.rows.items ≡ round_by judge net labels =
     c.in_ok-rows.ensures ∙ ap (zip ids) (c.deref.ensures.value ∙ c.in_ok-verdicts.ensures) ∙ zip-round judge (label_of net labels) net in
     let text = c.in_ok-report_text.ensures in
-    rw (c.round_status.ensures, c.into_bytes.ensures.value, text, c.deref-2.ensures.value, c.deref-3.ensures.value, rows) refl
+    rw (c.round_status.ensures.status, c.into_bytes.ensures.value, text, c.deref-2.ensures.value, c.deref-3.ensures.value, rows) refl
