@@ -7,7 +7,7 @@ use Rattle.std.proofs.lemmas.List.Elements.{All-cons, All-head, All-tail}
 use Rattle.std.proofs.lemmas.List.Sums.{sum_by-cons}
 use Rattle.pls_base.specs.declared.text_error.TextError.{TextError}
 use Rattle.pls_base.specs.declared.text_error.TextError.TheVariants.{Form, Limit, Sense, NoMemory}
-use Rattle.pls_base.specs.declared.text_error.Quantity.TheVariants.{Input, Nodes, Ports, Bits, Events, Rounds, Labels}
+use Rattle.pls_base.specs.declared.text_error.Quantity.TheVariants.{Bits}
 use Rattle.pls_model.specs.declared.row.NodeRow.{NodeRow}
 use Rattle.pls_model.specs.Configuration.{IsNetwork, ids_of}
 use Rattle.pls_model.specs.Walk.{IsConnected}
@@ -15,8 +15,6 @@ use Rattle.pls_view.specs.Labels.{bits_in}
 use Rattle.pls_netfile.specs.Lines.{Left, IsFormFault}
 use Rattle.pls_netfile.specs.NetworkText.{AreRows, FitsRow, IsNetworkPart, network_lines, network_text}
 use Rattle.pls_netfile.specs.NetworkScan.{PassesNetwork, Written as WrittenNetwork, Tells as TellsNetwork}
-use Rattle.pls_netfile.specs.NetworkBuild.{IsRefusedBuild}
-use Rattle.pls_netfile.proofs.Fronts.{text_of-append}
 use Rattle.pls_netfile.proofs.NetworkRows.{network_is_part, one_network, rows_are_part}
 use Rattle.pls_netfile.proofs.WholeTexts.{fault_alone, fault_behind, fault_in_first, fault_in_second, fault_of_text}
 use Rattle.pls_labelfile.specs.LabelsText.{FitsLabel, IsLabelsPart, NamedLabel, labels_lines, labels_text, named}
@@ -25,9 +23,6 @@ use Rattle.pls_labelfile.specs.Misfit.{misfit}
 use Rattle.pls_labelfile.specs.Refusal.{IsRefusal, misfit_error, refusal_of as labels_refusal}
 use Rattle.pls_labelfile.proofs.LabelsPart.{is_labels_part, labels_part, one_labels}
 use Rattle.pls_app.specs.declared.limits.TheConstants.{MAX_INPUT}
-use Rattle.pls_app.specs.declared.command.Command.{Command}
-use Rattle.pls_app.specs.declared.command.Command.TheVariants.{Mark, Verify}
-use Rattle.pls_app.specs.declared.command.SchemeName.{SchemeName}
 use Rattle.pls_graph.specs.Connected.{IsFirstApart, smallest_id}
 use Rattle.pls_graph.proofs.Members.{Contains-first}
 use Rattle.pls_graph.proofs.Placed.{smallest_first}

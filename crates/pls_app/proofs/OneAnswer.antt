@@ -1,8 +1,7 @@
 -- Words and bytes have one answer.
-use Rattle.std.proofs.Common.{◌≡◌, ◌∙◌, ℕ, ◌<◌, ◌≤◌, ◌⊎◌, Bool, List, [], ◌∷◌, ◌++◌, length, All, Option, Some, None, inl, inr, ap, subst, refl, sym, arith}
+use Rattle.std.proofs.Common.{◌≡◌, ◌∙◌, ℕ, ◌≤◌, Bool, List, [], ◌++◌, length, All, Option, Some, None, inl, inr, ap, subst, refl, sym, arith}
 use Rattle.pls_base.specs.declared.text_error.TextError.{TextError}
-use Rattle.pls_base.specs.declared.text_error.TextError.TheVariants.{Form, Limit, Sense, NoMemory}
-use Rattle.pls_base.specs.declared.text_error.Quantity.TheVariants.{Input, Nodes, Ports, Bits, Events, Rounds, Labels}
+use Rattle.pls_base.specs.declared.text_error.TextError.TheVariants.{Form, Sense}
 use Rattle.pls_model.specs.declared.row.NodeRow.{NodeRow}
 use Rattle.pls_colour.proofs.Marking.{one_marking}
 use Rattle.pls_app.specs.declared.command.Command.{Command}
@@ -28,14 +27,14 @@ use Rattle.pls_app.proofs.Refused.{input_unrefused, network_unrefused}
 -- the first refusal is one
 one_first : (refusals : List (Option TextError)) (rows : List NodeRow) (error other : TextError) → IsFirstRefusal refusals rows error → IsFirstRefusal refusals rows other → error ≡ other
 one_first refusals rows error other one two = elim one [
-    inl some ↦ elim two [
-      inl too ↦ let same : Some error ≡ Some other = sym some ∙ too in cc
+  | inl some ↦ elim two [
+    | inl too ↦ let same : Some error ≡ Some other = sym some ∙ too in cc
     | inr apart ↦ absurd (let no_one : None ≡ Some error = sym apart.0 ∙ some in cc)
-    ]
+  ]
   | inr apart ↦ elim two [
-      inl some ↦ absurd (let no_one : None ≡ Some other = sym apart.0 ∙ some in cc)
+    | inl some ↦ absurd (let no_one : None ≡ Some other = sym apart.0 ∙ some in cc)
     | inr too ↦ apart.1.1 ∙ ap (Sense 17) (one_apart rows apart.1.0 too.1.0 apart.1.2 too.1.2) ∙ sym too.1.1
-    ]
+  ]
 ]
 
 -- a network part has no faulty line
@@ -75,43 +74,43 @@ one_input_refusal bytes error other one two =
 -- the parts that a command reads are refused in one way
 one_text_refusal : (command : Command) (bytes : List ℕ) (error other : TextError) → IsRefusedText command bytes error → IsRefusedText command bytes other → error ≡ other
 one_text_refusal (Mark scheme) bytes error other one two = elim one [
-    inl form ↦ elim two [
-      inl too ↦ form.1 ∙ ap Form (one_first_fault IsNetworkPart bytes form.0 too.0 form.2 too.2) ∙ sym too.1
+  | inl form ↦ elim two [
+    | inl too ↦ form.1 ∙ ap Form (one_first_fault IsNetworkPart bytes form.0 too.0 form.2 too.2) ∙ sym too.1
     | inr part ↦ absurd (network_formed bytes part.rows error part.fits part.is form)
-    ]
+  ]
   | inr part ↦ elim two [
-      inl form ↦ absurd (network_formed bytes part.rows other part.fits part.is form)
+    | inl form ↦ absurd (network_formed bytes part.rows other part.fits part.is form)
     | inr too ↦ one_network_refusal bytes error other part too
-    ]
+  ]
 ]
 one_text_refusal (Verify scheme) bytes error other one two = elim one [
-    inl form ↦ elim two [
-      inl too ↦ form.1 ∙ ap Form (one_first_fault IsInputLines bytes form.0 too.0 form.2 too.2) ∙ sym too.1
+  | inl form ↦ elim two [
+    | inl too ↦ form.1 ∙ ap Form (one_first_fault IsInputLines bytes form.0 too.0 form.2 too.2) ∙ sym too.1
     | inr parts ↦ absurd (input_formed bytes parts.rows parts.labels error parts.fits_rows parts.fits_labels parts.is form)
-    ]
+  ]
   | inr parts ↦ elim two [
-      inl form ↦ absurd (input_formed bytes parts.rows parts.labels other parts.fits_rows parts.fits_labels parts.is form)
+    | inl form ↦ absurd (input_formed bytes parts.rows parts.labels other parts.fits_rows parts.fits_labels parts.is form)
     | inr too ↦ one_input_refusal bytes error other parts too
-    ]
+  ]
 ]
 
 -- bytes are refused in one way
 pub one_refusal : (command : Command) (bytes : List ℕ) (error other : TextError) → IsRefused command bytes error → IsRefused command bytes other → error ≡ other
 one_refusal command bytes error other one two = elim one [
-    inl many ↦ elim two [
-      inl too ↦ many.0 ∙ sym too.0
+  | inl many ↦ elim two [
+    | inl too ↦ many.0 ∙ sym too.0
     | inr text ↦ absurd (omega (arith, many.1, text.0))
-    ]
+  ]
   | inr text ↦ elim two [
-      inl many ↦ absurd (omega (arith, many.1, text.0))
+    | inl many ↦ absurd (omega (arith, many.1, text.0))
     | inr too ↦ one_text_refusal command bytes error other text.1 too.1
-    ]
+  ]
 ]
 
 -- a network whose edges join all nodes is not refused
 readable_kept : (rows : List NodeRow) (refusals : List (Option TextError)) (error : TextError) → IsReadable rows → first_of refusals ≡ None → IsFirstRefusal refusals rows error → ⊥
 readable_kept rows refusals error readable none refused = elim refused [
-    inl some ↦ let no_one : None ≡ Some error = sym none ∙ some in cc
+  | inl some ↦ let no_one : None ≡ Some error = sym none ∙ some in cc
   | inr apart ↦ apart_from rows apart.1.0 readable.network apart.1.2 readable.connected
 ]
 
@@ -135,11 +134,11 @@ input_kept bytes rows labels error input refused =
 -- what a command reads is not refused
 text_kept : (command : Command) (bytes : List ℕ) (error : TextError) → IsRefusedText command bytes error → Reads command bytes → ⊥
 text_kept (Mark scheme) bytes error refused read = elim refused [
-    inl form ↦ network_formed bytes read.0 error read.1.readable.ranges read.1.is form
+  | inl form ↦ network_formed bytes read.0 error read.1.readable.ranges read.1.is form
   | inr part ↦ network_kept bytes read.0 error read.1 part
 ]
 text_kept (Verify scheme) bytes error refused read = elim refused [
-    inl form ↦ input_formed bytes read.0 (named (ids_of read.0) read.1) error read.2.readable.ranges (parts_fit read.0 read.1 read.2.readable read.2.labelled) read.2.is form
+  | inl form ↦ input_formed bytes read.0 (named (ids_of read.0) read.1) error read.2.readable.ranges (parts_fit read.0 read.1 read.2.readable read.2.labelled) read.2.is form
   | inr parts ↦ input_kept bytes read.0 read.1 error read.2 parts
 ]
 
@@ -151,7 +150,7 @@ reads_short (Verify scheme) bytes read = read.2.short
 -- bytes that are refused are no input
 refused_unread : (command : Command) (bytes : List ℕ) (error : TextError) → IsRefused command bytes error → Reads command bytes → ⊥
 refused_unread command bytes error refused read = elim refused [
-    inl many ↦ absurd (omega (arith, many.1, reads_short command bytes read))
+  | inl many ↦ absurd (omega (arith, many.1, reads_short command bytes read))
   | inr text ↦ text_kept command bytes error text.1 read
 ]
 

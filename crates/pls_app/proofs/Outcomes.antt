@@ -3,7 +3,7 @@ use Rattle.std.proofs.Common.{◌≡◌, ◌≢◌, ℕ, ◌+◌, ◌≤◌, Boo
 use Rattle.std.proofs.lemmas.List.{drop_all}
 use Rattle.std.specs.Io.KnownBytes.{Appends}
 use Rattle.pls_base.specs.declared.text_error.TextError.{TextError}
-use Rattle.pls_base.specs.declared.text_error.TextError.TheVariants.{Form, Limit, NoMemory, Sense}
+use Rattle.pls_base.specs.declared.text_error.TextError.TheVariants.{Limit, NoMemory}
 use Rattle.pls_base.specs.declared.text_error.Quantity.TheVariants.{Input}
 use Rattle.pls_base.specs.Streams.{LosesAtMost, LosesFirst}
 use Rattle.pls_model.specs.declared.row.NodeRow.{NodeRow}
@@ -165,7 +165,7 @@ report_ends count = by (count == 0)
 -- what a command works out is `Done` or `No`
 works_end : (command : Command) (bytes : List ℕ) (answer : Answer) → Works command bytes answer → (answer.status ≡ Done) ⊎ (answer.status ≡ No)
 works_end (Mark scheme) bytes answer works = elim works.2 [
-    inl marked ↦ inl (ap (λ (answer : Answer). answer.status) marked.3)
+  | inl marked ↦ inl (ap (λ (answer : Answer). answer.status) marked.3)
   | inr lacks ↦ inr (ap (λ (answer : Answer). answer.status) lacks.1)
 ]
 works_end (Verify scheme) bytes answer works =
@@ -174,20 +174,20 @@ works_end (Verify scheme) bytes answer works =
 -- `Done` and `No` are no refusals
 no_refusal : (status : Status) → (status ≡ Done) ⊎ (status ≡ No) → IsRefusal status → ⊥
 no_refusal status ends refusal = elim ends [
-    inl done ↦ elim refusal [
-      inl refused ↦ let other : Refused ≡ Done = sym refused ∙ done in cc
+  | inl done ↦ elim refusal [
+    | inl refused ↦ let other : Refused ≡ Done = sym refused ∙ done in cc
     | inr limit ↦ let other : OverLimit ≡ Done = sym limit ∙ done in cc
-    ]
+  ]
   | inr lacks ↦ elim refusal [
-      inl refused ↦ let other : Refused ≡ No = sym refused ∙ lacks in cc
+    | inl refused ↦ let other : Refused ≡ No = sym refused ∙ lacks in cc
     | inr limit ↦ let other : OverLimit ≡ No = sym limit ∙ lacks in cc
-    ]
+  ]
 ]
 
 -- a refusal is an answer
 pub refusal_answered : (status : Status) → IsRefusal status → IsAnswered status
 refusal_answered status refusal = elim refusal [
-    inl refused ↦ rw refused tt
+  | inl refused ↦ rw refused tt
   | inr limit ↦ rw limit tt
 ]
 
@@ -195,7 +195,7 @@ refusal_answered status refusal = elim refusal [
 pub refusal_has_cause : (words : List (List ℕ)) (command : Command) (bytes : List ℕ) (status : Status) (old new : Option (List ℕ)) → command_of words ≡ Some command
     → Tells words bytes status old new → IsRefusal status → (error : TextError) × IsRefused command bytes error
 refusal_has_cause words command bytes status old new is told refusal = elim (answer_of_command words bytes command told.answer is told.is) [
-    inl refused ↦ (refused.0, refused.1)
+  | inl refused ↦ (refused.0, refused.1)
   | inr works ↦ absurd (no_refusal told.answer.status (works_end command bytes told.answer works) (subst IsRefusal told.ends refusal))
 ]
 

@@ -1,5 +1,5 @@
 -- Which refusal an input gets.
-use Rattle.std.proofs.Common.{◌≡◌, ◌≢◌, ◌∙◌, ℕ, ◌+◌, ◌-◌, ◌≤◌, ◌<◌, ◌^◌, ◌⊎◌, Bool, true, false, List, [], ◌∷◌, ◌++◌, length, nat_lt, min, All, Option, Some, None, if◌then◌else◌, option_map, inl, inr, ap, subst, refl, sym, arith}
+use Rattle.std.proofs.Common.{◌≡◌, ◌≢◌, ◌∙◌, ℕ, ◌≤◌, ◌<◌, ◌^◌, ◌⊎◌, Bool, true, false, List, [], ◌∷◌, ◌++◌, length, nat_lt, Option, Some, None, if◌then◌else◌, option_map, inl, inr, ap, subst, refl, sym, arith}
 use Rattle.std.proofs.lemmas.Bool.Decides.{nat_tests}
 use Rattle.std.proofs.lemmas.List.{length-map}
 use Rattle.pls_base.specs.declared.text_error.TextError.{TextError}
@@ -8,8 +8,8 @@ use Rattle.pls_base.specs.declared.text_error.Quantity.{Quantity}
 use Rattle.pls_base.specs.declared.text_error.Quantity.TheVariants.{Input, Nodes, Ports, Bits, Events, Rounds, Labels}
 use Rattle.pls_model.specs.declared.row.NodeRow.{NodeRow}
 use Rattle.pls_model.specs.declared.limits.TheConstants.{MAX_NODES, MAX_PORTS}
-use Rattle.pls_model.specs.Configuration.{IsNetwork, ids_of, ports_in, refusal_of}
-use Rattle.pls_netfile.specs.NetworkBuild.{AreFew, Exceeds, IsRefusedBuild, IsSense, text_error_of}
+use Rattle.pls_model.specs.Configuration.{IsNetwork, ids_of, ports_in}
+use Rattle.pls_netfile.specs.NetworkBuild.{Exceeds, IsRefusedBuild, IsSense}
 use Rattle.pls_netfile.specs.NetworkFile.{IsRefusedFile}
 use Rattle.pls_netfile.specs.NetworkText.{AreRows, IsNetworkPart, network_text}
 use Rattle.pls_netfile.specs.NetworkScan.{Written as WrittenNetwork, Tells as TellsNetwork}

@@ -15,8 +15,6 @@ const ACCEPTED: &str = "node 1 accept\nnode 2 accept\nrejecting 0\n";
 
 const APART: &str = "network\nnode 1 - 0 0\nnode 2 - 0 0\nend\n";
 
-const REFUSED: &str = "refused form at 0\n";
-
 // Runs on an input in two parts, and asserts the text and the status.
 fn assert_run(
     rt: &impl Abort,
@@ -44,9 +42,9 @@ fn networks_are_marked(rt: HostRuntime) -> Result<(), Fail> {
         (PAIR, "", COLOURS, Status::Done),
         (alone, "", "labels\nlabel 5 1 00\nend\n", Status::Done),
         (triangle, "", "no\n", Status::No),
-        (APART, "", REFUSED, Status::Refused),
-        (PAIR, COLOURS, REFUSED, Status::Refused),
-        ("", "", REFUSED, Status::Refused),
+        (APART, "", "refused 17 at 2\n", Status::Refused),
+        (PAIR, COLOURS, "refused form at 7\n", Status::Refused),
+        ("", "", "refused form at 1\n", Status::Refused),
     ];
     for (network, behind, text, status) in cases {
         assert_run(
@@ -90,7 +88,7 @@ fn a_network_of_two_nodes_is_judged(rt: HostRuntime) -> Result<(), Fail> {
         (PAIR, same, rejected, Status::No),
         (PAIR, two_bits, spelling, Status::No),
         (PAIR, bare, spelling, Status::No),
-        (APART, same, REFUSED, Status::Refused),
+        (APART, same, "refused 17 at 2\n", Status::Refused),
     ];
     for (network, labels, text, status) in cases {
         assert_run(
@@ -106,17 +104,51 @@ fn a_network_of_two_nodes_is_judged(rt: HostRuntime) -> Result<(), Fail> {
 }
 
 #[test]
-fn words_and_forms_are_refused(rt: HostRuntime) -> Result<(), Fail> {
+fn words_and_labels_are_refused(rt: HostRuntime) -> Result<(), Fail> {
     let cut = "network\nnode 1 - 0 0\nport 2 1\nnode 2 - 0 0\nport 1 1\n";
     let spare = "labels\nlabel 1 1 40\nlabel 2 1 80\nend\n";
-    let turned = "labels\nlabel 2 1 80\nlabel 1 1 00\nend\n";
+    let turned = "labels\nlabel 2 1 00\nlabel 1 1 80\nend\n";
+    let few = "labels\nlabel 1 1 00\nend\n";
+    let many = "labels\nlabel 1 1 00\nlabel 2 1 80\nlabel 3 1 80\nend\n";
     let cases = [
         ("colour", PAIR, COLOURS, "usage\n", Status::Usage),
-        ("bipartite", cut, "", REFUSED, Status::Refused),
-        ("bipartite", PAIR, "", REFUSED, Status::Refused),
-        ("bipartite", PAIR, spare, REFUSED, Status::Refused),
-        ("bipartite", PAIR, turned, REFUSED, Status::Refused),
-        ("bipartite", "", "", REFUSED, Status::Refused),
+        ("bipartite", cut, "", "refused form at 6\n", Status::Refused),
+        (
+            "bipartite",
+            PAIR,
+            "",
+            "refused form at 7\n",
+            Status::Refused,
+        ),
+        (
+            "bipartite",
+            PAIR,
+            spare,
+            "refused form at 8\n",
+            Status::Refused,
+        ),
+        (
+            "bipartite",
+            PAIR,
+            turned,
+            "refused 20 at 8\n",
+            Status::Refused,
+        ),
+        ("bipartite", PAIR, few, "refused 20 at 9\n", Status::Refused),
+        (
+            "bipartite",
+            PAIR,
+            many,
+            "refused 20 at 10\n",
+            Status::Refused,
+        ),
+        (
+            "bipartite",
+            APART,
+            turned,
+            "refused 20 at 6\n",
+            Status::Refused,
+        ),
     ];
     for (scheme, network, labels, text, status) in cases {
         assert_run(
@@ -128,6 +160,61 @@ fn words_and_forms_are_refused(rt: HostRuntime) -> Result<(), Fail> {
             status,
         )?;
     }
+    Ok(())
+}
+
+#[test]
+fn networks_are_refused(rt: HostRuntime) -> Result<(), Fail> {
+    let cases = [
+        (
+            "node 1 - 0 0\nport 2 1\nnode 2 - 0 0\nend\n",
+            "refused 14 at 1\n",
+        ),
+        (
+            "node 1 - 0 0\nport 2 1\nnode 2 - 0 0\nport 1 2\nend\n",
+            "refused 15 at 1\n",
+        ),
+        (
+            "node 1 1 0 0\nport 2 1\nnode 2 - 0 0\nport 1 1\nend\n",
+            "refused 16 at 1\n",
+        ),
+        ("node 1 - 0 0\nnode 2 - 0 0\nend\n", "refused 17 at 2\n"),
+        ("end\n", "refused form at 2\n"),
+        ("node 4294967296 - 0 0\nend\n", "refused form at 2\n"),
+        ("node 1 - 0 0\nend\nx\n", "refused form at 4\n"),
+        ("node 2 - 0 0\nnode 1 - 0 0\nend\n", "refused 10 at 1\n"),
+        ("node 1 - 0 0\nport 1 1\nend\n", "refused 11 at 1\n"),
+        (
+            "node 1 - 0 0\nport 2 1\nport 2 1\nnode 2 - 0 0\nport 1 1\nend\n",
+            "refused 12 at 1\n",
+        ),
+        ("node 1 - 0 0\nport 9 1\nend\n", "refused 13 at 1\n"),
+    ];
+    for (body, text) in cases {
+        assert_run(
+            &rt,
+            rt.alloc(),
+            &["mark", "bipartite"],
+            ["network\n", body],
+            text,
+            Status::Refused,
+        )?;
+    }
+    Ok(())
+}
+
+#[test]
+fn one_node_too_many_is_a_limit(rt: HostRuntime) -> Result<(), Fail> {
+    let alloc = rt.alloc();
+    let mut bytes = b"network\n".to_vec(alloc)?;
+    for id in 0..32_769 {
+        let line = format!(in alloc; "node {id} - 0 0\n")?;
+        bytes.extend_from_slice(line.as_bytes())?;
+    }
+    bytes.extend_from_slice(b"end\n")?;
+    let (end, sink) = run_in_memory(alloc, &["mark", "bipartite"], bytes)?;
+    assert_eq!(rt; sink.bytes(), b"limit nodes\n".as_slice());
+    assert_eq!(rt; end, Status::Limit);
     Ok(())
 }
 

@@ -1,4 +1,4 @@
-use Rattle.std.proofs.Common.{◌≡◌, inr}
+use Rattle.std.proofs.Common.{inr}
 use Rattle.std.proofs.lemmas.Result.{err_from_is_err_and}
 use Rattle.pls_app.proofs.Refused.{network_apart, network_refused}
 use Rattle.pls_app.proofs.input.read_connected.Goals as goal

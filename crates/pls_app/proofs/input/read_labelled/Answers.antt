@@ -1,4 +1,4 @@
-use Rattle.std.proofs.Common.{◌≡◌, inl, inr}
+use Rattle.std.proofs.Common.{inl, inr}
 use Rattle.std.proofs.lemmas.Result.{err_from_is_err_and}
 use Rattle.pls_app.proofs.Inputs.{input_of}
 use Rattle.pls_app.proofs.Refused.{input_apart, labels_refused, limits_refused, rows_refused}
@@ -23,13 +23,13 @@ pub returns-in_err-store-clause-refused : goal.returns-in_err-store-clause-refus
 returns-in_err-store-clause-refused c =
     let p = err_from_is_err_and c.from_residual-in_err-store.result c.from_residual-in_err-store.ensures.1 in
     rw (p.1, p.2) (λ scheme some. inr (labels_refused c.args.bytes.now _ _ c.in_ok-net.net _ c.in_ok-network.ensures.scanned c.in_ok-test_limits.ensures.within c.in_ok-net.ensures.ok c.in_ok-net.ensures.valid
-      c.in_err-store.ensures.refused some))
+    c.in_err-store.ensures.refused some))
 
 pub returns-in_err-test_connected-clause-refused : goal.returns-in_err-test_connected-clause-refused
 returns-in_err-test_connected-clause-refused c =
     let p = err_from_is_err_and c.from_residual-in_err-test_connected.result c.from_residual-in_err-test_connected.ensures.1 in
     rw (p.1, p.2) (λ scheme some. inr (input_apart c.args.bytes.now _ _ c.in_ok-net.net _ c.in_ok-network.ensures.scanned c.in_ok-test_limits.ensures.within c.in_ok-net.ensures.ok c.in_ok-net.ensures.valid
-      c.in_ok-store.ensures.accepted (c.in_err-test_connected.ensures.refused some)))
+    c.in_ok-store.ensures.accepted (c.in_err-test_connected.ensures.refused some)))
 
 pub returns-clause-parts : goal.returns-clause-parts
 returns-clause-parts c =

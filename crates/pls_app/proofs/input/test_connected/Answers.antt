@@ -1,4 +1,4 @@
-use Rattle.std.proofs.Common.{◌≡◌, refl}
+use Rattle.std.proofs.Common.{refl}
 use Rattle.pls_app.proofs.input.test_connected.Goals as goal
 
 pub returns-in-Some-clause-refused : goal.returns-in-Some-clause-refused

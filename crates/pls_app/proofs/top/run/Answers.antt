@@ -61,5 +61,5 @@ returns-in-Ok-clause-refusal_cause g c command bytes told is refusal =
     let words : List (List ℕ) = map (λ (word : Bor (List ℕ)). word.now) c.args.words.now in
     refusal_has_cause words command bytes _ _ _ is
     (tells_viewed words bytes c.in-Some.command c.in-Ok.answer _ _ _ _ _ _ _ c.in-Some.ensures (c.in-Ok.ensures.answer bytes told) c.answer.view_is c.deref.ensures.value c.tell-in-Ok.ensures
-      (refusal_answered _ refusal))
+    (refusal_answered _ refusal))
     refusal
