@@ -1,10 +1,7 @@
 -- What is scanned of an input, and what an input is.
-use Rattle.std.proofs.Common.{◌≡◌, ◌≢◌, ◌∙◌, ℕ, ◌≤◌, ◌<◌, ◌^◌, Bool, true, false, List, [], ◌∷◌, ◌++◌, map, length, nat_lt, ◌==◌, All, Contains, Some, None, if◌then◌else◌, option_map, ap, subst, refl, sym, arith}
-use Rattle.std.proofs.lemmas.Bool.{eq-eqb}
+use Rattle.std.proofs.Common.{◌≡◌, ◌≢◌, ◌∙◌, ℕ, ◌≤◌, ◌<◌, ◌^◌, Bool, true, false, List, [], ◌∷◌, ◌++◌, map, length, nat_lt, All, Contains, Some, None, if◌then◌else◌, option_map, ap, subst, refl, sym, arith}
 use Rattle.std.proofs.lemmas.Bool.Decides.{nat_tests}
 use Rattle.std.proofs.lemmas.List.{length-map}
-use Rattle.std.proofs.lemmas.List.Elements.{All-cons, All-head, All-tail}
-use Rattle.std.proofs.lemmas.List.Sums.{sum_by-cons}
 use Rattle.pls_base.specs.declared.text_error.TextError.{TextError}
 use Rattle.pls_base.specs.declared.text_error.TextError.TheVariants.{Form, Limit, Sense, NoMemory}
 use Rattle.pls_base.specs.declared.text_error.Quantity.TheVariants.{Bits}
@@ -13,7 +10,7 @@ use Rattle.pls_model.specs.Configuration.{IsNetwork, ids_of}
 use Rattle.pls_model.specs.Walk.{IsConnected}
 use Rattle.pls_view.specs.Labels.{bits_in}
 use Rattle.pls_netfile.specs.Lines.{Left, IsFormFault}
-use Rattle.pls_netfile.specs.NetworkText.{AreRows, FitsRow, IsNetworkPart, network_lines, network_text}
+use Rattle.pls_netfile.specs.NetworkText.{AreRows, IsNetworkPart, network_lines, network_text}
 use Rattle.pls_netfile.specs.NetworkScan.{PassesNetwork, Written as WrittenNetwork, Tells as TellsNetwork}
 use Rattle.pls_netfile.proofs.NetworkRows.{network_is_part, one_network, rows_are_part}
 use Rattle.pls_netfile.proofs.WholeTexts.{fault_alone, fault_behind, fault_in_first, fault_in_second, fault_of_text}
@@ -21,6 +18,7 @@ use Rattle.pls_labelfile.specs.LabelsText.{FitsLabel, IsLabelsPart, NamedLabel, 
 use Rattle.pls_labelfile.specs.LabelsScan.{PassesPart, total_bits, Written as WrittenLabels, Tells as TellsLabels}
 use Rattle.pls_labelfile.specs.Misfit.{misfit}
 use Rattle.pls_labelfile.specs.Refusal.{IsRefusal, misfit_error, refusal_of as labels_refusal}
+use Rattle.pls_labelfile.proofs.Named.{bare-named, named-parts, net_labels_fit, total_bits-named}
 use Rattle.pls_labelfile.proofs.LabelsPart.{is_labels_part, labels_part, one_labels}
 use Rattle.pls_app.specs.declared.limits.TheConstants.{MAX_INPUT}
 use Rattle.pls_graph.specs.Connected.{IsFirstApart, smallest_id}
@@ -62,40 +60,9 @@ fault_left_over bytes old mid now network labels first rest passes passes_labels
       (fault_behind IsLabelsPart (labels_lines passes_labels.labels) mid now labels_part (is_labels_part passes_labels.labels passes_labels.tells.fits) passes_labels.passed some)),
 )
 
--- the labels of nodes fit where there are few bits of them
-named_fit : (rows : List NodeRow) (labels : List (List Bool)) → All FitsRow rows → bits_in labels ≤ 2 ^ 28 → All FitsLabel (named (ids_of rows) labels)
-named_fit [] labels fits few = λ k d within. absurd (omega (arith, within))
-named_fit (row ∷ rows) [] fits few = λ k d within. absurd (omega (arith, within))
-named_fit (row ∷ rows) (label ∷ labels) fits few =
-    let sum = sum_by-cons (length {A = Bool}) label labels in
-    All-cons FitsLabel (record { id = row.id; bits = label }) (named (ids_of rows) labels)
-    (record { id = (All-head FitsRow row rows fits).id; short = omega (arith, sum, few) })
-    (named_fit rows labels (All-tail FitsRow row rows fits) (omega (arith, sum, few)))
-
 -- the labels of an input fit
 pub parts_fit : (rows : List NodeRow) (labels : List (List Bool)) → IsReadable rows → AreLabels rows labels → All FitsLabel (named (ids_of rows) labels)
-parts_fit rows labels readable labelled = named_fit rows labels readable.ranges.each labelled.few
-
--- the bits of named labels are those of the labels
-pub total_bits-named : (ids : List ℕ) (labels : List (List Bool)) → length labels ≡ length ids → total_bits (named ids labels) ≡ bits_in labels
-total_bits-named [] [] same = refl
-total_bits-named [] (label ∷ labels) same = absurd (omega arith)
-total_bits-named (id ∷ ids) [] same = absurd (omega arith)
-total_bits-named (id ∷ ids) (label ∷ labels) same =
-    let rest = total_bits-named ids labels (omega arith) in
-    let left = sum_by-cons (λ (label : NamedLabel). length label.bits) (record { id = id; bits = label }) (named ids labels) in
-    let right = sum_by-cons (length {A = Bool}) label labels in
-    omega (arith, rest, left, right)
-
--- labels that are named by the nodes fit them
-pub misfit-named : (ids : List ℕ) (labels : List (List Bool)) → length labels ≡ length ids → misfit ids (named ids labels) ≡ None
-misfit-named [] [] same = refl
-misfit-named [] (label ∷ labels) same = absurd (omega arith)
-misfit-named (id ∷ ids) [] same = absurd (omega arith)
-misfit-named (id ∷ ids) (label ∷ labels) same =
-    let here : (id == id) ≡ true = eq-eqb id id refl in
-    let rest : misfit ids (named ids labels) ≡ None = misfit-named ids labels (omega arith) in
-    rw (here, rest) refl
+parts_fit rows labels readable labelled = net_labels_fit rows labels readable.ranges labelled.few
 
 -- an error that is a refusal is the refusal
 pub refusal_is : (ids : List ℕ) (heading : ℕ) (labels : List NamedLabel) (error : TextError) → error ≢ NoMemory → IsRefusal ids heading labels error → labels_refusal ids heading labels ≡ Some error
@@ -103,18 +70,6 @@ refusal_is ids heading labels (Form line) some refused = refused
 refusal_is ids heading labels (Limit quantity) some refused = refused
 refusal_is ids heading labels (Sense number place) some refused = refused
 refusal_is ids heading labels NoMemory some refused = absurd (some refl)
-
--- the bits of named labels are the labels
-bits-named : (ids : List ℕ) (labels : List (List Bool)) → length labels ≡ length ids → map (λ label. label.bits) (named ids labels) ≡ labels
-bits-named [] [] same = refl
-bits-named [] (label ∷ labels) same = absurd (omega arith)
-bits-named (id ∷ ids) [] same = absurd (omega arith)
-bits-named (id ∷ ids) (label ∷ labels) same = ap (λ rest. label ∷ rest) (bits-named ids labels (omega arith))
-
--- named labels are their names and their bits
-named-parts : (labels : List NamedLabel) → named (map (λ label. label.id) labels) (map (λ label. label.bits) labels) ≡ labels
-named-parts [] = refl
-named-parts (label ∷ labels) = ap (λ rest. label ∷ rest) (named-parts labels)
 
 -- labels that are not refused have few bits
 few_bits : (ids : List ℕ) (heading : ℕ) (labels : List NamedLabel) → labels_refusal ids heading labels ≡ None → total_bits labels ≤ 2 ^ 28
@@ -196,8 +151,8 @@ one_input bytes rows other_rows labels other_labels one other =
     let ends : labels_text parts ++ [] ≡ labels_text other_parts ++ [] = ap (λ (text : List ℕ). text ++ []) first.1 in
     let second = one_labels parts other_parts [] [] (parts_fit rows labels one.readable one.labelled) (parts_fit other_rows other_labels other.readable other.labelled) ends in
     let bits : List NamedLabel → List (List Bool) = map (λ label. label.bits) in
-    let mine : bits parts ≡ labels = bits-named (ids_of rows) labels (one.labelled.each ∙ sym (length-map rows (λ (row : NodeRow). row.id))) in
-    let others : bits other_parts ≡ other_labels = bits-named (ids_of other_rows) other_labels (other.labelled.each ∙ sym (length-map other_rows (λ (row : NodeRow). row.id))) in
+    let mine : bits parts ≡ labels = bare-named (ids_of rows) labels (one.labelled.each ∙ sym (length-map rows (λ (row : NodeRow). row.id))) in
+    let others : bits other_parts ≡ other_labels = bare-named (ids_of other_rows) other_labels (other.labelled.each ∙ sym (length-map other_rows (λ (row : NodeRow). row.id))) in
     (first.0, sym mine ∙ ap bits second.0 ∙ others)
 
 -- the bytes of a network fix it

@@ -21,7 +21,8 @@ use Rattle.pls_labelfile.specs.declared.limits.TheConstants.{MAX_BITS}
 use Rattle.pls_app.specs.Order.{IsApart, IsFormError, RefusesInput, RefusesNetwork, first_of, heading_of, input_refusals, limits_of, network_refusals, over}
 use Rattle.pls_app.specs.Scanned.{IsScanned}
 use Rattle.pls_app.specs.Input.{AreLabels}
-use Rattle.pls_app.proofs.Inputs.{misfit-named, refusal_is, total_bits-named}
+use Rattle.pls_labelfile.proofs.Named.{named_no_misfit, total_bits-named}
+use Rattle.pls_app.proofs.Inputs.{refusal_is}
 
 -- a count within its limit is no refusal
 pub within : (quantity : Quantity) (most count : ℕ) → count ≤ most → over quantity most count ≡ None
@@ -233,4 +234,4 @@ input_unrefused rows labels net labelled =
     let few : total_bits (named ids labels) ≤ MAX_BITS = omega (arith, total_bits-named ids labels each, labelled.few) in
     let none = limits_kept (length rows) (ports_in rows) (total_bits (named ids labels)) net.limits.few_nodes net.limits.few_ports few in
     first_behind (limits_of (length rows) (ports_in rows) (total_bits (named ids labels))) _ none
-    ∙ rw (net.valid, misfit-named ids labels each) refl
+    ∙ rw (net.valid, named_no_misfit ids labels each) refl
