@@ -105,11 +105,6 @@ input_of bytes network text net store short scanned built valid connected stored
           ∙ ap (λ (parts : List NamedLabel). network_text net ++ labels_text parts) (sym back);
     }
 
--- a text that was read is an input of a network
-pub network_input_of : (bytes : List ℕ) (net : List NodeRow) → length bytes ≤ MAX_INPUT → bytes ≡ network_text net → AreRows net → IsNetwork net → IsConnected net → IsNetworkInput bytes net
-network_input_of bytes net short is ranges valid connected =
-    record { short = short; readable = record { network = valid; connected = connected; ranges = ranges }; is = is }
-
 -- the smallest node is a node
 smallest_in : (rows : List NodeRow) → IsNetwork rows → Contains (ids_of rows) (smallest_id rows)
 smallest_in [] net = absurd (omega (arith, net.limits.some))

@@ -15,11 +15,11 @@ use Rattle.pls_app.specs.declared.command.Command.TheVariants.{Mark, Verify}
 use Rattle.pls_app.specs.declared.command.SchemeName.{SchemeName}
 use Rattle.pls_app.specs.declared.limits.TheConstants.{MAX_INPUT}
 use Rattle.pls_app.specs.Command.{command_of}
-use Rattle.pls_app.specs.Input.{IsInput, IsNetworkInput}
+use Rattle.pls_app.specs.Input.{IsInput}
 use Rattle.pls_app.specs.Order.{IsRefused}
-use Rattle.pls_app.specs.Answer.{Answer, Answers, IsAnswer, Marks, Works, refusal, report, usage}
+use Rattle.pls_app.specs.Answer.{Answer, Answers, IsAnswer, Works, refusal, report, usage}
 use Rattle.pls_app.specs.Meaning.{judge_of}
-use Rattle.pls_app.specs.Scanned.{IsNoInput}
+use Rattle.pls_app.specs.Scanned.{Refuses}
 use Rattle.pls_app.specs.Run.{Certifies, HasRead, IsAnswered, IsRefusal, Tells, TellsPart, TellsRefusal, Told, TookCertificate}
 use Rattle.pls_app.specs.Report.{rejecting}
 use Rattle.pls_app.proofs.OneAnswer.{one_answer}
@@ -56,11 +56,6 @@ lost_all_of (Some bytes) new read same end short =
     let gone : drop (length bytes) bytes ≡ [] = drop_all (length bytes) bytes (omega arith) in
     (length bytes, omega (arith, ap length same), (omega arith, rw gone end))
 
--- a source that has more bytes than the limit
-pub read_past : (old new : Option (List ℕ)) → LosesFirst old new (MAX_INPUT + 1) → HasRead old new
-read_past None new lost = tt
-read_past (Some bytes) new lost = (λ short. absurd (omega (arith, lost.0)), λ _. lost.1)
-
 pub lost_past : (old new : Option (List ℕ)) → LosesFirst old new (MAX_INPUT + 1) → LosesAtMost old new (MAX_INPUT + 1)
 lost_past old new lost = (MAX_INPUT + 1, omega arith, lost)
 
@@ -74,10 +69,6 @@ too_long command old new bytes lost told =
 pub judged_answer : (scheme : SchemeName) (bytes : List ℕ) (rows : List NodeRow) (labels : List (List Bool)) (answer : Answer) → IsInput bytes rows labels
     → answer ≡ report (round_by (judge_of scheme) rows labels) → Answers (Verify scheme) bytes answer
 judged_answer scheme bytes rows labels answer input same = inr (rows, labels, input, same)
-
--- a network that was read is marked
-pub marked_answer : (scheme : SchemeName) (bytes : List ℕ) (rows : List NodeRow) (answer : Answer) → IsNetworkInput bytes rows → Marks scheme rows answer → Answers (Mark scheme) bytes answer
-marked_answer scheme bytes rows answer input marks = inr (rows, input, marks)
 
 -- an input that is refused is answered so
 pub refused_answer : (command : Command) (bytes : List ℕ) (error : TextError) (answer : Answer) → IsRefused command bytes error → answer ≡ refusal error → Answers command bytes answer
@@ -112,10 +103,10 @@ same_command words command other bytes answer is is_other answers =
     subst (λ (command : Command). Answers command bytes answer) same answers
 
 -- what is refused is answered so
-pub no_input_answer : {E : Type 0} (command : Command) (bytes : List ℕ) (error : TextError) (r : Result Answer E) → length bytes ≤ MAX_INPUT → IsNoInput command bytes error
+pub answered_by_refusal : {E : Type 0} (command : Command) (bytes : List ℕ) (error : TextError) (r : Result Answer E) → length bytes ≤ MAX_INPUT → Refuses command bytes error
     → IfOk r (λ answer. answer ≡ refusal error) → OnOk r (error ≢ NoMemory) → IfOk r (λ answer. Answers command bytes answer)
-no_input_answer command bytes error (Ok answer) short refused says some = refused_answer command bytes error answer (inr (short, refused some)) says
-no_input_answer command bytes error (Err e) short refused says some = tt
+answered_by_refusal command bytes error (Ok answer) short refused says some = refused_answer command bytes error answer (inr (short, refused some)) says
+answered_by_refusal command bytes error (Err e) short refused says some = tt
 
 -- the command that was read is the command of the words
 pub the_command : (words : List (List ℕ)) (command other : Command) → Some command ≡ command_of words → command_of words ≡ Some other → command ≡ other

@@ -1,5 +1,5 @@
 -- What was scanned of an input, and what an error of it says.
-use Rattle.std.specs.Prelude.{◌≡◌, ℕ, List, ◌++◌}
+use Rattle.std.specs.Prelude.{◌≡◌, ◌≢◌, ℕ, List, ◌++◌}
 use Rattle.pls_base.specs.declared.text_error.TextError.{TextError}
 use Rattle.pls_base.specs.declared.text_error.TextError.TheVariants.{NoMemory}
 use Rattle.pls_model.specs.declared.row.NodeRow.{NodeRow}
@@ -20,6 +20,6 @@ pub record IsScanned (bytes : List ℕ) (network : WrittenNetwork) (labels : Wri
   pub heading : labels.number ≡ heading_of rows
   pub sum : labels.bits ≡ capped (total_bits named)
 
--- an error of a network and labels that were to be read; want of memory says nothing of them
-abbrev pub IsNoInput : Command → List ℕ → TextError → Type 0
-IsNoInput command bytes error = (error ≡ NoMemory → ⊥) → IsRefusedText command bytes error
+-- the error refuses the bytes, or it is want of memory, which says nothing of them
+abbrev pub Refuses : Command → List ℕ → TextError → Type 0
+Refuses command bytes error = error ≢ NoMemory → IsRefusedText command bytes error

@@ -5,7 +5,7 @@ ghost use Rattle.pls_model.specs.Configuration.{IsNetwork};
 ghost use Rattle.pls_model.specs.Walk.{IsConnected};
 ghost use Rattle.pls_app.specs.Input.{IsInput, IsInputLines, IsNetworkInput};
 ghost use Rattle.pls_app.specs.Order.{IsApart, IsFormError, first_of, limits_of};
-ghost use Rattle.pls_app.specs.Scanned.{IsNoInput, IsScanned};
+ghost use Rattle.pls_app.specs.Scanned.{Refuses, IsScanned};
 
 use crate::command::{Command, SchemeName};
 use crate::limits::MAX_INPUT;
@@ -22,7 +22,7 @@ pub(crate) fn read_connected(alloc: Global, bytes: &[u8]) -> Result<Network, Tex
     requires { length bytes.now ≤ MAX_INPUT }
     ensures network { IfOk result (λ net. IsNetworkInput bytes.now net) }
     ensures refused { IfErr result (λ error. (scheme : SchemeName)
-        → IsNoInput (Command.Mark scheme) bytes.now error) }
+        → Refuses (Command.Mark scheme) bytes.now error) }
 {
     let net = read_network(alloc, bytes)?;
     test_connected(alloc, &net)?;
@@ -34,7 +34,7 @@ pub(crate) fn read_labelled(alloc: Global, bytes: &[u8]) -> Result<(Network, Lab
     requires { length bytes.now ≤ MAX_INPUT }
     ensures parts { IfOk result (λ parts. IsInput bytes.now parts.0 parts.1) }
     ensures refused { IfErr result (λ error. (scheme : SchemeName)
-        → IsNoInput (Command.Verify scheme) bytes.now error) }
+        → Refuses (Command.Verify scheme) bytes.now error) }
 {
     let (network, labels) = scan_parts(bytes)?;
     test_limits(&network, &labels)?;

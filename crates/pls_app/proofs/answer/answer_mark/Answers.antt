@@ -3,7 +3,7 @@ use Rattle.std.proofs.lemmas.Result.{IfOk-weaker}
 use Rattle.pls_model.specs.declared.status.Status.TheVariants.{Done}
 use Rattle.pls_app.specs.declared.command.Command.TheVariants.{Mark}
 use Rattle.pls_app.specs.Run.{Certifies, ShowsIn}
-use Rattle.pls_app.proofs.Outcomes.{no_input_answer}
+use Rattle.pls_app.proofs.Outcomes.{answered_by_refusal}
 use Rattle.pls_app.proofs.Certified.{certified}
 use Rattle.pls_app.proofs.answer.answer_mark.Goals as goal
 
@@ -17,5 +17,5 @@ returns-in-Ok-clause-certified c =
 
 pub returns-in-Err-clause-answer : goal.returns-in-Err-clause-answer
 returns-in-Err-clause-answer c =
-    no_input_answer (Mark c.args.scheme) c.args.bytes.now c.in-Err.error c.refuse.result c.requires (c.in-Err.ensures.refused c.args.scheme)
+    answered_by_refusal (Mark c.args.scheme) c.args.bytes.now c.in-Err.error c.refuse.result c.requires (c.in-Err.ensures.refused c.args.scheme)
     c.refuse.ensures.says c.refuse.ensures.refused

@@ -4,7 +4,7 @@ use Rattle.pls_scheme.specs.Judging.{round_by}
 use Rattle.pls_app.specs.declared.command.Command.TheVariants.{Verify}
 use Rattle.pls_app.specs.Meaning.{judge_of}
 use Rattle.pls_app.specs.Answer.{Answers, report}
-use Rattle.pls_app.proofs.Outcomes.{judged_answer, no_input_answer}
+use Rattle.pls_app.proofs.Outcomes.{judged_answer, answered_by_refusal}
 use Rattle.pls_app.proofs.answer.answer_verify.Goals as goal
 
 pub returns-in-Ok-clause-answer : goal.returns-in-Ok-clause-answer
@@ -18,5 +18,5 @@ returns-in-Ok-clause-answer c =
 
 pub returns-in-Err-clause-answer : goal.returns-in-Err-clause-answer
 returns-in-Err-clause-answer c =
-    no_input_answer (Verify c.args.scheme) c.args.bytes.now c.in-Err.error c.refuse.result c.requires (c.in-Err.ensures.refused c.args.scheme)
+    answered_by_refusal (Verify c.args.scheme) c.args.bytes.now c.in-Err.error c.refuse.result c.requires (c.in-Err.ensures.refused c.args.scheme)
     c.refuse.ensures.says c.refuse.ensures.refused
