@@ -6,7 +6,7 @@ use Rattle.pls_bits.specs.Bytes.{byte_at, bytes_of}
 use Rattle.pls_bits.specs.Hex.{hex_digits}
 
 -- the bits that a text of `0` and `1` shows
-abbrev bits : List ℕ → List Bool
+abbrev pub bits : List ℕ → List Bool
 bits text = map (λ c. c == 49) text
 
 -- no bit has no digit
