@@ -1,3 +1,5 @@
 mod Gaining
 mod Beside
 mod Searched
+mod Pointed
+mod Noted

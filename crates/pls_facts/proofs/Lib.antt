@@ -1,0 +1,11 @@
+pub mod Turned
+pub mod Chains
+pub mod Bounded
+pub mod Filtered
+pub mod Pointed
+pub mod PointedEdges
+pub mod Roots
+pub mod Trees
+pub mod Agreed
+pub mod Cycles
+pub mod Depths

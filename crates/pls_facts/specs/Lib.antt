@@ -1,0 +1,3 @@
+pub mod Pointer
+pub mod SpanningTree
+pub mod Cycle

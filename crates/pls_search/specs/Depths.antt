@@ -1,0 +1,29 @@
+-- The lengths of the chains of pointers.
+use Rattle.std.specs.Prelude.{◌≡◌, ℕ, List, length, slice_get, slice_index_or, Option, Some, None}
+use Rattle.pls_model.specs.declared.row.NodeRow.{NodeRow}
+use Rattle.pls_facts.specs.Pointer.{next, IsChainOf}
+
+-- the chain of the node at a place ends after so many pointers
+abbrev pub IsDepth : List NodeRow → ℕ → ℕ → Type 0
+IsDepth rows place count =
+    (row : NodeRow) → slice_get rows place ≡ Some row
+    → (last : ℕ) × IsChainOf rows row.id last count
+
+-- the length of the chain of each node, in the order of the rows
+pub record AreDepths (rows : List NodeRow) (depths : List ℕ) : Type 0 where
+  pub each : length depths ≡ length rows
+  pub depth : (row : NodeRow) (place count : ℕ) → slice_get rows place ≡ Some row
+      → slice_get depths place ≡ Some count → (last : ℕ) × IsChainOf rows row.id last count
+
+-- what is noted so far, for some of the places, is right
+pub record AreNoted (rows : List NodeRow) (noted : List (Option ℕ)) : Type 0 where
+  pub each : length noted ≡ length rows
+  pub depth : (place count : ℕ) → slice_index_or noted place None ≡ Some count
+      → IsDepth rows place count
+
+-- the node at a place points at the node at that place, or at none
+abbrev pub PointsTo : List NodeRow → ℕ → Option ℕ → Type 0
+PointsTo rows place None = (row : NodeRow) → slice_get rows place ≡ Some row
+    → next rows row.id ≡ None
+PointsTo rows place (Some to) = (row : NodeRow) → slice_get rows place ≡ Some row
+    → (other : NodeRow) × (slice_get rows to ≡ Some other) × (next rows row.id ≡ Some other.id)
