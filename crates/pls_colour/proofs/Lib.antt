@@ -1,3 +1,6 @@
-pub mod Parity
+pub mod InPlace
+pub mod LevelMarking
+pub mod Levelled
+pub mod Levels
 pub mod Marking
-pub mod Places
+pub mod Parity

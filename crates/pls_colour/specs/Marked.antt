@@ -8,6 +8,10 @@ use Rattle.pls_search.specs.Levels.{IsLevel}
 abbrev pub is_odd : ℕ → Bool
 is_odd number = number % 2 == 1
 
+-- the bits are one bit: whether the level is odd
+abbrev pub SaysParity : ℕ → List Bool → Type 0
+SaysParity level bits = bits ≡ is_odd level ∷ []
+
 -- the label of each node is one bit: whether the fewest edges from the node of smallest identity,
 -- which stands first, are an odd number
 pub record IsParityMarked (rows : List NodeRow) (labels : List (List Bool)) : Type 0 where

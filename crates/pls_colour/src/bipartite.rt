@@ -2,12 +2,12 @@
 
 ghost use Rattle.std.specs.Prelude.{◌≡◌};
 ghost use Rattle.std.specs.List.{list_all};
-ghost use Rattle.std.specs.Option.{is_some};
-ghost use Rattle.pls_colour.specs.Bipartite.{colour_in, differ, differs_from_neighbours, judge_bipartite, neighbours_are_colours, own_is_colour};
+ghost use Rattle.pls_colour.specs.Bipartite.{colour_label, differ, differs_from, judge_bipartite};
+ghost use Rattle.pls_colour.specs.Levelled.{passes_at};
 
 use pls_base::{NoMemory, Steps};
 use pls_bits::Bits;
-use pls_scheme::{Checker, Verdict};
+use pls_scheme::{Checker, Reads, Verdict, judged_from, own_label};
 use pls_view::{PortView, View};
 use std::alloc::Global;
 
@@ -29,10 +29,28 @@ impl Bipartite {
     }
 }
 
+impl Reads for Bipartite {
+    ghost use Rattle.pls_colour.specs.Bipartite.{colour_label};
+
+    type Said = ColourLabel;
+
+    ghost said = { λ bits. colour_label bits };
+
+    fn read(bits: &Bits<'_>) -> Option<ColourLabel> {
+        if bits.len() == 1 {
+            Some(ColourLabel {
+                colour: bits.bit(0),
+            })
+        } else {
+            None
+        }
+    }
+}
+
 impl Checker for Bipartite {
     ghost use Rattle.std.specs.Prelude.{true, false, refl};
-    ghost use Rattle.pls_scheme.proofs.Leaves.{judged-leaf};
-    ghost use Rattle.pls_colour.specs.Bipartite.{bipartite_rules, judge_bipartite};
+    ghost use Rattle.pls_colour.specs.Bipartite.{bipartite_rules, colour_label, judge_bipartite};
+    ghost use Rattle.pls_scheme.proofs.Leaves.{judge_by-leaf};
 
     ghost judge = { λ _ view. judge_bipartite view };
 
@@ -62,7 +80,7 @@ impl Checker for Bipartite {
         Ok(verdict_on(view))
     }
 
-    ghost leaf_law = { λ _ view. judged-leaf 1 (bipartite_rules view) };
+    ghost leaf_law = { λ _ view. judge_by-leaf colour_label bipartite_rules view };
 
     ghost lends_law = { λ _ _. refl };
 }
@@ -71,76 +89,34 @@ impl Checker for Bipartite {
 fn verdict_on(view: &View<'_>) -> Verdict
     ensures { result ≡ judge_bipartite view.now }
 {
-    if !own_is_colour(view) {
-        rejection(1)
-    } else if !neighbours_are_colours(view) {
-        rejection(2)
-    } else if !differs_from_neighbours(view) {
-        rejection(3)
-    } else {
-        Verdict::Accept
-    }
-}
-
-// A rejection by a rule.
-fn rejection(rule: u8) -> Verdict
-    ensures { result ≡ Verdict.Reject 1 rule }
-{
-    Verdict::Reject { leaf: 1, rule }
-}
-
-// Rule 1: the own label is a colour.
-fn own_is_colour(view: &View<'_>) -> bool
-    ensures { result ≡ own_is_colour view.now }
-{
-    colour_of(&view.own).is_some()
-}
-
-// Rule 2: each neighbour's label is a colour.
-fn neighbours_are_colours(view: &View<'_>) -> bool
-    ensures { result ≡ neighbours_are_colours view.now }
-{
-    are_colours(&view.ports)
+    let own = match own_label::<Bipartite>(view) {
+        Ok(own) => own.colour,
+        Err(verdict) => return verdict,
+    };
+    judged_from(3, &[differs_from_neighbours(own, &view.ports)])
 }
 
 // Rule 3: each neighbour's colour differs from the own colour.
-fn differs_from_neighbours(view: &View<'_>) -> bool
-    ensures { result ≡ differs_from_neighbours view.now }
+fn differs_from_neighbours(own: bool, ports: &[PortView<'_>]) -> bool
+    ensures { result
+        ≡ list_all (λ port. passes_at colour_label (differs_from own) port.weight port.label) ports.now }
 {
-    all_differ(colour_of(&view.own), &view.ports)
+    ports.iter().all(|port| differs_from(own, port))
 }
 
-// Whether each label is a colour.
-fn are_colours(ports: &[PortView<'_>]) -> bool
-    ensures { result ≡ list_all (λ port. is_some (colour_in port.label)) ports.now }
+// Whether the neighbour's colour differs from this one.
+fn differs_from(own: bool, port: &PortView<'_>) -> bool
+    ensures { result ≡ passes_at colour_label (differs_from own) port.now.weight port.now.label }
 {
-    ports.iter().all(|port| colour_of(&port.label).is_some())
+    match Bipartite::read(&port.label) {
+        Some(label) => differ(own, label.colour),
+        None => false,
+    }
 }
 
-// Whether each label says another colour than this one.
-fn all_differ(own: Option<bool>, ports: &[PortView<'_>]) -> bool
-    ensures { result ≡ list_all (λ port. differ own (colour_in port.label)) ports.now }
-{
-    ports.iter().all(|port| differ(own, colour_of(&port.label)))
-}
-
-// Whether two labels say different colours.
-pub(crate) fn differ(one: Option<bool>, other: Option<bool>) -> bool
+// Whether two colours differ.
+fn differ(one: bool, other: bool) -> bool
     ensures { result ≡ differ one other }
 {
-    match (one, other) {
-        (Some(one), Some(other)) => one != other,
-        _ => false,
-    }
-}
-
-// The colour that a label says: its one bit.
-pub(crate) fn colour_of(bits: &Bits<'_>) -> Option<bool>
-    ensures { result ≡ colour_in bits.now }
-{
-    if bits.len() == 1 {
-        Some(bits.bit(0))
-    } else {
-        None
-    }
+    one != other
 }

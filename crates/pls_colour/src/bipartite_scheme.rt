@@ -1,11 +1,14 @@
 //! How networks with a two-colouring are labelled.
 
-use crate::bipartite::{Bipartite, ColourLabel, colour_of};
-use crate::colouring::{differ_at_ports, label_of_colour, labels_of, parities};
+ghost use Rattle.std.specs.Prelude.{◌≡◌, ◌∷◌, [], IfOk};
+
+use crate::accepted::accepted_levels;
+use crate::bipartite::{Bipartite, ColourLabel};
+use crate::level_labels::WritesLevels;
 use pls_base::NoMemory;
 use pls_bits::{BitBuf, Bits};
 use pls_graph::{Network, Size};
-use pls_scheme::{Property, Scheme};
+use pls_scheme::{Property, Reads, Scheme};
 use pls_view::LabelStore;
 use std::alloc::Global;
 
@@ -15,8 +18,7 @@ impl Property for Bipartite {
     ghost holds = { λ _ rows. IsBipartite rows };
 
     fn decide(&self, alloc: Global, net: &Network) -> Result<bool, NoMemory> {
-        let colours = parities(alloc, net)?;
-        Ok(differ_at_ports(net, &colours))
+        Ok(accepted_levels(alloc, self, net)?.is_some())
     }
 }
 
@@ -36,7 +38,7 @@ impl Scheme for Bipartite {
     ghost longest = { λ _ _. 1 };
 
     fn read_label(&self, _alloc: Global, bits: Bits<'_>) -> Result<Option<ColourLabel>, NoMemory> {
-        Ok(colour_of(&bits).map(|colour| ColourLabel { colour }))
+        Ok(Self::read(&bits))
     }
 
     fn write_label(&self, alloc: Global, label: &ColourLabel) -> Result<BitBuf, NoMemory> {
@@ -48,12 +50,8 @@ impl Scheme for Bipartite {
     }
 
     fn mark(&self, alloc: Global, net: &Network) -> Result<Option<LabelStore>, NoMemory> {
-        let colours = parities(alloc, net)?;
-        if !differ_at_ports(net, &colours) {
-            return Ok(None);
-        }
-        let labels = labels_of(alloc, &colours)?;
-        Ok(Some(labels))
+        let found = accepted_levels(alloc, self, net)?;
+        Ok(found)
     }
 
     ghost reads_back_law = { λ _ label _. (label.colour ∷ [], refl) };
@@ -62,5 +60,24 @@ impl Scheme for Bipartite {
 
     ghost one_label_law = { λ _ bits a b first second. one_colour bits a b first second };
 
-    ghost sound_law = { λ _ rows labels _ _ accepted. bipartite_sound rows labels accepted };
+    ghost sound_law = { λ _ rows labels _ _ _ accepted. bipartite_sound rows labels accepted };
+}
+
+impl WritesLevels for Bipartite {
+    ghost use Rattle.pls_colour.specs.Marked.{SaysParity};
+
+    ghost says = { λ level bits. SaysParity level bits };
+
+    fn write_level(alloc: Global, level: u32) -> Result<BitBuf, NoMemory> {
+        label_of_colour(alloc, level % 2 == 1)
+    }
+}
+
+// The label that says a colour.
+fn label_of_colour(alloc: Global, colour: bool) -> Result<BitBuf, NoMemory>
+    ensures { IfOk result (λ label. label ≡ colour ∷ []) }
+{
+    let mut label = BitBuf::new(alloc);
+    label.push(colour)?;
+    Ok(label)
 }

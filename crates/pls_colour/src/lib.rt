@@ -1,14 +1,20 @@
-//! Two-colourings: the property `bipartite`, how a node checks its colour against its neighbours',
-//! and how a network is marked, each node with the parity of its level.
+//! Two-colourings and networks without cycle: the properties `bipartite` and `acyclic`, how a node
+//! checks its label against its neighbours', and how a network is marked, each node with its level
+//! or with the parity of it.
 //!
-//! [`Bipartite`] is the scheme, [`ColourLabel`] what its labels say. Definitions stand in `specs/`:
-//! `Bipartite` (the property, the layout, the rules) and `Marked` (the marker's labels).
+//! [`Bipartite`] and [`Acyclic`] are the schemes, [`ColourLabel`] and [`CycleLabel`] what their labels
+//! say. Definitions stand in `specs/`: `Bipartite` and `Acyclic` (the layout, the rules) and `Marked`
+//! (the marker's colours).
 #![tactic(auto)]
 
+mod accepted;
+mod acyclic;
+mod acyclic_scheme;
 mod bipartite;
 mod bipartite_scheme;
-mod colouring;
+mod level_labels;
 #[cfg(test)]
 mod tests;
 
+pub use acyclic::{Acyclic, CycleLabel};
 pub use bipartite::{Bipartite, ColourLabel};

@@ -1,12 +1,13 @@
-//! A path that is marked, and a triangle that cannot be.
+//! A path, a square and a triangle: which are marked, and with which labels.
 
 ghost use Rattle.std.specs.Prelude.{◌≡◌, IfOk};
 ghost use Rattle.pls_model.specs.Configuration.{AreWithinLimits};
 
-use crate::Bipartite;
+use crate::{Acyclic, Bipartite};
 use pls_base::NoMemory;
+use pls_bits::Gamma;
 use pls_graph::{Network, NodePorts, NodeRow, Port, State, connected};
-use pls_scheme::{Property, Scheme};
+use pls_scheme::Scheme;
 use pls_view::LabelStore;
 use std::alloc::{AllocError, Global};
 use std::test::Fail;
@@ -52,8 +53,20 @@ fn triangle(alloc: Global) -> Result<Vec<NodeRow>, AllocError>
     ]?)
 }
 
-// Whether the network has a two-colouring, and its labels as a text, empty where it is not marked.
-fn answers(alloc: Global, rows: Vec<NodeRow>) -> Result<(bool, String), Fail>
+// Four nodes, each joined to two others.
+fn square(alloc: Global) -> Result<Vec<NodeRow>, AllocError>
+    ensures { IfOk result (λ rows. AreWithinLimits rows.items) }
+{
+    Ok(vec![in alloc;
+        node(2, vec![in alloc; to(3), to(7)]?),
+        node(3, vec![in alloc; to(2), to(9)]?),
+        node(7, vec![in alloc; to(2), to(9)]?),
+        node(9, vec![in alloc; to(3), to(7)]?),
+    ]?)
+}
+
+// Whether the network has the scheme's property, and its labels as a text, empty where it is not marked.
+fn answers<S: Scheme>(alloc: Global, scheme: &S, rows: Vec<NodeRow>) -> Result<(bool, String), Fail>
     requires { AreWithinLimits rows.items }
 {
     let net = match Network::build(alloc, rows) {
@@ -63,11 +76,11 @@ fn answers(alloc: Global, rows: Vec<NodeRow>) -> Result<(bool, String), Fail>
     if let Some(_) = connected(alloc, &net)? {
         return Err(Fail::from("in parts"));
     }
-    let text = match Bipartite::new().mark(alloc, &net)? {
+    let text = match scheme.mark(alloc, &net)? {
         Some(labels) => text_of(alloc, &labels)?,
         None => String::new(alloc),
     };
-    Ok((Bipartite::new().decide(alloc, &net)?, text))
+    Ok((scheme.decide(alloc, &net)?, text))
 }
 
 // The labels, each as its bits and a point.
@@ -84,16 +97,37 @@ fn text_of(alloc: Global, labels: &LabelStore) -> Result<String, NoMemory> {
 }
 
 #[test]
-fn a_path_is_marked_and_a_triangle_is_not(rt: HostRuntime) -> Result<(), Fail> {
-    let (yes, text) = answers(rt.alloc(), path(rt.alloc())?)?;
+fn a_path_has_a_colouring_and_a_triangle_has_none(rt: HostRuntime) -> Result<(), Fail> {
+    let scheme = Bipartite::new();
+    let (yes, text) = answers(rt.alloc(), &scheme, path(rt.alloc())?)?;
     assert!(rt; yes, "a path has a two-colouring");
     assert!(rt;
         text.as_bytes() == b"0.1.0.".as_slice(),
-        "the labels of a path"
+        "the colours of a path"
     );
 
-    let (yes, text) = answers(rt.alloc(), triangle(rt.alloc())?)?;
+    let (yes, text) = answers(rt.alloc(), &scheme, triangle(rt.alloc())?)?;
     assert!(rt; !yes, "a triangle has none");
     assert!(rt; text.is_empty(), "a triangle is not marked");
+    Ok(())
+}
+
+#[test]
+fn a_path_has_no_cycle_and_a_triangle_and_a_square_have_one(rt: HostRuntime) -> Result<(), Fail> {
+    let scheme = Acyclic::<Gamma>::new();
+    let (yes, text) = answers(rt.alloc(), &scheme, path(rt.alloc())?)?;
+    assert!(rt; yes, "a path has no cycle");
+    assert!(rt;
+        text.as_bytes() == b"1.010.011.".as_slice(),
+        "the depths of a path"
+    );
+
+    let (yes, text) = answers(rt.alloc(), &scheme, triangle(rt.alloc())?)?;
+    assert!(rt; !yes, "a triangle has a cycle");
+    assert!(rt; text.is_empty(), "a triangle is not marked");
+
+    let (yes, text) = answers(rt.alloc(), &scheme, square(rt.alloc())?)?;
+    assert!(rt; !yes, "a square has a cycle");
+    assert!(rt; text.is_empty(), "a square is not marked");
     Ok(())
 }

@@ -1,8 +1,10 @@
 -- What verdicts by rules name.
-use Rattle.std.proofs.Common.{◌≡◌, ℕ, ◌+◌, Bool, true, false, List, [], ◌∷◌, if◌then◌else◌, refl, arith}
+use Rattle.std.proofs.Common.{◌≡◌, ℕ, ◌+◌, Bool, true, false, List, [], ◌∷◌, Option, Some, None, if◌then◌else◌, refl, arith}
 use Rattle.std.specs.List.{AllByRecursion}
 use Rattle.pls_model.specs.declared.verdict.Verdict.TheVariants.{Accept, Reject}
+use Rattle.pls_view.specs.Seen.{Seen}
 use Rattle.pls_scheme.specs.Judging.{judged_from, LeafWithin}
+use Rattle.pls_scheme.specs.Reading.{Read, ReadPort, judge_by, judged_read, read_ports}
 
 -- a verdict by rules names leaf 1
 pub judged-leaf : (number : ℕ) (rules : List Bool) → LeafWithin 1 (judged_from number rules)
@@ -23,3 +25,14 @@ judged-each number (holds ∷ others) accepted = by holds accepted (judged-each 
         → AllByRecursion (λ holds. holds ≡ true) (b ∷ others)
     by true accepted later = (refl, later accepted)
     by false accepted later = absurd (cc)
+
+-- a verdict by a way to read labels and by rules names leaf 1
+pub judge_by-leaf : {L : Type 0} (read : List Bool → Option L) (rules : Read L → List Bool) (view : Seen)
+    → LeafWithin 1 (judge_by read rules view)
+judge_by-leaf {L} read rules view = by (read view.own) (read_ports read view.ports)
+  where
+    by : (own : Option L) (ports : Option (List (ReadPort L))) → LeafWithin 1 (judged_read rules view own ports)
+    by None ports = omega arith
+    by (Some own) None = omega arith
+    by (Some own) (Some ports) =
+        judged-leaf 3 (rules (record { id = view.id; state = view.state; own = own; ports = ports }))

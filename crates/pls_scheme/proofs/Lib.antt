@@ -1,4 +1,10 @@
 pub mod Accepted
+pub mod Codes
 pub mod Leaves
+pub mod Readings
 pub mod Rounds
+pub mod Same
+pub mod Saying
+pub mod Spellings
+pub mod Texts
 pub mod Uniform

@@ -5,6 +5,7 @@ ghost use Rattle.pls_model.specs.Walk.{IsConnected};
 ghost use Rattle.std.specs.List.{list_all};
 ghost use Rattle.pls_scheme.specs.Judging.{accepts, AllAccept};
 
+use crate::checker::Checker;
 use crate::scheme::Scheme;
 use pls_base::{NoMemory, Steps};
 use pls_bits::BitBuf;
@@ -27,7 +28,23 @@ pub fn certifies<S: Scheme>(
     ensures accepted { IfOk result (λ yes. IsTrue yes ↔ AllAccept (S.judge scheme.now) net.now labels.now) }
     ensures holds { IfOk result (λ yes. IsTrue yes → S.holds scheme.now net.now) }
 {
-    let verdicts = scheme.round(alloc, net, labels, steps)?;
+    // A network is valid.
+    net.len();
+    are_accepted(alloc, scheme, net, labels, steps)
+}
+
+/// Whether every node accepts the labels. The one error is want of memory.
+pub fn are_accepted<V: Checker>(
+    alloc: Global,
+    checker: &V,
+    net: &Network,
+    labels: &LabelStore,
+    steps: &mut Steps,
+) -> Result<bool, NoMemory>
+    requires { length labels.now ≡ length net.now }
+    ensures { IfOk result (λ yes. IsTrue yes ↔ AllAccept (V.judge checker.now) net.now labels.now) }
+{
+    let verdicts = checker.round(alloc, net, labels, steps)?;
     Ok(all_accept(&verdicts))
 }
 

@@ -9,13 +9,23 @@
 
 mod checker;
 mod consequences;
+mod labels;
+mod length;
+mod numbers;
 mod property;
+mod reading;
+mod rules;
 mod scheme;
 #[cfg(test)]
 mod tests;
 
 pub use checker::Checker;
-pub use consequences::{certifies, has_spelling, spelled};
+pub use consequences::{are_accepted, certifies, has_spelling, spelled};
+pub use labels::labels_of_depths;
+pub use length::code_length;
+pub use numbers::{read_numbers, write_numbers};
 pub use pls_model::Verdict;
 pub use property::Property;
+pub use reading::{Reads, own_label};
+pub use rules::{is_one_more, judged_from};
 pub use scheme::Scheme;

@@ -2,6 +2,7 @@
 
 ghost use Rattle.std.specs.Prelude.{◌≡◌, ℕ, ◌-◌, ◌^◌, ◌≤◌, min, Bool, List, length, All, IfOk, IfSome, IfNone};
 ghost use Rattle.pls_model.specs.declared.row.NodeRow.{NodeRow};
+ghost use Rattle.pls_model.specs.Configuration.{IsNetwork};
 ghost use Rattle.pls_model.specs.Walk.{IsConnected};
 ghost use Rattle.pls_graph.specs.declared.size.Size.{Size};
 ghost use Rattle.pls_graph.specs.Size.{size_of};
@@ -83,7 +84,10 @@ pub trait Scheme: Checker + Property {
         requires each { length labels.now ≡ length net.now }
         requires accepted { AllAccept (Self.judge self.now) net.now labels.now }
         ensures { Self.holds self.now net.now }
-    {}
+    {
+        // A network is valid.
+        net.len();
+    }
 
     ghost reads_back_law: { (s : Self) (label : Self.Label) → writable s label → (bits : List Bool) × layout s bits label };
 
@@ -91,5 +95,5 @@ pub trait Scheme: Checker + Property {
 
     ghost one_label_law: { (s : Self) (bits : List Bool) (a b : Self.Label) → layout s bits a → layout s bits b → a ≡ b };
 
-    ghost sound_law: { (s : Self) (rows : List NodeRow) (labels : List (List Bool)) → IsConnected rows → length labels ≡ length rows → AllAccept (Self.judge s) rows labels → Self.holds s rows };
+    ghost sound_law: { (s : Self) (rows : List NodeRow) (labels : List (List Bool)) → IsNetwork rows → IsConnected rows → length labels ≡ length rows → AllAccept (Self.judge s) rows labels → Self.holds s rows };
 }

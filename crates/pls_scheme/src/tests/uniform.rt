@@ -98,7 +98,7 @@ impl Scheme for Uniform {
 
     ghost one_label_law = { λ _ bits a b first second. one_bit bits a b first second };
 
-    ghost sound_law = { λ _ _ _ _ _ _. tt };
+    ghost sound_law = { λ _ _ _ _ _ _ _. tt };
 }
 
 // Acceptance, or a rejection by the one rule.

@@ -1,9 +1,19 @@
-use Rattle.std.proofs.Common.{sym, subst}
-use Rattle.pls_colour.specs.Parities.{AreParities}
-use Rattle.pls_colour.proofs.Marking.{parities_decide}
+use Rattle.std.proofs.Common.{List, Bool}
+use Rattle.pls_scheme.specs.Judging.{AllAccept}
+use Rattle.pls_colour.specs.Bipartite.{IsBipartite, judge_bipartite}
+use Rattle.pls_colour.specs.BipartiteLaws.{bipartite_sound}
+use Rattle.pls_colour.specs.Marked.{SaysParity}
+use Rattle.pls_colour.proofs.Levelled.{found_tells, none_accepted, weaker_Some}
+use Rattle.pls_colour.proofs.Marking.{accepted_where_bipartite}
 use Rattle.pls_colour.proofs.bipartite_scheme.BipartiteProperty.decide.Goals as goal
 
 pub returns : goal.returns
 returns c =
-    let parities = subst (AreParities c.args.net.now) (sym c.deref.ensures.value) c.in_ok-colours.ensures in
-    parities_decide c.args.net.now c.differ_at_ports.ensures.valid c.deref.result.now c.differ_at_ports.result parities c.differ_at_ports.ensures.value
+    let rows = c.args.net.now in
+    let found = c.in_ok-accepted_levels.field-0 in
+    let told = c.in_ok-accepted_levels.ensures in
+    found_tells (IsBipartite rows) found c.is_some.result c.is_some.ensures
+    (none_accepted SaysParity judge_bipartite rows (IsBipartite rows) found
+    (λ labels levels. accepted_where_bipartite rows labels levels told.valid) told.refused)
+    (weaker_Some (λ (labels : List (List Bool)). AllAccept judge_bipartite rows labels) (λ (labels : List (List Bool)). IsBipartite rows) found
+    (bipartite_sound rows) told.accepted)

@@ -1,42 +1,32 @@
-use Rattle.std.proofs.Common.{◌≡◌, ◌∙◌, ◌≤◌, List, Bool, false, true, ap, sym, subst, map, length, All}
-use Rattle.std.proofs.lemmas.Bool.{false≢true}
+use Rattle.std.proofs.Common.{◌≤◌, List, Bool, length, All}
 use Rattle.pls_scheme.specs.Judging.{AllAccept}
-use Rattle.pls_colour.specs.Bipartite.{judge_bipartite}
-use Rattle.pls_colour.specs.Marked.{IsParityMarked}
-use Rattle.pls_colour.specs.Parities.{differ_at_ports, label_of_colour}
-use Rattle.pls_colour.proofs.Marking.{differ_where_bipartite, accepted_where_differ, bipartite_where_differ, parities_marked, labels_short}
+use Rattle.pls_colour.specs.Bipartite.{IsBipartite, judge_bipartite}
+use Rattle.pls_colour.specs.BipartiteLaws.{bipartite_sound}
+use Rattle.pls_colour.specs.Levelled.{AreLevelled}
+use Rattle.pls_colour.specs.Marked.{IsParityMarked, SaysParity}
+use Rattle.pls_colour.proofs.Levelled.{none_accepted, weaker_Some}
+use Rattle.pls_colour.proofs.Marking.{accepted_where_bipartite, parities_marked, parities_short}
 use Rattle.pls_colour.proofs.bipartite_scheme.BipartiteScheme.mark.Goals as goal
 
-pub returns-then-not-differ_at_ports-clause-lacking : goal.returns-then-not-differ_at_ports-clause-lacking
-returns-then-not-differ_at_ports-clause-lacking c =
+pub returns-clause-lacking : goal.returns-clause-lacking
+returns-clause-lacking c =
     let rows = c.args.net.now in
-    let colours = c.in_ok-colours.colours.items in
-    let fails : false ≡ differ_at_ports rows colours = c.if-not-differ_at_ports.ensures.value ∙ ap (differ_at_ports rows) c.deref.ensures.value in
-    λ bipartite. false≢true (fails ∙ differ_where_bipartite rows c.differ_at_ports.ensures.valid colours c.in_ok-colours.ensures bipartite)
+    none_accepted SaysParity judge_bipartite rows (IsBipartite rows) c.in_ok-found.found
+    (λ labels levels. accepted_where_bipartite rows labels levels c.in_ok-found.ensures.valid) c.in_ok-found.ensures.refused
 
 pub returns-clause-holds : goal.returns-clause-holds
 returns-clause-holds c =
     let rows = c.args.net.now in
-    let colours = c.in_ok-colours.colours.items in
-    let differs : differ_at_ports rows colours ≡ true = ap (differ_at_ports rows) (sym c.deref.ensures.value) ∙ sym c.if-not-differ_at_ports.ensures.value in
-    bipartite_where_differ rows c.differ_at_ports.ensures.valid colours c.in_ok-colours.ensures.each differs
+    weaker_Some (λ (labels : List (List Bool)). AllAccept judge_bipartite rows labels) (λ (labels : List (List Bool)). IsBipartite rows) c.in_ok-found.found
+    (bipartite_sound rows) c.in_ok-found.ensures.accepted
 
 pub returns-clause-marked : goal.returns-clause-marked
 returns-clause-marked c =
     let rows = c.args.net.now in
-    let colours = c.in_ok-colours.colours.items in
-    let labels = c.in_ok-labels.ensures ∙ ap (map label_of_colour) c.deref-2.ensures.value in
-    subst (IsParityMarked rows) (sym labels) (parities_marked rows c.differ_at_ports.ensures.valid colours c.in_ok-colours.ensures)
-
-pub returns-clause-accepted : goal.returns-clause-accepted
-returns-clause-accepted c =
-    let rows = c.args.net.now in
-    let colours = c.in_ok-colours.colours.items in
-    let differs : differ_at_ports rows colours ≡ true = ap (differ_at_ports rows) (sym c.deref.ensures.value) ∙ sym c.if-not-differ_at_ports.ensures.value in
-    let labels = c.in_ok-labels.ensures ∙ ap (map label_of_colour) c.deref-2.ensures.value in
-    subst (AllAccept judge_bipartite rows) (sym labels) (accepted_where_differ rows c.differ_at_ports.ensures.valid colours c.in_ok-colours.ensures.each differs)
+    weaker_Some (AreLevelled SaysParity rows) (IsParityMarked rows) c.in_ok-found.found (parities_marked rows) c.in_ok-found.ensures.levels
 
 pub returns-clause-short : goal.returns-clause-short
 returns-clause-short c =
-    let colours = c.deref-2.result.now in
-    subst (All (λ (label : List Bool). length label ≤ 1)) (sym c.in_ok-labels.ensures) (labels_short colours)
+    let rows = c.args.net.now in
+    weaker_Some (AreLevelled SaysParity rows) (All (λ (label : List Bool). length label ≤ 1)) c.in_ok-found.found
+    (λ labels levels. parities_short rows labels levels c.in_ok-found.ensures.valid) c.in_ok-found.ensures.levels

@@ -1,0 +1,138 @@
+//! The scheme `acyclic`: the label is the node's depth.
+
+ghost use Rattle.std.specs.Prelude.{◌≡◌, nat_le, count_by};
+ghost use Rattle.std.specs.List.{list_all};
+ghost use Rattle.pls_colour.specs.Acyclic.{cycle_label_in, judge_acyclic};
+ghost use Rattle.pls_colour.specs.CyclePorts.{is_above, is_beside};
+ghost use Rattle.pls_colour.specs.Levelled.{passes_at};
+
+use pls_base::{NoMemory, Steps};
+use pls_bits::{Bits, NumCode};
+use pls_scheme::{Checker, Reads, Verdict, is_one_more, judged_from, own_label, read_numbers};
+use pls_view::{PortView, View};
+use std::alloc::Global;
+use std::marker::PhantomData;
+
+/// What a label says.
+#[derive(Clone, Copy, Debug, PartialEq, Eq)]
+pub struct CycleLabel {
+    /// How many edges lead to the node from the node of smallest identity.
+    pub depth: u64,
+}
+
+/// The scheme of networks without cycle, whose labels are written in the number code `C`.
+#[derive(Clone, Copy, Debug, PartialEq, Eq)]
+pub struct Acyclic<C> {
+    code: PhantomData<C>,
+}
+
+impl<C: NumCode> Acyclic<C> {
+    /// The scheme. It takes no memory.
+    pub fn new() -> Self {
+        Acyclic { code: PhantomData }
+    }
+}
+
+impl<C: NumCode> Reads for Acyclic<C> {
+    ghost use Rattle.pls_colour.specs.Acyclic.{cycle_label_in};
+
+    type Said = CycleLabel;
+
+    ghost said = { λ bits. cycle_label_in C.takes bits };
+
+    fn read(bits: &Bits<'_>) -> Option<CycleLabel> {
+        let [depth] = read_numbers::<C, 1>(bits)?;
+        Some(CycleLabel { depth })
+    }
+}
+
+impl<C: NumCode> Checker for Acyclic<C> {
+    ghost use Rattle.std.specs.Prelude.{true, false, refl};
+    ghost use Rattle.pls_colour.specs.Acyclic.{acyclic_rules, cycle_label_in, judge_acyclic};
+    ghost use Rattle.pls_scheme.proofs.Leaves.{judge_by-leaf};
+
+    ghost judge = { λ _ view. judge_acyclic C.takes view };
+
+    ghost leaves = { λ _. 1 };
+
+    ghost lends = { λ _. true };
+
+    ghost TAKES_MEMORY = { false };
+
+    const TAKES_MEMORY: bool = false;
+
+    fn leaves(&self) -> u8 {
+        1
+    }
+
+    fn lends(&self) -> bool {
+        true
+    }
+
+    fn verify(
+        &self,
+        _alloc: Global,
+        view: &View<'_>,
+        steps: &mut Steps,
+    ) -> Result<Verdict, NoMemory> {
+        steps.tick();
+        Ok(verdict_on::<C>(view))
+    }
+
+    ghost leaf_law = { λ _ view. judge_by-leaf (cycle_label_in C.takes) acyclic_rules view };
+
+    ghost lends_law = { λ _ _. refl };
+}
+
+// The first rule that fails, or acceptance.
+fn verdict_on<C: NumCode>(view: &View<'_>) -> Verdict
+    ensures { result ≡ judge_acyclic C.takes view.now }
+{
+    let own = match own_label::<Acyclic<C>>(view) {
+        Ok(own) => own.depth,
+        Err(verdict) => return verdict,
+    };
+    judged_from(
+        3,
+        &[
+            differs_by_one::<C>(own, &view.ports),
+            has_one_above::<C>(own, &view.ports),
+        ],
+    )
+}
+
+// Rule 3: each neighbour is one deeper, or one less deep.
+fn differs_by_one<C: NumCode>(own: u64, ports: &[PortView<'_>]) -> bool
+    ensures { result
+        ≡ list_all (λ port. passes_at (cycle_label_in C.takes) (is_beside own) port.weight port.label) ports.now }
+{
+    ports.iter().all(|port| is_beside::<C>(own, port))
+}
+
+// Rule 4: at most one neighbour is one less deep.
+fn has_one_above<C: NumCode>(own: u64, ports: &[PortView<'_>]) -> bool
+    ensures { result
+        ≡ nat_le (count_by (λ port. passes_at (cycle_label_in C.takes) (is_above own) port.weight port.label) ports.now) 1 }
+{
+    ports.iter().filter(|port| is_above::<C>(own, port)).count() <= 1
+}
+
+// Whether the neighbour is one deeper, or one less deep.
+fn is_beside<C: NumCode>(own: u64, port: &PortView<'_>) -> bool
+    ensures { result ≡ passes_at (cycle_label_in C.takes) (is_beside own) port.now.weight port.now.label }
+{
+    match Acyclic::<C>::read(&port.label) {
+        Some(label) => is_one_more(label.depth, own) || is_one_more(own, label.depth),
+        None => false,
+    }
+}
+
+// Whether the neighbour is one less deep.
+fn is_above<C: NumCode>(own: u64, port: &PortView<'_>) -> bool
+    ensures { result ≡ passes_at (cycle_label_in C.takes) (is_above own) port.now.weight port.now.label }
+{
+    match Acyclic::<C>::read(&port.label) {
+        Some(label) => is_one_more(own, label.depth),
+        None => false,
+    }
+}

@@ -1,0 +1,26 @@
+use Rattle.std.proofs.Common.{◌≡◌, ◌∙◌, ◌==◌, refl, rules, sym}
+use Rattle.std.specs.Option.{option_map}
+use Rattle.std.proofs.lemmas.List.Folds.{list_all-map}
+use Rattle.pls_pointer.specs.Tree.{tree_in, tree_rules}
+use Rattle.pls_pointer.proofs.Judged.{all_labels, judge_tree-read}
+use Rattle.pls_pointer.proofs.tree.verdict_on.Goals as goal
+
+pub returns-in-Err : goal.returns-in-Err
+returns-in-Err g c = sym (c.in-Err.ensures.rejected tree_rules)
+
+pub returns : goal.returns
+returns g c =
+    let own = c.in-Ok.own in
+    let above : c.map-above.result ≡ option_map (λ label. label.depth) c.label_above.result = search rules in
+    let agrees : c.agrees_on_root.result
+    ≡ all_labels (tree_in g.C.NumCode.takes) (λ label. label.root == own.root) c.args.view.now.ports =
+    rw (c.agrees_on_root.ensures, c.deref.ensures, ← c.view.view_is, list_all-map) refl in
+    let read = c.in-Ok.ensures.neighbours in
+    c.judged_from.ensures ∙ rw (
+      agrees,
+      c.points_or_is_root.ensures,
+      c.is_one_deeper.ensures,
+      above,
+      c.label_above.ensures,
+    )
+    (judge_tree-read g.C.NumCode.takes c.args.view.now own read.0 c.in-Ok.ensures.own read.1)

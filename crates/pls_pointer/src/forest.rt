@@ -1,0 +1,109 @@
+//! The scheme `forest`: the label is the node's depth.
+
+ghost use Rattle.std.specs.Prelude.{◌≡◌, ◌==◌, ◌||◌};
+ghost use Rattle.std.specs.Option.{is_some};
+ghost use Rattle.pls_pointer.specs.Forest.{judge_forest};
+
+use crate::above::{is_one_deeper, label_above};
+use pls_base::{NoMemory, Steps};
+use pls_bits::{Bits, NumCode};
+use pls_scheme::{Checker, Reads, Verdict, judged_from, own_label, read_numbers};
+use pls_view::View;
+use std::alloc::Global;
+use std::marker::PhantomData;
+
+/// What a label says.
+#[derive(Clone, Copy, Debug, PartialEq, Eq)]
+pub struct DepthLabel {
+    /// How many pointers the node's chain has.
+    pub depth: u64,
+}
+
+/// The scheme of forests of pointers, whose labels are written in the number code `C`.
+#[derive(Clone, Copy, Debug, PartialEq, Eq)]
+pub struct Forest<C> {
+    code: PhantomData<C>,
+}
+
+impl<C: NumCode> Forest<C> {
+    /// The scheme. It takes no memory.
+    pub fn new() -> Self {
+        Forest { code: PhantomData }
+    }
+}
+
+impl<C: NumCode> Reads for Forest<C> {
+    ghost use Rattle.pls_pointer.specs.Forest.{depth_in};
+
+    type Said = DepthLabel;
+
+    ghost said = { λ bits. depth_in C.takes bits };
+
+    fn read(bits: &Bits<'_>) -> Option<DepthLabel> {
+        let [depth] = read_numbers::<C, 1>(bits)?;
+        Some(DepthLabel { depth })
+    }
+}
+
+impl<C: NumCode> Checker for Forest<C> {
+    ghost use Rattle.std.specs.Prelude.{true, false, refl};
+    ghost use Rattle.pls_pointer.specs.Forest.{depth_in, forest_rules, judge_forest};
+    ghost use Rattle.pls_scheme.proofs.Leaves.{judge_by-leaf};
+
+    ghost judge = { λ _ view. judge_forest C.takes view };
+
+    ghost leaves = { λ _. 1 };
+
+    ghost lends = { λ _. true };
+
+    ghost TAKES_MEMORY = { false };
+
+    const TAKES_MEMORY: bool = false;
+
+    fn leaves(&self) -> u8 {
+        1
+    }
+
+    fn lends(&self) -> bool {
+        true
+    }
+
+    fn verify(
+        &self,
+        _alloc: Global,
+        view: &View<'_>,
+        steps: &mut Steps,
+    ) -> Result<Verdict, NoMemory> {
+        steps.tick();
+        Ok(verdict_on::<C>(view))
+    }
+
+    ghost leaf_law = { λ _ view. judge_by-leaf (depth_in C.takes) forest_rules view };
+
+    ghost lends_law = { λ _ _. refl };
+}
+
+// The first rule that fails, or acceptance.
+fn verdict_on<C: NumCode>(view: &View<'_>) -> Verdict
+    ensures { result ≡ judge_forest C.takes view.now }
+{
+    let own = match own_label::<Forest<C>>(view) {
+        Ok(own) => own,
+        Err(verdict) => return verdict,
+    };
+    let above = label_above::<Forest<C>>(view).map(|above| above.depth);
+    judged_from(
+        3,
+        &[
+            points_or_is_at_0(view, own),
+            is_one_deeper(own.depth, above),
+        ],
+    )
+}
+
+// Rule 3: the node points at a port, or its depth is 0.
+fn points_or_is_at_0(view: &View<'_>, own: DepthLabel) -> bool
+    ensures { result ≡ (is_some view.now.state.up || own.depth == 0) }
+{
+    view.state.up.is_some() || own.depth == 0
+}

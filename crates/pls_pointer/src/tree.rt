@@ -1,0 +1,131 @@
+//! The scheme `tree`: the label is the root's identity and the node's depth.
+
+ghost use Rattle.std.specs.Prelude.{◌≡◌, ◌==◌, ◌&&◌, ◌||◌, false};
+ghost use Rattle.std.specs.List.{list_all};
+ghost use Rattle.std.specs.Option.{is_some, option_map_or};
+ghost use Rattle.pls_pointer.specs.Tree.{judge_tree, tree_in};
+
+use crate::above::{is_one_deeper, label_above};
+use pls_base::{NoMemory, Steps};
+use pls_bits::{Bits, NumCode};
+use pls_scheme::{Checker, Reads, Verdict, judged_from, own_label, read_numbers};
+use pls_view::{PortView, View};
+use std::alloc::Global;
+use std::marker::PhantomData;
+
+/// What a label says.
+#[derive(Clone, Copy, Debug, PartialEq, Eq)]
+pub struct TreeLabel {
+    /// The identity of the root.
+    pub root: u64,
+    /// How many pointers lead from the node to the root.
+    pub depth: u64,
+}
+
+/// The scheme of trees of pointers, whose labels are written in the number code `C`.
+#[derive(Clone, Copy, Debug, PartialEq, Eq)]
+pub struct Tree<C> {
+    code: PhantomData<C>,
+}
+
+impl<C: NumCode> Tree<C> {
+    /// The scheme. It takes no memory.
+    pub fn new() -> Self {
+        Tree { code: PhantomData }
+    }
+}
+
+impl<C: NumCode> Reads for Tree<C> {
+    ghost use Rattle.pls_pointer.specs.Tree.{tree_in};
+
+    type Said = TreeLabel;
+
+    ghost said = { λ bits. tree_in C.takes bits };
+
+    fn read(bits: &Bits<'_>) -> Option<TreeLabel> {
+        let [root, depth] = read_numbers::<C, 2>(bits)?;
+        Some(TreeLabel { root, depth })
+    }
+}
+
+impl<C: NumCode> Checker for Tree<C> {
+    ghost use Rattle.std.specs.Prelude.{true, false, refl};
+    ghost use Rattle.pls_pointer.specs.Tree.{judge_tree, tree_in, tree_rules};
+    ghost use Rattle.pls_scheme.proofs.Leaves.{judge_by-leaf};
+
+    ghost judge = { λ _ view. judge_tree C.takes view };
+
+    ghost leaves = { λ _. 1 };
+
+    ghost lends = { λ _. true };
+
+    ghost TAKES_MEMORY = { false };
+
+    const TAKES_MEMORY: bool = false;
+
+    fn leaves(&self) -> u8 {
+        1
+    }
+
+    fn lends(&self) -> bool {
+        true
+    }
+
+    fn verify(
+        &self,
+        _alloc: Global,
+        view: &View<'_>,
+        steps: &mut Steps,
+    ) -> Result<Verdict, NoMemory> {
+        steps.tick();
+        Ok(verdict_on::<C>(view))
+    }
+
+    ghost leaf_law = { λ _ view. judge_by-leaf (tree_in C.takes) tree_rules view };
+
+    ghost lends_law = { λ _ _. refl };
+}
+
+// The first rule that fails, or acceptance.
+fn verdict_on<C: NumCode>(view: &View<'_>) -> Verdict
+    ensures { result ≡ judge_tree C.takes view.now }
+{
+    let own = match own_label::<Tree<C>>(view) {
+        Ok(own) => own,
+        Err(verdict) => return verdict,
+    };
+    let above = label_above::<Tree<C>>(view).map(|above| above.depth);
+    judged_from(
+        3,
+        &[
+            agrees_on_root::<C>(own.root, &view.ports),
+            points_or_is_root(view, own),
+            is_one_deeper(own.depth, above),
+        ],
+    )
+}
+
+// Rule 3: every neighbour's root is this one.
+fn agrees_on_root<C: NumCode>(root: u64, ports: &[PortView<'_>]) -> bool
+    ensures { result
+        ≡ list_all (λ port. option_map_or (λ label. label.root == root) (tree_in C.takes port.label) false) ports.now }
+{
+    ports.iter().all(|port| names_root::<C>(root, &port.label))
+}
+
+// Whether a label can be read, and its root is this one.
+fn names_root<C: NumCode>(root: u64, label: &Bits<'_>) -> bool
+    ensures { result ≡ option_map_or (λ label. label.root == root) (tree_in C.takes label.now) false }
+{
+    match Tree::<C>::read(label) {
+        Some(label) => label.root == root,
+        None => false,
+    }
+}
+
+// Rule 4: the node points at a port, or it is the root, of depth 0.
+fn points_or_is_root(view: &View<'_>, own: TreeLabel) -> bool
+    ensures { result ≡ (is_some view.now.state.up || (own.depth == 0 && view.now.id == own.root)) }
+{
+    view.state.up.is_some() || (own.depth == 0 && u64::from(view.id) == own.root)
+}
