@@ -1,48 +1,88 @@
 -- Labels that `mark` wrote are accepted by `verify`.
-use Rattle.std.proofs.Common.{◌≡◌, ℕ, ◌≤◌, Bool, List, [], ◌∷◌, ◌++◌, length, All, Some, ap, subst, refl, sym, arith}
-use Rattle.std.proofs.lemmas.List.Elements.{All-head, All-tail}
+use Rattle.std.proofs.Common.{◌≡◌, ℕ, ◌-◌, ◌*◌, ◌^◌, ◌≤◌, ◌<◌, nat_le, le-leb, if◌then◌else◌, Bool, true, false, List, [], ◌∷◌, ◌++◌, length, All, Some, ap, subst, refl, sym, arith}
+use Rattle.std.proofs.lemmas.List.Elements.{All-head, All-map, All-tail}
 use Rattle.std.proofs.lemmas.List.Sums.{sum_by-cons}
 use Rattle.pls_model.specs.declared.row.NodeRow.{NodeRow}
 use Rattle.pls_model.specs.Configuration.{ids_of}
-use Rattle.pls_graph.specs.Size.{size_of}
+use Rattle.pls_graph.specs.Size.{greatest, size_of}
 use Rattle.pls_netfile.specs.NetworkText.{network_text}
+use Rattle.pls_bits.specs.Gamma.{gamma_code}
+use Rattle.pls_bits.specs.GammaLaws.{gamma_short}
+use Rattle.pls_bits.specs.declared.num_code.TheConstants.{MAX_CODED}
 use Rattle.pls_view.specs.Labels.{bits_in}
 use Rattle.pls_labelfile.specs.LabelsText.{labels_text, named}
 use Rattle.pls_scheme.specs.Judging.{round_by}
+use Rattle.pls_scheme.specs.Length.{code_length}
 use Rattle.pls_app.specs.declared.command.Command.TheVariants.{Verify}
 use Rattle.pls_app.specs.declared.command.SchemeName.{SchemeName}
-use Rattle.pls_app.specs.declared.command.SchemeName.TheVariants.{Bipartite}
+use Rattle.pls_app.specs.declared.command.SchemeName.TheVariants.{Acyclic, Bipartite, Forest, Tree}
 use Rattle.pls_app.specs.Command.{command_of, verify_words}
 use Rattle.pls_app.specs.Meaning.{judge_of, longest_of}
-use Rattle.pls_app.specs.Input.{IsInput, IsNetworkInput}
+use Rattle.pls_app.specs.Input.{IsInput, IsNetworkInput, IsReadable}
 use Rattle.pls_app.specs.Answer.{Answers, report}
 use Rattle.pls_app.specs.Run.{Certifies, IsDone, Shows, ShowsIn}
 use Rattle.pls_app.proofs.Outcomes.{command_answer, judged_answer}
 use Rattle.pls_app.proofs.Proved.{accepted_report}
 use Rattle.pls_app.proofs.TextLengths.{text_fits}
 
--- labels of at most one bit each have at most as many bits as there are labels
-few_in_short : (labels : List (List Bool)) → All (λ label. length label ≤ 1) labels → bits_in labels ≤ length labels
+-- labels of at most 8,192 bits each have at most so many times as many bits as there are labels
+few_in_short : (labels : List (List Bool)) → All (λ label. length label ≤ 8192) labels → bits_in labels ≤ 8192 * length labels
 few_in_short [] short = omega arith
 few_in_short (label ∷ labels) short =
+    let Short : List Bool → Type 0 = λ label. length label ≤ 8192 in
     let sum = sum_by-cons (length {A = Bool}) label labels in
-    let here : length label ≤ 1 = All-head (λ (label : List Bool). length label ≤ 1) label labels short in
-    omega (arith, sum, here, few_in_short labels (All-tail (λ (label : List Bool). length label ≤ 1) label labels short))
+    omega (arith, sum, All-head Short label labels short, few_in_short labels (All-tail Short label labels short))
 
--- the bound of each scheme is that of one bit
-one_bit : (scheme : SchemeName) (rows : List NodeRow) (labels : List (List Bool)) → All (λ label. length label ≤ longest_of scheme (size_of rows)) labels → All (λ label. length label ≤ 1) labels
-one_bit Bipartite rows labels short = short
+-- the gamma code of a number below 2^32 has at most 125 bits
+short_code : (number : ℕ) → number < 2 ^ 32 → code_length gamma_code number ≤ 125
+short_code number small = by (nat_le number MAX_CODED) (le-leb number MAX_CODED (omega (arith, small)))
+  where
+    by : (fits : Bool) → fits ≡ true → (if fits then length (gamma_code number) else 2 ^ 64 - 1) ≤ 125
+    by true is = gamma_short number
+    by false is = absurd (cc)
+
+-- where each number is below a bound, so is the greatest
+small_greatest : (bound : ℕ) (numbers : List ℕ) → 1 ≤ bound → All (λ number. number < bound) numbers → greatest numbers < bound
+small_greatest bound [] some small = some
+small_greatest bound (number ∷ numbers) some small =
+    let Small : ℕ → Type 0 = λ number. number < bound in
+    omega (arith, All-head Small number numbers small, small_greatest bound numbers some (All-tail Small number numbers small))
+
+-- no scheme's bound is above 8,192 bits
+short_bound : (scheme : SchemeName) (rows : List NodeRow) → IsReadable rows → longest_of scheme (size_of rows) ≤ 8192
+short_bound scheme rows readable = by scheme
+  where
+    nodes : code_length gamma_code (length rows) ≤ 125
+    nodes = short_code (length rows) (omega (arith, readable.network.limits.few_nodes))
+
+    ids : code_length gamma_code (greatest (ids_of rows)) ≤ 125
+    ids = short_code (greatest (ids_of rows)) (small_greatest (2 ^ 32) (ids_of rows) (omega arith)
+        (All-map (λ id. id < 2 ^ 32) (λ (row : NodeRow). row.id) rows (λ k d within. (readable.ranges.each k d within).id)))
+
+    by : (scheme : SchemeName) → longest_of scheme (size_of rows) ≤ 8192
+    by Tree = omega (arith, nodes, ids)
+    by Forest = omega (arith, nodes)
+    by Bipartite = omega arith
+    by Acyclic = omega (arith, nodes)
+
+-- marked labels have at most 8,192 bits each
+short_labels : (scheme : SchemeName) (rows : List NodeRow) (labels : List (List Bool)) → IsReadable rows
+    → All (λ label. length label ≤ longest_of scheme (size_of rows)) labels → All (λ label. length label ≤ 8192) labels
+short_labels scheme rows labels readable short = λ place other within. omega (arith, short place other within, short_bound scheme rows readable)
 
 -- the words of a scheme's `verify` are that command
 verify_is : (scheme : SchemeName) → command_of (verify_words scheme) ≡ Some (Verify scheme)
+verify_is Tree = refl
+verify_is Forest = refl
 verify_is Bipartite = refl
+verify_is Acyclic = refl
 
 -- the text of a network and the labels that show its property are an input
 marked_input : (scheme : SchemeName) (bytes : List ℕ) (rows : List NodeRow) (labels : List (List Bool)) → IsNetworkInput bytes rows → Shows scheme rows labels
     → IsInput (bytes ++ labels_text (named (ids_of rows) labels)) rows labels
 marked_input scheme bytes rows labels input shows =
     let text : List ℕ = labels_text (named (ids_of rows) labels) in
-    let short = one_bit scheme rows labels shows.short in
+    let short = short_labels scheme rows labels input.readable shows.short in
     let same : bytes ++ text ≡ network_text rows ++ text = ap (λ (front : List ℕ). front ++ text) input.is in
     let fits = text_fits rows labels input.readable.network input.readable.ranges short in
     record {

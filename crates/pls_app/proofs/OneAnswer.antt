@@ -3,14 +3,17 @@ use Rattle.std.proofs.Common.{◌≡◌, ◌∙◌, ℕ, ◌≤◌, Bool, List, 
 use Rattle.pls_base.specs.declared.text_error.TextError.{TextError}
 use Rattle.pls_base.specs.declared.text_error.TextError.TheVariants.{Form, Sense}
 use Rattle.pls_model.specs.declared.row.NodeRow.{NodeRow}
+use Rattle.pls_bits.specs.Gamma.{gamma_code}
+use Rattle.pls_pointer.proofs.OneMarking.{one_forest_marking, one_tree_marking}
+use Rattle.pls_colour.proofs.LevelMarking.{one_level_marking}
 use Rattle.pls_colour.proofs.Marking.{one_marking}
 use Rattle.pls_app.specs.declared.command.Command.{Command}
 use Rattle.pls_app.specs.declared.command.Command.TheVariants.{Mark, Verify}
 use Rattle.pls_app.specs.declared.command.SchemeName.{SchemeName}
-use Rattle.pls_app.specs.declared.command.SchemeName.TheVariants.{Bipartite}
+use Rattle.pls_app.specs.declared.command.SchemeName.TheVariants.{Acyclic, Bipartite, Forest, Tree}
 use Rattle.pls_app.specs.declared.limits.TheConstants.{MAX_INPUT}
 use Rattle.pls_app.specs.Command.{command_of}
-use Rattle.pls_app.specs.Meaning.{IsMarked}
+use Rattle.pls_app.specs.Meaning.{HasProperty, IsMarked}
 use Rattle.pls_app.specs.Input.{IsInput, IsInputLines, IsNetworkInput, IsReadable, Reads}
 use Rattle.pls_app.specs.Order.{IsFirstRefusal, IsFormError, IsRefused, IsRefusedText, RefusesInput, RefusesNetwork, first_of, input_refusals, network_refusals}
 use Rattle.pls_app.specs.Answer.{Answer, Answers, AnswersWords, IsAnswer, Marks, Works, labelled, refusal}
@@ -160,14 +163,18 @@ works_read (Mark scheme) bytes answer works = (works.0, works.1)
 works_read (Verify scheme) bytes answer works = (works.0, works.1, works.2)
 
 -- a network is marked in one way
-one_marked : (scheme : SchemeName) (rows : List NodeRow) (labels others : List (List Bool)) → 1 ≤ length rows → IsMarked scheme rows labels → IsMarked scheme rows others → labels ≡ others
-one_marked Bipartite rows labels others some one two = one_marking rows labels others some one two
+one_marked : (scheme : SchemeName) (rows : List NodeRow) (labels others : List (List Bool)) → 1 ≤ length rows → HasProperty scheme rows
+    → IsMarked scheme rows labels → IsMarked scheme rows others → labels ≡ others
+one_marked Tree rows labels others some holds one two = one_tree_marking gamma_code rows labels others holds one two
+one_marked Forest rows labels others some holds one two = one_forest_marking gamma_code rows labels others some one two
+one_marked Bipartite rows labels others some holds one two = one_marking rows labels others some one two
+one_marked Acyclic rows labels others some holds one two = one_level_marking gamma_code rows labels others some one two
 
 -- the marks of a network have one answer
 one_mark : (scheme : SchemeName) (rows : List NodeRow) (answer other : Answer) → 1 ≤ length rows → Marks scheme rows answer → Marks scheme rows other → answer ≡ other
 one_mark scheme rows answer other some one two = elim one [
   | inl mine ↦ elim two [
-    | inl theirs ↦ mine.3 ∙ ap (labelled rows) (one_marked scheme rows mine.0 theirs.0 some mine.2 theirs.2) ∙ sym theirs.3
+    | inl theirs ↦ mine.3 ∙ ap (labelled rows) (one_marked scheme rows mine.0 theirs.0 some mine.1 mine.2 theirs.2) ∙ sym theirs.3
     | inr lacks ↦ absurd (lacks.0 mine.1)
   ]
   | inr lacks ↦ elim two [

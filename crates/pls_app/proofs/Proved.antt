@@ -12,13 +12,18 @@ use Rattle.pls_model.specs.declared.verdict.Verdict.{Verdict}
 use Rattle.pls_model.specs.declared.verdict.Verdict.TheVariants.{Accept, Reject}
 use Rattle.pls_view.specs.Seen.{Seen, views}
 use Rattle.pls_scheme.specs.Judging.{AllAccept, round_by}
+use Rattle.pls_bits.specs.Gamma.{gamma_takes}
+use Rattle.pls_pointer.specs.ForestLaws.{forest_sound}
+use Rattle.pls_pointer.specs.TreeLaws.{tree_sound}
+use Rattle.pls_colour.specs.AcyclicLaws.{acyclic_sound}
 use Rattle.pls_colour.specs.BipartiteLaws.{bipartite_sound}
 use Rattle.pls_app.specs.declared.command.Command.TheVariants.{Mark, Verify}
 use Rattle.pls_app.specs.declared.command.SchemeName.{SchemeName}
-use Rattle.pls_app.specs.declared.command.SchemeName.TheVariants.{Bipartite}
+use Rattle.pls_app.specs.declared.command.SchemeName.TheVariants.{Acyclic, Bipartite, Forest, Tree}
 use Rattle.pls_app.specs.Report.{rejects, rejecting}
 use Rattle.pls_app.specs.Answer.{Answer, Answers, refusal_status, report}
 use Rattle.pls_app.specs.Meaning.{HasProperty, judge_of}
+use Rattle.pls_app.specs.Input.{IsReadable}
 use Rattle.pls_app.specs.Run.{Lacks, Proves}
 
 -- a verdict that counts for nothing accepts
@@ -51,8 +56,12 @@ report_done count done = by (count == 0) refl done
     by false is done = absurd (cc)
 
 -- labels that every node accepts show the property
-pub scheme_sound : (scheme : SchemeName) (rows : List NodeRow) (labels : List (List Bool)) → AllAccept (judge_of scheme) rows labels → HasProperty scheme rows
-scheme_sound Bipartite rows labels accepted = bipartite_sound rows labels accepted
+pub scheme_sound : (scheme : SchemeName) (rows : List NodeRow) (labels : List (List Bool)) → IsReadable rows → AllAccept (judge_of scheme) rows labels
+    → HasProperty scheme rows
+scheme_sound Tree rows labels readable accepted = tree_sound gamma_takes rows labels readable.network readable.connected accepted
+scheme_sound Forest rows labels readable accepted = forest_sound gamma_takes rows labels readable.network accepted
+scheme_sound Bipartite rows labels readable accepted = bipartite_sound rows labels accepted
+scheme_sound Acyclic rows labels readable accepted = acyclic_sound gamma_takes rows readable.network labels accepted
 
 -- `Done` after `verify` says that the network of the input has the property
 pub done_proves : (scheme : SchemeName) (bytes : List ℕ) (answer : Answer) → Answers (Verify scheme) bytes answer → answer.status ≡ Done → Proves scheme bytes
@@ -64,7 +73,7 @@ done_proves scheme bytes answer answers done = elim answers [
       let count : ℕ = rejecting (round_by (judge_of scheme) rows labels) in
       let none : count ≡ 0 = report_done count (sym (ap (λ (answer : Answer). answer.status) judged.3) ∙ done) in
       let accepted : AllAccept (judge_of scheme) rows labels = none_reject (judge_of scheme) (views rows labels) none in
-      record { rows = rows; labels = labels; input = judged.2; holds = scheme_sound scheme rows labels accepted }
+      record { rows = rows; labels = labels; input = judged.2; holds = scheme_sound scheme rows labels judged.2.readable accepted }
 ]
 
 -- a refusal is not `No`

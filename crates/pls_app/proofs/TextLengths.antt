@@ -1,4 +1,4 @@
--- How long the text of a network with labels of at most one bit is.
+-- How long the text of a network with labels of at most 8,192 bits each is.
 use Rattle.std.proofs.Common.{◌≡◌, ℕ, ◌+◌, ◌*◌, ◌≤◌, ◌<◌, ◌^◌, Bool, List, [], ◌∷◌, ◌++◌, map, length, All, Option, Some, None, IfSome}
 use Rattle.std.proofs.Common.{codes, decimal, ap, arith, length-append}
 use Rattle.std.specs.Prelude.{flat_map}
@@ -71,13 +71,13 @@ short_port port fits =
       short_decimal port.weight fits.weight,
     )
 
--- the word for at most one bit has at most two letters
-short_hex : (bits : List Bool) → length bits ≤ 1 → length (hex_word bits) ≤ 2
+-- the word for at most 8,192 bits has at most 2,048 letters
+short_hex : (bits : List Bool) → length bits ≤ 8192 → length (hex_word bits) ≤ 2048
 short_hex [] few = omega arith
 short_hex (bit ∷ bits) few = omega (arith, length-hex_digits (bit ∷ bits), few)
 
--- the line of a label of at most one bit has fewer than 32 letters
-short_label : (label : NamedLabel) → label.id < 2 ^ 32 → length label.bits ≤ 1 → length (label_line label) < 32
+-- the line of a label of at most 8,192 bits has fewer than 2,112 letters
+short_label : (label : NamedLabel) → label.id < 2 ^ 32 → length label.bits ≤ 8192 → length (label_line label) < 2112
 short_label label small few =
     omega (
       arith,
@@ -126,13 +126,13 @@ rows_fit (row ∷ rows) fits =
       rows_fit rows (All-tail FitsRow row rows fits),
     )
 
--- the text of the labels of nodes has at most 32 letters for each node
-labels_fit : (rows : List NodeRow) (labels : List (List Bool)) → All FitsRow rows → All (λ label. length label ≤ 1) labels
-    → length (text_of (map label_line (named (ids_of rows) labels))) ≤ 32 * length rows
+-- the text of the labels of nodes has at most 2,112 letters for each node
+labels_fit : (rows : List NodeRow) (labels : List (List Bool)) → All FitsRow rows → All (λ label. length label ≤ 8192) labels
+    → length (text_of (map label_line (named (ids_of rows) labels))) ≤ 2112 * length rows
 labels_fit [] labels fits few = omega arith
 labels_fit (row ∷ rows) [] fits few = omega arith
 labels_fit (row ∷ rows) (label ∷ labels) fits few =
-    let Short : List Bool → Type 0 = λ bits. length bits ≤ 1 in
+    let Short : List Bool → Type 0 = λ bits. length bits ≤ 8192 in
     let first : NamedLabel = record { id = row.id; bits = label } in
     omega (
       arith,
@@ -141,9 +141,9 @@ labels_fit (row ∷ rows) (label ∷ labels) fits few =
       labels_fit rows labels (All-tail FitsRow row rows fits) (All-tail Short label labels few),
     )
 
--- the text of a network with labels of at most one bit has at most 2^27 letters
+-- the text of a network with labels of at most 8,192 bits each has at most 2^27 letters
 pub text_fits : (rows : List NodeRow) (labels : List (List Bool)) → IsNetwork rows → AreRows rows
-    → All (λ label. length label ≤ 1) labels
+    → All (λ label. length label ≤ 8192) labels
     → length (network_text rows ++ labels_text (named (ids_of rows) labels)) ≤ 2 ^ 27
 text_fits rows labels network fits few =
     let lines = map label_line (named (ids_of rows) labels) in

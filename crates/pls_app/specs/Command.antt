@@ -3,11 +3,15 @@ use Rattle.std.specs.Prelude.{ℕ, List, [], ◌∷◌, codes, bytes_eq, Option,
 use Rattle.pls_app.specs.declared.command.Command.{Command}
 use Rattle.pls_app.specs.declared.command.Command.TheVariants.{Mark, Verify}
 use Rattle.pls_app.specs.declared.command.SchemeName.{SchemeName}
-use Rattle.pls_app.specs.declared.command.SchemeName.TheVariants.{Bipartite}
+use Rattle.pls_app.specs.declared.command.SchemeName.TheVariants.{Acyclic, Bipartite, Forest, Tree}
 
 -- the scheme of a name
 abbrev pub scheme_of : List ℕ → Option SchemeName
-scheme_of word = if bytes_eq word (codes "bipartite") then Some Bipartite else None
+scheme_of word =
+    if bytes_eq word (codes "tree") then Some Tree
+    else (if bytes_eq word (codes "forest") then Some Forest
+    else (if bytes_eq word (codes "bipartite") then Some Bipartite
+    else (if bytes_eq word (codes "acyclic") then Some Acyclic else None)))
 
 -- the command of two words
 abbrev pub command_of_two : List ℕ → List ℕ → Option Command
@@ -22,6 +26,13 @@ command_of (word ∷ []) = None
 command_of (word ∷ scheme ∷ []) = command_of_two word scheme
 command_of (word ∷ scheme ∷ next ∷ others) = None
 
+-- the name of a scheme
+abbrev pub name_of : SchemeName → List ℕ
+name_of Tree = codes "tree"
+name_of Forest = codes "forest"
+name_of Bipartite = codes "bipartite"
+name_of Acyclic = codes "acyclic"
+
 -- the words of a scheme's `verify`
 abbrev pub verify_words : SchemeName → List (List ℕ)
-verify_words Bipartite = codes "verify" ∷ codes "bipartite" ∷ []
+verify_words scheme = codes "verify" ∷ name_of scheme ∷ []

@@ -6,8 +6,14 @@ ghost use Rattle.pls_app.specs.Command.{command_of, command_of_two, scheme_of};
 /// A scheme by its name.
 #[derive(Clone, Copy, Debug, PartialEq, Eq)]
 pub enum SchemeName {
+    /// `tree`: one node has no pointer, and the pointers of the others make a spanning tree.
+    Tree,
+    /// `forest`: no chain of pointers returns to its start.
+    Forest,
     /// `bipartite`: a colour at each node, which differs across each edge.
     Bipartite,
+    /// `acyclic`: no three or more nodes make a cycle.
+    Acyclic,
 }
 
 /// What a run is asked to do.
@@ -46,7 +52,17 @@ fn read_two(command: &str, scheme: &str) -> Option<Command>
 fn read_scheme(word: &str) -> Option<SchemeName>
     ensures { result ≡ scheme_of word.now }
 {
-    is_word(word, "bipartite").then_some(SchemeName::Bipartite)
+    if is_word(word, "tree") {
+        Some(SchemeName::Tree)
+    } else if is_word(word, "forest") {
+        Some(SchemeName::Forest)
+    } else if is_word(word, "bipartite") {
+        Some(SchemeName::Bipartite)
+    } else if is_word(word, "acyclic") {
+        Some(SchemeName::Acyclic)
+    } else {
+        None
+    }
 }
 
 // Whether two words are the same.

@@ -10,9 +10,11 @@ ghost use Rattle.pls_app.specs.Run.{IsAnswered, Shows, ShowsIn};
 use crate::answer::Answer;
 use crate::command::SchemeName;
 use pls_base::{NoMemory, Status};
-use pls_colour::Bipartite;
+use pls_bits::Gamma;
+use pls_colour::{Acyclic, Bipartite};
 use pls_graph::Network;
 use pls_labelfile::write_labels;
+use pls_pointer::{Forest, Tree};
 use pls_scheme::Scheme;
 use pls_view::LabelStore;
 use std::alloc::Global;
@@ -48,6 +50,9 @@ fn labels_of(
     ensures shows { IfOk result (λ found. IfSome found (λ labels. Shows scheme net.now labels)) }
 {
     match scheme {
+        SchemeName::Tree => Tree::<Gamma>::new().mark(alloc, net),
+        SchemeName::Forest => Forest::<Gamma>::new().mark(alloc, net),
         SchemeName::Bipartite => Bipartite::new().mark(alloc, net),
+        SchemeName::Acyclic => Acyclic::<Gamma>::new().mark(alloc, net),
     }
 }

@@ -11,9 +11,11 @@ use crate::answer::Answer;
 use crate::command::SchemeName;
 use crate::report::{rejecting, report_text};
 use pls_base::{NoMemory, Status, Steps};
-use pls_colour::Bipartite;
+use pls_bits::Gamma;
+use pls_colour::{Acyclic, Bipartite};
 use pls_graph::Network;
 use pls_model::Verdict;
+use pls_pointer::{Forest, Tree};
 use pls_scheme::Checker;
 use pls_view::LabelStore;
 use std::alloc::Global;
@@ -49,7 +51,10 @@ fn round(
 {
     let mut steps = Steps::new();
     match scheme {
+        SchemeName::Tree => Tree::<Gamma>::new().round(alloc, net, labels, &mut steps),
+        SchemeName::Forest => Forest::<Gamma>::new().round(alloc, net, labels, &mut steps),
         SchemeName::Bipartite => Bipartite::new().round(alloc, net, labels, &mut steps),
+        SchemeName::Acyclic => Acyclic::<Gamma>::new().round(alloc, net, labels, &mut steps),
     }
 }
 

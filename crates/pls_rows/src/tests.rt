@@ -1,5 +1,8 @@
 //! The worked examples, as tables of words, inputs, texts and statuses.
 
+mod small;
+mod trees;
+
 use crate::run_in_memory;
 use pls_app::run;
 use pls_base::{MemSink, MemSource, Status};
@@ -194,7 +197,7 @@ fn networks_are_refused(rt: HostRuntime) -> Result<(), Fail> {
         assert_run(
             &rt,
             rt.alloc(),
-            &["mark", "bipartite"],
+            &["mark", "tree"],
             ["network\n", body],
             text,
             Status::Refused,
@@ -212,7 +215,7 @@ fn one_node_too_many_is_a_limit(rt: HostRuntime) -> Result<(), Fail> {
         bytes.extend_from_slice(line.as_bytes())?;
     }
     bytes.extend_from_slice(b"end\n")?;
-    let (end, sink) = run_in_memory(alloc, &["mark", "bipartite"], bytes)?;
+    let (end, sink) = run_in_memory(alloc, &["mark", "tree"], bytes)?;
     assert_eq!(rt; sink.bytes(), b"limit nodes\n".as_slice());
     assert_eq!(rt; end, Status::Limit);
     Ok(())

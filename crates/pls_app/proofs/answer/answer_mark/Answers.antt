@@ -1,11 +1,20 @@
-use Rattle.std.proofs.Common.{◌≡◌}
+use Rattle.std.proofs.Common.{◌≡◌, inr}
 use Rattle.std.proofs.lemmas.Result.{IfOk-weaker}
 use Rattle.pls_model.specs.declared.status.Status.TheVariants.{Done}
 use Rattle.pls_app.specs.declared.command.Command.TheVariants.{Mark}
+use Rattle.pls_app.specs.Answer.{Answers, Marks}
 use Rattle.pls_app.specs.Run.{Certifies, ShowsIn}
 use Rattle.pls_app.proofs.Outcomes.{answered_by_refusal}
 use Rattle.pls_app.proofs.Certified.{certified}
 use Rattle.pls_app.proofs.answer.answer_mark.Goals as goal
+
+pub returns-in-Ok-clause-answer : goal.returns-in-Ok-clause-answer
+returns-in-Ok-clause-answer c =
+    let scheme = c.args.scheme in
+    let bytes = c.args.bytes.now in
+    let net = c.in-Ok.net in
+    IfOk-weaker c.mark.result (λ answer. Marks scheme net answer) (λ answer. Answers (Mark scheme) bytes answer)
+    (λ answer marks. inr (net, c.in-Ok.ensures.network, marks)) c.mark.ensures.marks
 
 pub returns-in-Ok-clause-certified : goal.returns-in-Ok-clause-certified
 returns-in-Ok-clause-certified c =

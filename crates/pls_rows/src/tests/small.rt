@@ -1,0 +1,234 @@
+//! All connected networks of up to four nodes, with all pointers: each scheme finds its property just
+//! where a plain program does that tries all there is to try.
+
+use pls_bits::Gamma;
+use pls_colour::{Acyclic, Bipartite};
+use pls_graph::{Network, connected};
+use pls_netfile::read_network;
+use pls_pointer::{Forest, Tree};
+use pls_scheme::Property;
+use std::alloc::{AllocError, Global};
+use std::test::Fail;
+
+// A network of up to four nodes, 0 to 3: its edges, one bit a pair of nodes, and for each node its
+// pointer, 0 for none, else the number of the port and one.
+#[derive(Clone, Copy)]
+struct Small {
+    nodes: u32,
+    edges: u32,
+    pointers: u32,
+}
+
+// Whether a number has this bit.
+fn has(bits: u32, place: u32) -> bool {
+    bits.wrapping_shr(place) & 1 == 1
+}
+
+// A number with this bit too.
+fn with(bits: u32, place: u32) -> u32 {
+    bits | 1_u32.wrapping_shl(place)
+}
+
+// The number of a pair of nodes.
+fn pair(a: u32, b: u32) -> u32 {
+    match (a.min(b), a.max(b)) {
+        (0, 1) => 0,
+        (0, 2) => 1,
+        (1, 2) => 2,
+        (0, 3) => 3,
+        (1, 3) => 4,
+        _ => 5,
+    }
+}
+
+impl Small {
+    // Whether two nodes are adjacent, along these edges.
+    fn joins(edges: u32, a: u32, b: u32) -> bool {
+        a != b && has(edges, pair(a, b))
+    }
+
+    // The pointer of a node: 0 for none, else the number of the port and one.
+    fn pointer(self, node: u32) -> u32 {
+        self.pointers.wrapping_shr(node.saturating_mul(2)) & 3
+    }
+
+    // The neighbour at the pointed port of a node: the ports are in the order of the neighbours.
+    fn target(self, node: u32) -> Option<u32> {
+        let mut left = self.pointer(node);
+        for nbr in 0..4 {
+            if nbr < self.nodes && Small::joins(self.edges, node, nbr) && left > 0 {
+                left -= 1;
+                if left == 0 {
+                    return Some(nbr);
+                }
+            }
+        }
+        None
+    }
+
+    // Whether each pointer is 0 or a port's, and there is none of a node that is not there.
+    fn is_proper(self) -> bool {
+        (0..4).all(|node| self.pointer(node) == 0
+            || node < self.nodes && self.target(node).is_some())
+    }
+}
+
+// Whether these edges join the nodes up to a number of them.
+fn are_joined(edges: u32, nodes: u32) -> bool {
+    let mut reached = 1_u32;
+    for _ in 0..4 {
+        for a in 0..4 {
+            for b in 0..4 {
+                if Small::joins(edges, a, b) && has(reached, a) {
+                    reached = with(reached, b);
+                }
+            }
+        }
+    }
+    (0..4).all(|node| node >= nodes || has(reached, node))
+}
+
+// Exactly one node has no pointer, and the pointed edges are one fewer than the nodes and join them.
+fn is_tree(net: Small) -> bool {
+    let mut roots = 0_u32;
+    let mut pointed = 0_u32;
+    for node in 0..4 {
+        match net.target(node) {
+            Some(target) => pointed = with(pointed, pair(node, target)),
+            None => roots = roots.saturating_add(u32::from(node < net.nodes)),
+        }
+    }
+    roots == 1
+        && pointed.count_ones().saturating_add(1) == net.nodes
+        && are_joined(pointed, net.nodes)
+}
+
+// No chain of one to four pointers returns to its start.
+fn is_forest(net: Small) -> bool {
+    (0..4).all(|start| !returns(net, start))
+}
+
+// Whether a chain of pointers from a node returns to it.
+fn returns(net: Small, start: u32) -> bool {
+    let mut node = start;
+    for _ in 0..4 {
+        match net.target(node) {
+            Some(target) => node = target,
+            None => return false,
+        }
+        if node == start {
+            return true;
+        }
+    }
+    false
+}
+
+// Some choice of two colours differs across each edge.
+fn is_bipartite(net: Small) -> bool {
+    (0..16_u32).any(|colours| differs(net.edges, colours))
+}
+
+// Whether the colours, one bit a node, differ across each edge.
+fn differs(edges: u32, colours: u32) -> bool {
+    (0..4).all(|a| (0..4).all(|b| !Small::joins(edges, a, b) || has(colours, a) != has(colours, b)))
+}
+
+// No three or four distinct nodes are adjacent each to the next, and the last to the first.
+fn is_acyclic(net: Small) -> bool {
+    for a in 0..4 {
+        for b in 0..4 {
+            for c in 0..4 {
+                let path = Small::joins(net.edges, a, b) && Small::joins(net.edges, b, c) && a != c;
+                if path && (Small::joins(net.edges, c, a) || closes(net.edges, a, b, c)) {
+                    return false;
+                }
+            }
+        }
+    }
+    true
+}
+
+// Whether a fourth node closes a path of three.
+fn closes(edges: u32, a: u32, b: u32, c: u32) -> bool {
+    (0..4).any(|d| d != b && Small::joins(edges, c, d) && Small::joins(edges, d, a))
+}
+
+// The text of a network.
+fn text_of(alloc: Global, net: Small) -> Result<Vec<u8>, AllocError> {
+    let mut text = b"network\n".to_vec(alloc)?;
+    for node in 0..net.nodes.min(4) {
+        let line = match net.pointer(node) {
+            0 => format!(in alloc; "node {node} - 0 0\n")?,
+            up => format!(in alloc; "node {node} {} 0 0\n", up - 1)?,
+        };
+        text.extend_from_slice(line.as_bytes())?;
+        for nbr in 0..net.nodes.min(4) {
+            if Small::joins(net.edges, node, nbr) {
+                let line = format!(in alloc; "port {nbr} 1\n")?;
+                text.extend_from_slice(line.as_bytes())?;
+            }
+        }
+    }
+    text.extend_from_slice(b"end\n")?;
+    Ok(text)
+}
+
+// What the schemes decide of a network: tree, forest, bipartite, acyclic.
+fn decided(alloc: Global, net: &Network) -> Result<[bool; 4], Fail> {
+    if let Some(_) = connected(alloc, net)? {
+        return Err(Fail::from("in parts"));
+    }
+    Ok([
+        Tree::<Gamma>::new().decide(alloc, net)?,
+        Forest::<Gamma>::new().decide(alloc, net)?,
+        Bipartite::new().decide(alloc, net)?,
+        Acyclic::<Gamma>::new().decide(alloc, net)?,
+    ])
+}
+
+// The networks of so many nodes with these edges and all pointers: how many there are, and of how
+// many the schemes decide other than the plain programs.
+fn compare(alloc: Global, nodes: u32, edges: u32) -> Result<(u32, u32), Fail> {
+    let mut tried = 0_u32;
+    let mut wrong = 0_u32;
+    for pointers in 0..256 {
+        let net = Small {
+            nodes,
+            edges,
+            pointers,
+        };
+        if net.is_proper() {
+            let text = text_of(alloc, net)?;
+            let read = match read_network(alloc, &text) {
+                Ok(read) => read,
+                Err(_) => return Err(Fail::from("refused")),
+            };
+            let plain = [
+                is_tree(net),
+                is_forest(net),
+                is_bipartite(net),
+                is_acyclic(net),
+            ];
+            tried = tried.saturating_add(1);
+            wrong = wrong.saturating_add(u32::from(decided(alloc, &read)? != plain));
+        }
+    }
+    Ok((tried, wrong))
+}
+
+#[test]
+fn properties_of_all_small_networks(rt: HostRuntime) -> Result<(), Fail> {
+    let mut tried = 0_u32;
+    // So many nodes have so many sets of edges.
+    for (nodes, sets) in [(1, 1), (2, 2), (3, 8), (4, 64)] {
+        for edges in 0..sets {
+            if are_joined(edges, nodes) {
+                let (more, wrong) = compare(rt.alloc(), nodes, edges)?;
+                assert_eq!(rt; wrong, 0, "{nodes} nodes, edges {edges}");
+                tried = tried.saturating_add(more);
+            }
+        }
+    }
+    assert_eq!(rt; tried, 2855, "connected networks with pointers");
+    Ok(())
+}

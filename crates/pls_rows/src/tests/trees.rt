@@ -1,0 +1,152 @@
+//! Worked examples of trees, forests and networks without cycle.
+
+use super::assert_run;
+use pls_base::Status;
+use std::test::Fail;
+
+const ALONE: &str = "network\nnode 5 - 0 0\nend\n";
+
+// Two nodes that point at each other.
+const CIRCLE: &str = "network\nnode 1 0 0 0\nport 2 0\nnode 2 0 0 0\nport 1 0\nend\n";
+
+// Three nodes in a row; the second points at the first, and the third at the second.
+const CHAIN: &str = "network\nnode 1 - 0 0\nport 2 1\nnode 2 0 0 0\nport 1 1\nport 3 2\n\
+                     node 3 0 0 0\nport 2 2\nend\n";
+
+// The same without pointers.
+const ROW: &str = "network\nnode 1 - 0 0\nport 2 1\nnode 2 - 0 0\nport 1 1\nport 3 2\n\
+                   node 3 - 0 0\nport 2 2\nend\n";
+
+// The same; the second points at the first alone.
+const TWO_TREES: &str = "network\nnode 1 - 0 0\nport 2 1\nnode 2 0 0 0\nport 1 1\nport 3 2\n\
+                         node 3 - 0 0\nport 2 2\nend\n";
+
+// Four nodes in a ring; each but the first points at the one before it.
+const RING: &str = "network\nnode 1 - 0 0\nport 2 1\nport 4 5\nnode 2 0 0 0\nport 1 1\nport 3 5\n\
+                    node 3 0 0 0\nport 2 5\nport 4 1\nnode 4 0 0 0\nport 3 1\nport 1 5\nend\n";
+
+const TRIANGLE: &str =
+    "network\nnode 1 - 0 0\nport 2 7\nport 3 7\nnode 2 0 0 0\nport 1 7\nport 3 7\n\
+                        node 3 1 0 0\nport 1 7\nport 2 7\nend\n";
+
+#[test]
+fn trees_forests_and_networks_without_cycle_are_marked(rt: HostRuntime) -> Result<(), Fail> {
+    let no = ("no\n", Status::No);
+    let depths = (
+        "labels\nlabel 1 1 80\nlabel 2 3 40\nlabel 3 3 60\nend\n",
+        Status::Done,
+    );
+    let rooted = (
+        "labels\nlabel 1 4 50\nlabel 2 6 48\nlabel 3 6 4c\nend\n",
+        Status::Done,
+    );
+    let roots = (
+        "labels\nlabel 1 1 80\nlabel 2 1 80\nlabel 3 1 80\nend\n",
+        Status::Done,
+    );
+    let cases = [
+        ("tree", CIRCLE, no),
+        ("forest", CIRCLE, no),
+        ("tree", CHAIN, rooted),
+        ("forest", CHAIN, depths),
+        ("acyclic", CHAIN, depths),
+        ("tree", ROW, no),
+        ("forest", ROW, roots),
+        ("acyclic", ROW, depths),
+        ("tree", TWO_TREES, no),
+        ("acyclic", RING, no),
+        ("acyclic", TRIANGLE, no),
+        ("tree", ALONE, ("labels\nlabel 5 6 34\nend\n", Status::Done)),
+    ];
+    for (scheme, network, (text, status)) in cases {
+        assert_run(
+            &rt,
+            rt.alloc(),
+            &["mark", scheme],
+            [network, ""],
+            text,
+            status,
+        )?;
+    }
+    Ok(())
+}
+
+#[test]
+fn a_depth_is_a_whole_label(rt: HostRuntime) -> Result<(), Fail> {
+    let unread = ("node 5 reject 1 1\nrejecting 1\n", Status::No);
+    let deep = ("node 5 reject 1 3\nrejecting 1\n", Status::No);
+    let cases = [
+        // A code cut off, a bit behind a code, no code.
+        ("2 00", unread),
+        ("2 c0", unread),
+        ("0 -", unread),
+        ("1 80", ("node 5 accept\nrejecting 0\n", Status::Done)),
+        // 2^63 - 1, which has no code, and 2^63 - 2, the greatest number that has one.
+        ("127 00000000000000010000000000000000", unread),
+        ("125 0000000000000003fffffffffffffff8", deep),
+    ];
+    for (bits, (text, status)) in cases {
+        let labels = format!(in rt.alloc(); "labels\nlabel 5 {bits}\nend\n")?;
+        assert_run(
+            &rt,
+            rt.alloc(),
+            &["verify", "forest"],
+            [ALONE, labels.as_str()],
+            text,
+            status,
+        )?;
+    }
+    Ok(())
+}
+
+#[test]
+fn wrong_trees_and_cycles_are_rejected(rt: HostRuntime) -> Result<(), Fail> {
+    let circle = "labels\nlabel 1 4 50\nlabel 2 4 50\nend\n";
+    let two_trees = "labels\nlabel 1 4 50\nlabel 2 6 48\nlabel 3 6 24\nend\n";
+    let other_root = "labels\nlabel 1 4 50\nlabel 2 6 48\nlabel 3 6 6c\nend\n";
+    let level = "labels\nlabel 1 1 80\nlabel 2 3 40\nlabel 3 3 40\nend\n";
+    let ring = "labels\nlabel 1 1 80\nlabel 2 3 40\nlabel 3 3 60\nlabel 4 3 40\nend\n";
+    let cases = [
+        (
+            "tree",
+            CIRCLE,
+            circle,
+            "node 1 reject 1 5\nnode 2 reject 1 5\nrejecting 2\n",
+        ),
+        (
+            "tree",
+            TWO_TREES,
+            two_trees,
+            "node 1 accept\nnode 2 reject 1 3\nnode 3 reject 1 3\nrejecting 2\n",
+        ),
+        (
+            "tree",
+            CHAIN,
+            other_root,
+            "node 1 accept\nnode 2 reject 1 3\nnode 3 reject 1 3\nrejecting 2\n",
+        ),
+        (
+            "acyclic",
+            TRIANGLE,
+            level,
+            "node 1 accept\nnode 2 reject 1 3\nnode 3 reject 1 3\nrejecting 2\n",
+        ),
+        (
+            "acyclic",
+            RING,
+            ring,
+            "node 1 accept\nnode 2 accept\nnode 3 reject 1 4\nnode 4 accept\nrejecting 1\n",
+        ),
+    ];
+    for (scheme, network, labels, text) in cases {
+        assert_run(
+            &rt,
+            rt.alloc(),
+            &["verify", scheme],
+            [network, labels],
+            text,
+            Status::No,
+        )?;
+    }
+    Ok(())
+}
