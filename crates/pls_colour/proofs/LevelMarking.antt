@@ -1,8 +1,8 @@
 -- Levels as labels: what they say, and that a network without cycle accepts them.
-use Rattle.std.proofs.Common.{◌≡◌, ◌∙◌, ℕ, ◌+◌, ◌-◌, ◌^◌, ◌<◌, ◌≤◌, ◌==◌, ◌||◌, ◌⊎◌, inl, inr, Bool, true, false, if◌then◌else◌, List, [], ◌∷◌, ◌++◌, length, All, Contains, Option, Some, unwrap_or, slice_get, get_or, nat_le, count_by, refl, sym, ap, subst, arith}
+use Rattle.std.proofs.Common.{◌≡◌, ◌∙◌, ℕ, ◌+◌, ◌-◌, ◌^◌, ◌≤◌, ◌==◌, ◌||◌, ◌⊎◌, inl, inr, Bool, true, false, if◌then◌else◌, List, ◌++◌, length, All, Contains, Option, Some, unwrap_or, slice_get, get_or, nat_le, count_by, refl, sym, ap, subst, arith}
 use Rattle.std.proofs.lemmas.Bool.{eq-eqb, le-leb}
 use Rattle.std.proofs.lemmas.List.{append-nil, length-map}
-use Rattle.std.proofs.lemmas.Option.{slice_get-get_or, slice_get_within}
+use Rattle.std.proofs.lemmas.Option.{slice_get-get_or}
 use Rattle.pls_bits.specs.declared.num_code.TheConstants.{MAX_CODED}
 use Rattle.pls_model.specs.declared.row.Port.{Port}
 use Rattle.pls_model.specs.declared.row.NodeRow.{NodeRow}
@@ -24,9 +24,8 @@ use Rattle.pls_colour.specs.CyclePorts.{SaysDepth, is_above, is_beside, label_of
 use Rattle.pls_colour.specs.Levelled.{AreLevelled}
 use Rattle.pls_colour.specs.ReadLaws.{all_ports_pass, count_by-map}
 use Rattle.pls_colour.proofs.Levels.{adjacent_known, level_below, levels_searched}
-use Rattle.pls_colour.proofs.Marking.{same_list}
 use Rattle.pls_colour.proofs.Parity.{one_level}
-use Rattle.pls_colour.proofs.Levelled.{first_row, says_level}
+use Rattle.pls_colour.proofs.Levelled.{one_levelled, first_row, says_level}
 
 -- the rules on what labels say, from the depths at the ports of a row
 module _ (say : ℕ → CycleLabel) (row : NodeRow) where
@@ -132,18 +131,6 @@ module _ (code : ℕ → List Bool) (rows : List NodeRow) (labels : List (List B
 -- a network is marked in one way
 pub one_level_marking : (code : ℕ → List Bool) (rows : List NodeRow) (labels others : List (List Bool)) → 1 ≤ length rows
     → IsLevelMarked code rows labels → IsLevelMarked code rows others → labels ≡ others
-one_level_marking code [] labels others some one two = absurd (omega (arith, some))
-one_level_marking code (first ∷ rows) labels others some one two = same_list labels others (one.each ∙ sym two.each) agree
-  where
-    all : List NodeRow
-    all = first ∷ rows
-
-    agree : (i : ℕ) (label other : List Bool) → slice_get labels i ≡ Some label → slice_get others i ≡ Some other → label ≡ other
-    agree i label other at_label at_other =
-        let within : i < length all = omega (arith, slice_get_within labels i label at_label, one.each) in
-        let row : NodeRow = get_or all i first in
-        let at : slice_get all i ≡ Some row = slice_get-get_or all i first within in
-        let mine = one.level first row i label refl at at_label in
-        let theirs = two.level first row i other refl at at_other in
-        let same : mine.0 ≡ theirs.0 = one_level (edges_of all) first.id row.id mine.0 theirs.0 mine.1 theirs.1 in
-        mine.2 ∙ ap code same ∙ sym theirs.2
+one_level_marking code rows labels others some one two =
+    one_levelled (λ level bits. bits ≡ code level) (λ level one other says too. says ∙ sym too) rows labels others some
+    (record { each = one.each; level = one.level }) (record { each = two.each; level = two.level })

@@ -1,5 +1,5 @@
 -- Labels that say levels, as a function of the identity, and what is found where they are accepted.
-use Rattle.std.proofs.Common.{◌≡◌, ◌∙◌, ℕ, ◌≤◌, Bool, List, [], ◌∷◌, length, Contains, Option, Some, None, unwrap_or, is_some, slice_get, get_or, IfNone, IfSome, IsTrue, ◌↔◌, refl, sym, ap, arith}
+use Rattle.std.proofs.Common.{◌≡◌, ◌∙◌, ℕ, ◌≤◌, Bool, List, [], ◌∷◌, length, Contains, Option, Some, None, unwrap_or, is_some, slice_get, get_or, IfNone, IfSome, IsTrue, ◌↔◌, refl, sym, ap, subst, arith}
 use Rattle.std.proofs.lemmas.Bool.{false≢true}
 use Rattle.std.proofs.lemmas.Option.{slice_get-get_or, slice_get_within}
 use Rattle.pls_model.specs.declared.row.NodeRow.{NodeRow}
@@ -14,7 +14,9 @@ use Rattle.pls_scheme.specs.Judging.{AllAccept}
 use Rattle.pls_model.specs.declared.verdict.Verdict.{Verdict}
 use Rattle.pls_scheme.specs.Spelled.{AreSpelled}
 use Rattle.pls_colour.specs.Levelled.{AreLevelled}
+use Rattle.pls_scheme.proofs.Same.{same_at_places}
 use Rattle.pls_colour.proofs.Levels.{known_level}
+use Rattle.pls_colour.proofs.Parity.{one_level}
 
 -- there is a first row
 pub first_row : (rows : List NodeRow) → 1 ≤ length rows → (first : NodeRow) × (slice_get rows 0 ≡ Some first)
@@ -40,6 +42,24 @@ spelled_levels says rows found labels connected levels spelled = record {
       known_level rows found connected levels first row place at_first at in
       (level, is, spelled.spelled place (Some level) bits known has);
 }
+
+-- where what says a level says it in one way, labels that say the levels are one
+pub one_levelled : (says : ℕ → List Bool → Type 0) → ((level : ℕ) (one other : List Bool) → says level one → says level other → one ≡ other)
+    → (rows : List NodeRow) (labels others : List (List Bool)) → 1 ≤ length rows → AreLevelled says rows labels → AreLevelled says rows others
+    → labels ≡ others
+one_levelled says alone rows labels others some one two = same_at_places labels others (one.each ∙ sym two.each) agree
+  where
+    first : (first : NodeRow) × (slice_get rows 0 ≡ Some first)
+    first = first_row rows some
+
+    agree : (place : ℕ) (label other : List Bool) → slice_get labels place ≡ Some label → slice_get others place ≡ Some other → label ≡ other
+    agree place label other at_label at_other =
+        let row : NodeRow = get_or rows place first.0 in
+        let at : slice_get rows place ≡ Some row = slice_get-get_or rows place first.0 (omega (arith, slice_get_within labels place label at_label, one.each)) in
+        let mine : (level : ℕ) × IsLevel (edges_of rows) first.0.id row.id level × says level label = one.level first.0 row place label first.1 at at_label in
+        let theirs : (level : ℕ) × IsLevel (edges_of rows) first.0.id row.id level × says level other = two.level first.0 row place other first.1 at at_other in
+        let same : theirs.0 ≡ mine.0 = one_level (edges_of rows) first.0.id row.id theirs.0 mine.0 theirs.1 mine.1 in
+        alone mine.0 label other mine.2 (subst (λ (level : ℕ). says level other) same theirs.2)
 
 -- what the labels say, by a way to read what says a level
 module _ {L : Type 0} (read : List Bool → Option L) (says : ℕ → List Bool → Type 0) (of_level : ℕ → L)

@@ -1,6 +1,6 @@
 -- The parities of levels as labels: a network with a two-colouring accepts them.
-use Rattle.std.proofs.Common.{◌≡◌, ◌≢◌, ◌∙◌, ℕ, suc, ◌<◌, ◌≤◌, Bool, true, false, List, [], ◌∷◌, length, All, Contains, Some, unwrap_or, refl, sym, ap, subst, arith, get_or, slice_get}
-use Rattle.std.proofs.lemmas.Option.{slice_get-get_or, slice_get_within}
+use Rattle.std.proofs.Common.{◌≡◌, ◌≢◌, ◌∙◌, ℕ, ◌≤◌, Bool, true, false, List, length, All, Contains, Some, unwrap_or, refl, sym, ap, subst, arith, get_or, slice_get}
+use Rattle.std.proofs.lemmas.Option.{slice_get-get_or}
 use Rattle.pls_model.specs.declared.row.Port.{Port}
 use Rattle.pls_model.specs.declared.row.NodeRow.{NodeRow}
 use Rattle.pls_model.specs.Configuration.{IsNetwork, row_of}
@@ -18,8 +18,8 @@ use Rattle.pls_colour.specs.Bipartite.{IsBipartite, bipartite_rules, colour_labe
 use Rattle.pls_colour.specs.Levelled.{AreLevelled}
 use Rattle.pls_colour.specs.Marked.{IsParityMarked, SaysParity, is_odd}
 use Rattle.pls_colour.specs.ReadLaws.{all_ports_pass}
-use Rattle.pls_colour.proofs.Levelled.{first_row, says_level}
-use Rattle.pls_colour.proofs.Parity.{adjacent_differ, one_colour_at_levels, one_level}
+use Rattle.pls_colour.proofs.Levelled.{one_levelled, first_row, says_level}
+use Rattle.pls_colour.proofs.Parity.{adjacent_differ, one_colour_at_levels}
 
 -- two colours that are not the same differ
 two_differ : (one other : Bool) → one ≢ other → differ one other ≡ true
@@ -94,30 +94,8 @@ module _ (rows : List NodeRow) (labels : List (List Bool)) (levels : AreLevelled
       let found = levels.level first row place (get_or labels place d) at_first at (slice_get-get_or labels place d within) in
       omega (arith, ap (λ (label : List Bool). length label) found.2)
 
--- lists that agree at each place are one
-pub same_list : {X : Type 0} (xs ys : List X) → length xs ≡ length ys → ((i : ℕ) (x y : X) → slice_get xs i ≡ Some x → slice_get ys i ≡ Some y → x ≡ y) → xs ≡ ys
-same_list [] [] long agree = refl
-same_list [] (y ∷ ys) long agree = absurd (omega arith)
-same_list (x ∷ xs) [] long agree = absurd (omega arith)
-same_list (x ∷ xs) (y ∷ ys) long agree =
-    let first : x ≡ y = agree 0 x y refl refl in
-    let rest : xs ≡ ys = same_list xs ys (omega arith) (λ i a b at_a at_b. agree (suc i) a b at_a at_b) in
-    rw (first, rest) refl
-
 -- a network is marked in one way
 pub one_marking : (rows : List NodeRow) (labels others : List (List Bool)) → 1 ≤ length rows → IsParityMarked rows labels → IsParityMarked rows others → labels ≡ others
-one_marking [] labels others some one two = absurd (omega arith)
-one_marking (first ∷ rows) labels others some one two = same_list labels others (one.each ∙ sym two.each) agree
-  where
-    all : List NodeRow
-    all = first ∷ rows
-
-    agree : (i : ℕ) (label other : List Bool) → slice_get labels i ≡ Some label → slice_get others i ≡ Some other → label ≡ other
-    agree i label other at_label at_other =
-        let within : i < length all = omega (arith, slice_get_within labels i label at_label, one.each) in
-        let row : NodeRow = get_or all i first in
-        let at : slice_get all i ≡ Some row = slice_get-get_or all i first within in
-        let mine = one.parity first row i label refl at at_label in
-        let theirs = two.parity first row i other refl at at_other in
-        let same : mine.0 ≡ theirs.0 = one_level (edges_of all) first.id row.id mine.0 theirs.0 mine.1 theirs.1 in
-        mine.2 ∙ ap (λ (level : ℕ). is_odd level ∷ []) same ∙ sym theirs.2
+one_marking rows labels others some one two =
+    one_levelled SaysParity (λ level one other says too. says ∙ sym too) rows labels others some
+    (record { each = one.each; level = one.parity }) (record { each = two.each; level = two.parity })

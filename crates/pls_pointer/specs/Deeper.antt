@@ -8,8 +8,7 @@ use Rattle.pls_model.specs.declared.row.NodeRow.{NodeRow}
 use Rattle.pls_model.specs.Configuration.{IsNetwork}
 use Rattle.pls_graph.proofs.Members.{Contains-from_place}
 use Rattle.pls_facts.specs.Pointer.{next, Falls}
-use Rattle.pls_facts.proofs.Pointed.{pointed_port_of}
-use Rattle.pls_facts.proofs.Pointed.{IsPointer, IsPointer-next}
+use Rattle.pls_facts.proofs.Pointed.{IsPointer, IsPointer-next, pointed_port_of}
 use Rattle.pls_scheme.specs.Reading.{ReadPort, said, said_port, target}
 
 module _ {L : Type 0} (depth : L → ℕ) (say : ℕ → L) where
