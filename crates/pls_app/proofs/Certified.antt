@@ -26,30 +26,46 @@ use Rattle.pls_app.proofs.Proved.{accepted_report}
 use Rattle.pls_app.proofs.TextLengths.{text_fits}
 
 -- labels of at most 8,192 bits each have at most so many times as many bits as there are labels
-few_in_short : (labels : List (List Bool)) → All (λ label. length label ≤ 8192) labels → bits_in labels ≤ 8192 * length labels
+few_in_short : (labels : List (List Bool)) → All (λ label. length label ≤ 8192) labels
+    → bits_in labels ≤ 8192 * length labels
 few_in_short [] short = omega arith
 few_in_short (label ∷ labels) short =
     let Short : List Bool → Type 0 = λ label. length label ≤ 8192 in
     let sum = sum_by-cons (length {A = Bool}) label labels in
-    omega (arith, sum, All-head Short label labels short, few_in_short labels (All-tail Short label labels short))
+    omega (
+      arith,
+      sum,
+      All-head Short label labels short,
+      few_in_short labels
+          (All-tail Short label labels short),
+    )
 
 -- the gamma code of a number below 2^32 has at most 125 bits
 short_code : (number : ℕ) → number < 2 ^ 32 → code_length gamma_code number ≤ 125
-short_code number small = by (nat_le number MAX_CODED) (le-leb number MAX_CODED (omega (arith, small)))
+short_code number small =
+    by (nat_le number MAX_CODED) (le-leb number MAX_CODED (omega (arith, small)))
   where
-    by : (fits : Bool) → fits ≡ true → (if fits then length (gamma_code number) else 2 ^ 64 - 1) ≤ 125
+    by : (fits : Bool) → fits ≡ true
+        → (if fits then length (gamma_code number) else 2 ^ 64 - 1) ≤ 125
     by true is = gamma_short number
     by false is = absurd (cc)
 
 -- where each number is below a bound, so is the greatest
-small_greatest : (bound : ℕ) (numbers : List ℕ) → 1 ≤ bound → All (λ number. number < bound) numbers → greatest numbers < bound
+small_greatest : (bound : ℕ) (numbers : List ℕ) → 1 ≤ bound → All (λ number. number < bound) numbers
+    → greatest numbers < bound
 small_greatest bound [] some small = some
 small_greatest bound (number ∷ numbers) some small =
     let Small : ℕ → Type 0 = λ number. number < bound in
-    omega (arith, All-head Small number numbers small, small_greatest bound numbers some (All-tail Small number numbers small))
+    omega (
+      arith,
+      All-head Small number numbers small,
+      small_greatest bound numbers some
+          (All-tail Small number numbers small),
+    )
 
 -- no scheme's bound is above 8,192 bits
-short_bound : (scheme : SchemeName) (rows : List NodeRow) → IsReadable rows → longest_of scheme (size_of rows) ≤ 8192
+short_bound : (scheme : SchemeName) (rows : List NodeRow) → IsReadable rows
+    → longest_of scheme (size_of rows) ≤ 8192
 short_bound scheme rows readable = by scheme
   where
     nodes : code_length gamma_code (length rows) ≤ 125
@@ -57,7 +73,8 @@ short_bound scheme rows readable = by scheme
 
     ids : code_length gamma_code (greatest (ids_of rows)) ≤ 125
     ids = short_code (greatest (ids_of rows)) (small_greatest (2 ^ 32) (ids_of rows) (omega arith)
-        (All-map (λ id. id < 2 ^ 32) (λ (row : NodeRow). row.id) rows (λ k d within. (readable.ranges.each k d within).id)))
+        (All-map (λ id. id < 2 ^ 32) (λ (row : NodeRow). row.id) rows
+        (λ k d within. (readable.ranges.each k d within).id)))
 
     by : (scheme : SchemeName) → longest_of scheme (size_of rows) ≤ 8192
     by Tree = omega (arith, nodes, ids)
@@ -66,9 +83,12 @@ short_bound scheme rows readable = by scheme
     by Acyclic = omega (arith, nodes)
 
 -- marked labels have at most 8,192 bits each
-short_labels : (scheme : SchemeName) (rows : List NodeRow) (labels : List (List Bool)) → IsReadable rows
-    → All (λ label. length label ≤ longest_of scheme (size_of rows)) labels → All (λ label. length label ≤ 8192) labels
-short_labels scheme rows labels readable short = λ place other within. omega (arith, short place other within, short_bound scheme rows readable)
+short_labels : (scheme : SchemeName) (rows : List NodeRow) (labels : List (List Bool))
+    → IsReadable rows
+    → All (λ label. length label ≤ longest_of scheme (size_of rows)) labels
+    → All (λ label. length label ≤ 8192) labels
+short_labels scheme rows labels readable short =
+    λ place other within. omega (arith, short place other within, short_bound scheme rows readable)
 
 -- the words of a scheme's `verify` are that command
 verify_is : (scheme : SchemeName) → command_of (verify_words scheme) ≡ Some (Verify scheme)
@@ -78,30 +98,41 @@ verify_is Bipartite = refl
 verify_is Acyclic = refl
 
 -- the text of a network and the labels that show its property are an input
-marked_input : (scheme : SchemeName) (bytes : List ℕ) (rows : List NodeRow) (labels : List (List Bool)) → IsNetworkInput bytes rows → Shows scheme rows labels
+marked_input : (scheme : SchemeName) (bytes : List ℕ) (rows : List NodeRow)
+    (labels : List (List Bool)) → IsNetworkInput bytes rows → Shows scheme rows labels
     → IsInput (bytes ++ labels_text (named (ids_of rows) labels)) rows labels
 marked_input scheme bytes rows labels input shows =
     let text : List ℕ = labels_text (named (ids_of rows) labels) in
     let short = short_labels scheme rows labels input.readable shows.short in
-    let same : bytes ++ text ≡ network_text rows ++ text = ap (λ (front : List ℕ). front ++ text) input.is in
+    let same : bytes ++ text ≡ network_text rows ++ text =
+    ap (λ (front : List ℕ). front ++ text) input.is in
     let fits = text_fits rows labels input.readable.network input.readable.ranges short in
     record {
       short = omega (arith, ap (length {A = ℕ}) same, fits);
       readable = input.readable;
-      labelled = record { each = shows.each; few = omega (arith, few_in_short labels short, shows.each, input.readable.network.limits.few_nodes) };
+      labelled =
+          record {
+            each = shows.each;
+            few = omega
+                (arith, few_in_short labels short, shows.each, input.readable.network.limits.few_nodes);
+          };
       is = same;
     }
 
 -- labels that show the property of a network certify its text
-pub certified : (scheme : SchemeName) (bytes : List ℕ) (rows : List NodeRow) (text : List ℕ) → IsNetworkInput bytes rows → ShowsIn scheme rows text → Certifies scheme bytes text
+pub certified : (scheme : SchemeName) (bytes : List ℕ) (rows : List NodeRow) (text : List ℕ)
+    → IsNetworkInput bytes rows → ShowsIn scheme rows text → Certifies scheme bytes text
 certified scheme bytes rows text input shown =
     let labels = shown.labels in
     let mine : List ℕ = labels_text (named (ids_of rows) labels) in
-    let answers : Answers (Verify scheme) (bytes ++ mine) (report (round_by (judge_of scheme) rows labels)) =
-    judged_answer scheme (bytes ++ mine) rows labels _ (marked_input scheme bytes rows labels input shown.shows) refl in
+    let answers : Answers (Verify scheme) (bytes ++ mine)
+    (report (round_by (judge_of scheme) rows labels)) =
+    judged_answer scheme (bytes ++ mine) rows labels _
+    (marked_input scheme bytes rows labels input shown.shows) refl in
     let verified : IsDone (verify_words scheme) (bytes ++ mine) = record {
       answer = report (round_by (judge_of scheme) rows labels);
-      is = command_answer (verify_words scheme) (bytes ++ mine) (Verify scheme) _ (verify_is scheme) answers;
+      is = command_answer (verify_words scheme) (bytes ++ mine) (Verify scheme) _ (verify_is scheme)
+          answers;
       done = accepted_report scheme rows labels shown.shows.accepted;
     } in
     record {
@@ -110,5 +141,7 @@ certified scheme bytes rows text input shown =
       input = input;
       shows = shown.shows;
       is = shown.is;
-      verified = subst (λ (text : List ℕ). IsDone (verify_words scheme) (bytes ++ text)) (sym shown.is) verified;
+      verified =
+          subst (λ (text : List ℕ). IsDone (verify_words scheme) (bytes ++ text)) (sym shown.is)
+          verified;
     }

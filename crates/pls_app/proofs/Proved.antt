@@ -32,13 +32,18 @@ accepts Accept none = refl
 accepts (Reject leaf rule) none = absurd (cc)
 
 -- where no node rejects, all accept
-none_reject : (judge : Seen → Verdict) (seen : List Seen) → rejecting (map (λ view. (view.id, judge view)) seen) ≡ 0 → All (λ view. judge view ≡ Accept) seen
+none_reject : (judge : Seen → Verdict) (seen : List Seen)
+    → rejecting (map (λ view. (view.id, judge view)) seen) ≡ 0
+    → All (λ view. judge view ≡ Accept) seen
 none_reject judge seen none =
     let row : Seen → ℕ × Verdict = λ view. (view.id, judge view) in
     let weight : ℕ × Verdict → ℕ = λ row. cond (rejects row.1) 1 0 in
-    let counted : list_all (λ r. eqb (weight r) 0) (map row seen) ≡ true = sym (sum_by-zero weight (map row seen)) ∙ eq-eqb (sum_by weight (map row seen)) 0 none in
-    let each : list_all (λ view. eqb (weight (row view)) 0) seen ≡ true = sym (list_all-map (λ r. eqb (weight r) 0) row seen) ∙ counted in
-    λ k d within. accepts (judge (get_or seen k d)) (AllPass-from_list_all (λ view. eqb (weight (row view)) 0) seen each k d within)
+    let counted : list_all (λ r. eqb (weight r) 0) (map row seen) ≡ true =
+    sym (sum_by-zero weight (map row seen)) ∙ eq-eqb (sum_by weight (map row seen)) 0 none in
+    let each : list_all (λ view. eqb (weight (row view)) 0) seen ≡ true =
+    sym (list_all-map (λ r. eqb (weight r) 0) row seen) ∙ counted in
+    λ k d within. accepts (judge (get_or seen k d))
+    (AllPass-from_list_all (λ view. eqb (weight (row view)) 0) seen each k d within)
 
 -- a refusal is not `Done`
 pub refused_not_done : (error : TextError) → refusal_status error ≡ Done → ⊥
@@ -56,24 +61,39 @@ report_done count done = by (count == 0) refl done
     by false is done = absurd (cc)
 
 -- labels that every node accepts show the property
-pub scheme_sound : (scheme : SchemeName) (rows : List NodeRow) (labels : List (List Bool)) → IsReadable rows → AllAccept (judge_of scheme) rows labels
+pub scheme_sound : (scheme : SchemeName) (rows : List NodeRow) (labels : List (List Bool))
+    → IsReadable rows → AllAccept (judge_of scheme) rows labels
     → HasProperty scheme rows
-scheme_sound Tree rows labels readable accepted = tree_sound gamma_takes rows labels readable.network readable.connected accepted
-scheme_sound Forest rows labels readable accepted = forest_sound gamma_takes rows labels readable.network accepted
+scheme_sound Tree rows labels readable accepted =
+    tree_sound gamma_takes rows labels readable.network readable.connected accepted
+scheme_sound Forest rows labels readable accepted =
+    forest_sound gamma_takes rows labels readable.network accepted
 scheme_sound Bipartite rows labels readable accepted = bipartite_sound rows labels accepted
-scheme_sound Acyclic rows labels readable accepted = acyclic_sound gamma_takes rows readable.network labels accepted
+scheme_sound Acyclic rows labels readable accepted =
+    acyclic_sound gamma_takes rows readable.network labels accepted
 
 -- `Done` after `verify` says that the network of the input has the property
-pub done_proves : (scheme : SchemeName) (bytes : List ℕ) (answer : Answer) → Answers (Verify scheme) bytes answer → answer.status ≡ Done → Proves scheme bytes
+pub done_proves : (scheme : SchemeName) (bytes : List ℕ) (answer : Answer)
+    → Answers (Verify scheme) bytes answer → answer.status ≡ Done → Proves scheme bytes
 done_proves scheme bytes answer answers done = elim answers [
-  | inl refused ↦ absurd (refused_not_done refused.0 (sym (ap (λ (answer : Answer). answer.status) refused.2) ∙ done))
+  | inl refused ↦
+      absurd (refused_not_done refused.0
+      (sym (ap (λ (answer : Answer). answer.status) refused.2) ∙ done))
   | inr judged ↦
       let rows : List NodeRow = judged.0 in
       let labels : List (List Bool) = judged.1 in
       let count : ℕ = rejecting (round_by (judge_of scheme) rows labels) in
-      let none : count ≡ 0 = report_done count (sym (ap (λ (answer : Answer). answer.status) judged.3) ∙ done) in
-      let accepted : AllAccept (judge_of scheme) rows labels = none_reject (judge_of scheme) (views rows labels) none in
-      record { rows = rows; labels = labels; input = judged.2; holds = scheme_sound scheme rows labels judged.2.readable accepted }
+      let none : count ≡ 0 =
+      report_done count (sym (ap (λ (answer : Answer). answer.status) judged.3) ∙ done) in
+      let accepted : AllAccept (judge_of scheme) rows labels =
+      none_reject (judge_of scheme) (views rows labels) none in
+      record {
+        rows = rows;
+        labels = labels;
+        input = judged.2;
+        holds = scheme_sound scheme rows
+            labels judged.2.readable accepted;
+      }
 ]
 
 -- a refusal is not `No`
@@ -84,27 +104,39 @@ refused_not_no (Sense number place) ends = cc
 refused_not_no NoMemory ends = cc
 
 -- `No` after `mark` says that the network lacks the property
-pub no_lacks : (scheme : SchemeName) (bytes : List ℕ) (answer : Answer) → Answers (Mark scheme) bytes answer → answer.status ≡ No → Lacks scheme bytes
+pub no_lacks : (scheme : SchemeName) (bytes : List ℕ) (answer : Answer)
+    → Answers (Mark scheme) bytes answer → answer.status ≡ No → Lacks scheme bytes
 no_lacks scheme bytes answer answers ends = elim answers [
-  | inl refused ↦ absurd (refused_not_no refused.0 (sym (ap (λ (answer : Answer). answer.status) refused.2) ∙ ends))
+  | inl refused ↦
+      absurd (refused_not_no refused.0
+      (sym (ap (λ (answer : Answer). answer.status) refused.2) ∙ ends))
   | inr marked ↦ elim marked.2 [
-    | inl labels ↦ absurd (let other : Done ≡ No = sym (ap (λ (answer : Answer). answer.status) labels.3) ∙ ends in cc)
+    | inl labels ↦
+        absurd (let other : Done ≡ No = sym (ap (λ (answer : Answer). answer.status) labels.3)
+        ∙ ends in cc)
     | inr lacks ↦ record { rows = marked.0; input = marked.1; lacks = lacks.0 }
   ]
 ]
 
 -- where all accept, no node rejects
-all_accept_none : (judge : Seen → Verdict) (seen : List Seen) → All (λ view. judge view ≡ Accept) seen → rejecting (map (λ view. (view.id, judge view)) seen) ≡ 0
+all_accept_none : (judge : Seen → Verdict) (seen : List Seen)
+    → All (λ view. judge view ≡ Accept) seen → rejecting (map (λ view. (view.id, judge view)) seen)
+    ≡ 0
 all_accept_none judge seen accepted =
     let row : Seen → ℕ × Verdict = λ view. (view.id, judge view) in
     let weight : ℕ × Verdict → ℕ = λ row. cond (rejects row.1) 1 0 in
     let each : list_all (λ view. eqb (weight (row view)) 0) seen ≡ true =
-    list_all-from_AllPass (λ view. eqb (weight (row view)) 0) seen (λ k d within. ap (λ (verdict : Verdict). eqb (cond (rejects verdict) 1 0) 0) (accepted k d within)) in
-    eqb-true (sum_by weight (map row seen)) 0 (sum_by-zero weight (map row seen) ∙ list_all-map (λ r. eqb (weight r) 0) row seen ∙ each)
+    list_all-from_AllPass (λ view. eqb (weight (row view)) 0) seen
+    (λ k d within. ap (λ (verdict : Verdict). eqb (cond (rejects verdict) 1 0) 0)
+    (accepted k d within)) in
+    eqb-true (sum_by weight (map row seen)) 0
+    (sum_by-zero weight (map row seen) ∙ list_all-map (λ r. eqb (weight r) 0) row seen ∙ each)
 
 -- labels that all accept make a round `Done`
-pub accepted_report : (scheme : SchemeName) (rows : List NodeRow) (labels : List (List Bool)) → AllAccept (judge_of scheme) rows labels
+pub accepted_report : (scheme : SchemeName) (rows : List NodeRow) (labels : List (List Bool))
+    → AllAccept (judge_of scheme) rows labels
     → (report (round_by (judge_of scheme) rows labels)).status ≡ Done
 accepted_report scheme rows labels accepted =
-    let none : rejecting (round_by (judge_of scheme) rows labels) ≡ 0 = all_accept_none (judge_of scheme) (views rows labels) accepted in
+    let none : rejecting (round_by (judge_of scheme) rows labels) ≡ 0 =
+    all_accept_none (judge_of scheme) (views rows labels) accepted in
     rw none refl

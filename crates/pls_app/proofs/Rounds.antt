@@ -8,23 +8,33 @@ use Rattle.pls_model.specs.declared.verdict.Verdict.{Verdict}
 use Rattle.pls_view.specs.Seen.{Seen, seen}
 
 -- the pair at a place
-slice_get-zip : {X Y : Type 0} (xs : List X) (ys : List Y) (i : ℕ) (x : X) (y : Y) → slice_get xs i ≡ Some x → slice_get ys i ≡ Some y → slice_get (zip xs ys) i ≡ Some (x, y)
+slice_get-zip : {X Y : Type 0} (xs : List X) (ys : List Y) (i : ℕ) (x : X) (y : Y)
+    → slice_get xs i ≡ Some x → slice_get ys i ≡ Some y → slice_get (zip xs ys) i ≡ Some (x, y)
 slice_get-zip [] ys i x y left right = absurd (cc)
 slice_get-zip (a ∷ xs) [] i x y left right = absurd (cc)
-slice_get-zip (a ∷ xs) (b ∷ ys) zero x y left right = let first : a ≡ x = cc in let second : b ≡ y = cc in rw (first, second) refl
+slice_get-zip (a ∷ xs) (b ∷ ys) zero x y left right =
+    let first : a ≡ x = cc in let second : b ≡ y = cc in rw (first, second) refl
 slice_get-zip (a ∷ xs) (b ∷ ys) (suc i) x y left right = slice_get-zip xs ys i x y left right
 
 -- one more pair
-pub zip_more : {X Y : Type 0} (xs : List X) (ys : List Y) (i : ℕ) (x : X) (y : Y) (done : List (X × Y)) → slice_get xs i ≡ Some x → slice_get ys i ≡ Some y
+pub zip_more : {X Y : Type 0} (xs : List X) (ys : List Y) (i : ℕ) (x : X) (y : Y)
+    (done : List (X × Y)) → slice_get xs i ≡ Some x → slice_get ys i ≡ Some y
     → done ≡ take i (zip xs ys) → done ++ (x, y) ∷ [] ≡ take (i + 1) (zip xs ys)
 zip_more {X} {Y} xs ys i x y done left right so_far =
     let pair : X × Y = (x, y) in
     let at : slice_get (zip xs ys) i ≡ Some pair = slice_get-zip xs ys i x y left right in
     let within : i < length (zip xs ys) = slice_get_within (zip xs ys) i pair at in
-    rw (so_far, take_more (zip xs ys) i pair within, get_or_from_slice_get (zip xs ys) i pair pair at) refl
+    rw (
+      so_far,
+      take_more (zip xs ys) i pair within,
+      get_or_from_slice_get (zip xs ys) i pair pair
+          at,
+    ) refl
 
 -- the verdicts of a round beside the identities
 pub zip-round : (judge : Seen → Verdict) (label : ℕ → List Bool) (rows : List NodeRow)
-    → zip (map (λ row. row.id) rows) (map judge (map (seen label) rows)) ≡ map (λ view. (view.id, judge view)) (map (seen label) rows)
+    → zip (map (λ row. row.id) rows) (map judge (map (seen label) rows))
+    ≡ map (λ view. (view.id, judge view)) (map (seen label) rows)
 zip-round judge label [] = refl
-zip-round judge label (row ∷ rows) = ap (λ rest. (row.id, judge (seen label row)) ∷ rest) (zip-round judge label rows)
+zip-round judge label (row ∷ rows) =
+    ap (λ rest. (row.id, judge (seen label row)) ∷ rest) (zip-round judge label rows)

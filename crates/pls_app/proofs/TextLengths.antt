@@ -18,11 +18,13 @@ use Rattle.pls_labelfile.specs.LabelsText.{NamedLabel, hex_word, label_line, lab
 
 -- a number below 2^32 has at most ten digits
 short_decimal : (number : ℕ) → number < 2 ^ 32 → length (decimal number) ≤ 10
-short_decimal number small = length-decimal-le 10 number (omega arith) (omega (arith, small)) (omega (arith, small))
+short_decimal number small =
+    length-decimal-le 10 number (omega arith) (omega (arith, small)) (omega (arith, small))
 
 -- a number up to 2^62 has at most twenty digits
 long_decimal : (number : ℕ) → number ≤ 2 ^ 62 → length (decimal number) ≤ 20
-long_decimal number small = length-decimal-le 20 number (omega arith) (omega (arith, small)) (omega (arith, small))
+long_decimal number small =
+    length-decimal-le 20 number (omega arith) (omega (arith, small)) (omega (arith, small))
 
 -- the word for a pointer has at most ten letters
 short_up : (up : Option ℕ) → IfSome up (λ port. port < 2 ^ 32) → length (up_word up) ≤ 10
@@ -30,31 +32,48 @@ short_up None fits = omega arith
 short_up (Some port) fits = short_decimal port fits
 
 -- a line of two words is as long as they and a space
-length-two : (first second : List ℕ) → length (line_of (first ∷ second ∷ [])) ≡ length first + length second + 1
+length-two : (first second : List ℕ)
+    → length (line_of (first ∷ second ∷ [])) ≡ length first + length second + 1
 length-two first second = omega (arith, length-append first (32 ∷ second))
 
 -- a line of three words
-length-three : (first second third : List ℕ) → length (line_of (first ∷ second ∷ third ∷ [])) ≡ length first + length second + length third + 2
-length-three first second third = omega (arith, length-append first (32 ∷ line_of (second ∷ third ∷ [])), length-two second third)
+length-three : (first second third : List ℕ)
+    → length (line_of (first ∷ second ∷ third ∷ []))
+    ≡ length first + length second + length third + 2
+length-three first second third =
+    omega (arith, length-append first (32 ∷ line_of (second ∷ third ∷ [])), length-two second third)
 
 -- a line of four words
 length-four : (first second third fourth : List ℕ)
-    → length (line_of (first ∷ second ∷ third ∷ fourth ∷ [])) ≡ length first + length second + length third + length fourth + 3
+    → length (line_of (first ∷ second ∷ third ∷ fourth ∷ []))
+    ≡ length first + length second + length third + length fourth + 3
 length-four first second third fourth =
-    omega (arith, length-append first (32 ∷ line_of (second ∷ third ∷ fourth ∷ [])), length-three second third fourth)
+    omega (
+      arith,
+      length-append first (32 ∷ line_of (second ∷ third ∷ fourth ∷ [])),
+      length-three
+          second third fourth,
+    )
 
 -- a line of five words
 length-five : (first second third fourth fifth : List ℕ)
-    → length (line_of (first ∷ second ∷ third ∷ fourth ∷ fifth ∷ [])) ≡ length first + length second + length third + length fourth + length fifth + 4
+    → length (line_of (first ∷ second ∷ third ∷ fourth ∷ fifth ∷ []))
+    ≡ length first + length second + length third + length fourth + length fifth + 4
 length-five first second third fourth fifth =
-    omega (arith, length-append first (32 ∷ line_of (second ∷ third ∷ fourth ∷ fifth ∷ [])), length-four second third fourth fifth)
+    omega (
+      arith,
+      length-append first (32 ∷ line_of (second ∷ third ∷ fourth ∷ fifth ∷ [])),
+      length-four second third fourth fifth,
+    )
 
 -- the line of a node has fewer than 64 letters
-short_node : (id : ℕ) (state : State) → id < 2 ^ 32 → FitsState state → length (node_line id state) < 64
+short_node : (id : ℕ) (state : State) → id < 2 ^ 32 → FitsState state
+    → length (node_line id state) < 64
 short_node id state small fits =
     omega (
       arith,
-      length-five (codes "node") (decimal id) (up_word state.up) (decimal state.mark) (decimal state.num),
+      length-five (codes "node") (decimal id) (up_word state.up) (decimal state.mark)
+          (decimal state.num),
       short_decimal id small,
       short_up state.up fits.up,
       short_decimal state.mark fits.mark,
@@ -77,31 +96,44 @@ short_hex [] few = omega arith
 short_hex (bit ∷ bits) few = omega (arith, length-hex_digits (bit ∷ bits), few)
 
 -- the line of a label of at most 8,192 bits has fewer than 2,112 letters
-short_label : (label : NamedLabel) → label.id < 2 ^ 32 → length label.bits ≤ 8192 → length (label_line label) < 2112
+short_label : (label : NamedLabel) → label.id < 2 ^ 32 → length label.bits ≤ 8192
+    → length (label_line label) < 2112
 short_label label small few =
     omega (
       arith,
-      length-four (codes "label") (decimal label.id) (decimal (length label.bits)) (hex_word label.bits),
+      length-four (codes "label") (decimal label.id) (decimal (length label.bits))
+          (hex_word label.bits),
       short_decimal label.id small,
       short_decimal (length label.bits) (omega (arith, few)),
       short_hex label.bits few,
     )
 
 -- a text is longer than that of all lines but the first by this line and its line feed
-length-text : (line : List ℕ) (lines : List (List ℕ)) → length (text_of (line ∷ lines)) ≡ length line + 1 + length (text_of lines)
+length-text : (line : List ℕ) (lines : List (List ℕ))
+    → length (text_of (line ∷ lines)) ≡ length line + 1 + length (text_of lines)
 length-text line lines = omega (arith, length-append line (10 ∷ text_of lines))
 
 -- the text of two lists of lines is as long as both texts
-length-texts : (a b : List (List ℕ)) → length (text_of (a ++ b)) ≡ length (text_of a) + length (text_of b)
-length-texts a b = omega (arith, ap length (text_of-append a b), length-append (text_of a) (text_of b))
+length-texts : (a b : List (List ℕ))
+    → length (text_of (a ++ b)) ≡ length (text_of a) + length (text_of b)
+length-texts a b =
+    omega (arith, ap length (text_of-append a b), length-append (text_of a) (text_of b))
 
 -- the text of a part is longer than that of its body by the heading, `end` and two line feeds
-length-part : (heading : List ℕ) (body : List (List ℕ)) → length (text_of (part_lines heading body)) ≡ length heading + length (text_of body) + 5
+length-part : (heading : List ℕ) (body : List (List ℕ))
+    → length (text_of (part_lines heading body)) ≡ length heading + length (text_of body) + 5
 length-part heading body =
-    omega (arith, length-text heading (body ++ codes "end" ∷ []), length-texts body (codes "end" ∷ []), length-text (codes "end") [])
+    omega (
+      arith,
+      length-text heading (body ++ codes "end" ∷ []),
+      length-texts body
+          (codes "end" ∷ []),
+      length-text (codes "end") [],
+    )
 
 -- the text of ports has at most 32 letters for each
-ports_fit : (ports : List Port) → All FitsPort ports → length (text_of (map port_line ports)) ≤ 32 * length ports
+ports_fit : (ports : List Port) → All FitsPort ports
+    → length (text_of (map port_line ports)) ≤ 32 * length ports
 ports_fit [] fits = omega arith
 ports_fit (port ∷ ports) fits =
     omega (
@@ -112,7 +144,8 @@ ports_fit (port ∷ ports) fits =
     )
 
 -- the text of rows has at most 64 letters for each, and 32 for each port
-rows_fit : (rows : List NodeRow) → All FitsRow rows → length (text_of (flat_map row_lines rows)) ≤ 64 * length rows + 32 * ports_in rows
+rows_fit : (rows : List NodeRow) → All FitsRow rows
+    → length (text_of (flat_map row_lines rows)) ≤ 64 * length rows + 32 * ports_in rows
 rows_fit [] fits = omega arith
 rows_fit (row ∷ rows) fits =
     let first = All-head FitsRow row rows fits in
@@ -127,7 +160,8 @@ rows_fit (row ∷ rows) fits =
     )
 
 -- the text of the labels of nodes has at most 2,112 letters for each node
-labels_fit : (rows : List NodeRow) (labels : List (List Bool)) → All FitsRow rows → All (λ label. length label ≤ 8192) labels
+labels_fit : (rows : List NodeRow) (labels : List (List Bool)) → All FitsRow rows
+    → All (λ label. length label ≤ 8192) labels
     → length (text_of (map label_line (named (ids_of rows) labels))) ≤ 2112 * length rows
 labels_fit [] labels fits few = omega arith
 labels_fit (row ∷ rows) [] fits few = omega arith

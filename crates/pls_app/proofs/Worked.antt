@@ -10,7 +10,8 @@ use Rattle.pls_app.specs.Answer.{refusal}
 use Rattle.pls_app.specs.Order.{first_of, input_refusals, network_refusals}
 use Rattle.pls_app.specs.Report.{report_text}
 
-two : report_text ((1, Accept) ∷ (20, Reject 1 3) ∷ []) ≡ codes "node 1 accept\nnode 20 reject 1 3\nrejecting 1\n"
+two : report_text ((1, Accept) ∷ (20, Reject 1 3) ∷ [])
+    ≡ codes "node 1 accept\nnode 20 reject 1 3\nrejecting 1\n"
 unfolding digits
 two = refl
 
@@ -28,8 +29,18 @@ many = refl
 -- two nodes with one edge, of these weights at its ends
 abbrev pair : ℕ → ℕ → List NodeRow
 pair here there =
-    record { id = 1; state = record { up = None; mark = 0; num = 0 }; ports = record { nbr = 2; weight = here } ∷ [] }
-    ∷ record { id = 2; state = record { up = None; mark = 0; num = 0 }; ports = record { nbr = 1; weight = there } ∷ [] } ∷ []
+    record {
+      id = 1;
+      state = record { up = None; mark = 0; num = 0 };
+      ports = record
+          { nbr = 2; weight = here } ∷ [];
+    }
+    ∷ record {
+      id = 2;
+      state = record { up = None; mark = 0; num = 0 };
+      ports = record
+          { nbr = 1; weight = there } ∷ [];
+    } ∷ []
 
 weights : first_of (network_refusals (pair 1 2)) ≡ Some (Sense 15 1)
 weights = refl
@@ -38,9 +49,11 @@ sound : first_of (network_refusals (pair 1 1)) ≡ None
 sound = refl
 
 -- a label that names another node, in the second line of the labels part
-turned : first_of (input_refusals (pair 1 1) (named (2 ∷ 1 ∷ []) ((false ∷ []) ∷ (true ∷ []) ∷ []))) ≡ Some (Sense 20 8)
+turned : first_of (input_refusals (pair 1 1) (named (2 ∷ 1 ∷ []) ((false ∷ []) ∷ (true ∷ []) ∷ [])))
+    ≡ Some (Sense 20 8)
 turned = refl
 
 -- a row is refused before a label
-before : first_of (input_refusals (pair 1 2) (named (2 ∷ 1 ∷ []) ((false ∷ []) ∷ (true ∷ []) ∷ []))) ≡ Some (Sense 15 1)
+before : first_of (input_refusals (pair 1 2) (named (2 ∷ 1 ∷ []) ((false ∷ []) ∷ (true ∷ []) ∷ [])))
+    ≡ Some (Sense 15 1)
 before = refl

@@ -40,7 +40,8 @@ refusal_status NoMemory = OutOfMemory
 abbrev pub refusal_line : TextError → List ℕ
 refusal_line (Form line) = line_of (codes "refused" ∷ codes "form" ∷ codes "at" ∷ decimal line ∷ [])
 refusal_line (Limit quantity) = line_of (codes "limit" ∷ quantity_text quantity ∷ [])
-refusal_line (Sense number place) = line_of (codes "refused" ∷ decimal number ∷ codes "at" ∷ decimal place ∷ [])
+refusal_line (Sense number place) =
+    line_of (codes "refused" ∷ decimal number ∷ codes "at" ∷ decimal place ∷ [])
 refusal_line NoMemory = []
 
 -- the answer to an input that is refused
@@ -62,7 +63,8 @@ labelled rows labels = record { status = Done; text = labels_text (named (ids_of
 -- the answer to `mark` on a network: its labels, where it has the property, else `no`
 abbrev pub Marks : SchemeName → List NodeRow → Answer → Type 0
 Marks scheme rows answer =
-    ((labels : List (List Bool)) × HasProperty scheme rows × IsMarked scheme rows labels × (answer ≡ labelled rows labels))
+    ((labels : List (List Bool)) × HasProperty scheme rows × IsMarked scheme rows labels
+    × (answer ≡ labelled rows labels))
     ⊎ ((HasProperty scheme rows → ⊥) × (answer ≡ no))
 
 -- the answer to a command on the input that it reads
@@ -76,7 +78,8 @@ Works (Verify scheme) bytes answer =
 -- the answer to a command on bytes
 abbrev pub Answers : Command → List ℕ → Answer → Type 0
 Answers command bytes answer =
-    ((error : TextError) × IsRefused command bytes error × (answer ≡ refusal error)) ⊎ Works command bytes answer
+    ((error : TextError) × IsRefused command bytes error × (answer ≡ refusal error))
+    ⊎ Works command bytes answer
 
 -- the answer to words on bytes
 abbrev pub AnswersWords : Option Command → List ℕ → Answer → Type 0

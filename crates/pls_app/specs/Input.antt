@@ -47,4 +47,5 @@ IsInputLines lines = Then IsNetworkPart IsLabelsPart lines
 -- the bytes are an input of the command
 abbrev pub Reads : Command → List ℕ → Type 0
 Reads (Mark scheme) bytes = (rows : List NodeRow) × IsNetworkInput bytes rows
-Reads (Verify scheme) bytes = (rows : List NodeRow) × (labels : List (List Bool)) × IsInput bytes rows labels
+Reads (Verify scheme) bytes =
+    (rows : List NodeRow) × (labels : List (List Bool)) × IsInput bytes rows labels

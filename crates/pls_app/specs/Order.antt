@@ -44,10 +44,11 @@ heading_of rows = 1 + length (network_lines rows)
 
 -- the limits on nodes, ports and bits, in their order
 abbrev pub limits_of : ℕ → ℕ → ℕ → List (Option TextError)
-limits_of nodes ports bits = over Nodes MAX_NODES nodes ∷ over Ports MAX_PORTS ports ∷ over Bits MAX_BITS bits ∷ []
+limits_of nodes ports bits =
+    over Nodes MAX_NODES nodes ∷ over Ports MAX_PORTS ports ∷ over Bits MAX_BITS bits ∷ []
 
--- the refusals of the rows and labels that two parts say, in their order: the limits, the first of 10
--- to 16, and then 20, the first line of the labels part that does not fit the nodes
+-- the refusals of the rows and labels that two parts say, in their order: the limits, the first of
+-- 10 to 16, and then 20, the first line of the labels part that does not fit the nodes
 abbrev pub input_refusals : List NodeRow → List NamedLabel → List (Option TextError)
 input_refusals rows labels =
     limits_of (length rows) (ports_in rows) (total_bits labels)
@@ -60,7 +61,8 @@ IsApart rows error = (id : ℕ) × (error ≡ Sense 17 id) × IsFirstApart rows 
 
 -- the error is the first of the refusals, or where none occurs it is 17
 abbrev pub IsFirstRefusal : List (Option TextError) → List NodeRow → TextError → Type 0
-IsFirstRefusal refusals rows error = (first_of refusals ≡ Some error) ⊎ ((first_of refusals ≡ None) × IsApart rows error)
+IsFirstRefusal refusals rows error =
+    (first_of refusals ≡ Some error) ⊎ ((first_of refusals ≡ None) × IsApart rows error)
 
 -- the error names the first line that is not of the lines of a format
 abbrev pub IsFormError : (List (List ℕ) → Type 0) → List ℕ → TextError → Type 0
@@ -84,10 +86,13 @@ pub record RefusesInput (bytes : List ℕ) (error : TextError) : Type 0 where
 
 -- the parts that a command reads are refused: by their form, which comes first, or by what they say
 abbrev pub IsRefusedText : Command → List ℕ → TextError → Type 0
-IsRefusedText (Mark scheme) bytes error = IsFormError IsNetworkPart bytes error ⊎ RefusesNetwork bytes error
-IsRefusedText (Verify scheme) bytes error = IsFormError IsInputLines bytes error ⊎ RefusesInput bytes error
+IsRefusedText (Mark scheme) bytes error =
+    IsFormError IsNetworkPart bytes error ⊎ RefusesNetwork bytes error
+IsRefusedText (Verify scheme) bytes error =
+    IsFormError IsInputLines bytes error ⊎ RefusesInput bytes error
 
 -- the bytes are refused: they are too many, or else by the parts that they are to be
 abbrev pub IsRefused : Command → List ℕ → TextError → Type 0
 IsRefused command bytes error =
-    ((error ≡ Limit Input) × (MAX_INPUT < length bytes)) ⊎ ((length bytes ≤ MAX_INPUT) × IsRefusedText command bytes error)
+    ((error ≡ Limit Input) × (MAX_INPUT < length bytes))
+    ⊎ ((length bytes ≤ MAX_INPUT) × IsRefusedText command bytes error)

@@ -29,14 +29,16 @@ IsAnswered Refused = ⊤
 IsAnswered Limit = ⊤
 
 -- the status is that of the answer to the words on these bytes, and the sink took exactly its text
-pub record Tells (words : List (List ℕ)) (bytes : List ℕ) (status : Status) (old new : Option (List ℕ)) : Type 0 where
+pub record Tells (words : List (List ℕ)) (bytes : List ℕ) (status : Status)
+    (old new : Option (List ℕ)) : Type 0 where
   pub answer : Answer
   pub is : IsAnswer words bytes answer
   pub ends : status ≡ answer.status
   pub took : Appends old new answer.text
 
 -- the sink took a front of the text of the answer to the words on these bytes, but not all of it
-pub record TellsPart (words : List (List ℕ)) (bytes : List ℕ) (old new : Option (List ℕ)) : Type 0 where
+pub record TellsPart (words : List (List ℕ)) (bytes : List ℕ)
+    (old new : Option (List ℕ)) : Type 0 where
   pub answer : Answer
   pub is : IsAnswer words bytes answer
   pub took : AppendsPart old new answer.text
@@ -57,10 +59,12 @@ IsCause Limit old new = ⊥
 abbrev pub HasRead : Option (List ℕ) → Option (List ℕ) → Type 0
 HasRead None new = ⊤
 HasRead (Some bytes) new =
-    (length bytes ≤ MAX_INPUT → new ≡ Some []) × (MAX_INPUT < length bytes → new ≡ Some (drop (MAX_INPUT + 1) bytes))
+    (length bytes ≤ MAX_INPUT → new ≡ Some [])
+    × (MAX_INPUT < length bytes → new ≡ Some (drop (MAX_INPUT + 1) bytes))
 
 -- the status is that of the refusal, and the sink took exactly the line that says it
-pub record TellsRefusal (error : TextError) (status : Status) (old new : Option (List ℕ)) : Type 0 where
+pub record TellsRefusal (error : TextError) (status : Status)
+    (old new : Option (List ℕ)) : Type 0 where
   pub ends : status ≡ refusal_status error
   pub took : Appends old new (refusal error).text
 
@@ -75,8 +79,10 @@ pub record Proves (scheme : SchemeName) (bytes : List ℕ) : Type 0 where
   pub input : IsInput bytes rows labels
   pub holds : HasProperty scheme rows
 
--- labels that show the property of a network: all nodes accept them, and none is longer than the bound
-pub record Shows (scheme : SchemeName) (rows : List NodeRow) (labels : List (List Bool)) : Type 0 where
+-- labels that show the property of a network: all nodes accept them, and none is longer than the
+-- bound
+pub record Shows (scheme : SchemeName) (rows : List NodeRow)
+    (labels : List (List Bool)) : Type 0 where
   pub holds : HasProperty scheme rows
   pub each : length labels ≡ length rows
   pub accepted : AllAccept (judge_of scheme) rows labels
@@ -105,7 +111,8 @@ pub record Certifies (scheme : SchemeName) (bytes text : List ℕ) : Type 0 wher
   pub verified : IsDone (verify_words scheme) (bytes ++ text)
 
 -- the sink took such a text
-pub record TookCertificate (scheme : SchemeName) (bytes : List ℕ) (old new : Option (List ℕ)) : Type 0 where
+pub record TookCertificate (scheme : SchemeName) (bytes : List ℕ)
+    (old new : Option (List ℕ)) : Type 0 where
   pub text : List ℕ
   pub took : Appends old new text
   pub certifies : Certifies scheme bytes text
@@ -119,4 +126,5 @@ pub record Lacks (scheme : SchemeName) (bytes : List ℕ) : Type 0 where
 -- a text was written whole and the status is its own, or a write failed behind a front of it
 abbrev pub Told : Status → Status → ℕ → ℕ → Option (List ℕ) → Option (List ℕ) → List ℕ → Type 0
 Told due status old_faults new_faults old new text =
-    ((status ≡ due) × Appends old new text) ⊎ ((status ≡ WriteFault) × Rose old_faults new_faults × AppendsPart old new text)
+    ((status ≡ due) × Appends old new text)
+    ⊎ ((status ≡ WriteFault) × Rose old_faults new_faults × AppendsPart old new text)

@@ -11,7 +11,8 @@ use Rattle.pls_app.specs.declared.command.Command.{Command}
 use Rattle.pls_app.specs.Order.{IsRefusedText, heading_of}
 
 -- the bytes are the text of a network and then the text of labels, which were scanned
-pub record IsScanned (bytes : List ℕ) (network : WrittenNetwork) (labels : WrittenLabels) : Type 0 where
+pub record IsScanned (bytes : List ℕ) (network : WrittenNetwork)
+    (labels : WrittenLabels) : Type 0 where
   pub rows : List NodeRow
   pub named : List NamedLabel
   pub tells_rows : TellsNetwork network rows

@@ -46,7 +46,8 @@ pub(crate) fn read_labelled(alloc: Global, bytes: &[u8]) -> Result<(Network, Lab
 
 // Refuses parts with too many nodes, ports or bits, in this order. It takes no memory.
 fn test_limits(network: &NetworkText<'_>, labels: &LabelsText<'_>) -> Result<(), TextError>
-    ensures within { OnOk result (first_of (limits_of network.now.nodes network.now.ports labels.now.bits) ≡ None) }
+    ensures within { OnOk result
+        (first_of (limits_of network.now.nodes network.now.ports labels.now.bits) ≡ None) }
     ensures refused { IfErr result (λ error.
         first_of (limits_of network.now.nodes network.now.ports labels.now.bits) ≡ Some error) }
 {

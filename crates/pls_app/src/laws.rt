@@ -7,7 +7,8 @@ ghost use Rattle.pls_app.specs.Answer.{Answer, IsAnswer};
 
 /// The bytes of an input fix its network and its labels.
 pub fn one_input()
-    ensures { (bytes : List ℕ) (rows other_rows : List NodeRow) (labels other_labels : List (List Bool))
+    ensures { (bytes : List ℕ) (rows other_rows : List NodeRow)
+        (labels other_labels : List (List Bool))
         → IsInput bytes rows labels → IsInput bytes other_rows other_labels
         → (rows ≡ other_rows) × (labels ≡ other_labels) }
 {}

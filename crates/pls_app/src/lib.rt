@@ -1,9 +1,9 @@
 //! What the program does, whole: [`run`] reads words and an input, and answers with a status and a
 //! text.
 //!
-//! `specs/Answer` says which answer belongs to which words and bytes, and `specs/Order` why an input
-//! is refused; the clauses of [`run`] say that the answer comes, what a fault or want of memory means,
-//! and what `Done` and `No` say of the network.
+//! `specs/Answer` says which answer belongs to which words and bytes, and `specs/Order` why an
+//! input is refused; the clauses of [`run`] say that the answer comes, what a fault or want of
+//! memory means, and what `Done` and `No` say of the network.
 #![tactic(auto)]
 
 mod answer;

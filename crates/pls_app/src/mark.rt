@@ -24,7 +24,8 @@ pub(crate) fn mark(alloc: Global, scheme: SchemeName, net: &Network) -> Result<A
     requires { IsConnected net.now }
     ensures marks { IfOk result (λ answer. Marks scheme net.now answer) }
     ensures answered { IfOk result (λ answer. IsAnswered answer.status) }
-    ensures shows { IfOk result (λ answer. answer.status ≡ Done → ShowsIn scheme net.now answer.text) }
+    ensures shows { IfOk result (λ answer. answer.status ≡ Done
+        → ShowsIn scheme net.now answer.text) }
 {
     match labels_of(alloc, scheme, net)? {
         Some(labels) => Ok(Answer {

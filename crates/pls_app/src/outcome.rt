@@ -11,8 +11,8 @@ use crate::limits::MAX_INPUT;
 use pls_base::{NoMemory, Quantity, ReadError, Source, Status, TextError, read_all};
 use std::alloc::Global;
 
-// The answer to a command on all that the source has left, or the status of a run that comes to none:
-// a fault of the source, or want of memory.
+// The answer to a command on all that the source has left, or the status of a run that comes to
+// none: a fault of the source, or want of memory.
 pub(crate) fn answer_from<S: Source>(
     alloc: Global,
     command: Command,
@@ -25,7 +25,8 @@ pub(crate) fn answer_from<S: Source>(
         → answer.status ≡ Status.Done → Certifies scheme bytes answer.text) }
     ensures answered { IfOk result (λ answer. IsAnswered answer.status) }
     ensures read { OnOk result (HasRead (S.left source.old) (S.left source.new)) }
-    ensures cause { IfErr result (λ status. IsCause status (S.faults source.old) (S.faults source.new)) }
+    ensures cause { IfErr result
+        (λ status. IsCause status (S.faults source.old) (S.faults source.new)) }
     ensures lost { LosesAtMost (S.left source.old) (S.left source.new) (MAX_INPUT + 1) }
 {
     match read_all(alloc, source, MAX_INPUT) {

@@ -23,7 +23,8 @@ pub(crate) fn report_text(alloc: Global, rows: &[(u32, Verdict)]) -> Result<Stri
 
 // Adds the line of one node.
 fn write_verdict(text: &mut String, id: u32, verdict: Verdict) -> Result<(), NoMemory>
-    ensures { OnOk result (string_bytes text.new ≡ string_bytes text.old ++ (verdict_line (id, verdict) ++ 10 ∷ [])) }
+    ensures { OnOk result (string_bytes text.new ≡ string_bytes text.old
+        ++ (verdict_line (id, verdict) ++ 10 ∷ [])) }
 {
     match verdict {
         Verdict::Accept => write!(text, "node {id} accept\n")?,

@@ -13,8 +13,8 @@ use crate::outcome::answer_from;
 use pls_base::{Fault, Sink, Source, Status, write_all};
 use std::alloc::Global;
 
-/// Runs the program: `words` are the words after its name, `source` gives its input, and `sink` takes
-/// its text. The answer is the status with which the process ends.
+/// Runs the program: `words` are the words after its name, `source` gives its input, and `sink`
+/// takes its text. The answer is the status with which the process ends.
 ///
 /// The text is whole before its first byte is written, and writing takes no memory.
 pub fn run<'w, S: Source, K: Sink>(
@@ -25,7 +25,8 @@ pub fn run<'w, S: Source, K: Sink>(
 ) -> Status
     // The status and the text are those of the answer to the words and the bytes.
     ensures text { (bytes : List ℕ) → S.left source.old ≡ Some bytes → IsAnswered result
-        → Tells (map (λ word. word.now) words.now) bytes result (K.taken sink.old) (K.taken sink.new) }
+        → Tells (map (λ word. word.now) words.now) bytes result
+            (K.taken sink.old) (K.taken sink.new) }
 
     // That answer comes, or want of memory, where no call on the source or the sink failed.
     ensures answers { (Rose (S.faults source.old) (S.faults source.new) → ⊥)
@@ -46,7 +47,8 @@ pub fn run<'w, S: Source, K: Sink>(
     ensures read_fault { result ≡ Status.ReadFault
         → Rose (S.faults source.old) (S.faults source.new) }
     ensures read_fault_silent { result ≡ Status.ReadFault → sink.new ≡ sink.old }
-    ensures write_fault { result ≡ Status.WriteFault → Rose (K.faults sink.old) (K.faults sink.new) }
+    ensures write_fault { result ≡ Status.WriteFault
+        → Rose (K.faults sink.old) (K.faults sink.new) }
     ensures write_fault_part { (bytes : List ℕ) → S.left source.old ≡ Some bytes
         → result ≡ Status.WriteFault
         → TellsPart (map (λ word. word.now) words.now) bytes (K.taken sink.old) (K.taken sink.new) }
@@ -55,7 +57,8 @@ pub fn run<'w, S: Source, K: Sink>(
     // What the source has lost.
     ensures usage_unread { command_of (map (λ word. word.now) words.now) ≡ None
         → source.new ≡ source.old }
-    ensures read { (command : Command) → command_of (map (λ word. word.now) words.now) ≡ Some command
+    ensures read { (command : Command)
+        → command_of (map (λ word. word.now) words.now) ≡ Some command
         → IsAnswered result → HasRead (S.left source.old) (S.left source.new) }
     ensures lost { LosesAtMost (S.left source.old) (S.left source.new) (MAX_INPUT + 1) }
 
@@ -82,7 +85,8 @@ pub fn run<'w, S: Source, K: Sink>(
 
 // Writes a text, and answers the status that goes with it, or that a write failed.
 fn tell<K: Sink>(sink: &mut K, status: Status, text: &[u8]) -> Status
-    ensures { Told status result (K.faults sink.old) (K.faults sink.new) (K.taken sink.old) (K.taken sink.new) text.now }
+    ensures { Told status result (K.faults sink.old) (K.faults sink.new)
+        (K.taken sink.old) (K.taken sink.new) text.now }
 {
     match write_all(sink, text) {
         Ok(()) => status,

@@ -28,7 +28,8 @@ pub(crate) fn verify(
     labels: &LabelStore,
 ) -> Result<Answer, NoMemory>
     requires { length labels.now ≡ length net.now }
-    ensures reports { IfOk result (λ answer. answer ≡ report (round_by (judge_of scheme) net.now labels.now)) }
+    ensures reports { IfOk result
+        (λ answer. answer ≡ report (round_by (judge_of scheme) net.now labels.now)) }
     ensures answered { IfOk result (λ answer. IsAnswered answer.status) }
 {
     let verdicts = round(alloc, scheme, net, labels)?;

@@ -14,7 +14,8 @@ use crate::streams::{Failed, Sink};
 use std::alloc::Global;
 use std::marker::Model;
 
-/// Keeps the bytes that it takes, at most `room` in all and at most `step` in a call. It tells them.
+/// Keeps the bytes that it takes, at most `room` in all and at most `step` in a call. It tells
+/// them.
 #[derive(Drop)]
 pub struct MemSink {
     bytes: Vec<u8>,
@@ -39,7 +40,11 @@ impl Model for MemSink {
       faults = s.faults;
     } };
 
-    ghost invariant = { λ s. record { step : 1 ≤ s.step; within : vec_len s.bytes ≤ s.room; memory : s.room ≤ vec_capacity s.bytes } };
+    ghost invariant = { λ s. record {
+      step : 1 ≤ s.step;
+      within : vec_len s.bytes ≤ s.room;
+      memory : s.room ≤ vec_capacity s.bytes;
+    } };
 }
 
 impl MemSink {

@@ -28,10 +28,12 @@ weigh-half front false = omega arith
 
 -- to divide by the next power is to halve once more
 half-power : (count y : ℕ) → y / 2 ^ suc count ≡ y / 2 ^ count / 2
-half-power count y = sym (div-div-eq-div-mul y (2 ^ count) 2 ∙ ap (λ n. y / n) (sym (pow-suc 2 count)))
+half-power count y =
+    sym (div-div-eq-div-mul y (2 ^ count) 2 ∙ ap (λ n. y / n) (sym (pow-suc 2 count)))
 
 -- a number divided by a power, from that divided by the next one and the digit between
-digit-between : (count y : ℕ) → 2 * (y / 2 ^ suc count) + weigh (y / 2 ^ count % 2 == 1) ≡ y / 2 ^ count
+digit-between : (count y : ℕ)
+    → 2 * (y / 2 ^ suc count) + weigh (y / 2 ^ count % 2 == 1) ≡ y / 2 ^ count
 digit-between count y =
     let half = half-power count y in
     let bit = weigh-rest (y / 2 ^ count % 2) (omega arith) in
@@ -40,17 +42,21 @@ digit-between count y =
 -- a number is that of its digits behind the rest of it
 pub number_from-digits : (count y : ℕ) → number_from (y / 2 ^ count) (digits count y) ≡ y
 number_from-digits zero y = omega arith
-number_from-digits (suc count) y = ap (λ front. number_from front (digits count y)) (digit-between count y) ∙ number_from-digits count y
+number_from-digits (suc count) y =
+    ap (λ front. number_from front (digits count y)) (digit-between count y)
+    ∙ number_from-digits count y
 
 -- what is left of the number of some digits without them
-pub number_from-front : (front : ℕ) (shown : List Bool) → number_from front shown / 2 ^ length shown ≡ front
+pub number_from-front : (front : ℕ) (shown : List Bool)
+    → number_from front shown / 2 ^ length shown ≡ front
 number_from-front front [] = omega arith
 number_from-front front (digit ∷ rest) =
     half-power (length rest) (number_from (2 * front + weigh digit) rest)
     ∙ ap (λ n. n / 2) (number_from-front (2 * front + weigh digit) rest) ∙ weigh-half front digit
 
 -- digits are those of the number that they show
-pub digits-number_from : (front : ℕ) (shown : List Bool) → digits (length shown) (number_from front shown) ≡ shown
+pub digits-number_from : (front : ℕ) (shown : List Bool)
+    → digits (length shown) (number_from front shown) ≡ shown
 digits-number_from front [] = refl
 digits-number_from front (digit ∷ rest) =
     let above = number_from-front (2 * front + weigh digit) rest in
@@ -61,14 +67,16 @@ digits-number_from front (digit ∷ rest) =
 pub number_behind-le : (shown : List Bool) → 2 ^ length shown ≤ number_from 1 shown
 number_behind-le shown =
     let below = mul-div-le (number_from 1 shown) (2 ^ length shown) in
-    let one : 2 ^ length shown * 1 ≤ number_from 1 shown = rw (number_from-front 1 shown) at below in
+    let one : 2 ^ length shown * 1 ≤ number_from 1 shown =
+    rw (number_from-front 1 shown) at below in
     omega (arith, one)
 
 -- and less than the next power
 pub number_behind-lt : (shown : List Bool) → number_from 1 shown < 2 ^ suc (length shown)
 number_behind-lt shown =
     let above = lt-mul-div-succ (number_from 1 shown) (pow_pos (length shown)) in
-    let two : number_from 1 shown < 2 ^ length shown * 2 = rw (number_from-front 1 shown) at above in
+    let two : number_from 1 shown < 2 ^ length shown * 2 =
+    rw (number_from-front 1 shown) at above in
     rw (pow-suc 2 (length shown)) two
 
 -- a number from a power on and below the next one has a one there

@@ -60,13 +60,16 @@ log_below-unique (suc most) k y bound low high =
     elim (leb_tells (2 ^ suc most) y) [
       | inl fits ↦
           elim (cases_lt k (suc most)) [
-            | inl less ↦ let powers : 2 ^ suc k ≤ 2 ^ suc most = pow_mono (omega arith) in absurd (omega (arith, fits.1))
+            | inl less ↦
+                let powers : 2 ^ suc k ≤ 2 ^ suc most =
+                pow_mono (omega arith) in absurd (omega (arith, fits.1))
             | inr same ↦ rw fits.0 (omega arith)
           ]
       | inr above ↦
           elim (cases_lt k (suc most)) [
             | inl less ↦ rw above.0 (log_below-unique most k y (omega arith) low high)
-            | inr same ↦ let powers : 2 ^ suc most ≤ 2 ^ k = pow_mono same in absurd (omega (arith, above.1))
+            | inr same ↦
+                let powers : 2 ^ suc most ≤ 2 ^ k = pow_mono same in absurd (omega (arith, above.1))
           ]
     ]
 

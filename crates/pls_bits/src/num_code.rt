@@ -11,8 +11,8 @@ use pls_base::NoMemory;
 /// The greatest number that a code writes, 2^63 - 2.
 pub const MAX_CODED: u64 = 9_223_372_036_854_775_806;
 
-/// A code of the numbers from 0 to [`MAX_CODED`]: each is a list of bits, and no list is the front of
-/// another's, so that numbers stand one behind the other without a mark between them.
+/// A code of the numbers from 0 to [`MAX_CODED`]: each is a list of bits, and no list is the front
+/// of another's, so that numbers stand one behind the other without a mark between them.
 pub trait NumCode {
     // The bits of a number.
     ghost code: { ℕ → List Bool };
@@ -63,11 +63,14 @@ pub trait NumCode {
     {}
 
     // A code is taken off, whatever follows it.
-    ghost takes_codes: { (number : ℕ) (rest : List Bool) → number ≤ MAX_CODED → takes (code number ++ rest) ≡ Some (number, rest) };
+    ghost takes_codes: { (number : ℕ) (rest : List Bool) → number ≤ MAX_CODED
+        → takes (code number ++ rest) ≡ Some (number, rest) };
 
     // Nothing but codes is taken off.
-    ghost takes_only: { (bits : List Bool) (number : ℕ) (rest : List Bool) → takes bits ≡ Some (number, rest) → (number ≤ MAX_CODED) × (bits ≡ code number ++ rest) };
+    ghost takes_only: { (bits : List Bool) (number : ℕ) (rest : List Bool)
+        → takes bits ≡ Some (number, rest) → (number ≤ MAX_CODED) × (bits ≡ code number ++ rest) };
 
     // A smaller number has no longer code.
-    ghost grows_law: { (small great : ℕ) → small ≤ great → great ≤ MAX_CODED → length (code small) ≤ length (code great) };
+    ghost grows_law: { (small great : ℕ) → small ≤ great → great ≤ MAX_CODED
+        → length (code small) ≤ length (code great) };
 }

@@ -17,19 +17,26 @@ abbrev pub passes : {L : Type 0} → (List Bool → Option L) → (ReadPort L �
 passes read test port = option_map_or test (read_port read port) false
 
 -- where all labels are read, the tests in place settle whether depths are accepted
-pub depth_judged : (takes : List Bool → Option (ℕ × List Bool)) (view : Seen) (own : CycleLabel) (beside few : Bool)
+pub depth_judged : (takes : List Bool
+    → Option (ℕ × List Bool)) (view : Seen) (own : CycleLabel) (beside few : Bool)
     → cycle_label_in takes view.own ≡ Some own
-    → (ports : List (ReadPort CycleLabel)) × (read_ports (cycle_label_in takes) view.ports ≡ Some ports)
+    → (ports : List (ReadPort CycleLabel))
+    × (read_ports (cycle_label_in takes) view.ports ≡ Some ports)
     → beside ≡ list_all (passes (cycle_label_in takes) (is_beside own.depth)) view.ports
     → few ≡ nat_le (count_by (passes (cycle_label_in takes) (is_above own.depth)) view.ports) 1
     → judged_from 3 (beside ∷ few ∷ []) ≡ judge_acyclic takes view
 depth_judged takes view own beside few own_read (ports, read) one two =
-    let third = one ∙ list_all-read (cycle_label_in takes) (is_beside own.depth) view.ports ports read in
-    let fourth = two ∙ ap (λ (count : ℕ). nat_le count 1) (count_by-read (cycle_label_in takes) (is_above own.depth) view.ports ports read) in
-    rw (third, fourth) (sym (judged_by_rules (cycle_label_in takes) acyclic_rules view own ports own_read read))
+    let third =
+    one ∙ list_all-read (cycle_label_in takes) (is_beside own.depth) view.ports ports read in
+    let fourth =
+    two ∙ ap (λ (count : ℕ). nat_le count 1)
+    (count_by-read (cycle_label_in takes) (is_above own.depth) view.ports ports read) in
+    rw (third, fourth) (sym (judged_by_rules (cycle_label_in takes) acyclic_rules view own ports
+    own_read read))
 
 -- and whether colours are
-pub colour_judged : (view : Seen) (own : ColourLabel) (differs : Bool) → colour_label view.own ≡ Some own
+pub colour_judged : (view : Seen) (own : ColourLabel) (differs : Bool)
+    → colour_label view.own ≡ Some own
     → (ports : List (ReadPort ColourLabel)) × (read_ports colour_label view.ports ≡ Some ports)
     → differs ≡ list_all (passes colour_label (differs_from own.colour)) view.ports
     → judged_from 3 (differs ∷ []) ≡ judge_bipartite view

@@ -27,7 +27,8 @@ record EndsWithStep (edges : List Edge) (u v count : ℕ) : Type 0 where
 
 module _ (edges : List Edge) where
   -- a walk of one edge or more ends with a step
-  last_step : (u v first : ℕ) (nodes : List ℕ) → Walk edges u (first ∷ nodes) v → EndsWithStep edges u v (length (first ∷ nodes))
+  last_step : (u v first : ℕ) (nodes : List ℕ) → Walk edges u (first ∷ nodes) v
+      → EndsWithStep edges u v (length (first ∷ nodes))
   last_step u v first [] walk = record {
     before = u;
     front = [];
@@ -36,7 +37,8 @@ module _ (edges : List Edge) where
     many = refl;
   }
   last_step u v first (second ∷ nodes) walk =
-      let rest : EndsWithStep edges first v (length (second ∷ nodes)) = last_step first v second nodes walk.1 in
+      let rest : EndsWithStep edges first v (length (second ∷ nodes)) =
+      last_step first v second nodes walk.1 in
       record {
         before = rest.before;
         front = first ∷ rest.front;
@@ -51,7 +53,8 @@ module _ (edges : List Edge) where
   stays u v (first ∷ nodes) walk none = absurd (omega (arith, none))
 
   -- a walk of some edges ends with a step
-  steps : (u v : ℕ) (nodes : List ℕ) → Walk edges u nodes v → 1 ≤ length nodes → EndsWithStep edges u v (length nodes)
+  steps : (u v : ℕ) (nodes : List ℕ) → Walk edges u nodes v → 1 ≤ length nodes
+      → EndsWithStep edges u v (length nodes)
   steps u v [] walk some = absurd (omega (arith, some))
   steps u v (first ∷ nodes) walk some = last_step u v first nodes walk
 
@@ -61,18 +64,25 @@ module _ (edges : List Edge) (nodes : List ℕ) (first : ℕ) (depth : ℕ → �
   -- adjacent nodes are at most one level apart
   near : (u v : ℕ) → Adjacent edges u v → depth v ≤ depth u + 1
   near u v adjacent =
-      let here : IsLevel edges first u (depth u) = is_level u (known v u (Adjacent-turned edges u v adjacent)) in
+      let here : IsLevel edges first u (depth u) =
+      is_level u (known v u (Adjacent-turned edges u v adjacent)) in
       let there : IsLevel edges first v (depth v) = is_level v (known u v adjacent) in
-      let short = there.fewest (here.nodes ++ v ∷ []) (Walk-append edges first u v here.nodes (v ∷ []) here.walk (adjacent, refl)) in
+      let short =
+      there.fewest (here.nodes ++ v ∷ [])
+      (Walk-append edges first u v here.nodes (v ∷ []) here.walk (adjacent, refl)) in
       omega (arith, short, here.many, length-append here.nodes (v ∷ []))
 
   -- each node but the first is adjacent to one of the level before
-  above : (node : ℕ) → Contains nodes node → 1 ≤ depth node → (up : ℕ) × Adjacent edges node up × (depth node ≡ depth up + 1)
+  above : (node : ℕ) → Contains nodes node → 1 ≤ depth node
+      → (up : ℕ) × Adjacent edges node up × (depth node ≡ depth up + 1)
   above node in' some =
       let here : IsLevel edges first node (depth node) = is_level node in' in
-      let last : EndsWithStep edges first node (length here.nodes) = steps edges first node here.nodes here.walk (omega (arith, here.many)) in
-      let back : Adjacent edges node last.before = Adjacent-turned edges last.before node last.step in
-      let up : IsLevel edges first last.before (depth last.before) = is_level last.before (known node last.before back) in
+      let last : EndsWithStep edges first node (length here.nodes) =
+      steps edges first node here.nodes here.walk (omega (arith, here.many)) in
+      let back : Adjacent edges node last.before =
+      Adjacent-turned edges last.before node last.step in
+      let up : IsLevel edges first last.before (depth last.before) =
+      is_level last.before (known node last.before back) in
       let short = up.fewest last.front last.walk in
       let next = near last.before node last.step in
       (last.before, back, omega (arith, short, next, last.many, here.many))
@@ -89,46 +99,63 @@ module _ (edges : List Edge) (nodes : List ℕ) (first : ℕ) (depth : ℕ → �
   }
 
   -- on each level up to that of a node there is a node
-  each_level : (top node : ℕ) → Contains nodes node → depth node ≡ top → (q : ℕ) → q ≤ top → (other : ℕ) × Contains nodes other × (depth other ≡ q)
+  each_level : (top node : ℕ) → Contains nodes node → depth node ≡ top → (q : ℕ) → q ≤ top
+      → (other : ℕ) × Contains nodes other × (depth other ≡ q)
   each_level zero node in' deep q within = (node, in', omega (arith, deep))
   each_level (suc top) node in' deep q within = elim (cases_eq q (suc top)) [
     | inl same ↦ (node, in', deep ∙ sym same)
     | inr lower ↦
-        let (up, step, one) : (up : ℕ) × Adjacent edges node up × (depth node ≡ depth up + 1) = above node in' (omega (arith, deep)) in
+        let (up, step, one) : (up : ℕ) × Adjacent edges node up × (depth node ≡ depth up + 1) =
+        above node in' (omega (arith, deep)) in
         each_level top up (known node up step) (omega (arith, one, deep)) q (omega (arith, lower))
   ]
 
   -- a level is below the number of nodes
   pub level_below : (node : ℕ) → Contains nodes node → depth node < length nodes
   level_below node in' =
-      let many : depth node + 1 ≤ length (map depth nodes) = le-length_from_below (map depth nodes) (depth node + 1) has in
+      let many : depth node + 1 ≤ length (map depth nodes) =
+      le-length_from_below (map depth nodes) (depth node + 1) has in
       omega (arith, many, length-map nodes depth)
     where
       has : (q : ℕ) → q < depth node + 1 → list_any (nat_eq q) (map depth nodes) ≡ true
       has q within =
-          let (other, in', deep) : (other : ℕ) × Contains nodes other × (depth other ≡ q) = each_level (depth node) node in' refl q (omega (arith, within)) in
-          list_any-from_Contains nat_eq_equiv q (map depth nodes) (subst (Contains (map depth nodes)) deep (Contains-map depth nodes other in'))
+          let (other, in', deep) : (other : ℕ) × Contains nodes other × (depth other ≡ q) =
+          each_level (depth node) node in' refl q (omega (arith, within)) in
+          list_any-from_Contains nat_eq_equiv q (map depth nodes)
+          (subst (Contains (map depth nodes)) deep (Contains-map depth nodes other in'))
 
 -- an adjacent node is one of the nodes
-pub adjacent_known : (rows : List NodeRow) → IsNetwork rows → (u v : ℕ) → Adjacent (edges_of rows) u v → Contains (ids_of rows) v
+pub adjacent_known : (rows : List NodeRow) → IsNetwork rows → (u v : ℕ)
+    → Adjacent (edges_of rows) u v → Contains (ids_of rows) v
 adjacent_known rows net u v adjacent =
-    let way : Names rows v u = Names-Adjacent rows net v u (Adjacent-turned (edges_of rows) u v adjacent) in
-    let place : (i : ℕ) × (slice_get rows i ≡ Some way.row) × (v ≡ way.row.id) = row_place rows net v way.row way.found in
+    let way : Names rows v u =
+    Names-Adjacent rows net v u (Adjacent-turned (edges_of rows) u v adjacent) in
+    let place : (i : ℕ) × (slice_get rows i ≡ Some way.row) × (v ≡ way.row.id) =
+    row_place rows net v way.row way.found in
     subst (Contains (ids_of rows)) (sym place.2)
-    (Contains-map (λ (row : NodeRow). row.id) rows way.row (Contains-from_place rows place.0 way.row place.1))
+    (Contains-map (λ (row : NodeRow). row.id) rows way.row
+    (Contains-from_place rows place.0 way.row place.1))
 
 -- in a connected network a level is found for each node
-pub known_level : (rows : List NodeRow) (found : List (Option ℕ)) → IsConnected rows → AreLevels rows 0 found
-    → (first row : NodeRow) (place : ℕ) → slice_get rows 0 ≡ Some first → slice_get rows place ≡ Some row
-    → (level : ℕ) × (slice_get found place ≡ Some (Some level)) × IsLevel (edges_of rows) first.id row.id level
+pub known_level : (rows : List NodeRow) (found : List (Option ℕ)) → IsConnected rows
+    → AreLevels rows 0 found
+    → (first row : NodeRow) (place : ℕ) → slice_get rows 0 ≡ Some first
+    → slice_get rows place ≡ Some row
+    → (level : ℕ) × (slice_get found place ≡ Some (Some level))
+    × IsLevel (edges_of rows) first.id row.id level
 known_level rows found connected levels first row place at_first at =
-    by (get_or found place None) (slice_get-get_or found place None (omega (arith, levels.each, slice_get_within rows place row at)))
+    by (get_or found place None) (slice_get-get_or found place None
+    (omega (arith, levels.each, slice_get_within rows place row at)))
   where
     joined : AreJoined (edges_of rows) first.id row.id
-    joined = connected first.id row.id (Contains-map (λ (row : NodeRow). row.id) rows first (Contains-from_place rows 0 first at_first))
+    joined =
+        connected first.id row.id
+        (Contains-map (λ (row : NodeRow). row.id) rows first
+        (Contains-from_place rows 0 first at_first))
         (Contains-map (λ (row : NodeRow). row.id) rows row (Contains-from_place rows place row at))
 
     by : (entry : Option ℕ) → slice_get found place ≡ Some entry
-        → (level : ℕ) × (slice_get found place ≡ Some (Some level)) × IsLevel (edges_of rows) first.id row.id level
+        → (level : ℕ) × (slice_get found place ≡ Some (Some level))
+        × IsLevel (edges_of rows) first.id row.id level
     by None has = absurd (levels.level first row place None at_first at has joined)
     by (Some level) has = (level, has, levels.level first row place (Some level) at_first at has)

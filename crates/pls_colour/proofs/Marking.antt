@@ -33,10 +33,12 @@ abbrev label_of_parity : ℕ → ColourLabel
 label_of_parity level = label_of_colour (is_odd level)
 
 -- a parity is read from its label
-parity_read : (level : ℕ) (bits : List Bool) → SaysParity level bits → colour_label bits ≡ Some (label_of_parity level)
+parity_read : (level : ℕ) (bits : List Bool) → SaysParity level bits
+    → colour_label bits ≡ Some (label_of_parity level)
 parity_read level bits says = ap colour_label says
 
-module _ (rows : List NodeRow) (labels : List (List Bool)) (levels : AreLevelled SaysParity rows labels) where
+module _ (rows : List NodeRow) (labels : List (List Bool))
+    (levels : AreLevelled SaysParity rows labels) where
   -- parities of levels are marked labels
   pub parities_marked : IsParityMarked rows labels
   parities_marked = record { each = levels.each; parity = levels.level }
@@ -47,55 +49,80 @@ module _ (rows : List NodeRow) (labels : List (List Bool)) (levels : AreLevelled
     say id = unwrap_or (colour_label (label_of rows labels id)) (label_of_parity 0)
 
     -- the label of a row says the parity of its level
-    says : (row : NodeRow) → Contains rows row → (level : ℕ) × IsLevel (edges_of rows) first.id row.id level
-        × (colour_label (label_of rows labels row.id) ≡ Some (say row.id)) × (say row.id ≡ label_of_parity level)
-    says row in' = says_level colour_label SaysParity label_of_parity parity_read rows net labels levels first at_first row in'
+    says : (row : NodeRow) → Contains rows row
+        → (level : ℕ) × IsLevel (edges_of rows) first.id row.id level
+        × (colour_label (label_of rows labels row.id) ≡ Some (say row.id))
+        × (say row.id ≡ label_of_parity level)
+    says row in' =
+        says_level colour_label SaysParity label_of_parity parity_read rows net labels levels first
+        at_first row in'
 
     module _ (bipartite : IsBipartite rows) where
       -- the labels of adjacent rows say different colours
-      apart : (row other : NodeRow) → Contains rows row → Contains rows other → Adjacent (edges_of rows) row.id other.id → (say row.id).colour ≢ (say other.id).colour
+      apart : (row other : NodeRow) → Contains rows row → Contains rows other
+          → Adjacent (edges_of rows) row.id other.id → (say row.id).colour ≢ (say other.id).colour
       apart row other in' also adjacent same =
           let near = says row in' in
           let far = says other also in
-          let one : (say row.id).colour ≡ is_odd near.0 = ap (λ (label : ColourLabel). label.colour) near.3 in
-          let two : (say other.id).colour ≡ is_odd far.0 = ap (λ (label : ColourLabel). label.colour) far.3 in
+          let one : (say row.id).colour ≡ is_odd near.0 =
+          ap (λ (label : ColourLabel). label.colour) near.3 in
+          let two : (say other.id).colour ≡ is_odd far.0 =
+          ap (λ (label : ColourLabel). label.colour) far.3 in
           adjacent_differ (edges_of rows) bipartite.0 bipartite.1 row.id other.id adjacent
-          (one_colour_at_levels (edges_of rows) bipartite.0 bipartite.1 first.id row.id other.id near.0 far.0 near.1 far.1 (sym one ∙ same ∙ two))
+          (one_colour_at_levels (edges_of rows) bipartite.0 bipartite.1 first.id row.id other.id
+          near.0 far.0 near.1 far.1 (sym one ∙ same ∙ two))
 
       -- so they meet rule 3
-      meets_rule_3 : (row : NodeRow) → Contains rows row → differs_from_neighbours (said say row) ≡ true
+      meets_rule_3 : (row : NodeRow) → Contains rows row
+          → differs_from_neighbours (said say row) ≡ true
       meets_rule_3 row in' = all_ports_pass (differs_from (say row.id).colour) say row.ports passes
         where
-          passes : (port : Port) → Contains row.ports port → differs_from (say row.id).colour (said_port say port) ≡ true
+          passes : (port : Port) → Contains row.ports port
+              → differs_from (say row.id).colour (said_port say port) ≡ true
           passes port has =
-              let place : (i : ℕ) × (slice_get rows i ≡ Some row) = place_from_Contains rows row in' in
-              let at : (p : ℕ) × (slice_get row.ports p ≡ Some port) = place_from_Contains row.ports port has in
-              let found : (other : NodeRow) × (row_of rows port.nbr ≡ Some other) = neighbour_found rows net place.0 row place.1 at.0 port at.1 in
-              let then : (j : ℕ) × (slice_get rows j ≡ Some found.0) × (port.nbr ≡ found.0.id) = row_place rows net port.nbr found.0 found.1 in
-              let adjacent : Adjacent (edges_of rows) row.id found.0.id = subst (Adjacent (edges_of rows) row.id) then.2 (Adjacent-port rows net place.0 at.0 row port place.1 at.1) in
+              let place : (i : ℕ) × (slice_get rows i ≡ Some row) =
+              place_from_Contains rows row in' in
+              let at : (p : ℕ) × (slice_get row.ports p ≡ Some port) =
+              place_from_Contains row.ports port has in
+              let found : (other : NodeRow) × (row_of rows port.nbr ≡ Some other) =
+              neighbour_found rows net place.0 row place.1 at.0 port at.1 in
+              let then : (j : ℕ) × (slice_get rows j ≡ Some found.0) × (port.nbr ≡ found.0.id) =
+              row_place rows net port.nbr found.0 found.1 in
+              let adjacent : Adjacent (edges_of rows) row.id found.0.id =
+              subst (Adjacent (edges_of rows) row.id) then.2
+              (Adjacent-port rows net place.0 at.0 row port place.1 at.1) in
               two_differ (say row.id).colour (say port.nbr).colour
               (subst (λ (id : ℕ). (say row.id).colour ≢ (say id).colour) (sym then.2)
               (apart row found.0 in' (Contains-from_place rows then.0 found.0 then.1) adjacent))
 
       -- and are accepted
       accepted : AllAccept judge_bipartite rows labels
-      accepted = said_accepted colour_label bipartite_rules rows net labels say (λ row in'. (says row in').2) (λ row in'. (meets_rule_3 row in', tt))
+      accepted =
+          said_accepted colour_label bipartite_rules rows net labels say
+          (λ row in'. (says row in').2) (λ row in'. (meets_rule_3 row in', tt))
 
   -- where the network has a two-colouring, the parities of levels are accepted
-  pub accepted_where_bipartite : IsNetwork rows → IsBipartite rows → AllAccept judge_bipartite rows labels
-  accepted_where_bipartite net = let (first, at) = first_row rows net.limits.some in accepted net first at
+  pub accepted_where_bipartite : IsNetwork rows → IsBipartite rows
+      → AllAccept judge_bipartite rows labels
+  accepted_where_bipartite net =
+      let (first, at) = first_row rows net.limits.some in accepted net first at
 
   -- a label that says a parity is one bit long
   pub parities_short : (net : IsNetwork rows) → All (λ (label : List Bool). length label ≤ 1) labels
   parities_short net place d within =
       let (first, at_first) = first_row rows net.limits.some in
       let row : NodeRow = get_or rows place first in
-      let at : slice_get rows place ≡ Some row = slice_get-get_or rows place first (omega (arith, within, levels.each)) in
-      let found = levels.level first row place (get_or labels place d) at_first at (slice_get-get_or labels place d within) in
+      let at : slice_get rows place ≡ Some row =
+      slice_get-get_or rows place first (omega (arith, within, levels.each)) in
+      let found =
+      levels.level first row place (get_or labels place d) at_first at
+      (slice_get-get_or labels place d within) in
       omega (arith, ap (λ (label : List Bool). length label) found.2)
 
 -- a network is marked in one way
-pub one_marking : (rows : List NodeRow) (labels others : List (List Bool)) → 1 ≤ length rows → IsParityMarked rows labels → IsParityMarked rows others → labels ≡ others
+pub one_marking : (rows : List NodeRow) (labels others : List (List Bool)) → 1 ≤ length rows
+    → IsParityMarked rows labels → IsParityMarked rows others → labels ≡ others
 one_marking rows labels others some one two =
     one_levelled SaysParity (λ level one other says too. says ∙ sym too) rows labels others some
-    (record { each = one.each; level = one.parity }) (record { each = two.each; level = two.parity })
+    (record { each = one.each; level = one.parity })
+    (record { each = two.each; level = two.parity })

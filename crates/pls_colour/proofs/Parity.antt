@@ -16,7 +16,8 @@ is_odd-next : (n : ℕ) → is_odd (suc n) ≡ not (is_odd n)
 is_odd-next n = by (is_odd n) refl
   where
     by : (b : Bool) → is_odd n ≡ b → is_odd (suc n) ≡ not b
-    by true e = let odd = eqb-true (n % 2) 1 e in ne_eqb (suc n % 2) 1 (λ same. omega (arith, odd, same))
+    by true e =
+        let odd = eqb-true (n % 2) 1 e in ne_eqb (suc n % 2) 1 (λ same. omega (arith, odd, same))
     by false e = let even = eqb-false (n % 2) 1 e in eq-eqb (suc n % 2) 1 (omega (arith, even))
 
 -- a colour that differs is the other one
@@ -40,16 +41,19 @@ module _ (edges : List Edge) (colour : ℕ → Bool) (differs : Colours colour e
   ]
 
   -- along a walk the colours alternate
-  pub alternates : (u v : ℕ) (nodes : List ℕ) → Walk edges u nodes v → colour v ≡ turned (is_odd (length nodes)) (colour u)
+  pub alternates : (u v : ℕ) (nodes : List ℕ) → Walk edges u nodes v
+      → colour v ≡ turned (is_odd (length nodes)) (colour u)
   alternates u v [] same = ap colour (sym same)
   alternates u v (next ∷ nodes) walk =
       alternates next v nodes walk.1
-      ∙ ap (turned (is_odd (length nodes))) (other_colour (colour u) (colour next) (adjacent_differ u next walk.0))
+      ∙ ap (turned (is_odd (length nodes)))
+      (other_colour (colour u) (colour next) (adjacent_differ u next walk.0))
       ∙ turned-other (is_odd (length nodes)) (colour u)
       ∙ ap (λ (odd : Bool). turned odd (colour u)) (sym (is_odd-next (length nodes)))
 
   -- nodes at levels of one parity have one colour
-  pub one_colour_at_levels : (root u v near far : ℕ) → IsLevel edges root u near → IsLevel edges root v far → is_odd near ≡ is_odd far → colour u ≡ colour v
+  pub one_colour_at_levels : (root u v near far : ℕ) → IsLevel edges root u near
+      → IsLevel edges root v far → is_odd near ≡ is_odd far → colour u ≡ colour v
   one_colour_at_levels root u v near far to_u to_v same =
       alternates root u to_u.nodes to_u.walk
       ∙ ap (λ (n : ℕ). turned (is_odd n) (colour root)) to_u.many
@@ -58,7 +62,8 @@ module _ (edges : List Edge) (colour : ℕ → Bool) (differs : Colours colour e
       ∙ sym (alternates root v to_v.nodes to_v.walk)
 
 -- a node has one level
-pub one_level : (edges : List Edge) (u v one other : ℕ) → IsLevel edges u v one → IsLevel edges u v other → one ≡ other
+pub one_level : (edges : List Edge) (u v one other : ℕ) → IsLevel edges u v one
+    → IsLevel edges u v other → one ≡ other
 one_level edges u v one other first second =
     let up = first.fewest second.nodes second.walk in
     let down = second.fewest first.nodes first.walk in

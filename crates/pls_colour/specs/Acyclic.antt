@@ -1,6 +1,6 @@
--- The scheme of networks without cycle: what a label says, what a node judges, and the marker's labels.
--- The property is that there are no three or more distinct nodes, each adjacent to the next and the last
--- to the first.
+-- The scheme of networks without cycle: what a label says, what a node judges, and the marker's
+-- labels. The property is that there are no three or more distinct nodes, each adjacent to the next
+-- and the last to the first.
 use Rattle.std.specs.Prelude.{◌≡◌, ℕ, ◌+◌, ◌==◌, nat_le, Bool, ◌||◌, List, [], ◌∷◌, length, count_by, slice_get, Option, Some, None, option_and_then}
 use Rattle.std.specs.List.{list_all}
 use Rattle.pls_model.specs.declared.row.NodeRow.{NodeRow}
@@ -30,7 +30,9 @@ cycle_label_in takes bits = option_and_then cycle_label (numbers_in takes 1 bits
 
 -- rule 3: each neighbour is one deeper, or one less deep
 abbrev pub differs_by_one : Read CycleLabel → Bool
-differs_by_one view = list_all (λ port. port.label.depth == view.own.depth + 1 || view.own.depth == port.label.depth + 1) view.ports
+differs_by_one view =
+    list_all (λ port. port.label.depth == view.own.depth + 1
+    || view.own.depth == port.label.depth + 1) view.ports
 
 -- rule 4: at most one neighbour is one less deep
 abbrev pub has_one_above : Read CycleLabel → Bool
@@ -45,7 +47,8 @@ abbrev pub judge_acyclic : (List Bool → Option (ℕ × List Bool)) → Seen �
 judge_acyclic takes view = judge_by (cycle_label_in takes) acyclic_rules view
 
 -- the label of each node is the fewest edges from the node of smallest identity, which stands first
-pub record IsLevelMarked (code : ℕ → List Bool) (rows : List NodeRow) (labels : List (List Bool)) : Type 0 where
+pub record IsLevelMarked (code : ℕ → List Bool) (rows : List NodeRow)
+    (labels : List (List Bool)) : Type 0 where
   pub each : length labels ≡ length rows
   pub level : (first row : NodeRow) (place : ℕ) (label : List Bool) → slice_get rows 0 ≡ Some first
       → slice_get rows place ≡ Some row → slice_get labels place ≡ Some label

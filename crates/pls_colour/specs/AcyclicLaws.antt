@@ -1,4 +1,5 @@
--- What the labels of networks without cycle say: one depth each, and all together that there is no cycle.
+-- What the labels of networks without cycle say: one depth each, and all together that there is no
+-- cycle.
 use Rattle.std.proofs.Common.{◌≡◌, ℕ, ◌+◌, ◌≤◌, ◌==◌, inl, inr, Bool, List, [], ◌∷◌, map, Contains, Option, Some, unwrap_or, refl, subst, count_by}
 use Rattle.std.proofs.lemmas.Bool.{or_cases, eqb-true, leb-true}
 use Rattle.pls_model.specs.declared.row.NodeRow.{NodeRow}
@@ -23,41 +24,56 @@ numbers_of_cycle label = label.depth ∷ []
 cycle_is_numbers : AreNumbers 1 cycle_label numbers_of_cycle
 cycle_is_numbers = record { many = λ label. refl; given = λ label. refl; only = only }
   where
-    only : (found : List ℕ) (label : CycleLabel) → cycle_label found ≡ Some label → found ≡ numbers_of_cycle label
+    only : (found : List ℕ) (label : CycleLabel) → cycle_label found ≡ Some label
+        → found ≡ numbers_of_cycle label
     only [] label is = absurd (cc)
     only (depth ∷ []) label is = cc
     only (depth ∷ next ∷ others) label is = absurd (cc)
 
-module _ (code : ℕ → List Bool) (takes : List Bool → Option (ℕ × List Bool)) (taken : TakesCodes code takes) where
+module _ (code : ℕ → List Bool) (takes : List Bool → Option (ℕ × List Bool))
+    (taken : TakesCodes code takes) where
   -- the code of a depth is read to it
-  pub coded_label : (bits : List Bool) (label : CycleLabel) → IsCycleLabel code bits label → cycle_label_in takes bits ≡ Some label
-  coded_label bits label coded = label_in-spelled 1 cycle_label numbers_of_cycle cycle_is_numbers code takes taken bits label coded
+  pub coded_label : (bits : List Bool) (label : CycleLabel) → IsCycleLabel code bits label
+      → cycle_label_in takes bits ≡ Some label
+  coded_label bits label coded =
+      label_in-spelled 1 cycle_label numbers_of_cycle cycle_is_numbers code takes taken bits label
+      coded
 
   -- bits are the code of one depth
-  pub one_depth : (bits : List Bool) (a b : CycleLabel) → IsCycleLabel code bits a → IsCycleLabel code bits b → a ≡ b
-  one_depth bits a b first second = one_label 1 cycle_label numbers_of_cycle cycle_is_numbers code takes taken bits a b first second
+  pub one_depth : (bits : List Bool) (a b : CycleLabel) → IsCycleLabel code bits a
+      → IsCycleLabel code bits b → a ≡ b
+  one_depth bits a b first second =
+      one_label 1 cycle_label numbers_of_cycle cycle_is_numbers code takes taken bits a b first
+      second
 
 -- labels that every node accepts show that there is no cycle
-pub acyclic_sound : (takes : List Bool → Option (ℕ × List Bool)) (rows : List NodeRow) → IsNetwork rows
+pub acyclic_sound : (takes : List Bool → Option (ℕ × List Bool)) (rows : List NodeRow)
+    → IsNetwork rows
     → (labels : List (List Bool)) → AllAccept (judge_acyclic takes) rows labels → IsAcyclic rows
-acyclic_sound takes rows net labels accepted = acyclic_by_depths rows net (λ id. (say id).depth) differ few
+acyclic_sound takes rows net labels accepted =
+    acyclic_by_depths rows net (λ id. (say id).depth) differ few
   where
     say : ℕ → CycleLabel
     say id = unwrap_or (cycle_label_in takes (label_of rows labels id)) (label_of_depth 0)
 
     hold : (row : NodeRow) → Contains rows row → AllHold (acyclic_rules (said say row))
-    hold row in' = (accepted_say (cycle_label_in takes) acyclic_rules rows labels (label_of_depth 0) accepted row in').1
+    hold row in' =
+        (accepted_say (cycle_label_in takes) acyclic_rules rows labels (label_of_depth 0) accepted
+        row in').1
 
     differ : DifferByOne rows (λ id. (say id).depth)
     differ row port in' has =
         let own : ℕ = (say row.id).depth in
         let other : ℕ = (say port.nbr).depth in
-        elim (or_cases (other == own + 1) (own == other + 1) (passes_port (is_beside own) say row.ports (hold row in').0 port has)) [
+        elim (or_cases (other == own + 1) (own == other + 1)
+        (passes_port (is_beside own) say row.ports (hold row in').0 port has)) [
           | inl deeper ↦ inl (eqb-true other (own + 1) deeper)
           | inr less ↦ inr (eqb-true own (other + 1) less)
         ]
 
     few : HaveOneAbove rows (λ id. (say id).depth)
     few row in' =
-        subst (λ (count : ℕ). count ≤ 1) (count_by-map (is_above (say row.id).depth) (said_port say) row.ports)
-        (leb-true (count_by (is_above (say row.id).depth) (map (said_port say) row.ports)) 1 (hold row in').1.0)
+        subst (λ (count : ℕ). count ≤ 1)
+        (count_by-map (is_above (say row.id).depth) (said_port say) row.ports)
+        (leb-true (count_by (is_above (say row.id).depth) (map (said_port say) row.ports)) 1
+        (hold row in').1.0)

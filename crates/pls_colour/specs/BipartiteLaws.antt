@@ -20,26 +20,37 @@ differ-apart false true differs same = cc
 differ-apart false false differs same = cc
 
 -- labels that every node accepts are a two-colouring
-pub bipartite_sound : (rows : List NodeRow) (labels : List (List Bool)) → AllAccept judge_bipartite rows labels → IsBipartite rows
+pub bipartite_sound : (rows : List NodeRow) (labels : List (List Bool))
+    → AllAccept judge_bipartite rows labels → IsBipartite rows
 bipartite_sound rows labels accepted = (λ id. (say id).colour, across)
   where
     say : ℕ → ColourLabel
     say id = unwrap_or (colour_label (label_of rows labels id)) (label_of_colour false)
 
-    across : (edge : Edge) → Contains (edges_of rows) edge → (say edge.a).colour ≢ (say edge.b).colour
+    across : (edge : Edge) → Contains (edges_of rows) edge
+        → (say edge.a).colour ≢ (say edge.b).colour
     across edge in' =
-        let from : (row : NodeRow) × Contains rows row × Contains (edges_from row) edge = Contains-from_flat_map edges_from rows edge in' in
+        let from : (row : NodeRow) × Contains rows row × Contains (edges_from row) edge =
+        Contains-from_flat_map edges_from rows edge in' in
         let row : NodeRow = from.0 in
         let up : Port → Bool = λ port. nat_lt row.id port.nbr in
-        let edge_of : Port → Edge = λ port. record { a = row.id; b = port.nbr; weight = port.weight } in
-        let given : (port : Port) × Contains (filter up row.ports) port × (edge_of port ≡ edge) = Contains-from_map edge_of (filter up row.ports) edge from.2 in
+        let edge_of : Port → Edge =
+        λ port. record { a = row.id; b = port.nbr; weight = port.weight } in
+        let given : (port : Port) × Contains (filter up row.ports) port × (edge_of port ≡ edge) =
+        Contains-from_map edge_of (filter up row.ports) edge from.2 in
         let port : Port = given.0 in
-        let holds = (accepted_say colour_label bipartite_rules rows labels (label_of_colour false) accepted row from.1).1 in
-        let passes = passes_port (differs_from (say row.id).colour) say row.ports holds.0 port (Contains-from_filter up row.ports port given.1).0 in
-        subst (λ (edge : Edge). (say edge.a).colour ≢ (say edge.b).colour) given.2 (differ-apart (say row.id).colour (say port.nbr).colour passes)
+        let holds =
+        (accepted_say colour_label bipartite_rules rows labels (label_of_colour false) accepted
+        row from.1).1 in
+        let passes =
+        passes_port (differs_from (say row.id).colour) say row.ports holds.0 port
+        (Contains-from_filter up row.ports port given.1).0 in
+        subst (λ (edge : Edge). (say edge.a).colour ≢ (say edge.b).colour) given.2
+        (differ-apart (say row.id).colour (say port.nbr).colour passes)
 
 -- bits say one colour
-pub one_colour : (bits : List Bool) (a b : ColourLabel) → bits ≡ a.colour ∷ [] → bits ≡ b.colour ∷ [] → a ≡ b
+pub one_colour : (bits : List Bool) (a b : ColourLabel) → bits ≡ a.colour ∷ []
+    → bits ≡ b.colour ∷ [] → a ≡ b
 one_colour bits a b first second =
     let same : a.colour ≡ b.colour = cc in
     ap (λ (colour : Bool). the_label colour) same
@@ -48,5 +59,6 @@ one_colour bits a b first second =
     the_label colour = record { colour = colour }
 
 -- a label has one spelling
-pub one_spelling : (label : ColourLabel) (a b : List Bool) → a ≡ label.colour ∷ [] → b ≡ label.colour ∷ [] → a ≡ b
+pub one_spelling : (label : ColourLabel) (a b : List Bool) → a ≡ label.colour ∷ []
+    → b ≡ label.colour ∷ [] → a ≡ b
 one_spelling label a b first second = first ∙ sym second

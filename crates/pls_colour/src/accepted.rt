@@ -23,7 +23,8 @@ pub(crate) fn accepted_levels<S: Checker + WritesLevels>(
     ensures valid { IsNetwork net.now }
     ensures refused { IfOk result (λ found. IfNone found ((labels : List (List Bool))
         × AreLevelled S.says net.now labels × (AllAccept (S.judge checker.now) net.now labels → ⊥))) }
-    ensures levels { IfOk result (λ found. IfSome found (λ labels. AreLevelled S.says net.now labels)) }
+    ensures levels { IfOk result
+        (λ found. IfSome found (λ labels. AreLevelled S.says net.now labels)) }
     ensures accepted { IfOk result (λ found. IfSome found (λ labels.
         AllAccept (S.judge checker.now) net.now labels)) }
 {

@@ -104,7 +104,8 @@ fn verdict_on<C: NumCode>(view: &View<'_>) -> Verdict
 // Rule 3: each neighbour is one deeper, or one less deep.
 fn differs_by_one<C: NumCode>(own: u64, ports: &[PortView<'_>]) -> bool
     ensures { result
-        ≡ list_all (λ port. passes_at (cycle_label_in C.takes) (is_beside own) port.weight port.label) ports.now }
+        ≡ list_all (λ port. passes_at (cycle_label_in C.takes) (is_beside own) port.weight
+        port.label) ports.now }
 {
     ports.iter().all(|port| is_beside::<C>(own, port))
 }
@@ -112,14 +113,16 @@ fn differs_by_one<C: NumCode>(own: u64, ports: &[PortView<'_>]) -> bool
 // Rule 4: at most one neighbour is one less deep.
 fn has_one_above<C: NumCode>(own: u64, ports: &[PortView<'_>]) -> bool
     ensures { result
-        ≡ nat_le (count_by (λ port. passes_at (cycle_label_in C.takes) (is_above own) port.weight port.label) ports.now) 1 }
+        ≡ nat_le (count_by (λ port. passes_at (cycle_label_in C.takes) (is_above own) port.weight
+        port.label) ports.now) 1 }
 {
     ports.iter().filter(|port| is_above::<C>(own, port)).count() <= 1
 }
 
 // Whether the neighbour is one deeper, or one less deep.
 fn is_beside<C: NumCode>(own: u64, port: &PortView<'_>) -> bool
-    ensures { result ≡ passes_at (cycle_label_in C.takes) (is_beside own) port.now.weight port.now.label }
+    ensures { result ≡ passes_at (cycle_label_in C.takes) (is_beside own) port.now.weight
+        port.now.label }
 {
     match Acyclic::<C>::read(&port.label) {
         Some(label) => is_one_more(label.depth, own) || is_one_more(own, label.depth),
@@ -129,7 +132,8 @@ fn is_beside<C: NumCode>(own: u64, port: &PortView<'_>) -> bool
 
 // Whether the neighbour is one less deep.
 fn is_above<C: NumCode>(own: u64, port: &PortView<'_>) -> bool
-    ensures { result ≡ passes_at (cycle_label_in C.takes) (is_above own) port.now.weight port.now.label }
+    ensures { result ≡ passes_at (cycle_label_in C.takes) (is_above own) port.now.weight
+        port.now.label }
 {
     match Acyclic::<C>::read(&port.label) {
         Some(label) => is_one_more(own, label.depth),

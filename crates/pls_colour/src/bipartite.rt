@@ -99,7 +99,8 @@ fn verdict_on(view: &View<'_>) -> Verdict
 // Rule 3: each neighbour's colour differs from the own colour.
 fn differs_from_neighbours(own: bool, ports: &[PortView<'_>]) -> bool
     ensures { result
-        ≡ list_all (λ port. passes_at colour_label (differs_from own) port.weight port.label) ports.now }
+        ≡ list_all (λ port. passes_at colour_label (differs_from own) port.weight port.label)
+        ports.now }
 {
     ports.iter().all(|port| differs_from(own, port))
 }

@@ -44,7 +44,8 @@ fn labels_of_levels<W: WritesLevels>(
     alloc: Global,
     levels: &[Option<u32>],
 ) -> Result<LabelStore, NoMemory>
-    ensures { IfOk result (λ labels. AreSpelled (λ bits level. W.says (unwrap_or level 0) bits) levels.now labels) }
+    ensures { IfOk result (λ labels. AreSpelled (λ bits level. W.says (unwrap_or level 0) bits)
+        levels.now labels) }
 {
     let mut labels = LabelStore::blank(alloc, levels.len())?;
     for (i, level) in levels.iter().enumerate() {

@@ -65,7 +65,8 @@ fn square(alloc: Global) -> Result<Vec<NodeRow>, AllocError>
     ]?)
 }
 
-// Whether the network has the scheme's property, and its labels as a text, empty where it is not marked.
+// Whether the network has the scheme's property, and its labels as a text, empty where it is not
+// marked.
 fn answers<S: Scheme>(alloc: Global, scheme: &S, rows: Vec<NodeRow>) -> Result<(bool, String), Fail>
     requires { AreWithinLimits rows.items }
 {

@@ -55,7 +55,8 @@ pub record PointsAlong (rows : List NodeRow) (row : NodeRow) (edge : Edge) : Typ
 
 module _ (rows : List NodeRow) (net : IsNetwork rows) where
   -- what gives no pointed edge is a row without pointer
-  pub none_where_root : (row : NodeRow) → Contains rows row → is_none (pointed_edge row) ≡ is_root row
+  pub none_where_root : (row : NodeRow) → Contains rows row
+      → is_none (pointed_edge row) ≡ is_root row
   none_where_root row in' = by row.state.up refl
     where
       by : (o : Option ℕ) → row.state.up ≡ o → is_none (pointed_edge row) ≡ is_root row
@@ -85,7 +86,8 @@ module _ (rows : List NodeRow) (net : IsNetwork rows) where
         | inl same ↦ absurd (names_another rows net i row at p port there same)
         | inr order ↦ elim order [
           | inl up ↦ subst (Contains (edges_of rows))
-              (edge_is row.id (min row.id port.nbr) port.nbr (max row.id port.nbr) port.weight port.weight
+              (edge_is row.id (min row.id port.nbr) port.nbr (max row.id port.nbr) port.weight
+              port.weight
               (omega (arith, up)) (omega (arith, up)) refl)
               (listed_up row port in' has up)
           | inr down ↦ back down (way_back rows net i row at p port there)
@@ -94,7 +96,8 @@ module _ (rows : List NodeRow) (net : IsNetwork rows) where
     where
       back : port.nbr < row.id → WayBack rows row port → Contains (edges_of rows) (edge_at row port)
       back down way =
-          let (j, at, owner) : (j : ℕ) × (slice_get rows j ≡ Some way.other) × (port.nbr ≡ way.other.id) =
+          let (j, at, owner) : (j : ℕ) × (slice_get rows j ≡ Some way.other)
+          × (port.nbr ≡ way.other.id) =
           row_place rows net port.nbr way.other way.named in
           let (q, there, passes) : (q : ℕ) × (slice_get way.other.ports q ≡ Some way.back)
           × ((row.id == way.back.nbr) ≡ true) =
@@ -105,13 +108,15 @@ module _ (rows : List NodeRow) (net : IsNetwork rows) where
           way.back.weight port.weight
           (omega (arith, owner, down)) (omega (arith, named, down)) (sym way.weight))
           (listed_up way.other way.back (Contains-from_place rows j way.other at)
-          (Contains-from_place way.other.ports q way.back there) (omega (arith, owner, named, down)))
+          (Contains-from_place way.other.ports q way.back there)
+          (omega (arith, owner, named, down)))
 
   -- the edge that a row points along is that of its port
   pub PointsAlong-row : (row : NodeRow) (edge : Edge) → Contains rows row
       → pointed_edge row ≡ Some edge → PointsAlong rows row edge
   PointsAlong-row row edge in' gives =
-      let (port, pointed, is) : (port : Port) × (pointed_port row ≡ Some port) × (edge_at row port ≡ edge) =
+      let (port, pointed, is) : (port : Port) × (pointed_port row ≡ Some port)
+      × (edge_at row port ≡ edge) =
       from_option_map (edge_at row) (pointed_port row) edge gives in
       record {
         port = port;
@@ -125,7 +130,8 @@ module _ (rows : List NodeRow) (net : IsNetwork rows) where
   pub PointsAlong-pointed : (edge : Edge) → Contains (pointed_edges rows) edge
       → (row : NodeRow) × Contains rows row × PointsAlong rows row edge
   PointsAlong-pointed edge in' =
-      let (row, row_in, gives) : (row : NodeRow) × Contains rows row × (pointed_edge row ≡ Some edge) =
+      let (row, row_in, gives) : (row : NodeRow) × Contains rows row
+      × (pointed_edge row ≡ Some edge) =
       Contains-from_filter_map pointed_edge rows edge in' in
       (row, row_in, PointsAlong-row row edge row_in gives)
 

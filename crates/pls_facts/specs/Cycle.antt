@@ -5,7 +5,8 @@ use Rattle.pls_model.specs.declared.row.Port.{Port}
 use Rattle.pls_model.specs.Walk.{Edge, Adjacent, Walk, edges_of}
 use Rattle.pls_facts.specs.SpanningTree.{AreDistinct}
 
--- three or more distinct nodes, each adjacent to the next, and the last, which is `last`, to the first
+-- three or more distinct nodes, each adjacent to the next, and the last, which is `last`, to the
+-- first
 pub record IsCycle (edges : List Edge) (last : ℕ) (nodes : List ℕ) : Type 0 where
   pub long : 3 ≤ length nodes
   pub distinct : AreDistinct nodes

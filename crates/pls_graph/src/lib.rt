@@ -2,11 +2,12 @@
 //! [`Network::build`] names why rows are none, and a caller needs no premise afterwards, since `valid`
 //! of [`Network::len`] says what holds. Places count the rows from 0; identities rise with them.
 //!
-//! [`Network::size`] tells how large a network is, and [`connected`] whether its edges join all nodes.
+//! [`Network::size`] tells how large a network is, and [`connected`] whether its edges join all
+//! nodes.
 //!
-//! Proofs above may cite `proofs/Placed` (rows and ports are found by their identities, and each port
-//! has a port back), `proofs/Valid` (one fact for each refusal), `proofs/Adjacent` (nodes are adjacent
-//! exactly where a port names one), `proofs/Joined` (walks compose and turn), and on lists
+//! Proofs above may cite `proofs/Placed` (rows and ports are found by their identities, and each
+//! port has a port back), `proofs/Valid` (one fact for each refusal), `proofs/Adjacent` (nodes are
+//! adjacent exactly where a port names one), `proofs/Joined` (walks compose and turn), and on lists
 //! `proofs/Members` and `proofs/Finds`.
 #![tactic(auto)]
 

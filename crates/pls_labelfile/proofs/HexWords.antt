@@ -20,14 +20,18 @@ word_spells len word hex some = by hex.bits hex.long hex.is
     by (bit ∷ bits) long is = record { bits = bit ∷ bits; long = long; written = is }
 
 -- digits of bits are refused for want of memory alone
-pub only_memory : (len : ℕ) (digits : List ℕ) (result : Result (List Bool) HexError) (error : HexError) → Spells len digits
+pub only_memory : (len : ℕ) (digits : List ℕ) (result : Result (List Bool) HexError)
+    (error : HexError) → Spells len digits
     → result ≡ Err error → (IsErrOf result Length → length digits ≢ 2 * byte_count len)
-    → (IsErrOf result Digit → (length digits ≡ 2 * byte_count len) × (list_all is_lower_digit digits ≡ false))
+    → (IsErrOf result Digit
+    → (length digits ≡ 2 * byte_count len) × (list_all is_lower_digit digits ≡ false))
     → (IsErrOf result Spare → HasSpareBit len digits) → error ≡ NoMemory
-only_memory len digits result Length spells is size digit spare = absurd (size is (Spells-length len digits spells))
+only_memory len digits result Length spells is size digit spare =
+    absurd (size is (Spells-length len digits spells))
 only_memory len digits result Digit spells is size digit spare =
     let lower = Spells-lower len digits spells in
     let other = (digit is).1 in
     cc
-only_memory len digits result Spare spells is size digit spare = absurd (Spells-clean len digits spells (spare is))
+only_memory len digits result Spare spells is size digit spare =
+    absurd (Spells-clean len digits spells (spare is))
 only_memory len digits result NoMemory spells is size digit spare = refl

@@ -34,7 +34,8 @@ abbrev pub label_of : (words : LabelWords) → FitsWords words → NamedLabel
 label_of words fits = record { id = words.id; bits = fits.hex.bits }
 
 -- words with the bits that they say are the line of a label
-pub line_of_words : (words : LabelWords) (bits : List Bool) → length bits ≡ words.len → hex_word bits ≡ words.hex
+pub line_of_words : (words : LabelWords) (bits : List Bool) → length bits ≡ words.len
+    → hex_word bits ≡ words.hex
     → label_line (record { id = words.id; bits = bits }) ≡ written_label words
 line_of_words words bits long is =
     λ i. line_of (codes "label" ∷ decimal words.id ∷ decimal (long i) ∷ is i ∷ [])
@@ -45,14 +46,17 @@ pub label_of-line : (words : LabelWords) (fits : FitsWords words)
 label_of-line words fits = line_of_words words fits.hex.bits fits.hex.long fits.hex.is
 
 -- a label with as many bits as words in range say fits
-pub label_fits : (words : LabelWords) (bits : List Bool) → AreInRange words → length bits ≡ words.len
+pub label_fits : (words : LabelWords) (bits : List Bool) → AreInRange words
+    → length bits ≡ words.len
     → FitsLabel (record { id = words.id; bits = bits })
-label_fits words bits in_range long = record { id = in_range.id; short = omega (arith, in_range.short) }
+label_fits words bits in_range long =
+    record { id = in_range.id; short = omega (arith, in_range.short) }
 
 -- ---- which bytes they have
 
 -- a byte below the digits is none of lower-case hex digits
-lower_lacks : (byte : ℕ) (digits : List ℕ) → byte < 48 → list_all is_lower_digit digits ≡ true → Lacks byte digits
+lower_lacks : (byte : ℕ) (digits : List ℕ) → byte < 48 → list_all is_lower_digit digits ≡ true
+    → Lacks byte digits
 lower_lacks byte [] low h = tt
 lower_lacks byte (digit ∷ digits) low h =
     let parts = and_parts (is_lower_digit digit) _ h in
@@ -70,7 +74,8 @@ hex_word_lacks byte (bit ∷ bits) low =
 -- no line of a label has a line feed
 pub label_plain : (label : NamedLabel) → FitsLabel label → Lacks 10 (label_line label)
 label_plain label fits =
-    line_lacks 10 (codes "label" ∷ decimal label.id ∷ decimal (length label.bits) ∷ hex_word label.bits ∷ []) (omega arith) (
+    line_lacks 10 (codes "label" ∷ decimal label.id ∷ decimal (length label.bits)
+    ∷ hex_word label.bits ∷ []) (omega arith) (
       (omega arith, (omega arith, (omega arith, (omega arith, (omega arith, tt))))),
       (
         decimal_lacks 10 label.id (omega arith) (omega (arith, fits.id)),
@@ -105,10 +110,14 @@ pub record SameWords (a b : LabelWords) : Type 0 where
 pub same_words : (a b : LabelWords) (line : List ℕ) → AreInRange a → AreInRange b
     → line ≡ written_label a → line ≡ written_label b → SameWords a b
 same_words a b line fits_a fits_b p q =
-    let words = behind_word (codes "label") line (line_of (decimal a.id ∷ decimal a.len ∷ a.hex ∷ []))
+    let words =
+    behind_word (codes "label") line (line_of (decimal a.id ∷ decimal a.len ∷ a.hex ∷ []))
     (line_of (decimal b.id ∷ decimal b.len ∷ b.hex ∷ [])) p q in
-    let id = same_number a.id b.id _ _ (omega (arith, fits_a.id)) (omega (arith, fits_b.id)) words in
-    let len = same_number a.len b.len a.hex b.hex (omega (arith, fits_a.short)) (omega (arith, fits_b.short)) id.1 in
+    let id =
+    same_number a.id b.id _ _ (omega (arith, fits_a.id)) (omega (arith, fits_b.id)) words in
+    let len =
+    same_number a.len b.len a.hex b.hex (omega (arith, fits_a.short))
+    (omega (arith, fits_b.short)) id.1 in
     record { id = id.0; len = len.0; hex = len.1 }
 
 -- so many bits are told by their word
@@ -119,14 +128,18 @@ same_bits (bit ∷ a) [] long e = absurd (omega arith)
 same_bits (c ∷ a) (d ∷ b) long e = hex_digits-injective (c ∷ a) (d ∷ b) long e
 
 -- a line tells its label
-pub same_label : (a b : NamedLabel) → FitsLabel a → FitsLabel b → label_line a ≡ label_line b → a ≡ b
+pub same_label : (a b : NamedLabel) → FitsLabel a → FitsLabel b → label_line a ≡ label_line b
+    → a ≡ b
 same_label a b fits_a fits_b e =
-    let words = same_words (words_of a) (words_of b) (label_line a) (words_in_range a fits_a) (words_in_range b fits_b) refl e in
+    let words =
+    same_words (words_of a) (words_of b) (label_line a) (words_in_range a fits_a)
+    (words_in_range b fits_b) refl e in
     let bits = same_bits a.bits b.bits words.len words.hex in
     λ i. record { id = words.id i; bits = bits i }
 
 -- a line whose last word is none for so many bits is not that of a label
-pub other_words : (words : LabelWords) (line : List ℕ) → AreInRange words → line ≡ written_label words
+pub other_words : (words : LabelWords) (line : List ℕ) → AreInRange words
+    → line ≡ written_label words
     → (IsHexWord words.len words.hex → ⊥) → IsLabelLine line → ⊥
 other_words words line in_range is other says =
     let same = same_words words says.value line in_range says.fits.in_range is says.is in

@@ -18,18 +18,21 @@ no_lines = record { labels = []; fits = All-nil FitsLabel; is = refl }
 pub fault_at_heading : (old : Left) → (Stands (λ line. line ≡ codes "labels") old.rest → ⊥)
     → IsFault IsLabelsPart old old.number
 fault_at_heading old absent =
-    fault_in_heading (codes "labels") AreLabelLines [] old heading_plain labels_are_body no_lines absent
+    fault_in_heading (codes "labels") AreLabelLines [] old heading_plain labels_are_body no_lines
+    absent
 
 -- a label line or `end`
 abbrev IsBodyLine : List ℕ → Type 0
 IsBodyLine line = IsLabelLine line ⊎ (line ≡ codes "end")
 
 -- each line between heading and `end` is that of a label
-body_line : (labels : List NamedLabel) (front : List (List ℕ)) (line : List ℕ) (more : List (List ℕ)) → All FitsLabel labels
+body_line : (labels : List NamedLabel) (front : List (List ℕ)) (line : List ℕ)
+    (more : List (List ℕ)) → All FitsLabel labels
     → front ++ line ∷ more ≡ map label_line labels → IsLabelLine line
 body_line labels front line more fits e =
     (each_back IsLabelLine front (line ∷ more)
-    (subst (AllByRecursion IsLabelLine) (sym e) (each_label_line IsLabelLine says_label labels fits))).0
+    (subst (AllByRecursion IsLabelLine) (sym e)
+    (each_label_line IsLabelLine says_label labels fits))).0
 
 -- behind some labels a label line or `end` is due
 pub fault_at_next : (old now : Left) (labels : List NamedLabel) → All FitsLabel labels
@@ -37,11 +40,27 @@ pub fault_at_next : (old now : Left) (labels : List NamedLabel) → All FitsLabe
     → (Stands (λ line. line ≡ codes "end") now.rest → ⊥) → IsFault IsLabelsPart old now.number
 fault_at_next old now labels fits passes no_label no_end =
     let body = map label_line labels in
-    fault_in_body (codes "labels") AreLabelLines IsBodyLine body [] old now heading_plain labels_are_body passes
+    fault_in_body (codes "labels") AreLabelLines IsBodyLine body [] old now heading_plain
+    labels_are_body passes
     (record { labels = labels; fits = fits; is = append-nil body })
     (λ next. elim next.is [
-      | inl label ↦ no_label (record { line = next.line; after = next.after; is = label; plain = next.plain; cut = next.cut })
-      | inr end ↦ no_end (record { line = next.line; after = next.after; is = end; plain = next.plain; cut = next.cut })
+      | inl label ↦
+          no_label (record {
+            line = next.line;
+            after = next.after;
+            is = label;
+            plain = next.plain;
+            cut = next.cut;
+          })
+      | inr end ↦
+          no_end (record {
+            line = next.line;
+            after = next.after;
+            is = end;
+            plain = next.plain;
+            cut =
+                next.cut;
+          })
     ])
     (λ line next. elim next [
       | inl last ↦ inr last.1

@@ -10,31 +10,39 @@ use Rattle.pls_labelfile.specs.LabelsText.{NamedLabel, FitsLabel, AreLabelLines,
 use Rattle.pls_labelfile.proofs.LabelLines.{label_plain, label_no_end, same_label}
 
 -- what holds of the line of each label holds of the lines of labels
-pub each_label_line : (P : List ℕ → Type 0) → ((label : NamedLabel) → FitsLabel label → P (label_line label))
+pub each_label_line : (P : List ℕ → Type 0)
+    → ((label : NamedLabel) → FitsLabel label → P (label_line label))
     → (labels : List NamedLabel) → All FitsLabel labels → AllByRecursion P (map label_line labels)
 each_label_line P line [] fits = tt
-each_label_line P line (label ∷ labels) fits =
-    (line label (All-head FitsLabel label labels fits), each_label_line P line labels (All-tail FitsLabel label labels fits))
+each_label_line P line (label ∷ labels) fits = (
+  line label (All-head FitsLabel label labels fits),
+  each_label_line P line labels
+      (All-tail FitsLabel label labels fits),
+)
 
 -- the lines of labels are plain, and none of them is `end`
 pub labels_are_body : IsBody AreLabelLines
 labels_are_body = record {
-  plain = λ lines is. subst ArePlain (sym is.is) (each_label_line (Lacks 10) label_plain is.labels is.fits);
+  plain = λ lines is. subst ArePlain (sym is.is)
+      (each_label_line (Lacks 10) label_plain is.labels is.fits);
   open_ended = λ lines is.
       subst (Lacks (codes "end")) (sym is.is)
-      (each_label_line (λ line. line ≢ codes "end") (λ label fits. label_no_end label) is.labels is.fits);
+      (each_label_line (λ line. line ≢ codes "end") (λ label fits. label_no_end label) is.labels
+      is.fits);
 }
 
 -- the heading has no line feed
 pub heading_plain : Lacks 10 (codes "labels")
-heading_plain = (omega arith, (omega arith, (omega arith, (omega arith, (omega arith, (omega arith, tt))))))
+heading_plain =
+    (omega arith, (omega arith, (omega arith, (omega arith, (omega arith, (omega arith, tt))))))
 
 -- a labels part has plain lines, and none begins another
 pub labels_part : IsPart IsLabelsPart
 labels_part = framed_part (codes "labels") AreLabelLines heading_plain labels_are_body
 
 -- the lines of labels that fit are a labels part
-pub is_labels_part : (labels : List NamedLabel) → All FitsLabel labels → IsLabelsPart (labels_lines labels)
+pub is_labels_part : (labels : List NamedLabel) → All FitsLabel labels
+    → IsLabelsPart (labels_lines labels)
 is_labels_part labels fits = record {
   body = map label_line labels;
   fits = record { labels = labels; fits = fits; is = refl };
@@ -55,8 +63,10 @@ same_labels (c ∷ a) (d ∷ b) p q e =
     cc
 
 -- no line of labels is `end`
-no_end : (labels : List NamedLabel) → All FitsLabel labels → Lacks (codes "end") (map label_line labels)
-no_end labels fits = each_label_line (λ line. line ≢ codes "end") (λ label fits. label_no_end label) labels fits
+no_end : (labels : List NamedLabel) → All FitsLabel labels
+    → Lacks (codes "end") (map label_line labels)
+no_end labels fits =
+    each_label_line (λ line. line ≢ codes "end") (λ label fits. label_no_end label) labels fits
 
 -- a text fixes its labels, and what follows them
 pub one_labels : (a b : List NamedLabel) (x y : List ℕ) → All FitsLabel a → All FitsLabel b
@@ -66,5 +76,7 @@ one_labels a b x y p q e =
     (is_labels_part a p) (is_labels_part b q) e in
     let lines = whole.0 in
     let bodies : map label_line a ++ codes "end" ∷ [] ≡ map label_line b ++ codes "end" ∷ [] = cc in
-    let cut = same_first (codes "end") (map label_line a) (map label_line b) [] [] (no_end a p) (no_end b q) bodies in
+    let cut =
+    same_first (codes "end") (map label_line a) (map label_line b) [] [] (no_end a p)
+    (no_end b q) bodies in
     (same_labels a b p q cut.0, whole.1)

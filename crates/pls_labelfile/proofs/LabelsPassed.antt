@@ -12,17 +12,22 @@ use Rattle.pls_labelfile.proofs.LabelLines.{label_of, label_of-line, label_fits}
 
 -- no label was passed so far
 pub no_labels : (old : Left) → PassesLabels old old 0
-no_labels old = record { labels = []; fits = All-nil FitsLabel; passed = passes_none old; sum = refl }
+no_labels old =
+    record { labels = []; fits = All-nil FitsLabel; passed = passes_none old; sum = refl }
 
 -- the bits of one label more
-capped_push : (labels : List NamedLabel) (label : NamedLabel) (bits len : ℕ) → bits ≡ capped (total_bits labels)
-    → length label.bits ≡ len → min (bits + len) (2 ^ 64 - 1) ≡ capped (total_bits (labels ++ label ∷ []))
+capped_push : (labels : List NamedLabel) (label : NamedLabel) (bits len : ℕ)
+    → bits ≡ capped (total_bits labels)
+    → length label.bits ≡ len
+    → min (bits + len) (2 ^ 64 - 1) ≡ capped (total_bits (labels ++ label ∷ []))
 capped_push labels label bits len so_far long =
     omega (arith, so_far, long, sum_by_push (λ (l : NamedLabel). length l.bits) labels label)
 
 -- one label more was passed
-pub one_label_more : (old mid new : Left) (bits len : ℕ) (words : LabelWords) → PassesLabels old mid bits → FitsWords words
-    → Passes mid new (written_label words ∷ []) → len ≡ words.len → PassesLabels old new (min (bits + len) (2 ^ 64 - 1))
+pub one_label_more : (old mid new : Left) (bits len : ℕ) (words : LabelWords)
+    → PassesLabels old mid bits → FitsWords words
+    → Passes mid new (written_label words ∷ []) → len ≡ words.len
+    → PassesLabels old new (min (bits + len) (2 ^ 64 - 1))
 one_label_more old mid new bits len words so_far fits passed same =
     let label = label_of words fits in
     let line : Passes mid new (label_line label ∷ []) =
@@ -38,14 +43,20 @@ one_label_more old mid new bits len words so_far fits passed same =
 -- what was passed of a text is what it had and has no more
 front_text : (whole a b : List ℕ) → whole ≡ a ++ b → take (length whole - length b) whole ≡ a
 front_text whole a b e =
-    let count : length a ≡ length whole - length b = omega (arith, ap length e, length-append a b) in
+    let count : length a ≡ length whole - length b =
+    omega (arith, ap length e, length-append a b) in
     ap (take (length whole - length b)) e ∙ take_at a b (length whole - length b) count
 
 -- heading, labels and `end` are a labels part
 pub part_passed : (old behind before new : Left) (number bits : ℕ) (start rest : List ℕ)
     → Passes old behind (codes "labels" ∷ []) → PassesLabels behind before bits
-    → Passes before new (codes "end" ∷ []) → number ≡ old.number → start ≡ old.rest → rest ≡ new.rest
-    → PassesPart old new (record { text = take (length start - length rest) start; number = number; bits = bits })
+    → Passes before new (codes "end" ∷ []) → number ≡ old.number → start ≡ old.rest
+    → rest ≡ new.rest
+    → PassesPart old new (record {
+      text = take (length start - length rest) start;
+      number = number;
+      bits = bits;
+    })
 part_passed old behind before new number bits start rest heading labels end numbers starts rests =
     let body = map label_line labels.labels in
     let passed : Passes old new (labels_lines labels.labels) =
@@ -64,8 +75,10 @@ part_passed old behind before new number bits start rest heading labels end numb
     }
 
 -- the part that was passed says its labels
-pub part_told : (old behind before new : Left) (written : Written) (bits : ℕ) → Passes old behind (codes "labels" ∷ [])
-    → PassesLabels behind before bits → before.number ≤ 2 ^ 63 → PassesPart old new written → IsTold written
+pub part_told : (old behind before new : Left) (written : Written) (bits : ℕ)
+    → Passes old behind (codes "labels" ∷ [])
+    → PassesLabels behind before bits → before.number ≤ 2 ^ 63 → PassesPart old new written
+    → IsTold written
 part_told old behind before new written bits heading labels small part = record {
   labels = part.labels;
   tells = part.tells;
@@ -75,6 +88,8 @@ part_told old behind before new written bits heading labels small part = record 
 
 -- the place between the heading and what follows some labels
 pub next_place : (old behind now : Left) (bits : ℕ) → Passes old behind (codes "labels" ∷ [])
-    → (labels : PassesLabels behind now bits) → Passes old now (codes "labels" ∷ map label_line labels.labels)
+    → (labels : PassesLabels behind now bits)
+    → Passes old now (codes "labels" ∷ map label_line labels.labels)
 next_place old behind now bits heading labels =
-    passes_then old behind now (codes "labels" ∷ []) (map label_line labels.labels) heading labels.passed
+    passes_then old behind now (codes "labels" ∷ []) (map label_line labels.labels) heading
+    labels.passed

@@ -21,7 +21,8 @@ use Rattle.pls_labelfile.proofs.Named.{named-parts}
 use Rattle.pls_labelfile.proofs.LabelsPart.{labels_part, is_labels_part}
 
 -- a reader before line 1 names the first faulty line of the text
-pub form_refused : (text : List ℕ) (old : Left) (error : TextError) → old.number ≡ 1 → old.rest ≡ text
+pub form_refused : (text : List ℕ) (old : Left) (error : TextError) → old.number ≡ 1
+    → old.rest ≡ text
     → IsFormFault IsLabelsPart old error → IsFormRefusal text error
 form_refused text old error first rest fault = (
   fault.0,
@@ -43,12 +44,14 @@ left_refused text old now written error first rest part some is = (
 )
 
 -- the text that was passed is all of the text
-pub part_is_whole : (text : List ℕ) (old now : Left) (written : Written) → old.number ≡ 1 → old.rest ≡ text
+pub part_is_whole : (text : List ℕ) (old now : Left) (written : Written) → old.number ≡ 1
+    → old.rest ≡ text
     → PassesPart old now written → now.rest ≡ [] → IsWhole text written
 part_is_whole text old now written first rest part none =
     let all : labels_text part.labels ≡ text =
     sym (append-nil (labels_text part.labels))
-    ∙ ap (λ (more : List ℕ). labels_text part.labels ++ more) (sym none) ∙ sym part.passed.stands ∙ rest in
+    ∙ ap (λ (more : List ℕ). labels_text part.labels ++ more) (sym none) ∙ sym part.passed.stands
+    ∙ rest in
     record {
       labels = part.labels;
       tells = record { fits = part.tells.fits; is = sym all };
@@ -57,7 +60,8 @@ part_is_whole text old now written first rest part none =
     }
 
 -- a text with a first faulty line says no labels
-pub no_labels_told : (text : List ℕ) (line : ℕ) → IsFirstFault IsLabelsPart text line → (labels : List NamedLabel)
+pub no_labels_told : (text : List ℕ) (line : ℕ) → IsFirstFault IsLabelsPart text line
+    → (labels : List NamedLabel)
     → Tells text labels → ⊥
 no_labels_told text line fault labels tells =
     fault.2.none (labels_lines labels) (is_labels_part labels tells.fits) tells.is
@@ -65,10 +69,12 @@ no_labels_told text line fault labels tells =
 -- no labels are refused by a form
 refusal_no_form : (ids : List ℕ) (heading : ℕ) (labels : List NamedLabel) (line : ℕ)
     → refusal_of ids heading labels ≡ Some (Form line) → ⊥
-refusal_no_form ids heading labels line e = by (nat_lt (2 ^ 28) (total_bits labels)) (misfit ids labels) e
+refusal_no_form ids heading labels line e =
+    by (nat_lt (2 ^ 28) (total_bits labels)) (misfit ids labels) e
   where
     by : (over : Bool) (place : Option ℕ)
-        → (if over then Some (Limit Bits) else option_map (misfit_error heading) place) ≡ Some (Form line) → ⊥
+        → (if over then Some (Limit Bits) else option_map (misfit_error heading) place)
+        ≡ Some (Form line) → ⊥
     by true place e = cc
     by false None e = cc
     by false (Some place) e = cc
@@ -81,9 +87,11 @@ module _ (answer : Result (List (List Bool)) TextError) (text : List ℕ) where
       → (line : ℕ) → IsErrOf answer (Form line) ↔ IsFirstFault IsLabelsPart text line
   form_alone error is refusal line =
       let form : answer ≡ Err (Form refusal.0) = is ∙ ap (λ (e : TextError). Err e) refusal.1 in (
-        λ e. let same : refusal.0 ≡ line = cc in subst (IsFirstFault IsLabelsPart text) same refusal.2,
+        λ e. let same : refusal.0 ≡ line =
+            cc in subst (IsFirstFault IsLabelsPart text) same refusal.2,
         λ other.
-            form ∙ ap (λ (n : ℕ). Err (Form n)) (one_first_fault IsLabelsPart text refusal.0 line refusal.2 other),
+            form ∙ ap (λ (n : ℕ). Err (Form n))
+            (one_first_fault IsLabelsPart text refusal.0 line refusal.2 other),
       )
 
   module _ (ids : List ℕ) (written : Written) (whole : IsWhole text written) where
@@ -103,23 +111,29 @@ module _ (answer : Result (List (List Bool)) TextError) (text : List ℕ) where
       λ fault. absurd (no_labels_told text line fault whole.labels whole.tells),
     )
 
-    module _ (bits : (labels : List NamedLabel) → Tells written.text labels → IfOk answer (λ store. store ≡ bare labels))
-        (names : (labels : List NamedLabel) → Tells written.text labels → OnOk answer (names_of labels ≡ ids)) where
+    module _ (bits : (labels : List NamedLabel) → Tells written.text labels
+        → IfOk answer (λ store. store ≡ bare labels))
+        (names : (labels : List NamedLabel) → Tells written.text labels
+        → OnOk answer (names_of labels ≡ ids)) where
       -- the bits of labels that name the nodes say the text
       pub store_told : IfOk answer (λ store. Tells text (named ids store))
       store_told = by answer (bits whole.labels told) (names whole.labels told)
         where
-          by : (a : Result (List (List Bool)) TextError) → IfOk a (λ store. store ≡ bare whole.labels)
-              → OnOk a (names_of whole.labels ≡ ids) → IfOk a (λ store. Tells text (named ids store))
+          by : (a : Result (List (List Bool)) TextError)
+              → IfOk a (λ store. store ≡ bare whole.labels)
+              → OnOk a (names_of whole.labels ≡ ids)
+              → IfOk a (λ store. Tells text (named ids store))
           by (Err error) bits names = tt
           by (Ok store) bits names =
               subst (Tells text) (sym (rw (bits, ← names) (named-parts whole.labels))) whole.tells
 
       -- and there is one label for each node
-      pub store_long : (count : ℕ) → length ids ≡ count → IfOk answer (λ store. length store ≡ count)
+      pub store_long : (count : ℕ) → length ids ≡ count
+          → IfOk answer (λ store. length store ≡ count)
       store_long count long = by answer (bits whole.labels told) (names whole.labels told)
         where
-          by : (a : Result (List (List Bool)) TextError) → IfOk a (λ store. store ≡ bare whole.labels)
+          by : (a : Result (List (List Bool)) TextError)
+              → IfOk a (λ store. store ≡ bare whole.labels)
               → OnOk a (names_of whole.labels ≡ ids) → IfOk a (λ store. length store ≡ count)
           by (Err error) bits names = tt
           by (Ok store) bits names =

@@ -12,7 +12,8 @@ use Rattle.pls_labelfile.proofs.Named.{named-take, named-all}
 
 -- the lines of a labels part up to the labels of the first nodes
 abbrev pub lines_so_far : List NodeRow → List (List Bool) → ℕ → List (List ℕ)
-lines_so_far rows labels count = codes "labels" ∷ map label_line (named (take count (ids_of rows)) (take count labels))
+lines_so_far rows labels count =
+    codes "labels" ∷ map label_line (named (take count (ids_of rows)) (take count labels))
 
 -- a text with the line of an empty label behind it
 pub empty_written : (id : ℕ) (bits : List Bool) (old new : List ℕ) → length bits ≡ 0
@@ -20,33 +21,43 @@ pub empty_written : (id : ℕ) (bits : List Bool) (old new : List ℕ) → lengt
     → new ≡ old ++ text_of (label_line (record { id = id; bits = bits }) ∷ [])
 unfolding digits
 empty_written id [] old new none e =
-    e ∙ ap (λ (rest : List ℕ). old ++ (codes "label " ++ rest)) (sym (append_assoc (decimal id) (codes " 0 -") (10 ∷ [])))
+    e ∙ ap (λ (rest : List ℕ). old ++ (codes "label " ++ rest))
+    (sym (append_assoc (decimal id) (codes " 0 -") (10 ∷ [])))
 empty_written id (bit ∷ bits) old new none e = absurd (omega arith)
 
 -- the line of one label more
-pub one_line_more : (rows : List NodeRow) (labels : List (List Bool)) (place id : ℕ) (bits : List Bool) (old new : List ℕ)
-    → option_map (λ row. row.id) (slice_get rows place) ≡ Some id → slice_get labels place ≡ Some bits
+pub one_line_more : (rows : List NodeRow) (labels : List (List Bool)) (place id : ℕ)
+    (bits : List Bool) (old new : List ℕ)
+    → option_map (λ row. row.id) (slice_get rows place) ≡ Some id
+    → slice_get labels place ≡ Some bits
     → old ≡ text_of (lines_so_far rows labels place)
     → new ≡ old ++ text_of (label_line (record { id = id; bits = bits }) ∷ [])
     → new ≡ text_of (lines_so_far rows labels (place + 1))
 one_line_more rows labels place id bits old new id_at bits_at so_far more =
     let label : NamedLabel = record { id = id; bits = bits } in
-    let ids_at : slice_get (ids_of rows) place ≡ Some id = slice_get-map (λ (row : NodeRow). row.id) rows place ∙ id_at in
+    let ids_at : slice_get (ids_of rows) place ≡ Some id =
+    slice_get-map (λ (row : NodeRow). row.id) rows place ∙ id_at in
     let front = named (take place (ids_of rows)) (take place labels) in
-    let lines : lines_so_far rows labels place ++ label_line label ∷ [] ≡ lines_so_far rows labels (place + 1) =
+    let lines : lines_so_far rows labels place ++ label_line label ∷ []
+    ≡ lines_so_far rows labels (place + 1) =
     ap (λ (lines : List (List ℕ)). codes "labels" ∷ lines)
     (sym (map_push label_line front label)
     ∙ ap (map label_line) (sym (named-take (ids_of rows) labels place id bits ids_at bits_at)
     ∙ ap (λ (n : ℕ). named (take n (ids_of rows)) (take n labels)) (sym (add-one place)))) in
     more ∙ ap (λ (text : List ℕ). text ++ text_of (label_line label ∷ [])) so_far
-    ∙ sym (text_of-append (lines_so_far rows labels place) (label_line label ∷ [])) ∙ ap text_of lines
+    ∙ sym (text_of-append (lines_so_far rows labels place) (label_line label ∷ []))
+    ∙ ap text_of lines
 
 -- all lines and `end`
-pub whole_text : (rows : List NodeRow) (labels : List (List Bool)) (count : ℕ) (old new : List ℕ) → length rows ≤ count
-    → length labels ≡ length rows → old ≡ text_of (lines_so_far rows labels count) → new ≡ old ++ text_of (codes "end" ∷ [])
+pub whole_text : (rows : List NodeRow) (labels : List (List Bool)) (count : ℕ) (old new : List ℕ)
+    → length rows ≤ count
+    → length labels ≡ length rows → old ≡ text_of (lines_so_far rows labels count)
+    → new ≡ old ++ text_of (codes "end" ∷ [])
     → new ≡ labels_text (named (ids_of rows) labels)
 whole_text rows labels count old new all long so_far more =
-    let labels_are = named-all (ids_of rows) labels count (omega (arith, length-map rows (λ row. row.id))) (omega arith) in
+    let labels_are =
+    named-all (ids_of rows) labels count (omega (arith, length-map rows (λ row. row.id)))
+    (omega arith) in
     more ∙ ap (λ (text : List ℕ). text ++ text_of (codes "end" ∷ [])) so_far
     ∙ sym (text_of-append (lines_so_far rows labels count) (codes "end" ∷ []))
     ∙ ap labels_text labels_are

@@ -22,14 +22,16 @@ raised_once_more (Some p) n m e = ap (λ (k : ℕ). Some k) (omega arith)
 
 -- behind labels that name their nodes, the rest decides
 pub misfit-append : (read more : List NamedLabel) (left : List ℕ)
-    → misfit (names_of read ++ left) (read ++ more) ≡ option_map (λ p. p + length read) (misfit left more)
+    → misfit (names_of read ++ left) (read ++ more)
+    ≡ option_map (λ p. p + length read) (misfit left more)
 misfit-append [] more left = raised_by_none (misfit left more)
 misfit-append (label ∷ read) more left =
     rw (eq-eqb label.id label.id refl, misfit-append read more left)
     (raised_once_more (misfit left more) (length read) (length (label ∷ read)) (omega arith))
 
 -- the first label names another node
-pub misfit-first : (id : ℕ) (ids : List ℕ) (label : NamedLabel) (labels : List NamedLabel) → id ≢ label.id
+pub misfit-first : (id : ℕ) (ids : List ℕ) (label : NamedLabel) (labels : List NamedLabel)
+    → id ≢ label.id
     → misfit (id ∷ ids) (label ∷ labels) ≡ Some 0
 misfit-first id ids label labels other = rw (ne_eqb id label.id other) refl
 
@@ -45,14 +47,18 @@ raised_none None e = refl
 raised_none (Some p) e = cc
 
 -- and only there
-pub names_fit : (ids : List ℕ) (labels : List NamedLabel) → misfit ids labels ≡ None → names_of labels ≡ ids
+pub names_fit : (ids : List ℕ) (labels : List NamedLabel) → misfit ids labels ≡ None
+    → names_of labels ≡ ids
 names_fit [] [] e = refl
 names_fit [] (label ∷ labels) e = cc
 names_fit (id ∷ ids) [] e = cc
-names_fit (id ∷ ids) (label ∷ labels) e = by (λ none. names_fit ids labels none) (id == label.id) refl e
+names_fit (id ∷ ids) (label ∷ labels) e =
+    by (λ none. names_fit ids labels none) (id == label.id) refl e
   where
-    by : (misfit ids labels ≡ None → names_of labels ≡ ids) → (same : Bool) → (id == label.id) ≡ same
-        → (if same then option_map (λ p. p + 1) (misfit ids labels) else Some 0) ≡ None → names_of (label ∷ labels) ≡ id ∷ ids
+    by : (misfit ids labels ≡ None → names_of labels ≡ ids) → (same : Bool)
+        → (id == label.id) ≡ same
+        → (if same then option_map (λ p. p + 1) (misfit ids labels) else Some 0) ≡ None
+        → names_of (label ∷ labels) ≡ id ∷ ids
     by others true same e =
         let first = eqb-true id label.id same in
         let rest = others (raised_none (misfit ids labels) e) in

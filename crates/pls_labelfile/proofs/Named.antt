@@ -18,16 +18,20 @@ use Rattle.pls_labelfile.proofs.Filled.{bare}
 -- labels are those with their identities and their bits
 pub named-parts : (labels : List NamedLabel) → named (names_of labels) (bare labels) ≡ labels
 named-parts [] = refl
-named-parts (label ∷ labels) = ap (λ (others : List NamedLabel). label ∷ others) (named-parts labels)
+named-parts (label ∷ labels) =
+    ap (λ (others : List NamedLabel). label ∷ others) (named-parts labels)
 
 -- they name the nodes
-pub names_of-named : (ids : List ℕ) (labels : List (List Bool)) → length labels ≡ length ids → names_of (named ids labels) ≡ ids
+pub names_of-named : (ids : List ℕ) (labels : List (List Bool)) → length labels ≡ length ids
+    → names_of (named ids labels) ≡ ids
 names_of-named [] labels long = refl
 names_of-named (id ∷ ids) [] long = absurd (omega arith)
-names_of-named (id ∷ ids) (bits ∷ labels) long = ap (λ (others : List ℕ). id ∷ others) (names_of-named ids labels (omega arith))
+names_of-named (id ∷ ids) (bits ∷ labels) long =
+    ap (λ (others : List ℕ). id ∷ others) (names_of-named ids labels (omega arith))
 
 -- without the identities they are the labels
-pub bare-named : (ids : List ℕ) (labels : List (List Bool)) → length labels ≡ length ids → bare (named ids labels) ≡ labels
+pub bare-named : (ids : List ℕ) (labels : List (List Bool)) → length labels ≡ length ids
+    → bare (named ids labels) ≡ labels
 bare-named [] [] long = refl
 bare-named [] (bits ∷ labels) long = absurd (omega arith)
 bare-named (id ∷ ids) [] long = absurd (omega arith)
@@ -45,7 +49,8 @@ total_bits-named (id ∷ ids) (bits ∷ labels) long =
       arith,
       total_bits-named ids labels (omega arith),
       sum_by-cons (length {A = Bool}) bits labels,
-      sum_by-cons (λ (label : NamedLabel). length label.bits) (record { id = id; bits = bits }) (named ids labels),
+      sum_by-cons (λ (label : NamedLabel). length label.bits) (record { id = id; bits = bits })
+          (named ids labels),
     )
 
 -- each fits where the identities and the labels do
@@ -70,9 +75,11 @@ named_no_misfit ids labels long =
     ∙ misfit-named (named ids labels)
 
 -- one label more
-pub named-take : (ids : List ℕ) (labels : List (List Bool)) (i : ℕ) (id : ℕ) (bits : List Bool) → slice_get ids i ≡ Some id
+pub named-take : (ids : List ℕ) (labels : List (List Bool)) (i : ℕ) (id : ℕ) (bits : List Bool)
+    → slice_get ids i ≡ Some id
     → slice_get labels i ≡ Some bits
-    → named (take (suc i) ids) (take (suc i) labels) ≡ named (take i ids) (take i labels) ++ record { id = id; bits = bits } ∷ []
+    → named (take (suc i) ids) (take (suc i) labels) ≡ named (take i ids) (take i labels)
+    ++ record { id = id; bits = bits } ∷ []
 named-take [] labels i id bits p q = absurd (cc)
 named-take (x ∷ ids) [] i id bits p q = absurd (cc)
 named-take (x ∷ ids) (y ∷ labels) zero id bits p q =
@@ -80,19 +87,23 @@ named-take (x ∷ ids) (y ∷ labels) zero id bits p q =
     let bits_are : y ≡ bits = cc in
     λ i. record { id = id_is i; bits = bits_are i } ∷ []
 named-take (x ∷ ids) (y ∷ labels) (suc i) id bits p q =
-    ap (λ (others : List NamedLabel). record { id = x; bits = y } ∷ others) (named-take ids labels i id bits p q)
+    ap (λ (others : List NamedLabel). record { id = x; bits = y } ∷ others)
+    (named-take ids labels i id bits p q)
 
 -- all labels
-pub named-all : (ids : List ℕ) (labels : List (List Bool)) (i : ℕ) → length ids ≤ i → length labels ≤ i
+pub named-all : (ids : List ℕ) (labels : List (List Bool)) (i : ℕ) → length ids ≤ i
+    → length labels ≤ i
     → named (take i ids) (take i labels) ≡ named ids labels
 named-all ids labels i p q = rw (take_all i ids p, take_all i labels q) refl
 
 -- no label has more bits than all of them
-each_short : (labels : List (List Bool)) (most : ℕ) → sum_by length labels ≤ most → All (λ bits. length bits ≤ most) labels
+each_short : (labels : List (List Bool)) (most : ℕ) → sum_by length labels ≤ most
+    → All (λ bits. length bits ≤ most) labels
 each_short [] most few = All-nil (λ bits. length bits ≤ most)
 each_short (bits ∷ labels) most few =
     let sum = sum_by-cons (length {A = Bool}) bits labels in
-    All-cons (λ bits. length bits ≤ most) bits labels (omega arith) (each_short labels most (omega arith))
+    All-cons (λ bits. length bits ≤ most) bits labels (omega arith)
+    (each_short labels most (omega arith))
 
 -- the identities of rows that can stand in a text are below 2^32
 ids_small : (rows : List NodeRow) → All FitsRow rows → All (λ id. id < 2 ^ 32) (ids_of rows)
@@ -102,16 +113,21 @@ ids_small (row ∷ rows) fits =
     (ids_small rows (All-tail FitsRow row rows fits))
 
 -- labels with few bits, named by the nodes of a network, can stand in a text
-pub net_labels_fit : (rows : List NodeRow) (labels : List (List Bool)) → AreRows rows → sum_by length labels ≤ 2 ^ 28
+pub net_labels_fit : (rows : List NodeRow) (labels : List (List Bool)) → AreRows rows
+    → sum_by length labels ≤ 2 ^ 28
     → All FitsLabel (named (ids_of rows) labels)
 net_labels_fit rows labels rows_fit few =
     named_fit (ids_of rows) labels (ids_small rows rows_fit.each) (each_short labels (2 ^ 28) few)
 
 -- and nothing refuses them
-pub net_labels_accepted : (rows : List NodeRow) (labels : List (List Bool)) (heading : ℕ) → length labels ≡ length rows
-    → sum_by length labels ≤ 2 ^ 28 → refusal_of (ids_of rows) heading (named (ids_of rows) labels) ≡ None
+pub net_labels_accepted : (rows : List NodeRow) (labels : List (List Bool)) (heading : ℕ)
+    → length labels ≡ length rows
+    → sum_by length labels ≤ 2 ^ 28
+    → refusal_of (ids_of rows) heading (named (ids_of rows) labels) ≡ None
 net_labels_accepted rows labels heading long few =
-    let ids_long : length labels ≡ length (ids_of rows) = long ∙ sym (length-map rows (λ row. row.id)) in
+    let ids_long : length labels ≡ length (ids_of rows) =
+    long ∙ sym (length-map rows (λ row. row.id)) in
     let test : nat_lt (2 ^ 28) (total_bits (named (ids_of rows) labels)) ≡ false =
-    le-ltb (2 ^ 28) (total_bits (named (ids_of rows) labels)) (omega (arith, total_bits-named (ids_of rows) labels ids_long)) in
+    le-ltb (2 ^ 28) (total_bits (named (ids_of rows) labels))
+    (omega (arith, total_bits-named (ids_of rows) labels ids_long)) in
     rw (test, named_no_misfit (ids_of rows) labels ids_long) refl

@@ -11,14 +11,17 @@ use Rattle.pls_labelfile.specs.Refusal.{misfit_error, refusal_of}
 use Rattle.pls_labelfile.proofs.NextLabels.{one_told}
 
 -- the sum of the lengths that was kept is that of the labels
-kept_sum : (written : Written) → IsTold written → (labels : List NamedLabel) → Tells written.text labels
+kept_sum : (written : Written) → IsTold written → (labels : List NamedLabel)
+    → Tells written.text labels
     → written.bits ≡ capped (total_bits labels)
 kept_sum written told labels tells =
-    told.sum ∙ ap (λ (ls : List NamedLabel). capped (total_bits ls)) (one_told written.text told.labels labels told.tells tells)
+    told.sum ∙ ap (λ (ls : List NamedLabel). capped (total_bits ls))
+    (one_told written.text told.labels labels told.tells tells)
 
 -- the labels have too many bits
 pub over_limit : (ids : List ℕ) (written : Written) → IsTold written → 2 ^ 28 < written.bits
-    → (labels : List NamedLabel) → Tells written.text labels → refusal_of ids written.number labels ≡ Some (Limit Bits)
+    → (labels : List NamedLabel) → Tells written.text labels
+    → refusal_of ids written.number labels ≡ Some (Limit Bits)
 over_limit ids written told over labels tells =
     let test : nat_lt (2 ^ 28) (total_bits labels) ≡ true =
     lt-ltb (2 ^ 28) (total_bits labels) (omega (arith, kept_sum written told labels tells)) in
@@ -27,7 +30,8 @@ over_limit ids written told over labels tells =
 -- the labels have few enough bits, and the nodes decide
 pub within_limit : (ids : List ℕ) (written : Written) → IsTold written → written.bits ≤ 2 ^ 28
     → (labels : List NamedLabel) → Tells written.text labels
-    → refusal_of ids written.number labels ≡ option_map (misfit_error written.number) (misfit ids labels)
+    → refusal_of ids written.number labels
+    ≡ option_map (misfit_error written.number) (misfit ids labels)
 within_limit ids written told few labels tells =
     let test : nat_lt (2 ^ 28) (total_bits labels) ≡ false =
     le-ltb (2 ^ 28) (total_bits labels) (omega (arith, kept_sum written told labels tells)) in

@@ -7,7 +7,11 @@ use Rattle.pls_labelfile.specs.Misfit.{misfit}
 
 -- labels of one bit, of none, and of nine
 some : labels_text (record { id = 1; bits = true ∷ [] } ∷ record { id = 20; bits = [] }
-    ∷ record { id = 21; bits = true ∷ false ∷ false ∷ false ∷ false ∷ false ∷ false ∷ true ∷ true ∷ [] } ∷ [])
+    ∷ record {
+      id = 21;
+      bits = true ∷ false ∷ false ∷ false ∷ false ∷ false ∷ false ∷ true ∷ true
+          ∷ [];
+    } ∷ [])
     ≡ codes "labels\nlabel 1 1 "
     ++ (hex_digits (true ∷ [])
     ++ (codes "\nlabel 20 0 -\nlabel 21 9 "

@@ -17,7 +17,8 @@ hex_word (bit ∷ bits) = hex_digits (bit ∷ bits)
 -- `label ID LEN HEX`
 abbrev pub label_line : NamedLabel → List ℕ
 label_line label =
-    line_of (codes "label" ∷ decimal label.id ∷ decimal (length label.bits) ∷ hex_word label.bits ∷ [])
+    line_of (codes "label" ∷ decimal label.id ∷ decimal (length label.bits) ∷ hex_word label.bits
+    ∷ [])
 
 -- the lines of a labels part
 abbrev pub labels_lines : List NamedLabel → List (List ℕ)

@@ -17,7 +17,8 @@ by nbr weight = record { nbr = nbr; weight = weight }
 pair : refusal_of (node 1 None (by 2 1 ∷ []) ∷ node 2 None (by 1 1 ∷ []) ∷ []) ≡ None
 pair = refl
 
-pair_edges : edges_of (node 1 None (by 2 1 ∷ []) ∷ node 2 None (by 1 1 ∷ []) ∷ []) ≡ record { a = 1; b = 2; weight = 1 } ∷ []
+pair_edges : edges_of (node 1 None (by 2 1 ∷ []) ∷ node 2 None (by 1 1 ∷ []) ∷ [])
+    ≡ record { a = 1; b = 2; weight = 1 } ∷ []
 pair_edges = refl
 
 falling : refusal_of (node 2 None [] ∷ node 1 None [] ∷ []) ≡ Some (Order 1)
@@ -26,7 +27,8 @@ falling = refl
 loop : refusal_of (node 1 None (by 1 1 ∷ []) ∷ []) ≡ Some (SelfLink 1)
 loop = refl
 
-double : refusal_of (node 1 None (by 2 1 ∷ by 2 1 ∷ []) ∷ node 2 None (by 1 1 ∷ []) ∷ []) ≡ Some (Twice 1)
+double : refusal_of (node 1 None (by 2 1 ∷ by 2 1 ∷ []) ∷ node 2 None (by 1 1 ∷ []) ∷ [])
+    ≡ Some (Twice 1)
 double = refl
 
 -- an unknown neighbour that is named twice is named twice first
@@ -42,5 +44,6 @@ one_way = refl
 weights : refusal_of (node 1 None (by 2 1 ∷ []) ∷ node 2 None (by 1 2 ∷ []) ∷ []) ≡ Some (Weights 1)
 weights = refl
 
-pointer : refusal_of (node 1 (Some 1) (by 2 1 ∷ []) ∷ node 2 None (by 1 1 ∷ []) ∷ []) ≡ Some (Pointer 1)
+pointer : refusal_of (node 1 (Some 1) (by 2 1 ∷ []) ∷ node 2 None (by 1 1 ∷ []) ∷ [])
+    ≡ Some (Pointer 1)
 pointer = refl

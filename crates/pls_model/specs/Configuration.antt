@@ -50,12 +50,14 @@ names_unknown rows row = list_any (λ port. is_none (row_of rows port.nbr)) row.
 -- a port names a row that has no port back
 abbrev pub lacks_way_back : List NodeRow → NodeRow → Bool
 lacks_way_back rows row =
-    list_any (λ port. option_map_or (λ other. is_none (port_to other row.id)) (row_of rows port.nbr) false) row.ports
+    list_any (λ port. option_map_or (λ other. is_none (port_to other row.id)) (row_of rows port.nbr)
+    false) row.ports
 
 -- a port's weight differs from that of the port back
 abbrev pub differs_in_weight : List NodeRow → NodeRow → Bool
 differs_in_weight rows row =
-    list_any (λ port. option_map_or (λ back. not (port.weight == back.weight)) (port_back rows row port) false) row.ports
+    list_any (λ port. option_map_or (λ back. not (port.weight == back.weight))
+    (port_back rows row port) false) row.ports
 
 -- the pointer names no port of the row
 abbrev pub points_nowhere : NodeRow → Bool

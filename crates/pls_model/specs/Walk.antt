@@ -1,4 +1,5 @@
--- Edges and walks of a configuration, and what it means that edges join nodes (any textbook on graphs).
+-- Edges and walks of a configuration, and what it means that edges join nodes (any textbook on
+-- graphs).
 use Rattle.std.specs.Prelude.{◌≡◌, ℕ, nat_lt, ◌⊎◌, List, [], ◌∷◌, map, filter, flat_map, Contains}
 use Rattle.pls_model.specs.declared.row.NodeRow.{NodeRow}
 use Rattle.pls_model.specs.Configuration.{ids_of}
@@ -12,7 +13,8 @@ pub record Edge : Type 0 where
 -- the edges of a node to greater ones
 abbrev pub edges_from : NodeRow → List Edge
 edges_from row =
-    map (λ port. record { a = row.id; b = port.nbr; weight = port.weight }) (filter (λ port. nat_lt row.id port.nbr) row.ports)
+    map (λ port. record { a = row.id; b = port.nbr; weight = port.weight })
+    (filter (λ port. nat_lt row.id port.nbr) row.ports)
 
 -- the edges of a configuration, each once, as the port at its smaller end lists it
 abbrev pub edges_of : List NodeRow → List Edge

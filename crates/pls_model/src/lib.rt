@@ -1,6 +1,6 @@
 //! What the other crates speak of: the plain data of a network (`State`, `Port`, `NodePorts`,
-//! `NodeRow`), the verdict at a node, the status of a run, why rows are no network, and, in `specs/`,
-//! the definitions that several crates cite.
+//! `NodeRow`), the verdict at a node, the status of a run, why rows are no network, and, in
+//! `specs/`, the definitions that several crates cite.
 //!
 //! `Configuration` says which lists of rows are networks and which refusal a list meets first.
 //! `Walk` has edges, walks and what it means that edges join nodes.

@@ -14,19 +14,25 @@ pub record IsBody (Body : List (List ℕ) → Type 0) : Type 0 where
 pub end_plain : Lacks 10 (codes "end")
 end_plain = (omega arith, (omega arith, (omega arith, tt)))
 
-pub framed_part : (heading : List ℕ) (Body : List (List ℕ) → Type 0) → Lacks 10 heading → IsBody Body
+pub framed_part : (heading : List ℕ) (Body : List (List ℕ) → Type 0) → Lacks 10 heading
+    → IsBody Body
     → IsPart (IsFramed heading Body)
 framed_part heading Body plain body = record {
   plain = λ lines is.
-      subst ArePlain (sym is.is)
-      (plain, each-append (Lacks 10) is.body (codes "end" ∷ []) (body.plain is.body is.fits) (end_plain, tt));
+      subst ArePlain (sym is.is) (
+        plain,
+        each-append (Lacks 10) is.body (codes "end" ∷ []) (body.plain is.body is.fits)
+            (end_plain, tt),
+      );
   own = λ a b x y p q e.
-      let whole : (heading ∷ p.body ++ codes "end" ∷ []) ++ x ≡ (heading ∷ q.body ++ codes "end" ∷ []) ++ y =
+      let whole : (heading ∷ p.body ++ codes "end" ∷ []) ++ x
+      ≡ (heading ∷ q.body ++ codes "end" ∷ []) ++ y =
       ap (λ lines. lines ++ x) (sym p.is) ∙ e ∙ ap (λ lines. lines ++ y) q.is in
       let bodies : (p.body ++ codes "end" ∷ []) ++ x ≡ (q.body ++ codes "end" ∷ []) ++ y = cc in
       let cut = same_first (codes "end") p.body q.body x y
       (body.open_ended p.body p.fits) (body.open_ended q.body q.fits)
-      (sym (append_assoc p.body (codes "end" ∷ []) x) ∙ bodies ∙ append_assoc q.body (codes "end" ∷ []) y) in
+      (sym (append_assoc p.body (codes "end" ∷ []) x) ∙ bodies
+      ∙ append_assoc q.body (codes "end" ∷ []) y) in
       p.is ∙ ap (λ lines. part_lines heading lines) cut.0 ∙ sym q.is;
 }
 
@@ -36,18 +42,23 @@ Next Body front line =
     (Body front × (line ≡ codes "end")) ⊎ ((more : List (List ℕ)) × Body (front ++ line ∷ more))
 
 -- the two ways in which lines of a body and a line behind them begin a body and its `end`
-behind_end : (Body : List (List ℕ) → Type 0) (front : List (List ℕ)) (line : List ℕ) (others body more : List (List ℕ))
-    → Body body → front ≡ body ++ more → codes "end" ∷ [] ≡ more ++ line ∷ others → Next Body front line
+behind_end : (Body : List (List ℕ)
+    → Type 0) (front : List (List ℕ)) (line : List ℕ) (others body more : List (List ℕ))
+    → Body body → front ≡ body ++ more → codes "end" ∷ [] ≡ more ++ line ∷ others
+    → Next Body front line
 behind_end Body front line others body [] fits longer rest =
     let last : line ≡ codes "end" = cc in
     inl (subst Body (sym (append-nil body) ∙ sym longer) fits, last)
 behind_end Body front line others body (first ∷ more) fits longer rest =
     let none : [] ≡ more ++ line ∷ others = cc in
-    let long : 0 ≡ length more + length (line ∷ others) = ap length none ∙ length-append more (line ∷ others) in
+    let long : 0 ≡ length more + length (line ∷ others) =
+    ap length none ∙ length-append more (line ∷ others) in
     absurd (omega arith)
 
-before_end : (Body : List (List ℕ) → Type 0) (front : List (List ℕ)) (line : List ℕ) (others body more : List (List ℕ))
-    → Body body → body ≡ front ++ more → line ∷ others ≡ more ++ codes "end" ∷ [] → Next Body front line
+before_end : (Body : List (List ℕ)
+    → Type 0) (front : List (List ℕ)) (line : List ℕ) (others body more : List (List ℕ))
+    → Body body → body ≡ front ++ more → line ∷ others ≡ more ++ codes "end" ∷ []
+    → Next Body front line
 before_end Body front line others body [] fits longer rest =
     let last : line ≡ codes "end" = cc in
     inl (subst Body (longer ∙ append-nil front) fits, last)
@@ -56,10 +67,13 @@ before_end Body front line others body (first ∷ more) fits longer rest =
     inr (more, subst Body (longer ∙ ap (λ next. front ++ next ∷ more) same) fits)
 
 -- after some lines of the body of a part comes `end`, or one line more of the body
-pub framed_next : (heading : List ℕ) (Body : List (List ℕ) → Type 0) (front : List (List ℕ)) (line : List ℕ)
-    (others : List (List ℕ)) → IsFramed heading Body (heading ∷ front ++ line ∷ others) → Next Body front line
+pub framed_next : (heading : List ℕ) (Body : List (List ℕ)
+    → Type 0) (front : List (List ℕ)) (line : List ℕ)
+    (others : List (List ℕ)) → IsFramed heading Body (heading ∷ front ++ line ∷ others)
+    → Next Body front line
 framed_next heading Body front line others is =
-    let whole : heading ∷ (is.body ++ codes "end" ∷ []) ≡ heading ∷ (front ++ line ∷ others) = sym is.is in
+    let whole : heading ∷ (is.body ++ codes "end" ∷ []) ≡ heading ∷ (front ++ line ∷ others) =
+    sym is.is in
     let bodies : is.body ++ codes "end" ∷ [] ≡ front ++ line ∷ others = cc in
     elim (one_begins is.body front (codes "end" ∷ []) (line ∷ others) bodies) [
       | inl w ↦ behind_end Body front line others is.body w.more is.fits w.longer w.rest
@@ -67,7 +81,8 @@ framed_next heading Body front line others is =
     ]
 
 -- some lines of the body of a part, and what may follow them
-due_in_body : (heading : List ℕ) (Body : List (List ℕ) → Type 0) (front more : List (List ℕ)) → Body (front ++ more)
+due_in_body : (heading : List ℕ) (Body : List (List ℕ) → Type 0) (front more : List (List ℕ))
+    → Body (front ++ more)
     → IsFramed heading Body (heading ∷ front ++ (more ++ codes "end" ∷ []))
 due_in_body heading Body front more fits = record {
   body = front ++ more;
@@ -76,13 +91,16 @@ due_in_body heading Body front more fits = record {
 }
 
 -- the heading is due, and another line stands next
-pub fault_in_heading : (heading : List ℕ) (Body : List (List ℕ) → Type 0) (some : List (List ℕ)) (old : Left)
+pub fault_in_heading : (heading : List ℕ) (Body : List (List ℕ)
+    → Type 0) (some : List (List ℕ)) (old : Left)
     → Lacks 10 heading → IsBody Body → Body some
-    → (Stands (λ line. line ≡ heading) old.rest → ⊥) → IsFault (IsFramed heading Body) old old.number
+    → (Stands (λ line. line ≡ heading) old.rest → ⊥)
+    → IsFault (IsFramed heading Body) old old.number
 fault_in_heading heading Body some old plain body fits absent = (
   0,
   omega arith,
-  faulty (IsFramed heading Body) (λ line. line ≡ heading) [] heading (some ++ codes "end" ∷ []) old.rest old.rest
+  faulty (IsFramed heading Body) (λ line. line ≡ heading) [] heading (some ++ codes "end" ∷ [])
+      old.rest old.rest
       (framed_part heading Body plain body) (due_in_body heading Body [] some fits) refl absent
       (λ line others is. let e = is.is in cc),
 )
@@ -97,13 +115,16 @@ fault_in_body heading Body Due front [] old now plain body passes fits absent du
   length (heading ∷ front),
   passes.number,
   faulty (IsFramed heading Body) Due (heading ∷ front) (codes "end") [] old.rest now.rest
-      (framed_part heading Body plain body) (due_in_body heading Body front [] fits) passes.stands absent
+      (framed_part heading Body plain body) (due_in_body heading Body front [] fits) passes.stands
+      absent
       (λ line others is. due line (framed_next heading Body front line others is)),
 )
 fault_in_body heading Body Due front (next ∷ more) old now plain body passes fits absent due = (
   length (heading ∷ front),
   passes.number,
-  faulty (IsFramed heading Body) Due (heading ∷ front) next (more ++ codes "end" ∷ []) old.rest now.rest
-      (framed_part heading Body plain body) (due_in_body heading Body front (next ∷ more) fits) passes.stands absent
+  faulty (IsFramed heading Body) Due (heading ∷ front) next (more ++ codes "end" ∷ []) old.rest
+      now.rest
+      (framed_part heading Body plain body) (due_in_body heading Body front (next ∷ more) fits)
+      passes.stands absent
       (λ line others is. due line (framed_next heading Body front line others is)),
 )

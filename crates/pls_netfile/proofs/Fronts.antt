@@ -7,7 +7,8 @@ use Rattle.pls_netfile.proofs.Cuts.{same_first}
 pub text_of-append : (a b : List (List ℕ)) → text_of (a ++ b) ≡ text_of a ++ text_of b
 text_of-append [] b = refl
 text_of-append (line ∷ a) b =
-    ap (λ rest. line ++ 10 ∷ rest) (text_of-append a b) ∙ sym (append_assoc line (10 ∷ text_of a) (text_of b))
+    ap (λ rest. line ++ 10 ∷ rest) (text_of-append a b)
+    ∙ sym (append_assoc line (10 ∷ text_of a) (text_of b))
 
 -- the first line of a text, and what stands behind it
 pub first_line : (line : List ℕ) (lines : List (List ℕ)) (rest : List ℕ)
@@ -19,7 +20,8 @@ pub same_line : (c d : List ℕ) (a b : List (List ℕ)) (x y : List ℕ) → La
     → text_of (c ∷ a) ++ x ≡ text_of (d ∷ b) ++ y
     → (c ≡ d) × (text_of a ++ x ≡ text_of b ++ y)
 same_line c d a b x y p q e =
-    same_first 10 c d (text_of a ++ x) (text_of b ++ y) p q (sym (first_line c a x) ∙ e ∙ first_line d b y)
+    same_first 10 c d (text_of a ++ x) (text_of b ++ y) p q
+    (sym (first_line c a x) ∙ e ∙ first_line d b y)
 
 -- lines that go on after those of a shorter front of the same text
 pub record Further (a b : List (List ℕ)) (x y : List ℕ) : Type 0 where

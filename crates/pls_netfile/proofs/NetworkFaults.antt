@@ -32,7 +32,8 @@ blank_is_row = record {
 pub fault_at_heading : (old : Left) → (Stands (λ line. line ≡ codes "network") old.rest → ⊥)
     → IsFault IsNetworkPart old old.number
 fault_at_heading old absent =
-    fault_in_heading (codes "network") AreRowLines (flat_map row_lines (blank_row ∷ [])) old network_plain rows_are_body
+    fault_in_heading (codes "network") AreRowLines (flat_map row_lines (blank_row ∷ [])) old
+    network_plain rows_are_body
     blank_is_row absent
 
 -- the line of a node
@@ -53,10 +54,12 @@ no_empty_body [] fits e = omega (arith, fits.some)
 no_empty_body (row ∷ rows) fits e = cc
 
 -- the first node line is due
-pub fault_at_first : (old now : Left) → Passes old now (codes "network" ∷ []) → (Stands IsNodeLine now.rest → ⊥)
+pub fault_at_first : (old now : Left) → Passes old now (codes "network" ∷ [])
+    → (Stands IsNodeLine now.rest → ⊥)
     → IsFault IsNetworkPart old now.number
 fault_at_first old now passes absent =
-    fault_in_body (codes "network") AreRowLines IsNodeLine [] (flat_map row_lines (blank_row ∷ [])) old now network_plain
+    fault_in_body (codes "network") AreRowLines IsNodeLine [] (flat_map row_lines (blank_row ∷ []))
+    old now network_plain
     rows_are_body passes blank_is_row absent
     (λ line next. elim next [
       | inl last ↦ absurd (no_empty_body last.0.rows last.0.fits last.0.is)
@@ -68,11 +71,17 @@ abbrev IsBodyLine : List ℕ → Type 0
 IsBodyLine line = IsNodeLine line ⊎ (IsPortLine line ⊎ (line ≡ codes "end"))
 
 -- each line between heading and `end` is that of a node or of a port
-body_line : (rows : List NodeRow) (front : List (List ℕ)) (line : List ℕ) (more : List (List ℕ)) → AreRows rows
+body_line : (rows : List NodeRow) (front : List (List ℕ)) (line : List ℕ) (more : List (List ℕ))
+    → AreRows rows
     → front ++ line ∷ more ≡ flat_map row_lines rows → IsBodyLine line
 body_line rows front line more fits e =
     let each = each_row_line IsBodyLine
-    (λ id state node. inl (record { value = record { id = id; state = state }; fits = node; is = refl }))
+    (λ id state node. inl (record {
+      value = record { id = id; state = state };
+      fits = node;
+      is =
+          refl;
+    }))
     (λ port port_fits. inr (inl (record { value = port; fits = port_fits; is = refl })))
     rows fits.each in
     (each_back IsBodyLine front (line ∷ more) (subst (AllByRecursion IsBodyLine) (sym e) each)).0
@@ -81,8 +90,24 @@ body_line rows front line more fits e =
 neither : (P Q : List ℕ → Type 0) (text : List ℕ) → (Stands P text → ⊥) → (Stands Q text → ⊥)
     → Stands (λ line. P line ⊎ Q line) text → ⊥
 neither P Q text no_p no_q next = elim next.is [
-  | inl p ↦ no_p (record { line = next.line; after = next.after; is = p; plain = next.plain; cut = next.cut })
-  | inr q ↦ no_q (record { line = next.line; after = next.after; is = q; plain = next.plain; cut = next.cut })
+  | inl p ↦
+      no_p (record {
+        line = next.line;
+        after = next.after;
+        is = p;
+        plain = next.plain;
+        cut =
+            next.cut;
+      })
+  | inr q ↦
+      no_q (record {
+        line = next.line;
+        after = next.after;
+        is = q;
+        plain = next.plain;
+        cut =
+            next.cut;
+      })
 ]
 
 -- behind some rows a node line, a port line or `end` is due
@@ -92,7 +117,8 @@ pub fault_at_next : (old now : Left) (rows : List NodeRow) → AreRows rows
     → IsFault IsNetworkPart old now.number
 fault_at_next old now rows fits passes no_node no_port no_end =
     let body = flat_map row_lines rows in
-    fault_in_body (codes "network") AreRowLines IsBodyLine body [] old now network_plain rows_are_body passes
+    fault_in_body (codes "network") AreRowLines IsBodyLine body [] old now network_plain
+    rows_are_body passes
     (record { rows = rows; fits = fits; is = append-nil body })
     (neither IsNodeLine (λ line. IsPortLine line ⊎ (line ≡ codes "end")) now.rest no_node
     (neither IsPortLine (λ line. line ≡ codes "end") now.rest no_port no_end))

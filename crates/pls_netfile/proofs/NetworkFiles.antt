@@ -16,7 +16,8 @@ use Rattle.pls_netfile.proofs.NetworkRows.{network_is_part, rows_are_part, one_n
 use Rattle.pls_netfile.proofs.WholeTexts.{fault_alone, fault_behind, fault_of_text, one_first_fault}
 
 -- a fault of the part is the first of the text
-pub fault_in_part : (text : List ℕ) (old : Left) (error : TextError) → old.number ≡ 1 → old.rest ≡ text
+pub fault_in_part : (text : List ℕ) (old : Left) (error : TextError) → old.number ≡ 1
+    → old.rest ≡ text
     → IsFormFault IsNetworkPart old error → NamesFirstFault text error
 fault_in_part text old error first rest fault = (
   fault.0,
@@ -44,12 +45,15 @@ same_fault text error line names fault =
     names.1 ∙ ap Form (one_first_fault IsNetworkPart text names.0 line names.2 fault)
 
 -- the text of rows has no faulty line
-pub none_faulty : (text : List ℕ) (rows : List NodeRow) (line : ℕ) → AreRows rows → text ≡ network_text rows
+pub none_faulty : (text : List ℕ) (rows : List NodeRow) (line : ℕ) → AreRows rows
+    → text ≡ network_text rows
     → IsFirstFault IsNetworkPart text line → ⊥
-none_faulty text rows line fits says fault = fault.2.none (network_lines rows) (rows_are_part rows fits) says
+none_faulty text rows line fits says fault =
+    fault.2.none (network_lines rows) (rows_are_part rows fits) says
 
 -- a text that says these rows says no others
-pub tells_these : (text : List ℕ) (written : Written) (rows : List NodeRow) → IsTold written → written.text ≡ text
+pub tells_these : (text : List ℕ) (written : Written) (rows : List NodeRow) → IsTold written
+    → written.text ≡ text
     → AreRows rows → text ≡ network_text rows → Tells written rows
 tells_these text written rows told whole fits says =
     let same = (one_network told.rows rows [] [] told.tells.fits fits
@@ -57,7 +61,8 @@ tells_these text written rows told whole fits says =
     ∙ sym (append-nil (network_text rows)))).0 in
     subst (Tells written) same told.tells
 
-none_exceeds : (rows : List NodeRow) (quantity : Quantity) → IsNetwork rows → Exceeds rows quantity → ⊥
+none_exceeds : (rows : List NodeRow) (quantity : Quantity) → IsNetwork rows → Exceeds rows quantity
+    → ⊥
 none_exceeds rows Nodes is over = omega (arith, is.limits.few_nodes, over)
 none_exceeds rows Ports is over = omega (arith, is.limits.few_ports, over.1)
 none_exceeds rows Input is over = over
@@ -67,7 +72,8 @@ none_exceeds rows Rounds is over = over
 none_exceeds rows Labels is over = over
 
 -- rows that are a network are refused for want of memory alone
-pub no_refusal : (rows : List NodeRow) (error : TextError) → IsNetwork rows → IsRefusedBuild rows error
+pub no_refusal : (rows : List NodeRow) (error : TextError) → IsNetwork rows
+    → IsRefusedBuild rows error
     → error ≡ NoMemory
 no_refusal rows (Form line) is refused = absurd refused
 no_refusal rows (Limit quantity) is refused = absurd (none_exceeds rows quantity is refused)
@@ -78,10 +84,13 @@ no_refusal rows (Sense number place) is refused =
 no_refusal rows NoMemory is refused = refl
 
 -- what becomes of a text that says a network: that network, or want of memory
-pub told_result : (written : Written) (rows : List NodeRow) (result : Result (List NodeRow) TextError)
+pub told_result : (written : Written) (rows : List NodeRow)
+    (result : Result (List NodeRow) TextError)
     → IsNetwork rows → Tells written rows
     → IfOk result (λ network. (others : List NodeRow) → Tells written others → network ≡ others)
-    → IfErr result (λ error. (others : List NodeRow) → Tells written others → IsRefusedBuild others error)
+    → IfErr result (λ error. (others : List NodeRow) → Tells written others
+    → IsRefusedBuild others error)
     → MatchResult result (λ network. network ≡ rows) (λ error. error ≡ NoMemory)
 told_result written rows (Ok network) is tells ok refused = ok rows tells
-told_result written rows (Err error) is tells ok refused = no_refusal rows error is (refused rows tells)
+told_result written rows (Err error) is tells ok refused =
+    no_refusal rows error is (refused rows tells)

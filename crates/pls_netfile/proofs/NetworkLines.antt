@@ -70,11 +70,15 @@ end_no_node node = omega (arith, same_head 101 110 _ _ node.is)
 -- a line tells its port
 pub same_port : (a b : Port) → FitsPort a → FitsPort b → port_line a ≡ port_line b → a ≡ b
 same_port a b fits_a fits_b e =
-    let words = behind_word (codes "port") (port_line a) (line_of (decimal a.nbr ∷ decimal a.weight ∷ []))
+    let words =
+    behind_word (codes "port") (port_line a) (line_of (decimal a.nbr ∷ decimal a.weight ∷ []))
     (line_of (decimal b.nbr ∷ decimal b.weight ∷ [])) refl e in
-    let nbr = same_number a.nbr b.nbr (decimal a.weight) (decimal b.weight) (omega (arith, fits_a.nbr))
+    let nbr =
+    same_number a.nbr b.nbr (decimal a.weight) (decimal b.weight) (omega (arith, fits_a.nbr))
     (omega (arith, fits_b.nbr)) words in
-    let weight = decimal_injective a.weight b.weight (omega (arith, fits_a.weight)) (omega (arith, fits_b.weight)) nbr.1 in
+    let weight =
+    decimal_injective a.weight b.weight (omega (arith, fits_a.weight))
+    (omega (arith, fits_b.weight)) nbr.1 in
     λ i. record { nbr = nbr.0 i; weight = weight i }
 
 -- a line tells its node
@@ -82,13 +86,23 @@ pub record SameNode (a b : ℕ) (s t : State) : Type 0 where
   pub id : a ≡ b
   pub state : s ≡ t
 
-pub same_node : (a b : ℕ) (s t : State) → FitsNode a s → FitsNode b t → node_line a s ≡ node_line b t → SameNode a b s t
+pub same_node : (a b : ℕ) (s t : State) → FitsNode a s → FitsNode b t
+    → node_line a s ≡ node_line b t → SameNode a b s t
 same_node a b s t fits_a fits_b e =
-    let words = behind_word (codes "node") (node_line a s) (line_of (state_words a s)) (line_of (state_words b t)) refl e in
-    let id = same_number a b _ _ (omega (arith, fits_a.small)) (omega (arith, fits_b.small)) words in
-    let up = same_first 32 (up_word s.up) (up_word t.up) _ _ (up_lacks 32 s.up (omega arith) fits_a.fits.up)
+    let words =
+    behind_word (codes "node") (node_line a s) (line_of (state_words a s))
+    (line_of (state_words b t)) refl e in
+    let id =
+    same_number a b _ _ (omega (arith, fits_a.small)) (omega (arith, fits_b.small)) words in
+    let up =
+    same_first 32 (up_word s.up) (up_word t.up) _ _
+    (up_lacks 32 s.up (omega arith) fits_a.fits.up)
     (up_lacks 32 t.up (omega arith) fits_b.fits.up) id.1 in
-    let mark = same_number s.mark t.mark _ _ (omega (arith, fits_a.fits.mark)) (omega (arith, fits_b.fits.mark)) up.1 in
-    let num = decimal_injective s.num t.num (omega (arith, fits_a.fits.num)) (omega (arith, fits_b.fits.num)) mark.1 in
+    let mark =
+    same_number s.mark t.mark _ _ (omega (arith, fits_a.fits.mark))
+    (omega (arith, fits_b.fits.mark)) up.1 in
+    let num =
+    decimal_injective s.num t.num (omega (arith, fits_a.fits.num))
+    (omega (arith, fits_b.fits.num)) mark.1 in
     let pointer = same_up s.up t.up fits_a.fits.up fits_b.fits.up up.0 in
     record { id = id.0; state = λ i. record { up = pointer i; mark = mark.0 i; num = num i } }

@@ -11,10 +11,12 @@ use Rattle.pls_netfile.specs.NetworkText.{FitsPort, FitsRow, port_line, row_line
 use Rattle.pls_netfile.proofs.Fronts.{text_of-append}
 
 -- some lines are written, and then some more
-pub written_then : (start old new : List ℕ) (front back : List (List ℕ)) → old ≡ start ++ text_of front
+pub written_then : (start old new : List ℕ) (front back : List (List ℕ))
+    → old ≡ start ++ text_of front
     → new ≡ old ++ text_of back → new ≡ start ++ text_of (front ++ back)
 written_then start old new front back first then =
-    then ∙ ap (λ text. text ++ text_of back) first ∙ append_assoc start (text_of front) (text_of back)
+    then ∙ ap (λ text. text ++ text_of back) first
+    ∙ append_assoc start (text_of front) (text_of back)
     ∙ ap (λ text. start ++ text) (sym (text_of-append front back))
 
 -- the line of one more port
@@ -24,12 +26,15 @@ pub port_more : (ports : List Port) (i : ℕ) (d : Port) (start old new : List �
     → new ≡ start ++ text_of (map port_line (take (i + 1) ports))
 port_more ports i d start old new l first then =
     subst (λ lines. new ≡ start ++ text_of lines) (sym (map_more port_line ports i d l))
-    (written_then start old new (map port_line (take i ports)) (port_line (get_or ports i d) ∷ []) first then)
+    (written_then start old new (map port_line (take i ports)) (port_line (get_or ports i d) ∷ [])
+    first then)
 
-pub ports_fit : (ports : List Port) (i : ℕ) (d : Port) → i < length ports → All FitsPort (take i ports)
+pub ports_fit : (ports : List Port) (i : ℕ) (d : Port) → i < length ports
+    → All FitsPort (take i ports)
     → FitsPort (get_or ports i d) → All FitsPort (take (i + 1) ports)
 ports_fit ports i d l all fits =
-    subst (All FitsPort) (sym (take_more ports i d l)) (All-push FitsPort (take i ports) (get_or ports i d) all fits)
+    subst (All FitsPort) (sym (take_more ports i d l))
+    (All-push FitsPort (take i ports) (get_or ports i d) all fits)
 
 -- the row at a place, as the next one behind those before it
 record At (rows : List NodeRow) (i : ℕ) : Type 0 where
@@ -71,7 +76,8 @@ rows_fit rows i l all fits =
 
 -- the `end` behind all rows
 pub end_written : (rows : List NodeRow) (i : ℕ) (old new : List ℕ) → length rows ≤ i
-    → old ≡ text_of (codes "network" ∷ flat_map row_lines (take i rows)) → new ≡ old ++ codes "end\n"
+    → old ≡ text_of (codes "network" ∷ flat_map row_lines (take i rows))
+    → new ≡ old ++ codes "end\n"
     → new ≡ network_text rows
 end_written rows i old new l first then =
     written_then [] old new (headed (take i rows)) (codes "end" ∷ []) first then

@@ -10,7 +10,8 @@ pub decimal_lacks : (byte number : ℕ) → byte < 48 → number < 2 ^ 64 → La
 decimal_lacks byte number low small =
     decimal_by_steps (λ n ds. Lacks byte ds)
     (λ n below. (omega arith, tt))
-    (λ n ds above front. each-append (λ other. other ≢ byte) ds ((48 + n % 10) ∷ []) front (omega arith, tt))
+    (λ n ds above front. each-append (λ other. other ≢ byte) ds ((48 + n % 10) ∷ []) front
+    (omega arith, tt))
     number small
 
 -- two numbers with a space behind them are one where their texts are, and so is what follows

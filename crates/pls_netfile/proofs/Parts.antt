@@ -15,7 +15,8 @@ pub record IsPart (format : List (List ℕ) → Type 0) : Type 0 where
   pub own : (a b x y : List (List ℕ)) → format a → format b → a ++ x ≡ b ++ y → a ≡ b
 
 -- the front of a text of the format has plain lines
-plain_front : (format : List (List ℕ) → Type 0) (a b : List (List ℕ)) → IsPart format → format (a ++ b) → ArePlain a
+plain_front : (format : List (List ℕ) → Type 0) (a b : List (List ℕ)) → IsPart format
+    → format (a ++ b) → ArePlain a
 plain_front format a b part is = each_front (Lacks 10) a b (part.plain (a ++ b) is)
 
 -- a further line is due, and the line that stands next is not one that can be
@@ -26,7 +27,15 @@ pub faulty : (format : List (List ℕ) → Type 0) (Due : List ℕ → Type 0)
     → ((line : List ℕ) (others : List (List ℕ)) → format (front ++ line ∷ others) → Due line)
     → FaultAt format text (length front)
 faulty format Due front next more text rest part is stands absent due = record {
-  good = record { front = front; next = next; more = more; after = rest; is = is; many = refl; stands = stands };
+  good = record {
+    front = front;
+    next = next;
+    more = more;
+    after = rest;
+    is = is;
+    many = refl;
+    stands = stands;
+  };
   bad = λ b.
       let w = one_more front b.front rest b.after
       (plain_front format front (next ∷ more) part is)
@@ -44,7 +53,8 @@ faulty format Due front next more text rest part is stands absent due = record {
 }
 
 -- so many lines at the front of a text begin one of the format, and as many fewer
-begins_front : (format : List (List ℕ) → Type 0) (front more : List (List ℕ)) (text after : List ℕ) (count : ℕ)
+begins_front : (format : List (List ℕ)
+    → Type 0) (front more : List (List ℕ)) (text after : List ℕ) (count : ℕ)
     → format (front ++ more) → text ≡ text_of front ++ after → count ≤ length front
     → Begins format text count
 begins_front format front more text after count is stands l = record {
@@ -61,30 +71,35 @@ begins_front format front more text after count is stands l = record {
 }
 
 -- so many lines at most of a whole text of the format begin one
-begins_within : (format : List (List ℕ) → Type 0) (lines : List (List ℕ)) (text rest : List ℕ) (count : ℕ)
+begins_within : (format : List (List ℕ)
+    → Type 0) (lines : List (List ℕ)) (text rest : List ℕ) (count : ℕ)
     → format lines → text ≡ text_of lines ++ rest → count ≤ length lines → Begins format text count
 begins_within format lines text rest count is stands l =
     begins_front format lines [] text rest count (subst format (sym (append-nil lines)) is) stands l
 
 -- a text that awaits one line more has no whole text of the part in the lines so far
-longer_than_front : (format : List (List ℕ) → Type 0) (lines : List (List ℕ)) (text rest : List ℕ) (count : ℕ)
+longer_than_front : (format : List (List ℕ)
+    → Type 0) (lines : List (List ℕ)) (text rest : List ℕ) (count : ℕ)
     → IsPart format → Awaits format text count → format lines → text ≡ text_of lines ++ rest
     → length lines ≤ count → ⊥
 longer_than_front format lines text rest count part good is stands l =
     let whole = good.front ++ good.next ∷ good.more in
     let l2 : length lines ≤ length good.front = omega (arith, good.many) in
     let w = further lines good.front rest good.after (part.plain lines is)
-    (plain_front format good.front (good.next ∷ good.more) part good.is) l2 (sym stands ∙ good.stands) in
+    (plain_front format good.front (good.next ∷ good.more) part good.is) l2
+    (sym stands ∙ good.stands) in
     let same : lines ++ (w.more ++ good.next ∷ good.more) ≡ whole ++ [] =
     sym (append_assoc lines w.more (good.next ∷ good.more))
     ∙ ap (λ front. front ++ good.next ∷ good.more) (sym w.lines) ∙ sym (append-nil whole) in
-    let e : lines ≡ whole = part.own lines whole (w.more ++ good.next ∷ good.more) [] is good.is same in
+    let e : lines ≡ whole =
+    part.own lines whole (w.more ++ good.next ∷ good.more) [] is good.is same in
     let sum : length lines ≡ length good.front + length (good.next ∷ good.more) =
     ap length e ∙ length-append good.front (good.next ∷ good.more) in
     omega arith
 
 -- no whole text of the part stands at the front of a text with a fault in it
-pub no_whole : (format : List (List ℕ) → Type 0) (lines : List (List ℕ)) (text rest : List ℕ) (count : ℕ)
+pub no_whole : (format : List (List ℕ)
+    → Type 0) (lines : List (List ℕ)) (text rest : List ℕ) (count : ℕ)
     → IsPart format → FaultAt format text count → format lines → text ≡ text_of lines ++ rest → ⊥
 no_whole format lines text rest count part fault is stands =
     elim (cases_lt count (length lines)) [
@@ -105,7 +120,8 @@ first_fault format text count part fault = record {
     stands = fault.good.stands;
   };
   bad = fault.bad;
-  none = λ lines is e. no_whole format lines text [] count part fault is (e ∙ sym (append-nil (text_of lines)));
+  none = λ lines is e. no_whole format lines text [] count part fault is
+      (e ∙ sym (append-nil (text_of lines)));
 }
 
 -- of two texts of a part at the front of one text, the one that is not longer is the other
@@ -145,7 +161,8 @@ nothing_more format lines text rest part is stands b =
     sym (append_assoc lines w.more b.more)
     ∙ ap (λ front. front ++ b.more) (sym w.lines) ∙ sym (append-nil whole) in
     let e : lines ≡ whole = part.own lines whole (w.more ++ b.more) [] is b.is same in
-    let sum : length lines ≡ length b.front + length b.more = ap length e ∙ length-append b.front b.more in
+    let sum : length lines ≡ length b.front + length b.more =
+    ap length e ∙ length-append b.front b.more in
     omega (arith, b.many)
 
 -- a whole part and then something left over
@@ -156,7 +173,8 @@ left_over format lines text rest part is stands some = record {
   good = begins_within format lines text rest (length lines) is stands (omega arith);
   bad = nothing_more format lines text rest part is stands;
   none = λ others other e.
-      let end : text_of others ++ [] ≡ text_of lines ++ rest = append-nil (text_of others) ∙ sym e ∙ stands in
+      let end : text_of others ++ [] ≡ text_of lines ++ rest =
+      append-nil (text_of others) ∙ sym e ∙ stands in
       some (sym (whole_once format others lines [] rest part other is end).1);
 }
 

@@ -15,7 +15,8 @@ pub passes_none : (old : Left) → Passes old old []
 passes_none old = record { stands = refl; number = omega arith }
 
 -- some lines, and then some more
-pub passes_then : (old mid new : Left) (front back : List (List ℕ)) → Passes old mid front → Passes mid new back
+pub passes_then : (old mid new : Left) (front back : List (List ℕ)) → Passes old mid front
+    → Passes mid new back
     → Passes old new (front ++ back)
 passes_then old mid new front back p q = record {
   stands = p.stands ∙ ap (λ rest. text_of front ++ rest) q.stands
@@ -26,12 +27,14 @@ passes_then old mid new front back p q = record {
 
 -- a refusal that names the line in front of which the reader stopped
 pub names_line : (format : List (List ℕ) → Type 0) (old now stopped : Left) (error : TextError)
-    → error ≡ Form stopped.number → stopped ≡ now → IsFault format old now.number → IsFormFault format old error
+    → error ≡ Form stopped.number → stopped ≡ now → IsFault format old now.number
+    → IsFormFault format old error
 names_line format old now stopped error is same fault =
     (now.number, is ∙ ap (λ left. Form left.number) same, fault)
 
 -- the lines of some values, and then of one more
-pub passes_push : {X : Type 0} (written : X → List ℕ) (old mid new : Left) (values : List X) (value : X)
+pub passes_push : {X : Type 0} (written : X
+    → List ℕ) (old mid new : Left) (values : List X) (value : X)
     → Passes old mid (map written values) → Passes mid new (written value ∷ [])
     → Passes old new (map written (values ++ value ∷ []))
 passes_push written old mid new values value so_far passed =
@@ -39,10 +42,13 @@ passes_push written old mid new values value so_far passed =
     (passes_then old mid new (map written values) (written value ∷ []) so_far passed)
 
 -- no line of a kind, and one more
-pub none_passed : {X : Type 0} (Fits : X → Type 0) (written : X → List ℕ) (old : Left) → PassesAll Fits written old old 0
-none_passed Fits written old = record { values = []; fits = All-nil Fits; passed = passes_none old; many = refl }
+pub none_passed : {X : Type 0} (Fits : X → Type 0) (written : X → List ℕ) (old : Left)
+    → PassesAll Fits written old old 0
+none_passed Fits written old =
+    record { values = []; fits = All-nil Fits; passed = passes_none old; many = refl }
 
-pub one_more_passed : {X : Type 0} (Fits : X → Type 0) (written : X → List ℕ) (old mid new : Left) (count : ℕ) (value : X)
+pub one_more_passed : {X : Type 0} (Fits : X → Type 0) (written : X
+    → List ℕ) (old mid new : Left) (count : ℕ) (value : X)
     → PassesAll Fits written old mid count → Fits value → Passes mid new (written value ∷ [])
     → PassesAll Fits written old new (count + 1)
 one_more_passed Fits written old mid new count value so_far fits passed = record {
@@ -53,7 +59,8 @@ one_more_passed Fits written old mid new count value so_far fits passed = record
 }
 
 -- no more lines of a kind than the number of the line
-pub count_within : {X : Type 0} (Fits : X → Type 0) (written : X → List ℕ) (old new : Left) (count : ℕ)
+pub count_within : {X : Type 0} (Fits : X → Type 0) (written : X
+    → List ℕ) (old new : Left) (count : ℕ)
     → PassesAll Fits written old new count → old.number + count ≤ new.number
 count_within Fits written old new count all =
     omega (arith, all.many, all.passed.number, length-map all.values written)

@@ -18,18 +18,23 @@ use Rattle.pls_netfile.proofs.Passing.{passes_none, passes_then}
 
 -- a node line and the ports behind it are a row
 pub row_passed : (old mid new : Left) (id : ℕ) (state : State) (ports : ℕ) → FitsNode id state
-    → Passes old mid (node_line id state ∷ []) → PassesAll FitsPort port_line mid new ports → PassesRow old new ports
+    → Passes old mid (node_line id state ∷ []) → PassesAll FitsPort port_line mid new ports
+    → PassesRow old new ports
 row_passed old mid new id state ports fits passed all = record {
   row = record { id = id; state = state; ports = all.values };
   fits = record { id = fits.small; state = fits.fits; ports = all.fits };
-  passed = passes_then old mid new (node_line id state ∷ []) (map port_line all.values) passed all.passed;
+  passed =
+      passes_then old mid new (node_line id state ∷ []) (map port_line all.values) passed
+      all.passed;
   many = all.many;
 }
 
 pub no_rows : (old : Left) → PassesRows old old 0 0
-no_rows old = record { rows = []; fits = All-nil FitsRow; passed = passes_none old; many = refl; sum = refl }
+no_rows old =
+    record { rows = []; fits = All-nil FitsRow; passed = passes_none old; many = refl; sum = refl }
 
-pub one_row_more : (old mid new : Left) (nodes ports more : ℕ) → PassesRows old mid nodes ports → PassesRow mid new more
+pub one_row_more : (old mid new : Left) (nodes ports more : ℕ) → PassesRows old mid nodes ports
+    → PassesRow mid new more
     → PassesRows old new (nodes + 1) (ports + more)
 one_row_more old mid new nodes ports more so_far row = record {
   rows = so_far.rows ++ row.row ∷ [];
@@ -37,9 +42,16 @@ one_row_more old mid new nodes ports more so_far row = record {
   passed = subst (Passes old new)
       (ap (λ lines. flat_map row_lines so_far.rows ++ lines) (sym (append-nil (row_lines row.row)))
       ∙ sym (flat_map-append row_lines so_far.rows (row.row ∷ [])))
-      (passes_then old mid new (flat_map row_lines so_far.rows) (row_lines row.row) so_far.passed row.passed);
+      (passes_then old mid new (flat_map row_lines so_far.rows) (row_lines row.row) so_far.passed
+      row.passed);
   many = omega (arith, so_far.many, length-append so_far.rows (row.row ∷ []));
-  sum = omega (arith, so_far.sum, row.many, sum_by_push (λ (r : NodeRow). length r.ports) so_far.rows row.row);
+  sum = omega (
+    arith,
+    so_far.sum,
+    row.many,
+    sum_by_push (λ (r : NodeRow). length r.ports)
+        so_far.rows row.row,
+  );
 }
 
 -- there are as many lines as nodes and ports
@@ -60,36 +72,46 @@ pub as_many_lines : (old new : Left) (nodes ports : ℕ) → PassesRows old new 
 as_many_lines old new nodes ports rows =
     omega (arith, rows.many, rows.sum, rows.passed.number, length_rows rows.rows)
 
--- a heading and rows with a node make a place between whole rows, and without a node the first place
-pub rows_some : (old new : Left) (nodes ports : ℕ) (rows : PassesRows old new nodes ports) → nodes ≢ 0 → AreRows rows.rows
-rows_some old new nodes ports rows some = record { some = omega (arith, rows.many); each = rows.fits }
+-- a heading and rows with a node make a place between whole rows, and without a node the first
+-- place
+pub rows_some : (old new : Left) (nodes ports : ℕ) (rows : PassesRows old new nodes ports)
+    → nodes ≢ 0 → AreRows rows.rows
+rows_some old new nodes ports rows some =
+    record { some = omega (arith, rows.many); each = rows.fits }
 
-pub next_place : (old behind now : Left) (nodes ports : ℕ) → Passes old behind (codes "network" ∷ [])
-    → (rows : PassesRows behind now nodes ports) → Passes old now (codes "network" ∷ flat_map row_lines rows.rows)
+pub next_place : (old behind now : Left) (nodes ports : ℕ)
+    → Passes old behind (codes "network" ∷ [])
+    → (rows : PassesRows behind now nodes ports)
+    → Passes old now (codes "network" ∷ flat_map row_lines rows.rows)
 next_place old behind now nodes ports heading rows =
-    passes_then old behind now (codes "network" ∷ []) (flat_map row_lines rows.rows) heading rows.passed
+    passes_then old behind now (codes "network" ∷ []) (flat_map row_lines rows.rows) heading
+    rows.passed
 
 no_lines : (rows : List NodeRow) → 0 ≡ length rows → flat_map row_lines rows ≡ []
 no_lines [] e = refl
 no_lines (row ∷ rows) e = absurd (omega arith)
 
-pub first_place : (old behind now : Left) (nodes ports : ℕ) → Passes old behind (codes "network" ∷ [])
+pub first_place : (old behind now : Left) (nodes ports : ℕ)
+    → Passes old behind (codes "network" ∷ [])
     → PassesRows behind now nodes ports → nodes ≡ 0 → Passes old now (codes "network" ∷ [])
 first_place old behind now nodes ports heading rows none =
-    subst (Passes old now) (ap (λ lines. codes "network" ∷ lines) (no_lines rows.rows (sym none ∙ rows.many)))
+    subst (Passes old now) (ap (λ lines. codes "network" ∷ lines)
+    (no_lines rows.rows (sym none ∙ rows.many)))
     (next_place old behind now nodes ports heading rows)
 
 -- what was passed of a text is what it had and has no more
 front_text : (whole a b : List ℕ) → whole ≡ a ++ b → take (length whole - length b) whole ≡ a
 front_text whole a b e =
-    let count : length a ≡ length whole - length b = omega (arith, ap length e, length-append a b) in
+    let count : length a ≡ length whole - length b =
+    omega (arith, ap length e, length-append a b) in
     ap (take (length whole - length b)) e ∙ take_at a b (length whole - length b) count
 
 -- heading, rows and `end` are a network part
 pub network_passed : (old behind before new : Left) (nodes ports : ℕ) (start rest : List ℕ)
     → Passes old behind (codes "network" ∷ []) → PassesRows behind before nodes ports
     → Passes before new (codes "end" ∷ []) → nodes ≢ 0 → start ≡ old.rest → rest ≡ new.rest
-    → PassesNetwork old new (record { text = take (length start - length rest) start; nodes = nodes; ports = ports })
+    → PassesNetwork old new (record
+    { text = take (length start - length rest) start; nodes = nodes; ports = ports })
 network_passed old behind before new nodes ports start rest heading rows end some starts rests =
     let body = flat_map row_lines rows.rows in
     let passed : Passes old new (network_lines rows.rows) =

@@ -24,14 +24,19 @@ same_told written a b p q =
     (one_network a b [] [] p.fits q.fits
     (append-nil (network_text a) ∙ sym p.text ∙ q.text ∙ sym (append-nil (network_text b)))).0
 
-no_more : (written : Written) (read : List NodeRow) (rest : List ℕ) (more : List NodeRow) → All FitsRow more
-    → Tells written (read ++ more) → rest ≡ text_of (to_end more) → (Stands IsNodeLine rest → ⊥) → Tells written read
-no_more written read rest [] fits tells stands no_node = subst (Tells written) (append-nil read) tells
+no_more : (written : Written) (read : List NodeRow) (rest : List ℕ) (more : List NodeRow)
+    → All FitsRow more
+    → Tells written (read ++ more) → rest ≡ text_of (to_end more) → (Stands IsNodeLine rest → ⊥)
+    → Tells written read
+no_more written read rest [] fits tells stands no_node =
+    subst (Tells written) (append-nil read) tells
 no_more written read rest (row ∷ more) fits tells stands no_node =
     let next = node_next row more [] fits in
-    absurd (no_node (subst (Stands IsNodeLine) (append-nil (text_of (to_end (row ∷ more))) ∙ sym stands) next))
+    absurd (no_node (subst (Stands IsNodeLine)
+    (append-nil (text_of (to_end (row ∷ more))) ∙ sym stands) next))
 
-one_less : (written : Written) (read : List NodeRow) (row : NodeRow) (old new : List ℕ) (more : List NodeRow)
+one_less : (written : Written) (read : List NodeRow) (row : NodeRow) (old new : List ℕ)
+    (more : List NodeRow)
     → All FitsRow more → Tells written (read ++ more)
     → text_of (row_lines row) ++ new ≡ text_of (to_end more) → FitsRow row
     → (Stands IsPortLine new → ⊥) → Remains written (read ++ row ∷ []) new
@@ -40,22 +45,27 @@ one_less written read row old new [] all tells e fits no_port =
     let here = line_stands IsNodeLine (node_line row.id row.state) (map port_line row.ports) new
     (node_plain row.id row.state node)
     (record { value = record { id = row.id; state = row.state }; fits = node; is = refl }) in
-    absurd (no_node_next [] (subst (Stands IsNodeLine) (e ∙ sym (append-nil (text_of (to_end [])))) here))
+    absurd (no_node_next [] (subst (Stands IsNodeLine) (e ∙ sym (append-nil (text_of (to_end []))))
+    here))
 one_less written read row old new (next ∷ more) all tells e fits no_port =
     let later = All-tail FitsRow next more all in
-    let first = same_row row next new (text_of (to_end more) ++ []) fits (All-head FitsRow next more all) no_port
+    let first =
+    same_row row next new (text_of (to_end more) ++ []) fits (All-head FitsRow next more all)
+    no_port
     (no_port_next more [] later)
     (e ∙ sym (append-nil (text_of (to_end (next ∷ more)))) ∙ text_of-to_end next more []) in
     record {
       more = more;
       fits = later;
       tells = subst (Tells written)
-          (ap (λ r. read ++ r ∷ more) (sym first.0) ∙ sym (append_assoc read (row ∷ []) more)) tells;
+          (ap (λ r. read ++ r ∷ more) (sym first.0) ∙ sym (append_assoc read (row ∷ []) more))
+          tells;
       stands = first.1 ∙ append-nil (text_of (to_end more));
     }
 
 -- where no node line stands next all rows were read
-pub none_remains : (written : Written) (read : List NodeRow) (rest : List ℕ) → Remains written read rest
+pub none_remains : (written : Written) (read : List NodeRow) (rest : List ℕ)
+    → Remains written read rest
     → (Stands IsNodeLine rest → ⊥) → Tells written read
 none_remains written read rest remains no_node =
     no_more written read rest remains.more remains.fits remains.tells remains.stands no_node

@@ -14,21 +14,25 @@ module _ (first second : List (List ℕ) → Type 0) where
   then_part one two = record {
     plain = λ lines is.
         subst ArePlain (sym is.parts)
-        (each-append (Lacks 10) is.front is.back (one.plain is.front is.is_first) (two.plain is.back is.is_second));
+        (each-append (Lacks 10) is.front is.back (one.plain is.front is.is_first)
+        (two.plain is.back is.is_second));
     own = λ a b x y p q e.
         let whole : p.front ++ (p.back ++ x) ≡ q.front ++ (q.back ++ y) =
         sym (append_assoc p.front p.back x) ∙ ap (λ lines. lines ++ x) (sym p.parts) ∙ e
         ∙ ap (λ lines. lines ++ y) q.parts ∙ append_assoc q.front q.back y in
-        let fronts = one.own p.front q.front (p.back ++ x) (q.back ++ y) p.is_first q.is_first whole in
+        let fronts =
+        one.own p.front q.front (p.back ++ x) (q.back ++ y) p.is_first q.is_first whole in
         let rest : p.back ++ x ≡ q.back ++ y =
         append_cancel_left q.front (p.back ++ x) (q.back ++ y)
         (ap (λ front. front ++ (p.back ++ x)) (sym fronts) ∙ whole) in
         let backs = two.own p.back q.back x y p.is_second q.is_second rest in
-        p.parts ∙ ap (λ front. front ++ p.back) fronts ∙ ap (λ back. q.front ++ back) backs ∙ sym q.parts;
+        p.parts ∙ ap (λ front. front ++ p.back) fronts ∙ ap (λ back. q.front ++ back) backs
+        ∙ sym q.parts;
   }
 
   -- a fault in the first part
-  pub fault_of_first : (some : List (List ℕ)) (text : List ℕ) (count : ℕ) → IsPart first → second some
+  pub fault_of_first : (some : List (List ℕ)) (text : List ℕ) (count : ℕ) → IsPart first
+      → second some
       → FaultAt first text count → FirstFault (Then first second) text count
   fault_of_first some text count part is fault =
       let good = fault.good in
@@ -56,7 +60,9 @@ module _ (first second : List (List ℕ) → Type 0) where
             many = b.many;
             stands = b.stands;
           })
-          | inr w ↦ no_whole first b.is.front text (text_of w.more ++ b.after) count part fault b.is.is_first
+          | inr w ↦
+              no_whole first b.is.front text (text_of w.more ++ b.after) count part fault
+              b.is.is_first
               (b.stands ∙ ap (λ lines. text_of lines ++ b.after) w.longer
               ∙ ap (λ lines. lines ++ b.after) (text_of-append b.is.front w.more)
               ∙ append_assoc (text_of b.is.front) (text_of w.more) b.after)
@@ -66,7 +72,8 @@ module _ (first second : List (List ℕ) → Type 0) where
       }
 
   -- lines that begin both parts and reach beyond a whole first one begin the second behind it
-  begins_second : (lines : List (List ℕ)) (text rest : List ℕ) (count : ℕ) → IsPart first → IsPart second
+  begins_second : (lines : List (List ℕ)) (text rest : List ℕ) (count : ℕ) → IsPart first
+      → IsPart second
       → first lines → text ≡ text_of lines ++ rest
       → Begins (Then first second) text (length lines + count) → Begins second rest count
   begins_second lines text rest count one two is stands b =
@@ -75,12 +82,14 @@ module _ (first second : List (List ℕ) → Type 0) where
       let w = further lines b.front rest b.after (one.plain lines is) plain
       (omega (arith, b.many)) (sym stands ∙ b.stands) in
       let whole : lines ++ (w.more ++ b.more) ≡ b.is.front ++ b.is.back =
-      sym (append_assoc lines w.more b.more) ∙ ap (λ front. front ++ b.more) (sym w.lines) ∙ b.is.parts in
+      sym (append_assoc lines w.more b.more) ∙ ap (λ front. front ++ b.more) (sym w.lines)
+      ∙ b.is.parts in
       let same = one.own lines b.is.front (w.more ++ b.more) b.is.back is b.is.is_first whole in
       let back : w.more ++ b.more ≡ b.is.back =
       append_cancel_left b.is.front (w.more ++ b.more) b.is.back
       (ap (λ front. front ++ (w.more ++ b.more)) (sym same) ∙ whole) in
-      let sum : length b.front ≡ length lines + length w.more = ap length w.lines ∙ length-append lines w.more in
+      let sum : length b.front ≡ length lines + length w.more =
+      ap length w.lines ∙ length-append lines w.more in
       record {
         front = w.more;
         more = b.more;
@@ -91,7 +100,8 @@ module _ (first second : List (List ℕ) → Type 0) where
       }
 
   -- the second part stands behind a whole first one, and has a fault
-  pub fault_of_second : (lines : List (List ℕ)) (text rest : List ℕ) (count : ℕ) → IsPart first → IsPart second
+  pub fault_of_second : (lines : List (List ℕ)) (text rest : List ℕ) (count : ℕ) → IsPart first
+      → IsPart second
       → first lines → text ≡ text_of lines ++ rest → FirstFault second rest count
       → FirstFault (Then first second) text (length lines + count)
   fault_of_second lines text rest count one two is stands fault =

@@ -1,4 +1,5 @@
--- The first faulty line of a text. A format is a fact about lists of lines: those that are its texts.
+-- The first faulty line of a text. A format is a fact about lists of lines: those that are its
+-- texts.
 use Rattle.std.specs.Prelude.{◌≡◌, ℕ, ◌+◌, List, ◌∷◌, ◌++◌, length}
 use Rattle.pls_netfile.specs.Text.{text_of}
 

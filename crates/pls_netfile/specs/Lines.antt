@@ -24,7 +24,8 @@ pub record Stands (Kind : List ℕ → Type 0) (text : List ℕ) : Type 0 where
   pub plain : Lacks 10 line
   pub cut : text ≡ line ++ 10 ∷ after
 
--- the line of this number is the first that is not of the format, for a reader that stands before it
+-- the line of this number is the first that is not of the format, for a reader that stands before
+-- it
 abbrev pub IsFault : (List (List ℕ) → Type 0) → Left → ℕ → Type 0
 IsFault format old k = (count : ℕ) × (k ≡ old.number + count) × FaultAt format old.rest count
 

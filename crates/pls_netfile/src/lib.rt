@@ -6,17 +6,17 @@
 //! [`number_then`], [`u32_then`] and [`last_u32`]. The parts of an input that other crates read
 //! are made of these too.
 //!
-//! A format is a fact about lists of lines: those that are its texts. `specs/Fault` says which line of
-//! a text is the first faulty one, and `specs/Frame` what each part of an input has: a heading, a
-//! body of lines, and the line `end`. `proofs/Frames` has the faults of such a part, and
+//! A format is a fact about lists of lines: those that are its texts. `specs/Fault` says which line
+//! of a text is the first faulty one, and `specs/Frame` what each part of an input has: a heading,
+//! a body of lines, and the line `end`. `proofs/Frames` has the faults of such a part, and
 //! `proofs/WholeTexts` those of a whole text of one part or of several in turn.
 //!
 //! `specs/NetworkText` says how a network is written. [`scan_network`] passes one network part, or
 //! names its first faulty line; the [`NetworkText`] that it gives lends the text, counts its nodes
-//! and ports, gives their rows, and builds their network. [`read_network`] and [`write_network`] are
-//! inverse to each other ([`read_written`], [`write_read`]). Laws: a text fixes its network ([`one_network`]), and it has one
-//! first faulty line at most ([`one_first_fault`]), none where it is the text of a network
-//! ([`no_fault`]).
+//! and ports, gives their rows, and builds their network. [`read_network`] and [`write_network`]
+//! are inverse to each other ([`read_written`], [`write_read`]). Laws: a text fixes its network
+//! ([`one_network`]), and it has one first faulty line at most ([`one_first_fault`]), none where it
+//! is the text of a network ([`no_fault`]).
 #![tactic(auto)]
 
 mod cut;

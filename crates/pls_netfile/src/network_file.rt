@@ -18,8 +18,8 @@ use std::alloc::Global;
 
 /// The network that a text says, which is to be one network part and nothing more.
 ///
-/// `Form` with the number of the first line that is not of the form, as is a line after `end`; where
-/// there is none, the refusals of [`NetworkText::build`].
+/// `Form` with the number of the first line that is not of the form, as is a line after `end`;
+/// where there is none, the refusals of [`NetworkText::build`].
 pub fn read_network(alloc: Global, text: &[u8]) -> Result<Network, TextError>
     ensures text { IfOk result (λ network. text.now ≡ network_text network) }
     ensures fits { IfOk result (λ network. AreRows network) }

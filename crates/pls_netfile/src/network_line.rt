@@ -49,8 +49,8 @@ impl<'a> LineKind<'a> for Port {
     }
 }
 
-/// The identity and the state whose words `ID UP MARK NUM` these are; `None` where they are those of
-/// none.
+/// The identity and the state whose words `ID UP MARK NUM` these are; `None` where they are those
+/// of none.
 pub fn read_state(words: &[u8]) -> Option<(u32, State)>
     ensures fits { IfSome result (λ node. FitsNode node.0 node.1) }
     ensures stands { IfSome result (λ node. words.now ≡ line_of (state_words node.0 node.1)) }
@@ -69,7 +69,8 @@ pub fn read_state(words: &[u8]) -> Option<(u32, State)>
 pub fn pointer_then(text: &[u8]) -> Option<(Option<u32>, &[u8])>
     ensures stands { IfSome result (λ parts. text.now ≡ up_word parts.0 ++ 32 ∷ parts.1.now) }
     ensures within { IfSome result (λ parts. IfSome parts.0 (λ port. port < 2 ^ 32)) }
-    ensures none { IfNone result ((up : Option ℕ) (rest : List ℕ) → IfSome up (λ port. port < 2 ^ 32)
+    ensures none { IfNone result ((up : Option ℕ) (rest : List ℕ)
+        → IfSome up (λ port. port < 2 ^ 32)
         → text.now ≢ up_word up ++ 32 ∷ rest) }
 {
     match after_word(text, b"-") {

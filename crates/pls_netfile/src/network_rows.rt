@@ -32,15 +32,16 @@ impl<'a> NetworkText<'a> {
     }
 }
 
-// The row whose node line stands next, with its ports, which the reader passes; `None` where no node
-// line stands next.
+// The row whose node line stands next, with its ports, which the reader passes; `None` where no
+// node line stands next.
 fn next_row(alloc: Global, lines: &mut Lines<'_>) -> Result<Option<NodeRow>, NoMemory>
     ensures fits { IfOk result (λ next. IfSome next FitsRow) }
     ensures passed { IfOk result (λ next. IfSome next
         (λ row. Passes lines.old lines.new (row_lines row))) }
     ensures no_port { IfOk result (λ next. OnSome next (Stands IsPortLine lines.new.rest → ⊥)) }
     ensures no_node { IfOk result (λ next. IfNone next (Stands IsNodeLine lines.old.rest → ⊥)) }
-    ensures fewer { IfOk result (λ next. OnSome next (length lines.new.rest < length lines.old.rest)) }
+    ensures fewer { IfOk result (λ next. OnSome next
+        (length lines.new.rest < length lines.old.rest)) }
 {
     let Some(node) = next_of::<NodeLine>(lines) else {
         return Ok(None);

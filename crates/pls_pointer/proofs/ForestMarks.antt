@@ -25,7 +25,8 @@ use Rattle.pls_scheme.proofs.Texts.{AreTexts, each_text, label_of-row, text}
 use Rattle.pls_pointer.proofs.Marks.{depth_coded, depth_texts, depth_within, points_or}
 
 module _ (code : ℕ → List Bool) (rows : List NodeRow) (net : IsNetwork rows) (depths : List ℕ)
-    (are : AreDepths rows depths) (labels : List (List Bool)) (ends : EndInDepths code [] depths labels) where
+    (are : AreDepths rows depths) (labels : List (List Bool))
+    (ends : EndInDepths code [] depths labels) where
   -- the labels are the lengths of the chains
   pub forest_marked : IsForestMarked code rows labels
   forest_marked = record {
@@ -46,9 +47,11 @@ module _ (code : ℕ → List Bool) (rows : List NodeRow) (net : IsNetwork rows)
   texts = depth_texts rows net depths are code [] labels ends
 
   -- they are short
-  pub forest_short : ((small great : ℕ) → small ≤ great → great ≤ MAX_CODED → length (code small) ≤ length (code great))
+  pub forest_short : ((small great : ℕ) → small ≤ great → great ≤ MAX_CODED
+      → length (code small) ≤ length (code great))
       → All (λ label. length label ≤ longest_forest code (size_of rows)) labels
-  forest_short grows = each_text rows net labels (λ id. text code [] (depth_of rows depths id)) texts
+  forest_short grows =
+      each_text rows net labels (λ id. text code [] (depth_of rows depths id)) texts
       (λ label. length label ≤ longest_forest code (size_of rows))
       (λ row in'. rw (append-nil (code (depth_of rows depths row.id)))
       (depth_within rows net depths are code grows row in'))
@@ -56,23 +59,33 @@ module _ (code : ℕ → List Bool) (rows : List NodeRow) (net : IsNetwork rows)
   -- and every node accepts them
   pub forest_accepted : (takes : List Bool → Option (ℕ × List Bool)) → TakesCodes code takes
       → AllAccept (judge_forest takes) rows labels
-  forest_accepted takes taken = said_accepted (depth_in takes) forest_rules rows net labels say says hold
+  forest_accepted takes taken =
+      said_accepted (depth_in takes) forest_rules rows net labels say says hold
     where
       say : ℕ → DepthLabel
       say id = record { depth = depth_of rows depths id }
 
-      says : (row : NodeRow) → Contains rows row → depth_in takes (label_of rows labels row.id) ≡ Some (say row.id)
-      says row in' = label_in-spelled 1 depth_label numbers_of_depth depth_is_number code takes taken
+      says : (row : NodeRow) → Contains rows row
+          → depth_in takes (label_of rows labels row.id) ≡ Some (say row.id)
+      says row in' =
+          label_in-spelled 1 depth_label numbers_of_depth depth_is_number code takes taken
           (label_of rows labels row.id) (say row.id)
           record {
             coded = All-cons (λ number. number ≤ MAX_CODED) (depth_of rows depths row.id) []
                 (depth_coded rows net depths are row in') (All-nil (λ number. number ≤ MAX_CODED));
-            written = label_of-row rows net labels (λ id. text code [] (depth_of rows depths id)) texts row in';
+            written =
+                label_of-row rows net labels (λ id. text code [] (depth_of rows depths id)) texts
+                row in';
           }
 
       hold : (row : NodeRow) → Contains rows row → AllHold (forest_rules (said say row))
       hold row in' = (
         points_or row (depth_of rows depths row.id == 0)
-            (λ none. eq-eqb (depth_of rows depths row.id) 0 (depth_of_root rows net depths are row in' none)),
-        (falls_deeper (λ (label : DepthLabel). label.depth) say rows net (depths_fall rows net depths are) row in', tt),
+            (λ none. eq-eqb (depth_of rows depths row.id) 0
+            (depth_of_root rows net depths are row in' none)),
+        (
+          falls_deeper (λ (label : DepthLabel). label.depth) say rows net
+              (depths_fall rows net depths are) row in',
+          tt,
+        ),
       )

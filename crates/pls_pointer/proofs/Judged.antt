@@ -17,7 +17,8 @@ module _ {L : Type 0} (read : List Bool → Option L) where
   the_port port label = record { weight = port.weight; label = label }
 
   -- the label of a port that is read
-  label_read : (test : L → Bool) (port : SeenPort) (first : ReadPort L) → read_port read port ≡ Some first
+  label_read : (test : L → Bool) (port : SeenPort) (first : ReadPort L)
+      → read_port read port ≡ Some first
       → option_map_or test (read port.label) false ≡ test first.label
   label_read test port first is = by (read port.label) is
     where
@@ -34,7 +35,8 @@ module _ {L : Type 0} (read : List Bool → Option L) where
 
   -- it is the test of what was read
   pub list_all-labels : (test : L → Bool) (ports : List SeenPort) (found : List (ReadPort L))
-      → read_ports read ports ≡ Some found → all_labels test ports ≡ list_all (λ port. test port.label) found
+      → read_ports read ports ≡ Some found
+      → all_labels test ports ≡ list_all (λ port. test port.label) found
   list_all-labels test [] found is = let none : [] ≡ found = cc in rw (← none) refl
   list_all-labels test (port ∷ ports) found is =
       let parts = split_read read port ports found is in
@@ -44,22 +46,28 @@ module _ {L : Type 0} (read : List Bool → Option L) where
   -- whether a depth is one more than what the label says at a port, if there is one, in place
   abbrev pub deeper_than : (L → ℕ) → ℕ → Option SeenPort → Bool
   deeper_than depth own port =
-      option_map_or (λ above. own == above + 1) (option_map depth (option_and_then (λ port. read port.label) port)) true
+      option_map_or (λ above. own == above + 1)
+      (option_map depth (option_and_then (λ port. read port.label) port)) true
 
   -- it is the test of what was read
-  pub deeper-read : (depth : L → ℕ) (own : ℕ) (ports : List SeenPort) (found : List (ReadPort L)) (up : Option ℕ)
-      → read_ports read ports ≡ Some found → deeper_than depth own (option_and_then (slice_get ports) up)
-      ≡ option_map_or (λ port. own == depth port.label + 1) (option_and_then (slice_get found) up) true
+  pub deeper-read : (depth : L
+      → ℕ) (own : ℕ) (ports : List SeenPort) (found : List (ReadPort L)) (up : Option ℕ)
+      → read_ports read ports ≡ Some found
+      → deeper_than depth own (option_and_then (slice_get ports) up)
+      ≡ option_map_or (λ port. own == depth port.label + 1) (option_and_then (slice_get found) up)
+      true
   deeper-read depth own ports found None is = refl
   deeper-read depth own ports found (Some place) is =
       rw (slice_get-read read ports found place is) (by (slice_get ports place))
     where
       by : (port : Option SeenPort) → deeper_than depth own port
-          ≡ option_map_or (λ port. own == depth port.label + 1) (option_and_then (read_port read) port) true
+          ≡ option_map_or (λ port. own == depth port.label + 1)
+          (option_and_then (read_port read) port) true
       by None = refl
       by (Some port) = at (read port.label)
         where
-          at : (label : Option L) → option_map_or (λ above. own == above + 1) (option_map depth label) true
+          at : (label : Option L)
+              → option_map_or (λ above. own == above + 1) (option_map depth label) true
               ≡ option_map_or (λ (port : ReadPort L). own == depth port.label + 1)
               (option_map (the_port port) label) true
           at None = refl
@@ -67,26 +75,33 @@ module _ {L : Type 0} (read : List Bool → Option L) where
 
 module _ (takes : List Bool → Option (ℕ × List Bool)) (view : Seen) where
   -- what a node of a tree judges, its rules tried in place
-  pub judge_tree-read : (own : TreeLabel) (ports : List (ReadPort TreeLabel)) → tree_in takes view.own ≡ Some own
+  pub judge_tree-read : (own : TreeLabel) (ports : List (ReadPort TreeLabel))
+      → tree_in takes view.own ≡ Some own
       → read_ports (tree_in takes) view.ports ≡ Some ports
       → judged_from 3 (all_labels (tree_in takes) (λ label. label.root == own.root) view.ports
       ∷ (is_some view.state.up || (own.depth == 0 && view.id == own.root))
-      ∷ deeper_than (tree_in takes) (λ label. label.depth) own.depth (option_and_then (slice_get view.ports) view.state.up)
+      ∷ deeper_than (tree_in takes) (λ label. label.depth) own.depth
+      (option_and_then (slice_get view.ports) view.state.up)
       ∷ [])
       ≡ judge_tree takes view
   judge_tree-read own ports own_read read =
       rw (
-        list_all-labels (tree_in takes) (λ (label : TreeLabel). label.root == own.root) view.ports ports read,
-        deeper-read (tree_in takes) (λ (label : TreeLabel). label.depth) own.depth view.ports ports view.state.up read,
+        list_all-labels (tree_in takes) (λ (label : TreeLabel). label.root == own.root) view.ports
+            ports read,
+        deeper-read (tree_in takes) (λ (label : TreeLabel). label.depth) own.depth view.ports ports
+            view.state.up read,
       ) (sym (judged_by_rules (tree_in takes) tree_rules view own ports own_read read))
 
   -- what a node of a forest judges, its rules tried in place
-  pub judge_forest-read : (own : DepthLabel) (ports : List (ReadPort DepthLabel)) → depth_in takes view.own ≡ Some own
+  pub judge_forest-read : (own : DepthLabel) (ports : List (ReadPort DepthLabel))
+      → depth_in takes view.own ≡ Some own
       → read_ports (depth_in takes) view.ports ≡ Some ports
       → judged_from 3 ((is_some view.state.up || own.depth == 0)
-      ∷ deeper_than (depth_in takes) (λ label. label.depth) own.depth (option_and_then (slice_get view.ports) view.state.up)
+      ∷ deeper_than (depth_in takes) (λ label. label.depth) own.depth
+      (option_and_then (slice_get view.ports) view.state.up)
       ∷ [])
       ≡ judge_forest takes view
   judge_forest-read own ports own_read read =
-      rw (deeper-read (depth_in takes) (λ (label : DepthLabel). label.depth) own.depth view.ports ports view.state.up read)
+      rw (deeper-read (depth_in takes) (λ (label : DepthLabel). label.depth) own.depth view.ports
+      ports view.state.up read)
       (sym (judged_by_rules (depth_in takes) forest_rules view own ports own_read read))

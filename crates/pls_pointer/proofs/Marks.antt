@@ -1,5 +1,5 @@
--- What the marked labels of trees and of forests share: their depths, their lengths, and the test of a
--- node without pointer.
+-- What the marked labels of trees and of forests share: their depths, their lengths, and the test
+-- of a node without pointer.
 use Rattle.std.proofs.Common.{◌≡◌, ◌∙◌, ℕ, ◌≤◌, ◌||◌, inl, inr, Bool, true, List, [], ◌∷◌, length, All, Contains, Option, Some, None, refl, ap, arith, is_some, nat_le}
 use Rattle.std.proofs.lemmas.Bool.{le-leb}
 use Rattle.std.proofs.lemmas.List.Elements.{All-head, All-tail}
@@ -25,14 +25,17 @@ points_or row test root = by row.state.up refl
 
 -- the code of a number within another is not longer than that one's
 pub code_within : (code : ℕ → List Bool)
-    → ((small great : ℕ) → small ≤ great → great ≤ MAX_CODED → length (code small) ≤ length (code great))
-    → (small great : ℕ) → small ≤ great → great ≤ MAX_CODED → length (code small) ≤ code_length code great
+    → ((small great : ℕ) → small ≤ great → great ≤ MAX_CODED
+    → length (code small) ≤ length (code great))
+    → (small great : ℕ) → small ≤ great → great ≤ MAX_CODED
+    → length (code small) ≤ code_length code great
 code_within code grows small great order coded =
     let is : nat_le great MAX_CODED ≡ true = le-leb great MAX_CODED coded in
     rw is (grows small great order coded)
 
 -- an identity is within the greatest
-pub id_within : (rows : List NodeRow) (row : NodeRow) → Contains rows row → row.id ≤ greatest (ids_of rows)
+pub id_within : (rows : List NodeRow) (row : NodeRow) → Contains rows row
+    → row.id ≤ greatest (ids_of rows)
 id_within [] row in' = absurd (omega (arith, in'.1))
 id_within (first ∷ rows) row in' = elim (Contains-cons_cases first rows row in') [
   | inl same ↦ omega (arith, ap (λ (row : NodeRow). row.id) same)
@@ -46,10 +49,12 @@ greatest_coded [] coded = omega arith
 greatest_coded (row ∷ rows) coded =
     let Coded : NodeRow → Type 0 = λ row. row.id ≤ MAX_CODED in
     let first : row.id ≤ MAX_CODED = All-head Coded row rows coded in
-    let others : greatest (ids_of rows) ≤ MAX_CODED = greatest_coded rows (All-tail Coded row rows coded) in
+    let others : greatest (ids_of rows) ≤ MAX_CODED =
+    greatest_coded rows (All-tail Coded row rows coded) in
     omega (arith, first, others)
 
-module _ (rows : List NodeRow) (net : IsNetwork rows) (depths : List ℕ) (are : AreDepths rows depths) where
+module _ (rows : List NodeRow) (net : IsNetwork rows) (depths : List ℕ)
+    (are : AreDepths rows depths) where
   -- labels that end in the depths are what a function of the identity gives
   pub depth_texts : (code : ℕ → List Bool) (front : List ℕ) (labels : List (List Bool))
       → EndInDepths code front depths labels
@@ -66,7 +71,8 @@ module _ (rows : List NodeRow) (net : IsNetwork rows) (depths : List ℕ) (are :
 
   -- no longer than that of the number of nodes
   pub depth_within : (code : ℕ → List Bool)
-      → ((small great : ℕ) → small ≤ great → great ≤ MAX_CODED → length (code small) ≤ length (code great))
+      → ((small great : ℕ) → small ≤ great → great ≤ MAX_CODED
+      → length (code small) ≤ length (code great))
       → (row : NodeRow) → Contains rows row
       → length (code (depth_of rows depths row.id)) ≤ code_length code (length rows)
   depth_within code grows row in' =

@@ -44,19 +44,24 @@ module _ (code : ℕ → List Bool) (rows : List NodeRow) (net : IsNetwork rows)
     where
       label : (row other : NodeRow) (place : ℕ) (bits : List Bool) → slice_get rows place ≡ Some row
           → slice_get labels place ≡ Some bits → Contains rows other → other.state.up ≡ None
-          → (depth : ℕ) × IsChainOf rows row.id other.id depth × (bits ≡ code other.id ++ code depth)
+          → (depth : ℕ) × IsChainOf rows row.id other.id depth
+          × (bits ≡ code other.id ++ code depth)
       label row other place bits at has other_in none =
           let depth : ℕ = depth_of rows depths row.id in
           let in' : Contains rows row = Contains-from_place rows place row at in
-          let (last, chain) : (last : ℕ) × IsChainOf rows row.id last depth = chain_of rows net depths are row in' in
-          let (end, end_in, end_none, is_last) : (end : NodeRow) × Contains rows end × (end.state.up ≡ None)
+          let (last, chain) : (last : ℕ) × IsChainOf rows row.id last depth =
+          chain_of rows net depths are row in' in
+          let (end, end_in, end_none, is_last) : (end : NodeRow) × Contains rows end
+          × (end.state.up ≡ None)
           × (end.id ≡ last) =
           chain_end rows net depths are row in' last depth chain in
           let is_root : other.id ≡ root = only.named other other_in none in
-          let same : last ≡ other.id = sym is_last ∙ only.named end end_in end_none ∙ sym is_root in (
+          let same : last ≡ other.id =
+          sym is_last ∙ only.named end end_in end_none ∙ sym is_root in (
             depth,
             subst (λ (last : ℕ). IsChainOf rows row.id last depth) same chain,
-            ends.label place depth bits (depth_at rows net depths are place row at) has ∙ two_codes depth
+            ends.label place depth bits (depth_at rows net depths are place row at) has
+                ∙ two_codes depth
                 ∙ ap (λ (id : ℕ). code id ++ code depth) (sym is_root),
           )
 
@@ -67,23 +72,29 @@ module _ (code : ℕ → List Bool) (rows : List NodeRow) (net : IsNetwork rows)
     -- the root is a node
     root_row : (row : NodeRow) × Contains rows row × (row.id ≡ root)
     root_row =
-        let (row, in', none) : (row : NodeRow) × Contains rows row × (row.state.up ≡ None) = a_root rows only.one in
+        let (row, in', none) : (row : NodeRow) × Contains rows row × (row.state.up ≡ None) =
+        a_root rows only.one in
         (row, in', only.named row in' none)
 
     -- the labels are short
-    pub tree_short : ((small great : ℕ) → small ≤ great → great ≤ MAX_CODED → length (code small) ≤ length (code great))
+    pub tree_short : ((small great : ℕ) → small ≤ great → great ≤ MAX_CODED
+        → length (code small) ≤ length (code great))
         → All (λ label. length label ≤ longest_tree code (size_of rows)) labels
-    tree_short grows = each_text rows net labels (λ id. text code (root ∷ []) (depth_of rows depths id)) texts
+    tree_short grows =
+        each_text rows net labels (λ id. text code (root ∷ []) (depth_of rows depths id)) texts
         (λ label. length label ≤ longest_tree code (size_of rows)) short
       where
         short : (row : NodeRow) → Contains rows row
-            → length (text code (root ∷ []) (depth_of rows depths row.id)) ≤ longest_tree code (size_of rows)
+            → length (text code (root ∷ []) (depth_of rows depths row.id)) ≤ longest_tree code
+            (size_of rows)
         short row in' =
             let depth : ℕ = depth_of rows depths row.id in
             let within : root ≤ greatest (ids_of rows) =
-            subst (λ (id : ℕ). id ≤ greatest (ids_of rows)) root_row.2 (id_within rows root_row.0 root_row.1) in
+            subst (λ (id : ℕ). id ≤ greatest (ids_of rows)) root_row.2
+            (id_within rows root_row.0 root_row.1) in
             let one : length (code root) ≤ code_length code (greatest (ids_of rows)) =
-            code_within code grows root (greatest (ids_of rows)) within (greatest_coded rows coded) in
+            code_within code grows root (greatest (ids_of rows)) within
+            (greatest_coded rows coded) in
             let two : length (code depth) ≤ code_length code (length rows) =
             depth_within rows net depths are code grows row in' in
             rw (two_codes depth, length-append (code root) (code depth)) (omega (arith, one, two))
@@ -91,7 +102,8 @@ module _ (code : ℕ → List Bool) (rows : List NodeRow) (net : IsNetwork rows)
     -- and every node accepts them
     pub tree_accepted : (takes : List Bool → Option (ℕ × List Bool)) → TakesCodes code takes
         → AllAccept (judge_tree takes) rows labels
-    tree_accepted takes taken = said_accepted (tree_in takes) tree_rules rows net labels say says hold
+    tree_accepted takes taken =
+        said_accepted (tree_in takes) tree_rules rows net labels say says hold
       where
         say : ℕ → TreeLabel
         say id = record { root = root; depth = depth_of rows depths id }
@@ -103,25 +115,34 @@ module _ (code : ℕ → List Bool) (rows : List NodeRow) (net : IsNetwork rows)
         root_small = subst Small root_row.2
             (All-contains (λ (row : NodeRow). row.id ≤ MAX_CODED) rows root_row.0 coded root_row.1)
 
-        says : (row : NodeRow) → Contains rows row → tree_in takes (label_of rows labels row.id) ≡ Some (say row.id)
-        says row in' = label_in-spelled 2 tree_label numbers_of_tree tree_is_numbers code takes taken
+        says : (row : NodeRow) → Contains rows row
+            → tree_in takes (label_of rows labels row.id) ≡ Some (say row.id)
+        says row in' =
+            label_in-spelled 2 tree_label numbers_of_tree tree_is_numbers code takes taken
             (label_of rows labels row.id) (say row.id)
             record {
               coded = All-cons Small root (depth_of rows depths row.id ∷ []) root_small
-                  (All-cons Small (depth_of rows depths row.id) [] (depth_coded rows net depths are row in')
+                  (All-cons Small (depth_of rows depths row.id) []
+                  (depth_coded rows net depths are row in')
                   (All-nil Small));
-              written = label_of-row rows net labels (λ id. text code (root ∷ []) (depth_of rows depths id)) texts
+              written =
+                  label_of-row rows net labels
+                  (λ id. text code (root ∷ []) (depth_of rows depths id)) texts
                   row in';
             }
 
         agrees : (row : NodeRow) → agrees_on_root (said say row) ≡ true
-        agrees row = list_all-map (λ (port : ReadPort TreeLabel). port.label.root == root) (said_port say) row.ports
-            ∙ list_all-from_AllPass (λ (port : Port). root == root) row.ports (λ p d within. eq-eqb root root refl)
+        agrees row =
+            list_all-map (λ (port : ReadPort TreeLabel). port.label.root == root) (said_port say)
+            row.ports
+            ∙ list_all-from_AllPass (λ (port : Port). root == root) row.ports
+            (λ p d within. eq-eqb root root refl)
 
         at_root : (row : NodeRow) → Contains rows row → row.state.up ≡ None
             → (depth_of rows depths row.id == 0 && row.id == root) ≡ true
         at_root row in' none = and_from (depth_of rows depths row.id == 0) (row.id == root)
-            (eq-eqb (depth_of rows depths row.id) 0 (depth_of_root rows net depths are row in' none))
+            (eq-eqb (depth_of rows depths row.id) 0
+            (depth_of_root rows net depths are row in' none))
             (eq-eqb row.id root (only.named row in' none))
 
         hold : (row : NodeRow) → Contains rows row → AllHold (tree_rules (said say row))
@@ -130,7 +151,8 @@ module _ (code : ℕ → List Bool) (rows : List NodeRow) (net : IsNetwork rows)
           (
             points_or row (depth_of rows depths row.id == 0 && row.id == root) (at_root row in'),
             (
-              falls_deeper (λ (label : TreeLabel). label.depth) say rows net (depths_fall rows net depths are) row
+              falls_deeper (λ (label : TreeLabel). label.depth) say rows net
+                  (depths_fall rows net depths are) row
                   in',
               tt,
             ),

@@ -27,27 +27,35 @@ module _ {L : Type 0} (depth : L → ℕ) (say : ℕ → L) where
 
   module _ (rows : List NodeRow) (net : IsNetwork rows) where
     -- where the rule holds everywhere, the depth falls along pointers
-    pub deeper_falls : ((row : NodeRow) → Contains rows row → is_deeper row ≡ true) → Falls rows (λ id. depth (say id))
+    pub deeper_falls : ((row : NodeRow) → Contains rows row → is_deeper row ≡ true)
+        → Falls rows (λ id. depth (say id))
     deeper_falls deeper u v points =
         let step : IsPointer rows u v = IsPointer-next rows net u v points in
         let test : Option (ReadPort L) → Bool =
-        λ read. option_map_or (λ (port : ReadPort L). depth (say step.row.id) == depth port.label + 1) read true in
+        λ read. option_map_or (λ (port : ReadPort L). depth (say step.row.id) == depth port.label +
+        1) read true in
         let here : (depth (say step.row.id) == depth (say step.port.nbr) + 1) ≡ true =
         sym (ap test (target_said step.row step.number step.port step.up step.has))
         ∙ deeper step.row (Contains-from_place rows step.place step.row step.at) in
         let falls : depth (say step.row.id) ≡ depth (say step.port.nbr) + 1 =
         eqb-true (depth (say step.row.id)) (depth (say step.port.nbr) + 1) here in
-        ap (λ (id : ℕ). depth (say id)) step.owner ∙ falls ∙ ap (λ (id : ℕ). depth (say id) + 1) step.named
+        ap (λ (id : ℕ). depth (say id)) step.owner ∙ falls
+        ∙ ap (λ (id : ℕ). depth (say id) + 1) step.named
 
     -- and the other way round
-    pub falls_deeper : Falls rows (λ id. depth (say id)) → (row : NodeRow) → Contains rows row → is_deeper row ≡ true
+    pub falls_deeper : Falls rows (λ id. depth (say id)) → (row : NodeRow) → Contains rows row
+        → is_deeper row ≡ true
     falls_deeper falls row in' = by row.state.up refl
       where
         test : Option (ReadPort L) → Bool
-        test read = option_map_or (λ (port : ReadPort L). depth (say row.id) == depth port.label + 1) read true
+        test read =
+            option_map_or (λ (port : ReadPort L). depth (say row.id) == depth port.label + 1) read
+            true
 
         by : (up : Option ℕ) → row.state.up ≡ up → is_deeper row ≡ true
-        by None is = ap (λ (up : Option ℕ). test (option_and_then (slice_get (map (said_port say) row.ports)) up)) is
+        by None is =
+            ap (λ (up : Option ℕ). test
+            (option_and_then (slice_get (map (said_port say) row.ports)) up)) is
         by (Some number) is =
             let (port, has, points) : (port : Port) × (slice_get row.ports number ≡ Some port)
             × (next rows row.id ≡ Some port.nbr) =

@@ -1,5 +1,5 @@
--- The scheme of forests: what a label says, what a node judges, and the marker's labels. The property
--- is that no non-empty chain of pointers returns to its start.
+-- The scheme of forests: what a label says, what a node judges, and the marker's labels. The
+-- property is that no non-empty chain of pointers returns to its start.
 use Rattle.std.specs.Prelude.{◌≡◌, ℕ, ◌+◌, ◌==◌, Bool, true, ◌||◌, List, [], ◌∷◌, length, slice_get, Option, Some, None, option_and_then}
 use Rattle.std.specs.Option.{is_some, option_map_or}
 use Rattle.pls_model.specs.declared.row.NodeRow.{NodeRow}
@@ -36,7 +36,8 @@ points_or_is_at_0 view = is_some view.state.up || view.own.depth == 0
 
 -- rule 4: the node points at no port, or it is one deeper than the node that it points at
 abbrev pub is_one_deeper_than_target : Read DepthLabel → Bool
-is_one_deeper_than_target view = option_map_or (λ port. view.own.depth == port.label.depth + 1) (target view) true
+is_one_deeper_than_target view =
+    option_map_or (λ port. view.own.depth == port.label.depth + 1) (target view) true
 
 -- the rules from 3 on
 abbrev pub forest_rules : Read DepthLabel → List Bool
@@ -47,7 +48,8 @@ abbrev pub judge_forest : (List Bool → Option (ℕ × List Bool)) → Seen →
 judge_forest takes view = judge_by (depth_in takes) forest_rules view
 
 -- the label of each node is the length of its chain of pointers
-pub record IsForestMarked (code : ℕ → List Bool) (rows : List NodeRow) (labels : List (List Bool)) : Type 0 where
+pub record IsForestMarked (code : ℕ → List Bool) (rows : List NodeRow)
+    (labels : List (List Bool)) : Type 0 where
   pub each : length labels ≡ length rows
   pub label : (row : NodeRow) (place : ℕ) (label : List Bool) → slice_get rows place ≡ Some row
       → slice_get labels place ≡ Some label

@@ -20,19 +20,23 @@ numbers_of_depth label = label.depth ∷ []
 pub depth_is_number : AreNumbers 1 depth_label numbers_of_depth
 depth_is_number = record { many = λ label. refl; given = λ label. refl; only = only }
   where
-    only : (found : List ℕ) (label : DepthLabel) → depth_label found ≡ Some label → found ≡ numbers_of_depth label
+    only : (found : List ℕ) (label : DepthLabel) → depth_label found ≡ Some label
+        → found ≡ numbers_of_depth label
     only [] label is = absurd (cc)
     only (depth ∷ []) label is = cc
     only (depth ∷ next ∷ others) label is = absurd (cc)
 
 -- bits are one label at most
-pub one_depth_label : (code : ℕ → List Bool) (takes : List Bool → Option (ℕ × List Bool)) → TakesCodes code takes
-    → (bits : List Bool) (a b : DepthLabel) → IsDepthLabel code bits a → IsDepthLabel code bits b → a ≡ b
+pub one_depth_label : (code : ℕ → List Bool) (takes : List Bool → Option (ℕ × List Bool))
+    → TakesCodes code takes
+    → (bits : List Bool) (a b : DepthLabel) → IsDepthLabel code bits a → IsDepthLabel code bits b
+    → a ≡ b
 one_depth_label code takes taken bits a b first second =
     one_label 1 depth_label numbers_of_depth depth_is_number code takes taken bits a b first second
 
 -- where every node accepts, no chain of pointers returns
-pub forest_sound : (takes : List Bool → Option (ℕ × List Bool)) (rows : List NodeRow) (labels : List (List Bool))
+pub forest_sound : (takes : List Bool
+    → Option (ℕ × List Bool)) (rows : List NodeRow) (labels : List (List Bool))
     → IsNetwork rows → AllAccept (judge_forest takes) rows labels → IsForest rows
 forest_sound takes rows labels net accepted = Falls-NoneReturns rows (λ id. (say id).depth) falls
   where
@@ -44,4 +48,5 @@ forest_sound takes rows labels net accepted = Falls-NoneReturns rows (λ id. (sa
 
     falls : Falls rows (λ id. (say id).depth)
     falls = deeper_falls (λ (label : DepthLabel). label.depth) say rows net
-        (λ row in'. (accepted_say (depth_in takes) forest_rules rows labels none accepted row in').1.1.0)
+        (λ row in'. (accepted_say (depth_in takes) forest_rules rows labels none accepted row
+        in').1.1.0)

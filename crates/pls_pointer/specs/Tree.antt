@@ -1,6 +1,6 @@
--- The scheme of trees: what a label says, what a node judges, and the marker's labels. The property is
--- that exactly one node has no pointer, and that the edges along which the others point are a spanning
--- tree (Korman, Kutten and Peleg 2010, the spanning tree scheme).
+-- The scheme of trees: what a label says, what a node judges, and the marker's labels. The property
+-- is that exactly one node has no pointer, and that the edges along which the others point are a
+-- spanning tree (Korman, Kutten and Peleg 2010, the spanning tree scheme).
 use Rattle.std.specs.Prelude.{◌≡◌, ℕ, ◌+◌, ◌==◌, Bool, true, ◌&&◌, ◌||◌, List, [], ◌∷◌, ◌++◌, length, Contains, slice_get, Option, Some, None, option_and_then}
 use Rattle.std.specs.List.{list_all}
 use Rattle.std.specs.Option.{is_some, option_map_or}
@@ -43,7 +43,8 @@ points_or_is_root view = points view || (view.own.depth == 0 && view.id == view.
 
 -- rule 5: the node points at no port, or it is one deeper than the node that it points at
 abbrev pub is_one_deeper_than_target : Read TreeLabel → Bool
-is_one_deeper_than_target view = option_map_or (λ port. view.own.depth == port.label.depth + 1) (target view) true
+is_one_deeper_than_target view =
+    option_map_or (λ port. view.own.depth == port.label.depth + 1) (target view) true
 
 -- the rules from 3 on
 abbrev pub tree_rules : Read TreeLabel → List Bool
@@ -55,13 +56,14 @@ judge_tree takes view = judge_by (tree_in takes) tree_rules view
 
 -- the label of each node is the root's identity, the root being the node without pointer, and the
 -- length of the node's chain of pointers
-pub record IsTreeMarked (code : ℕ → List Bool) (rows : List NodeRow) (labels : List (List Bool)) : Type 0 where
+pub record IsTreeMarked (code : ℕ → List Bool) (rows : List NodeRow)
+    (labels : List (List Bool)) : Type 0 where
   pub each : length labels ≡ length rows
   pub label : (row root : NodeRow) (place : ℕ) (label : List Bool) → slice_get rows place ≡ Some row
       → slice_get labels place ≡ Some label → Contains rows root → root.state.up ≡ None
       → (depth : ℕ) × IsChainOf rows row.id root.id depth × (label ≡ code root.id ++ code depth)
 
--- how many bits a marked label has at most: a code of the greatest identity, and one of the number of
--- nodes
+-- how many bits a marked label has at most: a code of the greatest identity, and one of the number
+-- of nodes
 abbrev pub longest_tree : (ℕ → List Bool) → Size → ℕ
 longest_tree code size = code_length code size.max_id + code_length code size.nodes

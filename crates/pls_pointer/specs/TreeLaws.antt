@@ -1,4 +1,5 @@
--- What labels of trees say: a root and a depth each, and all together that the pointers make a tree.
+-- What labels of trees say: a root and a depth each, and all together that the pointers make a
+-- tree.
 use Rattle.std.proofs.Common.{◌≡◌, ◌≤◌, ◌∙◌, ◌||◌, ◌==◌, ◌&&◌, ℕ, Bool, true, List, [], ◌∷◌, length, Contains, Option, Some, None, refl, sym, arith, is_some}
 use Rattle.std.proofs.lemmas.Bool.{eqb-true, and_parts}
 use Rattle.std.proofs.lemmas.List.Elements.{All-contains}
@@ -31,15 +32,18 @@ numbers_of_tree label = label.root ∷ label.depth ∷ []
 pub tree_is_numbers : AreNumbers 2 tree_label numbers_of_tree
 tree_is_numbers = record { many = λ label. refl; given = λ label. refl; only = only }
   where
-    only : (found : List ℕ) (label : TreeLabel) → tree_label found ≡ Some label → found ≡ numbers_of_tree label
+    only : (found : List ℕ) (label : TreeLabel) → tree_label found ≡ Some label
+        → found ≡ numbers_of_tree label
     only [] label is = absurd (cc)
     only (root ∷ []) label is = absurd (cc)
     only (root ∷ depth ∷ []) label is = cc
     only (root ∷ depth ∷ next ∷ others) label is = absurd (cc)
 
 -- bits are one label at most
-pub one_tree_label : (code : ℕ → List Bool) (takes : List Bool → Option (ℕ × List Bool)) → TakesCodes code takes
-    → (bits : List Bool) (a b : TreeLabel) → IsTreeLabel code bits a → IsTreeLabel code bits b → a ≡ b
+pub one_tree_label : (code : ℕ → List Bool) (takes : List Bool → Option (ℕ × List Bool))
+    → TakesCodes code takes
+    → (bits : List Bool) (a b : TreeLabel) → IsTreeLabel code bits a → IsTreeLabel code bits b
+    → a ≡ b
 one_tree_label code takes taken bits a b first second =
     one_label 2 tree_label numbers_of_tree tree_is_numbers code takes taken bits a b first second
 
@@ -60,14 +64,17 @@ module _ (say : ℕ → TreeLabel) (row : NodeRow) where
       (All-contains (λ (port : Port). test (said_port say port) ≡ true) row.ports port each has)
 
   -- where rule 4 holds, a node without pointer is the root
-  root_names_itself : points_or_is_root (said say row) ≡ true → row.state.up ≡ None → row.id ≡ (say row.id).root
+  root_names_itself : points_or_is_root (said say row) ≡ true → row.state.up ≡ None
+      → row.id ≡ (say row.id).root
   root_names_itself holds none =
-      let here : (is_some row.state.up || ((say row.id).depth == 0 && row.id == (say row.id).root)) ≡ true = holds in
+      let here : (is_some row.state.up || ((say row.id).depth == 0 && row.id == (say row.id).root))
+      ≡ true = holds in
       let at : ((say row.id).depth == 0 && row.id == (say row.id).root) ≡ true = rw none at here in
       eqb-true row.id (say row.id).root (and_parts _ _ at).1
 
 -- where every node of a connected network accepts, the pointers make a tree
-pub tree_sound : (takes : List Bool → Option (ℕ × List Bool)) (rows : List NodeRow) (labels : List (List Bool))
+pub tree_sound : (takes : List Bool
+    → Option (ℕ × List Bool)) (rows : List NodeRow) (labels : List (List Bool))
     → IsNetwork rows → IsConnected rows → AllAccept (judge_tree takes) rows labels → IsTree rows
 tree_sound takes rows labels net connected accepted =
     IsTree-falling rows net (λ id. (say id).depth) falls (say first.0.id).root same
@@ -82,7 +89,8 @@ tree_sound takes rows labels net connected accepted =
     hold row in' = (accepted_say (tree_in takes) tree_rules rows labels none accepted row in').1
 
     falls : Falls rows (λ id. (say id).depth)
-    falls = deeper_falls (λ (label : TreeLabel). label.depth) say rows net (λ row in'. (hold row in').1.1.0)
+    falls = deeper_falls (λ (label : TreeLabel). label.depth) say rows net
+        (λ row in'. (hold row in').1.1.0)
 
     agree : AgreeAtPorts rows (λ id. (say id).root)
     agree row port in' has = agree_at_port say row (hold row in').0 port has
@@ -90,7 +98,9 @@ tree_sound takes rows labels net connected accepted =
     first : (row : NodeRow) × Contains rows row
     first = some_row rows net.limits.some
 
-    same : (row : NodeRow) → Contains rows row → row.state.up ≡ None → row.id ≡ (say first.0.id).root
+    same : (row : NodeRow) → Contains rows row → row.state.up ≡ None
+        → row.id ≡ (say first.0.id).root
     same row in' up = root_names_itself say row (hold row in').1.0 up
-        ∙ agree_everywhere rows (λ id. (say id).root) connected agree row.id first.0.id (id_of_row rows row in')
+        ∙ agree_everywhere rows (λ id. (say id).root) connected agree row.id first.0.id
+        (id_of_row rows row in')
         (id_of_row rows first.0 first.1)

@@ -9,7 +9,8 @@ use pls_view::View;
 // What the label says at the port that the node points at, where it points at one.
 pub(crate) fn label_above<R: Reads>(view: &View<'_>) -> Option<R::Said>
     ensures { result
-        ≡ option_and_then (λ port. R.said port.label) (option_and_then (slice_get view.now.ports) view.now.state.up) }
+        ≡ option_and_then (λ port. R.said port.label)
+        (option_and_then (slice_get view.now.ports) view.now.state.up) }
 {
     let up = view.state.up?;
     let port = view.ports.get(up as usize)?;

@@ -62,7 +62,8 @@ impl<C: NumCode> Scheme for Forest<C> {
 
     ghost one_spelling_law = { λ _ label a b first second. one_spelling C.code (numbers_of_depth label) a b first second };
 
-    ghost one_label_law = { λ _ bits a b first second. one_depth_label C.code C.takes C.takes_codes bits a b first second };
+    ghost one_label_law = { λ _ bits a b first second. one_depth_label C.code C.takes C.takes_codes bits a b first
+        second };
 
     ghost sound_law = { λ _ rows labels net _ _ accepted. forest_sound C.takes rows labels net accepted };
 }

@@ -108,7 +108,8 @@ fn verdict_on<C: NumCode>(view: &View<'_>) -> Verdict
 // Rule 3: every neighbour's root is this one.
 fn agrees_on_root<C: NumCode>(root: u64, ports: &[PortView<'_>]) -> bool
     ensures { result
-        ≡ list_all (λ port. option_map_or (λ label. label.root == root) (tree_in C.takes port.label) false) ports.now }
+        ≡ list_all (λ port. option_map_or (λ label. label.root == root) (tree_in C.takes port.label)
+        false) ports.now }
 {
     ports.iter().all(|port| names_root::<C>(root, &port.label))
 }

@@ -68,9 +68,11 @@ impl<C: NumCode> Scheme for Tree<C> {
 
     ghost one_spelling_law = { λ _ label a b first second. one_spelling C.code (numbers_of_tree label) a b first second };
 
-    ghost one_label_law = { λ _ bits a b first second. one_tree_label C.code C.takes C.takes_codes bits a b first second };
+    ghost one_label_law = { λ _ bits a b first second. one_tree_label C.code C.takes C.takes_codes bits a b first
+        second };
 
-    ghost sound_law = { λ _ rows labels net connected _ accepted. tree_sound C.takes rows labels net connected accepted };
+    ghost sound_law = { λ _ rows labels net connected _ accepted. tree_sound C.takes rows labels net connected
+        accepted };
 }
 
 // The root's identity, and the depth of each node in their order, or `None` where the pointers make
@@ -80,7 +82,8 @@ fn root_and_depths(alloc: Global, net: &Network) -> Result<Option<(u32, Vec<u32>
     ensures holds { IfOk result (λ found. IfSome found (λ tree. IsTree net.now)) }
     ensures root { IfOk result (λ found. IfSome found (λ tree. IsOnlyRoot net.now tree.0)) }
     ensures depths { IfOk result (λ found. IfSome found (λ tree. AreDepths net.now tree.1.items)) }
-    ensures coded { IfOk result (λ found. IfSome found (λ tree. All (λ row. row.id ≤ MAX_CODED) net.now)) }
+    ensures coded { IfOk result (λ found. IfSome found
+        (λ tree. All (λ row. row.id ≤ MAX_CODED) net.now)) }
     ensures valid { IsNetwork net.now }
 {
     let Some(root) = only_root(net) else {

@@ -11,12 +11,14 @@ pub judged-leaf : (number : ℕ) (rules : List Bool) → LeafWithin 1 (judged_fr
 judged-leaf number [] = tt
 judged-leaf number (holds ∷ others) = by holds (judged-leaf (number + 1) others)
   where
-    by : (b : Bool) → LeafWithin 1 (judged_from (number + 1) others) → LeafWithin 1 (if b then judged_from (number + 1) others else Reject 1 number)
+    by : (b : Bool) → LeafWithin 1 (judged_from (number + 1) others)
+        → LeafWithin 1 (if b then judged_from (number + 1) others else Reject 1 number)
     by true later = later
     by false later = omega arith
 
 -- rules that accept hold, each of them
-pub judged-each : (number : ℕ) (rules : List Bool) → judged_from number rules ≡ Accept → AllByRecursion (λ holds. holds ≡ true) rules
+pub judged-each : (number : ℕ) (rules : List Bool) → judged_from number rules ≡ Accept
+    → AllByRecursion (λ holds. holds ≡ true) rules
 judged-each number [] accepted = tt
 judged-each number (holds ∷ others) accepted = by holds accepted (judged-each (number + 1) others)
   where
@@ -27,12 +29,19 @@ judged-each number (holds ∷ others) accepted = by holds accepted (judged-each 
     by false accepted later = absurd (cc)
 
 -- a verdict by a way to read labels and by rules names leaf 1
-pub judge_by-leaf : {L : Type 0} (read : List Bool → Option L) (rules : Read L → List Bool) (view : Seen)
+pub judge_by-leaf : {L : Type 0} (read : List Bool → Option L) (rules : Read L
+    → List Bool) (view : Seen)
     → LeafWithin 1 (judge_by read rules view)
 judge_by-leaf {L} read rules view = by (read view.own) (read_ports read view.ports)
   where
-    by : (own : Option L) (ports : Option (List (ReadPort L))) → LeafWithin 1 (judged_read rules view own ports)
+    by : (own : Option L) (ports : Option (List (ReadPort L)))
+        → LeafWithin 1 (judged_read rules view own ports)
     by None ports = omega arith
     by (Some own) None = omega arith
     by (Some own) (Some ports) =
-        judged-leaf 3 (rules (record { id = view.id; state = view.state; own = own; ports = ports }))
+        judged-leaf 3 (rules (record {
+          id = view.id;
+          state = view.state;
+          own = own;
+          ports = ports;
+        }))

@@ -9,11 +9,13 @@ use Rattle.pls_scheme.proofs.Codes.{codes-numbers_in, numbers_in-codes}
 -- a code is taken off, whatever follows it
 abbrev pub TakesCodes : (ℕ → List Bool) → (List Bool → Option (ℕ × List Bool)) → Type 0
 TakesCodes code takes =
-    (number : ℕ) (rest : List Bool) → number ≤ MAX_CODED → takes (code number ++ rest) ≡ Some (number, rest)
+    (number : ℕ) (rest : List Bool) → number ≤ MAX_CODED
+    → takes (code number ++ rest) ≡ Some (number, rest)
 
 -- nothing but codes is taken off
 abbrev pub TakesOnly : (ℕ → List Bool) → (List Bool → Option (ℕ × List Bool)) → Type 0
-TakesOnly code takes = (bits : List Bool) (number : ℕ) (rest : List Bool) → takes bits ≡ Some (number, rest)
+TakesOnly code takes =
+    (bits : List Bool) (number : ℕ) (rest : List Bool) → takes bits ≡ Some (number, rest)
     → (number ≤ MAX_CODED) × (bits ≡ code number ++ rest)
 
 -- numbers that have codes have a spelling
@@ -22,39 +24,47 @@ pub has_spelling : (code : ℕ → List Bool) (numbers : List ℕ) → AreCoded 
 has_spelling code numbers coded = (codes_of code numbers, record { coded = coded; written = refl })
 
 -- and one only
-pub one_spelling : (code : ℕ → List Bool) (numbers : List ℕ) (a b : List Bool) → AreCodesOf code numbers a
+pub one_spelling : (code : ℕ → List Bool) (numbers : List ℕ) (a b : List Bool)
+    → AreCodesOf code numbers a
     → AreCodesOf code numbers b → a ≡ b
 one_spelling code numbers a b first second = first.written ∙ sym second.written
 
 -- labels are so many numbers
-pub record AreNumbers {L : Type 0} (count : ℕ) (label_of : List ℕ → Option L) (numbers : L → List ℕ) : Type 0 where
+pub record AreNumbers {L : Type 0} (count : ℕ) (label_of : List ℕ → Option L)
+    (numbers : L → List ℕ) : Type 0 where
   pub many : (label : L) → length (numbers label) ≡ count
   pub given : (label : L) → label_of (numbers label) ≡ Some label
   pub only : (found : List ℕ) (label : L) → label_of found ≡ Some label → found ≡ numbers label
 
 module _ {L : Type 0} (count : ℕ) (label_of : List ℕ → Option L) (numbers : L → List ℕ)
-    (are : AreNumbers count label_of numbers) (code : ℕ → List Bool) (takes : List Bool → Option (ℕ × List Bool)) where
+    (are : AreNumbers count label_of numbers) (code : ℕ → List Bool) (takes : List Bool
+    → Option (ℕ × List Bool)) where
   -- the label that the bits are
   abbrev pub label_in : List Bool → Option L
   label_in bits = option_and_then label_of (numbers_in takes count bits)
 
   -- a label is read from its spelling
-  pub label_in-spelled : TakesCodes code takes → (bits : List Bool) (label : L) → AreCodesOf code (numbers label) bits
+  pub label_in-spelled : TakesCodes code takes → (bits : List Bool) (label : L)
+      → AreCodesOf code (numbers label) bits
       → label_in bits ≡ Some label
   label_in-spelled taken bits label spelled =
-      let read : numbers_in takes (length (numbers label)) (codes_of code (numbers label)) ≡ Some (numbers label) =
+      let read : numbers_in takes (length (numbers label)) (codes_of code (numbers label))
+      ≡ Some (numbers label) =
       numbers_in-codes takes code taken (numbers label) spelled.coded in
       ap label_in spelled.written
-      ∙ ap (λ (count : ℕ). option_and_then label_of (numbers_in takes count (codes_of code (numbers label))))
+      ∙ ap (λ (count : ℕ). option_and_then label_of
+      (numbers_in takes count (codes_of code (numbers label))))
       (sym (are.many label))
       ∙ ap (option_and_then label_of) read ∙ are.given label
 
   -- what is read is a label whose spelling the bits are
-  pub spelled-label_in : TakesOnly code takes → (bits : List Bool) (label : L) → label_in bits ≡ Some label
+  pub spelled-label_in : TakesOnly code takes → (bits : List Bool) (label : L)
+      → label_in bits ≡ Some label
       → AreCodesOf code (numbers label) bits
   spelled-label_in only bits label read = by (numbers_in takes count bits) refl read
     where
-      by : (found : Option (List ℕ)) → numbers_in takes count bits ≡ found → option_and_then label_of found ≡ Some label
+      by : (found : Option (List ℕ)) → numbers_in takes count bits ≡ found
+          → option_and_then label_of found ≡ Some label
           → AreCodesOf code (numbers label) bits
       by None is read = absurd (cc)
       by (Some found) is read =
@@ -63,7 +73,9 @@ module _ {L : Type 0} (count : ℕ) (label_of : List ℕ → Option L) (numbers 
           subst (λ (found : List ℕ). AreCodesOf code found bits) (are.only found label read) codes.1
 
   -- bits are one label at most
-  pub one_label : TakesCodes code takes → (bits : List Bool) (a b : L) → AreCodesOf code (numbers a) bits
+  pub one_label : TakesCodes code takes → (bits : List Bool) (a b : L)
+      → AreCodesOf code (numbers a) bits
       → AreCodesOf code (numbers b) bits → a ≡ b
   one_label taken bits a b first second =
-      same_Some a b (sym (label_in-spelled taken bits a first) ∙ label_in-spelled taken bits b second)
+      same_Some a b (sym (label_in-spelled taken bits a first)
+      ∙ label_in-spelled taken bits b second)

@@ -24,7 +24,8 @@ module _ (code : ℕ → List Bool) (front : List ℕ) where
 
   -- the labels before a place are those of the depths
   abbrev pub AreTextsBefore : List ℕ → ℕ → List (List Bool) → Type 0
-  AreTextsBefore depths i labels = (place depth : ℕ) (bits : List Bool) → place < i → slice_get depths place ≡ Some depth
+  AreTextsBefore depths i labels =
+      (place depth : ℕ) (bits : List Bool) → place < i → slice_get depths place ≡ Some depth
       → slice_get labels place ≡ Some bits → bits ≡ text depth
 
   -- so are those up to it where it is put there
@@ -32,32 +33,36 @@ module _ (code : ℕ → List Bool) (front : List ℕ) where
       → length labels ≡ length depths → i < length depths
       → AreTextsBefore depths i labels → label ≡ text (get_or depths i 0)
       → AreTextsBefore depths (i + 1) (slice_set labels i label)
-  text_put depths i labels label each within before is place depth bits early has put = elim (cases_lt place i) [
-    | inl earlier ↦
-        let same : get_or labels place [] ≡ bits =
-        sym (get_or-set_other labels i place label [] (λ e. omega (arith, earlier, e)))
-        ∙ get_or_from_slice_get (slice_set labels i label) place bits [] put in
-        let there : slice_get labels place ≡ Some bits =
-        slice_get-get_or labels place [] (omega (arith, earlier, within, each)) ∙ ap Some same in
-        before place depth bits earlier has there
-    | inr late ↦
-        let at : place ≡ i = omega (arith, early, late) in
-        let own : get_or (slice_set labels i label) i [] ≡ label =
-        get_or-set_same labels i label [] (omega (arith, within, each)) in
-        let put_here : slice_get (slice_set labels i label) i ≡ Some bits =
-        ap (slice_get (slice_set labels i label)) (sym at) ∙ put in
-        let is_depth : get_or depths i 0 ≡ depth =
-        get_or_from_slice_get depths i depth 0 (ap (slice_get depths) (sym at) ∙ has) in
-        sym (get_or_from_slice_get (slice_set labels i label) i bits [] put_here) ∙ own ∙ is ∙ ap text is_depth
-  ]
+  text_put depths i labels label each within before is place depth bits early has put =
+      elim (cases_lt place i) [
+        | inl earlier ↦
+            let same : get_or labels place [] ≡ bits =
+            sym (get_or-set_other labels i place label [] (λ e. omega (arith, earlier, e)))
+            ∙ get_or_from_slice_get (slice_set labels i label) place bits [] put in
+            let there : slice_get labels place ≡ Some bits =
+            slice_get-get_or labels place [] (omega (arith, earlier, within, each)) ∙ ap Some same in
+            before place depth bits earlier has there
+        | inr late ↦
+            let at : place ≡ i = omega (arith, early, late) in
+            let own : get_or (slice_set labels i label) i [] ≡ label =
+            get_or-set_same labels i label [] (omega (arith, within, each)) in
+            let put_here : slice_get (slice_set labels i label) i ≡ Some bits =
+            ap (slice_get (slice_set labels i label)) (sym at) ∙ put in
+            let is_depth : get_or depths i 0 ≡ depth =
+            get_or_from_slice_get depths i depth 0 (ap (slice_get depths) (sym at) ∙ has) in
+            sym (get_or_from_slice_get (slice_set labels i label) i bits [] put_here) ∙ own ∙ is
+            ∙ ap text is_depth
+      ]
 
 -- labels that are, place by place, what a function of the identity gives
-pub record AreTexts (rows : List NodeRow) (labels : List (List Bool)) (text : ℕ → List Bool) : Type 0 where
+pub record AreTexts (rows : List NodeRow) (labels : List (List Bool))
+    (text : ℕ → List Bool) : Type 0 where
   pub each : length labels ≡ length rows
   pub is : (place : ℕ) (row : NodeRow) (bits : List Bool) → slice_get rows place ≡ Some row
       → slice_get labels place ≡ Some bits → bits ≡ text row.id
 
-module _ (rows : List NodeRow) (net : IsNetwork rows) (labels : List (List Bool)) (text : ℕ → List Bool)
+module _ (rows : List NodeRow) (net : IsNetwork rows) (labels : List (List Bool))
+    (text : ℕ → List Bool)
     (are : AreTexts rows labels text) where
   -- the label of a node is what the function gives
   pub label_of-row : (row : NodeRow) → Contains rows row → label_of rows labels row.id ≡ text row.id
@@ -65,10 +70,12 @@ module _ (rows : List NodeRow) (net : IsNetwork rows) (labels : List (List Bool)
       let (i, at) : (i : ℕ) × (slice_get rows i ≡ Some row) = place_from_Contains rows row in' in
       let (bits, has) : (bits : List Bool) × (slice_get labels i ≡ Some bits) =
       item_at labels i (omega (arith, slice_get_within rows i row at, are.each)) in
-      label_at rows labels row.id i bits (place_of_row rows net i row at) has ∙ are.is i row bits at has
+      label_at rows labels row.id i bits (place_of_row rows net i row at) has
+      ∙ are.is i row bits at has
 
   -- what holds of each node's label holds of each label
-  pub each_text : (P : List Bool → Type 0) → ((row : NodeRow) → Contains rows row → P (text row.id)) → All P labels
+  pub each_text : (P : List Bool → Type 0) → ((row : NodeRow) → Contains rows row → P (text row.id))
+      → All P labels
   each_text P holds i d within =
       let (row, at) : (row : NodeRow) × (slice_get rows i ≡ Some row) =
       item_at rows i (omega (arith, within, are.each)) in

@@ -8,7 +8,8 @@ use Rattle.pls_view.specs.Seen.{Seen, views}
 -- the verdict of rules tried in order, the first of which has this number: the first that fails
 abbrev pub judged_from : ℕ → List Bool → Verdict
 judged_from number [] = Accept
-judged_from number (holds ∷ others) = if holds then judged_from (number + 1) others else Reject 1 number
+judged_from number (holds ∷ others) = if holds then judged_from (number + 1) others
+    else Reject 1 number
 
 -- the verdict of the rules 1, 2 and so on
 abbrev pub judged : List Bool → Verdict

@@ -21,4 +21,5 @@ abbrev pub numbers_in : (List Bool → Option (ℕ × List Bool)) → ℕ → Li
 numbers_in takes zero [] = Some []
 numbers_in takes zero (bit ∷ bits) = None
 numbers_in takes (suc count) bits =
-    option_and_then (λ taken. option_map (λ numbers. taken.0 ∷ numbers) (numbers_in takes count taken.1)) (takes bits)
+    option_and_then (λ taken. option_map (λ numbers. taken.0 ∷ numbers)
+    (numbers_in takes count taken.1)) (takes bits)

@@ -1,5 +1,6 @@
--- Views whose labels are read, and verdicts by rules on what was read: rule 1 says that the own label
--- is of the layout, rule 2 that each neighbour's is, and the later rules speak of labels that were read.
+-- Views whose labels are read, and verdicts by rules on what was read: rule 1 says that the own
+-- label is of the layout, rule 2 that each neighbour's is, and the later rules speak of labels that
+-- were read.
 use Rattle.std.specs.Prelude.{ℕ, Bool, List, [], ◌∷◌, map, slice_get, Option, Some, None, option_map, option_and_then}
 use Rattle.pls_model.specs.declared.row.State.{State}
 use Rattle.pls_model.specs.declared.row.Port.{Port}
@@ -27,16 +28,20 @@ target view = option_and_then (slice_get view.ports) view.state.up
 
 -- a port with its label read, where that can be
 abbrev pub read_port : {L : Type 0} → (List Bool → Option L) → SeenPort → Option (ReadPort L)
-read_port read port = option_map (λ label. record { weight = port.weight; label = label }) (read port.label)
+read_port read port =
+    option_map (λ label. record { weight = port.weight; label = label }) (read port.label)
 
 -- the ports with their labels read, where each can be
-abbrev pub read_ports : {L : Type 0} → (List Bool → Option L) → List SeenPort → Option (List (ReadPort L))
+abbrev pub read_ports : {L : Type 0} → (List Bool → Option L) → List SeenPort
+    → Option (List (ReadPort L))
 read_ports read [] = Some []
 read_ports read (port ∷ ports) =
-    option_and_then (λ first. option_map (λ others. first ∷ others) (read_ports read ports)) (read_port read port)
+    option_and_then (λ first. option_map (λ others. first ∷ others) (read_ports read ports))
+    (read_port read port)
 
 -- the verdict on a view of which the own label and the ports are read so far as they can be
-abbrev pub judged_read : {L : Type 0} → (Read L → List Bool) → Seen → Option L → Option (List (ReadPort L)) → Verdict
+abbrev pub judged_read : {L : Type 0} → (Read L → List Bool) → Seen → Option L
+    → Option (List (ReadPort L)) → Verdict
 judged_read rules view None ports = Reject 1 1
 judged_read rules view (Some own) None = Reject 1 2
 judged_read rules view (Some own) (Some ports) =
@@ -52,4 +57,10 @@ said_port say port = record { weight = port.weight; label = say port.nbr }
 
 -- what the node of a row reads where each label says what a function of the identity says
 abbrev pub said : {L : Type 0} → (ℕ → L) → NodeRow → Read L
-said say row = record { id = row.id; state = row.state; own = say row.id; ports = map (said_port say) row.ports }
+said say row =
+    record {
+      id = row.id;
+      state = row.state;
+      own = say row.id;
+      ports = map (said_port say) row.ports;
+    }

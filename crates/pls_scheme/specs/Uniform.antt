@@ -1,4 +1,5 @@
--- A small scheme, for the crate's own tests: each label is one bit, the same at each two neighbours.
+-- A small scheme, for the crate's own tests: each label is one bit, the same at each two
+-- neighbours.
 use Rattle.std.proofs.Common.{◌∙◌, sym, arith}
 use Rattle.std.specs.Prelude.{◌≡◌, Bool, true, false, ◌&&◌, List, [], ◌∷◌, length, replicate, Option, Some, None}
 use Rattle.std.specs.List.{list_all}

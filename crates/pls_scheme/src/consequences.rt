@@ -25,7 +25,8 @@ pub fn certifies<S: Scheme>(
 ) -> Result<bool, NoMemory>
     requires connected { IsConnected net.now }
     requires each { length labels.now ≡ length net.now }
-    ensures accepted { IfOk result (λ yes. IsTrue yes ↔ AllAccept (S.judge scheme.now) net.now labels.now) }
+    ensures accepted { IfOk result
+        (λ yes. IsTrue yes ↔ AllAccept (S.judge scheme.now) net.now labels.now) }
     ensures holds { IfOk result (λ yes. IsTrue yes → S.holds scheme.now net.now) }
 {
     // A network is valid.

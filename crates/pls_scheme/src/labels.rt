@@ -10,8 +10,8 @@ use pls_bits::NumCode;
 use pls_view::LabelStore;
 use std::alloc::Global;
 
-/// For each of the depths the codes of the numbers in front and of the depth, in their order. The one
-/// error is want of memory.
+/// For each of the depths the codes of the numbers in front and of the depth, in their order. The
+/// one error is want of memory.
 pub fn labels_of_depths<C: NumCode>(
     alloc: Global,
     front: &[u64],

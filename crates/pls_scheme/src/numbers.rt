@@ -8,8 +8,8 @@ use pls_base::NoMemory;
 use pls_bits::{BitBuf, Bits, NumCode};
 use std::alloc::Global;
 
-/// The `N` numbers whose codes the bits are, or `None` where they are no such codes, read to the last
-/// bit. It takes no memory.
+/// The `N` numbers whose codes the bits are, or `None` where they are no such codes, read to the
+/// last bit. It takes no memory.
 pub fn read_numbers<C: NumCode, const N: usize>(bits: &Bits<'_>) -> Option<[u64; N]>
     ensures { result ≡ numbers_in C.takes N bits.now }
 {

@@ -17,8 +17,8 @@ pub trait Reads {
     // What the bits say, where they are of the layout.
     ghost said: { List Bool → Option Self.Said };
 
-    /// What the bits say, or `None` where they are not of the layout, read to their last bit. It takes
-    /// no memory.
+    /// What the bits say, or `None` where they are not of the layout, read to their last bit. It
+    /// takes no memory.
     fn read(bits: &Bits<'_>) -> Option<Self::Said>
         ensures { result ≡ said bits.now };
 }
@@ -27,8 +27,10 @@ pub trait Reads {
 /// rule 1 or by rule 2.
 pub fn own_label<R: Reads>(view: &View<'_>) -> Result<R::Said, Verdict>
     ensures own { IfOk result (λ own. R.said view.now.own ≡ Some own) }
-    ensures neighbours { IfOk result (λ own. (ports : List (ReadPort R.Said)) × (read_ports R.said view.now.ports ≡ Some ports)) }
-    ensures rejected { IfErr result (λ verdict. (rules : Read R.Said → List Bool) → judge_by R.said rules view.now ≡ verdict) }
+    ensures neighbours { IfOk result
+        (λ own. (ports : List (ReadPort R.Said)) × (read_ports R.said view.now.ports ≡ Some ports)) }
+    ensures rejected { IfErr result
+        (λ verdict. (rules : Read R.Said → List Bool) → judge_by R.said rules view.now ≡ verdict) }
 {
     let own = match R::read(&view.own) {
         Some(own) => own,

@@ -5,8 +5,8 @@ ghost use Rattle.pls_scheme.specs.Judging.{judged_from};
 
 use pls_model::Verdict;
 
-/// The verdict of rules in their order, the first of which has the number `first`: a rejection by the
-/// first rule that fails, or acceptance.
+/// The verdict of rules in their order, the first of which has the number `first`: a rejection by
+/// the first rule that fails, or acceptance.
 pub fn judged_from(first: u8, rules: &[bool]) -> Verdict
     requires { first + length rules.now ≤ 256 }
     ensures { result ≡ judged_from first rules.now }

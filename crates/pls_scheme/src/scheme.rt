@@ -38,8 +38,10 @@ pub trait Scheme: Checker + Property {
     /// The label that the bits are, or `None` where they are none of the layout, read to the last
     /// bit. The one error is want of memory.
     fn read_label(&self, alloc: Global, bits: Bits<'_>) -> Result<Option<Self::Label>, NoMemory>
-        ensures some { IfOk result (λ found. IfSome found (λ label. layout self.now bits.entry label)) }
-        ensures none { IfOk result (λ found. IfNone found ((label : Self.Label) → layout self.now bits.entry label → ⊥)) };
+        ensures some { IfOk result (λ found. IfSome found
+            (λ label. layout self.now bits.entry label)) }
+        ensures none { IfOk result (λ found. IfNone found
+            ((label : Self.Label) → layout self.now bits.entry label → ⊥)) };
 
     /// The bits of a label, of which there is one spelling. The one error is want of memory.
     fn write_label(&self, alloc: Global, label: &Self::Label) -> Result<BitBuf, NoMemory>
@@ -57,10 +59,14 @@ pub trait Scheme: Checker + Property {
         requires { IsConnected net.now }
         ensures lacking { IfOk result (λ found. IfNone found (Self.holds self.now net.now → ⊥)) }
         ensures holds { IfOk result (λ found. IfSome found (λ labels. Self.holds self.now net.now)) }
-        ensures marked { IfOk result (λ found. IfSome found (λ labels. marked self.now net.now labels)) }
-        ensures each { IfOk result (λ found. IfSome found (λ labels. length labels ≡ length net.now)) }
-        ensures accepted { IfOk result (λ found. IfSome found (λ labels. AllAccept (Self.judge self.now) net.now labels)) }
-        ensures short { IfOk result (λ found. IfSome found (λ labels. All (λ label. length label ≤ longest self.now (size_of net.now)) labels)) };
+        ensures marked { IfOk result (λ found. IfSome found
+            (λ labels. marked self.now net.now labels)) }
+        ensures each { IfOk result (λ found. IfSome found
+            (λ labels. length labels ≡ length net.now)) }
+        ensures accepted { IfOk result (λ found. IfSome found
+            (λ labels. AllAccept (Self.judge self.now) net.now labels)) }
+        ensures short { IfOk result (λ found. IfSome found
+            (λ labels. All (λ label. length label ≤ longest self.now (size_of net.now)) labels)) };
 
     /// A label that can be written has a spelling, from which it is read back.
     final fn reads_back(&self, label: &Self::Label)
@@ -70,12 +76,14 @@ pub trait Scheme: Checker + Property {
 
     /// Bits that are one label are equal.
     final fn one_spelling(&self, a: Bits<'_>, b: Bits<'_>)
-        ensures { (label : Self.Label) → layout self.now a.entry label → layout self.now b.entry label → a.entry ≡ b.entry }
+        ensures { (label : Self.Label)
+            → layout self.now a.entry label → layout self.now b.entry label → a.entry ≡ b.entry }
     {}
 
     /// Bits are at most one label.
     final fn one_label(&self, bits: Bits<'_>)
-        ensures { (a b : Self.Label) → layout self.now bits.entry a → layout self.now bits.entry b → a ≡ b }
+        ensures { (a b : Self.Label)
+            → layout self.now bits.entry a → layout self.now bits.entry b → a ≡ b }
     {}
 
     /// On a connected network, labels that every node accepts imply the property.
@@ -89,11 +97,16 @@ pub trait Scheme: Checker + Property {
         net.len();
     }
 
-    ghost reads_back_law: { (s : Self) (label : Self.Label) → writable s label → (bits : List Bool) × layout s bits label };
+    ghost reads_back_law: { (s : Self) (label : Self.Label) → writable s label
+        → (bits : List Bool) × layout s bits label };
 
-    ghost one_spelling_law: { (s : Self) (label : Self.Label) (a b : List Bool) → layout s a label → layout s b label → a ≡ b };
+    ghost one_spelling_law: { (s : Self) (label : Self.Label) (a b : List Bool)
+        → layout s a label → layout s b label → a ≡ b };
 
-    ghost one_label_law: { (s : Self) (bits : List Bool) (a b : Self.Label) → layout s bits a → layout s bits b → a ≡ b };
+    ghost one_label_law: { (s : Self) (bits : List Bool) (a b : Self.Label)
+        → layout s bits a → layout s bits b → a ≡ b };
 
-    ghost sound_law: { (s : Self) (rows : List NodeRow) (labels : List (List Bool)) → IsNetwork rows → IsConnected rows → length labels ≡ length rows → AllAccept (Self.judge s) rows labels → Self.holds s rows };
+    ghost sound_law: { (s : Self) (rows : List NodeRow) (labels : List (List Bool))
+        → IsNetwork rows → IsConnected rows → length labels ≡ length rows
+        → AllAccept (Self.judge s) rows labels → Self.holds s rows };
 }

@@ -17,49 +17,87 @@ use Rattle.pls_search.specs.Search.{beside}
 
 module _ (rows : List NodeRow) (net : IsNetwork rows) where
   -- the node that a port names stands at the place of its identity
-  at_place : (i p : ℕ) (row : NodeRow) (port : Port) → slice_get rows i ≡ Some row → slice_get row.ports p ≡ Some port
-      → (other : NodeRow) × (slice_get rows (place_in rows port.nbr) ≡ Some other) × (port.nbr ≡ other.id)
+  at_place : (i p : ℕ) (row : NodeRow) (port : Port) → slice_get rows i ≡ Some row
+      → slice_get row.ports p ≡ Some port
+      → (other : NodeRow) × (slice_get rows (place_in rows port.nbr) ≡ Some other)
+      × (port.nbr ≡ other.id)
   at_place i p row port at has =
-      let found : (other : NodeRow) × (row_of rows port.nbr ≡ Some other) = neighbour_found rows net i row at p port has in
-      let place : (j : ℕ) × (slice_get rows j ≡ Some found.0) × (port.nbr ≡ found.0.id) = row_place rows net port.nbr found.0 found.1 in
+      let found : (other : NodeRow) × (row_of rows port.nbr ≡ Some other) =
+      neighbour_found rows net i row at p port has in
+      let place : (j : ℕ) × (slice_get rows j ≡ Some found.0) × (port.nbr ≡ found.0.id) =
+      row_place rows net port.nbr found.0 found.1 in
       (found.0, sym (find_at (λ (row : NodeRow). port.nbr == row.id) rows) ∙ found.1, place.2)
 
   -- each port of a row names a row
-  pub ports_known : (place : ℕ) (ports : List Port) → option_map (λ (row : NodeRow). row.ports) (slice_get rows place) ≡ Some ports → All (λ (port : Port). IsSome (row_of rows port.nbr)) ports
+  pub ports_known : (place : ℕ) (ports : List Port)
+      → option_map (λ (row : NodeRow). row.ports) (slice_get rows place) ≡ Some ports
+      → All (λ (port : Port). IsSome (row_of rows port.nbr)) ports
   ports_known place ports at p d within =
-      let row : (row : NodeRow) × (slice_get rows place ≡ Some row) × (row.ports ≡ ports) = from_option_map (λ (row : NodeRow). row.ports) (slice_get rows place) ports at in
-      let has : slice_get row.0.ports p ≡ Some (get_or ports p d) = ap (λ (ports : List Port). slice_get ports p) row.2 ∙ slice_get-get_or ports p d within in
-      let found : (other : NodeRow) × (row_of rows (get_or ports p d).nbr ≡ Some other) = neighbour_found rows net place row.0 row.1 p (get_or ports p d) has in
+      let row : (row : NodeRow) × (slice_get rows place ≡ Some row) × (row.ports ≡ ports) =
+      from_option_map (λ (row : NodeRow). row.ports) (slice_get rows place) ports at in
+      let has : slice_get row.0.ports p ≡ Some (get_or ports p d) =
+      ap (λ (ports : List Port). slice_get ports p) row.2 ∙ slice_get-get_or ports p d within in
+      let found : (other : NodeRow) × (row_of rows (get_or ports p d).nbr ≡ Some other) =
+      neighbour_found rows net place row.0 row.1 p (get_or ports p d) has in
       ap is_some found.1
 
   -- one identity stands at one place
-  pub one_place : (i j : ℕ) (row other : NodeRow) → slice_get rows i ≡ Some row → slice_get rows j ≡ Some other → row.id ≡ other.id → i ≡ j
+  pub one_place : (i j : ℕ) (row other : NodeRow) → slice_get rows i ≡ Some row
+      → slice_get rows j ≡ Some other → row.id ≡ other.id → i ≡ j
   one_place i j row other at there same =
       let one : position (λ r. row.id == r.id) rows ≡ Some i = place_of_row rows net i row at in
-      let two : position (λ r. row.id == r.id) rows ≡ Some j = subst (λ (id : ℕ). position (λ r. id == r.id) rows ≡ Some j) (sym same) (place_of_row rows net j other there) in
+      let two : position (λ r. row.id == r.id) rows ≡ Some j =
+      subst (λ (id : ℕ). position (λ r. id == r.id) rows ≡ Some j) (sym same)
+      (place_of_row rows net j other there) in
       same_Some i j (sym one ∙ two)
 
   module _ (place : ℕ) (row : NodeRow) (at : slice_get rows place ≡ Some row) where
     pub beside_row : beside rows place ≡ named_places rows row.ports
-    beside_row = ap (λ (o : Option NodeRow). option_map_or (λ (row : NodeRow). named_places rows row.ports) o []) at
+    beside_row =
+        ap (λ (o : Option NodeRow). option_map_or (λ (row : NodeRow). named_places rows row.ports) o
+        []) at
 
     -- a neighbour by its place is adjacent
-    pub Adjacent-beside : (k : ℕ) (other : NodeRow) → slice_get rows k ≡ Some other → Contains (beside rows place) k → Adjacent (edges_of rows) row.id other.id
+    pub Adjacent-beside : (k : ℕ) (other : NodeRow) → slice_get rows k ≡ Some other
+        → Contains (beside rows place) k → Adjacent (edges_of rows) row.id other.id
     Adjacent-beside k other here in' =
-        let named : (port : Port) × Contains row.ports port × (place_in rows port.nbr ≡ k) = Contains-from_map (λ (port : Port). place_in rows port.nbr) row.ports k (subst (λ (places : List ℕ). Contains places k) beside_row in') in
-        let has : (p : ℕ) × (slice_get row.ports p ≡ Some named.0) = place_from_Contains row.ports named.0 named.1 in
-        let target : (other : NodeRow) × (slice_get rows (place_in rows named.0.nbr) ≡ Some other) × (named.0.nbr ≡ other.id) = at_place place has.0 row named.0 at has.1 in
-        let same : target.0 ≡ other = same_Some target.0 other (sym target.1 ∙ ap (slice_get rows) named.2 ∙ here) in
-        subst (Adjacent (edges_of rows) row.id) (target.2 ∙ ap (λ (row : NodeRow). row.id) same) (Adjacent-port rows net place has.0 row named.0 at has.1)
+        let named : (port : Port) × Contains row.ports port × (place_in rows port.nbr ≡ k) =
+        Contains-from_map (λ (port : Port). place_in rows port.nbr) row.ports k
+        (subst (λ (places : List ℕ). Contains places k) beside_row in') in
+        let has : (p : ℕ) × (slice_get row.ports p ≡ Some named.0) =
+        place_from_Contains row.ports named.0 named.1 in
+        let target : (other : NodeRow) × (slice_get rows (place_in rows named.0.nbr) ≡ Some other)
+        × (named.0.nbr ≡ other.id) = at_place place has.0 row named.0 at has.1 in
+        let same : target.0 ≡ other =
+        same_Some target.0 other (sym target.1 ∙ ap (slice_get rows) named.2 ∙ here) in
+        subst (Adjacent (edges_of rows) row.id) (target.2 ∙ ap (λ (row : NodeRow). row.id) same)
+        (Adjacent-port rows net place has.0 row named.0 at has.1)
 
     -- an adjacent node is a neighbour by its place
-    pub beside-Adjacent : (v : ℕ) → Adjacent (edges_of rows) row.id v → (k : ℕ) × (other : NodeRow) × (slice_get rows k ≡ Some other) × (other.id ≡ v) × Contains (beside rows place) k
+    pub beside-Adjacent : (v : ℕ) → Adjacent (edges_of rows) row.id v
+        → (k : ℕ) × (other : NodeRow) × (slice_get rows k ≡ Some other) × (other.id ≡ v)
+        × Contains (beside rows place) k
     beside-Adjacent v step =
         let names : Names rows row.id v = Names-Adjacent rows net row.id v step in
-        let same : names.row ≡ row = same_Some names.row row (sym names.found ∙ row_of_place rows net place row at) in
-        let has : (p : ℕ) × (slice_get names.row.ports p ≡ Some names.port) × ((v == names.port.nbr) ≡ true) = found_place (λ port. v == port.nbr) names.row.ports names.port names.names in
+        let same : names.row ≡ row =
+        same_Some names.row row (sym names.found ∙ row_of_place rows net place row at) in
+        let has : (p : ℕ) × (slice_get names.row.ports p ≡ Some names.port)
+        × ((v == names.port.nbr) ≡ true) = found_place (λ port. v == port.nbr) names.row.ports
+        names.port names.names in
         let named : v ≡ names.port.nbr = eqb-true v names.port.nbr has.2 in
-        let port_at : slice_get row.ports has.0 ≡ Some names.port = subst (λ (row : NodeRow). slice_get row.ports has.0 ≡ Some names.port) same has.1 in
-        let target : (other : NodeRow) × (slice_get rows (place_in rows names.port.nbr) ≡ Some other) × (names.port.nbr ≡ other.id) = at_place place has.0 row names.port at port_at in
-        let in' : Contains (named_places rows row.ports) (place_in rows names.port.nbr) = Contains-map (λ (port : Port). place_in rows port.nbr) row.ports names.port (Contains-from_place row.ports has.0 names.port port_at) in
-        (place_in rows names.port.nbr, target.0, target.1, sym target.2 ∙ sym named, subst (λ (places : List ℕ). Contains places (place_in rows names.port.nbr)) (sym beside_row) in')
+        let port_at : slice_get row.ports has.0 ≡ Some names.port =
+        subst (λ (row : NodeRow). slice_get row.ports has.0 ≡ Some names.port) same has.1 in
+        let target : (other : NodeRow) ×
+        (slice_get rows (place_in rows names.port.nbr) ≡ Some other)
+        × (names.port.nbr ≡ other.id) = at_place place has.0 row names.port at port_at in
+        let in' : Contains (named_places rows row.ports) (place_in rows names.port.nbr) =
+        Contains-map (λ (port : Port). place_in rows port.nbr) row.ports names.port
+        (Contains-from_place row.ports has.0 names.port port_at) in (
+          place_in rows names.port.nbr,
+          target.0,
+          target.1,
+          sym target.2
+              ∙ sym named,
+          subst (λ (places : List ℕ). Contains places (place_in rows names.port.nbr))
+              (sym beside_row) in',
+        )

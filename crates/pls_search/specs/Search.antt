@@ -1,4 +1,5 @@
--- The levels that a search has found so far, and the places whose neighbours are still to be looked at.
+-- The levels that a search has found so far, and the places whose neighbours are still to be looked
+-- at.
 use Rattle.std.specs.Prelude.{◌≡◌, ℕ, ◌+◌, ◌⊎◌, List, [], length, count_by, flat_map, Contains, slice_get, slice_index_or, Option, Some, None}
 use Rattle.std.specs.Option.{is_none, option_map_or}
 use Rattle.pls_model.specs.declared.row.NodeRow.{NodeRow}
@@ -21,8 +22,10 @@ beside rows place = option_map_or (λ row. named_places rows row.ports) (slice_g
 abbrev pub all_beside : List NodeRow → List ℕ → List ℕ
 all_beside rows places = flat_map (beside rows) places
 
--- those of the places that have no level get this one, and their neighbours are to be looked at next
-pub record Gains (old new : List (Option ℕ)) (before next : List ℕ) (level : ℕ) (places : List ℕ) : Type 0 where
+-- those of the places that have no level get this one, and their neighbours are to be looked at
+-- next
+pub record Gains (old new : List (Option ℕ)) (before next : List ℕ) (level : ℕ)
+    (places : List ℕ) : Type 0 where
   pub size : length new ≡ length old
   pub kept : (place known : ℕ) → HasLevel old place known → HasLevel new place known
   pub all : (place : ℕ) → Contains places place → (known : ℕ) × HasLevel new place known
@@ -34,4 +37,5 @@ pub record Gains (old new : List (Option ℕ)) (before next : List ℕ) (level :
 
 -- so a search gives the level to the places
 abbrev pub Gives : Search → Search → ℕ → List ℕ → Type 0
-Gives old new level places = Gains old.found.items new.found.items old.next.items new.next.items level places
+Gives old new level places =
+    Gains old.found.items new.found.items old.next.items new.next.items level places

@@ -36,7 +36,13 @@ seen_port label port = record { weight = port.weight; label = label port.nbr }
 -- the view of a row under a labelling
 abbrev pub seen : (ℕ → List Bool) → NodeRow → Seen
 seen label row =
-    record { id = row.id; state = row.state; own = label row.id; ports = map (seen_port label) row.ports }
+    record {
+      id = row.id;
+      state = row.state;
+      own = label row.id;
+      ports = map (seen_port label)
+          row.ports;
+    }
 
 -- the views of all nodes, in the order of the rows
 abbrev pub views : List NodeRow → List (List Bool) → List Seen

@@ -1,5 +1,5 @@
-//! All connected networks of up to four nodes, with all pointers: each scheme finds its property just
-//! where a plain program does that tries all there is to try.
+//! All connected networks of up to four nodes, with all pointers: each scheme finds its property
+//! just where a plain program does that tries all there is to try.
 
 use pls_bits::Gamma;
 use pls_colour::{Acyclic, Bipartite};
@@ -88,7 +88,8 @@ fn are_joined(edges: u32, nodes: u32) -> bool {
     (0..4).all(|node| node >= nodes || has(reached, node))
 }
 
-// Exactly one node has no pointer, and the pointed edges are one fewer than the nodes and join them.
+// Exactly one node has no pointer, and the pointed edges are one fewer than the nodes and join
+// them.
 fn is_tree(net: Small) -> bool {
     let mut roots = 0_u32;
     let mut pointed = 0_u32;

@@ -13,10 +13,13 @@ returns-in-Ok-clause-answer c =
     let bytes = c.args.bytes.now in
     let net = c.in-Ok.net in
     let labels = c.in-Ok.labels in
-    IfOk-weaker c.verify.result (λ answer. answer ≡ report (round_by (judge_of scheme) net labels)) (λ answer. Answers (Verify scheme) bytes answer)
-    (λ answer same. judged_answer scheme bytes net labels answer c.in-Ok.ensures.parts same) c.verify.ensures.reports
+    IfOk-weaker c.verify.result (λ answer. answer ≡ report (round_by (judge_of scheme) net labels))
+    (λ answer. Answers (Verify scheme) bytes answer)
+    (λ answer same. judged_answer scheme bytes net labels answer c.in-Ok.ensures.parts same)
+    c.verify.ensures.reports
 
 pub returns-in-Err-clause-answer : goal.returns-in-Err-clause-answer
 returns-in-Err-clause-answer c =
-    answered_by_refusal (Verify c.args.scheme) c.args.bytes.now c.in-Err.error c.refuse.result c.requires (c.in-Err.ensures.refused c.args.scheme)
+    answered_by_refusal (Verify c.args.scheme) c.args.bytes.now c.in-Err.error c.refuse.result
+    c.requires (c.in-Err.ensures.refused c.args.scheme)
     c.refuse.ensures.says c.refuse.ensures.refused

@@ -10,5 +10,9 @@ returns-in_err-net-clause-refused c =
 
 pub returns-in_err-test_connected-clause-refused : goal.returns-in_err-test_connected-clause-refused
 returns-in_err-test_connected-clause-refused c =
-    let p = err_from_is_err_and c.from_residual-in_err-test_connected.result c.from_residual-in_err-test_connected.ensures.1 in
-    rw (p.1, p.2) (λ scheme some. inr (network_apart c.args.bytes.now c.in_ok-net.net _ c.in_ok-net.ensures.fits c.in_ok-net.ensures.text c.in_ok-net.ensures.valid (c.in_err-test_connected.ensures.refused some)))
+    let p = err_from_is_err_and c.from_residual-in_err-test_connected.result
+    c.from_residual-in_err-test_connected.ensures.1 in
+    rw (p.1, p.2) (λ scheme some. inr
+    (network_apart c.args.bytes.now c.in_ok-net.net _ c.in_ok-net.ensures.fits
+    c.in_ok-net.ensures.text c.in_ok-net.ensures.valid
+    (c.in_err-test_connected.ensures.refused some)))

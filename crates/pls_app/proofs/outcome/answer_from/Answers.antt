@@ -13,33 +13,43 @@ use Rattle.pls_app.proofs.outcome.answer_from.Goals as goal
 
 pub returns-in-Ok-clause-read : goal.returns-in-Ok-clause-read
 returns-in-Ok-clause-read g c =
-    on_ok c.or_no_memory.result _ (read_all_of _ _ _ c.in-Ok.ensures.all c.in-Ok.ensures.end (omega (arith, c.in-Ok.ensures.within, c.in-Ok.bytes.ok.0)))
+    on_ok c.or_no_memory.result _ (read_all_of _ _ _ c.in-Ok.ensures.all c.in-Ok.ensures.end
+    (omega (arith, c.in-Ok.ensures.within, c.in-Ok.bytes.ok.0)))
 
 pub returns-in-Ok-clause-lost : goal.returns-in-Ok-clause-lost
 returns-in-Ok-clause-lost g c =
-    lost_all_of _ _ _ c.in-Ok.ensures.all c.in-Ok.ensures.end (omega (arith, c.in-Ok.ensures.within, c.in-Ok.bytes.ok.0))
+    lost_all_of _ _ _ c.in-Ok.ensures.all c.in-Ok.ensures.end
+    (omega (arith, c.in-Ok.ensures.within, c.in-Ok.bytes.ok.0))
 
 pub returns-in-Err-TooLong-clause-answer : goal.returns-in-Err-TooLong-clause-answer
 returns-in-Err-TooLong-clause-answer g c =
     let old = g.S.Source.left c.args.source.now in
     let new = g.S.Source.left c.read_all.new.source in
     let lost = c.in-Err-TooLong.ensures.too_long (rw c.in-Err-TooLong.field-0-is refl) in
-    ok_again c.refuse.result c.or_no_memory-in-Err-TooLong.result _ (λ answer. (bytes : List ℕ) → old ≡ Some bytes → Answers c.args.command bytes answer)
-    (IfOk-weaker c.refuse.result (λ answer. answer ≡ refusal (Limit Input)) (λ answer. (bytes : List ℕ) → old ≡ Some bytes → Answers c.args.command bytes answer)
-    (λ answer same bytes told. refused_answer c.args.command bytes (Limit Input) answer (too_long c.args.command old new bytes lost told) same) c.refuse.ensures.says)
+    ok_again c.refuse.result c.or_no_memory-in-Err-TooLong.result _
+    (λ answer. (bytes : List ℕ) → old ≡ Some bytes → Answers c.args.command bytes answer)
+    (IfOk-weaker c.refuse.result (λ answer. answer ≡ refusal (Limit Input))
+    (λ answer. (bytes : List ℕ) → old ≡ Some bytes → Answers c.args.command bytes answer)
+    (λ answer same bytes told. refused_answer c.args.command bytes (Limit Input) answer
+    (too_long c.args.command old new bytes lost told) same) c.refuse.ensures.says)
     c.or_no_memory-in-Err-TooLong.ensures
 
 pub returns-in-Err-TooLong-clause-lost : goal.returns-in-Err-TooLong-clause-lost
-returns-in-Err-TooLong-clause-lost g c = lost_past _ _ (c.in-Err-TooLong.ensures.too_long (rw c.in-Err-TooLong.field-0-is refl))
+returns-in-Err-TooLong-clause-lost g c =
+    lost_past _ _ (c.in-Err-TooLong.ensures.too_long (rw c.in-Err-TooLong.field-0-is refl))
 
 pub returns-in-Ok-clause-answer : goal.returns-in-Ok-clause-answer
 returns-in-Ok-clause-answer g c =
     let command = c.args.command in
     let old = g.S.Source.left c.args.source.now in
     let read = c.deref.result.now in
-    ok_again c.answer_to.result c.or_no_memory.result _ (λ answer. (bytes : List ℕ) → old ≡ Some bytes → Answers command bytes answer)
-    (IfOk-weaker c.answer_to.result (λ answer. Answers command read answer) (λ answer. (bytes : List ℕ) → old ≡ Some bytes → Answers command bytes answer)
-    (λ answer is bytes told. subst (λ (bytes : List ℕ). Answers command bytes answer) (c.deref.ensures.value ∙ read_them old c.in-Ok.bytes.items bytes c.in-Ok.ensures.all told) is) c.answer_to.ensures.answer)
+    ok_again c.answer_to.result c.or_no_memory.result _
+    (λ answer. (bytes : List ℕ) → old ≡ Some bytes → Answers command bytes answer)
+    (IfOk-weaker c.answer_to.result (λ answer. Answers command read answer)
+    (λ answer. (bytes : List ℕ) → old ≡ Some bytes → Answers command bytes answer)
+    (λ answer is bytes told. subst (λ (bytes : List ℕ). Answers command bytes answer)
+    (c.deref.ensures.value ∙ read_them old c.in-Ok.bytes.items bytes c.in-Ok.ensures.all told)
+    is) c.answer_to.ensures.answer)
     c.or_no_memory.ensures
 
 pub returns-in-Ok-clause-certified : goal.returns-in-Ok-clause-certified
@@ -48,11 +58,17 @@ returns-in-Ok-clause-certified g c =
     let old = g.S.Source.left c.args.source.now in
     let read = c.deref.result.now in
     ok_again c.answer_to.result c.or_no_memory.result _
-    (λ answer. (scheme : SchemeName) (bytes : List ℕ) → old ≡ Some bytes → command ≡ Mark scheme → answer.status ≡ Done → Certifies scheme bytes answer.text)
-    (IfOk-weaker c.answer_to.result (λ answer. (scheme : SchemeName) → command ≡ Mark scheme → answer.status ≡ Done → Certifies scheme read answer.text)
-    (λ answer. (scheme : SchemeName) (bytes : List ℕ) → old ≡ Some bytes → command ≡ Mark scheme → answer.status ≡ Done → Certifies scheme bytes answer.text)
+    (λ answer. (scheme : SchemeName) (bytes : List ℕ) → old ≡ Some bytes → command ≡ Mark scheme
+    → answer.status ≡ Done → Certifies scheme bytes answer.text)
+    (IfOk-weaker c.answer_to.result
+    (λ answer. (scheme : SchemeName) → command ≡ Mark scheme → answer.status ≡ Done
+    → Certifies scheme read answer.text)
+    (λ answer. (scheme : SchemeName) (bytes : List ℕ) → old ≡ Some bytes → command ≡ Mark scheme
+    → answer.status ≡ Done → Certifies scheme bytes answer.text)
     (λ answer is scheme bytes told mark done.
-    subst (λ (bytes : List ℕ). Certifies scheme bytes answer.text) (c.deref.ensures.value ∙ read_them old c.in-Ok.bytes.items bytes c.in-Ok.ensures.all told) (is scheme mark done))
+    subst (λ (bytes : List ℕ). Certifies scheme bytes answer.text)
+    (c.deref.ensures.value ∙ read_them old c.in-Ok.bytes.items bytes c.in-Ok.ensures.all told)
+    (is scheme mark done))
     c.answer_to.ensures.certified)
     c.or_no_memory.ensures
 
@@ -61,8 +77,12 @@ returns-in-Err-TooLong-clause-certified g c =
     let command = c.args.command in
     let old = g.S.Source.left c.args.source.now in
     ok_again c.refuse.result c.or_no_memory-in-Err-TooLong.result _
-    (λ answer. (scheme : SchemeName) (bytes : List ℕ) → old ≡ Some bytes → command ≡ Mark scheme → answer.status ≡ Done → Certifies scheme bytes answer.text)
+    (λ answer. (scheme : SchemeName) (bytes : List ℕ) → old ≡ Some bytes → command ≡ Mark scheme
+    → answer.status ≡ Done → Certifies scheme bytes answer.text)
     (IfOk-weaker c.refuse.result (λ answer. answer ≡ refusal (Limit Input))
-    (λ answer. (scheme : SchemeName) (bytes : List ℕ) → old ≡ Some bytes → command ≡ Mark scheme → answer.status ≡ Done → Certifies scheme bytes answer.text)
-    (λ answer same scheme bytes told mark done. absurd (refused_not_done (Limit Input) (sym (ap (λ (answer : Answer). answer.status) same) ∙ done))) c.refuse.ensures.says)
+    (λ answer. (scheme : SchemeName) (bytes : List ℕ) → old ≡ Some bytes → command ≡ Mark scheme
+    → answer.status ≡ Done → Certifies scheme bytes answer.text)
+    (λ answer same scheme bytes told mark done.
+    absurd (refused_not_done (Limit Input)
+    (sym (ap (λ (answer : Answer). answer.status) same) ∙ done))) c.refuse.ensures.says)
     c.or_no_memory-in-Err-TooLong.ensures

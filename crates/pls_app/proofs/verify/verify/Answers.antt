@@ -13,6 +13,14 @@ returns-clause-reports c =
     let labels = c.args.labels.now in
     let ids : List ℕ = map (λ (row : NodeRow). row.id) net in
     let rows : c.in_ok-rows.rows.items ≡ round_by judge net labels =
-    c.in_ok-rows.ensures ∙ ap (zip ids) (c.deref.ensures.value ∙ c.in_ok-verdicts.ensures) ∙ zip-round judge (label_of net labels) net in
+    c.in_ok-rows.ensures ∙ ap (zip ids) (c.deref.ensures.value ∙ c.in_ok-verdicts.ensures)
+    ∙ zip-round judge (label_of net labels) net in
     let text = c.in_ok-report_text.ensures in
-    rw (c.round_status.ensures.status, c.into_bytes.ensures.value, text, c.deref-2.ensures.value, c.deref-3.ensures.value, rows) refl
+    rw (
+      c.round_status.ensures.status,
+      c.into_bytes.ensures.value,
+      text,
+      c.deref-2.ensures.value,
+      c.deref-3.ensures.value,
+      rows,
+    ) refl

@@ -11,11 +11,14 @@ loop-i-preserved c =
     let id : NodeRow → ℕ = λ row. row.id in
     let net = c.args.net.now in
     let verdicts = c.args.verdicts.now in
-    c.in_ok-push.ensures.items ∙ zip_more (map id net) verdicts c.loop-i.i c.node.result.0 _ c.loop-i.rows.items
-    (slice_get-map id net c.loop-i.i ∙ c.node.ensures.id) (slice_get-get_or verdicts c.loop-i.i _ c.loop-i-test.true) c.loop-i.invariant
+    c.in_ok-push.ensures.items ∙ zip_more (map id net) verdicts c.loop-i.i c.node.result.0 _
+    c.loop-i.rows.items
+    (slice_get-map id net c.loop-i.i ∙ c.node.ensures.id)
+    (slice_get-get_or verdicts c.loop-i.i _ c.loop-i-test.true) c.loop-i.invariant
 
 pub returns : goal.returns
 returns c =
     let ids : List ℕ = map (λ (row : NodeRow). row.id) c.args.net.now in
     let verdicts = c.args.verdicts.now in
-    c.loop-i.invariant ∙ take_all c.loop-i.i (zip ids verdicts) (omega (arith, length-zip ids verdicts))
+    c.loop-i.invariant ∙ take_all c.loop-i.i (zip ids verdicts)
+    (omega (arith, length-zip ids verdicts))

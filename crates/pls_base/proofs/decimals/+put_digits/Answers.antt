@@ -8,7 +8,8 @@ pub returns-then-value-lt10-clause-digits : goal.returns-then-value-lt10-clause-
 returns-then-value-lt10-clause-digits t c =
     let small = c.if-value-lt10.true in
     let room = one_digit c.args.value small in
-    take_more_set c.args.into.now 0 (48 + c.args.value) (omega (arith, room)) ∙ sym (decimal_digit c.args.value small)
+    take_more_set c.args.into.now 0 (48 + c.args.value) (omega (arith, room))
+    ∙ sym (decimal_digit c.args.value small)
 
 pub returns-clause-digits : goal.returns-clause-digits
 returns-clause-digits t c =

@@ -8,7 +8,10 @@ loop-byte-preserved c =
     let text = c.args.text.now in
     let i = c.loop-byte.byte-index in
     let digit = digit_value (get_or text i 0) in record {
-      digits = digits_more 10 text i c.loop-byte-test.true c.loop-byte.invariant.digits c.in_ok-number.ensures.digit;
-      value = c.in_ok-number.ensures.value ∙ ap (λ (n : ℕ). n * 10 + digit) c.loop-byte.invariant.value
+      digits =
+          digits_more 10 text i c.loop-byte-test.true c.loop-byte.invariant.digits
+          c.in_ok-number.ensures.digit;
+      value = c.in_ok-number.ensures.value
+          ∙ ap (λ (n : ℕ). n * 10 + digit) c.loop-byte.invariant.value
           ∙ sym (digits_value_more 10 text i c.loop-byte-test.true);
     }

@@ -5,5 +5,6 @@ use Rattle.pls_base.proofs.decimals.read_decimal.Goals as goal
 
 pub returns-then-not-is_plain-clause-none : goal.returns-then-not-is_plain-clause-none
 returns-then-not-is_plain-clause-none c number within spelled =
-    let numeral = numeral_from_decimal c.args.text.now number (omega (arith, c.ranges.most.fits)) spelled in
+    let numeral =
+    numeral_from_decimal c.args.text.now number (omega (arith, c.ranges.most.fits)) spelled in
     iff_false c.is_plain.ensures c.if-not-is_plain.true (numeral.some, numeral.zero_alone)

@@ -10,6 +10,7 @@ loop-sent-preserved g c =
     let sent = c.loop-sent.sent in
     let piece = rw (take_rest bytes sent) at c.in-Ok.ensures.bytes in record {
       within = omega (arith, c.in-Ok.ensures.bound);
-      taken = rw (take-add sent c.in-Ok.count bytes) (Appends-trans _ _ _ _ _ c.loop-sent.invariant.taken piece);
+      taken = rw (take-add sent c.in-Ok.count bytes)
+          (Appends-trans _ _ _ _ _ c.loop-sent.invariant.taken piece);
       later = omega (arith, c.in-Ok.ensures.cause.0);
     }

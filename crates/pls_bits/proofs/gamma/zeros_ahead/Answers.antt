@@ -8,4 +8,5 @@ unfolding gamma_takes
 loop-zeros-init c = refl
 
 pub returns-clause-none : goal.returns-clause-none
-returns-clause-none c = c.loop-zeros.invariant ∙ behind_zeros-many c.loop-zeros.zeros c.loop-zeros.cursor (omega arith)
+returns-clause-none c =
+    c.loop-zeros.invariant ∙ behind_zeros-many c.loop-zeros.zeros c.loop-zeros.cursor (omega arith)

@@ -12,6 +12,9 @@ returns g c =
     let own : ℕ = c.in-Ok.own.depth in
     let ports = c.view.inside.ports.items in
     c.judged_from.ensures
-    ∙ depth_judged g.C.NumCode.takes c.args.view.now c.in-Ok.own c.differs_by_one.result c.has_one_above.result c.in-Ok.ensures.own c.in-Ok.ensures.neighbours
-    (rw (← c.view.view_is, list_all-map (passes read (is_beside own)) _ ports, ← c.deref.ensures) c.differs_by_one.ensures)
-    (rw (← c.view.view_is, count_by-map (passes read (is_above own)) _ ports, ← c.deref-2.ensures) c.has_one_above.ensures)
+    ∙ depth_judged g.C.NumCode.takes c.args.view.now c.in-Ok.own c.differs_by_one.result
+    c.has_one_above.result c.in-Ok.ensures.own c.in-Ok.ensures.neighbours
+    (rw (← c.view.view_is, list_all-map (passes read (is_beside own)) _ ports, ← c.deref.ensures)
+    c.differs_by_one.ensures)
+    (rw (← c.view.view_is, count_by-map (passes read (is_above own)) _ ports, ← c.deref-2.ensures)
+    c.has_one_above.ensures)

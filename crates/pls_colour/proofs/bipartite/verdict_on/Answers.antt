@@ -8,5 +8,11 @@ pub returns : goal.returns
 returns c =
     let ports = c.view.inside.ports.items in
     c.judged_from.ensures
-    ∙ colour_judged c.args.view.now c.in-Ok.own c.differs_from_neighbours.result c.in-Ok.ensures.own c.in-Ok.ensures.neighbours
-    (rw (← c.view.view_is, list_all-map (passes colour_label (differs_from c.in-Ok.own.colour)) _ ports, ← c.deref.ensures) c.differs_from_neighbours.ensures)
+    ∙ colour_judged c.args.view.now c.in-Ok.own c.differs_from_neighbours.result c.in-Ok.ensures.own
+    c.in-Ok.ensures.neighbours
+    (rw (
+      ← c.view.view_is,
+      list_all-map (passes colour_label (differs_from c.in-Ok.own.colour)) _
+          ports,
+      ← c.deref.ensures,
+    ) c.differs_from_neighbours.ensures)

@@ -6,6 +6,7 @@ use Rattle.pls_colour.proofs.level_labels.labels_of_levels.Given as goal
 abbrev pub invariant-loop-i : goal.invariant-loop-i
 invariant-loop-i g l = record {
   each : length l.labels ≡ length l.levels;
-  spelled : (place : ℕ) (level : Option ℕ) (bits : List Bool) → place < l.i → slice_get l.levels place ≡ Some level
+  spelled : (place : ℕ) (level : Option ℕ) (bits : List Bool) → place < l.i
+      → slice_get l.levels place ≡ Some level
       → slice_get l.labels place ≡ Some bits → g.W.WritesLevels.says (unwrap_or level 0) bits;
 }

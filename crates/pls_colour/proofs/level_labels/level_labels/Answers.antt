@@ -5,5 +5,7 @@ use Rattle.pls_colour.proofs.level_labels.level_labels.Goals as goal
 
 pub returns-clause-levels : goal.returns-clause-levels
 returns-clause-levels g c =
-    spelled_levels g.W.WritesLevels.says c.args.net.now c.deref.result.now c.in_ok-labels.labels c.requires
-    (subst (AreLevels c.args.net.now 0) (sym c.deref.ensures.value) c.in_ok-levels.ensures) c.in_ok-labels.ensures
+    spelled_levels g.W.WritesLevels.says c.args.net.now c.deref.result.now c.in_ok-labels.labels
+    c.requires
+    (subst (AreLevels c.args.net.now 0) (sym c.deref.ensures.value) c.in_ok-levels.ensures)
+    c.in_ok-labels.ensures

@@ -6,7 +6,9 @@ pub returns-in_err-len-clause-none : goal.returns-in_err-len-clause-none
 returns-in_err-len-clause-none c =
     rw c.from_residual-in_err-len.ensures
     (λ words fits e.
-    let behind = behind_word (codes "label") c.args.line.now c.in_ok-words.words.now _ c.in_ok-words.ensures.stands e in
+    let behind =
+    behind_word (codes "label") c.args.line.now c.in_ok-words.words.now _
+    c.in_ok-words.ensures.stands e in
     let numbers = behind_number c.in_ok-id.id words.id c.in_ok-words.words.now _ _
     (omega (arith, c.in_ok-id.ensures.within)) (omega (arith, fits.id))
     c.in_ok-id.ensures.stands behind in

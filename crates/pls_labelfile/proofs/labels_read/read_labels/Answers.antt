@@ -18,15 +18,19 @@ returns-in_err-part-clause-form c =
 
 pub returns-clause-ok : goal.returns-clause-ok
 returns-clause-ok c =
-    store_told c.build.result c.args.text.now (ids_of c.args.net.now) c.in_ok-part.part c.in_ok-part.ensures.ok
+    store_told c.build.result c.args.text.now (ids_of c.args.net.now) c.in_ok-part.part
+    c.in_ok-part.ensures.ok
     c.build.ensures.ok c.build.ensures.named
 
 pub returns-clause-lengths : goal.returns-clause-lengths
 returns-clause-lengths c =
-    store_long c.build.result c.args.text.now (ids_of c.args.net.now) c.in_ok-part.part c.in_ok-part.ensures.ok
-    c.build.ensures.ok c.build.ensures.named (length c.args.net.now) (length-map c.args.net.now (λ row. row.id))
+    store_long c.build.result c.args.text.now (ids_of c.args.net.now) c.in_ok-part.part
+    c.in_ok-part.ensures.ok
+    c.build.ensures.ok c.build.ensures.named (length c.args.net.now)
+    (length-map c.args.net.now (λ row. row.id))
 
 pub returns-clause-form : goal.returns-clause-form
 returns-clause-form c =
-    form_never c.build.result c.args.text.now (ids_of c.args.net.now) c.in_ok-part.part c.in_ok-part.ensures.ok
+    form_never c.build.result c.args.text.now (ids_of c.args.net.now) c.in_ok-part.part
+    c.in_ok-part.ensures.ok
     c.build.ensures.refused

@@ -6,10 +6,15 @@ use Rattle.pls_labelfile.proofs.laws.written_is_read.Goals as goal
 
 pub returns-clause-tells : goal.returns-clause-tells
 returns-clause-tells c =
-    record { fits = net_labels_fit c.args.net.now c.args.labels.now c.requires.ranges c.requires.few; is = refl }
+    record {
+      fits = net_labels_fit c.args.net.now c.args.labels.now c.requires.ranges
+          c.requires.few;
+      is = refl;
+    }
 
 pub returns-clause-accepted : goal.returns-clause-accepted
-returns-clause-accepted c = net_labels_accepted c.args.net.now c.args.labels.now 1 c.requires.lengths c.requires.few
+returns-clause-accepted c =
+    net_labels_accepted c.args.net.now c.args.labels.now 1 c.requires.lengths c.requires.few
 
 pub returns-clause-bits : goal.returns-clause-bits
 returns-clause-bits c =

@@ -5,4 +5,5 @@ use Rattle.pls_netfile.proofs.laws.no_fault.Goals as goal
 
 pub returns : goal.returns
 returns c = λ rows rest old k fits stands fault.
-    no_fault IsNetworkPart (network_lines rows) rest old k network_is_part (rows_are_part rows fits) stands fault
+    no_fault IsNetworkPart (network_lines rows) rest old k network_is_part (rows_are_part rows fits)
+    stands fault

@@ -4,7 +4,8 @@ use Rattle.pls_netfile.proofs.line_kind.next_of.Goals as goal
 
 pub returns-in_err-line-clause-none : goal.returns-in_err-line-clause-none
 returns-in_err-line-clause-none g c =
-    rw (c.from_residual.ensures, ← c.again-ahead.ensures) (no_line (Says g.K.LineKind.Fits g.K.LineKind.written) _ c.in_err-line.ensures.none)
+    rw (c.from_residual.ensures, ← c.again-ahead.ensures)
+    (no_line (Says g.K.LineKind.Fits g.K.LineKind.written) _ c.in_err-line.ensures.none)
 
 pub returns-in_err-value-clause-none : goal.returns-in_err-value-clause-none
 returns-in_err-value-clause-none g c =

@@ -16,9 +16,11 @@ returns-in_err-part-clause-reads c = λ rows fits is says.
 pub returns-clause-form : goal.returns-clause-form
 returns-clause-form c = λ line fault.
     let told = c.in_ok-part.ensures.told in
-    absurd (none_faulty _ told.rows line told.tells.fits (sym c.in_ok-part.ensures.whole ∙ told.tells.text) fault)
+    absurd (none_faulty _ told.rows line told.tells.fits
+    (sym c.in_ok-part.ensures.whole ∙ told.tells.text) fault)
 
 pub returns-clause-reads : goal.returns-clause-reads
 returns-clause-reads c = λ rows fits is says.
-    let tells = tells_these _ _ rows c.in_ok-part.ensures.told c.in_ok-part.ensures.whole fits says in
+    let tells =
+    tells_these _ _ rows c.in_ok-part.ensures.told c.in_ok-part.ensures.whole fits says in
     told_result _ rows _ is tells c.build.ensures.ok c.build.ensures.refused

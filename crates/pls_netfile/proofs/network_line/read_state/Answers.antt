@@ -7,7 +7,9 @@ pub returns-in_err-up-clause-none : goal.returns-in_err-up-clause-none
 returns-in_err-up-clause-none c =
     rw c.from_residual-in_err-up.ensures
     (λ id state fits e.
-    let words = behind_number c.in_ok-id.id id c.args.words.now _ _ (omega (arith, c.in_ok-id.ensures.within)) (omega arith)
+    let words =
+    behind_number c.in_ok-id.id id c.args.words.now _ _
+    (omega (arith, c.in_ok-id.ensures.within)) (omega arith)
     c.in_ok-id.ensures.stands e in
     c.in_err-up.ensures.none state.up _ fits.fits.up words)
 
@@ -15,9 +17,13 @@ pub returns-in_err-mark-clause-none : goal.returns-in_err-mark-clause-none
 returns-in_err-mark-clause-none c =
     rw c.from_residual-in_err-mark.ensures
     (λ id state fits e.
-    let words = behind_number c.in_ok-id.id id c.args.words.now _ _ (omega (arith, c.in_ok-id.ensures.within)) (omega arith)
+    let words =
+    behind_number c.in_ok-id.id id c.args.words.now _ _
+    (omega (arith, c.in_ok-id.ensures.within)) (omega arith)
     c.in_ok-id.ensures.stands e in
-    let words2 = behind_up c.in_ok-up.up state.up c.in_ok-id.words.now _ _ c.in_ok-up.ensures.within fits.fits.up
+    let words2 =
+    behind_up c.in_ok-up.up state.up c.in_ok-id.words.now _ _ c.in_ok-up.ensures.within
+    fits.fits.up
     c.in_ok-up.ensures.stands words in
     c.in_err-mark.ensures.none state.mark _ fits.fits.mark words2)
 
@@ -25,9 +31,13 @@ pub returns-in_err-num-clause-none : goal.returns-in_err-num-clause-none
 returns-in_err-num-clause-none c =
     rw c.from_residual-in_err-num.ensures
     (λ id state fits e.
-    let words = behind_number c.in_ok-id.id id c.args.words.now _ _ (omega (arith, c.in_ok-id.ensures.within)) (omega arith)
+    let words =
+    behind_number c.in_ok-id.id id c.args.words.now _ _
+    (omega (arith, c.in_ok-id.ensures.within)) (omega arith)
     c.in_ok-id.ensures.stands e in
-    let words2 = behind_up c.in_ok-up.up state.up c.in_ok-id.words.now _ _ c.in_ok-up.ensures.within fits.fits.up
+    let words2 =
+    behind_up c.in_ok-up.up state.up c.in_ok-id.words.now _ _ c.in_ok-up.ensures.within
+    fits.fits.up
     c.in_ok-up.ensures.stands words in
     let words3 = behind_number c.in_ok-mark.mark state.mark c.in_ok-up.words.now _ _
     (omega (arith, c.in_ok-mark.ensures.within)) (omega arith) c.in_ok-mark.ensures.stands words2 in

@@ -6,6 +6,7 @@ use Rattle.pls_netfile.proofs.network_write.write_network.Given as goal
 
 abbrev pub invariant-loop-place : goal.invariant-loop-place
 invariant-loop-place l = record {
-  text : string_bytes l.text ≡ text_of (codes "network" ∷ flat_map row_lines (take l.place l.network));
+  text : string_bytes l.text ≡ text_of
+      (codes "network" ∷ flat_map row_lines (take l.place l.network));
   fits : All FitsRow (take l.place l.network);
 }

@@ -4,4 +4,5 @@ use Rattle.pls_netfile.proofs.words.after_front.Goals as goal
 
 pub returns : goal.returns
 returns c =
-    strip_prefix_is Decides-eqb c.args.text.now c.args.front.now c.strip_prefix.result c.strip_prefix.ensures.cases
+    strip_prefix_is Decides-eqb c.args.text.now c.args.front.now c.strip_prefix.result
+    c.strip_prefix.ensures.cases

@@ -10,5 +10,6 @@ returns-clause-none c =
     let behind = c.in_ok-after_front.field-0.now in
     none_weaker c.after_space.result ((rest : List ℕ) → behind ≢ 32 ∷ rest)
     ((rest : List ℕ) → text ≢ word ++ 32 ∷ rest)
-    (λ none rest e. none rest (append_cancel_left word behind (32 ∷ rest) (sym c.in_ok-after_front.ensures ∙ e)))
+    (λ none rest e. none rest (append_cancel_left word behind (32 ∷ rest)
+    (sym c.in_ok-after_front.ensures ∙ e)))
     c.after_space.ensures.none

@@ -6,7 +6,8 @@ use Rattle.pls_netfile.proofs.words.number_then.Goals as goal
 pub returns-in_err-word-clause-none : goal.returns-in_err-word-clause-none
 returns-in_err-word-clause-none c =
     rw c.from_residual.ensures
-    (λ number rest within e. lacks_here 32 c.args.text.now (decimal number) rest c.in_err-word.ensures.none e)
+    (λ number rest within e. lacks_here 32 c.args.text.now (decimal number) rest
+    c.in_err-word.ensures.none e)
 
 pub returns-in_err-number-clause-none : goal.returns-in_err-number-clause-none
 returns-in_err-number-clause-none c =

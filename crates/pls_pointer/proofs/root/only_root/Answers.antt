@@ -17,18 +17,21 @@ loop-i-preserved c =
     let rows = c.args.net.now in
     let i = c.loop-i.i in
     let coded : All (λ (row : NodeRow). row.id ≤ MAX_CODED) (take (i + 1) rows) =
-    coded_more rows i c.node-id.result.0 c.node-id.result.1 c.node-id.ensures.id c.node-id.ensures.state
+    coded_more rows i c.node-id.result.0 c.node-id.result.1 c.node-id.ensures.id
+    c.node-id.ensures.state
     c.loop-i.invariant.coded (omega arith) in
     elim c.if-is_none.branch [
       | then-is_none+else-is_some w ↦ record {
         found = subst (IsRootOf (take (i + 1) rows)) (sym w.root-is)
-            (root_found rows i c.node-id.result.0 c.node-id.result.1 c.node-id.ensures.id c.node-id.ensures.state
+            (root_found rows i c.node-id.result.0 c.node-id.result.1 c.node-id.ensures.id
+            c.node-id.ensures.state
             c.loop-i.root c.loop-i.invariant.found (sym w.if-is_some.ensures) w.if-is_none.ensures);
         coded = coded;
       }
       | else-is_none w ↦ record {
         found = subst (IsRootOf (take (i + 1) rows)) (sym w.root-is)
-            (root_stays rows i c.node-id.result.0 c.node-id.result.1 c.node-id.ensures.id c.node-id.ensures.state
+            (root_stays rows i c.node-id.result.0 c.node-id.result.1 c.node-id.ensures.id
+            c.node-id.ensures.state
             c.loop-i.root c.loop-i.invariant.found w.if-is_none.ensures);
         coded = coded;
       }

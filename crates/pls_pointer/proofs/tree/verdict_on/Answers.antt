@@ -11,9 +11,11 @@ returns-in-Err g c = sym (c.in-Err.ensures.rejected tree_rules)
 pub returns : goal.returns
 returns g c =
     let own = c.in-Ok.own in
-    let above : c.map-above.result ≡ option_map (λ label. label.depth) c.label_above.result = search rules in
+    let above : c.map-above.result ≡ option_map (λ label. label.depth) c.label_above.result =
+    search rules in
     let agrees : c.agrees_on_root.result
-    ≡ all_labels (tree_in g.C.NumCode.takes) (λ label. label.root == own.root) c.args.view.now.ports =
+    ≡ all_labels (tree_in g.C.NumCode.takes) (λ label. label.root == own.root)
+    c.args.view.now.ports =
     rw (c.agrees_on_root.ensures, c.deref.ensures, ← c.view.view_is, list_all-map) refl in
     let read = c.in-Ok.ensures.neighbours in
     c.judged_from.ensures ∙ rw (

@@ -10,5 +10,6 @@ returns-in_default-2-clause-lacking c tree =
 pub returns-clause-holds : goal.returns-clause-holds
 returns-clause-holds c =
     let depths = rw c.in-Some-2.is at (c.in_ok-depths.ensures.depths) in
-    IsTree-depths c.args.net.now c.only_root.ensures.valid c.in-Some-2.depths.items depths c.in-Some.root
+    IsTree-depths c.args.net.now c.only_root.ensures.valid c.in-Some-2.depths.items depths
+    c.in-Some.root
     (rw c.in-Some.is at (c.only_root.ensures.some))

@@ -10,5 +10,6 @@ returns-clause-holds g c =
     let rows = c.args.net.now in
     let labels = c.args.labels.now in
     IfOk-weaker c.are_accepted.result _ _
-    (λ (yes : Bool) told is. g.met.S.Scheme.sound_law scheme rows labels c.len.ensures.valid c.requires.connected c.requires.each (told.0 is))
+    (λ (yes : Bool) told is. g.met.S.Scheme.sound_law scheme rows labels c.len.ensures.valid
+    c.requires.connected c.requires.each (told.0 is))
     c.are_accepted.ensures

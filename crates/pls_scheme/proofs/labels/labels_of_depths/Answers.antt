@@ -13,14 +13,17 @@ loop-i-preserved g c =
     let i : ℕ = c.loop-i.i in
     let label : List Bool = c.write.new.buf in
     let is : label ≡ text code front (get_or depths i 0) =
-    c.in_ok-write.ensures.written ∙ ap (λ (number : ℕ). c.in_ok-label.label ++ code number) c.from.ensures
+    c.in_ok-write.ensures.written ∙ ap (λ (number : ℕ). c.in_ok-label.label ++ code number)
+    c.from.ensures
     ∙ ap (λ (bits : List Bool). bits ++ code (get_or depths i 0)) c.in_ok-label.ensures
     ∙ sym (codes_of-next code front (get_or depths i 0)) in
-    let set : c.replace.new.self ≡ slice_set c.loop-i.labels i label = c.in_ok-replace.ensures.replaced in
+    let set : c.replace.new.self ≡ slice_set c.loop-i.labels i label =
+    c.in_ok-replace.ensures.replaced in
     record {
       each = ap length set ∙ length-set c.loop-i.labels i label ∙ c.loop-i.invariant.each;
       label = subst (AreTextsBefore code front depths (i + 1)) (sym set)
-          (text_put code front depths i c.loop-i.labels label c.loop-i.invariant.each c.loop-i-test.true
+          (text_put code front depths i c.loop-i.labels label c.loop-i.invariant.each
+          c.loop-i-test.true
           c.loop-i.invariant.label is);
     }
 
@@ -28,6 +31,7 @@ pub returns : goal.returns
 returns g c = record {
   each = c.loop-i.invariant.each;
   label = λ place depth bits has put. c.loop-i.invariant.label place depth bits
-      (let within = slice_get_within c.args.depths.now place depth has in let ends = c.loop-i-test.false in omega
+      (let within = slice_get_within c.args.depths.now place depth has in
+      let ends = c.loop-i-test.false in omega
       arith) has put;
 }

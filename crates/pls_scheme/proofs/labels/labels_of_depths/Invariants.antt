@@ -8,5 +8,6 @@ abbrev pub invariant-loop-i : goal.invariant-loop-i
 invariant-loop-i g l = record {
   each : length l.labels ≡ length l.depths;
   label : (place depth : ℕ) (bits : List Bool) → place < l.i → slice_get l.depths place ≡ Some depth
-      → slice_get l.labels place ≡ Some bits → bits ≡ codes_of g.C.NumCode.code (l.front ++ depth ∷ []);
+      → slice_get l.labels place ≡ Some bits
+      → bits ≡ codes_of g.C.NumCode.code (l.front ++ depth ∷ []);
 }

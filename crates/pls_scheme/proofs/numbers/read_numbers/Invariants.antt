@@ -8,5 +8,6 @@ abbrev pub invariant-loop-i : goal.invariant-loop-i
 invariant-loop-i g l = record {
   long : length l.numbers ≡ g.row.N;
   within : l.i ≤ g.row.N;
-  all : numbers_in g.C.NumCode.takes g.row.N l.bits ≡ behind (take l.i l.numbers) (numbers_in g.C.NumCode.takes (g.row.N - l.i) l.cursor);
+  all : numbers_in g.C.NumCode.takes g.row.N l.bits
+      ≡ behind (take l.i l.numbers) (numbers_in g.C.NumCode.takes (g.row.N - l.i) l.cursor);
 }

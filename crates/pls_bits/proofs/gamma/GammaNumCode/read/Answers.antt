@@ -13,7 +13,8 @@ held (Some number) P holds = tt
 
 pub returns-in_err-zeros-clause-none : goal.returns-in_err-zeros-clause-none
 returns-in_err-zeros-clause-none c =
-    let none : gamma_takes c.args.cursor.now ≡ None = cc (c.in_err-zeros.ensures.none, c.cursor-ahead.ensures, c.rest.ensures) in
+    let none : gamma_takes c.args.cursor.now ≡ None =
+    cc (c.in_err-zeros.ensures.none, c.cursor-ahead.ensures, c.rest.ensures) in
     held c.from_residual.result _ (gamma_takes-none c.args.cursor.now none)
 
 pub returns-in_err-digits-clause-none : goal.returns-in_err-digits-clause-none
@@ -23,10 +24,12 @@ returns-in_err-digits-clause-none c =
 
 pub returns-clause-found : goal.returns-clause-found
 returns-clause-found c =
-    let taken : gamma_takes c.args.cursor.now ≡ Some (c.number_behind_one.result - 1, c.take.new.self) = grind (arith, common_steps) in
+    let taken : gamma_takes c.args.cursor.now
+    ≡ Some (c.number_behind_one.result - 1, c.take.new.self) = grind (arith, common_steps) in
     (gamma_takes-only c.args.cursor.now (c.number_behind_one.result - 1) c.take.new.self taken).1
 
 pub returns-clause-small : goal.returns-clause-small
 returns-clause-small c =
-    let taken : gamma_takes c.args.cursor.now ≡ Some (c.number_behind_one.result - 1, c.take.new.self) = grind (arith, common_steps) in
+    let taken : gamma_takes c.args.cursor.now
+    ≡ Some (c.number_behind_one.result - 1, c.take.new.self) = grind (arith, common_steps) in
     (gamma_takes-only c.args.cursor.now (c.number_behind_one.result - 1) c.take.new.self taken).0

@@ -8,5 +8,6 @@ returns-clause-written c =
     let zeros = c.zeros_of-zeros in
     let code : c.of_slice.result ≡ gamma_code c.args.number =
     c.of_slice.ensures
-    ∙ gamma_code-room 125 zeros.result c.args.number c.put_digits.new.room zeros.ensures.value (omega (arith, zeros.ensures.small)) c.put_digits.ensures in
+    ∙ gamma_code-room 125 zeros.result c.args.number c.put_digits.new.room zeros.ensures.value
+    (omega (arith, zeros.ensures.small)) c.put_digits.ensures in
     rw (← code) c.append.ensures.appended

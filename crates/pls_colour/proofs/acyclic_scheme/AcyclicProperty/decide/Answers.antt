@@ -17,6 +17,8 @@ returns g c =
     let told = c.in_ok-accepted_levels.ensures in
     found_tells (IsAcyclic rows) found c.is_some.result c.is_some.ensures
     (none_accepted (SaysDepth code) (judge_acyclic takes) rows (IsAcyclic rows) found
-    (λ labels levels. accepted_where_acyclic code rows labels levels told.valid takes g.met.C.NumCode.takes_codes) told.refused)
-    (weaker_Some (λ (labels : List (List Bool)). AllAccept (judge_acyclic takes) rows labels) (λ (labels : List (List Bool)). IsAcyclic rows) found
+    (λ labels levels. accepted_where_acyclic code rows labels levels told.valid takes
+    g.met.C.NumCode.takes_codes) told.refused)
+    (weaker_Some (λ (labels : List (List Bool)). AllAccept (judge_acyclic takes) rows labels)
+    (λ (labels : List (List Bool)). IsAcyclic rows) found
     (λ labels accepted. acyclic_sound takes rows told.valid labels accepted) told.accepted)

@@ -15,5 +15,6 @@ returns c =
     found_tells (IsBipartite rows) found c.is_some.result c.is_some.ensures
     (none_accepted SaysParity judge_bipartite rows (IsBipartite rows) found
     (λ labels levels. accepted_where_bipartite rows labels levels told.valid) told.refused)
-    (weaker_Some (λ (labels : List (List Bool)). AllAccept judge_bipartite rows labels) (λ (labels : List (List Bool)). IsBipartite rows) found
+    (weaker_Some (λ (labels : List (List Bool)). AllAccept judge_bipartite rows labels)
+    (λ (labels : List (List Bool)). IsBipartite rows) found
     (bipartite_sound rows) told.accepted)

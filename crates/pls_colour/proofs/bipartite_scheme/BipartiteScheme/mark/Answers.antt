@@ -12,21 +12,26 @@ pub returns-clause-lacking : goal.returns-clause-lacking
 returns-clause-lacking c =
     let rows = c.args.net.now in
     none_accepted SaysParity judge_bipartite rows (IsBipartite rows) c.in_ok-found.found
-    (λ labels levels. accepted_where_bipartite rows labels levels c.in_ok-found.ensures.valid) c.in_ok-found.ensures.refused
+    (λ labels levels. accepted_where_bipartite rows labels levels c.in_ok-found.ensures.valid)
+    c.in_ok-found.ensures.refused
 
 pub returns-clause-holds : goal.returns-clause-holds
 returns-clause-holds c =
     let rows = c.args.net.now in
-    weaker_Some (λ (labels : List (List Bool)). AllAccept judge_bipartite rows labels) (λ (labels : List (List Bool)). IsBipartite rows) c.in_ok-found.found
+    weaker_Some (λ (labels : List (List Bool)). AllAccept judge_bipartite rows labels)
+    (λ (labels : List (List Bool)). IsBipartite rows) c.in_ok-found.found
     (bipartite_sound rows) c.in_ok-found.ensures.accepted
 
 pub returns-clause-marked : goal.returns-clause-marked
 returns-clause-marked c =
     let rows = c.args.net.now in
-    weaker_Some (AreLevelled SaysParity rows) (IsParityMarked rows) c.in_ok-found.found (parities_marked rows) c.in_ok-found.ensures.levels
+    weaker_Some (AreLevelled SaysParity rows) (IsParityMarked rows) c.in_ok-found.found
+    (parities_marked rows) c.in_ok-found.ensures.levels
 
 pub returns-clause-short : goal.returns-clause-short
 returns-clause-short c =
     let rows = c.args.net.now in
-    weaker_Some (AreLevelled SaysParity rows) (All (λ (label : List Bool). length label ≤ 1)) c.in_ok-found.found
-    (λ labels levels. parities_short rows labels levels c.in_ok-found.ensures.valid) c.in_ok-found.ensures.levels
+    weaker_Some (AreLevelled SaysParity rows) (All (λ (label : List Bool). length label ≤ 1))
+    c.in_ok-found.found
+    (λ labels levels. parities_short rows labels levels c.in_ok-found.ensures.valid)
+    c.in_ok-found.ensures.levels

@@ -8,13 +8,26 @@ use Rattle.pls_labelfile.proofs.labels_text.LabelsText.build.Goals as goal
 
 pub returns-then-self-gt-MAX_BITS-clause-refused : goal.returns-then-self-gt-MAX_BITS-clause-refused
 returns-then-self-gt-MAX_BITS-clause-refused c =
-    over_limit (ids_of c.args.net.now) c.args.self.now (subst IsTold c.self.view_is c.self.invariant)
-    (omega (arith, c.if-self-gt-MAX_BITS.true, ap (λ (written : Written). written.bits) c.self.view_is))
+    over_limit (ids_of c.args.net.now) c.args.self.now
+    (subst IsTold c.self.view_is c.self.invariant)
+    (omega (
+      arith,
+      c.if-self-gt-MAX_BITS.true,
+      ap (λ (written : Written). written.bits)
+          c.self.view_is,
+    ))
 
 pub returns-in-Some-clause-refused : goal.returns-in-Some-clause-refused
 returns-in-Some-clause-refused c = λ labels tells.
-    let few = within_limit (ids_of c.args.net.now) c.args.self.now (subst IsTold c.self.view_is c.self.invariant)
-    (omega (arith, c.if-self-gt-MAX_BITS.false, ap (λ (written : Written). written.bits) c.self.view_is)) labels tells in
+    let few =
+    within_limit (ids_of c.args.net.now) c.args.self.now
+    (subst IsTold c.self.view_is c.self.invariant)
+    (omega (
+      arith,
+      c.if-self-gt-MAX_BITS.false,
+      ap (λ (written : Written). written.bits)
+          c.self.view_is,
+    )) labels tells in
     let place = c.in_ok-place.ensures.misfit labels (c.behind_heading-lines.ensures labels tells) in
     rw c.misfit_at.ensures
     (few ∙ ap (option_map (misfit_error c.args.self.now.number)) (sym place ∙ c.in-Some.is))
@@ -22,4 +35,5 @@ returns-in-Some-clause-refused c = λ labels tells.
 pub returns-in-None-clause-named : goal.returns-in-None-clause-named
 returns-in-None-clause-named c = λ labels tells.
     names_fit (ids_of c.args.net.now) labels
-    (sym (c.in_ok-place.ensures.misfit labels (c.behind_heading-lines.ensures labels tells)) ∙ c.in-None.is)
+    (sym (c.in_ok-place.ensures.misfit labels (c.behind_heading-lines.ensures labels tells))
+    ∙ c.in-None.is)

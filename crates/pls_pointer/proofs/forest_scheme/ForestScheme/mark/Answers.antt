@@ -18,6 +18,8 @@ returns g c =
       holds = rw c.in-Some.is at (c.in_ok-depths.ensures.none_returns);
       marked = forest_marked code rows net depths are labels ends;
       each = search rules;
-      accepted = forest_accepted code rows net depths are labels ends g.C.NumCode.takes g.met.C.NumCode.takes_codes;
+      accepted =
+          forest_accepted code rows net depths are labels ends g.C.NumCode.takes
+          g.met.C.NumCode.takes_codes;
       short = forest_short code rows net depths are labels ends g.met.C.NumCode.grows_law;
     }

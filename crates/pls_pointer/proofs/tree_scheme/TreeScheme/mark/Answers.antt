@@ -15,14 +15,17 @@ returns g c =
     let only = rw c.in-Some.is at (c.in_ok-root.ensures.root) in
     let coded = rw c.in-Some.is at (c.in_ok-root.ensures.coded) in
     let ends = subst (λ (root : ℕ). EndInDepths code (root ∷ []) depths labels) c.from.ensures
-    (subst (λ (depths : List ℕ). EndInDepths code (c.from.result ∷ []) depths labels) c.deref.ensures.value
+    (subst (λ (depths : List ℕ). EndInDepths code (c.from.result ∷ []) depths labels)
+    c.deref.ensures.value
     c.in_ok-labels.ensures) in
     record {
       lacking = search rules;
       holds = rw c.in-Some.is at (c.in_ok-root.ensures.holds);
       marked = tree_marked code rows net depths are root only labels ends;
       each = search rules;
-      accepted = tree_accepted code rows net depths are root only labels ends coded g.C.NumCode.takes
+      accepted =
+          tree_accepted code rows net depths are root only labels ends coded g.C.NumCode.takes
           g.met.C.NumCode.takes_codes;
-      short = tree_short code rows net depths are root only labels ends coded g.met.C.NumCode.grows_law;
+      short = tree_short code rows net depths are root only labels ends coded
+          g.met.C.NumCode.grows_law;
     }

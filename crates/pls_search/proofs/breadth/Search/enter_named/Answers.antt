@@ -12,8 +12,12 @@ loop-port-preserved c =
     let ports = c.args.ports.now in
     let i = c.loop-port.port-index in
     let none : Port = record { nbr = 0; weight = 0 } in
-    let places : named_places rows (take i ports) ++ c.known_place.result ∷ [] ≡ named_places rows (take (i + 1) ports) =
+    let places : named_places rows (take i ports) ++ c.known_place.result ∷ []
+    ≡ named_places rows (take (i + 1) ports) =
     ap (λ (place : ℕ). named_places rows (take i ports) ++ place ∷ []) c.known_place.ensures.place
-    ∙ sym (ap (named_places rows) (take_more ports i none c.loop-port-test.true) ∙ map-append (λ (port : Port). place_in rows port.nbr) (take i ports) (get_or ports i none ∷ [])) in
-    subst (Gains c.args.self.now.found.items c.enter.new.self.found.items c.args.self.now.next.items c.enter.new.self.next.items c.args.level) places
+    ∙ sym (ap (named_places rows) (take_more ports i none c.loop-port-test.true)
+    ∙ map-append (λ (port : Port). place_in rows port.nbr) (take i ports)
+    (get_or ports i none ∷ [])) in
+    subst (Gains c.args.self.now.found.items c.enter.new.self.found.items c.args.self.now.next.items
+    c.enter.new.self.next.items c.args.level) places
     (Gains-append _ _ _ _ _ _ _ _ _ c.loop-port.invariant c.in_ok-enter.ensures)

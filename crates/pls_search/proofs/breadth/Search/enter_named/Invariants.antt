@@ -4,4 +4,5 @@ use Rattle.pls_search.specs.Search.{Gives}
 use Rattle.pls_search.proofs.breadth.Search.enter_named.Given as goal
 
 abbrev pub invariant-loop-port : goal.invariant-loop-port
-invariant-loop-port l = Gives l.initial.self l.self l.level (named_places l.net (take l.port-index l.ports))
+invariant-loop-port l =
+    Gives l.initial.self l.self l.level (named_places l.net (take l.port-index l.ports))

@@ -7,5 +7,6 @@ use Rattle.pls_scheme.proofs.tests.uniform.UniformScheme.mark.Goals as goal
 pub returns-clause-accepted : goal.returns-clause-accepted
 returns-clause-accepted c =
     let rows = c.args.net.now in
-    let labels : c.in_ok-zeros.field-0 ≡ zeros rows = c.in_ok-zeros.ensures ∙ ap (λ (n : ℕ). replicate n (false ∷ [])) c.len.ensures.len in
+    let labels : c.in_ok-zeros.field-0 ≡ zeros rows =
+    c.in_ok-zeros.ensures ∙ ap (λ (n : ℕ). replicate n (false ∷ [])) c.len.ensures.len in
     subst (AllAccept judge_uniform rows) (sym labels) (zeros_accepted rows c.len.ensures.valid)
