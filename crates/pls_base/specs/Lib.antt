@@ -1,4 +1,5 @@
 pub mod Decimal
+pub mod OverStd
 pub mod Plan
 pub mod Quantity
 pub mod Steps

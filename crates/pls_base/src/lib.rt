@@ -6,8 +6,8 @@
 //! whole texts over them. Forms in memory stand beside the adapters over std's readers and writers.
 //!
 //! Beside these: the errors that texts and memory cause, a counter of steps that stays at its last
-//! value, and numbers in decimal. Definitions stand in `specs/`: `Streams`, `Plan`, `Steps`,
-//! `Decimal` and `Quantity`.
+//! value, and numbers in decimal. Definitions stand in `specs/`: `Streams`, `OverStd`, `Plan`,
+//! `Steps`, `Decimal` and `Quantity`.
 #![tactic(auto)]
 
 mod count_sink;

@@ -1,6 +1,6 @@
 //! Sources and sinks over std's readers and writers.
 
-ghost use Rattle.std.specs.Prelude.{◌≡◌, ◌<◌, length, None, IfOk, MatchResult};
+ghost use Rattle.std.specs.Prelude.{◌≡◌, ◌<◌, length, IfOk, MatchResult};
 ghost use Rattle.std.specs.Io.{ReadsAtMost, WritesAtMost};
 ghost use Rattle.std.specs.Io.KnownBytes.{ReadConsumes, WriteAppends};
 ghost use Rattle.pls_base.specs.Steps.{up_by};
@@ -11,8 +11,9 @@ use crate::streams::{Failed, Sink, Source};
 use std::io::{Read, Write};
 use std::marker::Model;
 
-/// Gives what a std reader gives. It tells no bytes, and is seen as the number of its errors, an
-/// interrupted read among them.
+/// Gives what a std reader gives. It tells the bytes that its reader tells; std's reader of
+/// standard input tells none. It is seen as the reader and the number of its errors, an interrupted
+/// read among them.
 #[derive(Drop)]
 pub struct StdSource<R> {
     reader: R,
@@ -20,17 +21,18 @@ pub struct StdSource<R> {
 }
 
 impl<R> Model for StdSource<R> {
-    ghost use Rattle.std.specs.Prelude.{ℕ};
+    ghost use Rattle.pls_base.specs.OverStd.{OverStd};
 
-    ghost Value = { ℕ };
+    ghost Value = { OverStd R };
 
-    ghost view = { λ s. s.faults };
+    ghost view = { λ s. record { over = s.reader; faults = s.faults } };
 }
 
 impl<R: Read> StdSource<R> {
     /// A source over a reader, with no error yet.
     pub fn new(reader: R) -> StdSource<R>
-        ensures { result ≡ 0 }
+        ensures over { result.over ≡ reader }
+        ensures faults { result.faults ≡ 0 }
     {
         StdSource {
             reader,
@@ -40,16 +42,17 @@ impl<R: Read> StdSource<R> {
 }
 
 impl<R: Read> Source for StdSource<R> {
-    ghost left = { λ _. None };
+    ghost left = { λ s. R.remaining s.over };
 
-    ghost faults = { λ count. count };
+    ghost faults = { λ s. s.faults };
 
     fn read(&mut self, into: &mut [u8]) -> Result<usize, Failed>
         ensures bound { ReadsAtMost result into.new }
-        ensures bytes { ReadConsumes None None result into.new }
-        ensures cause { HasCause self.old self.new result }
-        ensures raised { MatchResult result (λ _. self.new ≡ self.old)
-            (λ _. self.new ≡ up_by 1 self.old) }
+        ensures bytes { ReadConsumes (R.remaining self.old.over) (R.remaining self.new.over) result
+            into.new }
+        ensures cause { HasCause self.old.faults self.new.faults result }
+        ensures raised { MatchResult result (λ _. self.new.faults ≡ self.old.faults)
+            (λ _. self.new.faults ≡ up_by 1 self.old.faults) }
     {
         match self.reader.read(into) {
             Ok(count) => Ok(count),
@@ -61,8 +64,9 @@ impl<R: Read> Source for StdSource<R> {
     }
 }
 
-/// Hands what it takes to a std writer. It tells no bytes, and is seen as the number of its errors;
-/// a write that takes no byte of a piece that is not empty is one of them.
+/// Hands what it takes to a std writer. It tells the bytes that its writer tells; std's writer of
+/// standard output tells none. It is seen as the writer and the number of its errors; a write that
+/// takes no byte of a piece that is not empty is one of them.
 #[derive(Drop)]
 pub struct StdSink<W> {
     writer: W,
@@ -70,17 +74,18 @@ pub struct StdSink<W> {
 }
 
 impl<W> Model for StdSink<W> {
-    ghost use Rattle.std.specs.Prelude.{ℕ};
+    ghost use Rattle.pls_base.specs.OverStd.{OverStd};
 
-    ghost Value = { ℕ };
+    ghost Value = { OverStd W };
 
-    ghost view = { λ s. s.faults };
+    ghost view = { λ s. record { over = s.writer; faults = s.faults } };
 }
 
 impl<W: Write> StdSink<W> {
     /// A sink over a writer, with no error yet.
     pub fn new(writer: W) -> StdSink<W>
-        ensures { result ≡ 0 }
+        ensures over { result.over ≡ writer }
+        ensures faults { result.faults ≡ 0 }
     {
         StdSink {
             writer,
@@ -90,17 +95,18 @@ impl<W: Write> StdSink<W> {
 }
 
 impl<W: Write> Sink for StdSink<W> {
-    ghost taken = { λ _. None };
+    ghost taken = { λ s. W.contents s.over };
 
-    ghost faults = { λ count. count };
+    ghost faults = { λ s. s.faults };
 
     fn write(&mut self, piece: &[u8]) -> Result<usize, Failed>
         ensures bound { WritesAtMost result piece.now }
         ensures some { IfOk result (λ n. 0 < length piece.now → 0 < n) }
-        ensures bytes { WriteAppends None None result piece.now }
-        ensures cause { HasCause self.old self.new result }
-        ensures raised { MatchResult result (λ _. self.new ≡ self.old)
-            (λ _. self.new ≡ up_by 1 self.old) }
+        ensures bytes { WriteAppends (W.contents self.old.over) (W.contents self.new.over) result
+            piece.now }
+        ensures cause { HasCause self.old.faults self.new.faults result }
+        ensures raised { MatchResult result (λ _. self.new.faults ≡ self.old.faults)
+            (λ _. self.new.faults ≡ up_by 1 self.old.faults) }
     {
         match self.writer.write(piece) {
             Ok(count) if count > 0 || piece.is_empty() => Ok(count),
