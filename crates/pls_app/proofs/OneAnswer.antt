@@ -15,9 +15,9 @@ use Rattle.pls_app.specs.declared.limits.TheConstants.{MAX_INPUT}
 use Rattle.pls_app.specs.Command.{command_of}
 use Rattle.pls_app.specs.Meaning.{HasProperty, IsMarked}
 use Rattle.pls_app.specs.Input.{IsInput, IsInputLines, IsNetworkInput, IsReadable, Reads}
-use Rattle.pls_app.specs.Order.{IsFirstRefusal, IsFormError, IsRefused, IsRefusedText, RefusesInput, RefusesNetwork, first_of, input_refusals, network_refusals}
+use Rattle.pls_app.specs.Order.{IsFirstRefusal, IsFormError, IsRefused, IsRefusedText, RefusesInput, RefusesNetwork, input_refusals, network_refusals}
 use Rattle.pls_app.specs.Answer.{Answer, Answers, AnswersWords, IsAnswer, Marks, Works, labelled, refusal}
-use Rattle.pls_model.specs.Configuration.{ids_of}
+use Rattle.pls_model.specs.Configuration.{first_of, ids_of}
 use Rattle.pls_netfile.specs.NetworkText.{AreRows, IsNetworkPart, network_lines, network_text}
 use Rattle.pls_netfile.proofs.Fronts.{text_of-append}
 use Rattle.pls_netfile.proofs.NetworkRows.{one_network, rows_are_part}

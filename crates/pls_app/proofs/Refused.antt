@@ -8,7 +8,7 @@ use Rattle.pls_base.specs.declared.text_error.Quantity.{Quantity}
 use Rattle.pls_base.specs.declared.text_error.Quantity.TheVariants.{Input, Nodes, Ports, Bits, Events, Rounds, Labels}
 use Rattle.pls_model.specs.declared.row.NodeRow.{NodeRow}
 use Rattle.pls_model.specs.declared.limits.TheConstants.{MAX_NODES, MAX_PORTS}
-use Rattle.pls_model.specs.Configuration.{IsNetwork, ids_of, ports_in}
+use Rattle.pls_model.specs.Configuration.{IsNetwork, first_of, ids_of, ports_in}
 use Rattle.pls_netfile.specs.NetworkBuild.{Exceeds, IsRefusedBuild, IsSense}
 use Rattle.pls_netfile.specs.NetworkFile.{IsRefusedFile}
 use Rattle.pls_netfile.specs.NetworkText.{AreRows, IsNetworkPart, network_text}
@@ -18,7 +18,7 @@ use Rattle.pls_labelfile.specs.LabelsScan.{Written as WrittenLabels, Tells as Te
 use Rattle.pls_labelfile.specs.Misfit.{misfit}
 use Rattle.pls_labelfile.specs.Refusal.{IsRefusal, misfit_error, refusal_of as labels_refusal}
 use Rattle.pls_labelfile.specs.declared.limits.TheConstants.{MAX_BITS}
-use Rattle.pls_app.specs.Order.{IsApart, IsFormError, RefusesInput, RefusesNetwork, first_of, heading_of, input_refusals, limits_of, network_refusals, over}
+use Rattle.pls_app.specs.Order.{IsApart, IsFormError, RefusesInput, RefusesNetwork, heading_of, input_refusals, limits_of, network_refusals, over}
 use Rattle.pls_app.specs.Scanned.{IsScanned}
 use Rattle.pls_app.specs.Input.{AreLabels}
 use Rattle.pls_labelfile.proofs.Named.{named_no_misfit, total_bits-named}

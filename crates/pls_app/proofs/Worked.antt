@@ -5,9 +5,10 @@ use Rattle.pls_base.specs.declared.text_error.TextError.TheVariants.{Form, Limit
 use Rattle.pls_base.specs.declared.text_error.Quantity.TheVariants.{Nodes}
 use Rattle.pls_model.specs.declared.row.NodeRow.{NodeRow}
 use Rattle.pls_model.specs.declared.verdict.Verdict.TheVariants.{Accept, Reject}
+use Rattle.pls_model.specs.Configuration.{first_of}
 use Rattle.pls_labelfile.specs.LabelsText.{named}
 use Rattle.pls_app.specs.Answer.{refusal}
-use Rattle.pls_app.specs.Order.{first_of, input_refusals, network_refusals}
+use Rattle.pls_app.specs.Order.{input_refusals, network_refusals}
 use Rattle.pls_app.specs.Report.{report_text}
 
 two : report_text ((1, Accept) ∷ (20, Reject 1 3) ∷ [])

@@ -6,7 +6,7 @@ use Rattle.pls_base.specs.declared.text_error.Quantity.{Quantity}
 use Rattle.pls_base.specs.declared.text_error.Quantity.TheVariants.{Input, Nodes, Ports, Bits}
 use Rattle.pls_model.specs.declared.row.NodeRow.{NodeRow}
 use Rattle.pls_model.specs.declared.limits.TheConstants.{MAX_NODES, MAX_PORTS}
-use Rattle.pls_model.specs.Configuration.{ids_of, ports_in, refusal_of}
+use Rattle.pls_model.specs.Configuration.{first_of, ids_of, ports_in, refusal_of}
 use Rattle.pls_graph.specs.Connected.{IsFirstApart}
 use Rattle.pls_netfile.specs.Fault.{IsFirstFault}
 use Rattle.pls_netfile.specs.NetworkBuild.{text_error_of}
@@ -20,12 +20,6 @@ use Rattle.pls_app.specs.declared.command.Command.{Command}
 use Rattle.pls_app.specs.declared.command.Command.TheVariants.{Mark, Verify}
 use Rattle.pls_app.specs.declared.limits.TheConstants.{MAX_INPUT}
 use Rattle.pls_app.specs.Input.{IsInputLines}
-
--- the first refusal of a list of refusals, each of which may not occur
-abbrev pub first_of : List (Option TextError) → Option TextError
-first_of [] = None
-first_of (Some error ∷ others) = Some error
-first_of (None ∷ others) = first_of others
 
 -- a quantity that passes its limit
 abbrev pub over : Quantity → ℕ → ℕ → Option TextError

@@ -1,10 +1,10 @@
 //! The parts of an input.
 
 ghost use Rattle.std.specs.Prelude.{◌≡◌, ◌≢◌, ◌≤◌, IfErr, IfOk, OnOk, None, Some, length};
-ghost use Rattle.pls_model.specs.Configuration.{IsNetwork};
+ghost use Rattle.pls_model.specs.Configuration.{IsNetwork, first_of};
 ghost use Rattle.pls_model.specs.Walk.{IsConnected};
 ghost use Rattle.pls_app.specs.Input.{IsInput, IsInputLines, IsNetworkInput};
-ghost use Rattle.pls_app.specs.Order.{IsApart, IsFormError, first_of, limits_of};
+ghost use Rattle.pls_app.specs.Order.{IsApart, IsFormError, limits_of};
 ghost use Rattle.pls_app.specs.Scanned.{Refuses, IsScanned};
 
 use crate::command::{Command, SchemeName};

@@ -1,11 +1,10 @@
 -- The definitions at worked examples.
 use Rattle.std.proofs.Common.{◌≡◌, ℕ, List, [], ◌∷◌, Option, Some, None, refl}
 use Rattle.pls_model.specs.declared.row.Port.{Port}
-use Rattle.pls_model.specs.declared.row.State.{State}
 use Rattle.pls_model.specs.declared.row.NodeRow.{NodeRow}
 use Rattle.pls_model.specs.declared.refusal.BuildError.TheVariants.{Order, SelfLink, Twice, Unknown, OneWay, Weights, Pointer}
 use Rattle.pls_model.specs.Configuration.{refusal_of}
-use Rattle.pls_model.specs.Walk.{edges_of, Edge}
+use Rattle.pls_model.specs.Walk.{edges_of}
 
 abbrev node : ℕ → Option ℕ → List Port → NodeRow
 node id up ports = record { id = id; state = record { up = up; mark = 0; num = 0 }; ports = ports }

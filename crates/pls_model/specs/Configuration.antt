@@ -1,8 +1,8 @@
 -- A configuration is a list of node rows; here is which lists are networks, by one test for each
 -- refusal over the whole list (Korman, Kutten and Peleg 2010, "Proof labeling schemes").
-use Rattle.std.specs.Prelude.{◌≡◌, ℕ, ◌≤◌, Bool, true, false, not, ◌&&◌, ◌||◌, ◌==◌, nat_le, List, [], ◌∷◌, map, drop, length, zip, find, sum_by, All, Option, Some, None, option_map, option_and_then}
+use Rattle.std.specs.Prelude.{◌≡◌, ℕ, ◌≤◌, Bool, false, not, ◌||◌, ◌==◌, nat_le, List, [], ◌∷◌, map, drop, length, zip, find, sum_by, All, Option, Some, None, option_map, option_and_then}
 use Rattle.std.specs.List.{list_any}
-use Rattle.std.specs.Option.{is_none, option_or, option_map_or}
+use Rattle.std.specs.Option.{is_none, option_map_or}
 use Rattle.pls_model.specs.declared.row.Port.{Port}
 use Rattle.pls_model.specs.declared.row.NodeRow.{NodeRow}
 use Rattle.pls_model.specs.declared.refusal.BuildError.{BuildError}
@@ -63,10 +63,11 @@ differs_in_weight rows row =
 abbrev pub points_nowhere : NodeRow → Bool
 points_nowhere row = option_map_or (λ up. nat_le (length row.ports) up) row.state.up false
 
--- the first refusal of a list of them
-abbrev pub first_of : List (Option BuildError) → Option BuildError
+-- the first of some answers that is there
+abbrev pub first_of : {X : Type 0} → List (Option X) → Option X
 first_of [] = None
-first_of (refusal ∷ later) = option_or refusal (first_of later)
+first_of (Some answer ∷ later) = Some answer
+first_of (None ∷ later) = first_of later
 
 -- each condition under which rows are no network, in the order in which they are tried, with the
 -- identity of the first row at which it occurs
