@@ -155,7 +155,7 @@ Spells-exact len digits = (
 -- ---- reading
 
 -- decoding a text gives the bytes of its bits
-pub decoded_bytes : (len : ℕ) (digits : List ℕ) (s : Spells len digits)
+decoded_bytes : (len : ℕ) (digits : List ℕ) (s : Spells len digits)
     → decode_of digits ≡ Ok (bytes_of s.bits)
 unfolding hex_digits
 decoded_bytes len digits s =
@@ -242,10 +242,3 @@ test_of_spare len digits last twice low some read s =
     list_any_at (bit_of last) (range_with_len (len % 8) (8 - len % 8)) (s.place - len) 0
     (rw (length-range_with_len (len % 8) (8 - len % 8)) within)
     (rw (get_or-range_with_len (len % 8) (8 - len % 8) (s.place - len) 0 within, there) bit)
-
--- no bit is left over where the bytes are full
-pub full_is_clean : (len : ℕ) (digits : List ℕ) → len % 8 ≡ 0 → HasSpareBit len digits → ⊥
-full_is_clean len digits full s =
-    let spare = spare_in_bytes len digits s in
-    let unused = s.unused in
-    omega arith

@@ -10,8 +10,8 @@ pub length-digits : (count y : ℕ) → length (digits count y) ≡ count
 length-digits zero y = refl
 length-digits (suc count) y = ap (λ n. suc n) (length-digits count y)
 
--- a remainder by 2 is the weight of the digit read from it
-weigh-rest : (n : ℕ) → n < 2 → weigh (n == 1) ≡ n
+-- a number below 2 is the weight of the bit read from it
+pub weigh-rest : (n : ℕ) → n < 2 → weigh (n == 1) ≡ n
 weigh-rest zero small = refl
 weigh-rest (suc zero) small = refl
 weigh-rest (suc (suc n)) small = absurd (omega arith)
@@ -47,7 +47,7 @@ number_from-digits (suc count) y =
     ∙ number_from-digits count y
 
 -- what is left of the number of some digits without them
-pub number_from-front : (front : ℕ) (shown : List Bool)
+number_from-front : (front : ℕ) (shown : List Bool)
     → number_from front shown / 2 ^ length shown ≡ front
 number_from-front front [] = omega arith
 number_from-front front (digit ∷ rest) =

@@ -83,8 +83,8 @@ fn digit(number: u64, place: usize) -> bool
     (number >> place) & 1 == 1
 }
 
-// How many zeros come before the first one, which the cursor moves past with them, or `None` where
-// more than 62 zeros come or no one.
+// How many zeros come before the first one, which the cursor moves past with them; `None` where
+// there are more than 62, or the bits end with them.
 fn zeros_ahead(cursor: &mut Cursor<'_>) -> Option<u64>
     ensures found { IfSome result (λ zeros. gamma_takes cursor.old ≡ behind_one zeros cursor.new) }
     ensures few { IfSome result (λ zeros. zeros ≤ 62) }

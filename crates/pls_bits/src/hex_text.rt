@@ -20,7 +20,7 @@ use pls_base::NoMemory;
 use std::alloc::Global;
 
 impl Bits<'_> {
-    /// The hex text of the bits. It is empty where there is no bit.
+    /// The hex text of the bits, empty where there is no bit. It fails only for want of memory.
     pub fn to_hex(&self, alloc: Global) -> Result<String, NoMemory>
         ensures { IfOk result (λ text. string_bytes text ≡ hex_digits self.now) }
     {
@@ -29,7 +29,8 @@ impl Bits<'_> {
     }
 }
 
-/// The `len` bits whose hex text `digits` is.
+/// The `len` bits whose hex text `digits` is. The error is the first of `Length`, `Digit` and
+/// `Spare` that holds, or `NoMemory`.
 pub fn from_hex(alloc: Global, len: usize, digits: &[u8]) -> Result<BitBuf, HexError>
     ensures long { IfOk result (λ buf. length buf ≡ len) }
     ensures written { IfOk result (λ buf. hex_digits buf ≡ digits.now) }
