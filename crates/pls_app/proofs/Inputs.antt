@@ -9,6 +9,7 @@ use Rattle.pls_model.specs.declared.row.NodeRow.{NodeRow}
 use Rattle.pls_model.specs.Configuration.{IsNetwork, ids_of}
 use Rattle.pls_model.specs.Walk.{IsConnected}
 use Rattle.pls_view.specs.Labels.{bits_in}
+use Rattle.pls_netfile.specs.Fault.{NamesFirstFault}
 use Rattle.pls_netfile.specs.Lines.{Left, IsFormFault}
 use Rattle.pls_netfile.specs.NetworkText.{AreRows, IsNetworkPart, network_lines, network_text}
 use Rattle.pls_netfile.specs.NetworkScan.{PassesNetwork, Written as WrittenNetwork, Tells as TellsNetwork}
@@ -25,12 +26,12 @@ use Rattle.pls_graph.specs.Connected.{IsFirstApart, smallest_id}
 use Rattle.pls_graph.proofs.Members.{Contains-first}
 use Rattle.pls_graph.proofs.Placed.{smallest_first}
 use Rattle.pls_app.specs.Input.{AreLabels, IsInput, IsInputLines, IsNetworkInput, IsReadable}
-use Rattle.pls_app.specs.Order.{IsFormError}
 use Rattle.pls_app.specs.Scanned.{IsScanned}
 
 -- a fault in the network part is the first fault of the input
 pub fault_in_network : (bytes : List ℕ) (old : Left) (error : TextError) → old.number ≡ 1
-    → old.rest ≡ bytes → IsFormFault IsNetworkPart old error → IsFormError IsInputLines bytes error
+    → old.rest ≡ bytes → IsFormFault IsNetworkPart old error
+    → NamesFirstFault IsInputLines bytes error
 fault_in_network bytes old error first rest fault =
     let none : All FitsLabel [] = λ k d within. absurd (omega (arith, within)) in (
       fault.0,
@@ -43,7 +44,7 @@ fault_in_network bytes old error first rest fault =
 -- a fault in the labels part
 pub fault_in_labels : (bytes : List ℕ) (old mid : Left) (network : WrittenNetwork)
     (error : TextError) → old.number ≡ 1 → old.rest ≡ bytes → PassesNetwork old mid network
-    → IsFormFault IsLabelsPart mid error → IsFormError IsInputLines bytes error
+    → IsFormFault IsLabelsPart mid error → NamesFirstFault IsInputLines bytes error
 fault_in_labels bytes old mid network error first rest passes fault = (
   fault.0,
   fault.1,
@@ -57,7 +58,7 @@ fault_in_labels bytes old mid network error first rest passes fault = (
 pub fault_left_over : (bytes : List ℕ) (old mid now : Left) (network : WrittenNetwork)
     (labels : WrittenLabels) → old.number ≡ 1 → old.rest ≡ bytes → PassesNetwork old mid network
     → PassesPart mid now labels → (now.rest ≡ [] → ⊥)
-    → IsFormError IsInputLines bytes (Form now.number)
+    → NamesFirstFault IsInputLines bytes (Form now.number)
 fault_left_over bytes old mid now network labels first rest passes passes_labels some = (
   now.number,
   refl,

@@ -15,9 +15,10 @@ use Rattle.pls_app.specs.declared.limits.TheConstants.{MAX_INPUT}
 use Rattle.pls_app.specs.Command.{command_of}
 use Rattle.pls_app.specs.Meaning.{HasProperty, IsMarked}
 use Rattle.pls_app.specs.Input.{IsInput, IsInputLines, IsNetworkInput, IsReadable, Reads}
-use Rattle.pls_app.specs.Order.{IsFirstRefusal, IsFormError, IsRefused, IsRefusedText, RefusesInput, RefusesNetwork, input_refusals, network_refusals}
+use Rattle.pls_app.specs.Order.{IsFirstRefusal, IsRefused, IsRefusedText, RefusesInput, RefusesNetwork, first_of, input_refusals, network_refusals}
 use Rattle.pls_app.specs.Answer.{Answer, Answers, AnswersWords, IsAnswer, Marks, Works, labelled, refusal}
-use Rattle.pls_model.specs.Configuration.{first_of, ids_of}
+use Rattle.pls_model.specs.Configuration.{ids_of}
+use Rattle.pls_netfile.specs.Fault.{NamesFirstFault}
 use Rattle.pls_netfile.specs.NetworkText.{AreRows, IsNetworkPart, network_lines, network_text}
 use Rattle.pls_netfile.proofs.Fronts.{text_of-append}
 use Rattle.pls_netfile.proofs.NetworkRows.{one_network, rows_are_part}
@@ -44,7 +45,7 @@ one_first refusals rows error other one two = elim one [
 
 -- a network part has no faulty line
 network_formed : (bytes : List ℕ) (rows : List NodeRow) (error : TextError) → AreRows rows
-    → bytes ≡ network_text rows → IsFormError IsNetworkPart bytes error → ⊥
+    → bytes ≡ network_text rows → NamesFirstFault IsNetworkPart bytes error → ⊥
 network_formed bytes rows error fits is fault =
     fault.2.2.none (network_lines rows) (rows_are_part rows fits) is
 
@@ -62,7 +63,7 @@ one_network_refusal bytes error other one two =
 -- a network part and a labels part have no faulty line
 input_formed : (bytes : List ℕ) (rows : List NodeRow) (labels : List NamedLabel) (error : TextError)
     → AreRows rows → All FitsLabel labels → bytes ≡ network_text rows ++ labels_text labels
-    → IsFormError IsInputLines bytes error → ⊥
+    → NamesFirstFault IsInputLines bytes error → ⊥
 input_formed bytes rows labels error fits_rows fits_labels is fault =
     fault.2.2.none (network_lines rows ++ labels_lines labels)
     (record {

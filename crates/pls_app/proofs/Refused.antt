@@ -8,7 +8,8 @@ use Rattle.pls_base.specs.declared.text_error.Quantity.{Quantity}
 use Rattle.pls_base.specs.declared.text_error.Quantity.TheVariants.{Input, Nodes, Ports, Bits, Events, Rounds, Labels}
 use Rattle.pls_model.specs.declared.row.NodeRow.{NodeRow}
 use Rattle.pls_model.specs.declared.limits.TheConstants.{MAX_NODES, MAX_PORTS}
-use Rattle.pls_model.specs.Configuration.{IsNetwork, first_of, ids_of, ports_in}
+use Rattle.pls_model.specs.Configuration.{IsNetwork, ids_of, ports_in}
+use Rattle.pls_netfile.specs.Fault.{NamesFirstFault}
 use Rattle.pls_netfile.specs.NetworkBuild.{Exceeds, IsRefusedBuild, IsSense}
 use Rattle.pls_netfile.specs.NetworkFile.{IsRefusedFile}
 use Rattle.pls_netfile.specs.NetworkText.{AreRows, IsNetworkPart, network_text}
@@ -18,7 +19,7 @@ use Rattle.pls_labelfile.specs.LabelsScan.{Written as WrittenLabels, Tells as Te
 use Rattle.pls_labelfile.specs.Misfit.{misfit}
 use Rattle.pls_labelfile.specs.Refusal.{IsRefusal, misfit_error, refusal_of as labels_refusal}
 use Rattle.pls_labelfile.specs.declared.limits.TheConstants.{MAX_BITS}
-use Rattle.pls_app.specs.Order.{IsApart, IsFormError, RefusesInput, RefusesNetwork, heading_of, input_refusals, limits_of, network_refusals, over}
+use Rattle.pls_app.specs.Order.{IsApart, RefusesInput, RefusesNetwork, first_of, heading_of, input_refusals, limits_of, network_refusals, over}
 use Rattle.pls_app.specs.Scanned.{IsScanned}
 use Rattle.pls_app.specs.Input.{AreLabels}
 use Rattle.pls_labelfile.proofs.Named.{named_no_misfit, total_bits-named}
@@ -124,7 +125,7 @@ sense_first rows error sense =
 
 -- a file that is refused
 pub network_refused : (bytes : List ℕ) (error : TextError) → IsRefusedFile bytes error
-    → error ≢ NoMemory → IsFormError IsNetworkPart bytes error ⊎ RefusesNetwork bytes error
+    → error ≢ NoMemory → NamesFirstFault IsNetworkPart bytes error ⊎ RefusesNetwork bytes error
 network_refused bytes (Form line) refused some = inl (line, refl, refused)
 network_refused bytes (Limit quantity) refused some =
     inr (record {

@@ -1,14 +1,14 @@
 -- Why an input is refused: the refusals in their order, of which the first that occurs is answered.
 use Rattle.std.specs.Prelude.{◌≡◌, ℕ, ◌+◌, ◌≤◌, ◌<◌, nat_lt, if◌then◌else◌, List, [], ◌∷◌, ◌++◌, length, All, Option, Some, None, option_map, ◌⊎◌}
 use Rattle.pls_base.specs.declared.text_error.TextError.{TextError}
-use Rattle.pls_base.specs.declared.text_error.TextError.TheVariants.{Form, Limit, Sense}
+use Rattle.pls_base.specs.declared.text_error.TextError.TheVariants.{Limit, Sense}
 use Rattle.pls_base.specs.declared.text_error.Quantity.{Quantity}
 use Rattle.pls_base.specs.declared.text_error.Quantity.TheVariants.{Input, Nodes, Ports, Bits}
 use Rattle.pls_model.specs.declared.row.NodeRow.{NodeRow}
 use Rattle.pls_model.specs.declared.limits.TheConstants.{MAX_NODES, MAX_PORTS}
 use Rattle.pls_model.specs.Configuration.{first_of, ids_of, ports_in, refusal_of}
 use Rattle.pls_graph.specs.Connected.{IsFirstApart}
-use Rattle.pls_netfile.specs.Fault.{IsFirstFault}
+use Rattle.pls_netfile.specs.Fault.{NamesFirstFault}
 use Rattle.pls_netfile.specs.NetworkBuild.{text_error_of}
 use Rattle.pls_netfile.specs.NetworkText.{AreRows, IsNetworkPart, network_lines, network_text}
 use Rattle.pls_labelfile.specs.LabelsText.{FitsLabel, NamedLabel, labels_text}
@@ -58,10 +58,6 @@ abbrev pub IsFirstRefusal : List (Option TextError) → List NodeRow → TextErr
 IsFirstRefusal refusals rows error =
     (first_of refusals ≡ Some error) ⊎ ((first_of refusals ≡ None) × IsApart rows error)
 
--- the error names the first line that is not of the lines of a format
-abbrev pub IsFormError : (List (List ℕ) → Type 0) → List ℕ → TextError → Type 0
-IsFormError format bytes error = (line : ℕ) × (error ≡ Form line) × IsFirstFault format bytes line
-
 -- the bytes are a network part, and this is why it is refused
 pub record RefusesNetwork (bytes : List ℕ) (error : TextError) : Type 0 where
   pub rows : List NodeRow
@@ -81,9 +77,9 @@ pub record RefusesInput (bytes : List ℕ) (error : TextError) : Type 0 where
 -- the parts that a command reads are refused: by their form, which comes first, or by what they say
 abbrev pub IsRefusedText : Command → List ℕ → TextError → Type 0
 IsRefusedText (Mark scheme) bytes error =
-    IsFormError IsNetworkPart bytes error ⊎ RefusesNetwork bytes error
+    NamesFirstFault IsNetworkPart bytes error ⊎ RefusesNetwork bytes error
 IsRefusedText (Verify scheme) bytes error =
-    IsFormError IsInputLines bytes error ⊎ RefusesInput bytes error
+    NamesFirstFault IsInputLines bytes error ⊎ RefusesInput bytes error
 
 -- the bytes are refused: they are too many, or else by the parts that they are to be
 abbrev pub IsRefused : Command → List ℕ → TextError → Type 0

@@ -3,8 +3,9 @@
 ghost use Rattle.std.specs.Prelude.{◌≡◌, ◌≢◌, ◌≤◌, IfErr, IfOk, OnOk, None, Some, length};
 ghost use Rattle.pls_model.specs.Configuration.{IsNetwork, first_of};
 ghost use Rattle.pls_model.specs.Walk.{IsConnected};
+ghost use Rattle.pls_netfile.specs.Fault.{NamesFirstFault};
 ghost use Rattle.pls_app.specs.Input.{IsInput, IsInputLines, IsNetworkInput};
-ghost use Rattle.pls_app.specs.Order.{IsApart, IsFormError, limits_of};
+ghost use Rattle.pls_app.specs.Order.{IsApart, first_of, limits_of};
 ghost use Rattle.pls_app.specs.Scanned.{Refuses, IsScanned};
 
 use crate::command::{Command, SchemeName};
@@ -80,7 +81,7 @@ fn test_connected(alloc: Global, net: &Network) -> Result<(), TextError>
 // The texts of the parts of an input, or the number of its first faulty line. It takes no memory.
 fn scan_parts<'a>(bytes: &'a [u8]) -> Result<(NetworkText<'a>, LabelsText<'a>), TextError>
     ensures scanned { IfOk result (λ parts. IsScanned bytes.now parts.0 parts.1) }
-    ensures form { IfErr result (λ error. IsFormError IsInputLines bytes.now error) }
+    ensures form { IfErr result (λ error. NamesFirstFault IsInputLines bytes.now error) }
 {
     let mut lines = Lines::new(bytes);
     let network = scan_network(&mut lines)?;

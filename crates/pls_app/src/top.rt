@@ -26,7 +26,7 @@ pub fn run<'w, S: Source, K: Sink>(
     // The status and the text are those of the answer to the words and the bytes.
     ensures text { (bytes : List ℕ) → S.left source.old ≡ Some bytes → IsAnswered result
         → Tells (map (λ word. word.now) words.now) bytes result
-            (K.taken sink.old) (K.taken sink.new) }
+        (K.taken sink.old) (K.taken sink.new) }
 
     // That answer comes, or want of memory, where no call on the source or the sink failed.
     ensures answers { (Rose (S.faults source.old) (S.faults source.new) → ⊥)

@@ -5,6 +5,7 @@ use Rattle.std.proofs.lemmas.List.Elements.{All-nil}
 use Rattle.pls_netfile.specs.Lines.{Left, Passes, Stands, IsFault}
 use Rattle.pls_netfile.proofs.Cuts.{each_back}
 use Rattle.pls_netfile.proofs.Frames.{fault_in_heading, fault_in_body}
+use Rattle.pls_netfile.proofs.NextLine.{neither}
 use Rattle.pls_labelfile.specs.LabelsText.{NamedLabel, FitsLabel, AreLabelLines, IsLabelsPart, label_line}
 use Rattle.pls_labelfile.specs.LabelLine.{IsLabelLine}
 use Rattle.pls_labelfile.proofs.LabelLines.{says_label}
@@ -43,25 +44,7 @@ fault_at_next old now labels fits passes no_label no_end =
     fault_in_body (codes "labels") AreLabelLines IsBodyLine body [] old now heading_plain
     labels_are_body passes
     (record { labels = labels; fits = fits; is = append-nil body })
-    (λ next. elim next.is [
-      | inl label ↦
-          no_label (record {
-            line = next.line;
-            after = next.after;
-            is = label;
-            plain = next.plain;
-            cut = next.cut;
-          })
-      | inr end ↦
-          no_end (record {
-            line = next.line;
-            after = next.after;
-            is = end;
-            plain = next.plain;
-            cut =
-                next.cut;
-          })
-    ])
+    (neither IsLabelLine (λ line. line ≡ codes "end") now.rest no_label no_end)
     (λ line next. elim next [
       | inl last ↦ inr last.1
       | inr more ↦ inl (body_line more.1.labels body line more.0 more.1.fits more.1.is)

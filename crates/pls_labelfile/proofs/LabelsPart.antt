@@ -3,9 +3,10 @@ use Rattle.std.proofs.Common.{◌≡◌, ◌≢◌, ℕ, List, [], ◌∷◌, �
 use Rattle.std.specs.List.{All, AllByRecursion}
 use Rattle.std.proofs.lemmas.List.Elements.{All-head, All-tail}
 use Rattle.pls_netfile.specs.Plain.{Lacks, ArePlain}
+use Rattle.pls_netfile.specs.Part.{IsPart}
 use Rattle.pls_netfile.proofs.Frames.{IsBody, framed_part}
 use Rattle.pls_netfile.proofs.Cuts.{same_first}
-use Rattle.pls_netfile.proofs.Parts.{IsPart, whole_once}
+use Rattle.pls_netfile.proofs.Parts.{whole_once}
 use Rattle.pls_labelfile.specs.LabelsText.{NamedLabel, FitsLabel, AreLabelLines, IsLabelsPart, label_line, labels_lines, labels_text}
 use Rattle.pls_labelfile.proofs.LabelLines.{label_plain, label_no_end, same_label}
 

@@ -1,14 +1,16 @@
 -- What a reader of labels has passed grows by one label more, and by the heading and the `end`.
-use Rattle.std.proofs.Common.{◌≡◌, ℕ, ◌+◌, ◌-◌, ◌≤◌, ◌^◌, List, [], ◌∷◌, ◌++◌, map, min, take, length, codes, refl, sym, ◌∙◌, ap, subst, length-append, arith}
-use Rattle.std.proofs.lemmas.List.{take_at}
+use Rattle.std.proofs.Common.{◌≡◌, ℕ, ◌+◌, ◌-◌, ◌≤◌, ◌^◌, List, [], ◌∷◌, ◌++◌, map, min, length, codes, refl, sym, ◌∙◌, subst, arith}
 use Rattle.std.proofs.lemmas.List.Sums.{sum_by_push}
 use Rattle.std.proofs.lemmas.List.Elements.{All-nil, All-push}
+use Rattle.pls_netfile.specs.Text.{text_of}
 use Rattle.pls_netfile.specs.Lines.{Left, Passes}
-use Rattle.pls_netfile.proofs.Passing.{passes_none, passes_push, passes_then}
-use Rattle.pls_labelfile.specs.LabelsText.{NamedLabel, FitsLabel, label_line, labels_lines, labels_text}
+use Rattle.pls_netfile.specs.Part.{PassesFormat}
+use Rattle.pls_netfile.proofs.Passing.{framed_passed, passes_none, passes_push, passes_then}
+use Rattle.pls_labelfile.specs.LabelsText.{NamedLabel, FitsLabel, IsLabelsPart, label_line, labels_lines}
 use Rattle.pls_labelfile.specs.LabelLine.{LabelWords, FitsWords, written_label}
 use Rattle.pls_labelfile.specs.LabelsScan.{IsTold, PassesLabels, PassesPart, Written, total_bits, capped}
 use Rattle.pls_labelfile.proofs.LabelLines.{label_of, label_of-line, label_fits}
+use Rattle.pls_labelfile.proofs.LabelsPart.{is_labels_part}
 
 -- no label was passed so far
 pub no_labels : (old : Left) → PassesLabels old old 0
@@ -40,39 +42,38 @@ one_label_more old mid new bits len words so_far fits passed same =
       sum = capped_push so_far.labels label bits len so_far.sum (fits.hex.long ∙ sym same);
     }
 
--- what was passed of a text is what it had and has no more
-front_text : (whole a b : List ℕ) → whole ≡ a ++ b → take (length whole - length b) whole ≡ a
-front_text whole a b e =
-    let count : length a ≡ length whole - length b =
-    omega (arith, ap length e, length-append a b) in
-    ap (take (length whole - length b)) e ∙ take_at a b (length whole - length b) count
+-- heading, labels and `end` are the lines of a labels part
+pub lines_passed : (old behind before new : Left) (bits : ℕ)
+    → Passes old behind (codes "labels" ∷ []) → (labels : PassesLabels behind before bits)
+    → Passes before new (codes "end" ∷ []) → Passes old new (labels_lines labels.labels)
+lines_passed old behind before new bits heading labels end =
+    framed_passed (codes "labels") (map label_line labels.labels) old behind before new heading
+    labels.passed end
 
--- heading, labels and `end` are a labels part
-pub part_passed : (old behind before new : Left) (number bits : ℕ) (start rest : List ℕ)
+-- and with their text and their place the part is kept
+pub part_passed : (old behind before new : Left) (number bits : ℕ) (text : List ℕ)
     → Passes old behind (codes "labels" ∷ []) → PassesLabels behind before bits
-    → Passes before new (codes "end" ∷ []) → number ≡ old.number → start ≡ old.rest
-    → rest ≡ new.rest
-    → PassesPart old new (record {
-      text = take (length start - length rest) start;
-      number = number;
-      bits = bits;
-    })
-part_passed old behind before new number bits start rest heading labels end numbers starts rests =
-    let body = map label_line labels.labels in
-    let passed : Passes old new (labels_lines labels.labels) =
-    passes_then old behind new (codes "labels" ∷ []) (body ++ codes "end" ∷ []) heading
-    (passes_then behind before new body (codes "end" ∷ []) labels.passed end) in
+    → Passes before new (codes "end" ∷ []) → number ≡ old.number
+    → ((lines : List (List ℕ)) → Passes old new lines → text ≡ text_of lines)
+    → PassesPart old new (record { text = text; number = number; bits = bits })
+part_passed old behind before new number bits text heading labels end numbers kept =
+    let passed = lines_passed old behind before new bits heading labels end in
     record {
       labels = labels.labels;
-      tells = record {
-        fits = labels.fits;
-        is = front_text start (labels_text labels.labels) rest
-            (starts ∙ passed.stands ∙ ap (λ more. labels_text labels.labels ++ more) (sym rests));
-      };
+      tells = record { fits = labels.fits; is = kept (labels_lines labels.labels) passed };
       passed = passed;
       heading = numbers;
       sum = labels.sum;
     }
+
+-- a labels part that was passed is of its form
+pub part_formed : (old new : Left) (written : Written) → PassesPart old new written
+    → PassesFormat IsLabelsPart old new
+part_formed old new written part = record {
+  lines = labels_lines part.labels;
+  is = is_labels_part part.labels part.tells.fits;
+  passed = part.passed;
+}
 
 -- the part that was passed says its labels
 pub part_told : (old behind before new : Left) (written : Written) (bits : ℕ)

@@ -1,5 +1,5 @@
 -- A text that is to be one labels part, read for the nodes of a network.
-use Rattle.std.proofs.Common.{◌≡◌, ℕ, ◌^◌, ◌↔◌, nat_lt, Bool, true, false, List, [], ◌++◌, length, Option, Some, None, Ok, Err, if◌then◌else◌, sym, ◌∙◌, ap, subst, append-nil, arith}
+use Rattle.std.proofs.Common.{◌≡◌, ℕ, ◌^◌, ◌↔◌, nat_lt, Bool, true, false, List, length, Option, Some, None, Ok, Err, if◌then◌else◌, sym, ◌∙◌, ap, subst, arith}
 use Rattle.std.specs.Prelude.{Result, IfErr, IfOk, OnOk}
 use Rattle.std.specs.Option.{option_map}
 use Rattle.std.specs.Result.{IsErrOf}
@@ -8,56 +8,24 @@ use Rattle.std.proofs.lemmas.Result.{IfErr-at_err}
 use Rattle.pls_base.specs.declared.text_error.TextError.{TextError}
 use Rattle.pls_base.specs.declared.text_error.TextError.TheVariants.{Form, Limit}
 use Rattle.pls_base.specs.declared.text_error.Quantity.TheVariants.{Bits}
-use Rattle.pls_netfile.specs.Fault.{IsFirstFault}
-use Rattle.pls_netfile.specs.Lines.{Left, IsFormFault}
-use Rattle.pls_netfile.proofs.WholeTexts.{fault_alone, fault_behind, fault_of_text, one_first_fault}
-use Rattle.pls_labelfile.specs.LabelsText.{NamedLabel, IsLabelsPart, labels_lines, labels_text, named}
-use Rattle.pls_labelfile.specs.LabelsScan.{IsWhole, PassesPart, Tells, Written, total_bits}
+use Rattle.pls_netfile.specs.Fault.{IsFirstFault, NamesFirstFault}
+use Rattle.pls_netfile.specs.Part.{PassesWhole}
+use Rattle.pls_netfile.proofs.WholeTexts.{same_fault, whole_text}
+use Rattle.pls_labelfile.specs.LabelsText.{NamedLabel, IsLabelsPart, labels_lines, named}
+use Rattle.pls_labelfile.specs.LabelsScan.{PassesPart, Tells, Written, total_bits}
 use Rattle.pls_labelfile.specs.Misfit.{misfit}
-use Rattle.pls_labelfile.specs.Refusal.{IsFormRefusal, IsRefusal, misfit_error, refusal_of}
+use Rattle.pls_labelfile.specs.Refusal.{IsRefusal, misfit_error, refusal_of}
 use Rattle.pls_labelfile.proofs.Filled.{bare}
 use Rattle.pls_labelfile.proofs.Misfits.{names_of}
 use Rattle.pls_labelfile.proofs.Named.{named-parts}
-use Rattle.pls_labelfile.proofs.LabelsPart.{labels_part, is_labels_part}
+use Rattle.pls_labelfile.proofs.LabelsPart.{is_labels_part}
 
--- a reader before line 1 names the first faulty line of the text
-pub form_refused : (text : List ℕ) (old : Left) (error : TextError) → old.number ≡ 1
-    → old.rest ≡ text
-    → IsFormFault IsLabelsPart old error → IsFormRefusal text error
-form_refused text old error first rest fault = (
-  fault.0,
-  fault.1,
-  fault_of_text IsLabelsPart text old fault.0 first rest
-      (fault_alone IsLabelsPart old fault.0 labels_part fault.2),
-)
-
--- and so where something is left over
-pub left_refused : (text : List ℕ) (old now : Left) (written : Written) (error : TextError)
-    → old.number ≡ 1 → old.rest ≡ text → PassesPart old now written → (now.rest ≡ [] → ⊥)
-    → error ≡ Form now.number → IsFormRefusal text error
-left_refused text old now written error first rest part some is = (
-  now.number,
-  is,
-  fault_of_text IsLabelsPart text old now.number first rest
-      (fault_behind IsLabelsPart (labels_lines part.labels) old now labels_part
-      (is_labels_part part.labels part.tells.fits) part.passed some),
-)
-
--- the text that was passed is all of the text
-pub part_is_whole : (text : List ℕ) (old now : Left) (written : Written) → old.number ≡ 1
-    → old.rest ≡ text
-    → PassesPart old now written → now.rest ≡ [] → IsWhole text written
-part_is_whole text old now written first rest part none =
-    let all : labels_text part.labels ≡ text =
-    sym (append-nil (labels_text part.labels))
-    ∙ ap (λ (more : List ℕ). labels_text part.labels ++ more) (sym none) ∙ sym part.passed.stands
-    ∙ rest in
-    record {
-      labels = part.labels;
-      tells = record { fits = part.tells.fits; is = sym all };
-      all = part.tells.is ∙ all;
-      first = part.heading ∙ first;
-    }
+-- a text that is one labels part is the one that was kept of it
+whole_kept : (text : List ℕ) (written : Written) → PassesWhole PassesPart text written
+    → text ≡ written.text
+whole_kept text written whole =
+    whole_text text whole.now (labels_lines whole.passed.labels) whole.passed.passed whole.none
+    ∙ sym whole.passed.tells.is
 
 -- a text with a first faulty line says no labels
 pub no_labels_told : (text : List ℕ) (line : ℕ) → IsFirstFault IsLabelsPart text line
@@ -83,21 +51,28 @@ refusal_no_form ids heading labels line e =
 
 module _ (answer : Result (List (List Bool)) TextError) (text : List ℕ) where
   -- the answer to a text with a first faulty line
-  pub form_alone : (error : TextError) → answer ≡ Err error → IsFormRefusal text error
+  pub form_alone : (error : TextError) → answer ≡ Err error
+      → NamesFirstFault IsLabelsPart text error
       → (line : ℕ) → IsErrOf answer (Form line) ↔ IsFirstFault IsLabelsPart text line
   form_alone error is refusal line =
       let form : answer ≡ Err (Form refusal.0) = is ∙ ap (λ (e : TextError). Err e) refusal.1 in (
         λ e. let same : refusal.0 ≡ line =
             cc in subst (IsFirstFault IsLabelsPart text) same refusal.2,
         λ other.
-            form ∙ ap (λ (n : ℕ). Err (Form n))
-            (one_first_fault IsLabelsPart text refusal.0 line refusal.2 other),
+            is ∙ ap (λ (e : TextError). Err e)
+            (same_fault IsLabelsPart text error line refusal other),
       )
 
-  module _ (ids : List ℕ) (written : Written) (whole : IsWhole text written) where
-    -- labels of the text are those of the part
-    told : Tells written.text whole.labels
-    told = subst (λ (t : List ℕ). Tells t whole.labels) (sym whole.all) whole.tells
+  module _ (ids : List ℕ) (written : Written) (whole : PassesWhole PassesPart text written) where
+    -- the labels of the text, which are those of the part
+    abbrev labels : List NamedLabel
+    labels = whole.passed.labels
+
+    told : Tells written.text labels
+    told = whole.passed.tells
+
+    tells : Tells text labels
+    tells = subst (λ (t : List ℕ). Tells t labels) (sym (whole_kept text written whole)) told
 
     -- the answer to a text of labels is no form
     pub form_never : ((labels : List NamedLabel) → Tells written.text labels
@@ -105,10 +80,10 @@ module _ (answer : Result (List (List Bool)) TextError) (text : List ℕ) where
         → (line : ℕ) → IsErrOf answer (Form line) ↔ IsFirstFault IsLabelsPart text line
     form_never refused line = (
       λ e.
-          absurd (refusal_no_form ids written.number whole.labels line
-          (IfErr-at_err (λ error. IsRefusal ids written.number whole.labels error) e
-          (refused whole.labels told))),
-      λ fault. absurd (no_labels_told text line fault whole.labels whole.tells),
+          absurd (refusal_no_form ids written.number labels line
+          (IfErr-at_err (λ error. IsRefusal ids written.number labels error) e
+          (refused labels told))),
+      λ fault. absurd (no_labels_told text line fault labels tells),
     )
 
     module _ (bits : (labels : List NamedLabel) → Tells written.text labels
@@ -117,24 +92,24 @@ module _ (answer : Result (List (List Bool)) TextError) (text : List ℕ) where
         → OnOk answer (names_of labels ≡ ids)) where
       -- the bits of labels that name the nodes say the text
       pub store_told : IfOk answer (λ store. Tells text (named ids store))
-      store_told = by answer (bits whole.labels told) (names whole.labels told)
+      store_told = by answer (bits labels told) (names labels told)
         where
           by : (a : Result (List (List Bool)) TextError)
-              → IfOk a (λ store. store ≡ bare whole.labels)
-              → OnOk a (names_of whole.labels ≡ ids)
+              → IfOk a (λ store. store ≡ bare labels)
+              → OnOk a (names_of labels ≡ ids)
               → IfOk a (λ store. Tells text (named ids store))
           by (Err error) bits names = tt
           by (Ok store) bits names =
-              subst (Tells text) (sym (rw (bits, ← names) (named-parts whole.labels))) whole.tells
+              subst (Tells text) (sym (rw (bits, ← names) (named-parts labels))) tells
 
       -- and there is one label for each node
       pub store_long : (count : ℕ) → length ids ≡ count
           → IfOk answer (λ store. length store ≡ count)
-      store_long count long = by answer (bits whole.labels told) (names whole.labels told)
+      store_long count long = by answer (bits labels told) (names labels told)
         where
           by : (a : Result (List (List Bool)) TextError)
-              → IfOk a (λ store. store ≡ bare whole.labels)
-              → OnOk a (names_of whole.labels ≡ ids) → IfOk a (λ store. length store ≡ count)
+              → IfOk a (λ store. store ≡ bare labels)
+              → OnOk a (names_of labels ≡ ids) → IfOk a (λ store. length store ≡ count)
           by (Err error) bits names = tt
           by (Ok store) bits names =
               omega (
@@ -142,6 +117,6 @@ module _ (answer : Result (List (List Bool)) TextError) (text : List ℕ) where
                 long,
                 ap length bits,
                 ap length names,
-                length-map whole.labels (λ label. label.bits),
-                length-map whole.labels (λ label. label.id),
+                length-map labels (λ label. label.bits),
+                length-map labels (λ label. label.id),
               )

@@ -43,10 +43,3 @@ pub record PassesPart (old new : Left) (written : Written) : Type 0 where
   pub passed : Passes old new (labels_lines labels)
   pub heading : written.number ≡ old.number
   pub sum : written.bits ≡ capped (total_bits labels)
-
--- the part is all of the text, and was read from its first line
-pub record IsWhole (text : List ℕ) (written : Written) : Type 0 where
-  pub labels : List NamedLabel
-  pub tells : Tells text labels
-  pub all : written.text ≡ text
-  pub first : written.number ≡ 1

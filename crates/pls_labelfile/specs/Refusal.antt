@@ -1,10 +1,9 @@
 -- With which error the labels of a text are refused for the nodes of a network.
 use Rattle.std.specs.Prelude.{◌≡◌, ℕ, ◌+◌, ◌^◌, nat_lt, if◌then◌else◌, List, Option, Some, option_map}
 use Rattle.pls_base.specs.declared.text_error.TextError.{TextError}
-use Rattle.pls_base.specs.declared.text_error.TextError.TheVariants.{Form, Limit, NoMemory, Sense}
+use Rattle.pls_base.specs.declared.text_error.TextError.TheVariants.{Limit, NoMemory, Sense}
 use Rattle.pls_base.specs.declared.text_error.Quantity.TheVariants.{Bits}
-use Rattle.pls_netfile.specs.Fault.{IsFirstFault}
-use Rattle.pls_labelfile.specs.LabelsText.{IsLabelsPart, NamedLabel}
+use Rattle.pls_labelfile.specs.LabelsText.{NamedLabel}
 use Rattle.pls_labelfile.specs.LabelsScan.{total_bits}
 use Rattle.pls_labelfile.specs.Misfit.{misfit}
 
@@ -24,7 +23,3 @@ refusal_of ids heading labels =
 abbrev pub IsRefusal : List ℕ → ℕ → List NamedLabel → TextError → Type 0
 IsRefusal ids heading labels NoMemory = Unit {0}
 IsRefusal ids heading labels error = refusal_of ids heading labels ≡ Some error
-
--- the refusal is one of form, and names the first line of the text that is not of the form
-abbrev pub IsFormRefusal : List ℕ → TextError → Type 0
-IsFormRefusal text error = (line : ℕ) × (error ≡ Form line) × IsFirstFault IsLabelsPart text line

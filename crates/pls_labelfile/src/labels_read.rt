@@ -5,14 +5,13 @@ ghost use Rattle.std.specs.Result.{IsErrOf};
 ghost use Rattle.pls_model.specs.Configuration.{ids_of};
 ghost use Rattle.pls_netfile.specs.Fault.{IsFirstFault};
 ghost use Rattle.pls_labelfile.specs.LabelsText.{IsLabelsPart, NamedLabel, named};
-ghost use Rattle.pls_labelfile.specs.LabelsScan.{IsWhole, Tells};
-ghost use Rattle.pls_labelfile.specs.Refusal.{IsFormRefusal, IsRefusal, refusal_of};
+ghost use Rattle.pls_labelfile.specs.LabelsScan.{Tells};
+ghost use Rattle.pls_labelfile.specs.Refusal.{IsRefusal, refusal_of};
 
-use crate::labels_scan::scan_labels;
 use crate::labels_text::LabelsText;
 use pls_base::TextError;
 use pls_graph::Network;
-use pls_netfile::Lines;
+use pls_netfile::read_whole;
 use pls_view::LabelStore;
 use std::alloc::Global;
 
@@ -20,6 +19,7 @@ use std::alloc::Global;
 ///
 /// `Form` with the number of the first line that is not of the form, which may stand behind `end`;
 /// else the refusals of [`LabelsText::build`].
+#[tactic(auto, using(crate::proofs::LabelsPart::labels_part))]
 pub fn read_labels(alloc: Global, text: &[u8], net: &Network) -> Result<LabelStore, TextError>
     ensures ok { IfOk result (λ store. Tells text.now (named (ids_of net.now) store)) }
     ensures lengths { IfOk result (λ store. length store ≡ length net.now) }
@@ -32,19 +32,6 @@ pub fn read_labels(alloc: Global, text: &[u8], net: &Network) -> Result<LabelSto
     ensures form { (line : ℕ) → IsErrOf result (TextError.Form line)
         ↔ IsFirstFault IsLabelsPart text.now line }
 {
-    let part = scan_whole(text)?;
+    let part = read_whole::<LabelsText<'_>>(text)?;
     part.build(alloc, net)
-}
-
-// Scans a text that is one labels part and nothing more.
-fn scan_whole(text: &[u8]) -> Result<LabelsText<'_>, TextError>
-    ensures ok { IfOk result (λ part. IsWhole text.now part) }
-    ensures form { IfErr result (λ error. IsFormRefusal text.now error) }
-{
-    let mut lines = Lines::new(text);
-    let part = scan_labels(&mut lines)?;
-    if !lines.at_end() {
-        return Err(lines.form_error());
-    }
-    Ok(part)
 }

@@ -9,7 +9,7 @@ ghost use Rattle.pls_labelfile.specs.LabelsScan.{PassesLabels, PassesPart};
 use crate::label_line::LabelLine;
 use crate::labels_text::LabelsText;
 use pls_base::TextError;
-use pls_netfile::{Lines, next_of};
+use pls_netfile::{Lines, Part, next_of, scan};
 
 /// Reads one labels part, which the reader passes. It takes no memory.
 ///
@@ -20,28 +20,23 @@ pub fn scan_labels<'a>(lines: &mut Lines<'a>) -> Result<LabelsText<'a>, TextErro
     ensures form { IfErr result (λ error. IsFormFault IsLabelsPart lines.old error) }
     ensures unchanged { OnErr result (lines.new ≡ lines.old) }
 {
-    let mut ahead = lines.again();
-    let part = pass_part(&mut ahead)?;
-    *lines = ahead;
-    Ok(part)
+    scan(lines)
 }
 
-// Passes a labels part, or stops in front of its first faulty line.
-fn pass_part<'a>(lines: &mut Lines<'a>) -> Result<LabelsText<'a>, TextError>
-    ensures ok { IfOk result (λ part. PassesPart lines.old lines.new part) }
-    ensures form { IfErr result (λ error. IsFormFault IsLabelsPart lines.old error) }
-{
-    let start = lines.rest();
-    let number = lines.number();
-    if !lines.pass(b"labels") {
-        return Err(lines.form_error());
+impl<'a> Part<'a> for LabelsText<'a> {
+    ghost Format = { IsLabelsPart };
+
+    ghost Passed = { PassesPart };
+
+    fn pass(lines: &mut Lines<'a>) -> Result<Self, TextError> {
+        let start = lines.again();
+        lines.expect(b"labels")?;
+        let bits = pass_labels(lines);
+        lines.expect(b"end")?;
+        let text = lines.since(&start);
+        let number = start.number();
+        Ok(LabelsText { text, number, bits })
     }
-    let bits = pass_labels(lines);
-    if !lines.pass(b"end") {
-        return Err(lines.form_error());
-    }
-    let text = &start[..start.len() - lines.rest().len()];
-    Ok(LabelsText { text, number, bits })
 }
 
 // Passes the label lines that stand next, as many as there are, and answers how many bits the

@@ -3,8 +3,9 @@ use Rattle.std.proofs.Common.{◌≡◌, ℕ, ◌+◌, ◌⊎◌, List, [], ◌�
 use Rattle.pls_netfile.specs.Plain.{Lacks, ArePlain}
 use Rattle.pls_netfile.specs.Lines.{Left, Passes, Stands, IsFault}
 use Rattle.pls_netfile.specs.Frame.{part_lines, IsFramed}
+use Rattle.pls_netfile.specs.Part.{IsPart}
 use Rattle.pls_netfile.proofs.Cuts.{each-append, same_first, one_begins}
-use Rattle.pls_netfile.proofs.Parts.{IsPart, faulty}
+use Rattle.pls_netfile.proofs.Parts.{faulty}
 
 -- each body has plain lines, none of which is `end`
 pub record IsBody (Body : List (List ℕ) → Type 0) : Type 0 where

@@ -8,6 +8,7 @@ use Rattle.pls_netfile.specs.NetworkText.{FitsPort, FitsRow, AreRows, AreRowLine
 use Rattle.pls_netfile.specs.NetworkLine.{IsNodeLine, IsPortLine}
 use Rattle.pls_netfile.proofs.Cuts.{each_back}
 use Rattle.pls_netfile.proofs.Frames.{fault_in_heading, fault_in_body}
+use Rattle.pls_netfile.proofs.NextLine.{neither}
 use Rattle.pls_netfile.proofs.NetworkRows.{node_of, each_row_line, rows_are_body, network_plain}
 
 -- a row that fits
@@ -85,30 +86,6 @@ body_line rows front line more fits e =
     (λ port port_fits. inr (inl (record { value = port; fits = port_fits; is = refl })))
     rows fits.each in
     (each_back IsBodyLine front (line ∷ more) (subst (AllByRecursion IsBodyLine) (sym e) each)).0
-
--- no line of a kind stands next, where none of one kind nor of another does
-neither : (P Q : List ℕ → Type 0) (text : List ℕ) → (Stands P text → ⊥) → (Stands Q text → ⊥)
-    → Stands (λ line. P line ⊎ Q line) text → ⊥
-neither P Q text no_p no_q next = elim next.is [
-  | inl p ↦
-      no_p (record {
-        line = next.line;
-        after = next.after;
-        is = p;
-        plain = next.plain;
-        cut =
-            next.cut;
-      })
-  | inr q ↦
-      no_q (record {
-        line = next.line;
-        after = next.after;
-        is = q;
-        plain = next.plain;
-        cut =
-            next.cut;
-      })
-]
 
 -- behind some rows a node line, a port line or `end` is due
 pub fault_at_next : (old now : Left) (rows : List NodeRow) → AreRows rows

@@ -1,5 +1,5 @@
 -- A text that is one network part and nothing more: its first fault, and the network that it says.
-use Rattle.std.proofs.Common.{◌≡◌, ℕ, List, [], Result, Ok, Err, IfOk, IfErr, MatchResult, refl, sym, ◌∙◌, ap, subst, append-nil, arith}
+use Rattle.std.proofs.Common.{◌≡◌, ℕ, List, [], Result, Ok, Err, IfOk, IfErr, MatchResult, refl, sym, ◌∙◌, subst, append-nil, arith}
 use Rattle.pls_base.specs.declared.text_error.TextError.{TextError}
 use Rattle.pls_base.specs.declared.text_error.TextError.TheVariants.{Form, Limit, Sense, NoMemory}
 use Rattle.pls_base.specs.declared.text_error.Quantity.{Quantity}
@@ -7,42 +7,12 @@ use Rattle.pls_base.specs.declared.text_error.Quantity.TheVariants.{Input, Nodes
 use Rattle.pls_model.specs.declared.row.NodeRow.{NodeRow}
 use Rattle.pls_model.specs.Configuration.{IsNetwork}
 use Rattle.pls_netfile.specs.Fault.{IsFirstFault}
-use Rattle.pls_netfile.specs.Lines.{Left, IsFormFault}
+use Rattle.pls_netfile.specs.Part.{PassesWhole}
 use Rattle.pls_netfile.specs.NetworkText.{AreRows, IsNetworkPart, network_lines, network_text}
-use Rattle.pls_netfile.specs.NetworkScan.{Written, Tells, IsTold, PassesNetwork}
+use Rattle.pls_netfile.specs.NetworkScan.{Written, Tells, PassesNetwork}
 use Rattle.pls_netfile.specs.NetworkBuild.{Exceeds, IsRefusedBuild}
-use Rattle.pls_netfile.specs.NetworkFile.{NamesFirstFault}
-use Rattle.pls_netfile.proofs.NetworkRows.{network_is_part, rows_are_part, one_network}
-use Rattle.pls_netfile.proofs.WholeTexts.{fault_alone, fault_behind, fault_of_text, one_first_fault}
-
--- a fault of the part is the first of the text
-pub fault_in_part : (text : List ℕ) (old : Left) (error : TextError) → old.number ≡ 1
-    → old.rest ≡ text
-    → IsFormFault IsNetworkPart old error → NamesFirstFault text error
-fault_in_part text old error first rest fault = (
-  fault.0,
-  fault.1,
-  fault_of_text IsNetworkPart text old fault.0 first rest
-      (fault_alone IsNetworkPart old fault.0 network_is_part fault.2),
-)
-
--- a line behind the part is the first faulty one of the text
-pub line_behind : (text : List ℕ) (old now : Left) (part : Written) (error : TextError)
-    → old.number ≡ 1 → old.rest ≡ text → PassesNetwork old now part → (now.rest ≡ [] → ⊥)
-    → error ≡ Form now.number → NamesFirstFault text error
-line_behind text old now part error first rest passes some is = (
-  now.number,
-  is,
-  fault_of_text IsNetworkPart text old now.number first rest
-      (fault_behind IsNetworkPart (network_lines passes.rows) old now network_is_part
-      (rows_are_part passes.rows passes.tells.fits) passes.passed some),
-)
-
--- a text has no other first faulty line than the one that is named
-pub same_fault : (text : List ℕ) (error : TextError) (line : ℕ) → NamesFirstFault text error
-    → IsFirstFault IsNetworkPart text line → error ≡ Form line
-same_fault text error line names fault =
-    names.1 ∙ ap Form (one_first_fault IsNetworkPart text names.0 line names.2 fault)
+use Rattle.pls_netfile.proofs.NetworkRows.{rows_are_part, one_network}
+use Rattle.pls_netfile.proofs.WholeTexts.{whole_text}
 
 -- the text of rows has no faulty line
 pub none_faulty : (text : List ℕ) (rows : List NodeRow) (line : ℕ) → AreRows rows
@@ -51,15 +21,22 @@ pub none_faulty : (text : List ℕ) (rows : List NodeRow) (line : ℕ) → AreRo
 none_faulty text rows line fits says fault =
     fault.2.none (network_lines rows) (rows_are_part rows fits) says
 
+-- a text that is one network part is that of its rows
+pub text_of_whole : (text : List ℕ) (written : Written)
+    → (whole : PassesWhole PassesNetwork text written) → text ≡ network_text whole.passed.rows
+text_of_whole text written whole =
+    whole_text text whole.now (network_lines whole.passed.rows) whole.passed.passed whole.none
+
 -- a text that says these rows says no others
-pub tells_these : (text : List ℕ) (written : Written) (rows : List NodeRow) → IsTold written
-    → written.text ≡ text
-    → AreRows rows → text ≡ network_text rows → Tells written rows
-tells_these text written rows told whole fits says =
-    let same = (one_network told.rows rows [] [] told.tells.fits fits
-    (append-nil (network_text told.rows) ∙ sym told.tells.text ∙ whole ∙ says
+pub tells_these : (text : List ℕ) (written : Written) (rows : List NodeRow)
+    → PassesWhole PassesNetwork text written → AreRows rows → text ≡ network_text rows
+    → Tells written rows
+tells_these text written rows whole fits says =
+    let part = whole.passed in
+    let same = (one_network part.rows rows [] [] part.tells.fits fits
+    (append-nil (network_text part.rows) ∙ sym (text_of_whole text written whole) ∙ says
     ∙ sym (append-nil (network_text rows)))).0 in
-    subst (Tells written) same told.tells
+    subst (Tells written) same part.tells
 
 none_exceeds : (rows : List NodeRow) (quantity : Quantity) → IsNetwork rows → Exceeds rows quantity
     → ⊥

@@ -11,10 +11,10 @@ use Rattle.pls_netfile.specs.Text.{text_of}
 use Rattle.pls_netfile.specs.Lines.{Stands}
 use Rattle.pls_netfile.specs.NetworkText.{FitsPort, FitsRow, AreRows, AreRowLines, node_line, port_line, row_lines, network_lines, network_text, IsNetworkPart}
 use Rattle.pls_netfile.specs.NetworkLine.{FitsNode, IsNodeLine, IsPortLine}
+use Rattle.pls_netfile.specs.Part.{IsPart}
 use Rattle.pls_netfile.proofs.Cuts.{each-append, same_first}
 use Rattle.pls_netfile.proofs.Fronts.{text_of-append, first_line, same_line}
 use Rattle.pls_netfile.proofs.Frames.{IsBody, end_plain, framed_part}
-use Rattle.pls_netfile.proofs.Parts.{IsPart}
 use Rattle.pls_netfile.proofs.NetworkLines.{node_plain, port_plain, node_no_end, port_no_end, node_no_port, end_no_port, end_no_node, same_port, same_node}
 
 -- the node of a row that fits

@@ -1,5 +1,5 @@
 -- When no line of a kind stands next.
-use Rattle.std.proofs.Common.{ℕ, List, [], ◌∷◌, sym, ◌∙◌, subst}
+use Rattle.std.proofs.Common.{ℕ, ◌⊎◌, List, [], ◌∷◌, sym, ◌∙◌, subst, inl, inr}
 use Rattle.pls_netfile.specs.Plain.{Lacks}
 use Rattle.pls_netfile.specs.Lines.{Left, Passes, Stands}
 use Rattle.pls_netfile.proofs.Cuts.{same_first, lacks_here}
@@ -16,3 +16,21 @@ other_line Kind old new line passes plain other next =
     let cut = same_first 10 next.line line next.after new.rest next.plain plain
     (sym next.cut ∙ passes.stands ∙ first_line line [] new.rest) in
     other (subst Kind cut.0 next.is)
+
+-- none of one kind stands next, and none of another
+pub neither : (P Q : List ℕ → Type 0) (text : List ℕ) → (Stands P text → ⊥) → (Stands Q text → ⊥)
+    → Stands (λ line. P line ⊎ Q line) text → ⊥
+neither P Q text no_p no_q next = by next.is
+  where
+    stands : (Kind : List ℕ → Type 0) → Kind next.line → Stands Kind text
+    stands Kind is = record {
+      line = next.line;
+      after = next.after;
+      is = is;
+      plain = next.plain;
+      cut = next.cut;
+    }
+
+    by : P next.line ⊎ Q next.line → ⊥
+    by (inl p) = no_p (stands P p)
+    by (inr q) = no_q (stands Q q)

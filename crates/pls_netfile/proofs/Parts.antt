@@ -6,13 +6,9 @@ use Rattle.pls_netfile.specs.Plain.{Lacks, ArePlain}
 use Rattle.pls_netfile.specs.Text.{text_of}
 use Rattle.pls_netfile.specs.Lines.{Stands}
 use Rattle.pls_netfile.specs.Fault.{Begins, Awaits, FaultAt, FirstFault}
+use Rattle.pls_netfile.specs.Part.{IsPart}
 use Rattle.pls_netfile.proofs.Cuts.{each_front}
 use Rattle.pls_netfile.proofs.Fronts.{text_of-append, further, one_more}
-
--- no line of the format's texts has a line feed, and none of its texts begins another
-pub record IsPart (format : List (List ℕ) → Type 0) : Type 0 where
-  pub plain : (lines : List (List ℕ)) → format lines → ArePlain lines
-  pub own : (a b x y : List (List ℕ)) → format a → format b → a ++ x ≡ b ++ y → a ≡ b
 
 -- the front of a text of the format has plain lines
 plain_front : (format : List (List ℕ) → Type 0) (a b : List (List ℕ)) → IsPart format

@@ -1,12 +1,10 @@
 -- A reader that passes lines, and then more.
-use Rattle.std.proofs.Common.{◌≡◌, ℕ, ◌+◌, ◌≤◌, List, [], ◌∷◌, ◌++◌, map, length, refl, sym, ◌∙◌, ap, subst, append_assoc, length-append, arith}
-use Rattle.std.specs.List.{All}
+use Rattle.std.proofs.Common.{ℕ, ◌+◌, ◌≤◌, List, [], ◌∷◌, ◌++◌, map, codes, refl, sym, ◌∙◌, ap, subst, append_assoc, length-append, arith}
 use Rattle.std.proofs.lemmas.List.{map_push, length-map}
 use Rattle.std.proofs.lemmas.List.Elements.{All-nil, All-push}
 use Rattle.pls_netfile.specs.Text.{text_of}
-use Rattle.pls_base.specs.declared.text_error.TextError.{TextError}
-use Rattle.pls_base.specs.declared.text_error.TextError.TheVariants.{Form}
-use Rattle.pls_netfile.specs.Lines.{Left, Passes, IsFault, IsFormFault}
+use Rattle.pls_netfile.specs.Frame.{part_lines}
+use Rattle.pls_netfile.specs.Lines.{Left, Passes}
 use Rattle.pls_netfile.specs.LineKind.{PassesAll}
 use Rattle.pls_netfile.proofs.Fronts.{text_of-append}
 
@@ -25,12 +23,13 @@ passes_then old mid new front back p q = record {
   number = omega (arith, p.number, q.number, length-append front back);
 }
 
--- a refusal that names the line in front of which the reader stopped
-pub names_line : (format : List (List ℕ) → Type 0) (old now stopped : Left) (error : TextError)
-    → error ≡ Form stopped.number → stopped ≡ now → IsFault format old now.number
-    → IsFormFault format old error
-names_line format old now stopped error is same fault =
-    (now.number, is ∙ ap (λ left. Form left.number) same, fault)
+-- heading, body and `end` are a part
+pub framed_passed : (heading : List ℕ) (body : List (List ℕ)) (old behind before new : Left)
+    → Passes old behind (heading ∷ []) → Passes behind before body
+    → Passes before new (codes "end" ∷ []) → Passes old new (part_lines heading body)
+framed_passed heading body old behind before new first passed last =
+    passes_then old behind new (heading ∷ []) (body ++ codes "end" ∷ []) first
+    (passes_then behind before new body (codes "end" ∷ []) passed last)
 
 -- the lines of some values, and then of one more
 pub passes_push : {X : Type 0} (written : X

@@ -1,20 +1,22 @@
 -- A reader of a network part that passes one row more, and one that has passed all.
-use Rattle.std.proofs.Common.{◌≡◌, ℕ, ◌≢◌, ◌+◌, ◌-◌, ◌≤◌, List, [], ◌∷◌, ◌++◌, map, take, length, codes, refl, sym, ◌∙◌, ap, subst, append-nil, length-append, arith}
-use Rattle.std.specs.List.{All, flat_map}
-use Rattle.std.proofs.lemmas.List.{length-map, take_at}
+use Rattle.std.proofs.Common.{◌≡◌, ℕ, ◌≢◌, ◌+◌, List, [], ◌∷◌, ◌++◌, map, length, codes, refl, sym, ◌∙◌, ap, subst, append-nil, length-append, arith}
+use Rattle.std.specs.List.{flat_map}
+use Rattle.std.proofs.lemmas.List.{length-map}
 use Rattle.std.proofs.lemmas.List.Sums.{sum_by-cons, sum_by_push}
 use Rattle.std.proofs.lemmas.List.Concat.{flat_map-append}
 use Rattle.std.proofs.lemmas.List.Elements.{All-nil, All-push}
-use Rattle.pls_model.specs.declared.row.Port.{Port}
 use Rattle.pls_model.specs.declared.row.State.{State}
 use Rattle.pls_model.specs.declared.row.NodeRow.{NodeRow}
 use Rattle.pls_netfile.specs.Lines.{Left, Passes}
-use Rattle.pls_netfile.specs.NetworkText.{FitsPort, FitsRow, AreRows, node_line, port_line, row_lines, network_lines, network_text}
+use Rattle.pls_netfile.specs.NetworkText.{FitsPort, FitsRow, AreRows, IsNetworkPart, node_line, port_line, row_lines, network_lines}
 use Rattle.pls_netfile.specs.NetworkLine.{FitsNode}
-use Rattle.pls_netfile.specs.NetworkScan.{PassesRow, PassesRows, PassesNetwork}
+use Rattle.pls_netfile.specs.NetworkScan.{PassesRow, PassesRows, PassesNetwork, Written}
+use Rattle.pls_netfile.specs.Part.{PassesFormat}
+use Rattle.pls_netfile.specs.Text.{text_of}
 use Rattle.pls_netfile.specs.LineKind.{PassesAll}
 use Rattle.pls_model.specs.Configuration.{ports_in}
-use Rattle.pls_netfile.proofs.Passing.{passes_none, passes_then}
+use Rattle.pls_netfile.proofs.NetworkRows.{rows_are_part}
+use Rattle.pls_netfile.proofs.Passing.{framed_passed, passes_none, passes_then}
 
 -- a node line and the ports behind it are a row
 pub row_passed : (old mid new : Left) (id : ℕ) (state : State) (ports : ℕ) → FitsNode id state
@@ -99,32 +101,38 @@ first_place old behind now nodes ports heading rows none =
     (no_lines rows.rows (sym none ∙ rows.many)))
     (next_place old behind now nodes ports heading rows)
 
--- what was passed of a text is what it had and has no more
-front_text : (whole a b : List ℕ) → whole ≡ a ++ b → take (length whole - length b) whole ≡ a
-front_text whole a b e =
-    let count : length a ≡ length whole - length b =
-    omega (arith, ap length e, length-append a b) in
-    ap (take (length whole - length b)) e ∙ take_at a b (length whole - length b) count
+-- heading, rows and `end` are the lines of a network part
+pub lines_passed : (old behind before new : Left) (nodes ports : ℕ)
+    → Passes old behind (codes "network" ∷ []) → (rows : PassesRows behind before nodes ports)
+    → Passes before new (codes "end" ∷ []) → Passes old new (network_lines rows.rows)
+lines_passed old behind before new nodes ports heading rows end =
+    framed_passed (codes "network") (flat_map row_lines rows.rows) old behind before new heading
+    rows.passed end
 
--- heading, rows and `end` are a network part
-pub network_passed : (old behind before new : Left) (nodes ports : ℕ) (start rest : List ℕ)
+-- and with their text the part is kept
+pub network_passed : (old behind before new : Left) (nodes ports : ℕ) (text : List ℕ)
     → Passes old behind (codes "network" ∷ []) → PassesRows behind before nodes ports
-    → Passes before new (codes "end" ∷ []) → nodes ≢ 0 → start ≡ old.rest → rest ≡ new.rest
-    → PassesNetwork old new (record
-    { text = take (length start - length rest) start; nodes = nodes; ports = ports })
-network_passed old behind before new nodes ports start rest heading rows end some starts rests =
-    let body = flat_map row_lines rows.rows in
-    let passed : Passes old new (network_lines rows.rows) =
-    passes_then old behind new (codes "network" ∷ []) (body ++ codes "end" ∷ []) heading
-    (passes_then behind before new body (codes "end" ∷ []) rows.passed end) in
+    → Passes before new (codes "end" ∷ []) → nodes ≢ 0
+    → ((lines : List (List ℕ)) → Passes old new lines → text ≡ text_of lines)
+    → PassesNetwork old new (record { text = text; nodes = nodes; ports = ports })
+network_passed old behind before new nodes ports text heading rows end some kept =
+    let passed = lines_passed old behind before new nodes ports heading rows end in
     record {
       rows = rows.rows;
       tells = record {
         fits = rows_some behind before nodes ports rows some;
-        text = front_text start (network_text rows.rows) rest
-            (starts ∙ passed.stands ∙ ap (λ more. network_text rows.rows ++ more) (sym rests));
+        text = kept (network_lines rows.rows) passed;
         nodes = rows.many;
         ports = rows.sum;
       };
       passed = passed;
     }
+
+-- a network part that was passed is of its form
+pub network_formed : (old new : Left) (written : Written) → PassesNetwork old new written
+    → PassesFormat IsNetworkPart old new
+network_formed old new written part = record {
+  lines = network_lines part.rows;
+  is = rows_are_part part.rows part.tells.fits;
+  passed = part.passed;
+}

@@ -4,9 +4,10 @@ use Rattle.std.proofs.lemmas.List.{append_cancel_left}
 use Rattle.pls_netfile.specs.Plain.{Lacks, ArePlain}
 use Rattle.pls_netfile.specs.Text.{text_of}
 use Rattle.pls_netfile.specs.Fault.{Begins, FaultAt, FirstFault, Then}
+use Rattle.pls_netfile.specs.Part.{IsPart}
 use Rattle.pls_netfile.proofs.Cuts.{each-append, each_front, one_begins}
 use Rattle.pls_netfile.proofs.Fronts.{text_of-append, further}
-use Rattle.pls_netfile.proofs.Parts.{IsPart, no_whole, whole_once}
+use Rattle.pls_netfile.proofs.Parts.{no_whole, whole_once}
 
 module _ (first second : List (List ℕ) → Type 0) where
   -- two parts in turn are a part

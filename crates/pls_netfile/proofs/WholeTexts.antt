@@ -1,15 +1,24 @@
 -- First faults of a whole text, by the numbers of its lines.
-use Rattle.std.proofs.Common.{◌≡◌, ℕ, ◌+◌, List, [], ◌++◌, length, sym, ◌∙◌, subst, append-nil, arith}
+use Rattle.std.proofs.Common.{◌≡◌, ℕ, ◌+◌, List, [], ◌++◌, length, sym, ◌∙◌, ap, subst, append-nil, arith}
 use Rattle.pls_netfile.specs.Text.{text_of}
-use Rattle.pls_netfile.specs.Lines.{Left, Passes, IsFault}
-use Rattle.pls_netfile.specs.Fault.{FirstFault, IsFirstFault, Then}
-use Rattle.pls_netfile.proofs.Parts.{IsPart, first_fault, no_whole, whole_once, left_over, one_fault}
+use Rattle.pls_base.specs.declared.text_error.TextError.{TextError}
+use Rattle.pls_base.specs.declared.text_error.TextError.TheVariants.{Form}
+use Rattle.pls_netfile.specs.Lines.{Left, Passes, IsFault, IsFormFault}
+use Rattle.pls_netfile.specs.Fault.{FirstFault, IsFirstFault, NamesFirstFault, Then}
+use Rattle.pls_netfile.specs.Part.{IsPart, PassesFormat}
+use Rattle.pls_netfile.proofs.Parts.{first_fault, no_whole, whole_once, left_over, one_fault}
 use Rattle.pls_netfile.proofs.Sequences.{fault_of_first, fault_of_second}
 
 -- the line of this number is the first faulty one of all that is left to a reader
 abbrev pub FirstFaultFrom : (List (List ℕ) → Type 0) → Left → ℕ → Type 0
 FirstFaultFrom format old k =
     (count : ℕ) × (k ≡ old.number + count) × FirstFault format old.rest count
+
+-- a text is that of the lines that were passed, where nothing is left
+pub whole_text : (text : List ℕ) (now : Left) (lines : List (List ℕ))
+    → Passes (record { number = 1; rest = text }) now lines → now.rest ≡ [] → text ≡ text_of lines
+whole_text text now lines passed none =
+    passed.stands ∙ ap (λ rest. text_of lines ++ rest) none ∙ append-nil (text_of lines)
 
 module _ (format : List (List ℕ) → Type 0) where
   -- the fault of the one part that is due
@@ -39,6 +48,27 @@ module _ (format : List (List ℕ) → Type 0) where
         fault.2,
   )
 
+  -- a fault in the part is the first of the text
+  pub fault_in_part : (text : List ℕ) (old : Left) (error : TextError) → IsPart format
+      → old.number ≡ 1 → old.rest ≡ text → IsFormFault format old error
+      → NamesFirstFault format text error
+  fault_in_part text old error part first rest fault = (
+    fault.0,
+    fault.1,
+    fault_of_text text old fault.0 first rest (fault_alone old fault.0 part fault.2),
+  )
+
+  -- a line behind the part is the first faulty one of the text
+  pub line_behind : (text : List ℕ) (old now : Left) (error : TextError) → IsPart format
+      → old.number ≡ 1 → old.rest ≡ text → PassesFormat format old now → (now.rest ≡ [] → ⊥)
+      → error ≡ Form now.number → NamesFirstFault format text error
+  line_behind text old now error part first rest passes some is = (
+    now.number,
+    is,
+    fault_of_text text old now.number first rest
+        (fault_behind passes.lines old now part passes.is passes.passed some),
+  )
+
   -- a text of a part, and what may follow, has no fault in the part
   pub no_fault : (lines : List (List ℕ)) (rest : List ℕ) (old : Left) (k : ℕ) → IsPart format
       → format lines
@@ -57,6 +87,12 @@ module _ (format : List (List ℕ) → Type 0) where
   pub one_first_fault : (text : List ℕ) (j k : ℕ) → IsFirstFault format text j
       → IsFirstFault format text k → j ≡ k
   one_first_fault text j k p q = omega (arith, p.1, q.1, one_fault format text p.0 q.0 p.2 q.2)
+
+  -- and no other than the one that is named
+  pub same_fault : (text : List ℕ) (error : TextError) (line : ℕ)
+      → NamesFirstFault format text error → IsFirstFault format text line → error ≡ Form line
+  same_fault text error line names fault =
+      names.1 ∙ ap Form (one_first_fault text names.0 line names.2 fault)
 
 module _ (first second : List (List ℕ) → Type 0) where
   -- a fault in the first of two parts

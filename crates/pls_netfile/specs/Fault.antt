@@ -1,6 +1,8 @@
 -- The first faulty line of a text. A format is a fact about lists of lines: those that are its
 -- texts.
 use Rattle.std.specs.Prelude.{◌≡◌, ℕ, ◌+◌, List, ◌∷◌, ◌++◌, length}
+use Rattle.pls_base.specs.declared.text_error.TextError.{TextError}
+use Rattle.pls_base.specs.declared.text_error.TextError.TheVariants.{Form}
 use Rattle.pls_netfile.specs.Text.{text_of}
 
 -- the first lines of the text, so many of them and each finished, begin a text of the format
@@ -37,6 +39,10 @@ pub record FirstFault (format : List (List ℕ) → Type 0) (text : List ℕ) (c
 -- line number k, counted from 1, is the first faulty line of the text
 abbrev pub IsFirstFault : (List (List ℕ) → Type 0) → List ℕ → ℕ → Type 0
 IsFirstFault format text k = (count : ℕ) × (k ≡ count + 1) × FirstFault format text count
+
+-- the refusal is one of form, and names the first faulty line of the text
+abbrev pub NamesFirstFault : (List (List ℕ) → Type 0) → List ℕ → TextError → Type 0
+NamesFirstFault format text error = (line : ℕ) × (error ≡ Form line) × IsFirstFault format text line
 
 -- a text of one format, and then a text of another
 pub record Then (first second : List (List ℕ) → Type 0) (lines : List (List ℕ)) : Type 0 where

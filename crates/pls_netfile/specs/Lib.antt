@@ -3,6 +3,7 @@ pub mod Plain
 pub mod Fault
 pub mod Lines
 pub mod LineKind
+pub mod Part
 pub mod Frame
 pub mod NetworkText
 pub mod NetworkLine

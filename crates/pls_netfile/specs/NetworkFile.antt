@@ -7,10 +7,6 @@ use Rattle.pls_netfile.specs.Fault.{IsFirstFault}
 use Rattle.pls_netfile.specs.NetworkText.{AreRows, IsNetworkPart, network_text}
 use Rattle.pls_netfile.specs.NetworkBuild.{IsRefusedBuild}
 
--- the refusal is one of form, and names the first faulty line of the text
-abbrev pub NamesFirstFault : List ℕ → TextError → Type 0
-NamesFirstFault text error = (line : ℕ) × (error ≡ Form line) × IsFirstFault IsNetworkPart text line
-
 -- the text is a network part, and this is why its rows are no network
 pub record SaysNoNetwork (text : List ℕ) (error : TextError) : Type 0 where
   pub rows : List NodeRow

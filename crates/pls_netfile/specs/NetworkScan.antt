@@ -1,10 +1,9 @@
 -- What a reader of a network part has passed, and what it keeps of the part.
-use Rattle.std.specs.Prelude.{◌≡◌, ℕ, List, map, flat_map, length, All}
-use Rattle.pls_model.specs.declared.row.Port.{Port}
+use Rattle.std.specs.Prelude.{◌≡◌, ℕ, List, flat_map, length, All}
 use Rattle.pls_model.specs.declared.row.NodeRow.{NodeRow}
 use Rattle.pls_model.specs.Configuration.{ports_in}
 use Rattle.pls_netfile.specs.Lines.{Left, Passes}
-use Rattle.pls_netfile.specs.NetworkText.{FitsPort, FitsRow, AreRows, port_line, row_lines, network_lines, network_text}
+use Rattle.pls_netfile.specs.NetworkText.{FitsRow, AreRows, row_lines, network_lines, network_text}
 
 -- the text of a network, and how many nodes and ports it has
 pub record Written : Type 0 where

@@ -11,6 +11,11 @@
 //! a body of lines, and the line `end`. `proofs/Frames` has the faults of such a part, and
 //! `proofs/WholeTexts` those of a whole text of one part or of several in turn.
 //!
+//! A [`Part`] says which format it has and what is kept of its lines. [`scan`] reads the part that
+//! stands next, and [`read_whole`] the part that a text is; they take no memory, and name the first
+//! faulty line. A part is passed by [`Lines::expect`] for its heading and its `end`, and
+//! [`Lines::since`] lends the text that was passed.
+//!
 //! `specs/NetworkText` says how a network is written. [`scan_network`] passes one network part, or
 //! names its first faulty line; the [`NetworkText`] that it gives lends the text, counts its nodes
 //! and ports, gives their rows, and builds their network. [`read_network`] and [`write_network`]
@@ -32,6 +37,7 @@ mod network_rows;
 mod network_scan;
 mod network_text;
 mod network_write;
+mod part;
 mod round_trips;
 #[cfg(test)]
 mod tests;
@@ -46,6 +52,7 @@ pub use network_line::{NodeLine, pointer_then, read_state};
 pub use network_scan::scan_network;
 pub use network_text::NetworkText;
 pub use network_write::write_network;
+pub use part::{Part, read_whole, scan};
 pub use pls_base::NoMemory;
 pub use round_trips::{read_written, write_read};
 pub use words::{after_word, is_same, last_u32, number_then, u32_then};

@@ -1,9 +1,10 @@
 //! The lines of a text, lent one after another.
 
-ghost use Rattle.std.specs.Prelude.{◌≡◌, ◌↔◌, ◌<◌, ◌≤◌, ◌^◌, [], ◌∷◌, length, IfNone, IfSome, IsTrue};
+ghost use Rattle.std.specs.Prelude.{◌≡◌, ◌↔◌, ℕ, ◌<◌, ◌≤◌, ◌^◌, List, [], ◌∷◌, length, IfErr, IfNone, IfSome, IsTrue, OnErr, OnOk};
 ghost use Rattle.std.specs.Bool.{OnFalse, OnTrue};
 ghost use Rattle.pls_base.specs.declared.text_error.TextError.TheVariants.{Form};
 ghost use Rattle.pls_netfile.specs.Plain.{Lacks};
+ghost use Rattle.pls_netfile.specs.Text.{text_of};
 ghost use Rattle.pls_netfile.specs.Lines.{Passes, Stands};
 
 use crate::cut::cut_at;
@@ -97,6 +98,15 @@ impl<'a> Lines<'a> {
         Some(line)
     }
 
+    /// The text between an earlier place of the same text and this one.
+    pub fn since(&self, start: &Lines<'a>) -> &'a [u8]
+        requires { (lines : List (List ℕ)) × Passes start.now self.now lines }
+        ensures { (lines : List (List ℕ)) → Passes start.now self.now lines
+            → result.now ≡ text_of lines }
+    {
+        &start.rest[..start.rest.len() - self.rest.len()]
+    }
+
     /// Passes the next line if it is this one, and answers whether it was; else the reader stays.
     pub fn pass(&mut self, line: &[u8]) -> bool
         ensures passed { OnTrue result (Passes self.old self.new (line.now ∷ [])) }
@@ -109,6 +119,21 @@ impl<'a> Lines<'a> {
             true
         } else {
             false
+        }
+    }
+
+    /// Passes the next line if it is this one; else the refusal that names it, and the reader
+    /// stays.
+    pub fn expect(&mut self, line: &[u8]) -> Result<(), TextError>
+        ensures passed { OnOk result (Passes self.old self.new (line.now ∷ [])) }
+        ensures other { OnErr result (Stands (λ next. next ≡ line.now) self.old.rest → ⊥) }
+        ensures form { IfErr result (λ error. error ≡ Form self.old.number) }
+        ensures unchanged { OnErr result (self.new ≡ self.old) }
+    {
+        if self.pass(line) {
+            Ok(())
+        } else {
+            Err(self.form_error())
         }
     }
 }

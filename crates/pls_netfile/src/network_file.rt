@@ -6,12 +6,10 @@ ghost use Rattle.pls_model.specs.declared.row.NodeRow.{NodeRow};
 ghost use Rattle.pls_model.specs.Configuration.{IsNetwork};
 ghost use Rattle.pls_netfile.specs.Fault.{IsFirstFault};
 ghost use Rattle.pls_netfile.specs.NetworkText.{AreRows, IsNetworkPart, network_text};
-ghost use Rattle.pls_netfile.specs.NetworkScan.{IsTold};
-ghost use Rattle.pls_netfile.specs.NetworkFile.{IsRefusedFile, NamesFirstFault};
+ghost use Rattle.pls_netfile.specs.NetworkFile.{IsRefusedFile};
 
-use crate::lines::Lines;
-use crate::network_scan::scan_network;
 use crate::network_text::NetworkText;
+use crate::part::read_whole;
 use pls_base::TextError;
 use pls_graph::Network;
 use std::alloc::Global;
@@ -20,6 +18,7 @@ use std::alloc::Global;
 ///
 /// `Form` with the number of the first line that is not of the form, as is a line after `end`;
 /// where there is none, the refusals of [`NetworkText::build`].
+#[tactic(auto, using(crate::proofs::NetworkRows::network_is_part))]
 pub fn read_network(alloc: Global, text: &[u8]) -> Result<Network, TextError>
     ensures text { IfOk result (λ network. text.now ≡ network_text network) }
     ensures fits { IfOk result (λ network. AreRows network) }
@@ -31,20 +30,6 @@ pub fn read_network(alloc: Global, text: &[u8]) -> Result<Network, TextError>
         → text.now ≡ network_text rows
         → MatchResult result (λ network. network ≡ rows) (λ error. error ≡ NoMemory) }
 {
-    let part = scan_whole(text)?;
+    let part = read_whole::<NetworkText<'_>>(text)?;
     part.build(alloc)
-}
-
-// The network part that the whole text is.
-fn scan_whole(text: &[u8]) -> Result<NetworkText<'_>, TextError>
-    ensures told { IfOk result (λ part. IsTold part) }
-    ensures whole { IfOk result (λ part. part.text ≡ text.now) }
-    ensures form { IfErr result (λ error. NamesFirstFault text.now error) }
-{
-    let mut lines = Lines::new(text);
-    let part = scan_network(&mut lines)?;
-    if !lines.at_end() {
-        return Err(lines.form_error());
-    }
-    Ok(part)
 }

@@ -10,6 +10,7 @@ use crate::line_kind::{count_of, next_of};
 use crate::lines::Lines;
 use crate::network_line::NodeLine;
 use crate::network_text::NetworkText;
+use crate::part::{Part, scan};
 use pls_base::TextError;
 use pls_model::Port;
 
@@ -22,30 +23,25 @@ pub fn scan_network<'a>(lines: &mut Lines<'a>) -> Result<NetworkText<'a>, TextEr
     ensures form { IfErr result (λ error. IsFormFault IsNetworkPart lines.old error) }
     ensures unchanged { OnErr result (lines.new ≡ lines.old) }
 {
-    let mut ahead = lines.again();
-    let part = pass_network(&mut ahead)?;
-    *lines = ahead;
-    Ok(part)
+    scan(lines)
 }
 
-// Passes a network part, or stops in front of its first faulty line.
-fn pass_network<'a>(lines: &mut Lines<'a>) -> Result<NetworkText<'a>, TextError>
-    ensures ok { IfOk result (λ part. PassesNetwork lines.old lines.new part) }
-    ensures form { IfErr result (λ error. IsFormFault IsNetworkPart lines.old error) }
-{
-    let start = lines.rest();
-    if !lines.pass(b"network") {
-        return Err(lines.form_error());
+impl<'a> Part<'a> for NetworkText<'a> {
+    ghost Format = { IsNetworkPart };
+
+    ghost Passed = { PassesNetwork };
+
+    fn pass(lines: &mut Lines<'a>) -> Result<Self, TextError> {
+        let start = lines.again();
+        lines.expect(b"network")?;
+        let (nodes, ports) = pass_rows(lines);
+        if nodes == 0 {
+            return Err(lines.form_error());
+        }
+        lines.expect(b"end")?;
+        let text = lines.since(&start);
+        Ok(NetworkText { text, nodes, ports })
     }
-    let (nodes, ports) = pass_rows(lines);
-    if nodes == 0 {
-        return Err(lines.form_error());
-    }
-    if !lines.pass(b"end") {
-        return Err(lines.form_error());
-    }
-    let text = &start[..start.len() - lines.rest().len()];
-    Ok(NetworkText { text, nodes, ports })
 }
 
 // Passes the rows that stand next, as many as there are, and answers how many nodes and ports they
