@@ -9,8 +9,8 @@ use Rattle.pls_model.specs.declared.row.NodeRow.{NodeRow}
 use Rattle.pls_model.specs.Configuration.{IsNetwork, ids_of}
 use Rattle.pls_model.specs.Walk.{edges_of}
 use Rattle.pls_graph.specs.Size.{size_of}
+use Rattle.pls_graph.specs.Levels.{IsLevel}
 use Rattle.pls_graph.proofs.Members.{Contains-from_map, Contains-from_place, Contains-map}
-use Rattle.pls_search.specs.Levels.{IsLevel}
 use Rattle.pls_view.specs.Seen.{label_of}
 use Rattle.pls_scheme.specs.Judging.{AllAccept}
 use Rattle.pls_scheme.specs.Reading.{said, said_port}

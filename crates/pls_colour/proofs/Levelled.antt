@@ -5,7 +5,7 @@ use Rattle.std.proofs.lemmas.Option.{slice_get-get_or, slice_get_within}
 use Rattle.pls_model.specs.declared.row.NodeRow.{NodeRow}
 use Rattle.pls_model.specs.Configuration.{IsNetwork}
 use Rattle.pls_model.specs.Walk.{IsConnected, edges_of}
-use Rattle.pls_search.specs.Levels.{AreLevels, IsLevel}
+use Rattle.pls_graph.specs.Levels.{AreLevels, IsLevel}
 use Rattle.pls_graph.proofs.Members.{place_from_Contains}
 use Rattle.pls_graph.proofs.Placed.{place_of_row}
 use Rattle.pls_view.specs.Seen.{Seen, label_of}

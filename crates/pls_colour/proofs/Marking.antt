@@ -5,10 +5,10 @@ use Rattle.pls_model.specs.declared.row.Port.{Port}
 use Rattle.pls_model.specs.declared.row.NodeRow.{NodeRow}
 use Rattle.pls_model.specs.Configuration.{IsNetwork, row_of}
 use Rattle.pls_model.specs.Walk.{Adjacent, edges_of}
+use Rattle.pls_graph.specs.Levels.{IsLevel}
 use Rattle.pls_graph.proofs.Adjacent.{Adjacent-port}
 use Rattle.pls_graph.proofs.Members.{Contains-from_place, place_from_Contains}
 use Rattle.pls_graph.proofs.Placed.{neighbour_found, row_place}
-use Rattle.pls_search.specs.Levels.{IsLevel}
 use Rattle.pls_view.specs.Seen.{label_of}
 use Rattle.pls_scheme.specs.Judging.{AllAccept}
 use Rattle.pls_scheme.specs.Reading.{said, said_port}

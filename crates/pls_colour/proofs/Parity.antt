@@ -2,7 +2,7 @@
 use Rattle.std.proofs.Common.{◌≡◌, ◌≢◌, ◌∙◌, ℕ, suc, ◌%◌, Bool, true, false, not, List, [], ◌∷◌, length, inl, inr, refl, sym, ap, arith}
 use Rattle.std.proofs.lemmas.Bool.{eqb-true, eqb-false, eq-eqb, ne_eqb}
 use Rattle.pls_model.specs.Walk.{Edge, Adjacent, Walk}
-use Rattle.pls_search.specs.Levels.{IsLevel}
+use Rattle.pls_graph.specs.Levels.{IsLevel}
 use Rattle.pls_colour.specs.Bipartite.{Colours}
 use Rattle.pls_colour.specs.Marked.{is_odd}
 

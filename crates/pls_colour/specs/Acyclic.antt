@@ -7,7 +7,7 @@ use Rattle.pls_model.specs.declared.row.NodeRow.{NodeRow}
 use Rattle.pls_model.specs.declared.verdict.Verdict.{Verdict}
 use Rattle.pls_model.specs.Walk.{edges_of}
 use Rattle.pls_graph.specs.declared.size.Size.{Size}
-use Rattle.pls_search.specs.Levels.{IsLevel}
+use Rattle.pls_graph.specs.Levels.{IsLevel}
 use Rattle.pls_view.specs.Seen.{Seen}
 use Rattle.pls_scheme.specs.Length.{code_length}
 use Rattle.pls_scheme.specs.Numbers.{AreCodesOf, numbers_in}

@@ -3,7 +3,7 @@ use Rattle.std.specs.Prelude.{◌≡◌, ℕ, Bool, false, List, length, slice_g
 use Rattle.std.specs.Option.{option_map_or}
 use Rattle.pls_model.specs.declared.row.NodeRow.{NodeRow}
 use Rattle.pls_model.specs.Walk.{edges_of}
-use Rattle.pls_search.specs.Levels.{IsLevel}
+use Rattle.pls_graph.specs.Levels.{IsLevel}
 use Rattle.pls_scheme.specs.Reading.{ReadPort, read_port}
 
 -- the label of each node, in the order of the rows, says its level from the first one

@@ -2,7 +2,7 @@
 use Rattle.std.specs.Prelude.{◌≡◌, ℕ, ◌%◌, ◌==◌, Bool, List, [], ◌∷◌, length, slice_get, Some}
 use Rattle.pls_model.specs.declared.row.NodeRow.{NodeRow}
 use Rattle.pls_model.specs.Walk.{edges_of}
-use Rattle.pls_search.specs.Levels.{IsLevel}
+use Rattle.pls_graph.specs.Levels.{IsLevel}
 
 -- the number is odd
 abbrev pub is_odd : ℕ → Bool

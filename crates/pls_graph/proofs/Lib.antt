@@ -7,9 +7,10 @@ mod Tables
 mod Mutual
 mod Greatest
 pub mod Joined
-mod Spreading
-mod Reaches
-mod Apart
 pub mod Valid
 pub mod Placed
 pub mod Adjacent
+mod Gaining
+mod Beside
+mod Searched
+mod Apart

@@ -2,4 +2,6 @@ pub mod Build
 pub mod Ways
 pub mod Size
 pub mod Connected
-pub mod Reach
+pub mod Places
+pub mod Levels
+pub mod Search

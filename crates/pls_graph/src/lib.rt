@@ -1,9 +1,10 @@
 //! Networks. A [`Network`] is seen as the list of its rows and holds that they are a network:
-//! [`Network::build`] names why rows are none, and a caller needs no premise afterwards, since `valid`
-//! of [`Network::len`] says what holds. Places count the rows from 0; identities rise with them.
+//! [`Network::build`] names why rows are none, and a caller needs no premise afterwards, since
+//! `valid` of [`Network::len`] says what holds. Places count the rows from 0; identities rise with
+//! them.
 //!
-//! [`Network::size`] tells how large a network is, and [`connected`] whether its edges join all
-//! nodes.
+//! [`Network::size`] tells how large a network is, [`levels`] the fewest edges from a node to each,
+//! and [`connected`], by the levels from the first node, whether the edges join all nodes.
 //!
 //! Proofs above may cite `proofs/Placed` (rows and ports are found by their identities, and each
 //! port has a port back), `proofs/Valid` (one fact for each refusal), `proofs/Adjacent` (nodes are
@@ -11,6 +12,7 @@
 //! `proofs/Members` and `proofs/Finds`.
 #![tactic(auto)]
 
+mod breadth;
 mod index;
 mod network;
 mod reach;
@@ -19,6 +21,7 @@ mod size;
 #[cfg(test)]
 mod tests;
 
+pub use breadth::levels;
 pub use network::Network;
 pub use pls_model::{BuildError, NodePorts, NodeRow, Port, State};
 pub use reach::connected;

@@ -1,5 +1,2 @@
-mod Gaining
-mod Beside
-mod Searched
 mod Pointed
 mod Noted

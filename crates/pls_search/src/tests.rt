@@ -1,9 +1,9 @@
-//! The levels and the chains of pointers of a small network, with memory enough.
+//! The chains of pointers of a small network, with memory enough.
 
 ghost use Rattle.std.specs.Prelude.{◌≡◌, IfOk};
 ghost use Rattle.pls_model.specs.Configuration.{AreWithinLimits};
 
-use crate::{levels, pointer_depths};
+use crate::pointer_depths;
 use pls_graph::{Network, NodePorts, NodeRow, Port, State};
 use std::alloc::{AllocError, Global};
 use std::test::Fail;
@@ -48,20 +48,6 @@ fn network(alloc: Global, ups: [Option<u32>; 3]) -> Result<Network, Fail> {
         Ok(net) => Ok(net),
         Err(_) => Err(Fail::from("refused")),
     }
-}
-
-#[test]
-fn levels_along_a_path(rt: HostRuntime) -> Result<(), Fail> {
-    let net = network(rt.alloc(), [None, None, None])?;
-    let found = match levels(rt.alloc(), &net, 0) {
-        Ok(found) => found,
-        Err(_) => return Err(Fail::from("no memory")),
-    };
-    assert_eq!(rt;
-        found.as_slice(),
-        [Some(0), Some(1), Some(2), None].as_slice()
-    );
-    Ok(())
 }
 
 /// The pointers of the path, and the depths of all nodes where no chain returns.

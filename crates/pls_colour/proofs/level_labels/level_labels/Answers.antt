@@ -1,5 +1,5 @@
 use Rattle.std.proofs.Common.{subst, sym}
-use Rattle.pls_search.specs.Levels.{AreLevels}
+use Rattle.pls_graph.specs.Levels.{AreLevels}
 use Rattle.pls_colour.proofs.Levelled.{spelled_levels}
 use Rattle.pls_colour.proofs.level_labels.level_labels.Goals as goal
 

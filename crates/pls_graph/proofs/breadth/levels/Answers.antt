@@ -4,9 +4,9 @@ use Rattle.std.proofs.lemmas.Bool.{eqb-true, eqb-false}
 use Rattle.std.proofs.lemmas.Option.{slice_get-get_or}
 use Rattle.std.proofs.lemmas.List.{nil_from_length}
 use Rattle.pls_graph.proofs.Members.{Contains-from_place}
-use Rattle.pls_search.specs.Search.{Gains, all_beside}
-use Rattle.pls_search.proofs.Searched.{Searched, within_found, Searched-first, Searched-more, AreLevels-end}
-use Rattle.pls_search.proofs.breadth.levels.Goals as goal
+use Rattle.pls_graph.specs.Search.{Gains, all_beside}
+use Rattle.pls_graph.proofs.Searched.{Searched, within_found, Searched-first, Searched-more, AreLevels-end}
+use Rattle.pls_graph.proofs.breadth.levels.Goals as goal
 
 pub loop-alloc-init : goal.loop-alloc-init
 loop-alloc-init c =

@@ -1,10 +1,10 @@
 use Rattle.std.proofs.Common.{◌≡◌, ◌∙◌, ◌++◌, [], ◌∷◌, ℕ, ◌+◌, sym, ap, subst, get_or, take}
 use Rattle.std.proofs.lemmas.List.{map-append, take_more}
 use Rattle.pls_model.specs.declared.row.Port.{Port}
-use Rattle.pls_graph.specs.Reach.{place_in, named_places}
-use Rattle.pls_search.specs.Search.{Gains}
-use Rattle.pls_search.proofs.Gaining.{Gains-append}
-use Rattle.pls_search.proofs.breadth.Search.enter_named.Goals as goal
+use Rattle.pls_graph.specs.Places.{place_in, named_places}
+use Rattle.pls_graph.specs.Search.{Gains}
+use Rattle.pls_graph.proofs.Gaining.{Gains-append}
+use Rattle.pls_graph.proofs.breadth.Search.enter_named.Goals as goal
 
 pub loop-port-preserved : goal.loop-port-preserved
 loop-port-preserved c =

@@ -3,8 +3,8 @@
 use Rattle.std.specs.Prelude.{◌≡◌, ℕ, ◌+◌, ◌⊎◌, List, [], length, count_by, flat_map, Contains, slice_get, slice_index_or, Option, Some, None}
 use Rattle.std.specs.Option.{is_none, option_map_or}
 use Rattle.pls_model.specs.declared.row.NodeRow.{NodeRow}
-use Rattle.pls_graph.specs.Reach.{named_places}
-use Rattle.pls_search.specs.declared.breadth.Search.{Search}
+use Rattle.pls_graph.specs.Places.{named_places}
+use Rattle.pls_graph.specs.declared.breadth.Search.{Search}
 
 -- what is found so far at a place
 abbrev pub found_at : List (Option ℕ) → ℕ → Option ℕ

@@ -7,7 +7,7 @@ use Rattle.std.proofs.lemmas.List.{length-set}
 use Rattle.std.proofs.lemmas.List.Sums.{sum_by-set}
 use Rattle.std.proofs.lemmas.List.Elements.{Contains-append_left, Contains-append_right, Contains-append_cases, Contains-push, Contains-push_cases}
 use Rattle.pls_graph.proofs.Finds.{None-is_some}
-use Rattle.pls_search.specs.Search.{found_at, HasLevel, Gains}
+use Rattle.pls_graph.specs.Search.{found_at, HasLevel, Gains}
 
 -- no place
 pub Gains-none : (found : List (Option ℕ)) (next : List ℕ) (level : ℕ)
@@ -102,11 +102,13 @@ module _ (found : List (Option ℕ)) (next : List ℕ) (level place : ℕ) where
     abbrev nothing : Option ℕ
     nothing = None
 
-    here : HasLevel (set found place entry) place level
+    abbrev later : List (Option ℕ)
+    later = set found place entry
+
+    here : HasLevel later place level
     here = get_or-set_same found place entry nothing within
 
-    elsewhere : (other : ℕ) → (place ≡ other → ⊥)
-        → found_at (set found place entry) other ≡ found_at found other
+    elsewhere : (other : ℕ) → (place ≡ other → ⊥) → found_at later other ≡ found_at found other
     elsewhere other apart =
         let differs : other ≢ place =
         λ e. apart (sym e) in get_or-set_other found place other entry nothing differs
@@ -120,39 +122,32 @@ module _ (found : List (Option ℕ)) (next : List ℕ) (level place : ℕ) where
             absurd (clash known (subst (λ (other : ℕ). HasLevel found other known) (sym same) has))
         | inr apart ↦ elsewhere other apart ∙ has
       ];
-      all = λ other in'. (
-        level,
-        subst (λ (other : ℕ). HasLevel (set found place entry) other level)
-            (only other in') here,
-      );
+      all = λ other in'.
+          (level, subst (λ (other : ℕ). HasLevel later other level) (only other in') here);
       fresh = λ other known has. elim (cases_eq place other) [
         | inl same ↦
             inr (
-              level_here known
-                  (subst (λ (other : ℕ). HasLevel (set found place entry) other known) (sym same) has),
+              level_here known (subst (λ (other : ℕ). HasLevel later other known) (sym same) has),
               subst (Contains (place ∷ [])) same (Contains-push [] place),
-              subst
-                  (Contains (next ++ place ∷ [])) same (Contains-push next place),
+              subst (Contains (next ++ place ∷ [])) same (Contains-push next place),
             )
         | inr apart ↦ inl (sym (elsewhere other apart) ∙ has)
       ];
       listed = λ other in'. Contains-append_left next (place ∷ []) other in';
       given = λ other in'. elim (Contains-push_cases next place other in') [
         | inl old ↦ inl old
-        | inr same ↦
-            inr (subst (λ (other : ℕ). HasLevel (set found place entry) other level) same here)
+        | inr same ↦ inr (subst (λ (other : ℕ). HasLevel later other level) same here)
       ];
       left =
-          let sum : count_by is_none (set found place entry) + cond (is_none (found_at found place))
-          1 0 ≡ count_by is_none found + 0 = sum_by-set (λ entry. cond (is_none entry) 1 0)
-          found place entry nothing within in
-          let one : count_by is_none (set found place entry) + 1 ≡ count_by is_none found + 0 =
-          rw blank at sum in
+          let sum : count_by is_none later + cond (is_none (found_at found place)) 1 0
+          ≡ count_by is_none found + 0 =
+          sum_by-set (λ entry. cond (is_none entry) 1 0) found place entry nothing within in
+          let one : count_by is_none later + 1 ≡ count_by is_none found + 0 = rw blank at sum in
           omega (arith, length-append next (place ∷ []));
     }
       where
         clash : (known : ℕ) → HasLevel found place known → ⊥
         clash known has = let no : nothing ≡ Some known = sym blank ∙ has in absurd (cc)
 
-        level_here : (known : ℕ) → HasLevel (set found place entry) place known → known ≡ level
+        level_here : (known : ℕ) → HasLevel later place known → known ≡ level
         level_here known has = same_Some known level (sym has ∙ here)

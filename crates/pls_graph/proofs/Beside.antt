@@ -8,12 +8,12 @@ use Rattle.pls_model.specs.declared.row.Port.{Port}
 use Rattle.pls_model.specs.declared.row.NodeRow.{NodeRow}
 use Rattle.pls_model.specs.Configuration.{row_of, IsNetwork}
 use Rattle.pls_model.specs.Walk.{edges_of, Adjacent}
-use Rattle.pls_graph.specs.Reach.{place_in, named_places}
+use Rattle.pls_graph.specs.Places.{place_in, named_places}
 use Rattle.pls_graph.proofs.Members.{Contains-map, Contains-from_map, place_from_Contains, Contains-from_place}
 use Rattle.pls_graph.proofs.Finds.{found_place, from_option_map}
 use Rattle.pls_graph.proofs.Placed.{row_of_place, place_of_row, neighbour_found, row_place}
 use Rattle.pls_graph.proofs.Adjacent.{Names, Adjacent-port, Names-Adjacent}
-use Rattle.pls_search.specs.Search.{beside}
+use Rattle.pls_graph.specs.Search.{beside}
 
 module _ (rows : List NodeRow) (net : IsNetwork rows) where
   -- the node that a port names stands at the place of its identity

@@ -10,9 +10,9 @@ use Rattle.pls_model.specs.Configuration.{IsNetwork}
 use Rattle.pls_model.specs.Walk.{Edge, edges_of, Adjacent, Walk}
 use Rattle.pls_graph.proofs.Members.{Contains-flat_map, Contains-from_flat_map}
 use Rattle.pls_graph.proofs.Joined.{Walk-append}
-use Rattle.pls_search.specs.Levels.{IsFound, AreLevels}
-use Rattle.pls_search.specs.Search.{found_at, HasLevel, beside, all_beside, Gains}
-use Rattle.pls_search.proofs.Beside.{one_place, Adjacent-beside, beside-Adjacent}
+use Rattle.pls_graph.specs.Levels.{IsFound, AreLevels}
+use Rattle.pls_graph.specs.Search.{found_at, HasLevel, beside, all_beside, Gains}
+use Rattle.pls_graph.proofs.Beside.{one_place, Adjacent-beside, beside-Adjacent}
 
 -- a walk from u to v has so many edges
 abbrev HasWalk : List Edge → ℕ → ℕ → ℕ → Type 0
@@ -74,8 +74,10 @@ module _ (rows : List NodeRow) (net : IsNetwork rows) (root : ℕ) where
       new : (place known : ℕ) → HasLevel found place known
           → (known ≡ 0) × Contains (root ∷ []) place × Contains front place
       new place known has =
-          elim (gains.fresh place known has)
-          [ inl before ↦ absurd (blank (length rows) place known before) | inr here ↦ here ]
+          elim (gains.fresh place known has) [
+            | inl before ↦ absurd (None-replicate (length rows) place known before)
+            | inr here ↦ here
+          ]
 
       start : HasLevel found root 0
       start =

@@ -1,7 +1,7 @@
 use Rattle.std.proofs.Common.{take}
-use Rattle.pls_graph.specs.Reach.{named_places}
-use Rattle.pls_search.specs.Search.{Gives}
-use Rattle.pls_search.proofs.breadth.Search.enter_named.Given as goal
+use Rattle.pls_graph.specs.Places.{named_places}
+use Rattle.pls_graph.specs.Search.{Gives}
+use Rattle.pls_graph.proofs.breadth.Search.enter_named.Given as goal
 
 abbrev pub invariant-loop-port : goal.invariant-loop-port
 invariant-loop-port l =

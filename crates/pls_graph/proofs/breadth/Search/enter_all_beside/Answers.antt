@@ -1,12 +1,12 @@
 use Rattle.std.proofs.Common.{◌≡◌, ◌∙◌, ◌++◌, List, [], ℕ, ◌+◌, sym, ap, subst, get_or, take, slice_get, Some}
 use Rattle.std.proofs.lemmas.List.{flat_map_more, take_more}
 use Rattle.pls_model.specs.declared.row.NodeRow.{NodeRow}
-use Rattle.pls_graph.specs.Reach.{named_places}
+use Rattle.pls_graph.specs.Places.{named_places}
 use Rattle.pls_graph.proofs.Finds.{from_option_map}
-use Rattle.pls_search.specs.Search.{beside, all_beside, Gains}
-use Rattle.pls_search.proofs.Beside.{ports_known, beside_row}
-use Rattle.pls_search.proofs.Gaining.{Gains-append}
-use Rattle.pls_search.proofs.breadth.Search.enter_all_beside.Goals as goal
+use Rattle.pls_graph.specs.Search.{beside, all_beside, Gains}
+use Rattle.pls_graph.proofs.Beside.{ports_known, beside_row}
+use Rattle.pls_graph.proofs.Gaining.{Gains-append}
+use Rattle.pls_graph.proofs.breadth.Search.enter_all_beside.Goals as goal
 
 pub enter_named-requires-clause-known : goal.enter_named-requires-clause-known
 enter_named-requires-clause-known c =

@@ -3,12 +3,13 @@
 
 ghost use Rattle.std.specs.Prelude.{◌≡◌, ◌<◌, ◌==◌, length, All, IsSome, IfOk, OnOk, None, replicate, [], ◌∷◌};
 ghost use Rattle.pls_model.specs.Configuration.{row_of, IsNetwork};
-ghost use Rattle.pls_graph.specs.Reach.{place_in, named_places};
-ghost use Rattle.pls_search.specs.Levels.{AreLevels};
-ghost use Rattle.pls_search.specs.Search.{all_beside, Gives};
+ghost use Rattle.pls_graph.specs.Places.{place_in, named_places};
+ghost use Rattle.pls_graph.specs.Levels.{AreLevels};
+ghost use Rattle.pls_graph.specs.Search.{all_beside, Gives};
 
+use crate::network::Network;
 use pls_base::NoMemory;
-use pls_graph::{Network, Port};
+use pls_model::Port;
 use std::alloc::Global;
 use std::mem;
 
@@ -32,8 +33,8 @@ pub fn levels(alloc: Global, net: &Network, root: usize) -> Result<Vec<Option<u3
     Ok(found)
 }
 
-/// A search over the places of a network, one level after another: the levels found so far, and the
-/// places that were found last, whose neighbours are to be looked at next.
+// A search over the places of a network, one level after another: the levels found so far, and the
+// places that were found last, whose neighbours are to be looked at next.
 #[derive(Drop)]
 struct Search {
     found: Vec<Option<u32>>,
@@ -41,7 +42,7 @@ struct Search {
 }
 
 impl Search {
-    /// Enters the neighbours of the nodes at these places.
+    // Enters the neighbours of the nodes at these places.
     fn enter_all_beside(
         &mut self,
         net: &Network,
@@ -59,7 +60,7 @@ impl Search {
         Ok(())
     }
 
-    /// Enters the places of the nodes that these ports name.
+    // Enters the places of the nodes that these ports name.
     fn enter_named(&mut self, net: &Network, ports: &[Port], level: u32) -> Result<(), NoMemory>
         requires sized { length self.old.found.items ≡ length net.now }
         requires known { All (λ port. IsSome (row_of net.now port.nbr)) ports.now }
@@ -71,7 +72,7 @@ impl Search {
         Ok(())
     }
 
-    /// Gives a place this level where it has none.
+    // Gives a place this level where it has none.
     fn enter(&mut self, place: usize, level: u32) -> Result<(), NoMemory>
         requires { place < length self.old.found.items }
         ensures { OnOk result (Gives self.old self.new level (place ∷ [])) }
@@ -84,14 +85,14 @@ impl Search {
     }
 }
 
-/// No level for each of so many places.
+// No level for each of so many places.
 fn nothing_found(alloc: Global, count: usize) -> Result<Vec<Option<u32>>, NoMemory>
     ensures { IfOk result (λ found. found.items ≡ replicate count None) }
 {
     Ok(vec![in alloc; None; count]?)
 }
 
-/// The place of an identity that is known.
+// The place of an identity that is known.
 fn known_place(net: &Network, id: u32) -> usize
     requires { IsSome (row_of net.now id) }
     ensures place { result ≡ place_in net.now id }

@@ -1,7 +1,7 @@
 use Rattle.std.proofs.Common.{◌∙◌, ◌==◌, ap, is_some}
 use Rattle.pls_model.specs.declared.row.NodeRow.{NodeRow}
 use Rattle.pls_graph.proofs.Finds.{position-found}
-use Rattle.pls_search.proofs.breadth.known_place.Goals as goal
+use Rattle.pls_graph.proofs.breadth.known_place.Goals as goal
 
 pub unwrap-requires : goal.unwrap-requires
 unwrap-requires c =
