@@ -9,6 +9,7 @@ use Rattle.pls_model.specs.declared.row.NodeRow.{NodeRow}
 use Rattle.pls_model.specs.Configuration.{IsNetwork}
 use Rattle.pls_model.specs.Walk.{Edge, edges_of, Adjacent, Walk}
 use Rattle.pls_graph.proofs.Members.{Contains-flat_map, Contains-from_flat_map}
+use Rattle.pls_graph.proofs.Finds.{None-replicate}
 use Rattle.pls_graph.proofs.Joined.{Walk-append}
 use Rattle.pls_graph.specs.Levels.{IsFound, AreLevels}
 use Rattle.pls_graph.specs.Search.{found_at, HasLevel, beside, all_beside, Gains}
@@ -42,11 +43,6 @@ within_found (entry ∷ found) zero known has = omega arith
 within_found (entry ∷ found) (suc place) known has =
     let rest = within_found found place known has in omega arith
 
-blank : (size place known : ℕ) → HasLevel (replicate size None) place known → ⊥
-blank zero place known has = absurd (cc)
-blank (suc size) zero known has = absurd (cc)
-blank (suc size) (suc place) known has = blank size place known has
-
 no_item : {A : Type 0} (place : ℕ) → Contains [] place → A
 no_item place in' = absurd (omega (arith, in'.1))
 
@@ -74,10 +70,8 @@ module _ (rows : List NodeRow) (net : IsNetwork rows) (root : ℕ) where
       new : (place known : ℕ) → HasLevel found place known
           → (known ≡ 0) × Contains (root ∷ []) place × Contains front place
       new place known has =
-          elim (gains.fresh place known has) [
-            | inl before ↦ absurd (None-replicate (length rows) place known before)
-            | inr here ↦ here
-          ]
+          elim (gains.fresh place known has)
+          [ inl before ↦ absurd (None-replicate (length rows) place known before) | inr here ↦ here ]
 
       start : HasLevel found root 0
       start =

@@ -1,4 +1,5 @@
-//! Searches in networks, whose answers are told by walks and by chains of pointers.
+//! Searches in networks. [`pointer_depths`] tells the length of each node's chain of pointers, or
+//! that some chain returns; [`levels`], which stands in `pls_graph`, is the search along edges.
 #![tactic(auto)]
 
 mod pointers;

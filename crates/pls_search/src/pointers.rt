@@ -4,7 +4,7 @@
 
 ghost use Rattle.std.specs.Prelude.{◌≡◌, ◌<◌, length, IfOk, IfSome, IfNone};
 ghost use Rattle.pls_facts.specs.Pointer.{NoneReturns, SomeReturns};
-ghost use Rattle.pls_search.specs.Depths.{AreDepths, AreNoted, IsDepth, PointsTo};
+ghost use Rattle.pls_search.specs.Depths.{AreDepths, AreNoted, AreNotedToEnd, IsDepth, IsNoted, PointsTo, StayNoted};
 
 use pls_base::NoMemory;
 use pls_graph::Network;
@@ -50,11 +50,16 @@ fn depth_from(net: &Network, noted: &[Option<u32>], start: usize) -> Option<u32>
 }
 
 // Notes the depths of the places from one whose depth is this, up to one that has been noted.
+// Afterwards the chain of the first is noted to its end, so that no step along it is walked again.
 fn note_along(net: &Network, noted: &mut [Option<u32>], start: usize, depth: u32)
     requires within { start < length net.now }
     requires depth { IsDepth net.now start depth }
     requires noted { AreNoted net.now noted.old }
-    ensures { AreNoted net.now noted.new }
+    requires to_end { AreNotedToEnd net.now noted.old }
+    ensures noted { AreNoted net.now noted.new }
+    ensures to_end { AreNotedToEnd net.now noted.new }
+    ensures start { IsNoted noted.new start depth }
+    ensures kept { StayNoted noted.old noted.new }
 {
     let mut place = start;
     let mut depth = depth;
