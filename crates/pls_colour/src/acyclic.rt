@@ -6,11 +6,9 @@ ghost use Rattle.pls_colour.specs.Acyclic.{cycle_label_in, judge_acyclic};
 ghost use Rattle.pls_colour.specs.CyclePorts.{is_above, is_beside};
 ghost use Rattle.pls_colour.specs.Levelled.{passes_at};
 
-use pls_base::{NoMemory, Steps};
 use pls_bits::{Bits, NumCode};
-use pls_scheme::{Checker, Reads, Verdict, is_one_more, judged_from, own_label, read_numbers};
+use pls_scheme::{Reads, Rules, Verdict, is_one_more, judged_from, own_label, read_numbers};
 use pls_view::{PortView, View};
-use std::alloc::Global;
 use std::marker::PhantomData;
 
 /// What a label says.
@@ -46,59 +44,24 @@ impl<C: NumCode> Reads for Acyclic<C> {
     }
 }
 
-impl<C: NumCode> Checker for Acyclic<C> {
-    ghost use Rattle.std.specs.Prelude.{true, false, refl};
-    ghost use Rattle.pls_colour.specs.Acyclic.{acyclic_rules, cycle_label_in, judge_acyclic};
-    ghost use Rattle.pls_scheme.proofs.Leaves.{judge_by-leaf};
+impl<C: NumCode> Rules for Acyclic<C> {
+    ghost use Rattle.pls_colour.specs.Acyclic.{acyclic_rules};
 
-    ghost judge = { λ _ view. judge_acyclic C.takes view };
+    ghost rules = { acyclic_rules };
 
-    ghost leaves = { λ _. 1 };
-
-    ghost lends = { λ _. true };
-
-    ghost TAKES_MEMORY = { false };
-
-    const TAKES_MEMORY: bool = false;
-
-    fn leaves(&self) -> u8 {
-        1
+    fn verdict(view: &View<'_>) -> Verdict {
+        let own = match own_label::<Acyclic<C>>(view) {
+            Ok(own) => own.depth,
+            Err(verdict) => return verdict,
+        };
+        judged_from(
+            3,
+            &[
+                differs_by_one::<C>(own, &view.ports),
+                has_one_above::<C>(own, &view.ports),
+            ],
+        )
     }
-
-    fn lends(&self) -> bool {
-        true
-    }
-
-    fn verify(
-        &self,
-        _alloc: Global,
-        view: &View<'_>,
-        steps: &mut Steps,
-    ) -> Result<Verdict, NoMemory> {
-        steps.tick();
-        Ok(verdict_on::<C>(view))
-    }
-
-    ghost leaf_law = { λ _ view. judge_by-leaf (cycle_label_in C.takes) acyclic_rules view };
-
-    ghost lends_law = { λ _ _. refl };
-}
-
-// The first rule that fails, or acceptance.
-fn verdict_on<C: NumCode>(view: &View<'_>) -> Verdict
-    ensures { result ≡ judge_acyclic C.takes view.now }
-{
-    let own = match own_label::<Acyclic<C>>(view) {
-        Ok(own) => own.depth,
-        Err(verdict) => return verdict,
-    };
-    judged_from(
-        3,
-        &[
-            differs_by_one::<C>(own, &view.ports),
-            has_one_above::<C>(own, &view.ports),
-        ],
-    )
 }
 
 // Rule 3: each neighbour is one deeper, or one less deep.

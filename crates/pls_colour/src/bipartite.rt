@@ -5,11 +5,9 @@ ghost use Rattle.std.specs.List.{list_all};
 ghost use Rattle.pls_colour.specs.Bipartite.{colour_label, differ, differs_from, judge_bipartite};
 ghost use Rattle.pls_colour.specs.Levelled.{passes_at};
 
-use pls_base::{NoMemory, Steps};
 use pls_bits::Bits;
-use pls_scheme::{Checker, Reads, Verdict, judged_from, own_label};
+use pls_scheme::{Reads, Rules, Verdict, judged_from, own_label};
 use pls_view::{PortView, View};
-use std::alloc::Global;
 
 /// What a label says: one of two colours.
 #[derive(Clone, Copy, Debug, PartialEq, Eq)]
@@ -47,53 +45,18 @@ impl Reads for Bipartite {
     }
 }
 
-impl Checker for Bipartite {
-    ghost use Rattle.std.specs.Prelude.{true, false, refl};
-    ghost use Rattle.pls_colour.specs.Bipartite.{bipartite_rules, colour_label, judge_bipartite};
-    ghost use Rattle.pls_scheme.proofs.Leaves.{judge_by-leaf};
+impl Rules for Bipartite {
+    ghost use Rattle.pls_colour.specs.Bipartite.{bipartite_rules};
 
-    ghost judge = { λ _ view. judge_bipartite view };
+    ghost rules = { bipartite_rules };
 
-    ghost leaves = { λ _. 1 };
-
-    ghost lends = { λ _. true };
-
-    ghost TAKES_MEMORY = { false };
-
-    const TAKES_MEMORY: bool = false;
-
-    fn leaves(&self) -> u8 {
-        1
+    fn verdict(view: &View<'_>) -> Verdict {
+        let own = match own_label::<Bipartite>(view) {
+            Ok(own) => own.colour,
+            Err(verdict) => return verdict,
+        };
+        judged_from(3, &[differs_from_neighbours(own, &view.ports)])
     }
-
-    fn lends(&self) -> bool {
-        true
-    }
-
-    fn verify(
-        &self,
-        _alloc: Global,
-        view: &View<'_>,
-        steps: &mut Steps,
-    ) -> Result<Verdict, NoMemory> {
-        steps.tick();
-        Ok(verdict_on(view))
-    }
-
-    ghost leaf_law = { λ _ view. judge_by-leaf colour_label bipartite_rules view };
-
-    ghost lends_law = { λ _ _. refl };
-}
-
-// The first rule that fails, or acceptance.
-fn verdict_on(view: &View<'_>) -> Verdict
-    ensures { result ≡ judge_bipartite view.now }
-{
-    let own = match own_label::<Bipartite>(view) {
-        Ok(own) => own.colour,
-        Err(verdict) => return verdict,
-    };
-    judged_from(3, &[differs_from_neighbours(own, &view.ports)])
 }
 
 // Rule 3: each neighbour's colour differs from the own colour.

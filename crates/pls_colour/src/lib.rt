@@ -13,8 +13,6 @@ mod acyclic_scheme;
 mod bipartite;
 mod bipartite_scheme;
 mod level_labels;
-#[cfg(test)]
-mod tests;
 
 pub use acyclic::{Acyclic, CycleLabel};
 pub use bipartite::{Bipartite, ColourLabel};

@@ -5,11 +5,9 @@ ghost use Rattle.std.specs.Option.{is_some};
 ghost use Rattle.pls_pointer.specs.Forest.{judge_forest};
 
 use crate::above::{is_one_deeper, label_above};
-use pls_base::{NoMemory, Steps};
 use pls_bits::{Bits, NumCode};
-use pls_scheme::{Checker, Reads, Verdict, judged_from, own_label, read_numbers};
+use pls_scheme::{Reads, Rules, Verdict, judged_from, own_label, read_numbers};
 use pls_view::View;
-use std::alloc::Global;
 use std::marker::PhantomData;
 
 /// What a label says.
@@ -45,60 +43,25 @@ impl<C: NumCode> Reads for Forest<C> {
     }
 }
 
-impl<C: NumCode> Checker for Forest<C> {
-    ghost use Rattle.std.specs.Prelude.{true, false, refl};
-    ghost use Rattle.pls_pointer.specs.Forest.{depth_in, forest_rules, judge_forest};
-    ghost use Rattle.pls_scheme.proofs.Leaves.{judge_by-leaf};
+impl<C: NumCode> Rules for Forest<C> {
+    ghost use Rattle.pls_pointer.specs.Forest.{forest_rules};
 
-    ghost judge = { λ _ view. judge_forest C.takes view };
+    ghost rules = { forest_rules };
 
-    ghost leaves = { λ _. 1 };
-
-    ghost lends = { λ _. true };
-
-    ghost TAKES_MEMORY = { false };
-
-    const TAKES_MEMORY: bool = false;
-
-    fn leaves(&self) -> u8 {
-        1
+    fn verdict(view: &View<'_>) -> Verdict {
+        let own = match own_label::<Forest<C>>(view) {
+            Ok(own) => own,
+            Err(verdict) => return verdict,
+        };
+        let above = label_above::<Forest<C>>(view).map(|above| above.depth);
+        judged_from(
+            3,
+            &[
+                points_or_is_at_0(view, own),
+                is_one_deeper(own.depth, above),
+            ],
+        )
     }
-
-    fn lends(&self) -> bool {
-        true
-    }
-
-    fn verify(
-        &self,
-        _alloc: Global,
-        view: &View<'_>,
-        steps: &mut Steps,
-    ) -> Result<Verdict, NoMemory> {
-        steps.tick();
-        Ok(verdict_on::<C>(view))
-    }
-
-    ghost leaf_law = { λ _ view. judge_by-leaf (depth_in C.takes) forest_rules view };
-
-    ghost lends_law = { λ _ _. refl };
-}
-
-// The first rule that fails, or acceptance.
-fn verdict_on<C: NumCode>(view: &View<'_>) -> Verdict
-    ensures { result ≡ judge_forest C.takes view.now }
-{
-    let own = match own_label::<Forest<C>>(view) {
-        Ok(own) => own,
-        Err(verdict) => return verdict,
-    };
-    let above = label_above::<Forest<C>>(view).map(|above| above.depth);
-    judged_from(
-        3,
-        &[
-            points_or_is_at_0(view, own),
-            is_one_deeper(own.depth, above),
-        ],
-    )
 }
 
 // Rule 3: the node points at a port, or its depth is 0.

@@ -10,8 +10,6 @@ mod above;
 mod forest;
 mod forest_scheme;
 mod root;
-#[cfg(test)]
-mod tests;
 mod tree;
 mod tree_scheme;
 

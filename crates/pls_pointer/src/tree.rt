@@ -6,11 +6,9 @@ ghost use Rattle.std.specs.Option.{is_some, option_map_or};
 ghost use Rattle.pls_pointer.specs.Tree.{judge_tree, tree_in};
 
 use crate::above::{is_one_deeper, label_above};
-use pls_base::{NoMemory, Steps};
 use pls_bits::{Bits, NumCode};
-use pls_scheme::{Checker, Reads, Verdict, judged_from, own_label, read_numbers};
+use pls_scheme::{Reads, Rules, Verdict, judged_from, own_label, read_numbers};
 use pls_view::{PortView, View};
-use std::alloc::Global;
 use std::marker::PhantomData;
 
 /// What a label says.
@@ -48,61 +46,26 @@ impl<C: NumCode> Reads for Tree<C> {
     }
 }
 
-impl<C: NumCode> Checker for Tree<C> {
-    ghost use Rattle.std.specs.Prelude.{true, false, refl};
-    ghost use Rattle.pls_pointer.specs.Tree.{judge_tree, tree_in, tree_rules};
-    ghost use Rattle.pls_scheme.proofs.Leaves.{judge_by-leaf};
+impl<C: NumCode> Rules for Tree<C> {
+    ghost use Rattle.pls_pointer.specs.Tree.{tree_rules};
 
-    ghost judge = { λ _ view. judge_tree C.takes view };
+    ghost rules = { tree_rules };
 
-    ghost leaves = { λ _. 1 };
-
-    ghost lends = { λ _. true };
-
-    ghost TAKES_MEMORY = { false };
-
-    const TAKES_MEMORY: bool = false;
-
-    fn leaves(&self) -> u8 {
-        1
+    fn verdict(view: &View<'_>) -> Verdict {
+        let own = match own_label::<Tree<C>>(view) {
+            Ok(own) => own,
+            Err(verdict) => return verdict,
+        };
+        let above = label_above::<Tree<C>>(view).map(|above| above.depth);
+        judged_from(
+            3,
+            &[
+                agrees_on_root::<C>(own.root, &view.ports),
+                points_or_is_root(view, own),
+                is_one_deeper(own.depth, above),
+            ],
+        )
     }
-
-    fn lends(&self) -> bool {
-        true
-    }
-
-    fn verify(
-        &self,
-        _alloc: Global,
-        view: &View<'_>,
-        steps: &mut Steps,
-    ) -> Result<Verdict, NoMemory> {
-        steps.tick();
-        Ok(verdict_on::<C>(view))
-    }
-
-    ghost leaf_law = { λ _ view. judge_by-leaf (tree_in C.takes) tree_rules view };
-
-    ghost lends_law = { λ _ _. refl };
-}
-
-// The first rule that fails, or acceptance.
-fn verdict_on<C: NumCode>(view: &View<'_>) -> Verdict
-    ensures { result ≡ judge_tree C.takes view.now }
-{
-    let own = match own_label::<Tree<C>>(view) {
-        Ok(own) => own,
-        Err(verdict) => return verdict,
-    };
-    let above = label_above::<Tree<C>>(view).map(|above| above.depth);
-    judged_from(
-        3,
-        &[
-            agrees_on_root::<C>(own.root, &view.ports),
-            points_or_is_root(view, own),
-            is_one_deeper(own.depth, above),
-        ],
-    )
 }
 
 // Rule 3: every neighbour's root is this one.

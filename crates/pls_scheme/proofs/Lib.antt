@@ -1,10 +1,9 @@
 pub mod Accepted
 pub mod Codes
-pub mod Leaves
+pub mod Judged
 pub mod Readings
 pub mod Rounds
 pub mod Same
 pub mod Saying
 pub mod Spellings
 pub mod Texts
-pub mod Uniform

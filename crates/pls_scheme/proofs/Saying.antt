@@ -12,7 +12,7 @@ use Rattle.pls_graph.proofs.Placed.{neighbour_found, row_place}
 use Rattle.pls_view.specs.Seen.{Seen, SeenPort, label_of, seen, seen_port, views}
 use Rattle.pls_scheme.specs.Judging.{AllAccept, judged_from}
 use Rattle.pls_scheme.specs.Reading.{Read, ReadPort, judge_by, judged_read, read_port, read_ports, said, said_port}
-use Rattle.pls_scheme.proofs.Leaves.{judged-each}
+use Rattle.pls_scheme.proofs.Judged.{judged-each}
 use Rattle.pls_scheme.proofs.Readings.{judged_by_rules, split_read}
 
 -- what a port shows with this label

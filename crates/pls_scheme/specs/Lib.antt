@@ -4,4 +4,4 @@ pub mod Reading
 pub mod Length
 pub mod EndInDepths
 pub mod Spelled
-pub mod Uniform
+pub mod LeafLaws

@@ -24,8 +24,6 @@ mod property;
 mod reading;
 mod rules;
 mod scheme;
-#[cfg(test)]
-mod tests;
 
 pub use checker::Checker;
 pub use consequences::{are_accepted, certifies, has_spelling, spelled};
@@ -35,5 +33,5 @@ pub use numbers::{read_numbers, write_numbers};
 pub use pls_model::Verdict;
 pub use property::Property;
 pub use reading::{Reads, own_label};
-pub use rules::{is_one_more, judged_from};
+pub use rules::{Rules, is_one_more, judged_from};
 pub use scheme::Scheme;

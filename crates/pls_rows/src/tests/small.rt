@@ -1,12 +1,15 @@
 //! All connected networks of up to four nodes, with all pointers: each scheme finds its property
-//! just where a plain program does that tries all there is to try.
+//! just where a plain program does that tries all there is to try, and then its labels are accepted.
 
+ghost use Rattle.pls_model.specs.Walk.{IsConnected};
+
+use pls_base::Steps;
 use pls_bits::Gamma;
 use pls_colour::{Acyclic, Bipartite};
 use pls_graph::{Network, connected};
 use pls_netfile::read_network;
 use pls_pointer::{Forest, Tree};
-use pls_scheme::Property;
+use pls_scheme::{Scheme, certifies};
 use std::alloc::{AllocError, Global};
 use std::test::Fail;
 
@@ -174,16 +177,31 @@ fn text_of(alloc: Global, net: Small) -> Result<Vec<u8>, AllocError> {
     Ok(text)
 }
 
-// What the schemes decide of a network: tree, forest, bipartite, acyclic.
-fn decided(alloc: Global, net: &Network) -> Result<[bool; 4], Fail> {
-    if let Some(_) = connected(alloc, net)? {
+// Whether a scheme marks a connected network; what it decides is to be the same, and all nodes are to
+// accept its labels.
+fn marks<S: Scheme>(alloc: Global, scheme: &S, net: &Network) -> Result<bool, Fail>
+    requires { IsConnected net.now }
+{
+    let decided = scheme.decide(alloc, net)?;
+    match scheme.mark(alloc, net)? {
+        Some(labels) if decided && certifies(alloc, scheme, net, &labels, &mut Steps::new())? => {
+            Ok(true)
+        }
+        None if !decided => Ok(false),
+        _ => Err(Fail::from("decided and marked differ")),
+    }
+}
+
+// Which schemes mark a network: tree, forest, bipartite, acyclic.
+fn marked(alloc: Global, net: &Network) -> Result<[bool; 4], Fail> {
+    if connected(alloc, net)?.is_some() {
         return Err(Fail::from("in parts"));
     }
     Ok([
-        Tree::<Gamma>::new().decide(alloc, net)?,
-        Forest::<Gamma>::new().decide(alloc, net)?,
-        Bipartite::new().decide(alloc, net)?,
-        Acyclic::<Gamma>::new().decide(alloc, net)?,
+        marks(alloc, &Tree::<Gamma>::new(), net)?,
+        marks(alloc, &Forest::<Gamma>::new(), net)?,
+        marks(alloc, &Bipartite::new(), net)?,
+        marks(alloc, &Acyclic::<Gamma>::new(), net)?,
     ])
 }
 
@@ -211,7 +229,7 @@ fn compare(alloc: Global, nodes: u32, edges: u32) -> Result<(u32, u32), Fail> {
                 is_acyclic(net),
             ];
             tried = tried.saturating_add(1);
-            wrong = wrong.saturating_add(u32::from(decided(alloc, &read)? != plain));
+            wrong = wrong.saturating_add(u32::from(marked(alloc, &read)? != plain));
         }
     }
     Ok((tried, wrong))

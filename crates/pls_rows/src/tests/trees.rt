@@ -1,10 +1,8 @@
 //! Worked examples of trees, forests and networks without cycle.
 
-use super::assert_run;
+use super::{ALONE, RING, ROW, TRIANGLE, assert_runs};
 use pls_base::Status;
 use std::test::Fail;
-
-const ALONE: &str = "network\nnode 5 - 0 0\nend\n";
 
 // Two nodes that point at each other.
 const CIRCLE: &str = "network\nnode 1 0 0 0\nport 2 0\nnode 2 0 0 0\nport 1 0\nend\n";
@@ -13,62 +11,32 @@ const CIRCLE: &str = "network\nnode 1 0 0 0\nport 2 0\nnode 2 0 0 0\nport 1 0\ne
 const CHAIN: &str = "network\nnode 1 - 0 0\nport 2 1\nnode 2 0 0 0\nport 1 1\nport 3 2\n\
                      node 3 0 0 0\nport 2 2\nend\n";
 
-// The same without pointers.
-const ROW: &str = "network\nnode 1 - 0 0\nport 2 1\nnode 2 - 0 0\nport 1 1\nport 3 2\n\
-                   node 3 - 0 0\nport 2 2\nend\n";
-
-// The same; the second points at the first alone.
+// Three nodes in a row; the second points at the first alone.
 const TWO_TREES: &str = "network\nnode 1 - 0 0\nport 2 1\nnode 2 0 0 0\nport 1 1\nport 3 2\n\
                          node 3 - 0 0\nport 2 2\nend\n";
-
-// Four nodes in a ring; each but the first points at the one before it.
-const RING: &str = "network\nnode 1 - 0 0\nport 2 1\nport 4 5\nnode 2 0 0 0\nport 1 1\nport 3 5\n\
-                    node 3 0 0 0\nport 2 5\nport 4 1\nnode 4 0 0 0\nport 3 1\nport 1 5\nend\n";
-
-const TRIANGLE: &str =
-    "network\nnode 1 - 0 0\nport 2 7\nport 3 7\nnode 2 0 0 0\nport 1 7\nport 3 7\n\
-                        node 3 1 0 0\nport 1 7\nport 2 7\nend\n";
 
 #[test]
 fn trees_forests_and_networks_without_cycle_are_marked(rt: HostRuntime) -> Result<(), Fail> {
     let no = ("no\n", Status::No);
-    let depths = (
-        "labels\nlabel 1 1 80\nlabel 2 3 40\nlabel 3 3 60\nend\n",
-        Status::Done,
-    );
-    let rooted = (
-        "labels\nlabel 1 4 50\nlabel 2 6 48\nlabel 3 6 4c\nend\n",
-        Status::Done,
-    );
-    let roots = (
-        "labels\nlabel 1 1 80\nlabel 2 1 80\nlabel 3 1 80\nend\n",
-        Status::Done,
-    );
-    let cases = [
-        ("tree", CIRCLE, no),
-        ("forest", CIRCLE, no),
-        ("tree", CHAIN, rooted),
-        ("forest", CHAIN, depths),
-        ("acyclic", CHAIN, depths),
-        ("tree", ROW, no),
-        ("forest", ROW, roots),
-        ("acyclic", ROW, depths),
-        ("tree", TWO_TREES, no),
-        ("acyclic", RING, no),
-        ("acyclic", TRIANGLE, no),
-        ("tree", ALONE, ("labels\nlabel 5 6 34\nend\n", Status::Done)),
+    let depths = "labels\nlabel 1 1 80\nlabel 2 3 40\nlabel 3 3 60\nend\n";
+    let rooted = "labels\nlabel 1 4 50\nlabel 2 6 48\nlabel 3 6 4c\nend\n";
+    let roots = "labels\nlabel 1 1 80\nlabel 2 1 80\nlabel 3 1 80\nend\n";
+    let alone = "labels\nlabel 5 6 34\nend\n";
+    let examples = [
+        ("tree", [CIRCLE, ""], no),
+        ("forest", [CIRCLE, ""], no),
+        ("tree", [CHAIN, ""], (rooted, Status::Done)),
+        ("forest", [CHAIN, ""], (depths, Status::Done)),
+        ("acyclic", [CHAIN, ""], (depths, Status::Done)),
+        ("tree", [ROW, ""], no),
+        ("forest", [ROW, ""], (roots, Status::Done)),
+        ("acyclic", [ROW, ""], (depths, Status::Done)),
+        ("tree", [TWO_TREES, ""], no),
+        ("acyclic", [RING, ""], no),
+        ("acyclic", [TRIANGLE, ""], no),
+        ("tree", [ALONE, ""], (alone, Status::Done)),
     ];
-    for (scheme, network, (text, status)) in cases {
-        assert_run(
-            &rt,
-            rt.alloc(),
-            &["mark", scheme],
-            [network, ""],
-            text,
-            status,
-        )?;
-    }
-    Ok(())
+    assert_runs(&rt, rt.alloc(), "mark", examples)
 }
 
 #[test]
@@ -85,16 +53,10 @@ fn a_depth_is_a_whole_label(rt: HostRuntime) -> Result<(), Fail> {
         ("127 00000000000000010000000000000000", unread),
         ("125 0000000000000003fffffffffffffff8", deep),
     ];
-    for (bits, (text, status)) in cases {
+    for (bits, due) in cases {
         let labels = format!(in rt.alloc(); "labels\nlabel 5 {bits}\nend\n")?;
-        assert_run(
-            &rt,
-            rt.alloc(),
-            &["verify", "forest"],
-            [ALONE, labels.as_str()],
-            text,
-            status,
-        )?;
+        let examples = [("forest", [ALONE, labels.as_str()], due)];
+        assert_runs(&rt, rt.alloc(), "verify", examples)?;
     }
     Ok(())
 }
@@ -102,51 +64,19 @@ fn a_depth_is_a_whole_label(rt: HostRuntime) -> Result<(), Fail> {
 #[test]
 fn wrong_trees_and_cycles_are_rejected(rt: HostRuntime) -> Result<(), Fail> {
     let circle = "labels\nlabel 1 4 50\nlabel 2 4 50\nend\n";
+    let both_deep = "node 1 reject 1 5\nnode 2 reject 1 5\nrejecting 2\n";
     let two_trees = "labels\nlabel 1 4 50\nlabel 2 6 48\nlabel 3 6 24\nend\n";
     let other_root = "labels\nlabel 1 4 50\nlabel 2 6 48\nlabel 3 6 6c\nend\n";
     let level = "labels\nlabel 1 1 80\nlabel 2 3 40\nlabel 3 3 40\nend\n";
+    let last_two = "node 1 accept\nnode 2 reject 1 3\nnode 3 reject 1 3\nrejecting 2\n";
     let ring = "labels\nlabel 1 1 80\nlabel 2 3 40\nlabel 3 3 60\nlabel 4 3 40\nend\n";
-    let cases = [
-        (
-            "tree",
-            CIRCLE,
-            circle,
-            "node 1 reject 1 5\nnode 2 reject 1 5\nrejecting 2\n",
-        ),
-        (
-            "tree",
-            TWO_TREES,
-            two_trees,
-            "node 1 accept\nnode 2 reject 1 3\nnode 3 reject 1 3\nrejecting 2\n",
-        ),
-        (
-            "tree",
-            CHAIN,
-            other_root,
-            "node 1 accept\nnode 2 reject 1 3\nnode 3 reject 1 3\nrejecting 2\n",
-        ),
-        (
-            "acyclic",
-            TRIANGLE,
-            level,
-            "node 1 accept\nnode 2 reject 1 3\nnode 3 reject 1 3\nrejecting 2\n",
-        ),
-        (
-            "acyclic",
-            RING,
-            ring,
-            "node 1 accept\nnode 2 accept\nnode 3 reject 1 4\nnode 4 accept\nrejecting 1\n",
-        ),
+    let opposite = "node 1 accept\nnode 2 accept\nnode 3 reject 1 4\nnode 4 accept\nrejecting 1\n";
+    let examples = [
+        ("tree", [CIRCLE, circle], (both_deep, Status::No)),
+        ("tree", [TWO_TREES, two_trees], (last_two, Status::No)),
+        ("tree", [CHAIN, other_root], (last_two, Status::No)),
+        ("acyclic", [TRIANGLE, level], (last_two, Status::No)),
+        ("acyclic", [RING, ring], (opposite, Status::No)),
     ];
-    for (scheme, network, labels, text) in cases {
-        assert_run(
-            &rt,
-            rt.alloc(),
-            &["verify", scheme],
-            [network, labels],
-            text,
-            Status::No,
-        )?;
-    }
-    Ok(())
+    assert_runs(&rt, rt.alloc(), "verify", examples)
 }

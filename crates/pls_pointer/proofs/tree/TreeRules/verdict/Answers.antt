@@ -3,7 +3,7 @@ use Rattle.std.specs.Option.{option_map}
 use Rattle.std.proofs.lemmas.List.Folds.{list_all-map}
 use Rattle.pls_pointer.specs.Tree.{tree_in, tree_rules}
 use Rattle.pls_pointer.proofs.Judged.{all_labels, judge_tree-read}
-use Rattle.pls_pointer.proofs.tree.verdict_on.Goals as goal
+use Rattle.pls_pointer.proofs.tree.TreeRules.verdict.Goals as goal
 
 pub returns-in-Err : goal.returns-in-Err
 returns-in-Err g c = sym (c.in-Err.ensures.rejected tree_rules)

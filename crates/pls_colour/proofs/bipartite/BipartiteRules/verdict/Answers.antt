@@ -2,7 +2,7 @@ use Rattle.std.proofs.Common.{◌∙◌}
 use Rattle.std.proofs.lemmas.List.Folds.{list_all-map}
 use Rattle.pls_colour.specs.Bipartite.{colour_label, differs_from}
 use Rattle.pls_colour.proofs.InPlace.{colour_judged, passes}
-use Rattle.pls_colour.proofs.bipartite.verdict_on.Goals as goal
+use Rattle.pls_colour.proofs.bipartite.BipartiteRules.verdict.Goals as goal
 
 pub returns : goal.returns
 returns c =

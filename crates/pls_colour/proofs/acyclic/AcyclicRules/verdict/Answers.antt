@@ -4,7 +4,7 @@ use Rattle.pls_colour.specs.Acyclic.{cycle_label_in}
 use Rattle.pls_colour.specs.CyclePorts.{is_above, is_beside}
 use Rattle.pls_colour.specs.ReadLaws.{count_by-map}
 use Rattle.pls_colour.proofs.InPlace.{depth_judged, passes}
-use Rattle.pls_colour.proofs.acyclic.verdict_on.Goals as goal
+use Rattle.pls_colour.proofs.acyclic.AcyclicRules.verdict.Goals as goal
 
 pub returns : goal.returns
 returns g c =

@@ -1,7 +1,7 @@
 use Rattle.std.proofs.Common.{◌≡◌, ◌∙◌, rules}
 use Rattle.std.specs.Option.{option_map}
 use Rattle.pls_pointer.proofs.Judged.{judge_forest-read}
-use Rattle.pls_pointer.proofs.forest.verdict_on.Goals as goal
+use Rattle.pls_pointer.proofs.forest.ForestRules.verdict.Goals as goal
 
 pub returns : goal.returns
 returns g c =

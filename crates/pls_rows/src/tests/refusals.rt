@@ -1,0 +1,109 @@
+//! Worked examples of inputs that are refused.
+
+use super::{APART, COLOURS, PAIR, assert_runs};
+use crate::run_in_memory;
+use pls_base::Status;
+use std::test::Fail;
+
+#[test]
+fn words_and_labels_are_refused(rt: HostRuntime) -> Result<(), Fail> {
+    let cut = "network\nnode 1 - 0 0\nport 2 1\nnode 2 - 0 0\nport 1 1\n";
+    let spare = "labels\nlabel 1 1 40\nlabel 2 1 80\nend\n";
+    let turned = "labels\nlabel 2 1 00\nlabel 1 1 80\nend\n";
+    let few = "labels\nlabel 1 1 00\nend\n";
+    let many = "labels\nlabel 1 1 00\nlabel 2 1 80\nlabel 3 1 80\nend\n";
+    let refused = Status::Refused;
+    let examples = [
+        ("colour", [PAIR, COLOURS], ("usage\n", Status::Usage)),
+        ("bipartite", [cut, ""], ("refused form at 6\n", refused)),
+        ("bipartite", [PAIR, ""], ("refused form at 7\n", refused)),
+        ("bipartite", [PAIR, spare], ("refused form at 8\n", refused)),
+        ("bipartite", [PAIR, turned], ("refused 20 at 8\n", refused)),
+        ("bipartite", [PAIR, few], ("refused 20 at 9\n", refused)),
+        ("bipartite", [PAIR, many], ("refused 20 at 10\n", refused)),
+        ("bipartite", [APART, turned], ("refused 20 at 6\n", refused)),
+    ];
+    assert_runs(&rt, rt.alloc(), "verify", examples)
+}
+
+#[test]
+fn networks_are_refused(rt: HostRuntime) -> Result<(), Fail> {
+    let large = "node 4294967296 - 0 0\nend\n";
+    let behind = "node 1 - 0 0\nend\nx\n";
+    let falling = "node 2 - 0 0\nnode 1 - 0 0\nend\n";
+    let itself = "node 1 - 0 0\nport 1 1\nend\n";
+    let twice = "node 1 - 0 0\nport 2 1\nport 2 1\nnode 2 - 0 0\nport 1 1\nend\n";
+    let unknown = "node 1 - 0 0\nport 9 1\nend\n";
+    let one_way = "node 1 - 0 0\nport 2 1\nnode 2 - 0 0\nend\n";
+    let weights = "node 1 - 0 0\nport 2 1\nnode 2 - 0 0\nport 1 2\nend\n";
+    let nowhere = "node 1 1 0 0\nport 2 1\nnode 2 - 0 0\nport 1 1\nend\n";
+    let apart = "node 1 - 0 0\nnode 2 - 0 0\nend\n";
+    let refused = Status::Refused;
+    let examples = [
+        ("tree", ["", ""], ("refused form at 1\n", refused)),
+        (
+            "tree",
+            ["network\n", "end\n"],
+            ("refused form at 2\n", refused),
+        ),
+        (
+            "tree",
+            ["network\n", large],
+            ("refused form at 2\n", refused),
+        ),
+        (
+            "tree",
+            ["network\n", behind],
+            ("refused form at 4\n", refused),
+        ),
+        ("tree", [PAIR, COLOURS], ("refused form at 7\n", refused)),
+        (
+            "tree",
+            ["network\n", falling],
+            ("refused 10 at 1\n", refused),
+        ),
+        (
+            "tree",
+            ["network\n", itself],
+            ("refused 11 at 1\n", refused),
+        ),
+        ("tree", ["network\n", twice], ("refused 12 at 1\n", refused)),
+        (
+            "tree",
+            ["network\n", unknown],
+            ("refused 13 at 1\n", refused),
+        ),
+        (
+            "tree",
+            ["network\n", one_way],
+            ("refused 14 at 1\n", refused),
+        ),
+        (
+            "tree",
+            ["network\n", weights],
+            ("refused 15 at 1\n", refused),
+        ),
+        (
+            "tree",
+            ["network\n", nowhere],
+            ("refused 16 at 1\n", refused),
+        ),
+        ("tree", ["network\n", apart], ("refused 17 at 2\n", refused)),
+    ];
+    assert_runs(&rt, rt.alloc(), "mark", examples)
+}
+
+#[test]
+fn one_node_too_many_is_a_limit(rt: HostRuntime) -> Result<(), Fail> {
+    let alloc = rt.alloc();
+    let mut bytes = b"network\n".to_vec(alloc)?;
+    for id in 0..32_769 {
+        let line = format!(in alloc; "node {id} - 0 0\n")?;
+        bytes.extend_from_slice(line.as_bytes())?;
+    }
+    bytes.extend_from_slice(b"end\n")?;
+    let (end, sink) = run_in_memory(alloc, &["mark", "tree"], bytes)?;
+    assert_eq!(rt; sink.bytes(), b"limit nodes\n".as_slice());
+    assert_eq!(rt; end, Status::Limit);
+    Ok(())
+}
