@@ -8,9 +8,8 @@ use Rattle.pls_scheme.specs.Reading.{ReadPort, read_port, read_ports}
 use Rattle.pls_scheme.proofs.Readings.{count_by-read, judged_by_rules, list_all-read}
 use Rattle.pls_colour.specs.declared.acyclic.CycleLabel.{CycleLabel}
 use Rattle.pls_colour.specs.declared.bipartite.ColourLabel.{ColourLabel}
-use Rattle.pls_colour.specs.Acyclic.{acyclic_rules, cycle_label_in, judge_acyclic}
+use Rattle.pls_colour.specs.Acyclic.{acyclic_rules, cycle_label_in, is_above, is_beside, judge_acyclic}
 use Rattle.pls_colour.specs.Bipartite.{bipartite_rules, colour_label, differs_from, judge_bipartite}
-use Rattle.pls_colour.specs.CyclePorts.{is_above, is_beside}
 
 -- what is read at the port passes the test
 abbrev pub passes : {L : Type 0} → (List Bool → Option L) → (ReadPort L → Bool) → SeenPort → Bool

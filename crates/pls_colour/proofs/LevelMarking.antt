@@ -18,11 +18,11 @@ use Rattle.pls_scheme.proofs.Saying.{said_accepted}
 use Rattle.pls_facts.specs.Cycle.{AreSearched, IsAcyclic}
 use Rattle.pls_facts.proofs.Depths.{searched_differ, searched_one_above}
 use Rattle.pls_colour.specs.declared.acyclic.CycleLabel.{CycleLabel}
-use Rattle.pls_colour.specs.Acyclic.{IsLevelMarked, acyclic_rules, cycle_label_in, differs_by_one, has_one_above, judge_acyclic, longest_acyclic}
+use Rattle.pls_colour.specs.Acyclic.{IsLevelMarked, acyclic_rules, cycle_label, cycle_label_in, differs_by_one, has_one_above, is_above, is_beside, judge_acyclic, longest_acyclic}
 use Rattle.pls_colour.specs.AcyclicLaws.{coded_label}
-use Rattle.pls_colour.specs.CyclePorts.{SaysDepth, is_above, is_beside, label_of_depth}
+use Rattle.pls_colour.specs.SaidDepth.{SaysDepth}
 use Rattle.pls_colour.specs.Levelled.{AreLevelled}
-use Rattle.pls_colour.specs.ReadLaws.{all_ports_pass, count_by-map}
+use Rattle.pls_scheme.proofs.SaidPorts.{all_ports_pass, count_by-map}
 use Rattle.pls_colour.proofs.Levels.{adjacent_known, level_below, levels_searched}
 use Rattle.pls_colour.proofs.Parity.{one_level}
 use Rattle.pls_colour.proofs.Levelled.{one_levelled, first_row, says_level}
@@ -78,15 +78,15 @@ module _ (code : ℕ → List Bool) (rows : List NodeRow) (labels : List (List B
       (first : NodeRow) (at_first : slice_get rows 0 ≡ Some first) where
     -- what the label of an identity says
     abbrev say : ℕ → CycleLabel
-    say id = unwrap_or (cycle_label_in takes (label_of rows labels id)) (label_of_depth 0)
+    say id = unwrap_or (cycle_label_in takes (label_of rows labels id)) (cycle_label 0)
 
     -- the label of a row says its level
     says : (row : NodeRow) → Contains rows row
         → (level : ℕ) × IsLevel (edges_of rows) first.id row.id level
         × (cycle_label_in takes (label_of rows labels row.id) ≡ Some (say row.id))
-        × (say row.id ≡ label_of_depth level)
-    says row in' = says_level (cycle_label_in takes) (SaysDepth code) label_of_depth
-        (λ level bits coded. coded_label code takes taken bits (label_of_depth level) coded) rows
+        × (say row.id ≡ cycle_label level)
+    says row in' = says_level (cycle_label_in takes) (SaysDepth code) cycle_label
+        (λ level bits coded. coded_label code takes taken bits (cycle_label level) coded) rows
         net labels levels first at_first row in'
 
     is_level : (id : ℕ) → Contains (ids_of rows) id

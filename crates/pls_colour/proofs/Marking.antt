@@ -17,7 +17,7 @@ use Rattle.pls_colour.specs.declared.bipartite.ColourLabel.{ColourLabel}
 use Rattle.pls_colour.specs.Bipartite.{IsBipartite, bipartite_rules, colour_label, differ, differs_from, differs_from_neighbours, judge_bipartite, label_of_colour}
 use Rattle.pls_colour.specs.Levelled.{AreLevelled}
 use Rattle.pls_colour.specs.Marked.{IsParityMarked, SaysParity, is_odd}
-use Rattle.pls_colour.specs.ReadLaws.{all_ports_pass}
+use Rattle.pls_scheme.proofs.SaidPorts.{all_ports_pass}
 use Rattle.pls_colour.proofs.Levelled.{one_levelled, first_row, says_level}
 use Rattle.pls_colour.proofs.Parity.{adjacent_differ, one_colour_at_levels}
 
@@ -39,10 +39,6 @@ parity_read level bits says = ap colour_label says
 
 module _ (rows : List NodeRow) (labels : List (List Bool))
     (levels : AreLevelled SaysParity rows labels) where
-  -- parities of levels are marked labels
-  pub parities_marked : IsParityMarked rows labels
-  parities_marked = record { each = levels.each; parity = levels.level }
-
   module _ (net : IsNetwork rows) (first : NodeRow) (at_first : slice_get rows 0 ≡ Some first) where
     -- what the label of an identity says
     abbrev say : ℕ → ColourLabel
@@ -124,5 +120,4 @@ pub one_marking : (rows : List NodeRow) (labels others : List (List Bool)) → 1
     → IsParityMarked rows labels → IsParityMarked rows others → labels ≡ others
 one_marking rows labels others some one two =
     one_levelled SaysParity (λ level one other says too. says ∙ sym too) rows labels others some
-    (record { each = one.each; level = one.parity })
-    (record { each = two.each; level = two.parity })
+    one two

@@ -1,5 +1,5 @@
 -- What the labels of two-colourings say: one colour each, and all together a two-colouring.
-use Rattle.std.proofs.Common.{◌≡◌, ◌≢◌, ◌∙◌, sym, ℕ, Bool, true, false, List, [], ◌∷◌, unwrap_or, Contains, nat_lt, ap, subst}
+use Rattle.std.proofs.Common.{◌≡◌, ◌≢◌, ◌↔◌, ◌∙◌, sym, ℕ, Bool, true, false, List, [], ◌∷◌, Some, unwrap_or, Contains, nat_lt, ap, subst}
 use Rattle.std.specs.List.{filter}
 use Rattle.pls_model.specs.declared.row.Port.{Port}
 use Rattle.pls_model.specs.declared.row.NodeRow.{NodeRow}
@@ -10,7 +10,7 @@ use Rattle.pls_scheme.specs.Judging.{AllAccept}
 use Rattle.pls_scheme.proofs.Saying.{accepted_say}
 use Rattle.pls_colour.specs.declared.bipartite.ColourLabel.{ColourLabel}
 use Rattle.pls_colour.specs.Bipartite.{IsBipartite, bipartite_rules, colour_label, differ, differs_from, judge_bipartite, label_of_colour}
-use Rattle.pls_colour.specs.ReadLaws.{passes_port}
+use Rattle.pls_scheme.proofs.SaidPorts.{passes_port}
 
 -- colours that differ are not the same
 differ-apart : (one other : Bool) → differ one other ≡ true → one ≢ other
@@ -47,6 +47,16 @@ bipartite_sound rows labels accepted = (λ id. (say id).colour, across)
         (Contains-from_filter up row.ports port given.1).0 in
         subst (λ (edge : Edge). (say edge.a).colour ≢ (say edge.b).colour) given.2
         (differ-apart (say row.id).colour (say port.nbr).colour passes)
+
+-- bits say a colour exactly where they are that one bit
+pub colour_label-spells : (bits : List Bool) (label : ColourLabel)
+    → (colour_label bits ≡ Some label) ↔ (bits ≡ label.colour ∷ [])
+colour_label-spells [] label = (λ none. absurd (cc), λ none. absurd (cc))
+colour_label-spells (colour ∷ []) label = (
+  λ said. let same : label_of_colour colour ≡ label = cc in ap (λ label. label.colour ∷ []) same,
+  λ spelled. let same : colour ≡ label.colour = cc in ap (λ colour. Some (label_of_colour colour)) same,
+)
+colour_label-spells (colour ∷ next ∷ others) label = (λ none. absurd (cc), λ none. absurd (cc))
 
 -- bits say one colour
 pub one_colour : (bits : List Bool) (a b : ColourLabel) → bits ≡ a.colour ∷ []

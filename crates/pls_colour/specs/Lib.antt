@@ -1,8 +1,7 @@
 pub mod Bipartite
 pub mod Levelled
-pub mod ReadLaws
 pub mod Acyclic
-pub mod CyclePorts
+pub mod SaidDepth
 pub mod AcyclicLaws
 pub mod Marked
 pub mod BipartiteLaws

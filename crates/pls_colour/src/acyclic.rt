@@ -2,9 +2,8 @@
 
 ghost use Rattle.std.specs.Prelude.{◌≡◌, nat_le, count_by};
 ghost use Rattle.std.specs.List.{list_all};
-ghost use Rattle.pls_colour.specs.Acyclic.{cycle_label_in, judge_acyclic};
-ghost use Rattle.pls_colour.specs.CyclePorts.{is_above, is_beside};
-ghost use Rattle.pls_colour.specs.Levelled.{passes_at};
+ghost use Rattle.pls_colour.specs.Acyclic.{cycle_label_in, is_above, is_beside, judge_acyclic};
+ghost use Rattle.pls_scheme.specs.Reading.{passes_at};
 
 use pls_bits::{Bits, NumCode};
 use pls_scheme::{Reads, Rules, Verdict, is_one_more, judged_from, own_label, read_numbers};
@@ -32,9 +31,12 @@ impl<C: NumCode> Acyclic<C> {
 }
 
 impl<C: NumCode> Reads for Acyclic<C> {
-    ghost use Rattle.pls_colour.specs.Acyclic.{cycle_label_in};
+    ghost use Rattle.pls_colour.specs.Acyclic.{IsCycleLabel, cycle_label_in};
+    ghost use Rattle.pls_colour.specs.AcyclicLaws.{cycle_label_in-spells};
 
     type Said = CycleLabel;
+
+    ghost spells = { λ bits label. IsCycleLabel C.code bits label };
 
     ghost said = { λ bits. cycle_label_in C.takes bits };
 
@@ -42,6 +44,10 @@ impl<C: NumCode> Reads for Acyclic<C> {
         let [depth] = read_numbers::<C, 1>(bits)?;
         Some(CycleLabel { depth })
     }
+
+    ghost said_law = {
+        λ bits label. cycle_label_in-spells C.code C.takes C.takes_codes C.takes_only bits label
+    };
 }
 
 impl<C: NumCode> Rules for Acyclic<C> {

@@ -25,7 +25,7 @@ impl<C: NumCode> Scheme for Acyclic<C> {
     ghost use Rattle.pls_scheme.specs.Numbers.{AreCoded};
     ghost use Rattle.pls_scheme.proofs.Spellings.{has_spelling, one_spelling};
     ghost use Rattle.pls_colour.specs.Acyclic.{IsCycleLabel, IsLevelMarked, longest_acyclic};
-    ghost use Rattle.pls_colour.specs.AcyclicLaws.{acyclic_sound, numbers_of_cycle, one_depth};
+    ghost use Rattle.pls_colour.specs.AcyclicLaws.{acyclic_sound, numbers_of_cycle, one_cycle_label};
 
     type Label = CycleLabel;
 
@@ -58,13 +58,13 @@ impl<C: NumCode> Scheme for Acyclic<C> {
 
     ghost one_spelling_law = { λ _ label a b first second. one_spelling C.code (numbers_of_cycle label) a b first second };
 
-    ghost one_label_law = { λ _ bits a b first second. one_depth C.code C.takes C.takes_codes bits a b first second };
+    ghost one_label_law = { λ _ bits a b first second. one_cycle_label C.code C.takes C.takes_codes bits a b first second };
 
     ghost sound_law = { λ _ rows labels net _ _ accepted. acyclic_sound C.takes rows net labels accepted };
 }
 
 impl<C: NumCode> WritesLevels for Acyclic<C> {
-    ghost use Rattle.pls_colour.specs.CyclePorts.{SaysDepth};
+    ghost use Rattle.pls_colour.specs.SaidDepth.{SaysDepth};
 
     ghost says = { λ level bits. SaysDepth C.code level bits };
 

@@ -3,7 +3,7 @@
 ghost use Rattle.std.specs.Prelude.{◌≡◌};
 ghost use Rattle.std.specs.List.{list_all};
 ghost use Rattle.pls_colour.specs.Bipartite.{colour_label, differ, differs_from, judge_bipartite};
-ghost use Rattle.pls_colour.specs.Levelled.{passes_at};
+ghost use Rattle.pls_scheme.specs.Reading.{passes_at};
 
 use pls_bits::Bits;
 use pls_scheme::{Reads, Rules, Verdict, judged_from, own_label};
@@ -28,9 +28,13 @@ impl Bipartite {
 }
 
 impl Reads for Bipartite {
+    ghost use Rattle.std.specs.Prelude.{◌≡◌, ◌∷◌, []};
     ghost use Rattle.pls_colour.specs.Bipartite.{colour_label};
+    ghost use Rattle.pls_colour.specs.BipartiteLaws.{colour_label-spells};
 
     type Said = ColourLabel;
+
+    ghost spells = { λ bits label. bits ≡ label.colour ∷ [] };
 
     ghost said = { λ bits. colour_label bits };
 
@@ -43,6 +47,8 @@ impl Reads for Bipartite {
             None
         }
     }
+
+    ghost said_law = { λ bits label. colour_label-spells bits label };
 }
 
 impl Rules for Bipartite {

@@ -9,3 +9,4 @@ pub mod Trees
 pub mod Agreed
 pub mod Cycles
 pub mod Depths
+pub mod Worked

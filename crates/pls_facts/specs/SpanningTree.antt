@@ -12,7 +12,7 @@ use Rattle.pls_facts.specs.Pointer.{pointed_port}
 abbrev pub AreDistinct : {A : Type 0} → List A → Type 0
 AreDistinct things = AllPairs (λ one other. one ≢ other) things
 
--- so many edges less one as there are nodes, all distinct and among the edges, which join all nodes
+-- one edge fewer than there are nodes, all of them distinct edges of the network, which join all nodes
 pub record IsSpanningTree (edges tree : List Edge) (nodes : List ℕ) : Type 0 where
   pub among : (edge : Edge) → Contains tree edge → Contains edges edge
   pub distinct : AreDistinct tree

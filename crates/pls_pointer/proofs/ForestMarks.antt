@@ -15,10 +15,10 @@ use Rattle.pls_scheme.proofs.Saying.{AllHold, said_accepted}
 use Rattle.pls_facts.specs.Pointer.{IsChainOf}
 use Rattle.pls_search.specs.Depths.{AreDepths}
 use Rattle.pls_pointer.specs.declared.forest.DepthLabel.{DepthLabel}
-use Rattle.pls_pointer.specs.Forest.{IsForestMarked, depth_in, depth_label, forest_rules, judge_forest, longest_forest}
+use Rattle.pls_pointer.specs.Forest.{IsForestMarked, depth_in, forest_rules, judge_forest, longest_forest, one_depth}
 use Rattle.pls_scheme.specs.EndInDepths.{EndInDepths}
 use Rattle.pls_scheme.proofs.Spellings.{TakesCodes, label_in-spelled}
-use Rattle.pls_pointer.specs.Deeper.{falls_deeper}
+use Rattle.pls_pointer.specs.PointingLaws.{falls_deeper}
 use Rattle.pls_pointer.specs.ForestLaws.{depth_is_number, numbers_of_depth}
 use Rattle.pls_pointer.proofs.Depths.{chain_of, depth_at, depth_of, depth_of_root, depths_fall}
 use Rattle.pls_scheme.proofs.Texts.{AreTexts, each_text, label_of-row, text}
@@ -68,7 +68,7 @@ module _ (code : ℕ → List Bool) (rows : List NodeRow) (net : IsNetwork rows)
       says : (row : NodeRow) → Contains rows row
           → depth_in takes (label_of rows labels row.id) ≡ Some (say row.id)
       says row in' =
-          label_in-spelled 1 depth_label numbers_of_depth depth_is_number code takes taken
+          label_in-spelled 1 one_depth numbers_of_depth depth_is_number code takes taken
           (label_of rows labels row.id) (say row.id)
           record {
             coded = All-cons (λ number. number ≤ MAX_CODED) (depth_of rows depths row.id) []

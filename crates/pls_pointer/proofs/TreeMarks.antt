@@ -24,7 +24,7 @@ use Rattle.pls_pointer.specs.Tree.{IsTreeMarked, agrees_on_root, judge_tree, lon
 use Rattle.pls_scheme.specs.EndInDepths.{EndInDepths}
 use Rattle.pls_pointer.specs.OnlyRoot.{IsOnlyRoot}
 use Rattle.pls_scheme.proofs.Spellings.{TakesCodes, label_in-spelled}
-use Rattle.pls_pointer.specs.Deeper.{falls_deeper}
+use Rattle.pls_pointer.specs.PointingLaws.{falls_deeper}
 use Rattle.pls_pointer.specs.TreeLaws.{numbers_of_tree, tree_is_numbers}
 use Rattle.pls_pointer.proofs.Depths.{chain_end, chain_of, depth_at, depth_of, depth_of_root, depths_fall}
 use Rattle.pls_scheme.proofs.Texts.{AreTexts, each_text, label_of-row, text}

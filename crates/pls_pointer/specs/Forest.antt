@@ -1,15 +1,16 @@
 -- The scheme of forests: what a label says, what a node judges, and the marker's labels. The
 -- property is that no non-empty chain of pointers returns to its start.
-use Rattle.std.specs.Prelude.{◌≡◌, ℕ, ◌+◌, ◌==◌, Bool, true, ◌||◌, List, [], ◌∷◌, length, slice_get, Option, Some, None, option_and_then}
+use Rattle.std.specs.Prelude.{◌≡◌, ℕ, ◌+◌, ◌==◌, Bool, true, ◌||◌, List, [], ◌∷◌, length, slice_get, Option, Some, None, option_map, option_and_then}
 use Rattle.std.specs.Option.{is_some, option_map_or}
 use Rattle.pls_model.specs.declared.row.NodeRow.{NodeRow}
 use Rattle.pls_model.specs.declared.verdict.Verdict.{Verdict}
 use Rattle.pls_graph.specs.declared.size.Size.{Size}
 use Rattle.pls_view.specs.Seen.{Seen}
 use Rattle.pls_scheme.specs.Length.{code_length}
-use Rattle.pls_scheme.specs.Numbers.{AreCodesOf, numbers_in}
-use Rattle.pls_scheme.specs.Reading.{Read, judge_by, target}
+use Rattle.pls_scheme.specs.Numbers.{AreCodesOf, numbers_in, only_number}
+use Rattle.pls_scheme.specs.Reading.{Read, judge_by}
 use Rattle.pls_facts.specs.Pointer.{IsChainOf, NoneReturns}
+use Rattle.pls_pointer.specs.Pointing.{is_one_deeper_than_target, points}
 use Rattle.pls_pointer.specs.declared.forest.DepthLabel.{DepthLabel}
 
 -- no chain of pointers returns
@@ -20,28 +21,29 @@ IsForest rows = NoneReturns rows
 abbrev pub IsDepthLabel : (ℕ → List Bool) → List Bool → DepthLabel → Type 0
 IsDepthLabel code bits label = AreCodesOf code (label.depth ∷ []) bits
 
+-- the label with this depth
+abbrev pub depth_label : ℕ → DepthLabel
+depth_label depth = record { depth = depth }
+
 -- the label of one number
-abbrev pub depth_label : List ℕ → Option DepthLabel
-depth_label [] = None
-depth_label (depth ∷ []) = Some (record { depth = depth })
-depth_label (depth ∷ next ∷ others) = None
+abbrev pub one_depth : List ℕ → Option DepthLabel
+one_depth numbers = option_map depth_label (only_number numbers)
 
 -- the label that bits are, by what takes a code off
 abbrev pub depth_in : (List Bool → Option (ℕ × List Bool)) → List Bool → Option DepthLabel
-depth_in takes bits = option_and_then depth_label (numbers_in takes 1 bits)
+depth_in takes bits = option_and_then one_depth (numbers_in takes 1 bits)
 
 -- rule 3: the node points at a port, or its depth is 0
 abbrev pub points_or_is_at_0 : Read DepthLabel → Bool
-points_or_is_at_0 view = is_some view.state.up || view.own.depth == 0
+points_or_is_at_0 view = points view || view.own.depth == 0
 
 -- rule 4: the node points at no port, or it is one deeper than the node that it points at
-abbrev pub is_one_deeper_than_target : Read DepthLabel → Bool
-is_one_deeper_than_target view =
-    option_map_or (λ port. view.own.depth == port.label.depth + 1) (target view) true
+abbrev pub is_deeper_in_forest : Read DepthLabel → Bool
+is_deeper_in_forest view = is_one_deeper_than_target (λ label. label.depth) view
 
 -- the rules from 3 on
 abbrev pub forest_rules : Read DepthLabel → List Bool
-forest_rules view = points_or_is_at_0 view ∷ is_one_deeper_than_target view ∷ []
+forest_rules view = points_or_is_at_0 view ∷ is_deeper_in_forest view ∷ []
 
 -- what a node judges
 abbrev pub judge_forest : (List Bool → Option (ℕ × List Bool)) → Seen → Verdict

@@ -1,6 +1,7 @@
 pub mod Tree
 pub mod Forest
 pub mod OnlyRoot
-pub mod Deeper
+pub mod Pointing
+pub mod PointingLaws
 pub mod TreeLaws
 pub mod ForestLaws

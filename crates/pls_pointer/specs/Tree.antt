@@ -10,8 +10,9 @@ use Rattle.pls_graph.specs.declared.size.Size.{Size}
 use Rattle.pls_view.specs.Seen.{Seen}
 use Rattle.pls_scheme.specs.Length.{code_length}
 use Rattle.pls_scheme.specs.Numbers.{AreCodesOf, numbers_in}
-use Rattle.pls_scheme.specs.Reading.{Read, judge_by, target}
+use Rattle.pls_scheme.specs.Reading.{Read, ReadPort, judge_by}
 use Rattle.pls_facts.specs.Pointer.{IsChainOf}
+use Rattle.pls_pointer.specs.Pointing.{is_one_deeper_than_target, points}
 use Rattle.pls_pointer.specs.declared.tree.TreeLabel.{TreeLabel}
 
 -- the bits are the codes of the root's identity and of the node's depth, and nothing more
@@ -29,26 +30,25 @@ tree_label (root ∷ depth ∷ next ∷ others) = None
 abbrev pub tree_in : (List Bool → Option (ℕ × List Bool)) → List Bool → Option TreeLabel
 tree_in takes bits = option_and_then tree_label (numbers_in takes 2 bits)
 
--- the node points at a port
-abbrev pub points : Read TreeLabel → Bool
-points view = is_some view.state.up
+-- the neighbour's root is this one
+abbrev pub names_root : ℕ → ReadPort TreeLabel → Bool
+names_root root port = port.label.root == root
 
 -- rule 3: every neighbour's root is the own root
 abbrev pub agrees_on_root : Read TreeLabel → Bool
-agrees_on_root view = list_all (λ port. port.label.root == view.own.root) view.ports
+agrees_on_root view = list_all (names_root view.own.root) view.ports
 
 -- rule 4: the node points at a port, or it is the root, of depth 0
 abbrev pub points_or_is_root : Read TreeLabel → Bool
 points_or_is_root view = points view || (view.own.depth == 0 && view.id == view.own.root)
 
 -- rule 5: the node points at no port, or it is one deeper than the node that it points at
-abbrev pub is_one_deeper_than_target : Read TreeLabel → Bool
-is_one_deeper_than_target view =
-    option_map_or (λ port. view.own.depth == port.label.depth + 1) (target view) true
+abbrev pub is_deeper_in_tree : Read TreeLabel → Bool
+is_deeper_in_tree view = is_one_deeper_than_target (λ label. label.depth) view
 
 -- the rules from 3 on
 abbrev pub tree_rules : Read TreeLabel → List Bool
-tree_rules view = agrees_on_root view ∷ points_or_is_root view ∷ is_one_deeper_than_target view ∷ []
+tree_rules view = agrees_on_root view ∷ points_or_is_root view ∷ is_deeper_in_tree view ∷ []
 
 -- what a node judges
 abbrev pub judge_tree : (List Bool → Option (ℕ × List Bool)) → Seen → Verdict

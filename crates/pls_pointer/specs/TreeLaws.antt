@@ -1,6 +1,6 @@
 -- What labels of trees say: a root and a depth each, and all together that the pointers make a
 -- tree.
-use Rattle.std.proofs.Common.{◌≡◌, ◌≤◌, ◌∙◌, ◌||◌, ◌==◌, ◌&&◌, ℕ, Bool, true, List, [], ◌∷◌, length, Contains, Option, Some, None, refl, sym, arith, is_some}
+use Rattle.std.proofs.Common.{◌≡◌, ◌↔◌, ◌≤◌, ◌∙◌, ◌||◌, ◌==◌, ◌&&◌, ℕ, Bool, true, List, [], ◌∷◌, length, Contains, Option, Some, None, refl, sym, arith, is_some}
 use Rattle.std.proofs.lemmas.Bool.{eqb-true, and_parts}
 use Rattle.std.proofs.lemmas.List.Elements.{All-contains}
 use Rattle.std.proofs.lemmas.List.Folds.{list_all-map}
@@ -13,6 +13,7 @@ use Rattle.pls_graph.proofs.Members.{Contains-first}
 use Rattle.pls_view.specs.Seen.{label_of}
 use Rattle.pls_scheme.specs.Judging.{AllAccept}
 use Rattle.pls_scheme.specs.Reading.{ReadPort, said, said_port}
+use Rattle.pls_scheme.proofs.SaidPorts.{passes_port}
 use Rattle.pls_scheme.proofs.Saying.{AllHold, accepted_say, say_of}
 use Rattle.pls_facts.specs.Pointer.{Falls}
 use Rattle.pls_facts.specs.SpanningTree.{IsTree}
@@ -20,9 +21,9 @@ use Rattle.pls_facts.proofs.Agreed.{AgreeAtPorts, agree_everywhere}
 use Rattle.pls_facts.proofs.Pointed.{id_of_row}
 use Rattle.pls_facts.proofs.Trees.{IsTree-falling}
 use Rattle.pls_pointer.specs.declared.tree.TreeLabel.{TreeLabel}
-use Rattle.pls_pointer.specs.Tree.{IsTreeLabel, agrees_on_root, judge_tree, points_or_is_root, tree_in, tree_label, tree_rules}
-use Rattle.pls_scheme.proofs.Spellings.{AreNumbers, TakesCodes, one_label}
-use Rattle.pls_pointer.specs.Deeper.{deeper_falls}
+use Rattle.pls_pointer.specs.Tree.{IsTreeLabel, agrees_on_root, judge_tree, names_root, points_or_is_root, tree_in, tree_label, tree_rules}
+use Rattle.pls_scheme.proofs.Spellings.{AreNumbers, TakesCodes, TakesOnly, label_in-spells, one_label}
+use Rattle.pls_pointer.specs.PointingLaws.{deeper_falls}
 
 -- the numbers of a label
 abbrev pub numbers_of_tree : TreeLabel → List ℕ
@@ -39,13 +40,19 @@ tree_is_numbers = record { many = λ label. refl; given = λ label. refl; only =
     only (root ∷ depth ∷ []) label is = cc
     only (root ∷ depth ∷ next ∷ others) label is = absurd (cc)
 
--- bits are one label at most
-pub one_tree_label : (code : ℕ → List Bool) (takes : List Bool → Option (ℕ × List Bool))
-    → TakesCodes code takes
-    → (bits : List Bool) (a b : TreeLabel) → IsTreeLabel code bits a → IsTreeLabel code bits b
-    → a ≡ b
-one_tree_label code takes taken bits a b first second =
-    one_label 2 tree_label numbers_of_tree tree_is_numbers code takes taken bits a b first second
+module _ (code : ℕ → List Bool) (takes : List Bool → Option (ℕ × List Bool))
+    (taken : TakesCodes code takes) where
+  -- bits say a label exactly where they are its codes
+  pub tree_in-spells : TakesOnly code takes → (bits : List Bool) (label : TreeLabel)
+      → (tree_in takes bits ≡ Some label) ↔ IsTreeLabel code bits label
+  tree_in-spells only bits label =
+      label_in-spells 2 tree_label numbers_of_tree tree_is_numbers code takes taken only bits label
+
+  -- bits are one label at most
+  pub one_tree_label : (bits : List Bool) (a b : TreeLabel) → IsTreeLabel code bits a
+      → IsTreeLabel code bits b → a ≡ b
+  one_tree_label bits a b first second =
+      one_label 2 tree_label numbers_of_tree tree_is_numbers code takes taken bits a b first second
 
 -- a list that is not empty has a first item
 some_row : (rows : List NodeRow) → 1 ≤ length rows → (row : NodeRow) × Contains rows row
@@ -57,11 +64,8 @@ module _ (say : ℕ → TreeLabel) (row : NodeRow) where
   agree_at_port : agrees_on_root (said say row) ≡ true → (port : Port) → Contains row.ports port
       → (say port.nbr).root ≡ (say row.id).root
   agree_at_port agrees port has =
-      let test : ReadPort TreeLabel → Bool = λ port. port.label.root == (say row.id).root in
-      let each = AllPass-from_list_all (λ (port : Port). test (said_port say port)) row.ports
-      (sym (list_all-map test (said_port say) row.ports) ∙ agrees) in
       eqb-true (say port.nbr).root (say row.id).root
-      (All-contains (λ (port : Port). test (said_port say port) ≡ true) row.ports port each has)
+      (passes_port (names_root (say row.id).root) say row.ports agrees port has)
 
   -- where rule 4 holds, a node without pointer is the root
   root_names_itself : points_or_is_root (said say row) ≡ true → row.state.up ≡ None

@@ -2,7 +2,6 @@
 
 ghost use Rattle.std.specs.Prelude.{◌≡◌, ◌==◌, ◌||◌};
 ghost use Rattle.std.specs.Option.{is_some};
-ghost use Rattle.pls_pointer.specs.Forest.{judge_forest};
 
 use crate::above::{is_one_deeper, label_above};
 use pls_bits::{Bits, NumCode};
@@ -31,9 +30,12 @@ impl<C: NumCode> Forest<C> {
 }
 
 impl<C: NumCode> Reads for Forest<C> {
-    ghost use Rattle.pls_pointer.specs.Forest.{depth_in};
+    ghost use Rattle.pls_pointer.specs.Forest.{IsDepthLabel, depth_in};
+    ghost use Rattle.pls_pointer.specs.ForestLaws.{depth_in-spells};
 
     type Said = DepthLabel;
+
+    ghost spells = { λ bits label. IsDepthLabel C.code bits label };
 
     ghost said = { λ bits. depth_in C.takes bits };
 
@@ -41,6 +43,10 @@ impl<C: NumCode> Reads for Forest<C> {
         let [depth] = read_numbers::<C, 1>(bits)?;
         Some(DepthLabel { depth })
     }
+
+    ghost said_law = {
+        λ bits label. depth_in-spells C.code C.takes C.takes_codes C.takes_only bits label
+    };
 }
 
 impl<C: NumCode> Rules for Forest<C> {

@@ -2,8 +2,9 @@
 
 ghost use Rattle.std.specs.Prelude.{◌≡◌, ◌==◌, ◌&&◌, ◌||◌, false};
 ghost use Rattle.std.specs.List.{list_all};
-ghost use Rattle.std.specs.Option.{is_some, option_map_or};
-ghost use Rattle.pls_pointer.specs.Tree.{judge_tree, tree_in};
+ghost use Rattle.std.specs.Option.{is_some};
+ghost use Rattle.pls_scheme.specs.Reading.{passes_at};
+ghost use Rattle.pls_pointer.specs.Tree.{names_root, tree_in};
 
 use crate::above::{is_one_deeper, label_above};
 use pls_bits::{Bits, NumCode};
@@ -34,9 +35,12 @@ impl<C: NumCode> Tree<C> {
 }
 
 impl<C: NumCode> Reads for Tree<C> {
-    ghost use Rattle.pls_pointer.specs.Tree.{tree_in};
+    ghost use Rattle.pls_pointer.specs.Tree.{IsTreeLabel, tree_in};
+    ghost use Rattle.pls_pointer.specs.TreeLaws.{tree_in-spells};
 
     type Said = TreeLabel;
+
+    ghost spells = { λ bits label. IsTreeLabel C.code bits label };
 
     ghost said = { λ bits. tree_in C.takes bits };
 
@@ -44,6 +48,10 @@ impl<C: NumCode> Reads for Tree<C> {
         let [root, depth] = read_numbers::<C, 2>(bits)?;
         Some(TreeLabel { root, depth })
     }
+
+    ghost said_law = {
+        λ bits label. tree_in-spells C.code C.takes C.takes_codes C.takes_only bits label
+    };
 }
 
 impl<C: NumCode> Rules for Tree<C> {
@@ -71,17 +79,18 @@ impl<C: NumCode> Rules for Tree<C> {
 // Rule 3: every neighbour's root is this one.
 fn agrees_on_root<C: NumCode>(root: u64, ports: &[PortView<'_>]) -> bool
     ensures { result
-        ≡ list_all (λ port. option_map_or (λ label. label.root == root) (tree_in C.takes port.label)
-        false) ports.now }
+        ≡ list_all (λ port. passes_at (tree_in C.takes) (names_root root) port.weight port.label)
+            ports.now }
 {
-    ports.iter().all(|port| names_root::<C>(root, &port.label))
+    ports.iter().all(|port| names_root::<C>(root, port))
 }
 
-// Whether a label can be read, and its root is this one.
-fn names_root<C: NumCode>(root: u64, label: &Bits<'_>) -> bool
-    ensures { result ≡ option_map_or (λ label. label.root == root) (tree_in C.takes label.now) false }
+// Whether the neighbour's root is this one.
+fn names_root<C: NumCode>(root: u64, port: &PortView<'_>) -> bool
+    ensures { result
+        ≡ passes_at (tree_in C.takes) (names_root root) port.now.weight port.now.label }
 {
-    match Tree::<C>::read(label) {
+    match Tree::<C>::read(&port.label) {
         Some(label) => label.root == root,
         None => false,
     }

@@ -3,6 +3,7 @@ pub mod Codes
 pub mod Judged
 pub mod Readings
 pub mod Rounds
+pub mod SaidPorts
 pub mod Same
 pub mod Saying
 pub mod Spellings

@@ -1,9 +1,9 @@
 -- Labels that are a few numbers, and their spellings.
-use Rattle.std.proofs.Common.{◌≡◌, ◌∙◌, ℕ, ◌≤◌, ◌++◌, Bool, List, length, Option, Some, None, refl, sym, ap, subst}
+use Rattle.std.proofs.Common.{◌≡◌, ◌∙◌, ◌↔◌, ℕ, ◌≤◌, ◌++◌, Bool, List, [], ◌∷◌, length, Option, Some, None, IfSome, IfNone, option_map, refl, sym, ap, subst}
 use Rattle.std.specs.Option.{option_and_then}
 use Rattle.std.proofs.lemmas.Option.{same_Some}
 use Rattle.pls_bits.specs.declared.num_code.TheConstants.{MAX_CODED}
-use Rattle.pls_scheme.specs.Numbers.{AreCoded, AreCodesOf, codes_of, numbers_in}
+use Rattle.pls_scheme.specs.Numbers.{AreCoded, AreCodesOf, codes_of, numbers_in, only_number}
 use Rattle.pls_scheme.proofs.Codes.{codes-numbers_in, numbers_in-codes}
 
 -- a code is taken off, whatever follows it
@@ -17,6 +17,29 @@ abbrev pub TakesOnly : (ℕ → List Bool) → (List Bool → Option (ℕ × Lis
 TakesOnly code takes =
     (bits : List Bool) (number : ℕ) (rest : List Bool) → takes bits ≡ Some (number, rest)
     → (number ≤ MAX_CODED) × (bits ≡ code number ++ rest)
+
+module _ (code : ℕ → List Bool) (takes : List Bool → Option (ℕ × List Bool)) (count : ℕ)
+    (bits : List Bool) where
+  -- numbers that are read are those whose codes the bits are
+  pub numbers_in-spelled : TakesOnly code takes → (found : Option (List ℕ))
+      → found ≡ numbers_in takes count bits
+      → IfSome found (λ numbers. AreCodesOf code numbers bits)
+  numbers_in-spelled only None is = tt
+  numbers_in-spelled only (Some numbers) is =
+      (codes-numbers_in takes code only count bits numbers (sym is)).1
+
+  -- where none are read, the bits are the codes of none
+  pub numbers_in-none : TakesCodes code takes → (found : Option (List ℕ))
+      → found ≡ numbers_in takes count bits
+      → IfNone found ((numbers : List ℕ) → length numbers ≡ count → AreCodesOf code numbers bits → ⊥)
+  numbers_in-none taken (Some numbers) is = tt
+  numbers_in-none taken None is = λ numbers long spelled.
+      let read : numbers_in takes (length numbers) (codes_of code numbers) ≡ Some numbers =
+      numbers_in-codes takes code taken numbers spelled.coded in
+      let same : numbers_in takes count bits ≡ Some numbers =
+      rw (spelled.written, ← long) read in
+      let none : None ≡ Some numbers = is ∙ same in
+      absurd (cc)
 
 -- numbers that have codes have a spelling
 pub has_spelling : (code : ℕ → List Bool) (numbers : List ℕ) → AreCoded numbers
@@ -79,3 +102,28 @@ module _ {L : Type 0} (count : ℕ) (label_of : List ℕ → Option L) (numbers 
   one_label taken bits a b first second =
       same_Some a b (sym (label_in-spelled taken bits a first)
       ∙ label_in-spelled taken bits b second)
+
+  -- what bits say is what they spell
+  pub label_in-spells : TakesCodes code takes → TakesOnly code takes → (bits : List Bool) (label : L)
+      → (label_in bits ≡ Some label) ↔ AreCodesOf code (numbers label) bits
+  label_in-spells taken only bits label =
+      (spelled-label_in only bits label, label_in-spelled taken bits label)
+
+-- labels of one number, as a type that is made of it
+pub one_number : {L : Type 0} (label_of : ℕ → L) (number_of : L → ℕ)
+    → ((number : ℕ) → number_of (label_of number) ≡ number)
+    → ((label : L) → label_of (number_of label) ≡ label)
+    → AreNumbers 1 (λ numbers. option_map label_of (only_number numbers)) (λ label. number_of label ∷ [])
+one_number {L} label_of number_of there back = record {
+  many = λ label. refl;
+  given = λ label. ap Some (back label);
+  only = only;
+}
+  where
+    only : (found : List ℕ) (label : L) → option_map label_of (only_number found) ≡ Some label
+        → found ≡ number_of label ∷ []
+    only [] label is = absurd (cc)
+    only (number ∷ []) label is =
+        let same : label_of number ≡ label = cc in
+        ap (λ (number : ℕ). number ∷ []) (sym (there number) ∙ ap number_of same)
+    only (number ∷ next ∷ others) label is = absurd (cc)

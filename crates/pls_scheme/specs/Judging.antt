@@ -11,10 +11,6 @@ judged_from number [] = Accept
 judged_from number (holds ∷ others) = if holds then judged_from (number + 1) others
     else Reject 1 number
 
--- the verdict of the rules 1, 2 and so on
-abbrev pub judged : List Bool → Verdict
-judged rules = judged_from 1 rules
-
 -- the verdict of each node, in the order of the rows
 abbrev pub verdicts_by : (Seen → Verdict) → List NodeRow → List (List Bool) → List Verdict
 verdicts_by judge rows labels = map judge (views rows labels)

@@ -23,3 +23,9 @@ numbers_in takes zero (bit ∷ bits) = None
 numbers_in takes (suc count) bits =
     option_and_then (λ taken. option_map (λ numbers. taken.0 ∷ numbers)
     (numbers_in takes count taken.1)) (takes bits)
+
+-- the number of a list of one
+abbrev pub only_number : List ℕ → Option ℕ
+only_number [] = None
+only_number (number ∷ []) = Some number
+only_number (number ∷ next ∷ others) = None

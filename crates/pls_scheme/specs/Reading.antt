@@ -1,7 +1,8 @@
 -- Views whose labels are read, and verdicts by rules on what was read: rule 1 says that the own
 -- label is of the layout, rule 2 that each neighbour's is, and the later rules speak of labels that
 -- were read.
-use Rattle.std.specs.Prelude.{ℕ, Bool, List, [], ◌∷◌, map, slice_get, Option, Some, None, option_map, option_and_then}
+use Rattle.std.specs.Prelude.{ℕ, Bool, List, [], ◌∷◌, map, slice_get, Option, Some, None, false, option_map, option_and_then}
+use Rattle.std.specs.Option.{option_map_or}
 use Rattle.pls_model.specs.declared.row.State.{State}
 use Rattle.pls_model.specs.declared.row.Port.{Port}
 use Rattle.pls_model.specs.declared.row.NodeRow.{NodeRow}
@@ -50,6 +51,13 @@ judged_read rules view (Some own) (Some ports) =
 -- the verdict by a way to read a label, and by the rules from 3 on
 abbrev pub judge_by : {L : Type 0} → (List Bool → Option L) → (Read L → List Bool) → Seen → Verdict
 judge_by read rules view = judged_read rules view (read view.own) (read_ports read view.ports)
+
+-- what is read at a port with this weight and label passes a test; nothing passes where the label
+-- cannot be read
+abbrev pub passes_at : {L : Type 0} → (List Bool → Option L) → (ReadPort L → Bool) → ℕ → List Bool
+    → Bool
+passes_at read test weight label =
+    option_map_or test (read_port read (record { weight = weight; label = label })) false
 
 -- what a port shows where each label says what a function of the identity says
 abbrev pub said_port : {L : Type 0} → (ℕ → L) → Port → ReadPort L

@@ -26,7 +26,7 @@ mod rules;
 mod scheme;
 
 pub use checker::Checker;
-pub use consequences::{are_accepted, certifies, has_spelling, spelled};
+pub use consequences::{are_accepted, certifies};
 pub use labels::labels_of_depths;
 pub use length::code_length;
 pub use numbers::{read_numbers, write_numbers};

@@ -1,6 +1,6 @@
 //! Views whose labels are read, as the schemes share them.
 
-ghost use Rattle.std.specs.Prelude.{◌≡◌, Bool, List, Option, Some, IfOk, IfErr};
+ghost use Rattle.std.specs.Prelude.{◌≡◌, ◌↔◌, Bool, List, Option, Some, IfOk, IfErr};
 ghost use Rattle.std.specs.List.{list_all};
 ghost use Rattle.std.specs.Option.{is_some};
 ghost use Rattle.pls_scheme.specs.Reading.{Read, ReadPort, judge_by, read_ports};
@@ -14,6 +14,9 @@ pub trait Reads {
     /// What a label says.
     type Said: Drop;
 
+    // The bits are of the layout, and say this.
+    ghost spells: { List Bool → Self.Said → Type 0 };
+
     // What the bits say, where they are of the layout.
     ghost said: { List Bool → Option Self.Said };
 
@@ -21,6 +24,14 @@ pub trait Reads {
     /// takes no memory.
     fn read(bits: &Bits<'_>) -> Option<Self::Said>
         ensures { result ≡ said bits.now };
+
+    /// Bits say something exactly where they are of the layout and spell it.
+    final fn reads_layout(bits: &Bits<'_>)
+        ensures { (label : Self.Said) → (said bits.now ≡ Some label) ↔ spells bits.now label }
+    {}
+
+    ghost said_law: { (bits : List Bool) (label : Self.Said)
+        → (said bits ≡ Some label) ↔ spells bits label };
 }
 
 /// What the own label says, where it and each neighbour's label can be read, else the rejection by

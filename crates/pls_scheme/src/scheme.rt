@@ -68,10 +68,12 @@ pub trait Scheme: Checker + Property {
         ensures short { IfOk result (λ found. IfSome found
             (λ labels. All (λ label. length label ≤ longest self.now (size_of net.now)) labels)) };
 
-    /// A label that can be written has a spelling, from which it is read back.
+    /// A label that can be written has a spelling, which is that of no other label.
     final fn reads_back(&self, label: &Self::Label)
         requires { writable self.now label.now }
-        ensures { (bits : List Bool) × layout self.now bits label.now }
+        ensures spelled { (bits : List Bool) × layout self.now bits label.now }
+        ensures alone { (bits : List Bool) (other : Self.Label) → layout self.now bits label.now
+            → layout self.now bits other → other ≡ label.now }
     {}
 
     /// Bits that are one label are equal.

@@ -1,8 +1,7 @@
 use Rattle.std.proofs.Common.{◌∙◌, ℕ}
 use Rattle.std.proofs.lemmas.List.Folds.{list_all-map}
-use Rattle.pls_colour.specs.Acyclic.{cycle_label_in}
-use Rattle.pls_colour.specs.CyclePorts.{is_above, is_beside}
-use Rattle.pls_colour.specs.ReadLaws.{count_by-map}
+use Rattle.pls_colour.specs.Acyclic.{cycle_label_in, is_above, is_beside}
+use Rattle.pls_scheme.proofs.SaidPorts.{count_by-map}
 use Rattle.pls_colour.proofs.InPlace.{depth_judged, passes}
 use Rattle.pls_colour.proofs.acyclic.AcyclicRules.verdict.Goals as goal
 

@@ -3,7 +3,7 @@ use Rattle.pls_scheme.specs.Judging.{AllAccept}
 use Rattle.pls_facts.specs.Cycle.{IsAcyclic}
 use Rattle.pls_colour.specs.Acyclic.{judge_acyclic}
 use Rattle.pls_colour.specs.AcyclicLaws.{acyclic_sound}
-use Rattle.pls_colour.specs.CyclePorts.{SaysDepth}
+use Rattle.pls_colour.specs.SaidDepth.{SaysDepth}
 use Rattle.pls_colour.proofs.LevelMarking.{accepted_where_acyclic}
 use Rattle.pls_colour.proofs.Levelled.{found_tells, none_accepted, weaker_Some}
 use Rattle.pls_colour.proofs.acyclic_scheme.AcyclicProperty.decide.Goals as goal

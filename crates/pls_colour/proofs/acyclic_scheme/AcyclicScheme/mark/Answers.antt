@@ -4,7 +4,7 @@ use Rattle.pls_scheme.specs.Judging.{AllAccept}
 use Rattle.pls_facts.specs.Cycle.{IsAcyclic}
 use Rattle.pls_colour.specs.Acyclic.{IsLevelMarked, judge_acyclic, longest_acyclic}
 use Rattle.pls_colour.specs.AcyclicLaws.{acyclic_sound}
-use Rattle.pls_colour.specs.CyclePorts.{SaysDepth}
+use Rattle.pls_colour.specs.SaidDepth.{SaysDepth}
 use Rattle.pls_colour.specs.Levelled.{AreLevelled}
 use Rattle.pls_colour.proofs.LevelMarking.{accepted_where_acyclic, levels_marked, levels_short}
 use Rattle.pls_colour.proofs.Levelled.{none_accepted, weaker_Some}

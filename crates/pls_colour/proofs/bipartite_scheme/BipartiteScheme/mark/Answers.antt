@@ -3,9 +3,9 @@ use Rattle.pls_scheme.specs.Judging.{AllAccept}
 use Rattle.pls_colour.specs.Bipartite.{IsBipartite, judge_bipartite}
 use Rattle.pls_colour.specs.BipartiteLaws.{bipartite_sound}
 use Rattle.pls_colour.specs.Levelled.{AreLevelled}
-use Rattle.pls_colour.specs.Marked.{IsParityMarked, SaysParity}
+use Rattle.pls_colour.specs.Marked.{SaysParity}
 use Rattle.pls_colour.proofs.Levelled.{none_accepted, weaker_Some}
-use Rattle.pls_colour.proofs.Marking.{accepted_where_bipartite, parities_marked, parities_short}
+use Rattle.pls_colour.proofs.Marking.{accepted_where_bipartite, parities_short}
 use Rattle.pls_colour.proofs.bipartite_scheme.BipartiteScheme.mark.Goals as goal
 
 pub returns-clause-lacking : goal.returns-clause-lacking
@@ -21,12 +21,6 @@ returns-clause-holds c =
     weaker_Some (λ (labels : List (List Bool)). AllAccept judge_bipartite rows labels)
     (λ (labels : List (List Bool)). IsBipartite rows) c.in_ok-found.found
     (bipartite_sound rows) c.in_ok-found.ensures.accepted
-
-pub returns-clause-marked : goal.returns-clause-marked
-returns-clause-marked c =
-    let rows = c.args.net.now in
-    weaker_Some (AreLevelled SaysParity rows) (IsParityMarked rows) c.in_ok-found.found
-    (parities_marked rows) c.in_ok-found.ensures.levels
 
 pub returns-clause-short : goal.returns-clause-short
 returns-clause-short c =

@@ -1,8 +1,9 @@
 use Rattle.std.proofs.Common.{◌≡◌, ◌∙◌, ◌==◌, refl, rules, sym}
+use Rattle.std.specs.List.{list_all}
 use Rattle.std.specs.Option.{option_map}
 use Rattle.std.proofs.lemmas.List.Folds.{list_all-map}
-use Rattle.pls_pointer.specs.Tree.{tree_in, tree_rules}
-use Rattle.pls_pointer.proofs.Judged.{all_labels, judge_tree-read}
+use Rattle.pls_pointer.specs.Tree.{names_root, tree_in, tree_rules}
+use Rattle.pls_pointer.proofs.Judged.{judge_tree-read, passes}
 use Rattle.pls_pointer.proofs.tree.TreeRules.verdict.Goals as goal
 
 pub returns-in-Err : goal.returns-in-Err
@@ -14,8 +15,7 @@ returns g c =
     let above : c.map-above.result ≡ option_map (λ label. label.depth) c.label_above.result =
     search rules in
     let agrees : c.agrees_on_root.result
-    ≡ all_labels (tree_in g.C.NumCode.takes) (λ label. label.root == own.root)
-    c.args.view.now.ports =
+    ≡ list_all (passes (tree_in g.C.NumCode.takes) (names_root own.root)) c.args.view.now.ports =
     rw (c.agrees_on_root.ensures, c.deref.ensures, ← c.view.view_is, list_all-map) refl in
     let read = c.in-Ok.ensures.neighbours in
     c.judged_from.ensures ∙ rw (

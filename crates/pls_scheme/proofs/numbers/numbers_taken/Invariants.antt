@@ -1,7 +1,7 @@
 use Rattle.std.proofs.Common.{◌≡◌, ℕ, ◌-◌, ◌≤◌, length, take}
 use Rattle.pls_scheme.specs.Numbers.{numbers_in}
 use Rattle.pls_scheme.proofs.Codes.{behind}
-use Rattle.pls_scheme.proofs.numbers.read_numbers.Given as goal
+use Rattle.pls_scheme.proofs.numbers.numbers_taken.Given as goal
 
 -- the numbers so far, and those that are left, are all
 abbrev pub invariant-loop-i : goal.invariant-loop-i
