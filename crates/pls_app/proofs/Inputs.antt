@@ -131,8 +131,7 @@ input_of bytes network text net store short scanned built valid connected stored
           record {
             network = valid;
             connected = connected;
-            ranges = subst AreRows (sym is_net)
-                scanned.tells_rows.fits;
+            ranges = subst AreRows (sym is_net) scanned.tells_rows.fits;
           };
       labelled = record { each = each; few = omega (arith, sum, few) };
       is = scanned.is ∙ ap (λ (rows : List NodeRow). network_text rows ++ labels_text scanned.named)

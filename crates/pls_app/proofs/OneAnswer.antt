@@ -69,8 +69,7 @@ input_formed bytes rows labels error fits_rows fits_labels is fault =
     (record {
       front = network_lines rows;
       back = labels_lines labels;
-      is_first = rows_are_part rows
-          fits_rows;
+      is_first = rows_are_part rows fits_rows;
       is_second = is_labels_part labels fits_labels;
       parts = refl;
     })

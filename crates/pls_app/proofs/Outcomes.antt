@@ -172,8 +172,7 @@ tells_refusal words command bytes error status old new is refused told =
     let same = one_answer words bytes told.answer (refusal error) told.is due in
     record {
       ends = told.ends ∙ ap (λ (answer : Answer). answer.status) same;
-      took = subst
-          (λ (answer : Answer). Appends old new answer.text) same told.took;
+      took = subst (λ (answer : Answer). Appends old new answer.text) same told.took;
     }
 
 -- the answer to the words is the answer to their command

@@ -91,8 +91,7 @@ done_proves scheme bytes answer answers done = elim answers [
         rows = rows;
         labels = labels;
         input = judged.2;
-        holds = scheme_sound scheme rows
-            labels judged.2.readable accepted;
+        holds = scheme_sound scheme rows labels judged.2.readable accepted;
       }
 ]
 

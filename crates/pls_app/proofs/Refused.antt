@@ -90,8 +90,7 @@ kept_of nodes ports bits none =
     by None None None a b c none =
         record {
           few_nodes = few_of Nodes MAX_NODES nodes a;
-          few_ports = few_of Ports MAX_PORTS
-              ports b;
+          few_ports = few_of Ports MAX_PORTS ports b;
           few_bits = few_of Bits MAX_BITS bits c;
         }
     by None None (Some error) a b c none = absurd (cc)
@@ -132,16 +131,14 @@ network_refused bytes (Limit quantity) refused some =
       rows = refused.rows;
       fits = refused.fits;
       is = refused.says;
-      first = inl
-          (limit_first refused.rows quantity refused.refused);
+      first = inl (limit_first refused.rows quantity refused.refused);
     })
 network_refused bytes (Sense number place) refused some =
     inr (record {
       rows = refused.rows;
       fits = refused.fits;
       is = refused.says;
-      first = inl
-          (sense_first refused.rows (Sense number place) refused.refused);
+      first = inl (sense_first refused.rows (Sense number place) refused.refused);
     })
 network_refused bytes NoMemory refused some = absurd (some refl)
 

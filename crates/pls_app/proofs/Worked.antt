@@ -33,14 +33,12 @@ pair here there =
     record {
       id = 1;
       state = record { up = None; mark = 0; num = 0 };
-      ports = record
-          { nbr = 2; weight = here } ∷ [];
+      ports = record { nbr = 2; weight = here } ∷ [];
     }
     ∷ record {
       id = 2;
       state = record { up = None; mark = 0; num = 0 };
-      ports = record
-          { nbr = 1; weight = there } ∷ [];
+      ports = record { nbr = 1; weight = there } ∷ [];
     } ∷ []
 
 weights : first_of (network_refusals (pair 1 2)) ≡ Some (Sense 15 1)

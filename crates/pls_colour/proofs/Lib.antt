@@ -4,3 +4,4 @@ pub mod Levelled
 pub mod Levels
 pub mod Marking
 pub mod Parity
+pub mod Worked

@@ -5,3 +5,4 @@ pub mod Marks
 pub mod ForestMarks
 pub mod TreeMarks
 pub mod OneMarking
+pub mod Worked

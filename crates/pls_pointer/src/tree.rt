@@ -49,9 +49,7 @@ impl<C: NumCode> Reads for Tree<C> {
         Some(TreeLabel { root, depth })
     }
 
-    ghost said_law = {
-        λ bits label. tree_in-spells C.code C.takes C.takes_codes C.takes_only bits label
-    };
+    ghost said_law = { λ bits label. tree_in-spells C.code C.takes C.takes_codes C.takes_only bits label };
 }
 
 impl<C: NumCode> Rules for Tree<C> {
@@ -80,7 +78,7 @@ impl<C: NumCode> Rules for Tree<C> {
 fn agrees_on_root<C: NumCode>(root: u64, ports: &[PortView<'_>]) -> bool
     ensures { result
         ≡ list_all (λ port. passes_at (tree_in C.takes) (names_root root) port.weight port.label)
-            ports.now }
+        ports.now }
 {
     ports.iter().all(|port| names_root::<C>(root, port))
 }

@@ -113,8 +113,7 @@ module _ (takes : List Bool → Option (ℕ × List Bool)) where
             × AreCodesOf code numbers bits) same (
               omega (arith, others.0),
               record {
-                coded = All-cons (λ number. number ≤ MAX_CODED) number later first.0
-                    others.1.coded;
+                coded = All-cons (λ number. number ≤ MAX_CODED) number later first.0 others.1.coded;
                 written = whole;
               },
             )

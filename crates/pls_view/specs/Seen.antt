@@ -40,8 +40,7 @@ seen label row =
       id = row.id;
       state = row.state;
       own = label row.id;
-      ports = map (seen_port label)
-          row.ports;
+      ports = map (seen_port label) row.ports;
     }
 
 -- the views of all nodes, in the order of the rows
