@@ -1,9 +1,14 @@
 -- The words that the program knows.
-use Rattle.std.specs.Prelude.{ℕ, List, [], ◌∷◌, codes, bytes_eq, Option, Some, None, option_map, if◌then◌else◌}
+use Rattle.std.specs.Prelude.{ℕ, List, [], ◌∷◌, map, codes, bytes_eq, Option, Some, None, option_map, if◌then◌else◌}
+use Rattle.std.specs.Borrow.{Bor}
 use Rattle.pls_app.specs.declared.command.Command.{Command}
 use Rattle.pls_app.specs.declared.command.Command.TheVariants.{Mark, Verify}
 use Rattle.pls_app.specs.declared.command.SchemeName.{SchemeName}
 use Rattle.pls_app.specs.declared.command.SchemeName.TheVariants.{Acyclic, Bipartite, Forest, Tree}
+
+-- the words that a run is given, each as its bytes
+abbrev pub words_in : List (Bor (List ℕ)) → List (List ℕ)
+words_in words = map (λ word. word.now) words
 
 -- the scheme of a name
 abbrev pub scheme_of : List ℕ → Option SchemeName

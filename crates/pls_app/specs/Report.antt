@@ -1,13 +1,13 @@
 -- The text of a report: a line for each node, and then how many reject.
-use Rattle.std.specs.Prelude.{ℕ, Bool, true, false, List, [], ◌∷◌, ◌++◌, map, count_by, codes, decimal}
+use Rattle.std.specs.Prelude.{ℕ, Bool, not, List, [], ◌∷◌, ◌++◌, map, count_by, codes, decimal}
 use Rattle.pls_model.specs.declared.verdict.Verdict.{Verdict}
 use Rattle.pls_model.specs.declared.verdict.Verdict.TheVariants.{Accept, Reject}
+use Rattle.pls_scheme.specs.Judging.{accepts}
 use Rattle.pls_netfile.specs.Text.{line_of, text_of}
 
 -- the verdict is a rejection
 abbrev pub rejects : Verdict → Bool
-rejects Accept = false
-rejects (Reject leaf rule) = true
+rejects verdict = not (accepts verdict)
 
 -- how many of the nodes reject
 abbrev pub rejecting : List (ℕ × Verdict) → ℕ

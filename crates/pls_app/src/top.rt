@@ -1,8 +1,8 @@
 //! The one call that does all that the program does.
 
-ghost use Rattle.std.specs.Prelude.{◌≡◌, ◌+◌, ◌⊎◌, ℕ, List, Some, None, map};
+ghost use Rattle.std.specs.Prelude.{◌≡◌, ◌+◌, ◌⊎◌, ℕ, List, Some, None};
 ghost use Rattle.pls_base.specs.Streams.{LosesAtMost, Rose};
-ghost use Rattle.pls_app.specs.Command.{command_of};
+ghost use Rattle.pls_app.specs.Command.{command_of, words_in};
 ghost use Rattle.pls_base.specs.declared.text_error.TextError.{TextError};
 ghost use Rattle.pls_app.specs.Order.{IsRefused};
 ghost use Rattle.pls_app.specs.Run.{HasRead, IsAnswered, IsRefusal, Lacks, Proves, Tells, TellsPart, TellsRefusal, Told, TookCertificate};
@@ -25,8 +25,7 @@ pub fn run<'w, S: Source, K: Sink>(
 ) -> Status
     // The status and the text are those of the answer to the words and the bytes.
     ensures text { (bytes : List ℕ) → S.left source.old ≡ Some bytes → IsAnswered result
-        → Tells (map (λ word. word.now) words.now) bytes result
-        (K.taken sink.old) (K.taken sink.new) }
+        → Tells (words_in words.now) bytes result (K.taken sink.old) (K.taken sink.new) }
 
     // That answer comes, or want of memory, where no call on the source or the sink failed.
     ensures answers { (Rose (S.faults source.old) (S.faults source.new) → ⊥)
@@ -36,11 +35,11 @@ pub fn run<'w, S: Source, K: Sink>(
     // A refusal has its cause, and is the answer exactly where it has.
     ensures refused { (command : Command) (bytes : List ℕ) (error : TextError)
         → S.left source.old ≡ Some bytes
-        → command_of (map (λ word. word.now) words.now) ≡ Some command
+        → command_of (words_in words.now) ≡ Some command
         → IsRefused command bytes error → IsAnswered result
         → TellsRefusal error result (K.taken sink.old) (K.taken sink.new) }
     ensures refusal_cause { (command : Command) (bytes : List ℕ) → S.left source.old ≡ Some bytes
-        → command_of (map (λ word. word.now) words.now) ≡ Some command
+        → command_of (words_in words.now) ≡ Some command
         → IsRefusal result → (error : TextError) × IsRefused command bytes error }
 
     // A fault has its cause, and what was written then.
@@ -51,27 +50,29 @@ pub fn run<'w, S: Source, K: Sink>(
         → Rose (K.faults sink.old) (K.faults sink.new) }
     ensures write_fault_part { (bytes : List ℕ) → S.left source.old ≡ Some bytes
         → result ≡ Status.WriteFault
-        → TellsPart (map (λ word. word.now) words.now) bytes (K.taken sink.old) (K.taken sink.new) }
+        → TellsPart (words_in words.now) bytes (K.taken sink.old) (K.taken sink.new) }
     ensures no_memory { result ≡ Status.NoMemory → sink.new ≡ sink.old }
 
+    // Words that are no command are answered so, and nothing is read.
+    ensures usage { command_of (words_in words.now) ≡ None
+        → (result ≡ Status.Usage) ⊎ (result ≡ Status.WriteFault) }
+    ensures usage_unread { command_of (words_in words.now) ≡ None → source.new ≡ source.old }
+
     // What the source has lost.
-    ensures usage_unread { command_of (map (λ word. word.now) words.now) ≡ None
-        → source.new ≡ source.old }
-    ensures read { (command : Command)
-        → command_of (map (λ word. word.now) words.now) ≡ Some command
+    ensures read { (command : Command) → command_of (words_in words.now) ≡ Some command
         → IsAnswered result → HasRead (S.left source.old) (S.left source.new) }
     ensures lost { LosesAtMost (S.left source.old) (S.left source.new) (MAX_INPUT + 1) }
 
     // What `Done` says of the network.
     ensures check { (scheme : SchemeName) (bytes : List ℕ) → S.left source.old ≡ Some bytes
-        → command_of (map (λ word. word.now) words.now) ≡ Some (Command.Verify scheme)
+        → command_of (words_in words.now) ≡ Some (Command.Verify scheme)
         → result ≡ Status.Done → Proves scheme bytes }
     ensures mark { (scheme : SchemeName) (bytes : List ℕ) → S.left source.old ≡ Some bytes
-        → command_of (map (λ word. word.now) words.now) ≡ Some (Command.Mark scheme)
+        → command_of (words_in words.now) ≡ Some (Command.Mark scheme)
         → result ≡ Status.Done
         → TookCertificate scheme bytes (K.taken sink.old) (K.taken sink.new) }
     ensures mark_no { (scheme : SchemeName) (bytes : List ℕ) → S.left source.old ≡ Some bytes
-        → command_of (map (λ word. word.now) words.now) ≡ Some (Command.Mark scheme)
+        → command_of (words_in words.now) ≡ Some (Command.Mark scheme)
         → result ≡ Status.No → Lacks scheme bytes }
 {
     match read_words(words) {
