@@ -113,8 +113,12 @@ marked_input scheme bytes rows labels input shows =
       labelled =
           record {
             each = shows.each;
-            few = omega
-                (arith, few_in_short labels short, shows.each, input.readable.network.limits.few_nodes);
+            few = omega (
+              arith,
+              few_in_short labels short,
+              shows.each,
+              input.readable.network.limits.few_nodes,
+            );
           };
       is = same;
     }

@@ -12,13 +12,13 @@ use Rattle.pls_view.specs.Labels.{bits_in}
 use Rattle.pls_netfile.specs.Fault.{NamesFirstFault}
 use Rattle.pls_netfile.specs.Lines.{Left, IsFormFault}
 use Rattle.pls_netfile.specs.NetworkText.{AreRows, IsNetworkPart, network_lines, network_text}
-use Rattle.pls_netfile.specs.NetworkScan.{PassesNetwork, Written as WrittenNetwork, Tells as TellsNetwork}
+use Rattle.pls_netfile.specs.NetworkScan.{PassesNetwork, WrittenNetwork, TellsNetwork}
 use Rattle.pls_netfile.proofs.NetworkRows.{network_is_part, one_network, rows_are_part}
 use Rattle.pls_netfile.proofs.WholeTexts.{fault_alone, fault_behind, fault_in_first, fault_in_second, fault_of_text}
 use Rattle.pls_labelfile.specs.LabelsText.{FitsLabel, IsLabelsPart, NamedLabel, labels_lines, labels_text, named}
-use Rattle.pls_labelfile.specs.LabelsScan.{PassesPart, total_bits, Written as WrittenLabels, Tells as TellsLabels}
+use Rattle.pls_labelfile.specs.LabelsScan.{PassesPart, total_bits, WrittenLabels, TellsLabels}
 use Rattle.pls_labelfile.specs.Misfit.{misfit}
-use Rattle.pls_labelfile.specs.Refusal.{IsRefusal, misfit_error, refusal_of as labels_refusal}
+use Rattle.pls_labelfile.specs.Refusal.{IsLabelsRefusal, misfit_error, labels_refusal}
 use Rattle.pls_labelfile.proofs.Named.{bare-named, named-parts, net_labels_fit, total_bits-named}
 use Rattle.pls_labelfile.proofs.LabelsPart.{is_labels_part, labels_part, one_labels}
 use Rattle.pls_app.specs.declared.limits.TheConstants.{MAX_INPUT}
@@ -77,7 +77,7 @@ parts_fit rows labels readable labelled = net_labels_fit rows labels readable.ra
 
 -- an error that is a refusal is the refusal
 pub refusal_is : (ids : List ℕ) (heading : ℕ) (labels : List NamedLabel) (error : TextError)
-    → error ≢ NoMemory → IsRefusal ids heading labels error → labels_refusal ids heading labels
+    → error ≢ NoMemory → IsLabelsRefusal ids heading labels error → labels_refusal ids heading labels
     ≡ Some error
 refusal_is ids heading labels (Form line) some refused = refused
 refusal_is ids heading labels (Limit quantity) some refused = refused

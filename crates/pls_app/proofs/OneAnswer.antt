@@ -14,10 +14,10 @@ use Rattle.pls_app.specs.declared.command.SchemeName.TheVariants.{Acyclic, Bipar
 use Rattle.pls_app.specs.declared.limits.TheConstants.{MAX_INPUT}
 use Rattle.pls_app.specs.Command.{command_of}
 use Rattle.pls_app.specs.Meaning.{HasProperty, IsMarked}
-use Rattle.pls_app.specs.Input.{IsInput, IsInputLines, IsNetworkInput, IsReadable, Reads}
-use Rattle.pls_app.specs.Order.{IsFirstRefusal, IsRefused, IsRefusedText, RefusesInput, RefusesNetwork, first_of, input_refusals, network_refusals}
+use Rattle.pls_app.specs.Input.{IsInput, IsInputLines, IsNetworkInput, IsReadable}
+use Rattle.pls_app.specs.Order.{IsFirstRefusal, IsRefused, IsRefusedText, RefusesInput, RefusesNetwork, input_refusals, network_refusals}
 use Rattle.pls_app.specs.Answer.{Answer, Answers, AnswersWords, IsAnswer, Marks, Works, labelled, refusal}
-use Rattle.pls_model.specs.Configuration.{ids_of}
+use Rattle.pls_model.specs.Configuration.{first_of, ids_of}
 use Rattle.pls_netfile.specs.Fault.{NamesFirstFault}
 use Rattle.pls_netfile.specs.NetworkText.{AreRows, IsNetworkPart, network_lines, network_text}
 use Rattle.pls_netfile.proofs.Fronts.{text_of-append}
@@ -27,6 +27,12 @@ use Rattle.pls_labelfile.specs.LabelsText.{FitsLabel, NamedLabel, labels_lines, 
 use Rattle.pls_labelfile.proofs.LabelsPart.{is_labels_part, one_labels}
 use Rattle.pls_app.proofs.Inputs.{apart_from, one_apart, one_input, one_network_input, parts_fit}
 use Rattle.pls_app.proofs.Refused.{input_unrefused, network_unrefused}
+
+-- the bytes are an input of the command
+abbrev Reads : Command → List ℕ → Type 0
+Reads (Mark scheme) bytes = (rows : List NodeRow) × IsNetworkInput bytes rows
+Reads (Verify scheme) bytes =
+    (rows : List NodeRow) × (labels : List (List Bool)) × IsInput bytes rows labels
 
 -- the first refusal is one
 one_first : (refusals : List (Option TextError)) (rows : List NodeRow) (error other : TextError)

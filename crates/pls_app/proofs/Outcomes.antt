@@ -20,7 +20,7 @@ use Rattle.pls_app.specs.Order.{IsRefused}
 use Rattle.pls_app.specs.Answer.{Answer, Answers, IsAnswer, Works, refusal, report, usage}
 use Rattle.pls_app.specs.Meaning.{judge_of}
 use Rattle.pls_app.specs.Scanned.{Refuses}
-use Rattle.pls_app.specs.Run.{Certifies, HasRead, IsAnswered, IsRefusal, Tells, TellsPart, TellsRefusal, Told, TookCertificate}
+use Rattle.pls_app.specs.Run.{Certifies, HasRead, IsAnswered, IsRefusalStatus, Tells, TellsPart, TellsRefusal, Told, TookCertificate}
 use Rattle.pls_app.specs.Report.{rejecting}
 use Rattle.pls_app.proofs.OneAnswer.{one_answer}
 
@@ -202,7 +202,7 @@ works_end (Verify scheme) bytes answer works =
     (report_ends (rejecting (round_by (judge_of scheme) works.0 works.1)))
 
 -- `Done` and `No` are no refusals
-no_refusal : (status : Status) → (status ≡ Done) ⊎ (status ≡ No) → IsRefusal status → ⊥
+no_refusal : (status : Status) → (status ≡ Done) ⊎ (status ≡ No) → IsRefusalStatus status → ⊥
 no_refusal status ends refusal = elim ends [
   | inl done ↦ elim refusal [
     | inl refused ↦ let other : Refused ≡ Done = sym refused ∙ done in cc
@@ -215,7 +215,7 @@ no_refusal status ends refusal = elim ends [
 ]
 
 -- a refusal is an answer
-pub refusal_answered : (status : Status) → IsRefusal status → IsAnswered status
+pub refusal_answered : (status : Status) → IsRefusalStatus status → IsAnswered status
 refusal_answered status refusal = elim refusal [
   | inl refused ↦ rw refused tt
   | inr limit ↦ rw limit tt
@@ -224,14 +224,14 @@ refusal_answered status refusal = elim refusal [
 -- a run that ends in a refusal has refused
 pub refusal_has_cause : (words : List (List ℕ)) (command : Command) (bytes : List ℕ)
     (status : Status) (old new : Option (List ℕ)) → command_of words ≡ Some command
-    → Tells words bytes status old new → IsRefusal status
+    → Tells words bytes status old new → IsRefusalStatus status
     → (error : TextError) × IsRefused command bytes error
 refusal_has_cause words command bytes status old new is told refusal =
     elim (answer_of_command words bytes command told.answer is told.is) [
       | inl refused ↦ (refused.0, refused.1)
       | inr works ↦
           absurd (no_refusal told.answer.status (works_end command bytes told.answer works)
-          (subst IsRefusal told.ends refusal))
+          (subst IsRefusalStatus told.ends refusal))
     ]
 
 -- the answer that is handed on is told in the end

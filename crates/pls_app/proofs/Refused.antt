@@ -8,18 +8,18 @@ use Rattle.pls_base.specs.declared.text_error.Quantity.{Quantity}
 use Rattle.pls_base.specs.declared.text_error.Quantity.TheVariants.{Input, Nodes, Ports, Bits, Events, Rounds, Labels}
 use Rattle.pls_model.specs.declared.row.NodeRow.{NodeRow}
 use Rattle.pls_model.specs.declared.limits.TheConstants.{MAX_NODES, MAX_PORTS}
-use Rattle.pls_model.specs.Configuration.{IsNetwork, ids_of, ports_in}
+use Rattle.pls_model.specs.Configuration.{IsNetwork, first_of, ids_of, ports_in}
 use Rattle.pls_netfile.specs.Fault.{NamesFirstFault}
 use Rattle.pls_netfile.specs.NetworkBuild.{Exceeds, IsRefusedBuild, IsSense}
 use Rattle.pls_netfile.specs.NetworkFile.{IsRefusedFile}
 use Rattle.pls_netfile.specs.NetworkText.{AreRows, IsNetworkPart, network_text}
-use Rattle.pls_netfile.specs.NetworkScan.{Written as WrittenNetwork, Tells as TellsNetwork}
+use Rattle.pls_netfile.specs.NetworkScan.{WrittenNetwork, TellsNetwork}
 use Rattle.pls_labelfile.specs.LabelsText.{NamedLabel, named}
-use Rattle.pls_labelfile.specs.LabelsScan.{Written as WrittenLabels, Tells as TellsLabels, capped, total_bits}
+use Rattle.pls_labelfile.specs.LabelsScan.{WrittenLabels, TellsLabels, capped, total_bits}
 use Rattle.pls_labelfile.specs.Misfit.{misfit}
-use Rattle.pls_labelfile.specs.Refusal.{IsRefusal, misfit_error, refusal_of as labels_refusal}
+use Rattle.pls_labelfile.specs.Refusal.{IsLabelsRefusal, misfit_error, labels_refusal}
 use Rattle.pls_labelfile.specs.declared.limits.TheConstants.{MAX_BITS}
-use Rattle.pls_app.specs.Order.{IsApart, RefusesInput, RefusesNetwork, first_of, heading_of, input_refusals, limits_of, network_refusals, over}
+use Rattle.pls_app.specs.Order.{IsApart, RefusesInput, RefusesNetwork, heading_of, input_refusals, limits_of, network_refusals, over}
 use Rattle.pls_app.specs.Scanned.{IsScanned}
 use Rattle.pls_app.specs.Input.{AreLabels}
 use Rattle.pls_labelfile.proofs.Named.{named_no_misfit, total_bits-named}
@@ -279,7 +279,7 @@ pub labels_refused : (bytes : List ℕ) (network : WrittenNetwork) (labels : Wri
     → first_of (limits_of network.nodes network.ports labels.bits) ≡ None
     → ((rows : List NodeRow) → TellsNetwork network rows → net ≡ rows) → IsNetwork net
     → ((named : List NamedLabel) → TellsLabels labels.text named
-    → IsRefusal (ids_of net) labels.number named error) → error ≢ NoMemory
+    → IsLabelsRefusal (ids_of net) labels.number named error) → error ≢ NoMemory
     → RefusesInput bytes error
 labels_refused bytes network labels net error scanned none built valid refused some =
     let is_net : net ≡ scanned.rows = built scanned.rows scanned.tells_rows in

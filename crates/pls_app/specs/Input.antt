@@ -8,8 +8,6 @@ use Rattle.pls_netfile.specs.NetworkText.{AreRows, IsNetworkPart, network_text}
 use Rattle.pls_view.specs.Labels.{bits_in}
 use Rattle.pls_labelfile.specs.LabelsText.{IsLabelsPart, labels_text, named}
 use Rattle.pls_labelfile.specs.declared.limits.TheConstants.{MAX_BITS}
-use Rattle.pls_app.specs.declared.command.Command.{Command}
-use Rattle.pls_app.specs.declared.command.Command.TheVariants.{Mark, Verify}
 use Rattle.pls_app.specs.declared.limits.TheConstants.{MAX_INPUT}
 
 -- the rows are a connected network, and its numbers can stand in a text
@@ -43,9 +41,3 @@ pub record IsInput (bytes : List ℕ) (rows : List NodeRow) (labels : List (List
 -- the lines of a network and its labels
 abbrev pub IsInputLines : List (List ℕ) → Type 0
 IsInputLines lines = Then IsNetworkPart IsLabelsPart lines
-
--- the bytes are an input of the command
-abbrev pub Reads : Command → List ℕ → Type 0
-Reads (Mark scheme) bytes = (rows : List NodeRow) × IsNetworkInput bytes rows
-Reads (Verify scheme) bytes =
-    (rows : List NodeRow) × (labels : List (List Bool)) × IsInput bytes rows labels

@@ -69,8 +69,8 @@ pub record TellsRefusal (error : TextError) (status : Status)
   pub took : Appends old new (refusal error).text
 
 -- the status of a refusal
-abbrev pub IsRefusal : Status → Type 0
-IsRefusal status = (status ≡ Refused) ⊎ (status ≡ Limit)
+abbrev pub IsRefusalStatus : Status → Type 0
+IsRefusalStatus status = (status ≡ Refused) ⊎ (status ≡ Limit)
 
 -- the bytes are the text of a connected network with the property, and of its labels
 pub record Proves (scheme : SchemeName) (bytes : List ℕ) : Type 0 where
@@ -79,8 +79,8 @@ pub record Proves (scheme : SchemeName) (bytes : List ℕ) : Type 0 where
   pub input : IsInput bytes rows labels
   pub holds : HasProperty scheme rows
 
--- labels that show the property of a network: all nodes accept them, and none is longer than the
--- bound
+-- labels that show the property of a network: there is one for each node, all nodes accept them,
+-- and each is within the bound
 pub record Shows (scheme : SchemeName) (rows : List NodeRow)
     (labels : List (List Bool)) : Type 0 where
   pub holds : HasProperty scheme rows

@@ -4,9 +4,9 @@ use Rattle.pls_base.specs.declared.text_error.TextError.{TextError}
 use Rattle.pls_base.specs.declared.text_error.TextError.TheVariants.{NoMemory}
 use Rattle.pls_model.specs.declared.row.NodeRow.{NodeRow}
 use Rattle.pls_netfile.specs.NetworkText.{network_text}
-use Rattle.pls_netfile.specs.NetworkScan.{Written as WrittenNetwork, Tells as TellsNetwork}
+use Rattle.pls_netfile.specs.NetworkScan.{WrittenNetwork, TellsNetwork}
 use Rattle.pls_labelfile.specs.LabelsText.{NamedLabel, labels_text}
-use Rattle.pls_labelfile.specs.LabelsScan.{Written as WrittenLabels, Tells as TellsLabels, capped, total_bits}
+use Rattle.pls_labelfile.specs.LabelsScan.{WrittenLabels, TellsLabels, capped, total_bits}
 use Rattle.pls_app.specs.declared.command.Command.{Command}
 use Rattle.pls_app.specs.Order.{IsRefusedText, heading_of}
 

@@ -5,7 +5,7 @@ ghost use Rattle.pls_model.specs.Configuration.{IsNetwork, first_of};
 ghost use Rattle.pls_model.specs.Walk.{IsConnected};
 ghost use Rattle.pls_netfile.specs.Fault.{NamesFirstFault};
 ghost use Rattle.pls_app.specs.Input.{IsInput, IsInputLines, IsNetworkInput};
-ghost use Rattle.pls_app.specs.Order.{IsApart, first_of, limits_of};
+ghost use Rattle.pls_app.specs.Order.{IsApart, limits_of};
 ghost use Rattle.pls_app.specs.Scanned.{Refuses, IsScanned};
 
 use crate::command::{Command, SchemeName};

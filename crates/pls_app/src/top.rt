@@ -5,7 +5,7 @@ ghost use Rattle.pls_base.specs.Streams.{LosesAtMost, Rose};
 ghost use Rattle.pls_app.specs.Command.{command_of, words_in};
 ghost use Rattle.pls_base.specs.declared.text_error.TextError.{TextError};
 ghost use Rattle.pls_app.specs.Order.{IsRefused};
-ghost use Rattle.pls_app.specs.Run.{HasRead, IsAnswered, IsRefusal, Lacks, Proves, Tells, TellsPart, TellsRefusal, Told, TookCertificate};
+ghost use Rattle.pls_app.specs.Run.{HasRead, IsAnswered, IsRefusalStatus, Lacks, Proves, Tells, TellsPart, TellsRefusal, Told, TookCertificate};
 
 use crate::command::{Command, SchemeName, read_words};
 use crate::limits::MAX_INPUT;
@@ -40,7 +40,7 @@ pub fn run<'w, S: Source, K: Sink>(
         → TellsRefusal error result (K.taken sink.old) (K.taken sink.new) }
     ensures refusal_cause { (command : Command) (bytes : List ℕ) → S.left source.old ≡ Some bytes
         → command_of (words_in words.now) ≡ Some command
-        → IsRefusal result → (error : TextError) × IsRefused command bytes error }
+        → IsRefusalStatus result → (error : TextError) × IsRefused command bytes error }
 
     // A fault has its cause, and what was written then.
     ensures read_fault { result ≡ Status.ReadFault

@@ -1,9 +1,9 @@
 //! Where bytes come from and where they go, and what every crate above shares.
 //!
-//! A [`Source`] gives bytes and a [`Sink`] takes them. Contracts see the bytes that a source has
-//! left and the bytes that a sink has taken, where it tells them, and a count of its faults that
-//! never falls; a call fails only where that count has risen. [`read_all`] and [`write_all`] move
-//! whole texts over them. Forms in memory stand beside the adapters over std's readers and writers.
+//! A [`Source`] gives bytes and a [`Sink`] takes them. Contracts see what bytes are left in a
+//! source and what bytes are in a sink, if these are told, and how many calls failed so far; none
+//! fails unless that number has risen. [`read_all`] and [`write_all`] move whole texts over them.
+//! Forms in memory stand beside the adapters over std's readers and writers.
 //!
 //! Beside these: the errors that texts and memory cause, a counter of steps that stays at its last
 //! value, and numbers in decimal. Definitions stand in `specs/`: `Streams`, `OverStd`, `Plan`,

@@ -48,9 +48,9 @@ impl Model for MemSink {
 }
 
 impl MemSink {
-    /// A sink that has taken nothing. It takes its memory here, and none later. Its k-th write,
-    /// counted from 1, fails exactly where k stands in `fails`, or where there is something to
-    /// write and no room is left.
+    /// A sink that has taken nothing. It takes all its memory here, and `NoMemory` says that there
+    /// is not so much. `fails` are the numbers of the writes that fail, the first being 1; besides
+    /// these, any write fails that has bytes to write when the room is used up.
     pub fn new(
         alloc: Global,
         room: usize,

@@ -40,8 +40,8 @@ impl Model for MemSource {
 }
 
 impl MemSource {
-    /// A source of all the bytes. Its k-th call, counted from 1, fails exactly where k stands in
-    /// `fails`.
+    /// A source of all the bytes. `fails` are the numbers of the calls that fail, the first being
+    /// 1; all others succeed.
     pub fn new(bytes: Vec<u8>, step: usize, fails: Vec<u64>) -> MemSource
         requires { 1 ≤ step }
         ensures { result ≡ new_source bytes.items step fails.items }

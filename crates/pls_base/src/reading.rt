@@ -52,9 +52,9 @@ const PIECE: usize = 65536;
 
 /// Reads all that the source has left, up to its end: at most `limit` bytes.
 ///
-/// `Fault` comes only where the source's count of faults rose in this call, and `TooLong` exactly
-/// where `limit` + 1 bytes were taken. After a refusal the source has lost the bytes that were
-/// taken, and no others.
+/// `Fault` says that the source counted a fault in this call, and `TooLong` that there were more
+/// than `limit` bytes, of which one past the limit was read. What a refused call has read is lost
+/// to the source, and nothing else is.
 pub fn read_all<S: Source>(alloc: Global, source: &mut S, limit: u64) -> Result<Vec<u8>, ReadError>
     requires { limit < 2 ^ 32 }
 

@@ -1,6 +1,6 @@
 //! A list of bits that grows.
 
-ghost use Rattle.std.specs.Prelude.{◌≡◌, ◌++◌, ◌∷◌, ◌↔◌, [], IsTrue, OnErr, OnOk, length};
+ghost use Rattle.std.specs.Prelude.{◌≡◌, ◌++◌, ◌∷◌, ◌↔◌, [], IfOk, IsTrue, OnErr, OnOk, length};
 
 use crate::bits::Bits;
 use pls_base::NoMemory;
@@ -29,6 +29,15 @@ impl BitBuf {
         BitBuf {
             kept: Vec::new(alloc),
         }
+    }
+
+    // The empty list with room for so many bits, by which pushing takes no more memory.
+    pub(crate) fn with_room(alloc: Global, count: usize) -> Result<BitBuf, NoMemory>
+        ensures { IfOk result (λ buf. buf ≡ []) }
+    {
+        Ok(BitBuf {
+            kept: Vec::with_capacity(alloc, count)?,
+        })
     }
 
     /// Appends one bit. For want of memory the list stays as it was.

@@ -59,7 +59,7 @@ pub(crate) fn unpacked(alloc: Global, len: usize, bytes: &[u8]) -> Result<BitBuf
     requires { len ≤ 8 * length bytes.now }
     ensures { IfOk result (λ buf. buf ≡ bits_in len bytes.now) }
 {
-    let mut buf = BitBuf::new(alloc);
+    let mut buf = BitBuf::with_room(alloc, len)?;
     for k in 0..len {
         buf.push(is_set(bytes[k / 8], k % 8))?;
     }

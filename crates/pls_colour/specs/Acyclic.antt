@@ -1,6 +1,5 @@
 -- The scheme of networks without cycle: what a label says, what a node judges, and the marker's
--- labels. The property is that there are no three or more distinct nodes, each adjacent to the next
--- and the last to the first.
+-- labels. The property is that no edges close a ring through three or more nodes.
 use Rattle.std.specs.Prelude.{◌≡◌, ℕ, ◌+◌, ◌==◌, nat_le, Bool, ◌||◌, List, [], ◌∷◌, count_by, Option, option_map, option_and_then}
 use Rattle.std.specs.List.{list_all}
 use Rattle.pls_model.specs.declared.row.NodeRow.{NodeRow}
@@ -53,8 +52,7 @@ acyclic_rules view = differs_by_one view ∷ has_one_above view ∷ []
 abbrev pub judge_acyclic : (List Bool → Option (ℕ × List Bool)) → Seen → Verdict
 judge_acyclic takes view = judge_by (cycle_label_in takes) acyclic_rules view
 
--- the label of each node is the code of its level: the fewest edges from the node of smallest
--- identity
+-- the label of each node is the code of its level
 abbrev pub IsLevelMarked : (ℕ → List Bool) → List NodeRow → List (List Bool) → Type 0
 IsLevelMarked code rows labels = AreLevelled (λ level label. label ≡ code level) rows labels
 

@@ -30,7 +30,8 @@ module _ (code : ℕ → List Bool) (takes : List Bool → Option (ℕ × List B
   pub coded_label : (bits : List Bool) (label : CycleLabel) → IsCycleLabel code bits label
       → cycle_label_in takes bits ≡ Some label
   coded_label bits label coded =
-      label_in-spelled 1 one_depth numbers_of_cycle cycle_is_number code takes taken bits label coded
+      label_in-spelled 1 one_depth numbers_of_cycle cycle_is_number code takes taken bits label
+      coded
 
   -- bits say a label exactly where they are its code
   pub cycle_label_in-spells : TakesOnly code takes → (bits : List Bool) (label : CycleLabel)

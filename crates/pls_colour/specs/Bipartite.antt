@@ -8,11 +8,11 @@ use Rattle.pls_view.specs.Seen.{Seen}
 use Rattle.pls_scheme.specs.Reading.{Read, ReadPort, judge_by}
 use Rattle.pls_colour.specs.declared.bipartite.ColourLabel.{ColourLabel}
 
--- the map from nodes to two colours differs across each edge
+-- the colours that a map gives to the ends of each edge differ
 abbrev pub Colours : (ℕ → Bool) → List Edge → Type 0
 Colours colour edges = (edge : Edge) → Contains edges edge → colour edge.a ≢ colour edge.b
 
--- some map from nodes to two colours differs across each edge
+-- the nodes can be given two colours so that the ends of each edge differ
 abbrev pub IsBipartite : List NodeRow → Type 0
 IsBipartite rows = (colour : ℕ → Bool) × Colours colour (edges_of rows)
 

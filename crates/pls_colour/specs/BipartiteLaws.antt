@@ -54,7 +54,8 @@ pub colour_label-spells : (bits : List Bool) (label : ColourLabel)
 colour_label-spells [] label = (λ none. absurd (cc), λ none. absurd (cc))
 colour_label-spells (colour ∷ []) label = (
   λ said. let same : label_of_colour colour ≡ label = cc in ap (λ label. label.colour ∷ []) same,
-  λ spelled. let same : colour ≡ label.colour = cc in ap (λ colour. Some (label_of_colour colour)) same,
+  λ spelled. let same : colour ≡ label.colour =
+      cc in ap (λ colour. Some (label_of_colour colour)) same,
 )
 colour_label-spells (colour ∷ next ∷ others) label = (λ none. absurd (cc), λ none. absurd (cc))
 

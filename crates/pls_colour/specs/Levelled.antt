@@ -2,10 +2,10 @@
 use Rattle.std.specs.Prelude.{◌≡◌, ℕ, Bool, List, length, slice_get, Some}
 use Rattle.pls_model.specs.declared.row.NodeRow.{NodeRow}
 use Rattle.pls_model.specs.Walk.{edges_of}
-use Rattle.pls_search.specs.Levels.{IsLevel}
+use Rattle.pls_graph.specs.Levels.{IsLevel}
 
--- the label of each node, in the order of the rows, says its level: the fewest edges from the node
--- of smallest identity, which stands first
+-- the label of each node, in the order of the rows, says its level: its distance in edges from the
+-- node whose identity is smallest, which stands first
 pub record AreLevelled (says : ℕ → List Bool → Type 0) (rows : List NodeRow)
     (labels : List (List Bool)) : Type 0 where
   pub each : length labels ≡ length rows

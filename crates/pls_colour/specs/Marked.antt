@@ -11,7 +11,6 @@ is_odd number = number % 2 == 1
 abbrev pub SaysParity : ℕ → List Bool → Type 0
 SaysParity level bits = bits ≡ is_odd level ∷ []
 
--- the label of each node is one bit: whether the fewest edges from the node of smallest identity are
--- an odd number
+-- the label of each node is one bit: whether its level is odd
 abbrev pub IsParityMarked : List NodeRow → List (List Bool) → Type 0
 IsParityMarked rows labels = AreLevelled SaysParity rows labels

@@ -22,7 +22,8 @@ pub(crate) fn accepted_levels<S: Checker + WritesLevels>(
     requires { IsConnected net.now }
     ensures valid { IsNetwork net.now }
     ensures refused { IfOk result (λ found. IfNone found ((labels : List (List Bool))
-        × AreLevelled S.says net.now labels × (AllAccept (S.judge checker.now) net.now labels → ⊥))) }
+        × AreLevelled S.says net.now labels
+        × (AllAccept (S.judge checker.now) net.now labels → ⊥))) }
     ensures levels { IfOk result
         (λ found. IfSome found (λ labels. AreLevelled S.says net.now labels)) }
     ensures accepted { IfOk result (λ found. IfSome found (λ labels.

@@ -45,7 +45,7 @@ impl<C: NumCode> Reads for Acyclic<C> {
         Some(CycleLabel { depth })
     }
 
-    ghost said_law = { λ bits label. cycle_label_in-spells C.code C.takes C.takes_codes C.takes_only bits label };
+    ghost said_law = { cycle_label_in-spells C.code C.takes C.takes_codes C.takes_only };
 }
 
 impl<C: NumCode> Rules for Acyclic<C> {

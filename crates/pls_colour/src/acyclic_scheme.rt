@@ -54,13 +54,13 @@ impl<C: NumCode> Scheme for Acyclic<C> {
         Ok(found)
     }
 
-    ghost reads_back_law = { λ _ label coded. has_spelling C.code (numbers_of_cycle label) coded };
+    ghost reads_back_law = { λ _ label. has_spelling C.code (numbers_of_cycle label) };
 
-    ghost one_spelling_law = { λ _ label a b first second. one_spelling C.code (numbers_of_cycle label) a b first second };
+    ghost one_spelling_law = { λ _ label. one_spelling C.code (numbers_of_cycle label) };
 
-    ghost one_label_law = { λ _ bits a b first second. one_cycle_label C.code C.takes C.takes_codes bits a b first second };
+    ghost one_label_law = { λ _. one_cycle_label C.code C.takes C.takes_codes };
 
-    ghost sound_law = { λ _ rows labels net _ _ accepted. acyclic_sound C.takes rows net labels accepted };
+    ghost sound_law = { λ _ rows labels net _ _. acyclic_sound C.takes rows net labels };
 }
 
 impl<C: NumCode> WritesLevels for Acyclic<C> {

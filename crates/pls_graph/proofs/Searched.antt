@@ -70,8 +70,10 @@ module _ (rows : List NodeRow) (net : IsNetwork rows) (root : ℕ) where
       new : (place known : ℕ) → HasLevel found place known
           → (known ≡ 0) × Contains (root ∷ []) place × Contains front place
       new place known has =
-          elim (gains.fresh place known has)
-          [ inl before ↦ absurd (None-replicate (length rows) place known before) | inr here ↦ here ]
+          elim (gains.fresh place known has) [
+            | inl before ↦ absurd (None-replicate (length rows) place known before)
+            | inr here ↦ here
+          ]
 
       start : HasLevel found root 0
       start =

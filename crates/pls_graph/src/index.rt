@@ -2,11 +2,11 @@
 
 ghost use Rattle.std.specs.Prelude.{◌≡◌, ◌≤◌, ℕ, ◌==◌, not, false, find, length, option_map, None, Some, Ok, IfOk, IfErr, OnOk, if◌then◌else◌};
 ghost use Rattle.std.specs.Option.{is_none, is_some, option_map_or};
-ghost use Rattle.pls_model.specs.Configuration.{out_of_order, names_twice, names_unknown, lacks_way_back, differs_in_weight, ids_of, ports_in, row_of, port_to};
+ghost use Rattle.pls_model.specs.Configuration.{differs_back, differs_in_weight, ids_of, lacks_back, lacks_way_back, names_twice, names_unknown, out_of_order, port_to, ports_in, row_of};
 ghost use Rattle.pls_model.specs.declared.limits.TheConstants.{MAX_PORTS};
 ghost use Rattle.pls_model.specs.declared.refusal.BuildError.TheVariants.{Twice};
-ghost use Rattle.pls_graph.specs.Build.{Tells};
-ghost use Rattle.pls_graph.specs.Ways.{weight_in, weight_between, lacks_back, differs_back, agrees_back, is_mutual};
+ghost use Rattle.pls_graph.specs.Build.{SaysRefusal};
+ghost use Rattle.pls_graph.specs.Ways.{weight_in, weight_between, agrees_back, is_mutual};
 
 use crate::size::count_ports;
 use indexmap::{IndexMap, IndexSet};
@@ -46,7 +46,7 @@ impl<'a> Index<'a> {
         ensures ok { IfOk result (λ index. index ≡ rows.now) }
         ensures valid { OnOk result (find names_twice rows.now ≡ None) }
         ensures refused { IfErr result (λ error.
-            Tells (option_map (λ row. Twice row.id) (find names_twice rows.now)) error) }
+            SaysRefusal (option_map (λ row. Twice row.id) (find names_twice rows.now)) error) }
     {
         let ways = ways_of(alloc, rows)?;
         let ids = identities(alloc, rows)?;
@@ -89,7 +89,7 @@ impl<'a> Index<'a> {
             .any(|port| !self.knows(port.nbr))
     }
 
-    /// Whether a port of the row names a row that has no port back.
+    // Whether one of the row's ports has no way back.
     pub(crate) fn lacks_way_back(&self, row: &NodeRow) -> bool
         ensures { result ≡ lacks_way_back self.now row.now }
     {
@@ -99,7 +99,7 @@ impl<'a> Index<'a> {
             .any(|port| self.lacks_back(row, *port))
     }
 
-    // Whether the port names a row that has no port back.
+    // Whether the port leads to a node from which none leads back.
     fn lacks_back(&self, row: &NodeRow, port: Port) -> bool
         ensures { result ≡ lacks_back self.now row.now port }
     {
@@ -163,7 +163,7 @@ fn ways_of(alloc: Global, rows: &[NodeRow]) -> Result<IndexMap<(u32, u32), u32>,
         → weight_in ways owner nbr ≡ weight_between rows.now owner nbr) }
     ensures valid { OnOk result (find names_twice rows.now ≡ None) }
     ensures refused { IfErr result (λ error.
-        Tells (option_map (λ row. Twice row.id) (find names_twice rows.now)) error) }
+        SaysRefusal (option_map (λ row. Twice row.id) (find names_twice rows.now)) error) }
 {
     let mut ways = IndexMap::with_capacity(alloc, count_ports(rows) as usize)?;
     for row in rows {

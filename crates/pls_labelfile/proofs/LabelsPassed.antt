@@ -8,7 +8,7 @@ use Rattle.pls_netfile.specs.Part.{PassesFormat}
 use Rattle.pls_netfile.proofs.Passing.{framed_passed, passes_none, passes_push, passes_then}
 use Rattle.pls_labelfile.specs.LabelsText.{NamedLabel, FitsLabel, IsLabelsPart, label_line, labels_lines}
 use Rattle.pls_labelfile.specs.LabelLine.{LabelWords, FitsWords, written_label}
-use Rattle.pls_labelfile.specs.LabelsScan.{IsTold, PassesLabels, PassesPart, Written, total_bits, capped}
+use Rattle.pls_labelfile.specs.LabelsScan.{IsTold, PassesLabels, PassesPart, WrittenLabels, total_bits, capped}
 use Rattle.pls_labelfile.proofs.LabelLines.{label_of, label_of-line, label_fits}
 use Rattle.pls_labelfile.proofs.LabelsPart.{is_labels_part}
 
@@ -67,7 +67,7 @@ part_passed old behind before new number bits text heading labels end numbers ke
     }
 
 -- a labels part that was passed is of its form
-pub part_formed : (old new : Left) (written : Written) → PassesPart old new written
+pub part_formed : (old new : Left) (written : WrittenLabels) → PassesPart old new written
     → PassesFormat IsLabelsPart old new
 part_formed old new written part = record {
   lines = labels_lines part.labels;
@@ -76,7 +76,7 @@ part_formed old new written part = record {
 }
 
 -- the part that was passed says its labels
-pub part_told : (old behind before new : Left) (written : Written) (bits : ℕ)
+pub part_told : (old behind before new : Left) (written : WrittenLabels) (bits : ℕ)
     → Passes old behind (codes "labels" ∷ [])
     → PassesLabels behind before bits → before.number ≤ 2 ^ 63 → PassesPart old new written
     → IsTold written

@@ -12,16 +12,16 @@ use Rattle.pls_netfile.specs.Fault.{IsFirstFault, NamesFirstFault}
 use Rattle.pls_netfile.specs.Part.{PassesWhole}
 use Rattle.pls_netfile.proofs.WholeTexts.{same_fault, whole_text}
 use Rattle.pls_labelfile.specs.LabelsText.{NamedLabel, IsLabelsPart, labels_lines, named}
-use Rattle.pls_labelfile.specs.LabelsScan.{PassesPart, Tells, Written, total_bits}
+use Rattle.pls_labelfile.specs.LabelsScan.{PassesPart, TellsLabels, WrittenLabels, total_bits}
 use Rattle.pls_labelfile.specs.Misfit.{misfit}
-use Rattle.pls_labelfile.specs.Refusal.{IsRefusal, misfit_error, refusal_of}
+use Rattle.pls_labelfile.specs.Refusal.{IsLabelsRefusal, misfit_error, labels_refusal}
 use Rattle.pls_labelfile.proofs.Filled.{bare}
 use Rattle.pls_labelfile.proofs.Misfits.{names_of}
 use Rattle.pls_labelfile.proofs.Named.{named-parts}
 use Rattle.pls_labelfile.proofs.LabelsPart.{is_labels_part}
 
 -- a text that is one labels part is the one that was kept of it
-whole_kept : (text : List ℕ) (written : Written) → PassesWhole PassesPart text written
+whole_kept : (text : List ℕ) (written : WrittenLabels) → PassesWhole PassesPart text written
     → text ≡ written.text
 whole_kept text written whole =
     whole_text text whole.now (labels_lines whole.passed.labels) whole.passed.passed whole.none
@@ -30,13 +30,13 @@ whole_kept text written whole =
 -- a text with a first faulty line says no labels
 pub no_labels_told : (text : List ℕ) (line : ℕ) → IsFirstFault IsLabelsPart text line
     → (labels : List NamedLabel)
-    → Tells text labels → ⊥
+    → TellsLabels text labels → ⊥
 no_labels_told text line fault labels tells =
     fault.2.none (labels_lines labels) (is_labels_part labels tells.fits) tells.is
 
 -- no labels are refused by a form
 refusal_no_form : (ids : List ℕ) (heading : ℕ) (labels : List NamedLabel) (line : ℕ)
-    → refusal_of ids heading labels ≡ Some (Form line) → ⊥
+    → labels_refusal ids heading labels ≡ Some (Form line) → ⊥
 refusal_no_form ids heading labels line e =
     by (nat_lt (2 ^ 28) (total_bits labels)) (misfit ids labels) e
   where
@@ -63,44 +63,44 @@ module _ (answer : Result (List (List Bool)) TextError) (text : List ℕ) where
             (same_fault IsLabelsPart text error line refusal other),
       )
 
-  module _ (ids : List ℕ) (written : Written) (whole : PassesWhole PassesPart text written) where
+  module _ (ids : List ℕ) (written : WrittenLabels) (whole : PassesWhole PassesPart text written) where
     -- the labels of the text, which are those of the part
     abbrev labels : List NamedLabel
     labels = whole.passed.labels
 
-    told : Tells written.text labels
+    told : TellsLabels written.text labels
     told = whole.passed.tells
 
-    tells : Tells text labels
-    tells = subst (λ (t : List ℕ). Tells t labels) (sym (whole_kept text written whole)) told
+    tells : TellsLabels text labels
+    tells = subst (λ (t : List ℕ). TellsLabels t labels) (sym (whole_kept text written whole)) told
 
     -- the answer to a text of labels is no form
-    pub form_never : ((labels : List NamedLabel) → Tells written.text labels
-        → IfErr answer (λ error. IsRefusal ids written.number labels error))
+    pub form_never : ((labels : List NamedLabel) → TellsLabels written.text labels
+        → IfErr answer (λ error. IsLabelsRefusal ids written.number labels error))
         → (line : ℕ) → IsErrOf answer (Form line) ↔ IsFirstFault IsLabelsPart text line
     form_never refused line = (
       λ e.
           absurd (refusal_no_form ids written.number labels line
-          (IfErr-at_err (λ error. IsRefusal ids written.number labels error) e
+          (IfErr-at_err (λ error. IsLabelsRefusal ids written.number labels error) e
           (refused labels told))),
       λ fault. absurd (no_labels_told text line fault labels tells),
     )
 
-    module _ (bits : (labels : List NamedLabel) → Tells written.text labels
+    module _ (bits : (labels : List NamedLabel) → TellsLabels written.text labels
         → IfOk answer (λ store. store ≡ bare labels))
-        (names : (labels : List NamedLabel) → Tells written.text labels
+        (names : (labels : List NamedLabel) → TellsLabels written.text labels
         → OnOk answer (names_of labels ≡ ids)) where
       -- the bits of labels that name the nodes say the text
-      pub store_told : IfOk answer (λ store. Tells text (named ids store))
+      pub store_told : IfOk answer (λ store. TellsLabels text (named ids store))
       store_told = by answer (bits labels told) (names labels told)
         where
           by : (a : Result (List (List Bool)) TextError)
               → IfOk a (λ store. store ≡ bare labels)
               → OnOk a (names_of labels ≡ ids)
-              → IfOk a (λ store. Tells text (named ids store))
+              → IfOk a (λ store. TellsLabels text (named ids store))
           by (Err error) bits names = tt
           by (Ok store) bits names =
-              subst (Tells text) (sym (rw (bits, ← names) (named-parts labels))) tells
+              subst (TellsLabels text) (sym (rw (bits, ← names) (named-parts labels))) tells
 
       -- and there is one label for each node
       pub store_long : (count : ℕ) → length ids ≡ count

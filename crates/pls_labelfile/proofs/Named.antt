@@ -8,7 +8,7 @@ use Rattle.std.proofs.lemmas.Bool.{le-ltb}
 use Rattle.pls_model.specs.declared.row.NodeRow.{NodeRow}
 use Rattle.pls_model.specs.Configuration.{ids_of}
 use Rattle.pls_netfile.specs.NetworkText.{AreRows, FitsRow}
-use Rattle.pls_labelfile.specs.Refusal.{refusal_of}
+use Rattle.pls_labelfile.specs.Refusal.{labels_refusal}
 use Rattle.pls_labelfile.specs.LabelsText.{NamedLabel, FitsLabel, named}
 use Rattle.pls_labelfile.specs.LabelsScan.{total_bits}
 use Rattle.pls_labelfile.specs.Misfit.{misfit}
@@ -123,7 +123,7 @@ net_labels_fit rows labels rows_fit few =
 pub net_labels_accepted : (rows : List NodeRow) (labels : List (List Bool)) (heading : ℕ)
     → length labels ≡ length rows
     → sum_by length labels ≤ 2 ^ 28
-    → refusal_of (ids_of rows) heading (named (ids_of rows) labels) ≡ None
+    → labels_refusal (ids_of rows) heading (named (ids_of rows) labels) ≡ None
 net_labels_accepted rows labels heading long few =
     let ids_long : length labels ≡ length (ids_of rows) =
     long ∙ sym (length-map rows (λ row. row.id)) in

@@ -9,7 +9,7 @@ use Rattle.pls_netfile.proofs.Frames.{end_plain}
 use Rattle.pls_netfile.proofs.Fronts.{same_line}
 use Rattle.pls_labelfile.specs.LabelsText.{NamedLabel, FitsLabel, label_line, labels_text}
 use Rattle.pls_labelfile.specs.LabelLine.{LabelWords, AreInRange, words_of, written_label}
-use Rattle.pls_labelfile.specs.LabelsScan.{Tells}
+use Rattle.pls_labelfile.specs.LabelsScan.{TellsLabels}
 use Rattle.pls_labelfile.specs.Behind.{Behind, IsBehind, NextLabel, to_end}
 use Rattle.pls_labelfile.proofs.LabelLines.{label_plain, end_no_words, words_in_range, same_words}
 use Rattle.pls_labelfile.proofs.LabelsPart.{one_labels}
@@ -17,14 +17,14 @@ use Rattle.pls_labelfile.proofs.LabelsPart.{one_labels}
 -- ---- one text says one list of labels
 
 -- as a whole
-pub one_told : (text : List ℕ) (a b : List NamedLabel) → Tells text a → Tells text b → a ≡ b
+pub one_told : (text : List ℕ) (a b : List NamedLabel) → TellsLabels text a → TellsLabels text b → a ≡ b
 one_told text a b p q =
     (one_labels a b [] [] p.fits q.fits
     (append-nil (labels_text a) ∙ sym p.is ∙ q.is ∙ sym (append-nil (labels_text b)))).0
 
 -- the text of labels and `end`, behind the heading
 behind_told : (text : List ℕ) (labels : List NamedLabel) → Behind text labels
-    → Tells (text_of (codes "labels" ∷ []) ++ text) labels
+    → TellsLabels (text_of (codes "labels" ∷ []) ++ text) labels
 behind_told text labels behind = record {
   fits = behind.fits;
   is = ap (λ (more : List ℕ). text_of (codes "labels" ∷ []) ++ more) behind.is;

@@ -2,8 +2,9 @@
 use Rattle.std.specs.Prelude.{ℕ, ◌+◌, ◌==◌, if◌then◌else◌, List, [], ◌∷◌, Option, Some, None, option_map}
 use Rattle.pls_labelfile.specs.LabelsText.{NamedLabel}
 
--- the place, from 0, of the first label that does not name the node at its place, or names one
--- where no node is left; the place behind the last label where nodes are left then
+-- the place, from 0, of the first label that is out of step with the nodes: it names another than
+-- the one whose turn it is, or comes when each node has its own; where labels end too early it is
+-- the place behind the last
 abbrev pub misfit : List ℕ → List NamedLabel → Option ℕ
 misfit [] [] = None
 misfit [] (label ∷ labels) = Some 0

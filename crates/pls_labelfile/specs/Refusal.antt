@@ -14,12 +14,12 @@ misfit_error heading place = Sense 20 (heading + 1 + place)
 
 -- why labels are refused for nodes of these identities, where their heading is the line of this
 -- number: they have more than 2^28 bits together, or else do not fit the nodes
-abbrev pub refusal_of : List ℕ → ℕ → List NamedLabel → Option TextError
-refusal_of ids heading labels =
+abbrev pub labels_refusal : List ℕ → ℕ → List NamedLabel → Option TextError
+labels_refusal ids heading labels =
     if nat_lt (2 ^ 28) (total_bits labels) then Some (Limit Bits)
     else option_map (misfit_error heading) (misfit ids labels)
 
 -- the error is the refusal of the labels, or there was no memory
-abbrev pub IsRefusal : List ℕ → ℕ → List NamedLabel → TextError → Type 0
-IsRefusal ids heading labels NoMemory = Unit {0}
-IsRefusal ids heading labels error = refusal_of ids heading labels ≡ Some error
+abbrev pub IsLabelsRefusal : List ℕ → ℕ → List NamedLabel → TextError → Type 0
+IsLabelsRefusal ids heading labels NoMemory = Unit {0}
+IsLabelsRefusal ids heading labels error = labels_refusal ids heading labels ≡ Some error

@@ -4,10 +4,10 @@ ghost use Rattle.std.specs.Prelude.{◌≡◌, ◌≤◌, List, [], map, length,
 ghost use Rattle.pls_model.specs.Configuration.{ids_of};
 ghost use Rattle.pls_model.specs.declared.limits.TheConstants.{MAX_NODES};
 ghost use Rattle.pls_labelfile.specs.LabelsText.{NamedLabel};
-ghost use Rattle.pls_labelfile.specs.LabelsScan.{Tells};
+ghost use Rattle.pls_labelfile.specs.LabelsScan.{TellsLabels};
 ghost use Rattle.pls_labelfile.specs.Behind.{Behind, IsBehind, NextLabel};
 ghost use Rattle.pls_labelfile.specs.Misfit.{misfit};
-ghost use Rattle.pls_labelfile.specs.Refusal.{IsRefusal, misfit_error, refusal_of};
+ghost use Rattle.pls_labelfile.specs.Refusal.{IsLabelsRefusal, misfit_error, labels_refusal};
 
 use crate::label_line::{LabelLine, label_words};
 use crate::labels_text::LabelsText;
@@ -21,18 +21,19 @@ use std::alloc::Global;
 impl<'a> LabelsText<'a> {
     /// The labels of the text, as those of the nodes of a network in their order.
     ///
-    /// `Limit` where they have more than 2^28 bits together; else `Sense` with number 20 where some
-    /// label line does not name the node at its place, or names one where no node is left, or the
-    /// `end` comes while nodes are left. It names the first such line.
+    /// `Limit` where they have more than 2^28 bits together. Else `Sense` with number 20 and a
+    /// line, the first that is out of step with the nodes: the label of another node than the one
+    /// whose turn it is, a label when every node has one, or the `end` before that. `NoMemory` for
+    /// want of memory.
     pub fn build(&self, alloc: Global, net: &Network) -> Result<LabelStore, TextError>
-        ensures ok { (labels : List NamedLabel) → Tells self.now.text labels
+        ensures ok { (labels : List NamedLabel) → TellsLabels self.now.text labels
             → IfOk result (λ store. store ≡ map (λ label. label.bits) labels) }
-        ensures named { (labels : List NamedLabel) → Tells self.now.text labels
+        ensures named { (labels : List NamedLabel) → TellsLabels self.now.text labels
             → OnOk result (map (λ label. label.id) labels ≡ ids_of net.now) }
-        ensures accepted { (labels : List NamedLabel) → Tells self.now.text labels
-            → OnOk result (refusal_of (ids_of net.now) self.now.number labels ≡ None) }
-        ensures refused { (labels : List NamedLabel) → Tells self.now.text labels
-            → IfErr result (λ error. IsRefusal (ids_of net.now) self.now.number labels error) }
+        ensures accepted { (labels : List NamedLabel) → TellsLabels self.now.text labels
+            → OnOk result (labels_refusal (ids_of net.now) self.now.number labels ≡ None) }
+        ensures refused { (labels : List NamedLabel) → TellsLabels self.now.text labels
+            → IfErr result (λ error. IsLabelsRefusal (ids_of net.now) self.now.number labels error) }
     {
         if self.bits > MAX_BITS {
             return Err(TextError::Limit(Quantity::Bits));
@@ -47,7 +48,7 @@ impl<'a> LabelsText<'a> {
 
     // A reader of the lines behind the heading.
     fn behind_heading(&self) -> Lines<'a>
-        ensures { (labels : List NamedLabel) → Tells self.now.text labels
+        ensures { (labels : List NamedLabel) → TellsLabels self.now.text labels
             → Behind result.rest labels }
     {
         let mut lines = Lines::new(self.text);

@@ -5,8 +5,8 @@ ghost use Rattle.std.specs.Result.{IsErrOf};
 ghost use Rattle.pls_model.specs.Configuration.{ids_of};
 ghost use Rattle.pls_netfile.specs.Fault.{IsFirstFault};
 ghost use Rattle.pls_labelfile.specs.LabelsText.{IsLabelsPart, NamedLabel, named};
-ghost use Rattle.pls_labelfile.specs.LabelsScan.{Tells};
-ghost use Rattle.pls_labelfile.specs.Refusal.{IsRefusal, refusal_of};
+ghost use Rattle.pls_labelfile.specs.LabelsScan.{TellsLabels};
+ghost use Rattle.pls_labelfile.specs.Refusal.{IsLabelsRefusal, labels_refusal};
 
 use crate::labels_text::LabelsText;
 use pls_base::TextError;
@@ -21,14 +21,14 @@ use std::alloc::Global;
 /// else the refusals of [`LabelsText::build`].
 #[tactic(auto, using(crate::proofs::LabelsPart::labels_part))]
 pub fn read_labels(alloc: Global, text: &[u8], net: &Network) -> Result<LabelStore, TextError>
-    ensures ok { IfOk result (λ store. Tells text.now (named (ids_of net.now) store)) }
+    ensures ok { IfOk result (λ store. TellsLabels text.now (named (ids_of net.now) store)) }
     ensures lengths { IfOk result (λ store. length store ≡ length net.now) }
-    ensures only { (labels : List NamedLabel) → Tells text.now labels
+    ensures only { (labels : List NamedLabel) → TellsLabels text.now labels
         → IfOk result (λ store. store ≡ map (λ label. label.bits) labels) }
-    ensures accepted { (labels : List NamedLabel) → Tells text.now labels
-        → OnOk result (refusal_of (ids_of net.now) 1 labels ≡ None) }
-    ensures refused { (labels : List NamedLabel) → Tells text.now labels
-        → IfErr result (λ error. IsRefusal (ids_of net.now) 1 labels error) }
+    ensures accepted { (labels : List NamedLabel) → TellsLabels text.now labels
+        → OnOk result (labels_refusal (ids_of net.now) 1 labels ≡ None) }
+    ensures refused { (labels : List NamedLabel) → TellsLabels text.now labels
+        → IfErr result (λ error. IsLabelsRefusal (ids_of net.now) 1 labels error) }
     ensures form { (line : ℕ) → IsErrOf result (TextError.Form line)
         ↔ IsFirstFault IsLabelsPart text.now line }
 {

@@ -14,17 +14,17 @@ pub struct LabelsText<'a> {
 }
 
 impl<'a> Model for LabelsText<'a> {
-    ghost use Rattle.pls_labelfile.specs.LabelsScan.{IsTold, Written};
+    ghost use Rattle.pls_labelfile.specs.LabelsScan.{IsTold, WrittenLabels, kept};
 
-    ghost Value = { Written };
+    ghost Value = { WrittenLabels };
 
-    ghost view = { λ part. record { text = part.text.now; number = part.number; bits = part.bits } };
+    ghost view = { λ part. kept part.text.now part.number part.bits };
 
-    ghost invariant = { λ part. IsTold (record { text = part.text.now; number = part.number; bits = part.bits }) };
+    ghost invariant = { λ part. IsTold (kept part.text.now part.number part.bits) };
 }
 
 impl<'a> LabelsText<'a> {
-    /// The sum of the stated lengths, or 2^64 - 1 where that is less.
+    /// How many bits the label lines state together, and `u64::MAX` at the most.
     pub fn bits(&self) -> u64
         ensures { result ≡ self.now.bits }
     {

@@ -7,8 +7,8 @@ ghost use Rattle.pls_netfile.specs.Lines.{IsFault, Left};
 ghost use Rattle.pls_netfile.specs.NetworkText.{AreRows};
 ghost use Rattle.pls_view.specs.Labels.{bits_in};
 ghost use Rattle.pls_labelfile.specs.LabelsText.{FitsLabel, IsLabelsPart, NamedLabel, labels_text, named};
-ghost use Rattle.pls_labelfile.specs.LabelsScan.{Tells};
-ghost use Rattle.pls_labelfile.specs.Refusal.{refusal_of};
+ghost use Rattle.pls_labelfile.specs.LabelsScan.{TellsLabels};
+ghost use Rattle.pls_labelfile.specs.Refusal.{labels_refusal};
 
 use pls_graph::Network;
 use pls_view::LabelStore;
@@ -39,7 +39,7 @@ pub fn written_is_read(net: &Network, labels: &LabelStore)
     requires lengths { length labels.now ≡ length net.now }
     requires ranges { AreRows net.now }
     requires few { bits_in labels.now ≤ 2 ^ 28 }
-    ensures tells { let all = named (ids_of net.now) labels.now in Tells (labels_text all) all }
-    ensures accepted { refusal_of (ids_of net.now) 1 (named (ids_of net.now) labels.now) ≡ None }
+    ensures tells { let all = named (ids_of net.now) labels.now in TellsLabels (labels_text all) all }
+    ensures accepted { labels_refusal (ids_of net.now) 1 (named (ids_of net.now) labels.now) ≡ None }
     ensures bits { map (λ label. label.bits) (named (ids_of net.now) labels.now) ≡ labels.now }
 {}

@@ -1,5 +1,5 @@
--- A configuration is a list of node rows; here is which lists are networks, by one test for each
--- refusal over the whole list (Korman, Kutten and Peleg 2010, "Proof labeling schemes").
+-- Configurations, as lists of rows, one a node; here is which lists are networks, by one test for
+-- each refusal over the whole list (Korman, Kutten and Peleg 2010, "Proof labeling schemes").
 use Rattle.std.specs.Prelude.{◌≡◌, ℕ, ◌≤◌, Bool, false, not, ◌||◌, ◌==◌, nat_le, List, [], ◌∷◌, map, drop, length, zip, find, sum_by, All, Option, Some, None, option_map, option_and_then}
 use Rattle.std.specs.List.{list_any}
 use Rattle.std.specs.Option.{is_none, option_map_or}
@@ -25,7 +25,7 @@ port_to row id = find (λ port. id == port.nbr) row.ports
 abbrev pub port_back : List NodeRow → NodeRow → Port → Option Port
 port_back rows row port = option_and_then (λ other. port_to other row.id) (row_of rows port.nbr)
 
--- the first row whose identity is not greater than that of the row before it
+-- the first row at which identities do not rise: its own is at most that of the row above it
 abbrev pub out_of_order : List NodeRow → Option NodeRow
 out_of_order rows =
     option_map (λ pair. pair.1) (find (λ pair. nat_le pair.1.id pair.0.id) (zip rows (drop 1 rows)))
@@ -39,7 +39,7 @@ abbrev pub has_repeat : List ℕ → Bool
 has_repeat [] = false
 has_repeat (first ∷ others) = list_any (λ other. first == other) others || has_repeat others
 
--- two ports of the row name one node
+-- some neighbour is named by two of the row's ports
 abbrev pub names_twice : NodeRow → Bool
 names_twice row = has_repeat (map (λ port. port.nbr) row.ports)
 
@@ -47,17 +47,23 @@ names_twice row = has_repeat (map (λ port. port.nbr) row.ports)
 abbrev pub names_unknown : List NodeRow → NodeRow → Bool
 names_unknown rows row = list_any (λ port. is_none (row_of rows port.nbr)) row.ports
 
--- a port names a row that has no port back
-abbrev pub lacks_way_back : List NodeRow → NodeRow → Bool
-lacks_way_back rows row =
-    list_any (λ port. option_map_or (λ other. is_none (port_to other row.id)) (row_of rows port.nbr)
-    false) row.ports
+-- the node at the other end of the row's port has none that leads back
+abbrev pub lacks_back : List NodeRow → NodeRow → Port → Bool
+lacks_back rows row port =
+    option_map_or (λ other. is_none (port_to other row.id)) (row_of rows port.nbr) false
 
--- a port's weight differs from that of the port back
+-- one of the row's ports has no way back
+abbrev pub lacks_way_back : List NodeRow → NodeRow → Bool
+lacks_way_back rows row = list_any (lacks_back rows row) row.ports
+
+-- the row's port and the one that leads back have two weights
+abbrev pub differs_back : List NodeRow → NodeRow → Port → Bool
+differs_back rows row port =
+    option_map_or (λ back. not (port.weight == back.weight)) (port_back rows row port) false
+
+-- one of the row's ports has another weight than the way back
 abbrev pub differs_in_weight : List NodeRow → NodeRow → Bool
-differs_in_weight rows row =
-    list_any (λ port. option_map_or (λ back. not (port.weight == back.weight))
-    (port_back rows row port) false) row.ports
+differs_in_weight rows row = list_any (differs_back rows row) row.ports
 
 -- the pointer names no port of the row
 abbrev pub points_nowhere : NodeRow → Bool

@@ -33,11 +33,11 @@ abbrev pub Walk : List Edge → ℕ → List ℕ → ℕ → Type 0
 Walk edges u [] v = u ≡ v
 Walk edges u (next ∷ nodes) v = Adjacent edges u next × Walk edges next nodes v
 
--- the two nodes are the ends of a walk
+-- some walk begins at one node and ends at the other
 abbrev pub AreJoined : List Edge → ℕ → ℕ → Type 0
 AreJoined edges u v = (nodes : List ℕ) × Walk edges u nodes v
 
--- any two of the nodes are the ends of a walk
+-- between any two of the nodes there is a walk
 abbrev pub JoinAll : List Edge → List ℕ → Type 0
 JoinAll edges nodes = (u v : ℕ) → Contains nodes u → Contains nodes v → AreJoined edges u v
 

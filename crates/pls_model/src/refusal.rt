@@ -10,7 +10,7 @@ use thiserror::Error;
 /// identity of the first row at which it does.
 #[derive(Clone, Copy, Debug, PartialEq, Eq, Error)]
 pub enum BuildError {
-    /// The identity is not greater than that of the row before.
+    /// The identity is not above the one in the row before.
     #[error("node {0} is not above the node before it")]
     Order(u32),
     /// A port names its own node.
@@ -22,10 +22,10 @@ pub enum BuildError {
     /// A port names a node that is not there.
     #[error("node {0} names an unknown neighbour")]
     Unknown(u32),
-    /// A port names a node that has no port back.
+    /// A port leads to a node from which none leads back.
     #[error("node {0} has a port without a way back")]
     OneWay(u32),
-    /// A port's weight differs from that of the port back.
+    /// A port and the one that leads back have two weights.
     #[error("node {0} has a port whose two weights differ")]
     Weights(u32),
     /// The node points at a port that it does not have.

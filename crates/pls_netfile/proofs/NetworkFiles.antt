@@ -9,7 +9,7 @@ use Rattle.pls_model.specs.Configuration.{IsNetwork}
 use Rattle.pls_netfile.specs.Fault.{IsFirstFault}
 use Rattle.pls_netfile.specs.Part.{PassesWhole}
 use Rattle.pls_netfile.specs.NetworkText.{AreRows, IsNetworkPart, network_lines, network_text}
-use Rattle.pls_netfile.specs.NetworkScan.{Written, Tells, PassesNetwork}
+use Rattle.pls_netfile.specs.NetworkScan.{WrittenNetwork, TellsNetwork, PassesNetwork}
 use Rattle.pls_netfile.specs.NetworkBuild.{Exceeds, IsRefusedBuild}
 use Rattle.pls_netfile.proofs.NetworkRows.{rows_are_part, one_network}
 use Rattle.pls_netfile.proofs.WholeTexts.{whole_text}
@@ -22,21 +22,21 @@ none_faulty text rows line fits says fault =
     fault.2.none (network_lines rows) (rows_are_part rows fits) says
 
 -- a text that is one network part is that of its rows
-pub text_of_whole : (text : List ℕ) (written : Written)
+pub text_of_whole : (text : List ℕ) (written : WrittenNetwork)
     → (whole : PassesWhole PassesNetwork text written) → text ≡ network_text whole.passed.rows
 text_of_whole text written whole =
     whole_text text whole.now (network_lines whole.passed.rows) whole.passed.passed whole.none
 
 -- a text that says these rows says no others
-pub tells_these : (text : List ℕ) (written : Written) (rows : List NodeRow)
+pub tells_these : (text : List ℕ) (written : WrittenNetwork) (rows : List NodeRow)
     → PassesWhole PassesNetwork text written → AreRows rows → text ≡ network_text rows
-    → Tells written rows
+    → TellsNetwork written rows
 tells_these text written rows whole fits says =
     let part = whole.passed in
     let same = (one_network part.rows rows [] [] part.tells.fits fits
     (append-nil (network_text part.rows) ∙ sym (text_of_whole text written whole) ∙ says
     ∙ sym (append-nil (network_text rows)))).0 in
-    subst (Tells written) same part.tells
+    subst (TellsNetwork written) same part.tells
 
 none_exceeds : (rows : List NodeRow) (quantity : Quantity) → IsNetwork rows → Exceeds rows quantity
     → ⊥
@@ -61,11 +61,11 @@ no_refusal rows (Sense number place) is refused =
 no_refusal rows NoMemory is refused = refl
 
 -- what becomes of a text that says a network: that network, or want of memory
-pub told_result : (written : Written) (rows : List NodeRow)
+pub told_result : (written : WrittenNetwork) (rows : List NodeRow)
     (result : Result (List NodeRow) TextError)
-    → IsNetwork rows → Tells written rows
-    → IfOk result (λ network. (others : List NodeRow) → Tells written others → network ≡ others)
-    → IfErr result (λ error. (others : List NodeRow) → Tells written others
+    → IsNetwork rows → TellsNetwork written rows
+    → IfOk result (λ network. (others : List NodeRow) → TellsNetwork written others → network ≡ others)
+    → IfErr result (λ error. (others : List NodeRow) → TellsNetwork written others
     → IsRefusedBuild others error)
     → MatchResult result (λ network. network ≡ rows) (λ error. error ≡ NoMemory)
 told_result written rows (Ok network) is tells ok refused = ok rows tells

@@ -10,7 +10,7 @@ use Rattle.pls_model.specs.declared.row.NodeRow.{NodeRow}
 use Rattle.pls_netfile.specs.Lines.{Left, Passes}
 use Rattle.pls_netfile.specs.NetworkText.{FitsPort, FitsRow, AreRows, IsNetworkPart, node_line, port_line, row_lines, network_lines}
 use Rattle.pls_netfile.specs.NetworkLine.{FitsNode}
-use Rattle.pls_netfile.specs.NetworkScan.{PassesRow, PassesRows, PassesNetwork, Written}
+use Rattle.pls_netfile.specs.NetworkScan.{PassesRow, PassesRows, PassesNetwork, WrittenNetwork}
 use Rattle.pls_netfile.specs.Part.{PassesFormat}
 use Rattle.pls_netfile.specs.Text.{text_of}
 use Rattle.pls_netfile.specs.LineKind.{PassesAll}
@@ -129,7 +129,7 @@ network_passed old behind before new nodes ports text heading rows end some kept
     }
 
 -- a network part that was passed is of its form
-pub network_formed : (old new : Left) (written : Written) → PassesNetwork old new written
+pub network_formed : (old new : Left) (written : WrittenNetwork) → PassesNetwork old new written
     → PassesFormat IsNetworkPart old new
 network_formed old new written part = record {
   lines = network_lines part.rows;

@@ -7,7 +7,8 @@ use Rattle.pls_netfile.specs.Fault.{IsFirstFault}
 use Rattle.pls_netfile.specs.NetworkText.{AreRows, IsNetworkPart, network_text}
 use Rattle.pls_netfile.specs.NetworkBuild.{IsRefusedBuild}
 
--- the text is a network part, and this is why its rows are no network
+-- the text is a network part, and this is why its rows gave no network; want of memory says nothing
+-- of them
 pub record SaysNoNetwork (text : List ℕ) (error : TextError) : Type 0 where
   pub rows : List NodeRow
   pub fits : AreRows rows

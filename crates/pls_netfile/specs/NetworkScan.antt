@@ -6,22 +6,26 @@ use Rattle.pls_netfile.specs.Lines.{Left, Passes}
 use Rattle.pls_netfile.specs.NetworkText.{FitsRow, AreRows, row_lines, network_lines, network_text}
 
 -- the text of a network, and how many nodes and ports it has
-pub record Written : Type 0 where
+pub record WrittenNetwork : Type 0 where
   pub text : List ℕ
   pub nodes : ℕ
   pub ports : ℕ
 
+-- a text with so many nodes and ports
+abbrev pub kept : List ℕ → ℕ → ℕ → WrittenNetwork
+kept text nodes ports = record { text = text; nodes = nodes; ports = ports }
+
 -- these are the rows that the text says
-pub record Tells (written : Written) (rows : List NodeRow) : Type 0 where
+pub record TellsNetwork (written : WrittenNetwork) (rows : List NodeRow) : Type 0 where
   pub fits : AreRows rows
   pub text : written.text ≡ network_text rows
   pub nodes : written.nodes ≡ length rows
   pub ports : written.ports ≡ ports_in rows
 
 -- the text says some rows
-pub record IsTold (written : Written) : Type 0 where
+pub record IsTold (written : WrittenNetwork) : Type 0 where
   pub rows : List NodeRow
-  pub tells : Tells written rows
+  pub tells : TellsNetwork written rows
 
 -- the reader has passed the lines of one row with so many ports
 pub record PassesRow (old new : Left) (ports : ℕ) : Type 0 where
@@ -39,7 +43,7 @@ pub record PassesRows (old new : Left) (nodes ports : ℕ) : Type 0 where
   pub sum : ports ≡ ports_in rows
 
 -- the reader has passed a network part, and kept its text
-pub record PassesNetwork (old new : Left) (written : Written) : Type 0 where
+pub record PassesNetwork (old new : Left) (written : WrittenNetwork) : Type 0 where
   pub rows : List NodeRow
-  pub tells : Tells written rows
+  pub tells : TellsNetwork written rows
   pub passed : Passes old new (network_lines rows)

@@ -4,7 +4,7 @@ ghost use Rattle.std.specs.Prelude.{◌≡◌, List, IfErr, IfOk};
 ghost use Rattle.pls_base.specs.declared.text_error.TextError.TheVariants.{Sense};
 ghost use Rattle.pls_model.specs.declared.row.NodeRow.{NodeRow};
 ghost use Rattle.pls_model.specs.Configuration.{AreWithinLimits, IsNetwork};
-ghost use Rattle.pls_netfile.specs.NetworkScan.{Tells};
+ghost use Rattle.pls_netfile.specs.NetworkScan.{TellsNetwork};
 ghost use Rattle.pls_netfile.specs.NetworkBuild.{IsRefusedBuild, text_error_of};
 
 use crate::network_text::NetworkText;
@@ -20,10 +20,10 @@ impl<'a> NetworkText<'a> {
     /// memory is taken. `Sense` with a number from 10 to 16 and an identity for the refusals of
     /// [`Network::build`]. `NoMemory` for want of memory.
     pub fn build(&self, alloc: Global) -> Result<Network, TextError>
-        ensures ok { IfOk result (λ network. (rows : List NodeRow) → Tells self.now rows
+        ensures ok { IfOk result (λ network. (rows : List NodeRow) → TellsNetwork self.now rows
             → network ≡ rows) }
         ensures valid { IfOk result (λ network. IsNetwork network) }
-        ensures refused { IfErr result (λ error. (rows : List NodeRow) → Tells self.now rows
+        ensures refused { IfErr result (λ error. (rows : List NodeRow) → TellsNetwork self.now rows
             → IsRefusedBuild rows error) }
     {
         if self.nodes > MAX_NODES as u64 {

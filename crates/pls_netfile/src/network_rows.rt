@@ -5,7 +5,7 @@ ghost use Rattle.pls_model.specs.declared.row.NodeRow.{NodeRow};
 ghost use Rattle.pls_netfile.specs.Lines.{Passes, Stands};
 ghost use Rattle.pls_netfile.specs.NetworkText.{FitsPort, FitsRow, port_line, row_lines};
 ghost use Rattle.pls_netfile.specs.NetworkLine.{IsNodeLine, IsPortLine};
-ghost use Rattle.pls_netfile.specs.NetworkScan.{Tells};
+ghost use Rattle.pls_netfile.specs.NetworkScan.{TellsNetwork};
 
 use crate::line_kind::{list_of, next_of};
 use crate::lines::Lines;
@@ -18,8 +18,8 @@ use std::alloc::Global;
 impl<'a> NetworkText<'a> {
     /// The rows that the text says, in its order.
     pub fn rows(&self, alloc: Global) -> Result<Vec<NodeRow>, NoMemory>
-        ensures ok { IfOk result (λ rows. Tells self.now rows.items) }
-        ensures only { (rows : List NodeRow) → Tells self.now rows
+        ensures ok { IfOk result (λ rows. TellsNetwork self.now rows.items) }
+        ensures only { (rows : List NodeRow) → TellsNetwork self.now rows
             → IfOk result (λ read. read.items ≡ rows) }
     {
         let mut lines = Lines::new(self.text);

@@ -1,7 +1,6 @@
 -- The scheme of forests: what a label says, what a node judges, and the marker's labels. The
--- property is that no non-empty chain of pointers returns to its start.
-use Rattle.std.specs.Prelude.{◌≡◌, ℕ, ◌+◌, ◌==◌, Bool, true, ◌||◌, List, [], ◌∷◌, length, slice_get, Option, Some, None, option_map, option_and_then}
-use Rattle.std.specs.Option.{is_some, option_map_or}
+-- property is that following pointers never leads back to the start.
+use Rattle.std.specs.Prelude.{◌≡◌, ℕ, ◌==◌, Bool, ◌||◌, List, [], ◌∷◌, length, slice_get, Option, Some, option_map, option_and_then}
 use Rattle.pls_model.specs.declared.row.NodeRow.{NodeRow}
 use Rattle.pls_model.specs.declared.verdict.Verdict.{Verdict}
 use Rattle.pls_graph.specs.declared.size.Size.{Size}

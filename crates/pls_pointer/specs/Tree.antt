@@ -1,9 +1,8 @@
 -- The scheme of trees: what a label says, what a node judges, and the marker's labels. The property
 -- is that exactly one node has no pointer, and that the edges along which the others point are a
 -- spanning tree (Korman, Kutten and Peleg 2010, the spanning tree scheme).
-use Rattle.std.specs.Prelude.{◌≡◌, ℕ, ◌+◌, ◌==◌, Bool, true, ◌&&◌, ◌||◌, List, [], ◌∷◌, ◌++◌, length, Contains, slice_get, Option, Some, None, option_and_then}
+use Rattle.std.specs.Prelude.{◌≡◌, ℕ, ◌+◌, ◌==◌, Bool, ◌&&◌, ◌||◌, List, [], ◌∷◌, ◌++◌, length, Contains, slice_get, Option, Some, None, option_and_then}
 use Rattle.std.specs.List.{list_all}
-use Rattle.std.specs.Option.{is_some, option_map_or}
 use Rattle.pls_model.specs.declared.row.NodeRow.{NodeRow}
 use Rattle.pls_model.specs.declared.verdict.Verdict.{Verdict}
 use Rattle.pls_graph.specs.declared.size.Size.{Size}

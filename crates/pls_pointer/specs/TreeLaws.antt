@@ -1,10 +1,7 @@
 -- What labels of trees say: a root and a depth each, and all together that the pointers make a
 -- tree.
-use Rattle.std.proofs.Common.{◌≡◌, ◌↔◌, ◌≤◌, ◌∙◌, ◌||◌, ◌==◌, ◌&&◌, ℕ, Bool, true, List, [], ◌∷◌, length, Contains, Option, Some, None, refl, sym, arith, is_some}
+use Rattle.std.proofs.Common.{◌≡◌, ◌↔◌, ◌≤◌, ◌∙◌, ◌||◌, ◌==◌, ◌&&◌, ℕ, Bool, true, List, [], ◌∷◌, length, Contains, Option, Some, None, refl, arith, is_some}
 use Rattle.std.proofs.lemmas.Bool.{eqb-true, and_parts}
-use Rattle.std.proofs.lemmas.List.Elements.{All-contains}
-use Rattle.std.proofs.lemmas.List.Folds.{list_all-map}
-use Rattle.std.proofs.lemmas.List.Sums.{AllPass-from_list_all}
 use Rattle.pls_model.specs.declared.row.Port.{Port}
 use Rattle.pls_model.specs.declared.row.NodeRow.{NodeRow}
 use Rattle.pls_model.specs.Configuration.{IsNetwork}
@@ -12,7 +9,7 @@ use Rattle.pls_model.specs.Walk.{IsConnected}
 use Rattle.pls_graph.proofs.Members.{Contains-first}
 use Rattle.pls_view.specs.Seen.{label_of}
 use Rattle.pls_scheme.specs.Judging.{AllAccept}
-use Rattle.pls_scheme.specs.Reading.{ReadPort, said, said_port}
+use Rattle.pls_scheme.specs.Reading.{said}
 use Rattle.pls_scheme.proofs.SaidPorts.{passes_port}
 use Rattle.pls_scheme.proofs.Saying.{AllHold, accepted_say, say_of}
 use Rattle.pls_facts.specs.Pointer.{Falls}

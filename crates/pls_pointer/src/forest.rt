@@ -44,7 +44,7 @@ impl<C: NumCode> Reads for Forest<C> {
         Some(DepthLabel { depth })
     }
 
-    ghost said_law = { λ bits label. depth_in-spells C.code C.takes C.takes_codes C.takes_only bits label };
+    ghost said_law = { depth_in-spells C.code C.takes C.takes_codes C.takes_only };
 }
 
 impl<C: NumCode> Rules for Forest<C> {

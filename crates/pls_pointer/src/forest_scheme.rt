@@ -58,12 +58,11 @@ impl<C: NumCode> Scheme for Forest<C> {
         Ok(Some(labels))
     }
 
-    ghost reads_back_law = { λ _ label coded. has_spelling C.code (numbers_of_depth label) coded };
+    ghost reads_back_law = { λ _ label. has_spelling C.code (numbers_of_depth label) };
 
-    ghost one_spelling_law = { λ _ label a b first second. one_spelling C.code (numbers_of_depth label) a b first second };
+    ghost one_spelling_law = { λ _ label. one_spelling C.code (numbers_of_depth label) };
 
-    ghost one_label_law = { λ _ bits a b first second. one_depth_label C.code C.takes C.takes_codes bits a b first
-        second };
+    ghost one_label_law = { λ _. one_depth_label C.code C.takes C.takes_codes };
 
-    ghost sound_law = { λ _ rows labels net _ _ accepted. forest_sound C.takes rows labels net accepted };
+    ghost sound_law = { λ _ rows labels net _ _. forest_sound C.takes rows labels net };
 }

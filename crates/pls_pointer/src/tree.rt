@@ -49,7 +49,7 @@ impl<C: NumCode> Reads for Tree<C> {
         Some(TreeLabel { root, depth })
     }
 
-    ghost said_law = { λ bits label. tree_in-spells C.code C.takes C.takes_codes C.takes_only bits label };
+    ghost said_law = { tree_in-spells C.code C.takes C.takes_codes C.takes_only };
 }
 
 impl<C: NumCode> Rules for Tree<C> {

@@ -64,15 +64,13 @@ impl<C: NumCode> Scheme for Tree<C> {
         Ok(Some(labels))
     }
 
-    ghost reads_back_law = { λ _ label coded. has_spelling C.code (numbers_of_tree label) coded };
+    ghost reads_back_law = { λ _ label. has_spelling C.code (numbers_of_tree label) };
 
-    ghost one_spelling_law = { λ _ label a b first second. one_spelling C.code (numbers_of_tree label) a b first second };
+    ghost one_spelling_law = { λ _ label. one_spelling C.code (numbers_of_tree label) };
 
-    ghost one_label_law = { λ _ bits a b first second. one_tree_label C.code C.takes C.takes_codes bits a b first
-        second };
+    ghost one_label_law = { λ _. one_tree_label C.code C.takes C.takes_codes };
 
-    ghost sound_law = { λ _ rows labels net connected _ accepted. tree_sound C.takes rows labels net connected
-        accepted };
+    ghost sound_law = { λ _ rows labels net joined _. tree_sound C.takes rows labels net joined };
 }
 
 // The root's identity, and the depth of each node in their order, or `None` where the pointers make

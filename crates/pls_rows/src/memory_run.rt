@@ -1,6 +1,7 @@
 //! One run of the program in memory.
 
-ghost use Rattle.std.specs.Prelude.{◌≡◌, [], Some, map, IfOk};
+ghost use Rattle.std.specs.Prelude.{◌≡◌, [], Some, IfOk};
+ghost use Rattle.pls_app.specs.Command.{words_in};
 ghost use Rattle.pls_app.specs.Run.{IsAnswered, Tells};
 
 use pls_app::run;
@@ -18,7 +19,7 @@ pub fn run_in_memory(
     input: Vec<u8>,
 ) -> Result<(Status, MemSink), NoMemory>
     ensures { IfOk result (λ end. IsAnswered end.0
-        → Tells (map (λ word. word.now) words.now) input.items end.0 (Some []) (Some end.1.taken)) }
+        → Tells (words_in words.now) input.items end.0 (Some []) (Some end.1.taken)) }
 {
     let mut source = SureSource::new(input);
     let mut sink = MemSink::new(alloc, ROOM, ROOM, Vec::new(alloc))?;

@@ -1,8 +1,8 @@
 //! The worked examples, as tables of schemes, inputs, texts and statuses.
 
 mod colours;
+mod pointers;
 mod refusals;
-mod searches;
 mod small;
 mod streams;
 mod trees;
@@ -41,22 +41,22 @@ const RING: &str = "network\nnode 1 - 0 0\nport 2 1\nport 4 5\nnode 2 0 0 0\npor
 type Example<'t> = (&'t str, [&'t str; 2], (&'t str, Status));
 
 // Runs a command on each example, and asserts its text and its status.
-fn assert_runs<const N: usize>(
+fn assert_runs<'t>(
     rt: &impl Abort,
     alloc: Global,
-    command: &str,
-    examples: [Example<'_>; N],
+    command: &'t str,
+    examples: &[Example<'t>],
 ) -> Result<(), Fail> {
     for (scheme, [front, back], (text, status)) in examples {
         let mut bytes = front.as_bytes().to_vec(alloc)?;
         bytes.extend_from_slice(back.as_bytes())?;
-        let (end, sink) = run_in_memory(alloc, &[command, scheme], bytes)?;
+        let (end, sink) = run_in_memory(alloc, &[command, *scheme], bytes)?;
         assert_eq!(rt;
             sink.bytes(),
             text.as_bytes(),
             "{command} {scheme} of {front}{back}"
         );
-        assert_eq!(rt; end, status, "{command} {scheme} of {front}{back}");
+        assert_eq!(rt; end, *status, "{command} {scheme} of {front}{back}");
     }
     Ok(())
 }

@@ -1,12 +1,12 @@
 -- Labels that are read, at the ports of a view and at all nodes of a network.
-use Rattle.std.proofs.Common.{◌≡◌, ◌∙◌, ℕ, zero, suc, slice_get, cond, Bool, true, false, ◌&&◌, List, [], ◌∷◌, map, Option, Some, None, option_map, unwrap_or, is_some, refl, sym, ap, subst}
-use Rattle.std.specs.List.{count_by, list_all, AllByRecursion}
+use Rattle.std.proofs.Common.{◌≡◌, ◌∙◌, ℕ, zero, suc, slice_get, cond, Bool, true, false, ◌&&◌, List, [], ◌∷◌, Option, Some, None, option_map, is_some, refl, sym, ap}
+use Rattle.std.specs.List.{count_by, list_all}
 use Rattle.std.specs.Option.{option_and_then, option_map_or}
 use Rattle.std.proofs.lemmas.List.Sums.{sum_by-cons}
-use Rattle.pls_model.specs.declared.verdict.Verdict.TheVariants.{Accept, Reject}
+use Rattle.pls_model.specs.declared.verdict.Verdict.TheVariants.{Reject}
 use Rattle.pls_view.specs.Seen.{Seen, SeenPort}
 use Rattle.pls_scheme.specs.Judging.{judged_from}
-use Rattle.pls_scheme.specs.Reading.{Read, ReadPort, judge_by, judged_read, read_port, read_ports}
+use Rattle.pls_scheme.specs.Reading.{Read, ReadPort, judge_by, read_port, read_ports}
 
 -- a conjunction that holds has both sides
 both_true : (one other : Bool) → (one && other) ≡ true → (one ≡ true) × (other ≡ true)

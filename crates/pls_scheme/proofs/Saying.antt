@@ -1,5 +1,5 @@
 -- Rounds in which each label says what a function of the node's identity says.
-use Rattle.std.proofs.Common.{◌≡◌, ◌∙◌, ℕ, ◌+◌, Bool, true, List, [], ◌∷◌, map, length, All, Contains, Option, Some, None, option_map, unwrap_or, slice_get, get_or, refl, sym, ap, subst}
+use Rattle.std.proofs.Common.{◌≡◌, ◌∙◌, ℕ, ◌+◌, Bool, true, List, [], ◌∷◌, map, All, Contains, Option, Some, None, option_map, unwrap_or, slice_get, get_or, refl, sym, ap, subst}
 use Rattle.std.specs.List.{AllByRecursion}
 use Rattle.std.proofs.lemmas.List.Elements.{All-contains, All-head, All-map, All-tail}
 use Rattle.std.proofs.lemmas.Option.{slice_get-get_or}
@@ -7,9 +7,9 @@ use Rattle.pls_model.specs.declared.row.Port.{Port}
 use Rattle.pls_model.specs.declared.row.NodeRow.{NodeRow}
 use Rattle.pls_model.specs.declared.verdict.Verdict.TheVariants.{Accept}
 use Rattle.pls_model.specs.Configuration.{IsNetwork, row_of}
-use Rattle.pls_graph.proofs.Members.{Contains-map, Contains-from_place, place_from_Contains}
+use Rattle.pls_graph.proofs.Members.{Contains-map, Contains-from_place}
 use Rattle.pls_graph.proofs.Placed.{neighbour_found, row_place}
-use Rattle.pls_view.specs.Seen.{Seen, SeenPort, label_of, seen, seen_port, views}
+use Rattle.pls_view.specs.Seen.{Seen, label_of, seen, seen_port}
 use Rattle.pls_scheme.specs.Judging.{AllAccept, judged_from}
 use Rattle.pls_scheme.specs.Reading.{Read, ReadPort, judge_by, judged_read, read_port, read_ports, said, said_port}
 use Rattle.pls_scheme.proofs.Judged.{judged-each}

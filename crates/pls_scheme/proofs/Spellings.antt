@@ -31,7 +31,8 @@ module _ (code : ℕ → List Bool) (takes : List Bool → Option (ℕ × List B
   -- where none are read, the bits are the codes of none
   pub numbers_in-none : TakesCodes code takes → (found : Option (List ℕ))
       → found ≡ numbers_in takes count bits
-      → IfNone found ((numbers : List ℕ) → length numbers ≡ count → AreCodesOf code numbers bits → ⊥)
+      → IfNone found ((numbers : List ℕ) → length numbers ≡ count → AreCodesOf code numbers bits
+      → ⊥)
   numbers_in-none taken (Some numbers) is = tt
   numbers_in-none taken None is = λ numbers long spelled.
       let read : numbers_in takes (length numbers) (codes_of code numbers) ≡ Some numbers =
@@ -104,7 +105,8 @@ module _ {L : Type 0} (count : ℕ) (label_of : List ℕ → Option L) (numbers 
       ∙ label_in-spelled taken bits b second)
 
   -- what bits say is what they spell
-  pub label_in-spells : TakesCodes code takes → TakesOnly code takes → (bits : List Bool) (label : L)
+  pub label_in-spells : TakesCodes code takes → TakesOnly code takes
+      → (bits : List Bool) (label : L)
       → (label_in bits ≡ Some label) ↔ AreCodesOf code (numbers label) bits
   label_in-spells taken only bits label =
       (spelled-label_in only bits label, label_in-spelled taken bits label)
@@ -113,7 +115,8 @@ module _ {L : Type 0} (count : ℕ) (label_of : List ℕ → Option L) (numbers 
 pub one_number : {L : Type 0} (label_of : ℕ → L) (number_of : L → ℕ)
     → ((number : ℕ) → number_of (label_of number) ≡ number)
     → ((label : L) → label_of (number_of label) ≡ label)
-    → AreNumbers 1 (λ numbers. option_map label_of (only_number numbers)) (λ label. number_of label ∷ [])
+    → AreNumbers 1 (λ numbers. option_map label_of (only_number numbers))
+    (λ label. number_of label ∷ [])
 one_number {L} label_of number_of there back = record {
   many = λ label. refl;
   given = λ label. ap Some (back label);

@@ -40,7 +40,8 @@ module _ (code : ℕ → List Bool) (front : List ℕ) where
             sym (get_or-set_other labels i place label [] (λ e. omega (arith, earlier, e)))
             ∙ get_or_from_slice_get (slice_set labels i label) place bits [] put in
             let there : slice_get labels place ≡ Some bits =
-            slice_get-get_or labels place [] (omega (arith, earlier, within, each)) ∙ ap Some same in
+            slice_get-get_or labels place [] (omega (arith, earlier, within, each))
+            ∙ ap Some same in
             before place depth bits earlier has there
         | inr late ↦
             let at : place ≡ i = omega (arith, early, late) in

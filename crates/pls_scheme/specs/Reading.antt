@@ -1,6 +1,5 @@
--- Views whose labels are read, and verdicts by rules on what was read: rule 1 says that the own
--- label is of the layout, rule 2 that each neighbour's is, and the later rules speak of labels that
--- were read.
+-- Views whose labels are read, and verdicts by rules on what was read. Rule 1 asks that the own
+-- label can be read, rule 2 that each neighbour's can; the others are asked of what they say.
 use Rattle.std.specs.Prelude.{ℕ, Bool, List, [], ◌∷◌, map, slice_get, Option, Some, None, false, option_map, option_and_then}
 use Rattle.std.specs.Option.{option_map_or}
 use Rattle.pls_model.specs.declared.row.State.{State}

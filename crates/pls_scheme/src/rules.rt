@@ -11,9 +11,9 @@ use pls_model::Verdict;
 use pls_view::View;
 use std::alloc::Global;
 
-/// Rules on what a node reads in its view, from number 3 on; the rules 1 and 2 are that its own label
-/// and each neighbour's can be read. Whatever has rules is a [`Checker`] of one leaf that takes no
-/// memory.
+/// Rules on what a node reads in its view, from number 3 on; the rules 1 and 2 are that its own
+/// label and each neighbour's can be read. Whatever has rules is a [`Checker`] of one leaf that
+/// takes no memory.
 pub trait Rules: Reads {
     // Whether each rule holds, in the order of their numbers.
     ghost rules: { Read Self.Said → List Bool };

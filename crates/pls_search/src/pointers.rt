@@ -10,8 +10,8 @@ use pls_base::NoMemory;
 use pls_graph::Network;
 use std::alloc::Global;
 
-/// For each node, in their order, the length of its chain of pointers, or `None` exactly where some
-/// non-empty chain of pointers returns to its start. The one error is want of memory.
+/// For each node, in their order, how many pointers its chain has; `None` says that some chain of
+/// pointers leads back to where it began. The one error is want of memory.
 pub fn pointer_depths(alloc: Global, net: &Network) -> Result<Option<Vec<u32>>, NoMemory>
     ensures returns { IfOk result (λ found. IfNone found (SomeReturns net.now)) }
     ensures depths { IfOk result (λ found. IfSome found (λ list. AreDepths net.now list.items)) }

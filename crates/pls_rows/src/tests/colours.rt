@@ -17,7 +17,7 @@ fn networks_get_colours(rt: HostRuntime) -> Result<(), Fail> {
         ("bipartite", [RING, ""], (ring, Status::Done)),
         ("bipartite", [TRIANGLE, ""], ("no\n", Status::No)),
     ];
-    assert_runs(&rt, rt.alloc(), "mark", examples)
+    assert_runs(&rt, rt.alloc(), "mark", &examples)
 }
 
 #[test]
@@ -36,7 +36,7 @@ fn colours_are_judged(rt: HostRuntime) -> Result<(), Fail> {
         ("bipartite", [PAIR, bare], (unread, Status::No)),
         ("bipartite", [APART, same], refused),
     ];
-    assert_runs(&rt, rt.alloc(), "verify", examples)
+    assert_runs(&rt, rt.alloc(), "verify", &examples)
 }
 
 #[test]

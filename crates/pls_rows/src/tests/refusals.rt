@@ -23,74 +23,48 @@ fn words_and_labels_are_refused(rt: HostRuntime) -> Result<(), Fail> {
         ("bipartite", [PAIR, many], ("refused 20 at 10\n", refused)),
         ("bipartite", [APART, turned], ("refused 20 at 6\n", refused)),
     ];
-    assert_runs(&rt, rt.alloc(), "verify", examples)
+    assert_runs(&rt, rt.alloc(), "verify", &examples)
 }
 
 #[test]
 fn networks_are_refused(rt: HostRuntime) -> Result<(), Fail> {
-    let large = "node 4294967296 - 0 0\nend\n";
-    let behind = "node 1 - 0 0\nend\nx\n";
-    let falling = "node 2 - 0 0\nnode 1 - 0 0\nend\n";
-    let itself = "node 1 - 0 0\nport 1 1\nend\n";
     let twice = "node 1 - 0 0\nport 2 1\nport 2 1\nnode 2 - 0 0\nport 1 1\nend\n";
-    let unknown = "node 1 - 0 0\nport 9 1\nend\n";
-    let one_way = "node 1 - 0 0\nport 2 1\nnode 2 - 0 0\nend\n";
     let weights = "node 1 - 0 0\nport 2 1\nnode 2 - 0 0\nport 1 2\nend\n";
     let nowhere = "node 1 1 0 0\nport 2 1\nnode 2 - 0 0\nport 1 1\nend\n";
-    let apart = "node 1 - 0 0\nnode 2 - 0 0\nend\n";
-    let refused = Status::Refused;
-    let examples = [
-        ("tree", ["", ""], ("refused form at 1\n", refused)),
-        (
-            "tree",
-            ["network\n", "end\n"],
-            ("refused form at 2\n", refused),
-        ),
-        (
-            "tree",
-            ["network\n", large],
-            ("refused form at 2\n", refused),
-        ),
-        (
-            "tree",
-            ["network\n", behind],
-            ("refused form at 4\n", refused),
-        ),
-        ("tree", [PAIR, COLOURS], ("refused form at 7\n", refused)),
-        (
-            "tree",
-            ["network\n", falling],
-            ("refused 10 at 1\n", refused),
-        ),
-        (
-            "tree",
-            ["network\n", itself],
-            ("refused 11 at 1\n", refused),
-        ),
-        ("tree", ["network\n", twice], ("refused 12 at 1\n", refused)),
-        (
-            "tree",
-            ["network\n", unknown],
-            ("refused 13 at 1\n", refused),
-        ),
-        (
-            "tree",
-            ["network\n", one_way],
-            ("refused 14 at 1\n", refused),
-        ),
-        (
-            "tree",
-            ["network\n", weights],
-            ("refused 15 at 1\n", refused),
-        ),
-        (
-            "tree",
-            ["network\n", nowhere],
-            ("refused 16 at 1\n", refused),
-        ),
-        ("tree", ["network\n", apart], ("refused 17 at 2\n", refused)),
+    let one_way = "node 1 - 0 0\nport 2 1\nnode 2 - 0 0\nend\n";
+    let unfinished = "node 1 - 0 0\nport 2 1\nnode 2 - 0 0\nport 1 1\n";
+    let cases = [
+        ("end\n", "refused form at 2\n"),
+        ("node 4294967296 - 0 0\nend\n", "refused form at 2\n"),
+        ("node 1 - 0 0\nend\nx\n", "refused form at 4\n"),
+        (unfinished, "refused form at 6\n"),
+        ("node 2 - 0 0\nnode 1 - 0 0\nend\n", "refused 10 at 1\n"),
+        ("node 1 - 0 0\nport 1 1\nend\n", "refused 11 at 1\n"),
+        (twice, "refused 12 at 1\n"),
+        ("node 1 - 0 0\nport 9 1\nend\n", "refused 13 at 1\n"),
+        (one_way, "refused 14 at 1\n"),
+        (weights, "refused 15 at 1\n"),
+        (nowhere, "refused 16 at 1\n"),
+        ("node 1 - 0 0\nnode 2 - 0 0\nend\n", "refused 17 at 2\n"),
     ];
-    assert_runs(&rt, rt.alloc(), "mark", examples)
+    for (body, text) in cases {
+        let examples = [("tree", ["network\n", body], (text, Status::Refused))];
+        assert_runs(&rt, rt.alloc(), "mark", &examples)?;
+    }
+    Ok(())
+}
+
+#[test]
+fn what_is_no_network_part_is_refused(rt: HostRuntime) -> Result<(), Fail> {
+    let examples = [
+        ("tree", ["", ""], ("refused form at 1\n", Status::Refused)),
+        (
+            "tree",
+            [PAIR, COLOURS],
+            ("refused form at 7\n", Status::Refused),
+        ),
+    ];
+    assert_runs(&rt, rt.alloc(), "mark", &examples)
 }
 
 #[test]

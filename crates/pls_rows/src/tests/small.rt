@@ -1,5 +1,6 @@
 //! All connected networks of up to four nodes, with all pointers: each scheme finds its property
-//! just where a plain program does that tries all there is to try, and then its labels are accepted.
+//! just where a plain program does that tries all there is to try, and then its labels are
+//! accepted.
 
 ghost use Rattle.pls_model.specs.Walk.{IsConnected};
 
@@ -137,7 +138,7 @@ fn differs(edges: u32, colours: u32) -> bool {
     (0..4).all(|a| (0..4).all(|b| !Small::joins(edges, a, b) || has(colours, a) != has(colours, b)))
 }
 
-// No three or four distinct nodes are adjacent each to the next, and the last to the first.
+// No ring goes through three or four different nodes.
 fn is_acyclic(net: Small) -> bool {
     for a in 0..4 {
         for b in 0..4 {
@@ -177,8 +178,8 @@ fn text_of(alloc: Global, net: Small) -> Result<Vec<u8>, AllocError> {
     Ok(text)
 }
 
-// Whether a scheme marks a connected network; what it decides is to be the same, and all nodes are to
-// accept its labels.
+// Whether a scheme marks a connected network; what it decides is to be the same, and all nodes are
+// to accept its labels.
 fn marks<S: Scheme>(alloc: Global, scheme: &S, net: &Network) -> Result<bool, Fail>
     requires { IsConnected net.now }
 {

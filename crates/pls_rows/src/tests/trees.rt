@@ -36,7 +36,7 @@ fn trees_forests_and_networks_without_cycle_are_marked(rt: HostRuntime) -> Resul
         ("acyclic", [TRIANGLE, ""], no),
         ("tree", [ALONE, ""], (alone, Status::Done)),
     ];
-    assert_runs(&rt, rt.alloc(), "mark", examples)
+    assert_runs(&rt, rt.alloc(), "mark", &examples)
 }
 
 #[test]
@@ -56,7 +56,7 @@ fn a_depth_is_a_whole_label(rt: HostRuntime) -> Result<(), Fail> {
     for (bits, due) in cases {
         let labels = format!(in rt.alloc(); "labels\nlabel 5 {bits}\nend\n")?;
         let examples = [("forest", [ALONE, labels.as_str()], due)];
-        assert_runs(&rt, rt.alloc(), "verify", examples)?;
+        assert_runs(&rt, rt.alloc(), "verify", &examples)?;
     }
     Ok(())
 }
@@ -78,5 +78,5 @@ fn wrong_trees_and_cycles_are_rejected(rt: HostRuntime) -> Result<(), Fail> {
         ("acyclic", [TRIANGLE, level], (last_two, Status::No)),
         ("acyclic", [RING, ring], (opposite, Status::No)),
     ];
-    assert_runs(&rt, rt.alloc(), "verify", examples)
+    assert_runs(&rt, rt.alloc(), "verify", &examples)
 }

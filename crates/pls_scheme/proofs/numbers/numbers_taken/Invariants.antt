@@ -1,4 +1,4 @@
-use Rattle.std.proofs.Common.{◌≡◌, ℕ, ◌-◌, ◌≤◌, length, take}
+use Rattle.std.proofs.Common.{◌≡◌, ◌-◌, ◌≤◌, length, take}
 use Rattle.pls_scheme.specs.Numbers.{numbers_in}
 use Rattle.pls_scheme.proofs.Codes.{behind}
 use Rattle.pls_scheme.proofs.numbers.numbers_taken.Given as goal

@@ -1,4 +1,4 @@
-use Rattle.std.proofs.Common.{◌≡◌, ◌∙◌, sym, ap}
+use Rattle.std.proofs.Common.{◌∙◌, sym, ap}
 use Rattle.std.proofs.lemmas.List.Folds.{list_all-map}
 use Rattle.pls_view.specs.Seen.{Seen}
 use Rattle.pls_scheme.proofs.Readings.{ports_read, ports_unread, rejected_by_2}

@@ -1,6 +1,6 @@
 use Rattle.std.proofs.Common.{ap, subst, sym, ◌∙◌, option_map, arith}
 use Rattle.pls_model.specs.Configuration.{ids_of}
-use Rattle.pls_labelfile.specs.LabelsScan.{IsTold, Written}
+use Rattle.pls_labelfile.specs.LabelsScan.{IsTold, WrittenLabels}
 use Rattle.pls_labelfile.specs.Refusal.{misfit_error}
 use Rattle.pls_labelfile.proofs.Misfits.{names_fit}
 use Rattle.pls_labelfile.proofs.Refusals.{over_limit, within_limit}
@@ -13,7 +13,7 @@ returns-then-self-gt-MAX_BITS-clause-refused c =
     (omega (
       arith,
       c.if-self-gt-MAX_BITS.true,
-      ap (λ (written : Written). written.bits)
+      ap (λ (written : WrittenLabels). written.bits)
           c.self.view_is,
     ))
 
@@ -25,7 +25,7 @@ returns-in-Some-clause-refused c = λ labels tells.
     (omega (
       arith,
       c.if-self-gt-MAX_BITS.false,
-      ap (λ (written : Written). written.bits)
+      ap (λ (written : WrittenLabels). written.bits)
           c.self.view_is,
     )) labels tells in
     let place = c.in_ok-place.ensures.misfit labels (c.behind_heading-lines.ensures labels tells) in

@@ -1,8 +1,8 @@
-//! The levels of a network's nodes, and the lengths of its chains of pointers.
+//! The lengths of the chains of pointers of a network.
 
 use pls_graph::Network;
 use pls_netfile::read_network;
-use pls_search::{levels, pointer_depths};
+use pls_search::pointer_depths;
 use std::alloc::Global;
 use std::test::Fail;
 
@@ -17,18 +17,6 @@ fn row_and_one(alloc: Global, ups: [&str; 3]) -> Result<Network, Fail> {
         Ok(net) => Ok(net),
         Err(_) => Err(Fail::from("refused")),
     }
-}
-
-#[test]
-fn levels_along_a_row(rt: HostRuntime) -> Result<(), Fail> {
-    let net = row_and_one(rt.alloc(), ["-", "-", "-"])?;
-    if net.len() == 0 {
-        return Err(Fail::from("no node"));
-    }
-    let found = levels(rt.alloc(), &net, 0)?;
-    let due = [Some(0), Some(1), Some(2), None];
-    assert_eq!(rt; found.as_slice(), due.as_slice());
-    Ok(())
 }
 
 #[test]
