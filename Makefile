@@ -1,7 +1,7 @@
 # The toolchain's command `rt` is expected on the path.
 #
 #   make run    runs `verify bipartite` on examples/two-nodes.txt
-#   make pls    proves and builds everything, and leaves the program as ./pls
+#   make pls    proves all that the program stands on, builds it, and leaves it as ./pls
 #   make test   the gate: every proof, every edit that must be refused, every test and the program
 
 .PHONY: run test
@@ -14,8 +14,11 @@ run:
 	@if [ -x pls ] && $(MAKE) --silent --question pls; then \
 		./pls verify bipartite < examples/two-nodes.txt; \
 	else \
+		command -v rt > /dev/null || { echo 'the toolchain command rt is not on the path' >&2; exit 1; }; \
 		echo 'pls is not built from these sources: running them unproved (make pls proves them)' >&2; \
-		cd crates/pls_main && rt try -- verify bipartite < ../../examples/two-nodes.txt 2> /dev/null; \
+		log=$$(mktemp) && cd crates/pls_main && \
+		rt try -- verify bipartite < ../../examples/two-nodes.txt 2> $$log || \
+			{ status=$$?; cat $$log >&2; exit $$status; }; \
 	fi
 
 # The program is run without words, and answers `usage`.
