@@ -1,5 +1,5 @@
 use Rattle.std.proofs.Common.{◌≡◌, Some, ap}
-use Rattle.pls_rows.proofs.memory_run.run_in_memory.Goals as goal
+use Rattle.pls_tests.proofs.memory_run.run_in_memory.Goals as goal
 
 pub returns : goal.returns
 returns c answered =
