@@ -16,6 +16,7 @@ pub mod laws;
 mod num_code;
 #[cfg(test)]
 mod tests;
+mod words;
 
 pub use bit_buf::BitBuf;
 pub use bits::Bits;
