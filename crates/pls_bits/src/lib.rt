@@ -12,6 +12,7 @@ mod cursor;
 mod gamma;
 mod hex_error;
 mod hex_text;
+mod hex_words;
 pub mod laws;
 mod num_code;
 #[cfg(test)]
@@ -24,4 +25,5 @@ pub use cursor::Cursor;
 pub use gamma::Gamma;
 pub use hex_error::HexError;
 pub use hex_text::{from_hex, spells_bits};
+pub use hex_words::append_hex;
 pub use num_code::{MAX_CODED, MAX_CODE_BITS, NumCode};
