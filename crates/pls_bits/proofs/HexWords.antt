@@ -13,7 +13,8 @@ use Rattle.hex.specs.declared.error.FromHexError.{FromHexError}
 use Rattle.hex.proofs.HexLemmas.{decode_sized-encode_lower}
 use Rattle.pls_bits.specs.Bytes.{bits_in, byte_count, bytes_of}
 use Rattle.pls_bits.specs.Hex.{hex_digits, is_lower_digit}
-use Rattle.pls_bits.specs.Words.{bits_of, bits_of_word}
+use Rattle.pls_bits.specs.Words.{bits_of}
+use Rattle.pls_bits.specs.inner.Word.{bits_of_word}
 use Rattle.pls_bits.proofs.Appended.{bits_of-front}
 use Rattle.pls_bits.proofs.Digits.{list_all-drop, text_of_lower}
 use Rattle.pls_bits.proofs.Packing.{bits_in-bytes_of, bits_in-fewer}

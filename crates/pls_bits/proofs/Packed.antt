@@ -6,7 +6,7 @@ use Rattle.std.proofs.lemmas.Bool.{cases_lt}
 use Rattle.std.proofs.lemmas.Grind.{same_number_lists}
 use Rattle.std.proofs.lemmas.List.{drop-append-le, get_or-append_right, get_or-replicate, get_or-take, get_or_append_left, get_or_past, length-append, length-replicate, length-take-le}
 use Rattle.pls_bits.specs.Bytes.{byte_count, bytes_of}
-use Rattle.pls_bits.specs.Words.{bits_of_word}
+use Rattle.pls_bits.specs.inner.Word.{bits_of_word}
 use Rattle.pls_bits.proofs.Packing.{length-bytes_of, slice_index-bytes_of}
 use Rattle.pls_bits.proofs.Peeked.{Shows}
 use Rattle.pls_bits.proofs.WordBytes.{bytes_of-append, bytes_of-word, same_byte}

@@ -4,7 +4,8 @@ ghost use Rattle.std.specs.Prelude.{◌≡◌, ◌≤◌, ◌+◌, ◌*◌, ◌/
 ghost use Rattle.std.specs.List.{list_all};
 ghost use Rattle.std.specs.Vec.{vec_capacity};
 ghost use Rattle.pls_bits.specs.Hex.{Spells, hex_digits, is_lower_digit};
-ghost use Rattle.pls_bits.specs.Words.{bits_of, bits_of_word};
+ghost use Rattle.pls_bits.specs.Words.{bits_of};
+ghost use Rattle.pls_bits.specs.inner.Word.{bits_of_word};
 
 use crate::words::make_room;
 use hex::FromHex;
