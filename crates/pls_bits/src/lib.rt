@@ -17,8 +17,6 @@ mod hex_text;
 mod hex_words;
 pub mod laws;
 mod num_code;
-#[cfg(test)]
-mod tests;
 mod words;
 
 pub use bit_buf::BitBuf;
