@@ -5,8 +5,8 @@ use Rattle.std.proofs.lemmas.List.{map_push, length-map}
 use Rattle.std.proofs.lemmas.Option.{slice_get-map}
 use Rattle.pls_model.specs.declared.row.NodeRow.{NodeRow}
 use Rattle.pls_model.specs.Configuration.{ids_of}
-use Rattle.pls_netfile.specs.Text.{text_of}
-use Rattle.pls_netfile.proofs.Fronts.{text_of-append}
+use Rattle.pls_lines.specs.Text.{text_of}
+use Rattle.pls_lines.specs.laws.Fronts.{text_of-append}
 use Rattle.pls_labelfile.specs.LabelsText.{NamedLabel, label_line, labels_text, named}
 use Rattle.pls_labelfile.proofs.Named.{named-take, named-all}
 

@@ -10,7 +10,7 @@ use Rattle.pls_model.specs.Configuration.{ids_of}
 use Rattle.pls_netfile.specs.NetworkText.{AreRows, FitsRow}
 use Rattle.pls_labelfile.specs.Refusal.{labels_refusal}
 use Rattle.pls_labelfile.specs.LabelsText.{NamedLabel, FitsLabel, named}
-use Rattle.pls_labelfile.specs.LabelsScan.{total_bits}
+use Rattle.pls_labelfile.specs.LabelsTally.{total_bits}
 use Rattle.pls_labelfile.specs.Misfit.{misfit}
 use Rattle.pls_labelfile.proofs.Misfits.{names_of, misfit-named}
 use Rattle.pls_labelfile.proofs.Filled.{bare}

@@ -4,7 +4,7 @@ use Rattle.pls_base.specs.declared.text_error.TextError.{TextError}
 use Rattle.pls_base.specs.declared.text_error.TextError.TheVariants.{Limit, NoMemory, Sense}
 use Rattle.pls_base.specs.declared.text_error.Quantity.TheVariants.{Bits}
 use Rattle.pls_labelfile.specs.LabelsText.{NamedLabel}
-use Rattle.pls_labelfile.specs.LabelsScan.{total_bits}
+use Rattle.pls_labelfile.specs.LabelsTally.{total_bits}
 use Rattle.pls_labelfile.specs.Misfit.{misfit}
 
 -- labels that do not fit the nodes, by the line of the first that does not; the label at place 0

@@ -1,46 +1,49 @@
 //! The line of a label.
 
-ghost use Rattle.std.specs.Prelude.{◌≡◌, ◌≢◌, ◌↔◌, length, IfNone, IfOk, IfSome, IsTrue};
-ghost use Rattle.pls_labelfile.specs.LabelsText.{hex_word};
-ghost use Rattle.pls_labelfile.specs.LabelLine.{AreInRange, IsHexWord, LabelWords, written_label};
+ghost use Rattle.std.specs.Prelude.{◌≡◌, ◌≢◌, ◌≤◌, ◌<◌, ◌^◌, ◌↔◌, ◌∷◌, [], ℕ, List, length, IfNone, IfOk, IfSome, IsTrue, codes, decimal};
+ghost use Rattle.pls_labelfile.specs.HexWord.{IsHexWord, word_bits};
+ghost use Rattle.pls_labelfile.specs.LabelsText.{label_of_words};
 
 use crate::limits::MAX_BITS;
 use pls_base::NoMemory;
 use pls_bits::{BitBuf, HexError, from_hex, spells_bits};
-use pls_netfile::{LineKind, after_word, is_same, number_then, u32_then};
+use pls_lines::{LineKind, after_word, is_same, number_then, u32_then};
 use std::alloc::Global;
 use std::marker::Model;
 
-/// What a line `label ID LEN HEX` says. Its last word is lent.
+/// What a line `label ID LEN HEX` says, seen as the label. The word for its bits is lent.
 #[derive(Drop)]
 pub struct LabelLine<'a> {
-    /// The identity that the label names.
-    pub id: u32,
-    /// How many bits the label has.
-    pub len: usize,
-    /// The hex digits of the bits, or `-` where there are none.
-    pub hex: &'a [u8],
+    id: u32,
+    len: usize,
+    hex: &'a [u8],
 }
 
 impl<'a> Model for LabelLine<'a> {
-    ghost use Rattle.pls_labelfile.specs.LabelLine.{LabelWords};
+    ghost use Rattle.pls_labelfile.specs.LabelsText.{NamedLabel};
+    ghost use Rattle.pls_labelfile.specs.HexWord.{IsHexWord, word_bits};
 
-    ghost Value = { LabelWords };
+    ghost Value = { NamedLabel };
 
-    ghost view = { λ line. record { id = line.id; len = line.len; hex = line.hex.now } };
+    ghost view = { λ line. record { id = line.id; bits = word_bits line.len line.hex.now } };
+
+    ghost invariant = { λ line. IsHexWord line.len line.hex.now };
 }
 
 impl<'a> LineKind<'a> for LabelLine<'a> {
-    ghost use Rattle.pls_labelfile.specs.LabelLine.{FitsWords, written_label as written_words};
+    ghost use Rattle.pls_labelfile.specs.LabelsText.{FitsLabel, label_line};
+    ghost use Rattle.pls_labelfile.specs.laws.LabelLaws.{label_lines};
 
-    ghost written = { written_words };
+    ghost written = { label_line };
 
-    ghost Fits = { FitsWords };
+    ghost Fits = { FitsLabel };
+
+    ghost kind_law = { label_lines };
 
     fn read(line: &'a [u8]) -> Option<Self> {
-        let words = label_words(line)?;
-        if is_hex_word(words.len, words.hex) {
-            Some(words)
+        let (id, len, hex) = label_words(line)?;
+        if is_hex_word(len, hex) {
+            Some(LabelLine { id, len, hex })
         } else {
             None
         }
@@ -48,41 +51,58 @@ impl<'a> LineKind<'a> for LabelLine<'a> {
 }
 
 impl LabelLine<'_> {
+    /// The identity that the label names.
+    pub fn id(&self) -> u32
+        ensures { result ≡ self.now.id }
+    {
+        self.id
+    }
+
+    /// How many bits the label has.
+    pub fn len(&self) -> usize
+        ensures { result ≡ length self.now.bits }
+    {
+        self.len
+    }
+
     /// The bits of the label.
     pub fn bits(&self, alloc: Global) -> Result<BitBuf, NoMemory>
-        requires { IsHexWord self.now.len self.now.hex }
-        ensures long { IfOk result (λ bits. length bits ≡ self.now.len) }
-        ensures written { IfOk result (λ bits. hex_word bits ≡ self.now.hex) }
+        ensures { IfOk result (λ bits. bits ≡ self.now.bits) }
     {
-        if self.len == 0 {
-            return Ok(BitBuf::new(alloc));
-        }
-        match from_hex(alloc, self.len, self.hex) {
-            Ok(bits) => Ok(bits),
-            Err(error) => {
-                prove!(error == HexError::NoMemory);
-                Err(NoMemory)
-            }
+        bits_of(alloc, self.len, self.hex)
+    }
+}
+
+// The bits of a word.
+fn bits_of(alloc: Global, len: usize, hex: &[u8]) -> Result<BitBuf, NoMemory>
+    requires { IsHexWord len hex.now }
+    ensures { IfOk result (λ bits. bits ≡ word_bits len hex.now) }
+{
+    if len == 0 {
+        return Ok(BitBuf::new(alloc));
+    }
+    match from_hex(alloc, len, hex) {
+        Ok(bits) => Ok(bits),
+        Err(error) => {
+            prove!(error == HexError::NoMemory);
+            Err(NoMemory)
         }
     }
 }
 
 // The words of a line `label ID LEN HEX`, with the last of them as it stands; `None` where the line
 // has no such words.
-pub(crate) fn label_words<'a>(line: &'a [u8]) -> Option<LabelLine<'a>>
-    ensures in_range { IfSome result (λ words. AreInRange words) }
-    ensures written { IfSome result (λ words. line.now ≡ written_label words) }
-    ensures none { IfNone result ((words : LabelWords) → AreInRange words
-        → line.now ≢ written_label words) }
+fn label_words<'a>(line: &'a [u8]) -> Option<(u32, usize, &'a [u8])>
+    ensures id { IfSome result (λ words. words.0 < 2 ^ 32) }
+    ensures short { IfSome result (λ words. words.1 ≤ 2 ^ 28) }
+    ensures written { IfSome result (λ words. line.now ≡ label_of_words words.0 words.1 words.2.now) }
+    ensures none { IfNone result ((id len : ℕ) (hex : List ℕ) → id < 2 ^ 32 → len ≤ 2 ^ 28
+        → line.now ≢ label_of_words id len hex) }
 {
     let words = after_word(line, b"label")?;
     let (id, words) = u32_then(words)?;
     let (len, hex) = number_then(words, MAX_BITS)?;
-    Some(LabelLine {
-        id,
-        len: len as usize,
-        hex,
-    })
+    Some((id, len as usize, hex))
 }
 
 // Whether a word is that for some list of `len` bits. It looks at each digit once.

@@ -2,7 +2,7 @@
 
 ghost use Rattle.std.specs.Prelude.{◌≡◌, ◌++◌, [], ◌∷◌, length, string_bytes, IfOk, OnOk};
 ghost use Rattle.pls_model.specs.Configuration.{ids_of};
-ghost use Rattle.pls_netfile.specs.Text.{text_of};
+ghost use Rattle.pls_lines.specs.Text.{text_of};
 ghost use Rattle.pls_labelfile.specs.LabelsText.{label_line, labels_text, named};
 
 use pls_base::NoMemory;

@@ -2,12 +2,11 @@
 
 ghost use Rattle.std.specs.Prelude.{◌≡◌, ◌≤◌, ◌^◌, ℕ, List, ◌++◌, length, map, None, All};
 ghost use Rattle.pls_model.specs.Configuration.{ids_of};
-ghost use Rattle.pls_netfile.specs.Fault.{IsFirstFault};
-ghost use Rattle.pls_netfile.specs.Lines.{IsFault, Left};
+ghost use Rattle.pls_lines.specs.Fault.{IsFirstFault};
+ghost use Rattle.pls_lines.specs.Lines.{IsFault, Left};
 ghost use Rattle.pls_netfile.specs.NetworkText.{AreRows};
 ghost use Rattle.pls_view.specs.Labels.{bits_in};
-ghost use Rattle.pls_labelfile.specs.LabelsText.{FitsLabel, IsLabelsPart, NamedLabel, labels_text, named};
-ghost use Rattle.pls_labelfile.specs.LabelsScan.{TellsLabels};
+ghost use Rattle.pls_labelfile.specs.LabelsText.{FitsLabel, IsLabelsPart, NamedLabel, TellsLabels, labels_text, named};
 ghost use Rattle.pls_labelfile.specs.Refusal.{labels_refusal};
 
 use pls_graph::Network;

@@ -4,12 +4,12 @@ ghost use Rattle.std.specs.Prelude.{◌≡◌, ℕ, List, IfErr, IfOk, MatchResu
 ghost use Rattle.pls_base.specs.declared.text_error.TextError.TheVariants.{Form, NoMemory};
 ghost use Rattle.pls_model.specs.declared.row.NodeRow.{NodeRow};
 ghost use Rattle.pls_model.specs.Configuration.{IsNetwork};
-ghost use Rattle.pls_netfile.specs.Fault.{IsFirstFault};
+ghost use Rattle.pls_lines.specs.Fault.{IsFirstFault};
 ghost use Rattle.pls_netfile.specs.NetworkText.{AreRows, IsNetworkPart, network_text};
 ghost use Rattle.pls_netfile.specs.NetworkFile.{IsRefusedFile};
 
 use crate::network_text::NetworkText;
-use crate::part::read_whole;
+use pls_lines::read_whole;
 use pls_base::TextError;
 use pls_graph::Network;
 use std::alloc::Global;
@@ -18,7 +18,6 @@ use std::alloc::Global;
 ///
 /// `Form` with the number of the first line that is not of the form, as is a line after `end`;
 /// where there is none, the refusals of [`NetworkText::build`].
-#[tactic(auto, using(crate::proofs::NetworkRows::network_is_part))]
 pub fn read_network(alloc: Global, text: &[u8]) -> Result<Network, TextError>
     ensures text { IfOk result (λ network. text.now ≡ network_text network) }
     ensures fits { IfOk result (λ network. AreRows network) }

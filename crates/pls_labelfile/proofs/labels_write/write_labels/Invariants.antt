@@ -1,5 +1,5 @@
 use Rattle.std.proofs.Common.{◌≡◌, string_bytes}
-use Rattle.pls_netfile.specs.Text.{text_of}
+use Rattle.pls_lines.specs.Text.{text_of}
 use Rattle.pls_labelfile.proofs.LabelsWritten.{lines_so_far}
 use Rattle.pls_labelfile.proofs.labels_write.write_labels.Given as goal
 

@@ -7,7 +7,7 @@ use Rattle.pls_labelfile.proofs.laws.written_is_read.Goals as goal
 pub returns-clause-tells : goal.returns-clause-tells
 returns-clause-tells c =
     record {
-      fits = net_labels_fit c.args.net.now c.args.labels.now c.requires.ranges
+      are = net_labels_fit c.args.net.now c.args.labels.now c.requires.ranges
           c.requires.few;
       is = refl;
     }
