@@ -11,7 +11,7 @@ use Rattle.pls_bits.specs.Bytes.{bits_in}
 use Rattle.hex.specs.Hex.{decode_of}
 use Rattle.hex.specs.declared.error.FromHexError.{FromHexError}
 use Rattle.pls_bits.proofs.Text.{Spells-length, Spells-lower, Spells-clean, decoded_bits, decoded_never_fails}
-use Rattle.pls_labelfile.specs.HexWord.{IsHexWord, bits_read, word_bits}
+use Rattle.pls_labelfile.specs.inner.HexWord.{IsHexWord, bits_read, word_bits}
 use Rattle.pls_labelfile.specs.LabelsText.{hex_word}
 
 -- the word for some bit is its digits
@@ -68,15 +68,15 @@ bits_of_hex len word hex =
     ap (λ (n : ℕ). word_bits n word) (sym hex.long)
     ∙ ap (word_bits (length hex.bits)) (sym hex.is) ∙ bits_of_word hex.bits
 
-pub word_long : (len : ℕ) (word : List ℕ) → IsHexWord len word → length (word_bits len word) ≡ len
-word_long len word hex = ap length (bits_of_hex len word hex) ∙ hex.long
+pub bits_long : (len : ℕ) (word : List ℕ) → IsHexWord len word → length (word_bits len word) ≡ len
+bits_long len word hex = ap length (bits_of_hex len word hex) ∙ hex.long
 
 pub word_is : (len : ℕ) (word : List ℕ) → IsHexWord len word → hex_word (word_bits len word) ≡ word
 word_is len word hex = ap hex_word (bits_of_hex len word hex) ∙ hex.is
 
 -- no bits are those of a word for none
 pub no_bits : (len : ℕ) (word : List ℕ) → IsHexWord len word → len ≡ 0 → [] ≡ word_bits len word
-no_bits len word hex none = by (word_bits len word) (word_long len word hex ∙ none)
+no_bits len word hex none = by (word_bits len word) (bits_long len word hex ∙ none)
   where
     by : (bits : List Bool) → length bits ≡ 0 → [] ≡ bits
     by [] long = refl

@@ -1,13 +1,15 @@
 //! The line of a label.
 
-ghost use Rattle.std.specs.Prelude.{◌≡◌, ◌≢◌, ◌≤◌, ◌<◌, ◌^◌, ◌↔◌, ◌∷◌, [], ℕ, List, length, IfNone, IfOk, IfSome, IsTrue, codes, decimal};
-ghost use Rattle.pls_labelfile.specs.HexWord.{IsHexWord, word_bits};
-ghost use Rattle.pls_labelfile.specs.LabelsText.{label_of_words};
+ghost use Rattle.std.specs.Prelude.{◌≡◌, ◌≢◌, ◌≤◌, ◌<◌, ◌^◌, ◌↔◌, ◌∷◌, ◌++◌, ℕ, List, length, IfNone, IfOk, IfSome, IsTrue};
+ghost use Rattle.pls_lines.specs.LineKind.{Says};
+ghost use Rattle.pls_lines.specs.Lines.{Stands};
+ghost use Rattle.pls_labelfile.specs.LabelsText.{FitsLabel, NamedLabel, label_line, label_of_words};
+ghost use Rattle.pls_labelfile.specs.inner.HexWord.{IsHexWord, SaysLabels, word_bits, word_length};
 
 use crate::limits::MAX_BITS;
 use pls_base::NoMemory;
 use pls_bits::{BitBuf, HexError, from_hex, spells_bits};
-use pls_lines::{LineKind, after_word, is_same, number_then, u32_then};
+use pls_lines::{LineKind, after_word, bytes_before, is_same, number_before, u32_before};
 use std::alloc::Global;
 use std::marker::Model;
 
@@ -21,7 +23,7 @@ pub struct LabelLine<'a> {
 
 impl<'a> Model for LabelLine<'a> {
     ghost use Rattle.pls_labelfile.specs.LabelsText.{NamedLabel};
-    ghost use Rattle.pls_labelfile.specs.HexWord.{IsHexWord, word_bits};
+    ghost use Rattle.pls_labelfile.specs.inner.HexWord.{IsHexWord, word_bits};
 
     ghost Value = { NamedLabel };
 
@@ -40,17 +42,17 @@ impl<'a> LineKind<'a> for LabelLine<'a> {
 
     ghost kind_law = { label_lines };
 
-    fn read(line: &'a [u8]) -> Option<Self> {
-        let (id, len, hex) = label_words(line)?;
+    fn read(text: &'a [u8]) -> Option<(Self, &'a [u8])> {
+        let (id, len, hex, rest) = label_words(text)?;
         if is_hex_word(len, hex) {
-            Some(LabelLine { id, len, hex })
+            Some((LabelLine { id, len, hex }, rest))
         } else {
             None
         }
     }
 }
 
-impl LabelLine<'_> {
+impl<'a> LabelLine<'a> {
     /// The identity that the label names.
     pub fn id(&self) -> u32
         ensures { result ≡ self.now.id }
@@ -71,6 +73,17 @@ impl LabelLine<'_> {
     {
         bits_of(alloc, self.len, self.hex)
     }
+
+    // What `read` answers, for a text of labels that was read before: its digits are not tested.
+    pub(crate) fn read_again(text: &'a [u8]) -> Option<(LabelLine<'a>, &'a [u8])>
+        requires { SaysLabels text.now }
+        ensures fits { IfSome result (λ read. FitsLabel read.0) }
+        ensures stands { IfSome result (λ read. text.now ≡ label_line read.0 ++ 10 ∷ read.1.now) }
+        ensures none { IfNone result (Stands (Says FitsLabel label_line) text.now → ⊥) }
+    {
+        let (id, len, hex, rest) = label_words(text)?;
+        Some((LabelLine { id, len, hex }, rest))
+    }
 }
 
 // The bits of a word.
@@ -90,19 +103,31 @@ fn bits_of(alloc: Global, len: usize, hex: &[u8]) -> Result<BitBuf, NoMemory>
     }
 }
 
-// The words of a line `label ID LEN HEX`, with the last of them as it stands; `None` where the line
-// has no such words.
-fn label_words<'a>(line: &'a [u8]) -> Option<(u32, usize, &'a [u8])>
+// The words of a line `label ID LEN HEX` at the front of a text, the last of them as it stands but
+// for its length, and what follows the line feed; `None` where no such line stands there.
+fn label_words<'a>(text: &'a [u8]) -> Option<(u32, usize, &'a [u8], &'a [u8])>
     ensures id { IfSome result (λ words. words.0 < 2 ^ 32) }
     ensures short { IfSome result (λ words. words.1 ≤ 2 ^ 28) }
-    ensures written { IfSome result (λ words. line.now ≡ label_of_words words.0 words.1 words.2.now) }
-    ensures none { IfNone result ((id len : ℕ) (hex : List ℕ) → id < 2 ^ 32 → len ≤ 2 ^ 28
-        → line.now ≢ label_of_words id len hex) }
+    ensures long { IfSome result (λ words. length words.2.now ≡ word_length words.1) }
+    ensures stands { IfSome result (λ words.
+        text.now ≡ label_of_words words.0 words.1 words.2.now ++ 10 ∷ words.3.now) }
+    ensures none { IfNone result ((label : NamedLabel) (rest : List ℕ) → FitsLabel label
+        → text.now ≢ label_line label ++ 10 ∷ rest) }
 {
-    let words = after_word(line, b"label")?;
-    let (id, words) = u32_then(words)?;
-    let (len, hex) = number_then(words, MAX_BITS)?;
-    Some((id, len as usize, hex))
+    let words = after_word(text, b"label")?;
+    let (id, words) = u32_before(words, b' ')?;
+    let (len, last) = number_before(words, b' ', MAX_BITS)?;
+    let len = len as usize;
+    let (hex, rest) = bytes_before(last, word_length_of(len), b'\n')?;
+    Some((id, len, hex, rest))
+}
+
+// How many bytes the word for `len` bits has.
+fn word_length_of(len: usize) -> usize
+    requires { len ≤ 2 ^ 28 }
+    ensures { result ≡ word_length len }
+{
+    if len == 0 { 1 } else { 2 * len.div_ceil(8) }
 }
 
 // Whether a word is that for some list of `len` bits. It looks at each digit once.

@@ -4,21 +4,21 @@ ghost use Rattle.std.specs.Prelude.{◌≡◌, ◌↔◌, ℕ, List, length, map
 ghost use Rattle.std.specs.Result.{IsErrOf};
 ghost use Rattle.pls_model.specs.Configuration.{ids_of};
 ghost use Rattle.pls_lines.specs.Fault.{IsFirstFault};
-ghost use Rattle.pls_labelfile.specs.LabelsText.{IsLabelsPart, NamedLabel, TellsLabels, named};
+ghost use Rattle.pls_labelfile.specs.LabelsText.{IsLabelsPart, NamedLabel, named};
+ghost use Rattle.pls_labelfile.specs.LabelsScan.{TellsLabels};
 ghost use Rattle.pls_labelfile.specs.Refusal.{IsLabelsRefusal, labels_refusal};
 
-use crate::labels_build::build_labels;
-use crate::labels_part::LabelsTally;
+use crate::labels_text::LabelsText;
 use pls_base::TextError;
 use pls_graph::Network;
-use pls_lines::read_list;
+use pls_lines::read_whole;
 use pls_view::LabelStore;
 use std::alloc::Global;
 
 /// The labels of the nodes of a network, from a text that is one labels part and nothing more.
 ///
 /// `Form` with the number of the first line that is not of the form, which may stand behind `end`;
-/// else the refusals of [`build_labels`].
+/// else the refusals of [`LabelsText::build`].
 pub fn read_labels(alloc: Global, text: &[u8], net: &Network) -> Result<LabelStore, TextError>
     ensures ok { IfOk result (λ store. TellsLabels text.now (named (ids_of net.now) store)) }
     ensures lengths { IfOk result (λ store. length store ≡ length net.now) }
@@ -31,6 +31,6 @@ pub fn read_labels(alloc: Global, text: &[u8], net: &Network) -> Result<LabelSto
     ensures form { (line : ℕ) → IsErrOf result (TextError.Form line)
         ↔ IsFirstFault IsLabelsPart text.now line }
 {
-    let part = read_list::<LabelsTally>(text)?;
-    build_labels(alloc, &part, net)
+    let part = read_whole::<LabelsText<'_>>(text)?;
+    part.build(alloc, net)
 }

@@ -6,8 +6,8 @@
 //!
 //! [`Lines`] stands before a line of a text, and lends what is left of it. A [`LineKind`] says how
 //! its values are written, one a line, and reads the line at the front of a text, up to its line
-//! feed: word by word ([`after_word`], [`number_before`], [`u32_before`], [`one_number`],
-//! [`two_numbers`]), so that no byte is looked at twice. [`next_of`] reads the next line as such a
+//! feed: word by word ([`after_word`], [`number_before`], [`u32_before`], [`bytes_before`],
+//! [`one_number`], [`two_numbers`]), so that no byte is looked at twice. [`next_of`] reads the next line as such a
 //! value, and [`count_of`] and [`list_of`] read as many as stand.
 //!
 //! A [`Part`] says which format it has and what is kept of its lines. [`scan`] reads the part that
@@ -26,7 +26,6 @@
 #![tactic(auto)]
 
 mod both;
-mod cut;
 mod line_kind;
 mod lines;
 mod list_tally;
@@ -38,7 +37,6 @@ mod part;
 mod words;
 
 pub use both::Both;
-pub use cut::cut_at;
 pub use line_kind::{LineKind, count_of, list_of, next_of};
 pub use lines::Lines;
 pub use list_tally::ListTally;
@@ -48,4 +46,4 @@ pub use number_lines::{one_number, two_numbers};
 pub use numbers::{number_before, u32_before};
 pub use part::{Part, read_whole, scan};
 pub use pls_base::NoMemory;
-pub use words::{after_byte, after_line, after_word, is_same};
+pub use words::{after_byte, after_line, after_word, bytes_before, is_same};

@@ -1,6 +1,6 @@
 //! Words and whole lines at the front of a text.
 
-ghost use Rattle.std.specs.Prelude.{◌≡◌, ◌≢◌, ◌↔◌, ℕ, List, ◌∷◌, ◌++◌, IfNone, IfSome, IsTrue, MatchOption};
+ghost use Rattle.std.specs.Prelude.{◌≡◌, ◌≢◌, ◌↔◌, ℕ, List, ◌∷◌, ◌++◌, length, IfNone, IfSome, IsTrue, MatchOption};
 
 /// Whether two texts are one.
 pub fn is_same(text: &[u8], other: &[u8]) -> bool
@@ -33,6 +33,19 @@ pub fn after_byte(text: &[u8], byte: u8) -> Option<&[u8]>
 {
     let (first, rest) = text.split_first()?;
     if *first == byte { Some(rest) } else { None }
+}
+
+/// So many bytes at the front of a text, and what follows the byte `end` behind them; `None` where
+/// the text has fewer bytes or another byte stands there.
+pub fn bytes_before(text: &[u8], count: usize, end: u8) -> Option<(&[u8], &[u8])>
+    ensures stands { IfSome result (λ parts. text.now ≡ parts.0.now ++ end ∷ parts.1.now) }
+    ensures long { IfSome result (λ parts. length parts.0.now ≡ count) }
+    ensures none { IfNone result ((word rest : List ℕ) → length word ≡ count
+        → text.now ≢ word ++ end ∷ rest) }
+{
+    let (word, behind) = text.split_at_checked(count)?;
+    let rest = after_byte(behind, end)?;
+    Some((word, rest))
 }
 
 // What follows a front of a text and the byte behind it.

@@ -7,11 +7,10 @@ ghost use Rattle.pls_netfile.specs.NetworkText.{FitsPort, FitsRow, port_line, ro
 ghost use Rattle.pls_netfile.specs.NetworkLine.{IsNodeLine, IsPortLine};
 ghost use Rattle.pls_netfile.specs.NetworkScan.{TellsNetwork};
 
-use pls_lines::next_of;
-use pls_lines::Lines;
 use crate::network_line::{NodeLine, PortLine};
 use crate::network_text::NetworkText;
 use pls_base::NoMemory;
+use pls_lines::{Lines, next_of};
 use pls_model::{NodePorts, NodeRow, Port};
 use std::alloc::Global;
 

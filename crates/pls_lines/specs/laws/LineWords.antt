@@ -1,11 +1,10 @@
 -- Lines made of words.
 use Rattle.std.proofs.Common.{◌≡◌, ◌≢◌, ℕ, List, [], ◌∷◌, ◌++◌, codes, ◌∙◌, ap, append_assoc}
-use Rattle.std.specs.Prelude.{⊤}
 use Rattle.std.specs.List.{AllByRecursion}
 use Rattle.pls_lines.specs.Plain.{Lacks}
 use Rattle.pls_lines.specs.Text.{line_of}
 use Rattle.pls_lines.specs.Lines.{Stands}
-use Rattle.pls_lines.specs.LineKind.{IsLineKind, Says}
+use Rattle.pls_lines.specs.LineKind.{Always, IsLineKind, Says, alone}
 use Rattle.pls_lines.specs.laws.Cuts.{each-append}
 
 -- two lists that are one begin with one value
@@ -52,8 +51,8 @@ no_line_here text line none next =
 
 -- one line alone is a kind of line that says nothing more, where it is plain and not `end`
 pub fixed_kind : {X : Type 0} (line : List ℕ) → Lacks 10 line → line ≢ codes "end"
-    → ((a b : X) → a ≡ b) → IsLineKind (λ (_ : X). ⊤) (λ (_ : X). line)
-fixed_kind line plain other one = record {
+    → ((a b : X) → a ≡ b) → IsLineKind {X = X} Always (alone line)
+fixed_kind {X = X} line plain other one = record {
   plain = λ value fits. plain;
   no_end = λ value fits. other;
   one = λ a b fits_a fits_b e. one a b;

@@ -27,17 +27,18 @@ loop-place-preserved c = record {
       (c.in_ok-replace.ensures.replaced
       ∙ ap (λ (bits : List Bool). slice_set c.loop-place.store c.loop-place.place bits)
       c.in_ok-bits.ensures);
+  said = c.in-Some.ensures.said;
 }
 
-pub returns-in-Some-next_item-clause-misfit : goal.returns-in-Some-next_item-clause-misfit
-returns-in-Some-next_item-clause-misfit c = λ labels remains.
+pub returns-in-Some-next_label-clause-misfit : goal.returns-in-Some-next_label-clause-misfit
+returns-in-Some-next_label-clause-misfit c = λ labels remains.
     let count : c.len.result ≡ c.loop-place.place =
     omega (arith, c.len.ensures.len, c.len-place-end.ensures.len) in
     rw count
     (label_too_many _ labels _ _ _ (c.loop-place.invariant.filled labels remains) _
-    c.in-Some-next_item.field-0
+    c.in-Some-next_label.field-0
     (omega (arith, c.loop-place-test.false, c.len-place-end.ensures.len))
-    c.in-Some-next_item.ensures.next)
+    c.in-Some-next_label.ensures.next)
 
 pub returns-in-None-clause-misfit : goal.returns-in-None-clause-misfit
 returns-in-None-clause-misfit c = λ labels remains.

@@ -1,6 +1,6 @@
 use Rattle.pls_lines.proofs.ListOfAll.{begun_push}
 use Rattle.pls_labelfile.specs.LabelsText.{FitsLabel}
-use Rattle.pls_labelfile.proofs.labels_part.LabelsTallyListTally.take.Goals as goal
+use Rattle.pls_labelfile.proofs.labels_tally.LabelsTallyListTally.take.Goals as goal
 
 pub returns-clause-begun : goal.returns-clause-begun
 returns-clause-begun c = λ front begun counted.

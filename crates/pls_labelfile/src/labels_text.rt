@@ -1,0 +1,34 @@
+//! The text of a labels part, as it was scanned.
+
+ghost use Rattle.std.specs.Prelude.{◌≡◌};
+
+use crate::labels_tally::LabelsTally;
+use pls_lines::ListText;
+use std::marker::Model;
+
+/// The text of a labels part, which it lends, the number of its heading line, and how many bits its
+/// labels have together.
+#[derive(Drop)]
+pub struct LabelsText<'a> {
+    pub(crate) part: ListText<'a, LabelsTally>,
+}
+
+impl<'a> Model for LabelsText<'a> {
+    ghost use Rattle.pls_labelfile.specs.LabelsScan.{IsTold, WrittenLabels, kept};
+
+    ghost Value = { WrittenLabels };
+
+    ghost view = { λ text. kept text.part.lines.rest text.part.lines.number text.part.kept.bits };
+
+    ghost invariant = { λ text.
+        IsTold (kept text.part.lines.rest text.part.lines.number text.part.kept.bits) };
+}
+
+impl<'a> LabelsText<'a> {
+    /// How many bits the label lines state together, and `u64::MAX` at the most.
+    pub fn bits(&self) -> u64
+        ensures { result ≡ self.now.bits }
+    {
+        self.part.kept.bits
+    }
+}
