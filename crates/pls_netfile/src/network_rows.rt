@@ -2,16 +2,15 @@
 
 ghost use Rattle.std.specs.Prelude.{◌≡◌, ◌<◌, ◌≤◌, List, map, length, All, IfNone, IfOk, IfSome, OnOk, OnSome};
 ghost use Rattle.pls_model.specs.declared.row.NodeRow.{NodeRow};
-ghost use Rattle.pls_netfile.specs.Lines.{Passes, Stands};
+ghost use Rattle.pls_lines.specs.Lines.{Passes, Stands};
 ghost use Rattle.pls_netfile.specs.NetworkText.{FitsPort, FitsRow, port_line, row_lines};
 ghost use Rattle.pls_netfile.specs.NetworkLine.{IsNodeLine, IsPortLine};
 ghost use Rattle.pls_netfile.specs.NetworkScan.{TellsNetwork};
 
-use crate::line_kind::{list_of, next_of};
-use crate::lines::Lines;
-use crate::network_line::NodeLine;
+use crate::network_line::{NodeLine, PortLine};
 use crate::network_text::NetworkText;
 use pls_base::NoMemory;
+use pls_lines::{Lines, next_of};
 use pls_model::{NodePorts, NodeRow, Port};
 use std::alloc::Global;
 
@@ -46,10 +45,25 @@ fn next_row(alloc: Global, lines: &mut Lines<'_>) -> Result<Option<NodeRow>, NoM
     let Some(node) = next_of::<NodeLine>(lines) else {
         return Ok(None);
     };
-    let ports = list_of::<Port>(alloc, lines)?;
+    let ports = next_ports(alloc, lines)?;
     Ok(Some(NodeRow {
         id: node.id,
         state: node.state,
         ports: NodePorts::from_vec(ports),
     }))
+}
+
+// The ports whose lines stand next, as many as there are; the reader passes them.
+fn next_ports(alloc: Global, lines: &mut Lines<'_>) -> Result<Vec<Port>, NoMemory>
+    ensures fits { IfOk result (λ ports. All FitsPort ports.items) }
+    ensures passed { IfOk result
+        (λ ports. Passes lines.old lines.new (map port_line ports.items)) }
+    ensures none { OnOk result (Stands IsPortLine lines.new.rest → ⊥) }
+    ensures no_more { OnOk result (length lines.new.rest ≤ length lines.old.rest) }
+{
+    let mut ports = Vec::new(alloc);
+    while let Some(line) = next_of::<PortLine>(lines) {
+        ports.push(line.port())?;
+    }
+    Ok(ports)
 }
