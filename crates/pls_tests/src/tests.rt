@@ -1,6 +1,7 @@
 //! The worked examples, as tables of schemes, inputs, texts and statuses.
 
 mod colours;
+mod graph;
 mod pointers;
 mod refusals;
 mod small;
