@@ -1,0 +1,7 @@
+pub mod Accepted
+pub mod Codes
+pub mod Fitting
+pub mod HeldRules
+pub mod Markings
+pub mod Passing
+pub mod SaidPorts

@@ -1,0 +1,10 @@
+pub mod Judging
+pub mod Reading
+pub mod Numbers
+pub mod Length
+pub mod Spelled
+pub mod Marked
+pub mod SchemeLaws
+pub mod Theorem
+pub mod inner
+pub mod laws

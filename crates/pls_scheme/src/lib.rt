@@ -1,0 +1,58 @@
+//! What a proof labelling scheme is: a verifier at each node ([`Checker`]), a property of networks
+//! ([`Property`]), and the two together with a marker and a layout of labels ([`Scheme`]), as in
+//! Korman, Kutten and Peleg, "Proof labeling schemes", Distributed Computing 22 (2010).
+//!
+//! The meanings (`judge`, `holds`, `layout`, `marked`, `bound`) are definitions over views and
+//! rows; the calls answer them, and the laws say that a scheme is sound, that its labels have one
+//! spelling, and that a network is marked in one way. Code over any scheme rests on these texts
+//! alone.
+//!
+//! A basic scheme states only what is its own: how its labels are written ([`Layout`]; [`Coded`]
+//! for labels that are a few numbers), its rules ([`Rules`] over labels that are read, each once,
+//! or [`JudgesInPlace`] over lent bits), its property, and what labels are right ([`Marker`]).
+//! [`Basic`] makes the scheme of it, [`Ruled`] of [`Rules`]. Other schemes implement [`Checker`],
+//! [`Property`] and [`Scheme`] themselves.
+//!
+//! Definitions stand in `specs/`: `Judging` has verdicts and rounds, `Reading` what a node reads,
+//! `Theorem` what makes rules and a marker a scheme, `Marked` marked labels, `SchemeLaws` the laws.
+//! Proofs may cite `specs/laws/` (`Saying`: rounds in which each label says what a function of the
+//! identity says; `CodeLaws`: labels of numbers), and of `proofs/` what is right for each node
+//! (`Markings`), labels of numbers within limits (`Fitting`) and tests at the ports (`SaidPorts`).
+#![tactic(auto)]
+
+mod basic;
+mod checker;
+mod coded;
+mod consequences;
+mod holding;
+mod in_place;
+mod judgement;
+mod judging;
+mod labels;
+mod layout;
+mod length;
+mod marker;
+mod numbers;
+mod once;
+mod property;
+mod rules;
+mod scheme;
+
+pub use basic::{Basic, Ruled};
+pub use checker::Checker;
+pub use coded::{Coded, OfNumbers};
+pub use consequences::{are_accepted, certifies};
+pub use holding::hold_everywhere;
+pub use in_place::JudgesInPlace;
+pub use judgement::Judgement;
+pub use judging::{is_one_more, judged_from};
+pub use labels::labels_of;
+pub use layout::{Layout, ReadsInPlace};
+pub use length::{code_length, codes_length};
+pub use marker::Marker;
+pub use numbers::{read_numbers, write_numbers};
+pub use once::{Once, Pass};
+pub use pls_model::Verdict;
+pub use property::Property;
+pub use rules::Rules;
+pub use scheme::Scheme;
