@@ -1,7 +1,12 @@
 -- The one node that passes a test of its state.
 use Rattle.std.specs.Prelude.{◌≡◌, ℕ, Bool, true, List, Contains, count_by}
+use Rattle.std.specs.Option.{is_none}
 use Rattle.pls_model.specs.declared.row.State.{State}
 use Rattle.pls_model.specs.declared.row.NodeRow.{NodeRow}
+
+-- the node points at none
+abbrev pub points_at_none : State → Bool
+points_at_none state = is_none state.up
 
 -- how many nodes pass
 abbrev pub passing : (State → Bool) → List NodeRow → ℕ
