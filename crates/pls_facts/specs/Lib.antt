@@ -1,3 +1,6 @@
 pub mod Pointer
 pub mod SpanningTree
 pub mod Cycle
+pub mod Bipartite
+pub mod OnlyNode
+pub mod Agreement

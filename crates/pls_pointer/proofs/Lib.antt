@@ -1,8 +1,3 @@
-pub mod Judged
-pub mod Roots
-pub mod Depths
-pub mod Marks
-pub mod ForestMarks
-pub mod TreeMarks
-pub mod OneMarking
+pub mod Finding
+pub mod Right
 pub mod Worked

@@ -1,7 +1,5 @@
+pub mod Pointing
 pub mod Tree
 pub mod Forest
-pub mod OnlyRoot
-pub mod Pointing
-pub mod PointingLaws
-pub mod TreeLaws
-pub mod ForestLaws
+pub mod inner
+pub mod laws
