@@ -2,7 +2,7 @@ use Rattle.std.proofs.Common.{◌≡◌, ◌∙◌, ℕ, List, map, zip, ap, ref
 use Rattle.pls_model.specs.declared.row.NodeRow.{NodeRow}
 use Rattle.pls_view.specs.Seen.{label_of}
 use Rattle.pls_scheme.specs.Judging.{round_by}
-use Rattle.pls_app.specs.Meaning.{judge_of}
+use Rattle.pls_combine.specs.Named.{judge_of}
 use Rattle.pls_app.proofs.Rounds.{zip-round}
 use Rattle.pls_app.proofs.verify.verify.Goals as goal
 
