@@ -1,5 +1,6 @@
 //! The worked examples, as tables of schemes, inputs, texts and statuses.
 
+mod base;
 mod bits;
 mod colours;
 mod pointers;
