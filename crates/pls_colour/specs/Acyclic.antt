@@ -1,6 +1,6 @@
 -- The scheme of networks without cycle: what a label says, what a node judges, and the marker's
 -- labels. The property is that no edges close a ring through three or more nodes.
-use Rattle.std.specs.Prelude.{◌≡◌, ℕ, ◌+◌, ◌==◌, nat_le, Bool, ◌||◌, List, [], ◌∷◌, count_by, get_or, slice_get, unwrap_or, Option, Some}
+use Rattle.std.specs.Prelude.{ℕ, ◌+◌, ◌==◌, nat_le, Bool, ◌||◌, List, [], ◌∷◌, count_by, get_or, Option}
 use Rattle.std.specs.List.{list_all}
 use Rattle.pls_model.specs.declared.row.NodeRow.{NodeRow}
 use Rattle.pls_model.specs.declared.verdict.Verdict.{Verdict}

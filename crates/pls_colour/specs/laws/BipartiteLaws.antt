@@ -1,10 +1,10 @@
 -- The theorem of the scheme of two-colourings.
-use Rattle.std.proofs.Common.{◌≡◌, ◌≢◌, ◌∙◌, ℕ, ◌≤◌, Bool, true, false, List, [], ◌∷◌, length, Contains, Some, slice_get, refl, sym, ap, subst, arith}
+use Rattle.std.proofs.Common.{◌≡◌, ◌≢◌, ◌∙◌, ℕ, Bool, true, false, List, length, Contains, Some, slice_get, refl, sym, ap, subst, arith}
 use Rattle.pls_model.specs.declared.row.Port.{Port}
 use Rattle.pls_model.specs.declared.row.NodeRow.{NodeRow}
 use Rattle.pls_model.specs.Walk.{edges_of}
 use Rattle.pls_graph.specs.Levels.{IsLevel}
-use Rattle.pls_scheme.specs.Reading.{said, said_port}
+use Rattle.pls_scheme.specs.Reading.{said_port}
 use Rattle.pls_scheme.specs.SchemeLaws.{IsMarkedOnce, IsSound}
 use Rattle.pls_scheme.specs.Theorem.{OneIsRight, RightFits, RulesAreMet, RulesShow}
 use Rattle.pls_scheme.specs.laws.Marking.{marked_once, sound_by}

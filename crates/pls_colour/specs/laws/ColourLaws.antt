@@ -1,7 +1,6 @@
 -- Labels that are one colour.
-use Rattle.std.proofs.Common.{◌≡◌, ◌∙◌, Bool, List, [], ◌∷◌, Some, sym, ap}
+use Rattle.std.proofs.Common.{◌≡◌, ◌∙◌, [], ◌∷◌, Some, sym, ap}
 use Rattle.pls_scheme.specs.SchemeLaws.{HaveOneSpelling, SaysWhatIsSpelled}
-use Rattle.pls_colour.specs.declared.colour_layout.ColourLabel.{ColourLabel}
 use Rattle.pls_colour.specs.Bipartite.{IsColourLabel, colour_label, label_of_colour}
 
 -- bits say a colour exactly where they are that one bit

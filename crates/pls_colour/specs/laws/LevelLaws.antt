@@ -9,7 +9,6 @@ use Rattle.pls_graph.proofs.Members.{Contains-from_map, Contains-map}
 use Rattle.pls_facts.proofs.Levels.{level_below, one_level}
 use Rattle.pls_facts.proofs.Lists.{item_at}
 use Rattle.pls_facts.proofs.Neighbours.{adjacent_known}
-use Rattle.pls_scheme.specs.Theorem.{AreRightEverywhere}
 use Rattle.pls_colour.specs.Levelled.{saying_level}
 
 -- one label is right for a node

@@ -1,4 +1,4 @@
-use Rattle.std.proofs.Common.{◌≡◌, ◌∙◌, List, sym, subst, true, false}
+use Rattle.std.proofs.Common.{◌∙◌, List, sym, subst}
 use Rattle.std.proofs.lemmas.Bool.{false≢true}
 use Rattle.pls_scheme.specs.Marked.{AreSaidBy}
 use Rattle.pls_scheme.proofs.Markings.{said_by_id}
