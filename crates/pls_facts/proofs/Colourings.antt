@@ -31,13 +31,11 @@ colours_at_ports rows colour apart edge in' =
 
 -- where there is a two-colouring, the parities of levels from a node differ at each port
 pub parities_differ : (rows : List NodeRow) → IsNetwork rows → IsBipartite rows
-    → (root : ℕ) (level : ℕ → ℕ) (row : NodeRow) (port : Port) → Contains rows row
-    → Contains row.ports port
-    → IsLevel (edges_of rows) root row.id (level row.id)
-    → IsLevel (edges_of rows) root port.nbr (level port.nbr)
-    → is_odd (level row.id) ≢ is_odd (level port.nbr)
-parities_differ rows net bipartite root level row port in' has near far same =
+    → (root : ℕ) (row : NodeRow) (port : Port) (near far : ℕ) → Contains rows row
+    → Contains row.ports port → IsLevel (edges_of rows) root row.id near
+    → IsLevel (edges_of rows) root port.nbr far → is_odd near ≢ is_odd far
+parities_differ rows net bipartite root row port near far in' has here there same =
     adjacent_differ (edges_of rows) bipartite.0 bipartite.1 row.id port.nbr
     (port_adjacent rows net row port in' has).0
-    (one_colour_at_levels (edges_of rows) bipartite.0 bipartite.1 root row.id port.nbr
-    (level row.id) (level port.nbr) near far same)
+    (one_colour_at_levels (edges_of rows) bipartite.0 bipartite.1 root row.id port.nbr near far
+    here there same)

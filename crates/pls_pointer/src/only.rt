@@ -21,7 +21,8 @@ pub(crate) trait StateTest {
 pub(crate) struct PointsAtNone;
 
 impl StateTest for PointsAtNone {
-    
+    ghost use Rattle.pls_facts.specs.OnlyNode.{points_at_none};
+
     ghost passes = { points_at_none };
 
     fn passes(state: State) -> bool {

@@ -1,6 +1,5 @@
 -- Labels by places and by identities, and the verdicts of rules over them.
-use Rattle.std.proofs.Common.{◌≡◌, ◌∙◌, ℕ, ◌==◌, Bool, true, List, [], ◌∷◌, length, map, get_or, slice_get, position, Option, Some, IsSome, is_some, option_map, refl, sym, ap, arith}
-use Rattle.std.specs.Option.{option_and_then}
+use Rattle.std.proofs.Common.{◌≡◌, ◌∙◌, ℕ, ◌==◌, List, [], ◌∷◌, length, map, get_or, slice_get, position, Option, Some, is_some, option_map, refl, sym, ap, arith}
 use Rattle.std.proofs.lemmas.Bool.{eqb-true}
 use Rattle.std.proofs.lemmas.List.Quantifiers.{position-Some}
 use Rattle.std.proofs.lemmas.Option.{slice_get-get_or, slice_get-map, slice_get_read}
@@ -10,7 +9,7 @@ use Rattle.pls_model.specs.declared.row.NodeRow.{NodeRow}
 use Rattle.pls_model.specs.Configuration.{IsNetwork, row_of}
 use Rattle.pls_graph.proofs.Placed.{neighbour_found}
 use Rattle.pls_scheme.specs.Marked.{AreSaidBy}
-use Rattle.pls_scheme.specs.Reading.{Read, label_above, reading, said, said_port}
+use Rattle.pls_scheme.specs.Reading.{label_above, reading, said, said_port}
 use Rattle.pls_scheme.specs.inner.Holding.{AreKnown}
 
 -- what a place gives, where the item there is known

@@ -61,14 +61,7 @@ impl<R: Rules> JudgesInPlace for Once<R> {
         port: &PortView<'_>,
     ) -> Option<Self::Tally> {
         let label = R::Layout::read_in_place(&port.label)?;
-        Some(one_port_more(
-            &self.rules,
-            view.state.up,
-            tally,
-            place,
-            port.weight,
-            label,
-        ))
+        Some(one_port_more(&self.rules, view.state.up, tally, place, port.weight, label))
     }
 
     fn close(&self, view: &View<'_>, tally: Self::Tally) -> Verdict {

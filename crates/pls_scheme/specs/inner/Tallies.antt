@@ -1,6 +1,5 @@
 -- What is gathered along the ports of a node.
 use Rattle.std.specs.Prelude.{ℕ, ◌==◌, Bool, false, List, Option, None, Some}
-use Rattle.pls_model.specs.declared.row.State.{State}
 use Rattle.pls_scheme.specs.declared.once.Pass.{Pass}
 use Rattle.pls_scheme.specs.Reading.{ReadPort, label_above}
 

@@ -1,13 +1,11 @@
-use Rattle.std.proofs.Common.{◌≡◌, ◌∙◌, ◌<◌, ℕ, ◌+◌, inl, inr, true, false, Bool, Some, slice_get, sym, ap, refl, subst, arith}
-use Rattle.std.specs.Bool.{IsTrue}
+use Rattle.std.proofs.Common.{◌≡◌, ◌∙◌, ℕ, inl, inr, true, Some, slice_get, sym, ap, refl, arith}
 use Rattle.std.proofs.lemmas.Bool.{cases_lt}
 use Rattle.std.proofs.lemmas.Option.{slice_get_within}
 use Rattle.pls_model.specs.declared.row.NodeRow.{NodeRow}
-use Rattle.pls_model.specs.declared.verdict.Verdict.{Verdict}
 use Rattle.pls_model.specs.declared.verdict.Verdict.TheVariants.{Accept}
 use Rattle.pls_graph.proofs.Members.{Contains-from_place, place_from_Contains}
 use Rattle.pls_facts.proofs.Lists.{item_at}
-use Rattle.pls_scheme.specs.Judging.{accepts, judged_from}
+use Rattle.pls_scheme.specs.Judging.{accepts}
 use Rattle.pls_scheme.specs.Reading.{said}
 use Rattle.pls_scheme.specs.laws.Saying.{hold-judged, judged-each}
 use Rattle.pls_scheme.proofs.Accepted.{accepts-true}

@@ -1,4 +1,4 @@
-use Rattle.std.proofs.Common.{◌≡◌, ◌∙◌, ◌+◌, ◌++◌, ◌∷◌, [], List, ap, map, sym, take, get_or, refl}
+use Rattle.std.proofs.Common.{◌≡◌, ◌∙◌, ◌+◌, ◌++◌, ◌∷◌, [], List, ap, map, take, get_or, refl}
 use Rattle.pls_model.specs.declared.row.Port.{Port}
 use Rattle.pls_facts.proofs.Lists.{map-take_more}
 use Rattle.std.proofs.lemmas.Option.{slice_get-get_or}
