@@ -15,7 +15,7 @@ short_code number small = by (nat_le number MAX_CODED) (le-leb number MAX_CODED 
   where
     by : (fits : Bool) → fits ≡ true
         → (if fits then length (gamma_code number) else 2 ^ 64 - 1) ≤ 125
-    by true is = gamma_short number small
+    by true is = gamma_short number
     by false is = absurd (cc)
 
 -- no scheme's bound is above 8,192 bits
