@@ -6,14 +6,11 @@ use Rattle.std.proofs.lemmas.Option.{same_Some, slice_get-map, slice_get-get_or}
 use Rattle.pls_model.specs.declared.row.Port.{Port}
 use Rattle.pls_model.specs.declared.row.NodeRow.{NodeRow}
 use Rattle.pls_graph.specs.declared.table.Node.{Node}
+use Rattle.pls_graph.specs.Rows.{gaining}
 use Rattle.pls_graph.specs.inner.Placed.{Placed}
 use Rattle.pls_graph.specs.inner.Ranges.{part, row_at, rows_at, places_at, Holds, AreRanges, IsMoved}
 use Rattle.pls_graph.proofs.Parts.{part_more_set, part_more_push}
 use Rattle.pls_graph.proofs.Ranged.{ranges_larger, ranges_set, part_beside, part_before, rows_changed, places_changed, map_same}
-
--- the row with one port more
-abbrev pub gaining : Port → NodeRow → NodeRow
-gaining port row = record row { ports = row.ports ++ port ∷ [] }
 
 abbrev Same : Placed → Placed → Type 0
 Same table other = table ≡ other

@@ -15,6 +15,7 @@
 
 mod breadth;
 mod builder;
+mod edits;
 mod index;
 mod network;
 mod ranges;
@@ -27,6 +28,7 @@ mod table;
 
 pub use breadth::levels;
 pub use builder::NetworkBuilder;
+pub use edits::EditError;
 pub use network::Network;
 pub use pls_model::{BuildError, NodePorts, NodeRow, Port, State};
 pub use reach::connected;

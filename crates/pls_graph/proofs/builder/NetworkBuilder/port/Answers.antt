@@ -2,8 +2,8 @@ use Rattle.std.proofs.Common.{◌≡◌, ◌∙◌, ◌+◌, ◌-◌, ◌∷◌,
 use Rattle.std.proofs.lemmas.List.{set_at, get_or_at}
 use Rattle.std.proofs.lemmas.Option.{slice_get-get_or}
 use Rattle.pls_model.specs.declared.row.NodeRow.{NodeRow}
+use Rattle.pls_graph.specs.Rows.{gaining}
 use Rattle.pls_graph.specs.inner.Placed.{Placed}
-use Rattle.pls_graph.proofs.PortAdded.{gaining}
 use Rattle.pls_graph.proofs.builder.NetworkBuilder.port.Goals as goal
 
 pub returns : goal.returns
