@@ -21,7 +21,7 @@ use Rattle.pls_app.specs.Meaning.{judge_of, longest_of}
 use Rattle.pls_app.specs.Input.{IsInput, IsNetworkInput, IsReadable}
 use Rattle.pls_app.specs.Answer.{Answers, report}
 use Rattle.pls_app.specs.Run.{Certifies, IsDone, Shows, ShowsIn}
-use Rattle.pls_app.proofs.Outcomes.{command_answer, judged_answer}
+use Rattle.pls_app.proofs.Answered.{command_answer, judged_answer}
 use Rattle.pls_app.proofs.Proved.{accepted_report}
 use Rattle.pls_app.proofs.TextLengths.{text_fits}
 

@@ -1,10 +1,12 @@
+mod Answered
 mod Certified
+mod Consumed
 mod Inputs
 mod OneAnswer
-mod Outcomes
 mod Proved
 mod Refused
 mod Reports
 mod Rounds
 mod TextLengths
+mod Told
 mod Worked

@@ -1,9 +1,11 @@
 -- What `Done` says of a network.
-use Rattle.std.proofs.Common.{◌≡◌, ℕ, Bool, true, false, cond, eqb, List, map, All, if◌then◌else◌, ◌==◌, inl, inr, get_or, refl, sym, ap, ◌∙◌}
+use Rattle.std.proofs.Common.{◌≡◌, ℕ, Contains, [], ◌∷◌, Bool, true, false, cond, eqb, List, map, All, if◌then◌else◌, ◌==◌, inl, inr, get_or, refl, sym, ap, ◌∙◌}
 use Rattle.std.specs.List.{list_all, sum_by}
 use Rattle.std.proofs.lemmas.Bool.{eqb-true, eq-eqb}
 use Rattle.std.proofs.lemmas.List.Folds.{sum_by-zero, list_all-map}
 use Rattle.std.proofs.lemmas.List.Sums.{AllPass-from_list_all, list_all-from_AllPass}
+use Rattle.std.proofs.lemmas.List.Elements.{All-cons, All-nil}
+use Rattle.pls_graph.proofs.Members.{Contains-first, Contains-later}
 use Rattle.pls_base.specs.declared.text_error.TextError.{TextError}
 use Rattle.pls_base.specs.declared.text_error.TextError.TheVariants.{Form, Limit, Sense, NoMemory}
 use Rattle.pls_model.specs.declared.row.NodeRow.{NodeRow}
@@ -24,7 +26,7 @@ use Rattle.pls_app.specs.Report.{rejects, rejecting}
 use Rattle.pls_app.specs.Answer.{Answer, Answers, refusal_status, report}
 use Rattle.pls_app.specs.Meaning.{HasProperty, judge_of}
 use Rattle.pls_app.specs.Input.{IsReadable}
-use Rattle.pls_app.specs.Run.{Lacks, Proves}
+use Rattle.pls_app.specs.Run.{Lacks, Proves, SomeRejects}
 
 -- a verdict that counts for nothing accepts
 accepts : (verdict : Verdict) → eqb (cond (rejects verdict) 1 0) 0 ≡ true → verdict ≡ Accept
@@ -95,6 +97,30 @@ done_proves scheme bytes answer answers done = elim answers [
       }
 ]
 
+-- where not all accept, some node rejects
+some_rejects : (judge : Seen → Verdict) (seen : List Seen)
+    → (All (λ view. judge view ≡ Accept) seen → ⊥)
+    → (view : Seen) × Contains seen view × (rejects (judge view) ≡ true)
+some_rejects judge [] none = absurd (none (All-nil (λ view. judge view ≡ Accept)))
+some_rejects judge (view ∷ seen) none =
+    by (judge view) refl (λ accepts. some_rejects judge seen
+    (λ all. none (All-cons (λ view. judge view ≡ Accept) view seen accepts all)))
+  where
+    Found : List Seen → Type 0
+    Found among = (found : Seen) × Contains among found × (rejects (judge found) ≡ true)
+
+    by : (verdict : Verdict) → judge view ≡ verdict → (judge view ≡ Accept → Found seen)
+        → Found (view ∷ seen)
+    by Accept is later =
+        let found = later is in
+        (found.0, Contains-later view seen found.0 found.1, found.2)
+    by (Reject leaf rule) is later = (view, Contains-first view seen, ap rejects is)
+
+-- a report is `No` where some node rejects
+report_no : (count : ℕ) → (if count == 0 then Done else No) ≡ No → count ≡ 0 → ⊥
+report_no count ends none =
+    let done : Done ≡ No = rw none at ends in cc
+
 -- a refusal is not `No`
 refused_not_no : (error : TextError) → refusal_status error ≡ No → ⊥
 refused_not_no (Form line) ends = cc
@@ -130,6 +156,30 @@ all_accept_none judge seen accepted =
     (accepted k d within)) in
     eqb-true (sum_by weight (map row seen)) 0
     (sum_by-zero weight (map row seen) ∙ list_all-map (λ r. eqb (weight r) 0) row seen ∙ each)
+
+-- `No` after `verify` says that some node rejects what it sees
+pub no_rejects : (scheme : SchemeName) (bytes : List ℕ) (answer : Answer)
+    → Answers (Verify scheme) bytes answer → answer.status ≡ No → SomeRejects scheme bytes
+no_rejects scheme bytes answer answers ends = elim answers [
+  | inl refused ↦
+      absurd (refused_not_no refused.0
+      (sym (ap (λ (answer : Answer). answer.status) refused.2) ∙ ends))
+  | inr judged ↦
+      let rows : List NodeRow = judged.0 in
+      let labels : List (List Bool) = judged.1 in
+      let count : ℕ = rejecting (round_by (judge_of scheme) rows labels) in
+      let some = report_no count (sym (ap (λ (answer : Answer). answer.status) judged.3) ∙ ends) in
+      let found = some_rejects (judge_of scheme) (views rows labels)
+      (λ all. some (all_accept_none (judge_of scheme) (views rows labels) all)) in
+      record {
+        rows = rows;
+        labels = labels;
+        input = judged.2;
+        view = found.0;
+        seen = found.1;
+        rejected = found.2;
+      }
+]
 
 -- labels that all accept make a round `Done`
 pub accepted_report : (scheme : SchemeName) (rows : List NodeRow) (labels : List (List Bool))

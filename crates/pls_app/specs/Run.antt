@@ -1,21 +1,31 @@
 -- What the public call says of its source and its sink.
-use Rattle.std.specs.Prelude.{◌≡◌, ℕ, ◌+◌, ◌≤◌, ◌<◌, List, [], length, drop, ◌++◌, All, Bool, Option, Some, None, ⊤, ◌⊎◌}
+use Rattle.std.specs.Prelude.{◌≡◌, ℕ, ◌+◌, ◌≤◌, ◌<◌, List, [], length, drop, ◌++◌, All, Bool, true, Contains, Option, Some, None, ⊤, ◌⊎◌}
 use Rattle.std.specs.Io.KnownBytes.{Appends}
 use Rattle.pls_base.specs.declared.text_error.TextError.{TextError}
-use Rattle.pls_base.specs.Streams.{AppendsPart, Rose}
+use Rattle.pls_base.specs.Streams.{AppendsPart, LosesAtMost, Rose}
 use Rattle.pls_model.specs.declared.status.Status.{Status}
 use Rattle.pls_model.specs.declared.status.Status.TheVariants.{Done, No, Usage, Refused, ReadFault, WriteFault, NoMemory, Limit}
 use Rattle.pls_model.specs.declared.row.NodeRow.{NodeRow}
 use Rattle.pls_model.specs.Configuration.{ids_of}
 use Rattle.pls_graph.specs.Size.{size_of}
 use Rattle.pls_labelfile.specs.LabelsText.{labels_text, named}
+use Rattle.pls_view.specs.Seen.{Seen, views}
 use Rattle.pls_scheme.specs.Judging.{AllAccept}
 use Rattle.pls_app.specs.declared.limits.TheConstants.{MAX_INPUT}
+use Rattle.pls_app.specs.declared.command.Command.{Command}
 use Rattle.pls_app.specs.declared.command.SchemeName.{SchemeName}
-use Rattle.pls_app.specs.Command.{verify_words}
+use Rattle.pls_app.specs.Command.{command_of, verify_words}
 use Rattle.pls_app.specs.Meaning.{HasProperty, judge_of, longest_of}
 use Rattle.pls_app.specs.Input.{IsInput, IsNetworkInput}
+use Rattle.pls_app.specs.Order.{IsRefused}
+use Rattle.pls_app.specs.Report.{rejects}
 use Rattle.pls_app.specs.Answer.{Answer, IsAnswer, refusal, refusal_status}
+
+-- the words are this command, and the source tells these bytes
+pub record Asks (words : List (List ℕ)) (left : Option (List ℕ)) (command : Command)
+    (bytes : List ℕ) : Type 0 where
+  pub asked : command_of words ≡ Some command
+  pub told : left ≡ Some bytes
 
 -- the run came to its answer: no fault, and no want of memory
 abbrev pub IsAnswered : Status → Type 0
@@ -43,6 +53,24 @@ pub record TellsPart (words : List (List ℕ)) (bytes : List ℕ)
   pub is : IsAnswer words bytes answer
   pub took : AppendsPart old new answer.text
 
+-- the source tells its bytes, and the sink is sure of as many as the text of the answer has
+abbrev pub IsSureOfAnswer : List (List ℕ) → Option (List ℕ) → (ℕ → Type 0) → Type 0
+IsSureOfAnswer words left sure =
+    (bytes : List ℕ) × (left ≡ Some bytes)
+    × ((answer : Answer) → IsAnswer words bytes answer → sure (length answer.text))
+
+-- what a run without an answer comes from: a call on the source failed, so that its count rose, or a
+-- call on the sink; or there was no memory
+abbrev pub HasItsCause : Status → ℕ → ℕ → ℕ → ℕ → Type 0
+HasItsCause ReadFault old_reads new_reads old_writes new_writes = Rose old_reads new_reads
+HasItsCause WriteFault old_reads new_reads old_writes new_writes = Rose old_writes new_writes
+HasItsCause NoMemory old_reads new_reads old_writes new_writes = ⊤
+HasItsCause Done old_reads new_reads old_writes new_writes = ⊤
+HasItsCause No old_reads new_reads old_writes new_writes = ⊤
+HasItsCause Usage old_reads new_reads old_writes new_writes = ⊤
+HasItsCause Refused old_reads new_reads old_writes new_writes = ⊤
+HasItsCause Limit old_reads new_reads old_writes new_writes = ⊤
+
 -- a run that comes to no answer before it writes: a fault of the source, whose count rose, or want
 -- of memory
 abbrev pub IsCause : Status → ℕ → ℕ → Type 0
@@ -62,6 +90,14 @@ HasRead (Some bytes) new =
     (length bytes ≤ MAX_INPUT → new ≡ Some [])
     × (MAX_INPUT < length bytes → new ≡ Some (drop (MAX_INPUT + 1) bytes))
 
+-- what a run takes from its source: one that answers a command has read it to its end, or up to the
+-- first byte past the limit, and none takes more
+pub record Consumes (words : List (List ℕ)) (status : Status)
+    (old new : Option (List ℕ)) : Type 0 where
+  pub read : (command : Command) → command_of words ≡ Some command → IsAnswered status
+      → HasRead old new
+  pub no_more : LosesAtMost old new (MAX_INPUT + 1)
+
 -- the status is that of the refusal, and the sink took exactly the line that says it
 pub record TellsRefusal (error : TextError) (status : Status)
     (old new : Option (List ℕ)) : Type 0 where
@@ -72,12 +108,28 @@ pub record TellsRefusal (error : TextError) (status : Status)
 abbrev pub IsRefusalStatus : Status → Type 0
 IsRefusalStatus status = (status ≡ Refused) ⊎ (status ≡ Limit)
 
+-- a refusal is told exactly where the bytes are refused
+pub record RefusesExactly (command : Command) (bytes : List ℕ) (status : Status)
+    (old new : Option (List ℕ)) : Type 0 where
+  pub told : (error : TextError) → IsRefused command bytes error
+      → TellsRefusal error status old new
+  pub caused : IsRefusalStatus status → (error : TextError) × IsRefused command bytes error
+
 -- the bytes are the text of a connected network with the property, and of its labels
 pub record Proves (scheme : SchemeName) (bytes : List ℕ) : Type 0 where
   pub rows : List NodeRow
   pub labels : List (List Bool)
   pub input : IsInput bytes rows labels
   pub holds : HasProperty scheme rows
+
+-- the bytes are the text of a connected network and of its labels, and some node rejects what it sees
+pub record SomeRejects (scheme : SchemeName) (bytes : List ℕ) : Type 0 where
+  pub rows : List NodeRow
+  pub labels : List (List Bool)
+  pub input : IsInput bytes rows labels
+  pub view : Seen
+  pub seen : Contains (views rows labels) view
+  pub rejected : rejects (judge_of scheme view) ≡ true
 
 -- labels that show the property of a network: there is one for each node, all nodes accept them,
 -- and each is within the bound

@@ -8,17 +8,17 @@
 
 mod answer;
 mod command;
+mod from_source;
 mod input;
 mod laws;
 mod limits;
 mod mark;
-mod outcome;
+mod program;
 mod report;
-mod top;
 mod verify;
 
 pub use command::{Command, SchemeName};
 pub use laws::{one_answer, one_input};
 pub use limits::MAX_INPUT;
 pub use pls_base::Status;
-pub use top::run;
+pub use program::run;

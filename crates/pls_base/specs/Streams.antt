@@ -22,3 +22,8 @@ LosesAtMost old new most = (n : ℕ) × (n ≤ most) × LosesFirst old new n
 -- a sink has taken a front of these bytes, but not all of them
 abbrev pub AppendsPart : Option (List ℕ) → Option (List ℕ) → List ℕ → Type 0
 AppendsPart old new bytes = (n : ℕ) × (n < length bytes) × Appends old new (take n bytes)
+
+-- a sink whose count of faults stayed, and which is sure of the bytes that are still to come
+pub record StaysSure (IsSureOf : ℕ → Type 0) (left before now : ℕ) : Type 0 where
+  pub unfailing : now ≡ before
+  pub sure : IsSureOf left

@@ -18,11 +18,10 @@ mod mem_source;
 mod memory;
 mod pieces;
 mod reading;
+pub mod refusal_number;
 mod std_streams;
 mod streams;
 mod sure_source;
-#[cfg(test)]
-mod tests;
 mod text_error;
 mod writing;
 

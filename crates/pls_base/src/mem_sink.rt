@@ -1,11 +1,11 @@
 //! A sink into memory, some of whose calls fail.
 
-ghost use Rattle.std.specs.Prelude.{◌≡◌, ◌⊎◌, ◌↔◌, ◌-◌, ◌<◌, ◌≤◌, min, length, Some, IfOk, IsErr, MatchResult};
+ghost use Rattle.std.specs.Prelude.{◌≡◌, ℕ, ◌⊎◌, ◌↔◌, ◌-◌, ◌<◌, ◌≤◌, min, length, Some, IfOk, IsErr, MatchResult};
 ghost use Rattle.std.specs.Io.{WritesAtMost};
 ghost use Rattle.std.specs.Io.KnownBytes.{WriteAppends};
-ghost use Rattle.pls_base.specs.Plan.{IsFullFor, IsPlanned, new_sink};
+ghost use Rattle.pls_base.specs.Plan.{HasRoomFor, IsFullFor, IsPlanned, new_sink};
 ghost use Rattle.pls_base.specs.Steps.{up_by};
-ghost use Rattle.pls_base.specs.Streams.{HasCause};
+ghost use Rattle.pls_base.specs.Streams.{HasCause, StaysSure};
 
 use crate::counter::Steps;
 use crate::memory::NoMemory;
@@ -80,15 +80,22 @@ impl MemSink {
 }
 
 impl Sink for MemSink {
+    ghost use Rattle.pls_base.specs.Plan.{HasRoomFor};
+
     ghost taken = { λ s. Some s.taken };
 
     ghost faults = { λ s. s.faults };
+
+    ghost IsSureOf = { HasRoomFor };
 
     fn write(&mut self, piece: &[u8]) -> Result<usize, Failed>
         ensures bound { WritesAtMost result piece.now }
         ensures some { IfOk result (λ n. 0 < length piece.now → 0 < n) }
         ensures bytes { WriteAppends (Some self.old.taken) (Some self.new.taken) result piece.now }
         ensures cause { HasCause self.old.faults self.new.faults result }
+        ensures sure { (most : ℕ) → HasRoomFor self.old most → length piece.now ≤ most
+            → MatchResult result (λ n. StaysSure (HasRoomFor self.new) (most - n) self.old.faults
+            self.new.faults) (λ _. ⊥) }
 
         // Which calls fail, how far the others come, and what is counted.
         ensures fails { IsErr result ↔

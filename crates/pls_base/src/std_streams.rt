@@ -1,10 +1,10 @@
 //! Sources and sinks over std's readers and writers.
 
-ghost use Rattle.std.specs.Prelude.{◌≡◌, ◌<◌, length, IfOk, MatchResult};
+ghost use Rattle.std.specs.Prelude.{◌≡◌, ◌<◌, ◌≤◌, ◌-◌, ℕ, length, IfOk, MatchResult};
 ghost use Rattle.std.specs.Io.{ReadsAtMost, WritesAtMost};
 ghost use Rattle.std.specs.Io.KnownBytes.{ReadConsumes, WriteAppends};
 ghost use Rattle.pls_base.specs.Steps.{up_by};
-ghost use Rattle.pls_base.specs.Streams.{HasCause};
+ghost use Rattle.pls_base.specs.Streams.{HasCause, StaysSure};
 
 use crate::counter::Steps;
 use crate::streams::{Failed, Sink, Source};
@@ -99,12 +99,17 @@ impl<W: Write> Sink for StdSink<W> {
 
     ghost faults = { λ s. s.faults };
 
+    // No std writer promises that a call succeeds.
+    ghost IsSureOf = { λ _ _. ⊥ };
+
     fn write(&mut self, piece: &[u8]) -> Result<usize, Failed>
         ensures bound { WritesAtMost result piece.now }
         ensures some { IfOk result (λ n. 0 < length piece.now → 0 < n) }
         ensures bytes { WriteAppends (W.contents self.old.over) (W.contents self.new.over) result
             piece.now }
         ensures cause { HasCause self.old.faults self.new.faults result }
+        ensures sure { (most : ℕ) → ⊥ → length piece.now ≤ most → MatchResult result
+            (λ n. StaysSure (λ _. ⊥) (most - n) self.old.faults self.new.faults) (λ _. ⊥) }
         ensures raised { MatchResult result (λ _. self.new.faults ≡ self.old.faults)
             (λ _. self.new.faults ≡ up_by 1 self.old.faults) }
     {

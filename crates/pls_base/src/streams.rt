@@ -1,9 +1,9 @@
 //! What gives bytes and what takes them.
 
-ghost use Rattle.std.specs.Prelude.{ℕ, ◌<◌, ◌≤◌, List, length, Option, IfOk};
+ghost use Rattle.std.specs.Prelude.{ℕ, ◌<◌, ◌≤◌, ◌-◌, List, length, Option, IfOk, MatchResult};
 ghost use Rattle.std.specs.Io.{ReadsAtMost, WritesAtMost};
 ghost use Rattle.std.specs.Io.KnownBytes.{ReadConsumes, WriteAppends};
-ghost use Rattle.pls_base.specs.Streams.{HasCause};
+ghost use Rattle.pls_base.specs.Streams.{HasCause, StaysSure};
 
 use thiserror::Error;
 
@@ -37,11 +37,18 @@ pub trait Sink {
     // How many of its calls failed, counted up to 2^64 - 1.
     ghost faults: { Self → ℕ };
 
+    // It takes so many bytes more with no call failing.
+    ghost IsSureOf: { Self → ℕ → Type 0 };
+
     /// Takes the first bytes of `piece` and answers how many: at least one of a piece that is not
-    /// empty. `Failed` comes only where the count of faults rose in this call.
+    /// empty. `Failed` comes only where the count of faults rose in this call, and never for a
+    /// piece that the sink is sure of.
     fn write(&mut self, piece: &[u8]) -> Result<usize, Failed>
         ensures bound { WritesAtMost result piece.now }
         ensures some { IfOk result (λ n. 0 < length piece.now → 0 < n) }
         ensures bytes { WriteAppends (taken self.old) (taken self.new) result piece.now }
-        ensures cause { HasCause (faults self.old) (faults self.new) result };
+        ensures cause { HasCause (faults self.old) (faults self.new) result }
+        ensures sure { (most : ℕ) → IsSureOf self.old most → length piece.now ≤ most
+            → MatchResult result (λ n. StaysSure (IsSureOf self.new) (most - n) (faults self.old)
+            (faults self.new)) (λ _. ⊥) };
 }

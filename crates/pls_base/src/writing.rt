@@ -1,8 +1,8 @@
 //! A whole text into a sink.
 
-ghost use Rattle.std.specs.Prelude.{◌≤◌, OnErr, OnOk};
+ghost use Rattle.std.specs.Prelude.{◌≤◌, ◌-◌, ℕ, length, OnErr, OnOk, MatchResult};
 ghost use Rattle.std.specs.Io.KnownBytes.{Appends};
-ghost use Rattle.pls_base.specs.Streams.{AppendsPart, Rose};
+ghost use Rattle.pls_base.specs.Streams.{AppendsPart, Rose, StaysSure};
 
 use crate::streams::{Failed, Sink};
 use thiserror::Error;
@@ -15,12 +15,15 @@ pub struct Fault;
 /// Writes all the bytes in order. It takes no memory.
 ///
 /// `Fault` comes only where the sink's count of faults rose in this call; the sink has then taken a
-/// front of the bytes, but not all.
+/// front of the bytes, but not all. A sink that is sure of so many bytes takes all.
 pub fn write_all<K: Sink>(sink: &mut K, bytes: &[u8]) -> Result<(), Fault>
     ensures all { OnOk result (Appends (K.taken sink.old) (K.taken sink.new) bytes.now) }
     ensures part { OnErr result (AppendsPart (K.taken sink.old) (K.taken sink.new) bytes.now) }
     ensures fault { OnErr result (Rose (K.faults sink.old) (K.faults sink.new)) }
     ensures never_falls { K.faults sink.old ≤ K.faults sink.new }
+    ensures sure { (most : ℕ) → K.IsSureOf sink.old most → length bytes.now ≤ most
+        → MatchResult result (λ _. StaysSure (K.IsSureOf sink.new) (most - length bytes.now)
+        (K.faults sink.old) (K.faults sink.new)) (λ _. ⊥) }
 {
     let mut sent = 0;
     while sent < bytes.len() {

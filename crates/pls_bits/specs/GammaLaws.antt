@@ -7,7 +7,7 @@ use Rattle.std.proofs.Math.Pow.{pow_mono}
 use Rattle.std.proofs.lemmas.Nat.{pow_pos}
 use Rattle.std.proofs.lemmas.Option.{same_Some}
 use Rattle.pls_bits.specs.Gamma.{behind_one, behind_zeros, digits, floor_log, gamma_code, gamma_takes, number_from}
-use Rattle.pls_bits.specs.declared.num_code.TheConstants.{MAX_CODED}
+use Rattle.pls_bits.specs.declared.num_code.TheConstants.{MAX_CODED, MAX_CODE_BITS}
 use Rattle.pls_bits.specs.BinaryLaws.{digits-number_from, length-digits, number_behind-le, number_behind-lt, number_from-digits, one_in_front}
 use Rattle.pls_bits.specs.FloorLogLaws.{floor_log-bound, floor_log-grows, floor_log-le, floor_log-lt_suc, floor_log-unique}
 
@@ -24,8 +24,8 @@ length-gamma_code x =
     (digits (suc (floor_log (x + 1))) (x + 1)) in
     omega (arith, zeros, behind, both)
 
--- no code has more than 125 bits
-pub gamma_short : (x : ℕ) → length (gamma_code x) ≤ 125
+-- no code has more bits than twice 62 and one
+pub gamma_short : (x : ℕ) → length (gamma_code x) ≤ MAX_CODE_BITS
 gamma_short x =
     let bound = floor_log-bound (x + 1) in
     let long = length-gamma_code x in

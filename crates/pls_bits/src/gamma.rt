@@ -3,22 +3,22 @@
 ghost use Rattle.std.specs.Prelude.{◌≡◌, ◌≤◌, ◌<◌, ◌+◌, ◌-◌, ◌/◌, ◌%◌, ◌^◌, ◌==◌, ◌++◌, Bool, List, Option, ℕ, Some, None, IfSome, IfNone, length, replicate, false};
 ghost use Rattle.pls_bits.specs.Gamma.{behind_one, digits, floor_log, gamma_code, gamma_takes, number_from};
 ghost use Rattle.pls_bits.specs.declared.num_code.TheConstants.{MAX_CODED};
-ghost use Rattle.pls_bits.specs.GammaLaws.{gamma_code-grows, gamma_takes-code, gamma_takes-only};
+ghost use Rattle.pls_bits.specs.GammaLaws.{gamma_code-grows, gamma_takes-code, gamma_takes-only, gamma_short};
 
 use crate::bit_buf::BitBuf;
 use crate::bits::Bits;
 use crate::cursor::Cursor;
-use crate::num_code::{MAX_CODED, NumCode};
+use crate::num_code::{MAX_CODED, MAX_CODE_BITS, NumCode};
 use pls_base::NoMemory;
 
 /// The gamma code of Elias (1975, "Universal codeword sets and representations of the integers").
 /// The code of a number `x` is floor(log2(x + 1)) zeros and then `x + 1` in binary: that of 0 is
-/// `1`, and that of 4 is `00101`. No code has more than 125 bits.
+/// `1`, and that of 4 is `00101`. No code has more than [`MAX_CODE_BITS`] bits.
 #[derive(Clone, Copy, Debug, PartialEq, Eq)]
 pub struct Gamma;
 
 // How many bits the longest code has.
-const LONGEST: usize = 125;
+const LONGEST: usize = MAX_CODE_BITS as usize;
 
 impl NumCode for Gamma {
     ghost code = { gamma_code };
@@ -51,6 +51,8 @@ impl NumCode for Gamma {
     ghost takes_only = { λ bits number rest taken. gamma_takes-only bits number rest taken };
 
     ghost grows_law = { λ small great order _. gamma_code-grows small great order };
+
+    ghost short_law = { λ number _. gamma_short number };
 }
 
 // How many zeros the code of a number begins with.

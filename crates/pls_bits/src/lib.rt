@@ -23,4 +23,4 @@ pub use cursor::Cursor;
 pub use gamma::Gamma;
 pub use hex_error::HexError;
 pub use hex_text::{from_hex, spells_bits};
-pub use num_code::{MAX_CODED, NumCode};
+pub use num_code::{MAX_CODED, MAX_CODE_BITS, NumCode};

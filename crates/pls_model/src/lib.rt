@@ -13,7 +13,7 @@ mod row;
 mod status;
 mod verdict;
 
-pub use limits::{MAX_NODES, MAX_NUM, MAX_PORTS};
+pub use limits::{MAX_DEGREE, MAX_NODES, MAX_NUM, MAX_PORTS};
 pub use refusal::BuildError;
 pub use row::{NodePorts, NodeRow, Port, State};
 pub use status::Status;

@@ -1,22 +1,10 @@
 -- Labels that are a few numbers, and their spellings.
-use Rattle.std.proofs.Common.{◌≡◌, ◌∙◌, ◌↔◌, ℕ, ◌≤◌, ◌++◌, Bool, List, [], ◌∷◌, length, Option, Some, None, IfSome, IfNone, option_map, refl, sym, ap, subst}
+use Rattle.std.proofs.Common.{◌≡◌, ◌∙◌, ◌↔◌, ℕ, Bool, List, [], ◌∷◌, length, Option, Some, None, IfSome, IfNone, option_map, refl, sym, ap, subst}
 use Rattle.std.specs.Option.{option_and_then}
 use Rattle.std.proofs.lemmas.Option.{same_Some}
-use Rattle.pls_bits.specs.declared.num_code.TheConstants.{MAX_CODED}
+pub use Rattle.pls_bits.specs.NumberCode.{TakesCodes, TakesOnly}
 use Rattle.pls_scheme.specs.Numbers.{AreCoded, AreCodesOf, codes_of, numbers_in, only_number}
 use Rattle.pls_scheme.proofs.Codes.{codes-numbers_in, numbers_in-codes}
-
--- a code is taken off, whatever follows it
-abbrev pub TakesCodes : (ℕ → List Bool) → (List Bool → Option (ℕ × List Bool)) → Type 0
-TakesCodes code takes =
-    (number : ℕ) (rest : List Bool) → number ≤ MAX_CODED
-    → takes (code number ++ rest) ≡ Some (number, rest)
-
--- nothing but codes is taken off
-abbrev pub TakesOnly : (ℕ → List Bool) → (List Bool → Option (ℕ × List Bool)) → Type 0
-TakesOnly code takes =
-    (bits : List Bool) (number : ℕ) (rest : List Bool) → takes bits ≡ Some (number, rest)
-    → (number ≤ MAX_CODED) × (bits ≡ code number ++ rest)
 
 module _ (code : ℕ → List Bool) (takes : List Bool → Option (ℕ × List Bool)) (count : ℕ)
     (bits : List Bool) where

@@ -1,8 +1,11 @@
 //! One run of the program in memory.
 
-ghost use Rattle.std.specs.Prelude.{◌≡◌, [], Some, IfOk};
+ghost use Rattle.std.specs.Prelude.{◌≡◌, ◌≤◌, ◌⊎◌, [], length, Some, IfOk};
+ghost use Rattle.pls_model.specs.declared.status.Status.TheVariants.{NoMemory as OutOfMemory};
 ghost use Rattle.pls_app.specs.Command.{words_in};
+ghost use Rattle.pls_app.specs.Answer.{Answer, IsAnswer};
 ghost use Rattle.pls_app.specs.Run.{IsAnswered, Tells};
+ghost use Rattle.pls_tests.specs.declared.memory_run.TheConstants.{ROOM};
 
 use pls_app::run;
 use pls_base::{MemSink, NoMemory, Status, SureSource};
@@ -11,15 +14,19 @@ use std::alloc::Global;
 /// The room of the sink of a run in memory, in bytes: more than any text of a small network.
 pub const ROOM: usize = 65_536;
 
-/// The status of the program on these words and this input, and the sink with what it wrote. The
-/// error is want of memory for the sink.
+/// The status of the program on these words and this input, and the sink with what it wrote. A run
+/// whose text fits the room ends in its answer or in want of memory. The error is want of memory
+/// for the sink.
 pub fn run_in_memory(
     alloc: Global,
     words: &[&str],
     input: Vec<u8>,
 ) -> Result<(Status, MemSink), NoMemory>
-    ensures { IfOk result (λ end. IsAnswered end.0
+    ensures text { IfOk result (λ end. IsAnswered end.0
         → Tells (words_in words.now) input.items end.0 (Some []) (Some end.1.taken)) }
+    ensures answers { IfOk result (λ end.
+        ((answer : Answer) → IsAnswer (words_in words.now) input.items answer
+        → length answer.text ≤ ROOM) → (end.0 ≡ OutOfMemory) ⊎ IsAnswered end.0) }
 {
     let mut source = SureSource::new(input);
     let mut sink = MemSink::new(alloc, ROOM, ROOM, Vec::new(alloc))?;

@@ -1,5 +1,6 @@
 //! The worked examples, as tables of schemes, inputs, texts and statuses.
 
+mod base;
 mod colours;
 mod pointers;
 mod refusals;

@@ -4,7 +4,7 @@ use Rattle.pls_model.specs.declared.status.Status.TheVariants.{Done}
 use Rattle.pls_app.specs.declared.command.Command.TheVariants.{Mark}
 use Rattle.pls_app.specs.Answer.{Answers, Marks}
 use Rattle.pls_app.specs.Run.{Certifies, ShowsIn}
-use Rattle.pls_app.proofs.Outcomes.{answered_by_refusal}
+use Rattle.pls_app.proofs.Answered.{answered_by_refusal}
 use Rattle.pls_app.proofs.Certified.{certified}
 use Rattle.pls_app.proofs.answer.answer_mark.Goals as goal
 

@@ -4,7 +4,7 @@ use Rattle.pls_scheme.specs.Judging.{round_by}
 use Rattle.pls_app.specs.declared.command.Command.TheVariants.{Verify}
 use Rattle.pls_app.specs.Meaning.{judge_of}
 use Rattle.pls_app.specs.Answer.{Answers, report}
-use Rattle.pls_app.proofs.Outcomes.{judged_answer, answered_by_refusal}
+use Rattle.pls_app.proofs.Answered.{judged_answer, answered_by_refusal}
 use Rattle.pls_app.proofs.answer.answer_verify.Goals as goal
 
 pub returns-in-Ok-clause-answer : goal.returns-in-Ok-clause-answer

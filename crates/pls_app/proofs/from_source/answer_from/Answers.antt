@@ -7,9 +7,10 @@ use Rattle.pls_app.specs.declared.command.Command.TheVariants.{Mark}
 use Rattle.pls_app.specs.declared.command.SchemeName.{SchemeName}
 use Rattle.pls_app.specs.Answer.{Answer, Answers, refusal}
 use Rattle.pls_app.specs.Run.{Certifies}
-use Rattle.pls_app.proofs.Outcomes.{lost_all_of, lost_past, ok_again, on_ok, read_all_of, read_them, refused_answer, too_long}
+use Rattle.pls_app.proofs.Answered.{refused_answer, too_long}
+use Rattle.pls_app.proofs.Consumed.{lost_all_of, lost_past, ok_again, on_ok, read_all_of, read_them}
 use Rattle.pls_app.proofs.Proved.{refused_not_done}
-use Rattle.pls_app.proofs.outcome.answer_from.Goals as goal
+use Rattle.pls_app.proofs.from_source.answer_from.Goals as goal
 
 pub returns-in-Ok-clause-read : goal.returns-in-Ok-clause-read
 returns-in-Ok-clause-read g c =

@@ -1,4 +1,4 @@
-//! What a run comes to before it writes.
+//! The answer to what a source gives, before anything is written.
 
 ghost use Rattle.std.specs.Prelude.{◌≡◌, ◌+◌, ℕ, List, Some, Ok, Err, IfOk, IfErr, MatchResult, OnOk};
 ghost use Rattle.pls_base.specs.Streams.{LosesAtMost};

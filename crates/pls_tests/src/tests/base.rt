@@ -1,4 +1,6 @@
-use crate::{
+//! Streams and decimals.
+
+use pls_base::{
     Fault, MemSink, MemSource, ReadError, StdSink, StdSource, read_all, read_decimal, write_all,
     write_decimal,
 };

@@ -1,14 +1,13 @@
--- From what a run comes to, what it says.
-use Rattle.std.proofs.Common.{◌≡◌, ◌≢◌, ℕ, ◌+◌, ◌≤◌, Bool, true, false, List, [], length, drop, Option, Some, None, IfSome, IfOk, MatchResult, inl, inr, Result, Ok, Err, OnOk, ap, subst, refl, arith, ◌∙◌, ◌⊎◌, ◌==◌, if◌then◌else◌, sym}
-use Rattle.std.proofs.lemmas.List.{drop_all}
+-- Which answers belong to which words and bytes.
+use Rattle.std.proofs.Common.{◌≡◌, ◌≢◌, ℕ, ◌+◌, ◌≤◌, Bool, true, false, List, length, Option, Some, None, IfOk, inl, inr, Result, Ok, Err, OnOk, ap, subst, refl, arith, ◌∙◌, ◌⊎◌, ◌==◌, if◌then◌else◌, sym}
 use Rattle.std.specs.Io.KnownBytes.{Appends}
 use Rattle.pls_base.specs.declared.text_error.TextError.{TextError}
 use Rattle.pls_base.specs.declared.text_error.TextError.TheVariants.{Limit, NoMemory}
 use Rattle.pls_base.specs.declared.text_error.Quantity.TheVariants.{Input}
-use Rattle.pls_base.specs.Streams.{LosesAtMost, LosesFirst}
+use Rattle.pls_base.specs.Streams.{LosesFirst}
 use Rattle.pls_model.specs.declared.row.NodeRow.{NodeRow}
 use Rattle.pls_model.specs.declared.status.Status.{Status}
-use Rattle.pls_model.specs.declared.status.Status.TheVariants.{Done, No, Refused, WriteFault, Limit as OverLimit}
+use Rattle.pls_model.specs.declared.status.Status.TheVariants.{Done, No, Refused, Limit as OverLimit}
 use Rattle.pls_scheme.specs.Judging.{round_by}
 use Rattle.pls_app.specs.declared.command.Command.{Command}
 use Rattle.pls_app.specs.declared.command.Command.TheVariants.{Mark, Verify}
@@ -20,54 +19,9 @@ use Rattle.pls_app.specs.Order.{IsRefused}
 use Rattle.pls_app.specs.Answer.{Answer, Answers, IsAnswer, Works, refusal, report, usage}
 use Rattle.pls_app.specs.Meaning.{judge_of}
 use Rattle.pls_app.specs.Scanned.{Refuses}
-use Rattle.pls_app.specs.Run.{Certifies, HasRead, IsAnswered, IsRefusalStatus, Tells, TellsPart, TellsRefusal, Told, TookCertificate}
+use Rattle.pls_app.specs.Run.{IsAnswered, IsRefusalStatus, Tells, TellsRefusal}
 use Rattle.pls_app.specs.Report.{rejecting}
 use Rattle.pls_app.proofs.OneAnswer.{one_answer}
-
--- an answer that was told in the end
-pub tells : (words : List (List ℕ)) (bytes : List ℕ) (answer : Answer) (status : Status)
-    (before after : ℕ) (old new : Option (List ℕ)) → IsAnswer words bytes answer
-    → Told answer.status status before after old new answer.text → IsAnswered status
-    → Tells words bytes status old new
-tells words bytes answer status before after old new is told answered = elim told [
-  | inl whole ↦ record { answer = answer; is = is; ends = whole.0; took = whole.1 }
-  | inr part ↦ absurd (rw part.0 at answered)
-]
-
--- an answer that was told in part
-pub tells_part : (words : List (List ℕ)) (bytes : List ℕ) (answer : Answer) (status : Status)
-    (before after : ℕ) (old new : Option (List ℕ)) → IsAnswer words bytes answer
-    → IsAnswered answer.status
-    → Told answer.status status before after old new answer.text → status ≡ WriteFault
-    → TellsPart words bytes old new
-tells_part words bytes answer status before after old new is answered told fault = elim told [
-  | inl whole ↦ let same : answer.status ≡ WriteFault = cc in absurd (rw same at answered)
-  | inr part ↦ record { answer = answer; is = is; took = part.2 }
-]
-
--- what holds anyhow holds of an `Ok`
-pub on_ok : {T E : Type 0} (r : Result T E) (P : Type 0) → P → OnOk r P
-on_ok (Ok x) P p = p
-on_ok (Err e) P p = tt
-
--- a source whose bytes were all read
-pub read_all_of : (old new : Option (List ℕ)) (read : List ℕ) → IfSome old (λ bytes. read ≡ bytes)
-    → IfSome old (λ _. new ≡ Some []) → length read ≤ MAX_INPUT → HasRead old new
-read_all_of None new read same end short = tt
-read_all_of (Some bytes) new read same end short =
-    (λ _. end, λ long. absurd (omega (arith, ap length same)))
-
-pub lost_all_of : (old new : Option (List ℕ)) (read : List ℕ) → IfSome old (λ bytes. read ≡ bytes)
-    → IfSome old (λ _. new ≡ Some []) → length read ≤ MAX_INPUT
-    → LosesAtMost old new (MAX_INPUT + 1)
-lost_all_of None new read same end short = (0, omega arith, tt)
-lost_all_of (Some bytes) new read same end short =
-    let gone : drop (length bytes) bytes ≡ [] = drop_all (length bytes) bytes (omega arith) in
-    (length bytes, omega (arith, ap length same), (omega arith, rw gone end))
-
-pub lost_past : (old new : Option (List ℕ)) → LosesFirst old new (MAX_INPUT + 1)
-    → LosesAtMost old new (MAX_INPUT + 1)
-lost_past old new lost = (MAX_INPUT + 1, omega arith, lost)
 
 -- more bytes than the limit are refused
 pub too_long : (command : Command) (old new : Option (List ℕ)) (bytes : List ℕ)
@@ -88,13 +42,6 @@ pub refused_answer : (command : Command) (bytes : List ℕ) (error : TextError) 
     → IsRefused command bytes error → answer ≡ refusal error → Answers command bytes answer
 refused_answer command bytes error answer refused same = inl (error, refused, same)
 
--- a result with another error holds what the first did
-pub ok_again : {T E F : Type 0} (first : Result T E) (second : Result T F) (other : F) (P : T
-    → Type 0) → IfOk first P
-    → MatchResult first (λ found. second ≡ Ok found) (λ _. second ≡ Err other) → IfOk second P
-ok_again (Ok x) second other P holds same = rw same holds
-ok_again (Err e) second other P holds same = rw same tt
-
 -- words that are no command are answered so
 pub usage_answer : (words : List (List ℕ)) (bytes : List ℕ) → command_of words ≡ None
     → IsAnswer words bytes usage
@@ -104,14 +51,6 @@ usage_answer words bytes none = rw none refl
 pub command_answer : (words : List (List ℕ)) (bytes : List ℕ) (command : Command) (answer : Answer)
     → command_of words ≡ Some command → Answers command bytes answer → IsAnswer words bytes answer
 command_answer words bytes command answer is answers = rw is answers
-
--- a run that ends in `Done` was due to
-pub told_done : (due status : Status) (before after : ℕ) (old new : Option (List ℕ)) (text : List ℕ)
-    → Told due status before after old new text → status ≡ Done → due ≡ Done
-told_done due status before after old new text told done = elim told [
-  | inl whole ↦ cc
-  | inr part ↦ absurd (let no : WriteFault ≡ Done = cc in cc)
-]
 
 -- the command of the words is one
 pub same_command : (words : List (List ℕ)) (command other : Command) (bytes : List ℕ)
@@ -134,31 +73,6 @@ answered_by_refusal command bytes error (Err e) short refused says some = tt
 pub the_command : (words : List (List ℕ)) (command other : Command)
     → Some command ≡ command_of words → command_of words ≡ Some other → command ≡ other
 the_command words command other read is = cc
-
--- the sink of a run that ends in `Done` took the whole text
-pub took_certificate : (scheme : SchemeName) (bytes text : List ℕ) (due status : Status)
-    (before after : ℕ) (old new : Option (List ℕ)) → Certifies scheme bytes text
-    → Told due status before after old new text → status ≡ Done
-    → TookCertificate scheme bytes old new
-took_certificate scheme bytes text due status before after old new certifies told done = elim told [
-  | inl whole ↦ record { text = text; took = whole.1; certifies = certifies }
-  | inr part ↦ absurd (let other : WriteFault ≡ Done = cc in cc)
-]
-
--- a run that ends in `No` was due to
-pub told_no : (due status : Status) (before after : ℕ) (old new : Option (List ℕ)) (text : List ℕ)
-    → Told due status before after old new text → status ≡ No → due ≡ No
-told_no due status before after old new text told ends = elim told [
-  | inl whole ↦ cc
-  | inr part ↦ absurd (let other : WriteFault ≡ No = cc in cc)
-]
-
--- what was read of a source that tells its bytes is these
-pub read_them : (old : Option (List ℕ)) (read bytes : List ℕ) → IfSome old (λ found. read ≡ found)
-    → old ≡ Some bytes → read ≡ bytes
-read_them old read bytes all told =
-    let here : IfSome (Some bytes) (λ found. read ≡ found) = rw told at all in
-    here
 
 -- the answer to a refusal is told
 pub tells_refusal : (words : List (List ℕ)) (command : Command) (bytes : List ℕ) (error : TextError)
@@ -233,34 +147,3 @@ refusal_has_cause words command bytes status old new is told refusal =
           absurd (no_refusal told.answer.status (works_end command bytes told.answer works)
           (subst IsRefusalStatus told.ends refusal))
     ]
-
--- the answer that is handed on is told in the end
-pub tells_viewed : (words : List (List ℕ)) (bytes : List ℕ) (command : Command)
-    (answer shown : Answer) (status : Status) (before after : ℕ) (old new : Option (List ℕ))
-    (text : List ℕ)
-    → Some command ≡ command_of words → Answers command bytes answer → shown ≡ answer
-    → text ≡ shown.text → Told shown.status status before after old new text → IsAnswered status
-    → Tells words bytes status old new
-tells_viewed words bytes command answer shown status before after old new text read answers viewed
-    same told answered =
-    tells words bytes shown status before after old new
-    (command_answer words bytes command shown (sym read)
-    (subst (λ (answer : Answer). Answers command bytes answer) (sym viewed) answers))
-    (subst (λ (text : List ℕ). Told shown.status status before after old new text) same told)
-    answered
-
--- the answer that is handed on is told in part
-pub tells_part_viewed : (words : List (List ℕ)) (bytes : List ℕ) (command : Command)
-    (answer shown : Answer) (status : Status) (before after : ℕ) (old new : Option (List ℕ))
-    (text : List ℕ)
-    → Some command ≡ command_of words → Answers command bytes answer → IsAnswered answer.status
-    → shown ≡ answer → text ≡ shown.text → Told shown.status status before after old new text
-    → status ≡ WriteFault → TellsPart words bytes old new
-tells_part_viewed words bytes command answer shown status before after old new text read answers
-    ended viewed same told fault =
-    tells_part words bytes shown status before after old new
-    (command_answer words bytes command shown (sym read)
-    (subst (λ (answer : Answer). Answers command bytes answer) (sym viewed) answers))
-    (subst (λ (answer : Answer). IsAnswered answer.status) (sym viewed) ended)
-    (subst (λ (text : List ℕ). Told shown.status status before after old new text) same told)
-    fault

@@ -1,0 +1,110 @@
+-- From what a run was due to tell, what it told.
+use Rattle.std.proofs.Common.{◌≡◌, ℕ, List, Option, Some, inl, inr, length, subst, sym}
+use Rattle.pls_base.specs.Streams.{Rose}
+use Rattle.pls_model.specs.declared.status.Status.{Status}
+use Rattle.pls_model.specs.declared.status.Status.TheVariants.{Done, No, WriteFault}
+use Rattle.pls_app.specs.declared.command.Command.{Command}
+use Rattle.pls_app.specs.declared.command.SchemeName.{SchemeName}
+use Rattle.pls_app.specs.Command.{command_of}
+use Rattle.pls_app.specs.Answer.{Answer, Answers, IsAnswer}
+use Rattle.pls_app.proofs.Answered.{command_answer}
+use Rattle.pls_app.specs.Run.{Certifies, IsAnswered, Tells, TellsPart, Told, TookCertificate}
+
+-- an answer that was told in the end
+pub tells : (words : List (List ℕ)) (bytes : List ℕ) (answer : Answer) (status : Status)
+    (before after : ℕ) (old new : Option (List ℕ)) → IsAnswer words bytes answer
+    → Told answer.status status before after old new answer.text → IsAnswered status
+    → Tells words bytes status old new
+tells words bytes answer status before after old new is told answered = elim told [
+  | inl whole ↦ record { answer = answer; is = is; ends = whole.0; took = whole.1 }
+  | inr part ↦ absurd (rw part.0 at answered)
+]
+
+-- an answer that was told in part
+pub tells_part : (words : List (List ℕ)) (bytes : List ℕ) (answer : Answer) (status : Status)
+    (before after : ℕ) (old new : Option (List ℕ)) → IsAnswer words bytes answer
+    → IsAnswered answer.status
+    → Told answer.status status before after old new answer.text → status ≡ WriteFault
+    → TellsPart words bytes old new
+tells_part words bytes answer status before after old new is answered told fault = elim told [
+  | inl whole ↦ let same : answer.status ≡ WriteFault = cc in absurd (rw same at answered)
+  | inr part ↦ record { answer = answer; is = is; took = part.2 }
+]
+
+-- a run that ends in `Done` was due to
+pub told_done : (due status : Status) (before after : ℕ) (old new : Option (List ℕ)) (text : List ℕ)
+    → Told due status before after old new text → status ≡ Done → due ≡ Done
+told_done due status before after old new text told done = elim told [
+  | inl whole ↦ cc
+  | inr part ↦ absurd (let no : WriteFault ≡ Done = cc in cc)
+]
+
+-- the sink of a run that ends in `Done` took the whole text
+pub took_certificate : (scheme : SchemeName) (bytes text : List ℕ) (due status : Status)
+    (before after : ℕ) (old new : Option (List ℕ)) → Certifies scheme bytes text
+    → Told due status before after old new text → status ≡ Done
+    → TookCertificate scheme bytes old new
+took_certificate scheme bytes text due status before after old new certifies told done = elim told [
+  | inl whole ↦ record { text = text; took = whole.1; certifies = certifies }
+  | inr part ↦ absurd (let other : WriteFault ≡ Done = cc in cc)
+]
+
+-- a run that ends in `No` was due to
+pub told_no : (due status : Status) (before after : ℕ) (old new : Option (List ℕ)) (text : List ℕ)
+    → Told due status before after old new text → status ≡ No → due ≡ No
+told_no due status before after old new text told ends = elim told [
+  | inl whole ↦ cc
+  | inr part ↦ absurd (let other : WriteFault ≡ No = cc in cc)
+]
+
+-- the answer that is handed on is told in the end
+pub tells_viewed : (words : List (List ℕ)) (bytes : List ℕ) (command : Command)
+    (answer shown : Answer) (status : Status) (before after : ℕ) (old new : Option (List ℕ))
+    (text : List ℕ)
+    → Some command ≡ command_of words → Answers command bytes answer → shown ≡ answer
+    → text ≡ shown.text → Told shown.status status before after old new text → IsAnswered status
+    → Tells words bytes status old new
+tells_viewed words bytes command answer shown status before after old new text read answers viewed
+    same told answered =
+    tells words bytes shown status before after old new
+    (command_answer words bytes command shown (sym read)
+    (subst (λ (answer : Answer). Answers command bytes answer) (sym viewed) answers))
+    (subst (λ (text : List ℕ). Told shown.status status before after old new text) same told)
+    answered
+
+-- the answer that is handed on is told in part
+pub tells_part_viewed : (words : List (List ℕ)) (bytes : List ℕ) (command : Command)
+    (answer shown : Answer) (status : Status) (before after : ℕ) (old new : Option (List ℕ))
+    (text : List ℕ)
+    → Some command ≡ command_of words → Answers command bytes answer → IsAnswered answer.status
+    → shown ≡ answer → text ≡ shown.text → Told shown.status status before after old new text
+    → status ≡ WriteFault → TellsPart words bytes old new
+tells_part_viewed words bytes command answer shown status before after old new text read answers
+    ended viewed same told fault =
+    tells_part words bytes shown status before after old new
+    (command_answer words bytes command shown (sym read)
+    (subst (λ (answer : Answer). Answers command bytes answer) (sym viewed) answers))
+    (subst (λ (answer : Answer). IsAnswered answer.status) (sym viewed) ended)
+    (subst (λ (text : List ℕ). Told shown.status status before after old new text) same told)
+    fault
+
+-- a run whose sink was sure of its text ends as was due
+pub told_sure : (words : List (List ℕ)) (bytes : List ℕ) (answer shown : Answer) (status : Status)
+    (sure : ℕ → Type 0) (text : List ℕ) (command : Command) → Some command ≡ command_of words
+    → Answers command bytes answer → shown ≡ answer → text ≡ shown.text
+    → ((answer : Answer) → IsAnswer words bytes answer → sure (length answer.text))
+    → (sure (length text) → status ≡ shown.status) → status ≡ shown.status
+told_sure words bytes answer shown status sure text command read answers viewed same each ends =
+    let is : IsAnswer words bytes shown =
+    command_answer words bytes command shown (sym read)
+    (subst (λ (answer : Answer). Answers command bytes answer) (sym viewed) answers) in
+    ends (subst (λ (text : List ℕ). sure (length text)) (sym same) (each shown is))
+
+-- a run that wrote no answer, although one was due, met a write that failed
+pub told_answered : (due status : Status) (before after : ℕ) (old new : Option (List ℕ))
+    (text : List ℕ) → Told due status before after old new text → IsAnswered due
+    → (Rose before after → ⊥) → IsAnswered status
+told_answered due status before after old new text told answered kept = elim told [
+  | inl whole ↦ subst IsAnswered (sym whole.0) answered
+  | inr part ↦ absurd (kept part.1)
+]

@@ -1,0 +1,28 @@
+//! The numbers by which a text names why an input makes no sense.
+
+/// Identities do not rise.
+pub const ORDER: u8 = 10;
+
+/// A port names its own node.
+pub const SELF_LINK: u8 = 11;
+
+/// A node names a neighbour twice.
+pub const TWICE: u8 = 12;
+
+/// A node names an unknown neighbour.
+pub const UNKNOWN: u8 = 13;
+
+/// A port has no way back.
+pub const ONE_WAY: u8 = 14;
+
+/// The two ports of an edge have two weights.
+pub const WEIGHTS: u8 = 15;
+
+/// A node points at no port of its own.
+pub const POINTER: u8 = 16;
+
+/// The edges do not join all nodes.
+pub const APART: u8 = 17;
+
+/// A line of the labels does not fit the nodes.
+pub const MISFIT: u8 = 20;
