@@ -11,6 +11,13 @@ pub mod Valid
 pub mod Placed
 pub mod Adjacent
 mod Gaining
-mod Beside
+pub mod Beside
 mod Searched
 mod Apart
+mod Parts
+mod Ranged
+mod PortAdded
+mod Ordered
+mod Halved
+mod Agreed
+mod Sized

@@ -5,3 +5,4 @@ pub mod Connected
 pub mod Places
 pub mod Levels
 pub mod Search
+pub mod inner

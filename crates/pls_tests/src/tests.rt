@@ -3,6 +3,7 @@
 mod base;
 mod bits;
 mod colours;
+mod graph;
 mod pointers;
 mod refusals;
 mod small;

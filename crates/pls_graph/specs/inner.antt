@@ -1,0 +1,4 @@
+pub mod Ranges
+pub mod Placed
+pub mod Seeking
+pub mod Sound
