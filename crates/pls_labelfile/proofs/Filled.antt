@@ -1,14 +1,17 @@
 -- How a store is filled from a text, node by node.
-use Rattle.std.proofs.Common.{◌≡◌, ◌≢◌, ℕ, ◌+◌, ◌<◌, ◌≤◌, Bool, List, [], ◌∷◌, ◌++◌, map, length, Some, None, replicate, refl, sym, ◌∙◌, ap, append_assoc, append-nil, length-append, arith}
+use Rattle.std.proofs.Common.{◌≡◌, ◌≢◌, ℕ, ◌+◌, ◌*◌, ◌<◌, ◌≤◌, Bool, List, [], ◌∷◌, ◌++◌, map, length, Some, None, replicate, refl, sym, ◌∙◌, ap, append_assoc, append-nil, length-append, arith}
 use Rattle.std.specs.List.{slice_get, slice_set}
 use Rattle.std.specs.Option.{option_map}
 use Rattle.std.proofs.Math.Seq.{set-append_seam}
 use Rattle.std.proofs.lemmas.List.{map_push, length-map}
+use Rattle.std.proofs.lemmas.List.Sums.{sum_by-cons}
 use Rattle.std.proofs.lemmas.Option.{slice_get-map}
 use Rattle.pls_model.specs.declared.row.NodeRow.{NodeRow}
 use Rattle.pls_model.specs.Configuration.{ids_of}
 use Rattle.pls_lines.specs.ListPart.{NextItem, Remains}
 use Rattle.pls_labelfile.specs.LabelsText.{NamedLabel, FitsLabel, label_line}
+use Rattle.pls_view.specs.Stored.{cost}
+use Rattle.pls_labelfile.specs.LabelsScan.{total_bits}
 use Rattle.pls_labelfile.specs.Misfit.{misfit}
 use Rattle.pls_labelfile.proofs.Misfits.{names_of, misfit-append, misfit-first}
 
@@ -17,9 +20,9 @@ abbrev pub bare : List NamedLabel → List (List Bool)
 bare labels = map (λ label. label.bits) labels
 
 -- so many of the labels were read and name the first nodes; the text says the others, and the store
--- has the bits of those that were read
+-- has the bits of those that were read and room for the others, each in words of its own
 pub record Filled (ids : List ℕ) (labels : List NamedLabel) (rest : List ℕ)
-    (store : List (List Bool)) (count : ℕ) : Type 0 where
+    (store : List (List Bool)) (count spare : ℕ) : Type 0 where
   pub read : List NamedLabel
   pub more : List NamedLabel
   pub parts : labels ≡ read ++ more
@@ -28,12 +31,14 @@ pub record Filled (ids : List ℕ) (labels : List NamedLabel) (rest : List ℕ)
   pub names : ids ≡ names_of read ++ left
   pub many : count ≡ length read
   pub filled : store ≡ bare read ++ replicate (length left) []
+  pub room : total_bits more + 64 * length left ≤ spare
 
 -- nothing was read yet
 pub nothing_read : (rows : List NodeRow) (text : List ℕ) (store : List (List Bool))
-    → store ≡ replicate (length rows) [] → (labels : List NamedLabel)
-    → Remains FitsLabel label_line text labels → Filled (ids_of rows) labels text store 0
-nothing_read rows text store blank labels remains = record {
+    → store ≡ replicate (length rows) [] → (spare : ℕ) → (labels : List NamedLabel)
+    → total_bits labels + 64 * length rows ≤ spare
+    → Remains FitsLabel label_line text labels → Filled (ids_of rows) labels text store 0 spare
+nothing_read rows text store blank spare labels room remains = record {
   read = [];
   more = labels;
   parts = refl;
@@ -42,6 +47,7 @@ nothing_read rows text store blank labels remains = record {
   names = refl;
   many = refl;
   filled = blank ∙ ap (λ (n : ℕ). replicate n []) (sym (length-map rows (λ row. row.id)));
+  room = omega (arith, room, length-map rows (λ row. row.id));
 }
 
 -- none is left
@@ -69,11 +75,11 @@ seam (y ∷ a) left id e = seam a left id e
 
 -- the node at the place is the first of those that are left
 pub first_left : (rows : List NodeRow) (labels : List NamedLabel) (rest : List ℕ)
-    (store : List (List Bool)) (place id : ℕ)
-    → (f : Filled (ids_of rows) labels rest store place)
+    (store : List (List Bool)) (place spare id : ℕ)
+    → (f : Filled (ids_of rows) labels rest store place spare)
     → option_map (λ row. row.id) (slice_get rows place) ≡ Some id
     → FirstLeft f.left id
-first_left rows labels rest store place id f at =
+first_left rows labels rest store place spare id f at =
     let ids_at : slice_get (ids_of rows) place ≡ Some id =
     slice_get-map (λ (row : NodeRow). row.id) rows place ∙ at in
     let count : place ≡ length (names_of f.read) =
@@ -84,9 +90,9 @@ first_left rows labels rest store place id f at =
 
 -- how many nodes are left
 left_count : (rows : List NodeRow) (labels : List NamedLabel) (rest : List ℕ)
-    (store : List (List Bool)) (count : ℕ)
-    → (f : Filled (ids_of rows) labels rest store count) → length rows ≡ count + length f.left
-left_count rows labels rest store count f =
+    (store : List (List Bool)) (count spare : ℕ)
+    → (f : Filled (ids_of rows) labels rest store count spare) → length rows ≡ count + length f.left
+left_count rows labels rest store count spare f =
     omega (
       arith,
       f.many,
@@ -113,7 +119,8 @@ misfit-none_left (id ∷ left) none = absurd (omega arith)
 -- ---- where the reading stops
 
 module _ (rows : List NodeRow) (labels : List NamedLabel) (rest : List ℕ)
-    (store : List (List Bool)) (count : ℕ) (f : Filled (ids_of rows) labels rest store count) where
+    (store : List (List Bool)) (count spare : ℕ)
+    (f : Filled (ids_of rows) labels rest store count spare) where
   -- the labels of the text, by those left
   decided : misfit (ids_of rows) labels ≡ option_map (λ p. p + count) (misfit f.left f.more)
   decided = rw (f.parts, f.names, misfit-append f.read f.more f.left, f.many) refl
@@ -129,14 +136,14 @@ module _ (rows : List NodeRow) (labels : List NamedLabel) (rest : List ℕ)
       → Some count ≡ misfit (ids_of rows) labels
   end_too_early within end =
       stops (ap (misfit f.left) (end f.more f.remains) ∙ misfit-nodes_left f.left
-      (omega (arith, left_count rows labels rest store count f)))
+      (omega (arith, left_count rows labels rest store count spare f)))
 
   -- the next label names another node
   pub other_node : (after : List ℕ) (id : ℕ) (label : NamedLabel)
       → option_map (λ row. row.id) (slice_get rows count) ≡ Some id
       → IsNext rest label after → label.id ≢ id → Some count ≡ misfit (ids_of rows) labels
   other_node after id label at is_next other =
-      let first = first_left rows labels rest store count id f at in
+      let first = first_left rows labels rest store count spare id f at in
       let next = is_next f.more f.remains in
       stops (ap (λ (ids : List ℕ). misfit ids f.more) first.is
       ∙ ap (misfit (id ∷ first.others)) next.are
@@ -147,13 +154,13 @@ module _ (rows : List NodeRow) (labels : List NamedLabel) (rest : List ℕ)
       → IsNext rest label after → Some count ≡ misfit (ids_of rows) labels
   label_too_many after label all is_next =
       let next = is_next f.more f.remains in
-      let none : length f.left ≡ 0 = omega (arith, left_count rows labels rest store count f) in
+      let none : length f.left ≡ 0 = omega (arith, left_count rows labels rest store count spare f) in
       stops (ap (misfit f.left) next.are ∙ misfit-labels_left f.left label next.more none)
 
   -- all labels were read, one for each node
   pub none_misfits : length rows ≤ count → NoneLeft rest → None ≡ misfit (ids_of rows) labels
   none_misfits all end =
-      let none : length f.left ≡ 0 = omega (arith, left_count rows labels rest store count f) in
+      let none : length f.left ≡ 0 = omega (arith, left_count rows labels rest store count spare f) in
       sym (decided ∙ ap (option_map (λ p. p + count))
       (ap (misfit f.left) (end f.more f.remains) ∙ misfit-none_left f.left none))
 
@@ -161,18 +168,20 @@ module _ (rows : List NodeRow) (labels : List NamedLabel) (rest : List ℕ)
   pub all_filled : length rows ≤ count → NoneLeft rest → store ≡ bare labels
   all_filled all end =
       let more = end f.more f.remains in
-      let none : length f.left ≡ 0 = omega (arith, left_count rows labels rest store count f) in
+      let none : length f.left ≡ 0 = omega (arith, left_count rows labels rest store count spare f) in
       f.filled ∙ ap (λ (n : ℕ). bare f.read ++ replicate n []) none ∙ append-nil (bare f.read)
       ∙ ap bare (sym (f.parts ∙ ap (λ (ls : List NamedLabel). f.read ++ ls) more
       ∙ append-nil f.read))
 
   -- the next label names the node at the place, and its bits were put there
-  pub one_filled_more : (after : List ℕ) (now : List (List Bool)) (id : ℕ) (label : NamedLabel)
+  pub one_filled_more : (after : List ℕ) (now : List (List Bool)) (left_spare id : ℕ)
+      (label : NamedLabel)
       → option_map (λ row. row.id) (slice_get rows count) ≡ Some id
       → IsNext rest label after → label.id ≡ id → now ≡ slice_set store count label.bits
-      → Filled (ids_of rows) labels after now (count + 1)
-  one_filled_more after now id label at is_next same set =
-      let first = first_left rows labels rest store count id f at in
+      → left_spare + cost (length label.bits) ≡ spare
+      → Filled (ids_of rows) labels after now (count + 1) left_spare
+  one_filled_more after now left_spare id label at is_next same set costs =
+      let first = first_left rows labels rest store count spare id f at in
       let next = is_next f.more f.remains in
       let seam : count ≡ length (bare f.read) =
       f.many ∙ sym (length-map f.read (λ label. label.bits)) in
@@ -199,4 +208,27 @@ module _ (rows : List NodeRow) (labels : List NamedLabel) (rest : List ℕ)
             (replicate (length first.others) []))
             ∙ ap (λ (s : List (List Bool)). s ++ replicate (length first.others) [])
             (sym (map_push (λ (label : NamedLabel). label.bits) f.read label));
+        room = omega (
+          arith,
+          f.room,
+          costs,
+          ap total_bits next.are,
+          sum_by-cons (λ (label : NamedLabel). length label.bits) label next.more,
+          ap length first.is,
+        );
       }
+
+  -- and there is room for them
+  pub room_for : (after : List ℕ) (id : ℕ) (label : NamedLabel)
+      → option_map (λ row. row.id) (slice_get rows count) ≡ Some id
+      → IsNext rest label after → cost (length label.bits) ≤ spare
+  room_for after id label at is_next =
+      let first = first_left rows labels rest store count spare id f at in
+      let next = is_next f.more f.remains in
+      omega (
+        arith,
+        f.room,
+        ap total_bits next.are,
+        sum_by-cons (λ (label : NamedLabel). length label.bits) label next.more,
+        ap length first.is,
+      )

@@ -1,45 +1,13 @@
 -- Hex words, and the digits that they are.
-use Rattle.std.proofs.Common.{◌≡◌, ◌≢◌, ℕ, ◌*◌, Bool, false, List, [], ◌∷◌, length, Ok, Err, refl, sym, ◌∙◌, ap}
+use Rattle.std.proofs.Common.{◌≡◌, ◌≢◌, ℕ, Bool, List, [], ◌∷◌, length, Ok, Err, refl, sym, ◌∙◌, ap, arith}
 use Rattle.std.specs.Prelude.{Result}
-use Rattle.std.specs.Result.{IsErrOf}
-use Rattle.std.specs.List.{list_all}
-use Rattle.pls_bits.specs.Bytes.{byte_count}
-use Rattle.pls_bits.specs.Hex.{HasSpareBit, Spells, hex_digits, is_lower_digit}
-use Rattle.pls_bits.specs.declared.hex_error.HexError.{HexError}
-use Rattle.pls_bits.specs.declared.hex_error.HexError.TheVariants.{Length, Digit, Spare, NoMemory}
+use Rattle.pls_bits.specs.Hex.{Spells, hex_digits}
 use Rattle.pls_bits.specs.Bytes.{bits_in}
 use Rattle.hex.specs.Hex.{decode_of}
 use Rattle.hex.specs.declared.error.FromHexError.{FromHexError}
-use Rattle.pls_bits.proofs.Text.{Spells-length, Spells-lower, Spells-clean, decoded_bits, decoded_never_fails}
+use Rattle.pls_bits.proofs.Text.{decoded_bits, decoded_never_fails, length-hex_digits}
 use Rattle.pls_labelfile.specs.inner.HexWord.{IsHexWord, bits_read, word_bits}
 use Rattle.pls_labelfile.specs.LabelsText.{hex_word}
-
--- the word for some bit is its digits
-pub word_spells : (len : ℕ) (word : List ℕ) → IsHexWord len word → len ≢ 0 → Spells len word
-word_spells len word hex some = by hex.bits hex.long hex.is
-  where
-    by : (bits : List Bool) → length bits ≡ len → hex_word bits ≡ word → Spells len word
-    by [] long is = absurd (some (sym long))
-    by (bit ∷ bits) long is = record { bits = bit ∷ bits; long = long; written = is }
-
--- digits of bits are refused for want of memory alone
-pub only_memory : (len : ℕ) (digits : List ℕ) (result : Result (List Bool) HexError)
-    (error : HexError) → Spells len digits
-    → result ≡ Err error → (IsErrOf result Length → length digits ≢ 2 * byte_count len)
-    → (IsErrOf result Digit
-    → (length digits ≡ 2 * byte_count len) × (list_all is_lower_digit digits ≡ false))
-    → (IsErrOf result Spare → HasSpareBit len digits) → error ≡ NoMemory
-only_memory len digits result Length spells is size digit spare =
-    absurd (size is (Spells-length len digits spells))
-only_memory len digits result Digit spells is size digit spare =
-    let lower = Spells-lower len digits spells in
-    let other = (digit is).1 in
-    cc
-only_memory len digits result Spare spells is size digit spare =
-    absurd (Spells-clean len digits spells (spare is))
-only_memory len digits result NoMemory spells is size digit spare = refl
-
--- ---- the bits of a word
 
 -- no bit is read of any bytes
 none_read : (read : Result (List ℕ) FromHexError) → bits_read 0 read ≡ []
@@ -75,16 +43,29 @@ pub word_is : (len : ℕ) (word : List ℕ) → IsHexWord len word → hex_word 
 word_is len word hex = ap hex_word (bits_of_hex len word hex) ∙ hex.is
 
 -- no bits are those of a word for none
-pub no_bits : (len : ℕ) (word : List ℕ) → IsHexWord len word → len ≡ 0 → [] ≡ word_bits len word
+no_bits : (len : ℕ) (word : List ℕ) → IsHexWord len word → len ≡ 0 → [] ≡ word_bits len word
 no_bits len word hex none = by (word_bits len word) (bits_long len word hex ∙ none)
   where
     by : (bits : List Bool) → length bits ≡ 0 → [] ≡ bits
     by [] long = refl
     by (bit ∷ bits) long = absurd (cc)
 
--- and some bits those of their digits
-pub some_bits : (len : ℕ) (digits : List ℕ) (bits : List Bool) → len ≢ 0 → length bits ≡ len
-    → hex_digits bits ≡ digits → bits ≡ word_bits len digits
-some_bits len digits [] some long is = absurd (some (sym long))
-some_bits len digits (bit ∷ bits) some long is =
-    sym (bits_of_hex len digits (record { bits = bit ∷ bits; long = long; is = is }))
+-- no bits have no digits
+no_digits : (digits : List ℕ) → length digits ≡ 0 → digits ≡ []
+no_digits [] none = refl
+no_digits (digit ∷ digits) none = absurd (omega arith)
+
+pub digits_of_none : (len : ℕ) (word : List ℕ) → IsHexWord len word → len ≡ 0
+    → hex_digits (word_bits len word) ≡ []
+digits_of_none len word hex none =
+    ap hex_digits (sym (no_bits len word hex none)) ∙ no_digits (hex_digits []) (length-hex_digits [])
+
+-- and some bits those of their word
+pub digits_of_some : (len : ℕ) (word : List ℕ) → IsHexWord len word → len ≢ 0
+    → hex_digits (word_bits len word) ≡ word
+digits_of_some len word hex some =
+    by (word_bits len word) (bits_long len word hex) (word_is len word hex)
+  where
+    by : (bits : List Bool) → length bits ≡ len → hex_word bits ≡ word → hex_digits bits ≡ word
+    by [] long is = absurd (some (sym long))
+    by (bit ∷ bits) long is = is

@@ -1,10 +1,10 @@
 -- The labels part: it tells where it ends, and its text fixes its labels.
-use Rattle.std.proofs.Common.{◌≡◌, ℕ, List, [], ◌++◌, codes, sym, ◌∙◌, append-nil}
+use Rattle.std.proofs.Common.{◌≡◌, ℕ, List, [], ◌∷◌, ◌++◌, codes, sym, ◌∙◌, ap, append-nil}
 use Rattle.std.specs.List.{All}
 use Rattle.pls_lines.specs.LineKind.{Always, alone}
 use Rattle.pls_lines.specs.Lines.{Left}
 use Rattle.pls_lines.specs.Part.{IsPart}
-use Rattle.pls_lines.specs.ListPart.{PassesList, TellsItems}
+use Rattle.pls_lines.specs.ListPart.{PassesList, Remains, TellsItems}
 use Rattle.pls_lines.specs.laws.ListLaws.{is_list_part}
 use Rattle.pls_lines.proofs.ListRead.{one_list}
 use Rattle.pls_labelfile.specs.LabelsText.{NamedLabel, FitsLabel, AreLabels, IsLabelsPart, label_line, labels_lines, labels_text}
@@ -61,3 +61,11 @@ part_passed old new at heading tally part =
       heading = part.number;
       sum = λ i. (counted i).bits;
     }
+
+-- what a text says behind its heading is told by it
+pub one_remains : (text : List ℕ) (a b : List NamedLabel) → Remains FitsLabel label_line text a
+    → Remains FitsLabel label_line text b → a ≡ b
+one_remains text a b p q =
+    one_told (codes "labels" ++ 10 ∷ text) a b
+    (record { fits = p.fits; is = ap (λ (rest : List ℕ). codes "labels" ++ 10 ∷ rest) p.is })
+    (record { fits = q.fits; is = ap (λ (rest : List ℕ). codes "labels" ++ 10 ∷ rest) q.is })

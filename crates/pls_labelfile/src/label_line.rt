@@ -1,16 +1,17 @@
 //! The line of a label.
 
-ghost use Rattle.std.specs.Prelude.{◌≡◌, ◌≢◌, ◌≤◌, ◌<◌, ◌^◌, ◌↔◌, ◌∷◌, ◌++◌, ℕ, List, length, IfNone, IfOk, IfSome, IsTrue};
+ghost use Rattle.std.specs.Prelude.{◌≡◌, ◌≢◌, ◌≤◌, ◌<◌, ◌+◌, ◌^◌, ◌↔◌, ◌∷◌, ◌++◌, ℕ, List, length, slice_set, IfNone, IfSome, IsTrue};
 ghost use Rattle.pls_lines.specs.LineKind.{Says};
 ghost use Rattle.pls_lines.specs.Lines.{Stands};
+ghost use Rattle.pls_bits.specs.Hex.{hex_digits};
+ghost use Rattle.pls_view.specs.Stored.{cost};
 ghost use Rattle.pls_labelfile.specs.LabelsText.{FitsLabel, NamedLabel, label_line, label_of_words};
-ghost use Rattle.pls_labelfile.specs.inner.HexWord.{IsHexWord, SaysLabels, word_bits, word_length};
+ghost use Rattle.pls_labelfile.specs.inner.HexWord.{IsHexWord, SaysLabels, word_length};
 
 use crate::limits::MAX_BITS;
-use pls_base::NoMemory;
-use pls_bits::{BitBuf, HexError, from_hex, spells_bits};
+use pls_bits::spells_bits;
 use pls_lines::{LineKind, after_word, bytes_before, is_same, number_before, u32_before};
-use std::alloc::Global;
+use pls_view::LabelRoom;
 use std::marker::Model;
 
 /// What a line `label ID LEN HEX` says, seen as the label. The word for its bits is lent.
@@ -67,11 +68,22 @@ impl<'a> LabelLine<'a> {
         self.len
     }
 
-    /// The bits of the label.
-    pub fn bits(&self, alloc: Global) -> Result<BitBuf, NoMemory>
-        ensures { IfOk result (λ bits. bits ≡ self.now.bits) }
+    // Puts the bits of the label at a place of a store with room for them. Its digits were tested
+    // when the line was read, and are not tested again.
+    pub(crate) fn put_into(&self, room: &mut LabelRoom, place: usize)
+        requires within { place < length room.old.labels }
+        requires room { cost (length self.now.bits) ≤ room.old.spare }
+        ensures replaced { room.new.labels ≡ slice_set room.old.labels place self.now.bits }
+        ensures spare { room.new.spare + cost (length self.now.bits) ≡ room.old.spare }
     {
-        bits_of(alloc, self.len, self.hex)
+        room.replace_spare_hex(place, self.len(), self.digits());
+    }
+
+    // The hex digits of the bits, none where there is no bit.
+    fn digits(&self) -> &'a [u8]
+        ensures { hex_digits self.now.bits ≡ result.now }
+    {
+        if self.len == 0 { b"" } else { self.hex }
     }
 
     // What `read` answers, for a text of labels that was read before: its digits are not tested.
@@ -83,23 +95,6 @@ impl<'a> LabelLine<'a> {
     {
         let (id, len, hex, rest) = label_words(text)?;
         Some((LabelLine { id, len, hex }, rest))
-    }
-}
-
-// The bits of a word.
-fn bits_of(alloc: Global, len: usize, hex: &[u8]) -> Result<BitBuf, NoMemory>
-    requires { IsHexWord len hex.now }
-    ensures { IfOk result (λ bits. bits ≡ word_bits len hex.now) }
-{
-    if len == 0 {
-        return Ok(BitBuf::new(alloc));
-    }
-    match from_hex(alloc, len, hex) {
-        Ok(bits) => Ok(bits),
-        Err(error) => {
-            prove!(error == HexError::NoMemory);
-            Err(NoMemory)
-        }
     }
 }
 

@@ -1,11 +1,11 @@
 //! The labels that a text says, for the nodes of a network.
 
-ghost use Rattle.std.specs.Prelude.{◌≡◌, ◌+◌, ◌<◌, ◌≤◌, List, [], map, length, replicate, None, IfErr, IfNone, IfOk, IfSome, OnOk};
+ghost use Rattle.std.specs.Prelude.{◌≡◌, ◌+◌, ◌*◌, ◌<◌, ◌≤◌, List, [], map, length, replicate, None, IfErr, IfNone, IfOk, IfSome, OnOk};
 ghost use Rattle.pls_model.specs.Configuration.{ids_of};
 ghost use Rattle.pls_model.specs.declared.limits.TheConstants.{MAX_NODES};
 ghost use Rattle.pls_lines.specs.ListPart.{NextItem, Remains};
 ghost use Rattle.pls_labelfile.specs.LabelsText.{FitsLabel, NamedLabel, label_line};
-ghost use Rattle.pls_labelfile.specs.LabelsScan.{TellsLabels};
+ghost use Rattle.pls_labelfile.specs.LabelsScan.{TellsLabels, total_bits};
 ghost use Rattle.pls_labelfile.specs.Misfit.{misfit};
 ghost use Rattle.pls_labelfile.specs.Refusal.{IsLabelsRefusal, labels_refusal};
 ghost use Rattle.pls_labelfile.specs.inner.HexWord.{SaysLabels};
@@ -13,10 +13,10 @@ ghost use Rattle.pls_labelfile.specs.inner.HexWord.{SaysLabels};
 use crate::label_line::LabelLine;
 use crate::labels_text::LabelsText;
 use crate::limits::{MAX_BITS, MISFIT};
-use pls_base::{NoMemory, Quantity, TextError};
+use pls_base::{Quantity, TextError};
 use pls_graph::Network;
 use pls_lines::Lines;
-use pls_view::LabelStore;
+use pls_view::{LabelRoom, LabelStore};
 use std::alloc::Global;
 
 impl<'a> LabelsText<'a> {
@@ -40,8 +40,10 @@ impl<'a> LabelsText<'a> {
             return Err(TextError::Limit(Quantity::Bits));
         }
         let mut store = LabelStore::blank(alloc, net.len())?;
+        let room = store.with_room();
+        room.reserve(self.part.kept.bits + 64 * net.len() as u64)?;
         let mut lines = self.behind_heading();
-        match fill(alloc, net, &mut lines, &mut store)? {
+        match fill(net, &mut lines, room) {
             Some(place) => Err(TextError::Sense {
                 number: MISFIT,
                 place: self.number_of(place),
@@ -69,36 +71,31 @@ impl<'a> LabelsText<'a> {
 }
 
 // Puts the labels whose lines stand next into the store, node by node, up to the first that does
-// not fit, and answers the place of that; `None` where all fit.
-fn fill(
-    alloc: Global,
-    net: &Network,
-    lines: &mut Lines<'_>,
-    store: &mut LabelStore,
-) -> Result<Option<usize>, NoMemory>
+// not fit, and answers the place of that; `None` where all fit. It takes no memory.
+fn fill(net: &Network, lines: &mut Lines<'_>, room: &mut LabelRoom) -> Option<usize>
     requires said { SaysLabels lines.old.rest }
-    requires blank { store.old ≡ replicate (length net.now) [] }
-    ensures misfit { IfOk result (λ place. (labels : List NamedLabel)
+    requires blank { room.old.labels ≡ replicate (length net.now) [] }
+    requires room { (labels : List NamedLabel) → Remains FitsLabel label_line lines.old.rest labels
+        → total_bits labels + 64 * length net.now ≤ room.old.spare }
+    ensures misfit { (labels : List NamedLabel) → Remains FitsLabel label_line lines.old.rest labels
+        → result ≡ misfit (ids_of net.now) labels }
+    ensures filled { IfNone result ((labels : List NamedLabel)
         → Remains FitsLabel label_line lines.old.rest labels
-        → place ≡ misfit (ids_of net.now) labels) }
-    ensures filled { IfOk result (λ place. IfNone place ((labels : List NamedLabel)
-        → Remains FitsLabel label_line lines.old.rest labels
-        → store.new ≡ map (λ label. label.bits) labels)) }
-    ensures within { IfOk result (λ place. IfSome place (λ at. at ≤ MAX_NODES)) }
+        → room.new.labels ≡ map (λ label. label.bits) labels) }
+    ensures within { IfSome result (λ at. at ≤ MAX_NODES) }
 {
     for place in 0..net.len() {
-        let Some(line) = next_label(lines) else {
-            return Ok(Some(place));
+        let Some(label) = next_label(lines) else {
+            return Some(place);
         };
-        if line.id() != net.node(place).0 {
-            return Ok(Some(place));
+        if label.id() != net.node(place).0 {
+            return Some(place);
         }
-        let bits = line.bits(alloc)?;
-        store.replace(place, &bits)?;
+        label.put_into(room, place);
     }
     match next_label(lines) {
-        Some(_) => Ok(Some(net.len())),
-        None => Ok(None),
+        Some(_) => Some(net.len()),
+        None => None,
     }
 }
 

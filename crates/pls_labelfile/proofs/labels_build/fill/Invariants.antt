@@ -8,8 +8,8 @@ use Rattle.pls_labelfile.proofs.labels_build.fill.Given as goal
 
 abbrev pub invariant-loop-place : goal.invariant-loop-place
 invariant-loop-place l = record {
-  long : length l.store ≡ length l.net;
+  long : length l.room.labels ≡ length l.net;
   filled : (labels : List NamedLabel) → Remains FitsLabel label_line l.fn.lines.rest labels
-      → Filled (ids_of l.net) labels l.lines.rest l.store l.place;
+      → Filled (ids_of l.net) labels l.lines.rest l.room.labels l.place l.room.spare;
   said : SaysLabels l.lines.rest;
 }
