@@ -1,5 +1,5 @@
 -- Labels that `mark` wrote are accepted by `verify`.
-use Rattle.std.proofs.Common.{◌≡◌, ℕ, ◌-◌, ◌*◌, ◌^◌, ◌≤◌, ◌<◌, nat_le, le-leb, if◌then◌else◌, Bool, true, false, List, [], ◌∷◌, ◌++◌, length, All, Option, Some, option_map, ap, subst, refl, sym, arith}
+use Rattle.std.proofs.Common.{◌≡◌, ℕ, ◌*◌, ◌^◌, ◌≤◌, ◌<◌, Bool, List, [], ◌∷◌, ◌++◌, length, All, Some, option_map, ap, subst, refl, sym, arith}
 use Rattle.std.proofs.lemmas.List.Elements.{All-head, All-map, All-tail}
 use Rattle.std.proofs.lemmas.List.Sums.{sum_by-cons}
 use Rattle.pls_model.specs.declared.row.NodeRow.{NodeRow}
@@ -65,7 +65,7 @@ short_labels : (scheme : SchemeName) (rows : List NodeRow) (labels : List (List 
     → All (λ label. length label ≤ 8192) labels
 short_labels scheme rows labels readable short =
     let bound = short_bound scheme (size_of rows)
-        (omega (arith, readable.network.limits.few_nodes)) (omega (arith, small_ids rows readable)) in
+    (omega (arith, readable.network.limits.few_nodes)) (omega (arith, small_ids rows readable)) in
     λ place other within. omega (arith, short place other within, bound)
 
 -- the words of a scheme's `verify` are that command

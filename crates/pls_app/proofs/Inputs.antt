@@ -1,5 +1,5 @@
 -- What is scanned of an input, and what an input is.
-use Rattle.std.proofs.Common.{◌≡◌, ◌≢◌, ◌∙◌, ℕ, ◌≤◌, ◌<◌, ◌^◌, Bool, true, false, List, [], ◌∷◌, ◌++◌, map, length, nat_lt, All, Contains, Option, Some, None, IsSome, if◌then◌else◌, option_map, ap, subst, refl, sym, arith}
+use Rattle.std.proofs.Common.{◌≡◌, ◌≢◌, ◌∙◌, ℕ, ◌≤◌, ◌<◌, Bool, true, false, List, [], ◌∷◌, ◌++◌, map, length, nat_lt, All, Contains, Option, Some, None, IsSome, if◌then◌else◌, option_map, ap, subst, refl, sym, arith}
 use Rattle.std.proofs.lemmas.Bool.Decides.{nat_tests}
 use Rattle.std.proofs.lemmas.List.{append-nil, length-map}
 use Rattle.pls_base.specs.declared.text_error.TextError.{TextError}
@@ -56,7 +56,7 @@ few_bits ids heading labels accepted = by (nat_lt (MAX_BITS) (total_bits labels)
     by false is accepted = grind (arith, nat_tests)
 
 -- an option that has something
-some_of : {X : Type 0} (found : Option X) → IsSome found → (x : X) × (found ≡ Some x)
+pub some_of : {X : Type 0} (found : Option X) → IsSome found → (x : X) × (found ≡ Some x)
 some_of None some = absurd (cc)
 some_of (Some x) some = (x, refl)
 

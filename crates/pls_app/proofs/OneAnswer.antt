@@ -1,5 +1,5 @@
 -- Words and bytes have one answer.
-use Rattle.std.proofs.Common.{◌≡◌, ◌∙◌, ℕ, ◌≤◌, Bool, List, [], ◌++◌, length, All, Option, Some, None, IfSome, IsSome, inl, inr, ap, subst, refl, sym, arith}
+use Rattle.std.proofs.Common.{◌≡◌, ◌∙◌, ℕ, Bool, List, [], ◌++◌, All, Option, Some, None, IfSome, inl, inr, ap, subst, refl, sym, arith}
 use Rattle.std.proofs.lemmas.List.{append-nil}
 use Rattle.pls_base.specs.declared.refusal_number.TheConstants.{APART}
 use Rattle.pls_base.specs.declared.text_error.TextError.{TextError}
@@ -7,21 +7,19 @@ use Rattle.pls_base.specs.declared.text_error.TextError.TheVariants.{Form, Sense
 use Rattle.pls_model.specs.declared.row.NodeRow.{NodeRow}
 use Rattle.pls_model.specs.Configuration.{first_of, ids_of}
 use Rattle.pls_lines.specs.Fault.{NamesFirstFault}
-use Rattle.pls_lines.specs.Text.{text_of}
 use Rattle.pls_lines.specs.laws.Fronts.{text_of-append}
 use Rattle.pls_lines.proofs.WholeTexts.{one_first_fault}
-use Rattle.pls_netfile.specs.NetworkText.{AreRows, network_lines, network_text}
+use Rattle.pls_netfile.specs.NetworkText.{network_lines, network_text}
 use Rattle.pls_netfile.specs.laws.NetworkRows.{one_network, rows_are_part}
-use Rattle.pls_labelfile.specs.LabelsText.{FitsLabel, NamedLabel, labels_lines, labels_text, named}
+use Rattle.pls_labelfile.specs.LabelsText.{FitsLabel, NamedLabel, labels_lines, named}
 use Rattle.pls_labelfile.proofs.LabelsPart.{is_labels_part, one_labels}
 use Rattle.pls_combine.specs.declared.scheme_name.SchemeName.{SchemeName}
 use Rattle.pls_combine.specs.laws.NamedLaws.{named_marked_once}
 use Rattle.pls_app.specs.declared.command.Command.{Command}
 use Rattle.pls_app.specs.declared.command.Command.TheVariants.{Mark, Verify}
-use Rattle.pls_app.specs.declared.limits.TheConstants.{MAX_INPUT}
 use Rattle.pls_app.specs.Command.{command_of}
-use Rattle.pls_app.specs.Input.{IsInput, IsInputOf, IsNetworkInput, IsReadable}
-use Rattle.pls_app.specs.Order.{AreWritten, HasForm, IsApart, IsFirstRefusal, IsRefused, IsRefusedText, Parts, Reads, RefusesParts, parts_text, refusals_in, text_behind}
+use Rattle.pls_app.specs.Input.{IsInputOf, IsReadable}
+use Rattle.pls_app.specs.Order.{AreWritten, HasForm, IsApart, IsFirstRefusal, IsRefused, IsRefusedText, Parts, Reads, parts_text, refusals_in, text_behind}
 use Rattle.pls_app.specs.Answer.{Answer, Answers, AnswersWords, IsAnswer, Marks, Works, labelled, refusal}
 use Rattle.pls_app.proofs.Inputs.{apart_from, input_readable, input_short, one_apart, one_input, one_network_input, parts_fit, some_of}
 use Rattle.pls_app.proofs.Refused.{labelled_unrefused, network_unrefused}
@@ -90,9 +88,9 @@ one_parts : (command : Command) (one other : Parts) → Reads command one → Re
     → AreWritten one → AreWritten other → parts_text one ≡ parts_text other → one ≡ other
 one_parts command one other reads read fits fit same =
     let first = one_network one.rows other.rows (text_behind one.labels) (text_behind other.labels)
-        fits.rows fit.rows same in
+    fits.rows fit.rows same in
     let labels = one_behind command one.rows other.rows one.labels other.labels reads read
-        fits.labels fit.labels first.1 in
+    fits.labels fit.labels first.1 in
     ap (λ (rows : List NodeRow). record { rows = rows; labels = one.labels }) first.0
     ∙ ap (λ (labels : Option (List NamedLabel)). record { rows = other.rows; labels = labels }) labels
 
@@ -110,7 +108,7 @@ one_text_refusal command bytes error other one two = elim one [
     | inl form ↦ absurd (formed command bytes parts.parts other parts.reads parts.fits parts.is form)
     | inr too ↦
         let same = one_parts command too.parts parts.parts too.reads parts.reads too.fits parts.fits
-            (sym too.is ∙ parts.is) in
+        (sym too.is ∙ parts.is) in
         one_first parts.parts error other parts.first
         (subst (λ (parts : Parts). IsFirstRefusal parts other) same too.first)
   ]
@@ -175,7 +173,7 @@ text_kept command bytes error refused read =
       | inl form ↦ formed command bytes input.parts error input.reads input.fits input.is form
       | inr parts ↦
           let same = one_parts command parts.parts input.parts parts.reads input.reads parts.fits
-              input.fits (sym parts.is ∙ input.is) in
+          input.fits (sym parts.is ∙ input.is) in
           let first : IsFirstRefusal input.parts error =
           subst (λ (parts : Parts). IsFirstRefusal parts error) same parts.first in
           elim first [

@@ -1,5 +1,5 @@
 -- Which refusal an input gets.
-use Rattle.std.proofs.Common.{◌≡◌, ◌≢◌, ◌∙◌, ℕ, ◌≤◌, ◌<◌, ◌^◌, ◌⊎◌, Bool, true, false, List, [], ◌∷◌, ◌++◌, length, nat_lt, All, Option, Some, None, IfSome, if◌then◌else◌, option_map, option_and_then, inl, inr, ap, subst, refl, sym, arith}
+use Rattle.std.proofs.Common.{◌≡◌, ◌≢◌, ◌∙◌, ℕ, ◌≤◌, ◌<◌, Bool, true, false, List, [], ◌∷◌, ◌++◌, length, nat_lt, All, Option, Some, None, IfSome, if◌then◌else◌, option_map, option_and_then, inl, inr, ap, subst, refl, sym, arith}
 use Rattle.std.proofs.lemmas.Bool.Decides.{nat_tests}
 use Rattle.std.proofs.lemmas.List.{length-map}
 use Rattle.pls_base.specs.declared.text_error.TextError.{TextError}
@@ -19,7 +19,7 @@ use Rattle.pls_labelfile.specs.declared.limits.TheConstants.{MAX_BITS}
 use Rattle.pls_labelfile.proofs.Named.{named_no_misfit, total_bits-named}
 use Rattle.pls_app.specs.declared.command.Command.{Command}
 use Rattle.pls_app.specs.Input.{AreLabels}
-use Rattle.pls_app.specs.Order.{AreWritten, IsApart, IsFirstRefusal, Parts, RefusesParts, heading_of, limits_of, misfit_in, over, refusals_in}
+use Rattle.pls_app.specs.Order.{IsApart, IsFirstRefusal, Parts, RefusesParts, heading_of, limits_of, misfit_in, over, refusals_in}
 use Rattle.pls_app.specs.inner.Scanned.{AreBuilt, AreRefused, IsScanned, TellsSome}
 use Rattle.pls_app.proofs.Inputs.{refusal_is}
 
@@ -110,6 +110,12 @@ abbrev limits_in : Parts → List (Option TextError)
 limits_in parts =
     limits_of (length parts.rows) (ports_in parts.rows) (option_map total_bits parts.labels)
 
+-- so are those of parts that no limit refuses
+kept_in : (parts : Parts) → first_of (limits_in parts) ≡ None
+    → AreKept (length parts.rows) (ports_in parts.rows) (option_map total_bits parts.labels)
+kept_in parts none =
+    kept_of (length parts.rows) (ports_in parts.rows) (option_map total_bits parts.labels) none
+
 -- a sum that is capped passes the limit where the sum does
 capped_over : (count : ℕ) → over Bits MAX_BITS (capped count) ≡ over Bits MAX_BITS count
 capped_over count =
@@ -190,9 +196,9 @@ sense_of : (parts : Parts) (error : TextError) → first_of (limits_in parts) �
     → first_of (refusals_in parts) ≡ Some error
 sense_of parts (Form line) none some refused = absurd refused
 sense_of parts (Limit Nodes) none some refused =
-    absurd (omega (arith, refused, (kept_of _ _ _ none).few_nodes))
+    absurd (omega (arith, refused, (kept_in parts none).few_nodes))
 sense_of parts (Limit Ports) none some refused =
-    absurd (omega (arith, refused.1, (kept_of _ _ _ none).few_ports))
+    absurd (omega (arith, refused.1, (kept_in parts none).few_ports))
 sense_of parts (Limit Input) none some refused = absurd refused
 sense_of parts (Limit Bits) none some refused = absurd refused
 sense_of parts (Limit Events) none some refused = absurd refused
@@ -270,8 +276,8 @@ labels_refused command bytes network texts net error scanned none built valid re
     let is_net : net ≡ scanned.parts.rows = built scanned.parts.rows scanned.tells_rows in
     let kept = kept_scanned command bytes network texts scanned none in
     let first = misfit_scanned scanned.parts.rows texts scanned.parts.labels error
-        scanned.tells_labels (kept_of _ _ _ kept).few_bits
-        (subst (λ (rows : List NodeRow). AreRefused rows texts error) is_net refused) some in
+    scanned.tells_labels (kept_in scanned.parts kept).few_bits
+    (subst (λ (rows : List NodeRow). AreRefused rows texts error) is_net refused) some in
     refuses command bytes network texts error scanned
     (inl (behind_network scanned.parts (Some error) (subst IsNetwork is_net valid) kept first))
 
@@ -286,8 +292,8 @@ parts_apart command bytes network texts net store error scanned none built valid
     let is_net : net ≡ scanned.parts.rows = built scanned.parts.rows scanned.tells_rows in
     let kept = kept_scanned command bytes network texts scanned none in
     let fit = fit_scanned scanned.parts.rows texts scanned.parts.labels store
-        scanned.tells_labels (kept_of _ _ _ kept).few_bits
-        (subst (λ (rows : List NodeRow). AreBuilt rows texts store) is_net labels) in
+    scanned.tells_labels (kept_in scanned.parts kept).few_bits
+    (subst (λ (rows : List NodeRow). AreBuilt rows texts store) is_net labels) in
     refuses command bytes network texts error scanned
     (inr (
       behind_network scanned.parts None (subst IsNetwork is_net valid) kept fit,

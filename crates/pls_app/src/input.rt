@@ -61,10 +61,7 @@ fn scan_parts<'a>(
 }
 
 // Refuses parts with too many nodes, ports or bits, in this order. It takes no memory.
-fn test_limits(
-    network: &NetworkText<'_>,
-    labels: &Option<LabelsText<'_>>,
-) -> Result<(), TextError>
+fn test_limits(network: &NetworkText<'_>, labels: &Option<LabelsText<'_>>) -> Result<(), TextError>
     ensures within { OnOk result (first_of (limits_of network.now.nodes network.now.ports
         (option_map (λ labels. labels.bits) labels.now)) ≡ None) }
     ensures refused { IfErr result (λ error. first_of (limits_of network.now.nodes network.now.ports
