@@ -1,13 +1,9 @@
 -- What is found of the levels of a connected network.
-use Rattle.std.proofs.Common.{◌≡◌, ◌∙◌, ℕ, Bool, List, map, Option, Some, None, IfSome, IfNone, IfOk, Result, unwrap_or, slice_get, sym, refl}
-use Rattle.std.proofs.lemmas.Result.{IfOk-weaker}
+use Rattle.std.proofs.Common.{◌≡◌, ◌∙◌, ℕ, List, map, Option, Some, None, unwrap_or, slice_get, sym, refl}
 use Rattle.pls_model.specs.declared.row.NodeRow.{NodeRow}
-use Rattle.pls_model.specs.Configuration.{IsNetwork}
 use Rattle.pls_model.specs.Walk.{IsConnected}
 use Rattle.pls_graph.specs.Levels.{AreLevels}
 use Rattle.pls_scheme.specs.Marked.{AreRight}
-use Rattle.pls_scheme.specs.Reading.{Read}
-use Rattle.pls_scheme.specs.Theorem.{AreRightEverywhere, HoldEverywhere, RulesAreMet, RulesShow}
 use Rattle.pls_scheme.proofs.Markings.{right_map}
 use Rattle.pls_facts.proofs.Levels.{known_level}
 use Rattle.pls_colour.specs.Levelled.{saying_level}
@@ -29,45 +25,3 @@ levels_right {L} level_label rows connected found levels =
         let none : Some (None) ≡ Some (Some known.0) = sym has ∙ known.1 in absurd (cc)
     right place row (Some level) at has first at_first =
         (level, levels.level first row place (Some level) at_first at has, refl)
-
--- what follows where nothing is found, and where something is
-pub none_weaker : {X : Type 0} (A B : Type 0) → (A → B) → (found : Option X) → IfNone found A
-    → IfNone found B
-none_weaker A B follows None none = follows none
-none_weaker A B follows (Some x) none = tt
-
-pub some_weaker : {X : Type 0} (A B : Type 0) → (A → B) → (found : Option X)
-    → IfSome found (λ x. A) → IfSome found (λ x. B)
-some_weaker A B follows None some = tt
-some_weaker A B follows (Some x) some = follows some
-
-module _ {X L E : Type 0} (rules : Read L → List Bool) (holds : List NodeRow → Type 0)
-    (says : List NodeRow → NodeRow → L → Type 0) (rows : List NodeRow) (net : IsNetwork rows)
-    (joined : IsConnected rows) (found : Result (Option X) E) where
-  -- the rules fail where what is said is right
-  abbrev Refuted : Type 0
-  Refuted = (say : ℕ → L) × AreRightEverywhere (says rows) rows say
-      × (HoldEverywhere rules rows say → ⊥)
-
-  -- they hold where something is said
-  abbrev Held : Type 0
-  Held = (say : ℕ → L) × HoldEverywhere rules rows say
-
-  -- where the rules fail at what is right, the property does
-  pub refused_lacking : RulesAreMet rules holds says
-      → IfOk found (λ found. IfNone found Refuted)
-      → IfOk found (λ found. IfNone found (holds rows → ⊥))
-  refused_lacking met =
-      IfOk-weaker found (λ (found : Option X). IfNone found Refuted)
-      (λ (found : Option X). IfNone found (holds rows → ⊥))
-      (none_weaker Refuted (holds rows → ⊥) (λ refuted has.
-      refuted.2 (met rows net joined has refuted.0 refuted.1)))
-
-  -- where they hold, so does the property
-  pub hold_holds : RulesShow rules holds
-      → IfOk found (λ found. IfSome found (λ x. Held))
-      → IfOk found (λ found. IfSome found (λ x. holds rows))
-  hold_holds show =
-      IfOk-weaker found (λ (found : Option X). IfSome found (λ x. Held))
-      (λ (found : Option X). IfSome found (λ x. holds rows))
-      (some_weaker Held (holds rows) (λ hold. show rows net joined hold.0 hold.1))

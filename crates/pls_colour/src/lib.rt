@@ -14,7 +14,7 @@ mod acyclic_scheme;
 mod bipartite;
 mod bipartite_scheme;
 mod colour_layout;
-mod levels_that_hold;
+mod level_labels;
 
 pub use acyclic::{Acyclic, AcyclicRules, Beside, CycleLabel};
 pub use bipartite::{Bipartite, BipartiteRules};

@@ -3,6 +3,7 @@ pub mod Filtered
 pub mod Neighbours
 pub mod Agreed
 pub mod OnlyNode
+pub mod Finding
 pub mod Turned
 pub mod Chains
 pub mod Pointed

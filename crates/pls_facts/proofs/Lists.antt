@@ -1,12 +1,13 @@
 -- Lists: their items at places, their images, and the items that pass a test.
-use Rattle.std.proofs.Common.{◌≡◌, ◌∙◌, ℕ, zero, suc, ◌+◌, ◌<◌, ◌≤◌, Bool, true, List, [], ◌∷◌, ◌++◌, length, map, take, slice_get, get_or, All, Contains, Some, option_map, count_by, cond, refl, sym, ap, arith}
-use Rattle.std.specs.List.{AllPairs, filter}
+use Rattle.std.proofs.Common.{◌≡◌, ◌∙◌, ℕ, zero, suc, ◌+◌, ◌<◌, ◌≤◌, inl, inr, Bool, true, false, ◌||◌, List, [], ◌∷◌, ◌++◌, length, map, take, slice_get, get_or, All, Contains, Some, option_map, count_by, cond, refl, sym, ap, arith}
+use Rattle.std.specs.List.{AllPairs, filter, list_any}
+use Rattle.std.proofs.lemmas.Bool.{or_cases}
 use Rattle.std.proofs.lemmas.List.{map-append, same_lists, take_more}
 use Rattle.std.proofs.lemmas.List.Elements.{filter_passes}
 use Rattle.std.proofs.lemmas.List.Kept.{AllPairs-filter}
 use Rattle.std.proofs.lemmas.List.Sums.{length-filter, sum_by-cons}
 use Rattle.std.proofs.lemmas.Option.{get_or_from_slice_get, slice_get-get_or, slice_get-map, slice_get_within}
-use Rattle.pls_graph.proofs.Members.{Contains-filter, Contains-first}
+use Rattle.pls_graph.proofs.Members.{Contains-cons_cases, Contains-filter, Contains-first, Contains-later}
 
 module _ {X : Type 0} where
   -- a list has an item at each place within
@@ -57,6 +58,30 @@ module _ {X : Type 0} where
       by (y ∷ []) apart pass = omega arith
       by (y ∷ z ∷ ys) apart pass = absurd (apart 0 1 y (omega arith) (omega arith)
           (pass 0 y (omega arith)) (pass 1 y (omega arith)))
+
+  -- where an item passes, some does
+  pub any_passes : (p : X → Bool) (xs : List X) (x : X) → Contains xs x → p x ≡ true
+      → list_any p xs ≡ true
+  any_passes p [] x in' passes = absurd (omega (arith, in'.1))
+  any_passes p (first ∷ xs) x in' passes = elim (Contains-cons_cases first xs x in') [
+    | inl same ↦ rw (ap p same ∙ passes) refl
+    | inr later ↦ or_later (p first) (any_passes p xs x later passes)
+  ]
+    where
+      or_later : (b : Bool) → list_any p xs ≡ true → (b || list_any p xs) ≡ true
+      or_later true some = refl
+      or_later false some = some
+
+  -- where some item passes, here is one
+  pub passes_any : (p : X → Bool) (xs : List X) → list_any p xs ≡ true
+      → (x : X) × Contains xs x × (p x ≡ true)
+  passes_any p [] some = absurd (cc)
+  passes_any p (first ∷ xs) some = elim (or_cases (p first) (list_any p xs) some) [
+    | inl here ↦ (first, Contains-first first xs, here)
+    | inr later ↦
+        let (x, in', passes) : (x : X) × Contains xs x × (p x ≡ true) = passes_any p xs later in
+        (x, Contains-later first xs x in', passes)
+  ]
 
 module _ {X Y : Type 0} where
   -- one more item is mapped

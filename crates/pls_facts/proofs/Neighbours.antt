@@ -1,5 +1,5 @@
 -- The nodes at the ports of a network, and the ports between adjacent nodes.
-use Rattle.std.proofs.Common.{◌≡◌, ◌≢◌, ℕ, ◌≤◌, ◌==◌, inl, inr, true, List, [], ◌∷◌, Contains, Some, slice_get, sym, ap, subst, arith}
+use Rattle.std.proofs.Common.{◌≡◌, ◌≢◌, ℕ, ◌≤◌, ◌==◌, inl, inr, true, List, [], ◌∷◌, map, Contains, Some, slice_get, sym, ap, subst, arith}
 use Rattle.std.proofs.lemmas.Bool.{eqb-true}
 use Rattle.pls_model.specs.declared.row.Port.{Port}
 use Rattle.pls_model.specs.declared.row.NodeRow.{NodeRow}
@@ -12,14 +12,20 @@ use Rattle.pls_graph.proofs.Joined.{Adjacent-turned}
 use Rattle.pls_graph.proofs.Members.{Contains-cons_cases, Contains-from_place, Contains-map, place_from_Contains}
 use Rattle.pls_graph.proofs.Placed.{names_another, neighbour_found, row_place}
 
--- an identity is at most the greatest
+-- a number of a row is at most the greatest of all rows
+pub within_greatest : (number : NodeRow → ℕ) (rows : List NodeRow) (row : NodeRow)
+    → Contains rows row → number row ≤ greatest (map number rows)
+within_greatest number [] row in' = absurd (omega (arith, in'.1))
+within_greatest number (first ∷ rows) row in' =
+    elim (Contains-cons_cases first rows row in') [
+      | inl same ↦ omega (arith, ap number same)
+      | inr later ↦ omega (arith, within_greatest number rows row later)
+    ]
+
+-- so is an identity
 pub id_within : (rows : List NodeRow) (row : NodeRow) → Contains rows row
     → row.id ≤ greatest (ids_of rows)
-id_within [] row in' = absurd (omega (arith, in'.1))
-id_within (first ∷ rows) row in' = elim (Contains-cons_cases first rows row in') [
-  | inl same ↦ omega (arith, ap (λ (row : NodeRow). row.id) same)
-  | inr later ↦ omega (arith, id_within rows row later)
-]
+id_within rows row in' = within_greatest (λ row. row.id) rows row in'
 
 -- the row of u has a port that leads to v
 pub record Leads (rows : List NodeRow) (u v : ℕ) : Type 0 where

@@ -4,3 +4,4 @@ pub mod Cycle
 pub mod Bipartite
 pub mod OnlyNode
 pub mod Agreement
+pub mod inner

@@ -3,8 +3,9 @@
 //!
 //! The definitions stand in `specs/`: `Pointer` has chains of pointers, `SpanningTree` spanning
 //! trees and the edges that pointers name, `Cycle` cycles, `Bipartite` two-colourings, `OnlyNode`
-//! the one node that passes a test, `Agreement` what neighbours have in common. The functions do
-//! nothing: each says what holds of the definitions, and is proved once.
+//! the one node that passes a test, `Agreement` what neighbours have in common. Each law is a
+//! function that does nothing and says what holds of the definitions; [`only_node`] finds the one
+//! node that passes a test.
 //!
 //! Proofs above may cite all of `proofs/`. `Lists` has what holds of lists alone, `Neighbours` the
 //! nodes at the ports, `Levels` levels from any node, `ChainDepths` the lengths of chains,
@@ -15,6 +16,7 @@
 
 mod agreement_laws;
 mod cycle_laws;
+mod only;
 mod pointer_laws;
 mod tree_laws;
 mod valid;
@@ -22,6 +24,7 @@ mod walk_laws;
 
 pub use agreement_laws::all_agree;
 pub use cycle_laws::cycles_and_depths;
+pub use only::{PointsAtNone, StateTest, only_node};
 pub use pointer_laws::chain_ends;
 pub use tree_laws::tree_of_pointers;
 pub use valid::is_valid;

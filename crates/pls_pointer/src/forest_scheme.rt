@@ -7,23 +7,16 @@ use crate::forest::{DepthLabel, ForestRules};
 use pls_base::NoMemory;
 use pls_bits::NumCode;
 use pls_graph::{Network, Size};
-use pls_scheme::{Marker, Property, codes_length};
+use pls_scheme::{Marker, codes_length};
 use pls_search::pointer_depths;
 use std::alloc::Global;
 
-impl<C: NumCode> Property for ForestRules<C> {
-    ghost use Rattle.pls_pointer.specs.Forest.{IsForest};
-
-    ghost holds = { λ _ rows. IsForest rows };
-
-    fn decide(&self, alloc: Global, net: &Network) -> Result<bool, NoMemory> {
-        Ok(pointer_depths(alloc, net)?.is_some())
-    }
-}
-
 impl<C: NumCode> Marker for ForestRules<C> {
+    ghost use Rattle.pls_pointer.specs.Forest.{IsForest};
     ghost use Rattle.pls_pointer.specs.Forest.{forest_says, longest_forest};
     ghost use Rattle.pls_pointer.specs.laws.ForestLaws.{forest_fits, forest_met, forest_one_right, forest_show};
+
+    ghost holds = { λ _ rows. IsForest rows };
 
     ghost says = { λ _ rows row label. forest_says rows row label };
 

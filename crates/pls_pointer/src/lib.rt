@@ -12,7 +12,6 @@
 mod above;
 mod forest;
 mod forest_scheme;
-mod only;
 mod tree;
 mod tree_scheme;
 

@@ -7,28 +7,21 @@ ghost use Rattle.pls_facts.specs.SpanningTree.{IsTree};
 ghost use Rattle.pls_search.specs.Depths.{AreDepths};
 ghost use Rattle.pls_pointer.specs.Tree.{root_says};
 
-use crate::only::{PointsAtNone, only_node};
 use crate::tree::{TreeLabel, TreeRules};
 use pls_base::NoMemory;
 use pls_bits::NumCode;
+use pls_facts::{PointsAtNone, only_node};
 use pls_graph::{Network, Size};
-use pls_scheme::{Marker, Property, codes_length};
+use pls_scheme::{Marker, codes_length};
 use pls_search::pointer_depths;
 use std::alloc::Global;
 
-impl<C: NumCode> Property for TreeRules<C> {
-    ghost use Rattle.pls_facts.specs.SpanningTree.{IsTree};
-
-    ghost holds = { λ _ rows. IsTree rows };
-
-    fn decide(&self, alloc: Global, net: &Network) -> Result<bool, NoMemory> {
-        Ok(root_and_depths(alloc, net)?.is_some())
-    }
-}
-
 impl<C: NumCode> Marker for TreeRules<C> {
+    ghost use Rattle.pls_facts.specs.SpanningTree.{IsTree};
     ghost use Rattle.pls_pointer.specs.Tree.{longest_tree, tree_says};
     ghost use Rattle.pls_pointer.specs.laws.TreeLaws.{tree_fits, tree_met, tree_one_right, tree_show};
+
+    ghost holds = { λ _ rows. IsTree rows };
 
     ghost says = { λ _ rows row label. tree_says rows row label };
 

@@ -1,5 +1,6 @@
 pub mod Accepted
 pub mod Codes
+pub mod Deciding
 pub mod Fitting
 pub mod HeldRules
 pub mod Markings

@@ -74,7 +74,7 @@ impl<R: JudgesInPlace> Checker for Basic<R> {
     ghost lends_law = { λ _ _. refl };
 }
 
-impl<R: Property> Property for Basic<R> {
+impl<R: Marker> Property for Basic<R> {
     ghost holds = { λ s rows. R.holds s.rules rows };
 
     fn decide(&self, alloc: Global, net: &Network) -> Result<bool, NoMemory> {
@@ -133,15 +133,9 @@ impl<R: JudgesInPlace + Marker> Scheme for Basic<R> {
         R.Layout.one_spelling_law (R.one_right_law s.rules) };
 }
 
-impl<R: Property> Property for Once<R> {
+impl<R: Marker> Marker for Once<R> {
     ghost holds = { λ s rows. R.holds s.rules rows };
 
-    fn decide(&self, alloc: Global, net: &Network) -> Result<bool, NoMemory> {
-        self.rules.decide(alloc, net)
-    }
-}
-
-impl<R: Marker> Marker for Once<R> {
     ghost says = { λ s rows row label. R.says s.rules rows row label };
 
     ghost longest = { λ s size. R.longest s.rules size };
@@ -156,6 +150,10 @@ impl<R: Marker> Marker for Once<R> {
         net: &Network,
     ) -> Result<Option<Vec<<R::Layout as Layout>::Label>>, NoMemory> {
         self.rules.right_labels(alloc, net)
+    }
+
+    fn decide(&self, alloc: Global, net: &Network) -> Result<bool, NoMemory> {
+        self.rules.decide(alloc, net)
     }
 
     ghost show_law = { λ s. R.show_law s.rules };

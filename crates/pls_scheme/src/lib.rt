@@ -9,7 +9,7 @@
 //!
 //! A basic scheme states only what is its own: how its labels are written ([`Layout`]; [`Coded`]
 //! for labels that are a few numbers), its rules ([`Rules`] over labels that are read, each once,
-//! or [`JudgesInPlace`] over lent bits), its property, and what labels are right ([`Marker`]).
+//! or [`JudgesInPlace`] over lent bits), its property and what labels are right ([`Marker`]).
 //! [`Basic`] makes the scheme of it, [`Ruled`] of [`Rules`]. Other schemes implement [`Checker`],
 //! [`Property`] and [`Scheme`] themselves.
 //!

@@ -1,6 +1,6 @@
-//! What a basic scheme states of its own, beside its rules and its property.
+//! What a basic scheme states of its own, beside its rules.
 
-ghost use Rattle.std.specs.Prelude.{◌≡◌, ℕ, List, IfOk, IfSome, IfNone};
+ghost use Rattle.std.specs.Prelude.{◌≡◌, ◌↔◌, ℕ, List, IsTrue, IfOk, IfSome, IfNone};
 ghost use Rattle.pls_model.specs.declared.row.NodeRow.{NodeRow};
 ghost use Rattle.pls_model.specs.Walk.{IsConnected};
 ghost use Rattle.pls_graph.specs.declared.size.Size.{Size};
@@ -9,7 +9,6 @@ ghost use Rattle.pls_scheme.specs.Theorem.{OneIsRight, RightFits, RulesAreMet, R
 
 use crate::judgement::Judgement;
 use crate::layout::Layout;
-use crate::property::Property;
 use pls_base::NoMemory;
 use pls_graph::{Network, Size};
 use std::alloc::Global;
@@ -17,7 +16,10 @@ use std::alloc::Global;
 /// Rules with a property that they show, and a marker of the networks that have it. A
 /// [`Basic`](crate::Basic) of them is a [`Scheme`](crate::Scheme). Its laws speak of what labels
 /// say, as a function of the identity, and of no bits.
-pub trait Marker: Judgement + Property {
+pub trait Marker: Judgement {
+    // The property, of the rows of a network.
+    ghost holds: { Self → List NodeRow → Type 0 };
+
     // A label says what is right for the node of a row of a network with the property.
     ghost says: { Self → List NodeRow → NodeRow → Self.Layout.Label → Type 0 };
 
@@ -37,21 +39,29 @@ pub trait Marker: Judgement + Property {
         net: &Network,
     ) -> Result<Option<Vec<<Self::Layout as Layout>::Label>>, NoMemory>
         requires { IsConnected net.now }
-        ensures lacking { IfOk result (λ found. IfNone found (Self.holds self.now net.now → ⊥)) }
-        ensures holds { IfOk result (λ found. IfSome found (λ labels. Self.holds self.now net.now)) }
+        ensures lacking { IfOk result (λ found. IfNone found (holds self.now net.now → ⊥)) }
+        ensures holds { IfOk result (λ found. IfSome found (λ labels. holds self.now net.now)) }
         ensures right { IfOk result (λ found. IfSome found
             (λ labels. AreRight (says self.now net.now) net.now labels.items)) };
 
+    /// Whether a connected network has the property. The one error is want of memory.
+    fn decide(&self, alloc: Global, net: &Network) -> Result<bool, NoMemory>
+        requires { IsConnected net.now }
+        ensures { IfOk result (λ yes. IsTrue yes ↔ holds self.now net.now) }
+    {
+        Ok(self.right_labels(alloc, net)?.is_some())
+    }
+
     // Rules that hold everywhere show the property: the scheme is sound.
-    ghost show_law: { (s : Self) → RulesShow (Self.rules s) (Self.holds s) };
+    ghost show_law: { (s : Self) → RulesShow (Self.rules s) (holds s) };
 
     // The rules hold everywhere where what is said is right: the scheme is complete.
-    ghost met_law: { (s : Self) → RulesAreMet (Self.rules s) (Self.holds s) (says s) };
+    ghost met_law: { (s : Self) → RulesAreMet (Self.rules s) (holds s) (says s) };
 
     // For each node one label is right.
-    ghost one_right_law: { (s : Self) → OneIsRight (Self.holds s) (says s) };
+    ghost one_right_law: { (s : Self) → OneIsRight (holds s) (says s) };
 
     // What is right can be written, and is short.
-    ghost fits_law: { (s : Self) → RightFits Self.Layout.spells Self.Layout.writable (Self.holds s)
+    ghost fits_law: { (s : Self) → RightFits Self.Layout.spells Self.Layout.writable (holds s)
         (says s) (longest s) };
 }

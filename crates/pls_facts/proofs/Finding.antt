@@ -9,7 +9,7 @@ use Rattle.pls_model.specs.declared.row.State.{State}
 use Rattle.pls_model.specs.declared.row.NodeRow.{NodeRow}
 use Rattle.pls_graph.proofs.Members.{Contains-filter}
 use Rattle.pls_facts.specs.OnlyNode.{IsOnly, passing}
-use Rattle.pls_pointer.specs.inner.Found.{IsOnlyFound}
+use Rattle.pls_facts.specs.inner.Found.{IsOnlyFound}
 
 -- the row at a place, of which the identity and the state are known
 record Shows (rows : List NodeRow) (i id : ℕ) (state : State) : Type 0 where

@@ -1,5 +1,5 @@
 use Rattle.pls_colour.proofs.Found.{levels_right}
-use Rattle.pls_colour.proofs.levels_that_hold.level_labels.Goals as goal
+use Rattle.pls_colour.proofs.level_labels.level_labels.Goals as goal
 
 pub returns : goal.returns
 returns g c =

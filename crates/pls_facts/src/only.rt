@@ -8,17 +8,18 @@ ghost use Rattle.pls_facts.specs.OnlyNode.{IsOnly, passing};
 use pls_graph::Network;
 use pls_model::State;
 
-// A test of a node's state.
-pub(crate) trait StateTest {
+/// A test of a node's state.
+pub trait StateTest {
+    // Whether a state passes.
     ghost passes: { State → Bool };
 
-    // Whether the state passes.
+    /// Whether the state passes.
     fn passes(state: State) -> bool
         ensures { result ≡ passes state };
 }
 
-// That the node points at none.
-pub(crate) struct PointsAtNone;
+/// That the node points at none.
+pub struct PointsAtNone;
 
 impl StateTest for PointsAtNone {
     ghost use Rattle.pls_facts.specs.OnlyNode.{points_at_none};
@@ -30,8 +31,9 @@ impl StateTest for PointsAtNone {
     }
 }
 
-// The identity of the one node that passes, or `None` where there is none, or more than one.
-pub(crate) fn only_node<T: StateTest>(net: &Network) -> Option<u32>
+/// The identity of the one node that passes, or `None` where there is none, or more than one. It
+/// takes no memory.
+pub fn only_node<T: StateTest>(net: &Network) -> Option<u32>
     ensures some { IfSome result (IsOnly T.passes net.now) }
     ensures none { IfNone result (passing T.passes net.now ≡ 1 → ⊥) }
     ensures valid { IsNetwork net.now }

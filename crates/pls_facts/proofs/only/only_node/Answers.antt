@@ -1,8 +1,8 @@
 use Rattle.std.proofs.Common.{◌+◌, ◌∙◌, sym, subst, take}
-use Rattle.pls_pointer.specs.inner.Found.{IsOnlyFound}
-use Rattle.pls_pointer.proofs.Finding.{found_first, found_stays, found_twice}
-use Rattle.pls_pointer.proofs.only.only_node.Goals as goal
-use Rattle.pls_pointer.proofs.only.only_node.Goals.{then-passes+else-is_some, else-passes}
+use Rattle.pls_facts.specs.inner.Found.{IsOnlyFound}
+use Rattle.pls_facts.proofs.Finding.{found_first, found_stays, found_twice}
+use Rattle.pls_facts.proofs.only.only_node.Goals as goal
+use Rattle.pls_facts.proofs.only.only_node.Goals.{then-passes+else-is_some, else-passes}
 
 pub returns-then-is_some-clause-none : goal.returns-then-is_some-clause-none
 returns-then-is_some-clause-none g c =

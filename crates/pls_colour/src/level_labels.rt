@@ -1,0 +1,52 @@
+//! Labels that say the levels of a network's nodes.
+
+ghost use Rattle.std.specs.Prelude.{◌≡◌, ℕ, map, unwrap_or, IfOk};
+ghost use Rattle.pls_model.specs.Walk.{IsConnected};
+ghost use Rattle.pls_scheme.specs.Marked.{AreRight};
+ghost use Rattle.pls_colour.specs.Levelled.{saying_level};
+
+use pls_base::NoMemory;
+use pls_facts::is_valid;
+use pls_graph::Network;
+use pls_scheme::{Judgement, Layout};
+use pls_search::levels;
+use std::alloc::Global;
+
+// Rules on labels that say levels.
+pub(crate) trait SaysLevels: Judgement {
+    ghost level_label: { ℕ → Self.Layout.Label };
+
+    // The label that says a level.
+    fn level_label(level: u32) -> <Self::Layout as Layout>::Label
+        ensures { result ≡ level_label level };
+}
+
+// For each node of a connected network, in their order, the label that says its level.
+pub(crate) fn level_labels<R: SaysLevels>(
+    alloc: Global,
+    net: &Network,
+) -> Result<Vec<<R::Layout as Layout>::Label>, NoMemory>
+    requires { IsConnected net.now }
+    ensures { IfOk result
+        (λ labels. AreRight (saying_level R.level_label net.now) net.now labels.items) }
+{
+    is_valid(net);
+    let levels = levels(alloc, net, 0)?;
+    let labels = labels_of_levels::<R>(alloc, &levels)?;
+    Ok(labels)
+}
+
+// The labels that say these levels, in their order. A node without one gets level 0.
+fn labels_of_levels<R: SaysLevels>(
+    alloc: Global,
+    levels: &[Option<u32>],
+) -> Result<Vec<<R::Layout as Layout>::Label>, NoMemory>
+    ensures { IfOk result (λ labels.
+        labels.items ≡ map (λ level. R.level_label (unwrap_or level 0)) levels.now) }
+{
+    let labels = levels
+        .iter()
+        .map(|level| R::level_label(level.unwrap_or(0)))
+        .collect(alloc)?;
+    Ok(labels)
+}
