@@ -36,3 +36,5 @@ mod UnlinkDone
 mod WeightDone
 mod Undone
 mod Fronts
+mod Shaped
+mod Inserted

@@ -15,13 +15,16 @@
 
 mod breadth;
 mod builder;
+mod editing;
 mod edits;
+mod gaps;
 mod index;
 mod network;
 mod ranges;
 mod reach;
 mod refusal;
 mod seeking;
+mod shaping;
 mod size;
 mod soundness;
 mod table;
