@@ -40,10 +40,16 @@ module _ {X : Type 0} where
   at_insert_cases (first ∷ xs) (suc i) x (suc j) y within at =
       elim (at_insert_cases xs i x j y (omega arith) at) [
         | inl here ↦ let e = here.1 in inl (here.0, omega arith)
-        | inr other ↦ inr (suc other.0, other.1, record { way = elim other.2.way [
-          | inl a ↦ let a0 = a.0 in let a1 = a.1 in inl (omega arith, omega arith)
-          | inr a ↦ let a0 = a.0 in let a1 = a.1 in inr (omega arith, omega arith)
-        ] })
+        | inr other ↦ inr (
+          suc other.0,
+          other.1,
+          record {
+            way = elim other.2.way [
+              | inl a ↦ let a0 = a.0 in let a1 = a.1 in inl (omega arith, omega arith)
+              | inr a ↦ let a0 = a.0 in let a1 = a.1 in inr (omega arith, omega arith)
+            ];
+          },
+        )
       ]
 
   -- what stands at a place after the item at i went stood at k

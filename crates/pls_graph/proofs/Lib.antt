@@ -38,3 +38,4 @@ mod Undone
 mod Fronts
 mod Shaped
 mod Inserted
+mod EditSteps

@@ -39,8 +39,13 @@ part_same : {X : Type 0} (start count : ℕ) (xs ys : List X) → length xs ≡ 
     → part start count xs ≡ part start count ys
 part_same start count xs ys long same =
     same_lists (part start count xs) (part start count ys)
-    (omega (arith, length-take count (drop start xs), length-take count (drop start ys),
-    length-drop start xs, length-drop start ys))
+    (omega (
+      arith,
+      length-take count (drop start xs),
+      length-take count (drop start ys),
+      length-drop start xs,
+      length-drop start ys,
+    ))
     (λ k d within.
     let inside : k < count = omega (arith, length-take count (drop start xs)) in
     part_at start count k xs d inside ∙ same (start + k) d (omega arith) (omega arith)

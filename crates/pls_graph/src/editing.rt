@@ -172,6 +172,8 @@ impl Network {
         ensures allowed { OnOk result (unlink_refusal self.now a b ≡ None) }
         ensures refused { IfErr result (λ error. unlink_refusal self.now a b ≡ Some error) }
     {
+        // A network is valid.
+        self.len();
         let Some(i) = self.place_of(a) else {
             return Err(EditError::Absent);
         };

@@ -34,5 +34,5 @@ pub use builder::NetworkBuilder;
 pub use edits::EditError;
 pub use network::Network;
 pub use pls_model::{BuildError, NodePorts, NodeRow, Port, State};
-pub use reach::connected;
+pub use reach::{connected, first_apart};
 pub use size::Size;

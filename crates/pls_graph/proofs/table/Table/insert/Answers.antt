@@ -19,8 +19,7 @@ invariant_of-self-2 c =
     let new : Node = record { id = c.args.id; state = c.args.state; start = c.len-start.result; count = 0; room = 0 } in
     let opened : c.open_gap.new.places ≡ map (place_within i) places = c.open_gap.ensures ∙ ap (map (place_within i)) c.as_mut_slice.ensures.value in
     let back = given_back places c.open_gap.new.places inside.places.len
-    (let ok = inside.places.ok.0 in omega arith) (ap (λ (xs : List ℕ). length xs) opened ∙ length-map places (place_within i)) in
-    (
+    (let ok = inside.places.ok.0 in omega arith) (ap (λ (xs : List ℕ). length xs) opened ∙ length-map places (place_within i)) in (
       subst (λ (nodes : List Node). AreRanges nodes (length ports)) (sym c.in_ok-insert.ensures.items)
           (ranges_insert nodes (length ports) c.self.invariant.0 i new
           (let many = ap (λ (t : Placed). length t.rows) c.self.view_is in let within = c.requires.within in

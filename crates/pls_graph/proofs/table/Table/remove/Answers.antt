@@ -16,8 +16,7 @@ invariant_of-self c =
     let i = c.args.i in
     let closed : c.close_gap.new.places ≡ map (place_without i) places = c.close_gap.ensures ∙ ap (map (place_without i)) c.as_mut_slice.ensures.value in
     let back = given_back places c.close_gap.new.places inside.places.len
-    (let ok = inside.places.ok.0 in omega arith) (ap (λ (xs : List ℕ). length xs) closed ∙ length-map places (place_without i)) in
-    (
+    (let ok = inside.places.ok.0 in omega arith) (ap (λ (xs : List ℕ). length xs) closed ∙ length-map places (place_without i)) in (
       subst (λ (nodes : List Node). AreRanges nodes (length ports)) (sym c.remove.ensures.items)
           (ranges_remove nodes (length ports) c.self.invariant.0 i),
       ap (λ (xs : List ℕ). length xs) (back ∙ closed) ∙ length-map places (place_without i) ∙ c.self.invariant.1,

@@ -155,8 +155,7 @@ invariant_of-self c =
     let node = c.index-node.result.now in
     let view : rows_at ports nodes ≡ c.args.self.now.rows = ap (λ (t : Placed). t.rows) c.self.view_is in
     let beside_view : places_at places nodes ≡ c.args.self.now.places = ap (λ (t : Placed). t.places) c.self.view_is in
-    let at : slice_get nodes i ≡ Some node = node_read nodes ports i node view c.requires.node c.index-node.ensures in
-    (
+    let at : slice_get nodes i ≡ Some node = node_read nodes ports i node view c.requires.node c.index-node.ensures in (
       subst (AreRanges (set nodes i (record node { state = c.state_without.result; count = node.count - 1 }))) (sym c.close_up.ensures.length)
           (range_kept nodes ports places c.self.invariant.0 c.self.invariant.1 i node at (record node { state = c.state_without.result; count = node.count - 1 }) refl refl (omega arith)),
       c.close_up-2.ensures.length ∙ c.self.invariant.1 ∙ sym c.close_up.ensures.length,
