@@ -1,6 +1,7 @@
 //! The worked examples, as tables of schemes, inputs, texts and statuses.
 
 mod base;
+mod bits;
 mod colours;
 mod graph;
 mod pointers;
@@ -8,6 +9,7 @@ mod refusals;
 mod small;
 mod streams;
 mod trees;
+mod views;
 
 use crate::run_in_memory;
 use pls_base::Status;
