@@ -105,13 +105,6 @@ from_insert (first ∷ rows) (suc i) row (suc k) other here = elim (from_insert 
 ]
 
 -- what holds of each item and of a new one holds of all
-pub All-insert : {X : Type 0} (P : X → Type 0) (xs : List X) (i : ℕ) (y : X) → All P xs → P y
-    → All P (insert xs i y)
-All-insert P xs i y all one = All-at P (insert xs i y) (λ k z here. elim (from_insert xs i y k z here) [
-  | inl same ↦ subst P same one
-  | inr old ↦ All_here P xs all old.0 z old.1
-])
-
 rise_insert : (low i : ℕ) (rows : List NodeRow) (row : NodeRow) → low ≤ row.id → RiseFrom low rows
     → IsGap row.id i rows → RiseFrom low (insert rows i row)
 rise_insert low zero [] row least rise gap = (least, tt)
@@ -207,18 +200,15 @@ module _ (rows : List NodeRow) (net : IsNetwork rows) (i id mark num : ℕ) (gap
       renamed other.ports (λ p port has. apart 0 p other port refl has) in
       rw (one, all_renamed some (λ k p other port here has. apart (suc k) p other port here has)) refl
 
-  -- places fit, and a place more does
-  pub places_fit : All (λ (places : List ℕ). All (λ (k : ℕ). k < MAX_NODES) places)
-      (insert (places_in rows) i [])
-  places_fit = All-insert (λ (places : List ℕ). All (λ (k : ℕ). k < MAX_NODES) places) (places_in rows) i []
-      (All-map (λ (places : List ℕ). All (λ (k : ℕ). k < MAX_NODES) places)
+  -- the places of neighbours are those of nodes
+  pub all_small : All (λ (places : List ℕ). All (λ (k : ℕ). k < MAX_NODES) places) (places_in rows)
+  all_small = All-map (λ (places : List ℕ). All (λ (k : ℕ). k < MAX_NODES) places)
       (λ (row : NodeRow). named_places rows row.ports) rows
       (All-at (λ (row : NodeRow). All (λ (k : ℕ). k < MAX_NODES) (named_places rows row.ports)) rows
       (λ k row at p d inside. let small : get_or (named_places rows row.ports) p d < length rows =
       subst (All (λ (k : ℕ). k < length rows)) (beside_row rows net k row at)
       (beside_within rows net k (slice_get_within rows k row at)) p d inside in
-      omega (arith, small, room))))
-      (λ p d inside. absurd (omega arith))
+      omega (arith, small, room)))
 
   pub joined_places : places_in (insert rows i new) ≡ places_with i (insert (places_in rows) i [])
   joined_places =

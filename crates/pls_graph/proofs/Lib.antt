@@ -36,3 +36,6 @@ mod UnlinkDone
 mod WeightDone
 mod Undone
 mod Fronts
+mod Shaped
+mod Inserted
+mod EditSteps

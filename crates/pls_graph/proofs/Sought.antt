@@ -1,5 +1,5 @@
 -- What a search for an identity says, and which refusals follow.
-use Rattle.std.proofs.Common.{◌≡◌, ◌≢◌, ◌∙◌, ℕ, ◌+◌, ◌-◌, ◌≤◌, ◌<◌, [], ◌∷◌, is_some, true, false, cond, not, Bool, ◌==◌, ◌||◌, List, length, position, Option, Some, None, Result, refl, sym, ap, subst, arith, slice_get, set, nat_lt, get_or}
+use Rattle.std.proofs.Common.{◌≡◌, ◌≢◌, ◌∙◌, ℕ, ◌+◌, ◌-◌, ◌≤◌, ◌<◌, [], ◌∷◌, is_some, true, false, cond, not, Bool, ◌==◌, ◌||◌, List, length, position, Option, Some, None, Result, refl, sym, ap, subst, arith, slice_get, set, nat_lt, get_or, option_map}
 use Rattle.std.specs.List.{position_or_len, find}
 use Rattle.std.proofs.lemmas.Bool.{eqb-true, eqb-false, ltb-true, ltb-false}
 use Rattle.std.proofs.lemmas.Option.{same_Some, get_or_from_slice_get, slice_get-get_or, slice_get_past}
@@ -77,6 +77,14 @@ module _ (rows : List NodeRow) (id : ℕ) (state : State) where
 pub row_read : (rows : List NodeRow) (i : ℕ) (row is : NodeRow) → slice_get rows i ≡ Some row
     → is ≡ get_or rows i is → is ≡ row
 row_read rows i row is at e = e ∙ get_or_from_slice_get rows i row is at
+
+-- the ports at a place are those of the row there
+pub ports_read : (rows : List NodeRow) (i : ℕ) (row : NodeRow) (ports : List Port)
+    → slice_get rows i ≡ Some row
+    → option_map (λ (row : NodeRow). row.ports) (slice_get rows i) ≡ Some ports
+    → row.ports ≡ ports
+ports_read rows i row ports at is = same_Some row.ports ports
+    (sym (ap (option_map (λ (row : NodeRow). row.ports)) at) ∙ is)
 
 module _ (rows : List NodeRow) (a b : ℕ) where
   pub link_absent_first : row_of rows a ≡ None → link_refusal rows a b ≡ Some Absent
@@ -191,3 +199,19 @@ free_both rows net i j row other at there free = by (port_to other row.id) refl
         let linked : None ≡ Some way.back =
         sym free ∙ ap (λ (row : NodeRow). port_to row other.id) (sym same) ∙ way.returns in
         absurd (cc)
+
+-- an item is found where one has a place
+pub found_as : {X : Type 0} (p : X → Bool) (xs : List X)
+    → is_some (find p xs) ≡ is_some (position p xs)
+found_as {X} p xs = ap is_some (find_at p xs)
+    ∙ by (nat_lt (position_or_len p xs) (length xs)) refl
+  where
+    by : (b : Bool) → nat_lt (position_or_len p xs) (length xs) ≡ b
+        → is_some (slice_get xs (position_or_len p xs))
+        ≡ is_some (cond b (Some (position_or_len p xs)) None)
+    by true e =
+        let item : (x : X) × (slice_get xs (position_or_len p xs) ≡ Some x) =
+        item_at xs (position_or_len p xs) (ltb-true (position_or_len p xs) (length xs) e) in
+        ap is_some item.1
+    by false e = ap is_some (slice_get_past xs (position_or_len p xs)
+        (let past = ltb-false (position_or_len p xs) (length xs) e in omega arith))

@@ -9,7 +9,7 @@ pub returns-clause-places : goal.returns-clause-places
 returns-clause-places c =
     beside_at c.self.inside.table.rows c.args.i c.places.result.now
     (ap (λ (all : List (List ℕ)). slice_get all c.args.i) (sym c.self.invariant.0)
-    ∙ c.places.ensures)
+    ∙ c.places.ensures.places)
     ∙ ap (λ (rows : List NodeRow). beside rows c.args.i) c.self.view_is
 
 pub returns-clause-within : goal.returns-clause-within
