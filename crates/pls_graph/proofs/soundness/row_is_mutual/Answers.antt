@@ -3,7 +3,7 @@ use Rattle.std.proofs.lemmas.List.{get_or-map}
 use Rattle.std.proofs.lemmas.List.Folds.{list_all_more}
 use Rattle.pls_model.specs.declared.row.Port.{Port}
 use Rattle.pls_graph.specs.Places.{place_in}
-use Rattle.pls_graph.specs.Ways.{agrees_back}
+use Rattle.pls_graph.specs.inner.Ways.{agrees_back}
 use Rattle.pls_graph.proofs.soundness.row_is_mutual.Goals as goal
 
 abbrev none : Port
