@@ -1,4 +1,4 @@
-use Rattle.std.proofs.Common.{◌≡◌, ◌∙◌, true, List, ℕ, refl, ap, sym, get_or, map}
+use Rattle.std.proofs.Common.{◌∙◌, List, ℕ, refl, ap, get_or}
 use Rattle.std.proofs.lemmas.List.{get_or-map}
 use Rattle.std.proofs.lemmas.List.Folds.{list_all_more}
 use Rattle.pls_model.specs.declared.row.Port.{Port}
