@@ -52,7 +52,7 @@ gamma_code-one k x y next low high few =
     rw (next, log, one) refl
 
 -- zeros in front are counted
-behind_zeros-replicate : (k count : ℕ) (bits : List Bool)
+pub behind_zeros-replicate : (k count : ℕ) (bits : List Bool)
     → behind_zeros count (replicate k false ++ bits) ≡ behind_zeros (count + k) bits
 behind_zeros-replicate zero count bits = ap (λ n. behind_zeros n bits) (omega arith)
 behind_zeros-replicate (suc k) count bits =
