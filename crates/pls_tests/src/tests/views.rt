@@ -16,7 +16,10 @@ const STAR: &str = "network\nnode 0 - 0 0\nport 1 10\nport 2 20\nport 3 30\nport
 fn two_words_are_placed_without_memory(rt: HostRuntime) -> Result<(), Fail> {
     let ones = zeros_and_ones(rt.alloc(), 0, 64)?;
     let half = zeros_and_ones(rt.alloc(), 32, 32)?;
-    assert!(rt; ones.len() == 64 && half.len() == 64, "two labels of 64 bits");
+    assert!(rt;
+        ones.len() == 64 && half.len() == 64,
+        "two labels of 64 bits"
+    );
     let mut room = LabelRoom::blank(rt.alloc(), 3)?;
     room.reserve(128)?;
     room.replace_spare(0, ones.bits());
@@ -38,7 +41,10 @@ fn one_label_is_replaced_often(rt: HostRuntime) -> Result<(), Fail> {
         let label = zeros_and_ones(rt.alloc(), len, 1)?;
         assert_eq!(rt; store.len(), 3, "three labels");
         store.replace(0, &label)?;
-        assert!(rt; store.bits(0).equal(label.bits()), "the label of {len} zeros");
+        assert!(rt;
+            store.bits(0).equal(label.bits()),
+            "the label of {len} zeros"
+        );
     }
     assert_eq!(rt; store.len(), 3, "three labels");
     assert!(rt; store.bits(2).equal(last.bits()), "the last label");
@@ -55,15 +61,25 @@ fn a_view_of_nine_ports(rt: HostRuntime) -> Result<(), Fail> {
         let label = zeros_and_ones(rt.alloc(), place, 1)?;
         labels.replace(place, &label)?;
     }
-    assert!(rt; net.len() > 0 && labels.len() == net.len(), "a label for each node");
+    assert!(rt;
+        net.len() > 0 && labels.len() == net.len(),
+        "a label for each node"
+    );
     let view = View::of(rt.alloc(), &net, &labels, 0)?;
     assert_eq!(rt; view.degree(), 9, "nine ports");
     let mut number: usize = 0;
     for port in view.ports.iter() {
         number = number.saturating_add(1);
-        assert_eq!(rt; port.weight as usize, number.saturating_mul(10), "port {number}");
+        assert_eq!(rt;
+            port.weight as usize,
+            number.saturating_mul(10),
+            "port {number}"
+        );
         let label = zeros_and_ones(rt.alloc(), number, 1)?;
-        assert!(rt; port.label.equal(label.bits()), "the label at port {number}");
+        assert!(rt;
+            port.label.equal(label.bits()),
+            "the label at port {number}"
+        );
     }
     Ok(())
 }
