@@ -31,7 +31,8 @@ decoded : (digits : List ℕ) → length digits ≡ 16 → list_all is_lower_dig
     × ((i : ℕ) → slice_index bytes i < 256) × (encode_lower bytes ≡ digits)
 decoded digits long low =
     let t = text_of_lower 8 digits (omega (arith, long)) low in
-    (t.bytes, rw t.text at (decode_sized-encode_lower t.bytes 8 t.count t.small), t.count, t.small, t.text)
+    let read = rw t.text at (decode_sized-encode_lower t.bytes 8 t.count t.small) in
+    (t.bytes, read, t.count, t.small, t.text)
 
 pub decoded_word_never_fails : (digits : List ℕ) (e : FromHexError) → length digits ≡ 16
     → list_all is_lower_digit digits ≡ true → decode_sized digits 8 ≢ Err e
@@ -112,7 +113,8 @@ spelled_bits all len m digits more bits long within text len_is written =
 pub whole_word : (digits more : List ℕ) (k : ℕ) → 16 * k + 16 ≤ length digits
     → take 16 (drop (16 * k) digits) ≡ take 16 (drop (16 * k) (digits ++ more))
 whole_word digits more k within =
-    let left : 16 ≤ length (drop (16 * k) digits) = omega (arith, length-drop (16 * k) digits, within) in
+    let left : 16 ≤ length (drop (16 * k) digits) =
+    omega (arith, length-drop (16 * k) digits, within) in
     sym (ap (take 16) (drop-append-le (16 * k) digits more (omega (arith, within)))
     ∙ take-append-le 16 (drop (16 * k) digits) more left)
 

@@ -26,8 +26,8 @@ impl NumCode for Gamma {
         buf.push_digits(zeros, number + 1, zeros + 1)
     }
 
-    // The next 64 bits show the zeros, and mostly all of the code; the code of 0 is a one alone. The
-    // cursor moves only where a code comes.
+    // The next 64 bits show the zeros, and mostly all of the code; the code of 0 is a one alone.
+    // The cursor moves only where a code comes.
     fn read(cursor: &mut Cursor<'_>) -> Option<u64> {
         let ahead = cursor.peek();
         if ahead >> 63 == 1 {

@@ -26,4 +26,4 @@ pub use gamma::Gamma;
 pub use hex_error::HexError;
 pub use hex_text::{from_hex, spells_bits};
 pub use hex_words::append_hex;
-pub use num_code::{MAX_CODED, MAX_CODE_BITS, NumCode};
+pub use num_code::{MAX_CODE_BITS, MAX_CODED, NumCode};

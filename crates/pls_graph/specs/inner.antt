@@ -2,3 +2,5 @@ pub mod Ranges
 pub mod Placed
 pub mod Seeking
 pub mod Sound
+pub mod Gaps
+pub mod Dropping

@@ -4,6 +4,7 @@ ghost use Rattle.std.specs.Prelude.{◌≡◌, ◌≢◌, [], ◌∷◌, ◌++�
 ghost use Rattle.pls_model.specs.declared.row.NodeRow.{NodeRow};
 ghost use Rattle.pls_model.specs.Configuration.{AreWithinLimits, refusal_of};
 ghost use Rattle.pls_graph.specs.Build.{IsRefusal};
+ghost use Rattle.pls_graph.specs.Rows.{gaining};
 
 use crate::network::Network;
 use crate::refusal::check;
@@ -67,11 +68,10 @@ impl NetworkBuilder {
         requires { self.old ≢ [] }
         ensures added { OnOk result ((before : List NodeRow) (row : NodeRow)
             → self.old ≡ before ++ row ∷ []
-            → self.new ≡ before ++ (record row { ports = row.ports ++ port ∷ [] }) ∷ []) }
+            → self.new ≡ before ++ gaining port row ∷ []) }
     {
-        let last = self.table.len() - 1;
         // The places of neighbours are found when all nodes are there.
-        self.table.add_port(last, port, 0)?;
+        self.table.add_last_port(port, 0)?;
         Ok(())
     }
 
@@ -102,6 +102,10 @@ impl NetworkBuilder {
         table.find_places();
         check(alloc, &table)?;
         let ports = count_ports(&table);
-        Ok(Network { table, ports })
+        Ok(Network {
+            table,
+            ports,
+            alloc,
+        })
     }
 }

@@ -15,19 +15,24 @@
 
 mod breadth;
 mod builder;
+mod editing;
+mod edits;
+mod gaps;
 mod index;
 mod network;
 mod ranges;
 mod reach;
 mod refusal;
 mod seeking;
+mod shaping;
 mod size;
 mod soundness;
 mod table;
 
 pub use breadth::levels;
 pub use builder::NetworkBuilder;
+pub use edits::EditError;
 pub use network::Network;
 pub use pls_model::{BuildError, NodePorts, NodeRow, Port, State};
-pub use reach::connected;
+pub use reach::{connected, first_apart};
 pub use size::Size;

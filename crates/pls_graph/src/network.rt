@@ -21,6 +21,8 @@ pub struct Network {
     pub(crate) table: Table,
     // How many ports there are.
     pub(crate) ports: usize,
+    // Where memory for edits is taken from.
+    pub(crate) alloc: Global,
 }
 
 impl Model for Network {

@@ -1,11 +1,13 @@
 //! Nodes by their identities.
 
-ghost use Rattle.std.specs.Prelude.{◌≡◌, ◌≤◌, ◌==◌, List, length, map, option_map, position, None, Some, IfSome};
+ghost use Rattle.std.specs.Prelude.{◌≡◌, ◌≤◌, ◌==◌, List, length, map, option_map, position, None, Some, IfNone, IfSome, true};
 ghost use Rattle.std.specs.List.{position_or_len};
+ghost use Rattle.std.specs.Option.{is_some};
 ghost use Rattle.pls_model.specs.Configuration.{out_of_order};
 ghost use Rattle.pls_model.specs.declared.row.Port.{Port};
 ghost use Rattle.pls_model.specs.declared.limits.TheConstants.{MAX_NODES};
 ghost use Rattle.pls_model.specs.declared.refusal.BuildError.TheVariants.{Order};
+ghost use Rattle.pls_graph.specs.inner.Gaps.{IsGap};
 ghost use Rattle.pls_graph.specs.inner.Ranges.{rows_at};
 ghost use Rattle.pls_graph.specs.inner.Seeking.{AreRising};
 
@@ -51,6 +53,17 @@ fn place_without_gaps(nodes: &[Node], id: u32) -> Option<usize>
     } else {
         None
     }
+}
+
+/// The place among nodes whose identities rise at which one would stand that is new; `None` where a
+/// node has it.
+pub(crate) fn gap_among(nodes: &[Node], id: u32) -> Option<usize>
+    requires { AreRising nodes.now }
+    ensures gap { IfSome result (λ i. (ports : List Port) → IsGap id i (rows_at ports nodes.now)) }
+    ensures new { IfSome result (λ _. position (λ node. id == node.id) nodes.now ≡ None) }
+    ensures known { IfNone result (is_some (position (λ node. id == node.id) nodes.now) ≡ true) }
+{
+    nodes.binary_search_by_key(&id, |node| node.id).err()
 }
 
 /// Puts beside each port the place of the node that it names, or the number of nodes where it names

@@ -1,15 +1,18 @@
 //! Nodes with their ports: all ports stand in one vector, the places of their neighbours beside
 //! them in another, and each node has one range of both.
 
-ghost use Rattle.std.specs.Prelude.{◌≡◌, ◌<◌, ◌≤◌, ◌==◌, [], ◌∷◌, ◌++◌, List, ℕ, length, position, slice_get, slice_set, option_map, None, Some, IfOk, OnOk, OnErr};
+ghost use Rattle.std.specs.Prelude.{◌≡◌, ◌≢◌, ◌<◌, ◌≤◌, ◌==◌, [], ◌∷◌, ◌++◌, List, ℕ, length, position, slice_get, slice_set, option_map, None, Some, IfOk, IfNone, IfSome, OnOk, OnErr, true};
 ghost use Rattle.pls_model.specs.declared.row.NodeRow.{NodeRow};
-ghost use Rattle.pls_model.specs.Configuration.{out_of_order};
+ghost use Rattle.std.specs.Option.{is_some};
+ghost use Rattle.pls_model.specs.Configuration.{out_of_order, row_of};
 ghost use Rattle.pls_model.specs.declared.limits.TheConstants.{MAX_NODES};
 ghost use Rattle.pls_model.specs.declared.refusal.BuildError.TheVariants.{Order};
 ghost use Rattle.pls_graph.specs.Places.{places_in};
+ghost use Rattle.pls_graph.specs.Rows.{gaining};
+ghost use Rattle.pls_graph.specs.inner.Gaps.{IsGap};
 
 use crate::ranges::{push_both, range_at_end};
-use crate::seeking::{fill_places, order, place_among};
+use crate::seeking::{fill_places, gap_among, order, place_among};
 use pls_model::{BuildError, NodePorts, NodeRow, Port, State};
 use std::alloc::{AllocError, Global};
 use std::marker::Model;
@@ -28,9 +31,9 @@ pub(crate) struct Node {
 /// Nodes with their ports, seen as the rows of both and, beside each row, as many places.
 #[derive(Drop)]
 pub(crate) struct Table {
-    nodes: Vec<Node>,
-    ports: Vec<Port>,
-    places: Vec<u32>,
+    pub(crate) nodes: Vec<Node>,
+    pub(crate) ports: Vec<Port>,
+    pub(crate) places: Vec<u32>,
 }
 
 impl Model for Table {
@@ -107,10 +110,12 @@ impl Table {
         &self.ports[node.start..node.start + node.count]
     }
 
-    /// The places beside the row at place i.
+    /// The places beside the row at place i, as many as it has ports.
     pub(crate) fn places(&self, i: usize) -> &[u32]
         requires { i < length self.now.rows }
-        ensures { slice_get self.now.places i ≡ Some result.now }
+        ensures places { slice_get self.now.places i ≡ Some result.now }
+        ensures each { option_map (λ row. length row.ports) (slice_get self.now.rows i)
+            ≡ Some (length result.now) }
     {
         let node = self.nodes[i];
         &self.places[node.start..node.start + node.count]
@@ -130,6 +135,16 @@ impl Table {
         ensures { result ≡ position (λ row. id == row.id) self.now.rows }
     {
         place_among(self.nodes.as_slice(), id)
+    }
+
+    /// The place at which an identity would stand that is new; `None` where a node has it.
+    pub(crate) fn gap_for(&self, id: u32) -> Option<usize>
+        requires { out_of_order self.now.rows ≡ None }
+        ensures gap { IfSome result (λ i. IsGap id i self.now.rows) }
+        ensures new { IfSome result (λ _. row_of self.now.rows id ≡ None) }
+        ensures known { IfNone result (is_some (row_of self.now.rows id) ≡ true) }
+    {
+        gap_among(self.nodes.as_slice(), id)
     }
 
     /// Puts beside each row the places of the nodes that its ports name.
@@ -182,7 +197,7 @@ impl Table {
         requires { i < length self.old.rows }
         ensures rows { OnOk result ((row : NodeRow) → slice_get self.old.rows i ≡ Some row
             → self.new.rows
-            ≡ slice_set self.old.rows i (record row { ports = row.ports ++ port ∷ [] })) }
+            ≡ slice_set self.old.rows i (gaining port row)) }
         ensures places { OnOk result ((places : List ℕ) → slice_get self.old.places i ≡ Some places
             → self.new.places ≡ slice_set self.old.places i (places ++ place ∷ [])) }
         ensures unchanged { OnErr result (self.new ≡ self.old) }
@@ -207,6 +222,41 @@ impl Table {
             room: count,
             ..node
         };
+        Ok(())
+    }
+
+    /// Puts a port, with the place of its neighbour, behind the others of the last node.
+    pub(crate) fn add_last_port(&mut self, port: Port, place: u32) -> Result<(), AllocError>
+        requires { self.old.rows ≢ [] }
+        ensures rows { OnOk result ((before : List NodeRow) (row : NodeRow)
+            → self.old.rows ≡ before ++ row ∷ []
+            → self.new.rows ≡ before ++ gaining port row ∷ []) }
+        ensures places { OnOk result ((before : List (List ℕ)) (places : List ℕ)
+            → self.old.places ≡ before ++ places ∷ []
+            → self.new.places ≡ before ++ (places ++ place ∷ []) ∷ []) }
+        ensures unchanged { OnErr result (self.new ≡ self.old) }
+    {
+        let last = self.len() - 1;
+        self.add_port(last, port, place)
+    }
+
+    /// Puts a node with these ports, and the places of their neighbours, behind the others.
+    pub(crate) fn add_row(
+        &mut self,
+        id: u32,
+        state: State,
+        ports: &[Port],
+        places: &[u32],
+    ) -> Result<(), AllocError>
+        requires { length places.now ≡ length ports.now }
+        ensures rows { OnOk result (self.new.rows ≡ self.old.rows
+            ++ (record { id = id; state = state; ports = ports.now }) ∷ []) }
+        ensures places { OnOk result (self.new.places ≡ self.old.places ++ places.now ∷ []) }
+    {
+        self.add_node(id, state)?;
+        for (p, port) in ports.iter().enumerate() {
+            self.add_last_port(*port, places[p])?;
+        }
         Ok(())
     }
 }

@@ -43,7 +43,8 @@ labels_kept new old slots kept within =
 
 -- one label is put behind all words
 pub labels_replaced : (new old : List ℕ) (slots : List Slot) (i len : ℕ) (label : List Bool)
-    → take (length old) new ≡ old → All (LiesIn old) slots → bits_of new (64 * length old) len ≡ label
+    → take (length old) new ≡ old → All (LiesIn old) slots
+    → bits_of new (64 * length old) len ≡ label
     → map (label_in new) (set slots i (slot_of (length old) len))
     ≡ set (map (label_in old) slots) i label
 labels_replaced new old slots i len label kept within put =
@@ -70,7 +71,10 @@ room_replaced new old slots i len total sum kept long within room is =
 pub free_used : (new old : List ℕ) (now was free count : ℕ) → IsFree old was free
     → length new ≡ length old + count → count ≤ free → was ≤ now → IsFree new now (free - count)
 free_used new old now was free count room long within grows =
-    record { fits = omega (arith, room.fits, long, within, grows); small = omega (arith, room.small, long, within) }
+    record {
+      fits = omega (arith, room.fits, long, within, grows);
+      small = omega (arith, room.small, long, within);
+    }
 
 -- an empty label is put in
 pub labels_inserted : (words : List ℕ) (slots : List Slot) (i : ℕ)
@@ -107,23 +111,24 @@ labels_removed words slots i =
 -- ---- labels that move to new words
 
 -- slots in new words with the labels of those in old ones
-pub record HasMoved (words : List ℕ) (slots : List Slot) (fresh : List ℕ) (moved : List Slot) : Type 0
-  where
-    pub labels : map (label_in fresh) moved ≡ map (label_in words) slots
-    pub lens : map (λ (slot : Slot). slot.len) moved ≡ map (λ (slot : Slot). slot.len) slots
-    pub lies : All (LiesIn fresh) moved
-    pub few : bits_of_slots moved ≤ 64 * length fresh
+pub record HasMoved (words : List ℕ) (slots : List Slot) (fresh : List ℕ) (moved : List Slot)
+    : Type 0 where
+  pub labels : map (label_in fresh) moved ≡ map (label_in words) slots
+  pub lens : map (λ (slot : Slot). slot.len) moved ≡ map (λ (slot : Slot). slot.len) slots
+  pub lies : All (LiesIn fresh) moved
+  pub few : bits_of_slots moved ≤ 64 * length fresh
 
 -- one more label
-pub moved_more : (words : List ℕ) (slots : List Slot) (fresh next : List ℕ) (moved : List Slot) (slot : Slot)
-    → HasMoved words slots fresh moved → take (length fresh) next ≡ fresh
+pub moved_more : (words : List ℕ) (slots : List Slot) (fresh next : List ℕ) (moved : List Slot)
+    (slot : Slot) → HasMoved words slots fresh moved → take (length fresh) next ≡ fresh
     → length next ≡ length fresh + (slot.len + 63) / 64
     → bits_of next (64 * length fresh) slot.len ≡ label_in words slot
     → HasMoved words (slots ++ slot ∷ []) next (moved ++ slot_of (length fresh) slot.len ∷ [])
 moved_more words slots fresh next moved slot before kept long put =
     let new = slot_of (length fresh) slot.len in record {
       labels = map-append (label_in next) moved (new ∷ [])
-          ∙ ap (λ xs. xs ++ label_in next new ∷ []) (labels_kept next fresh moved kept before.lies ∙ before.labels)
+          ∙ ap (λ xs. xs ++ label_in next new ∷ [])
+          (labels_kept next fresh moved kept before.lies ∙ before.labels)
           ∙ ap (λ x. map (label_in words) slots ++ x ∷ []) put
           ∙ sym (map-append (label_in words) slots (slot ∷ []));
       lens = map-append (λ (s : Slot). s.len) moved (new ∷ [])
