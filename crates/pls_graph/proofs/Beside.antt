@@ -1,19 +1,38 @@
 -- The neighbours of a node, by their places.
-use Rattle.std.proofs.Common.{◌≡◌, ◌∙◌, ℕ, true, ◌==◌, List, [], get_or, Contains, slice_get, Option, Some, position, option_map, All, IsSome, is_some, sym, ap, subst}
+use Rattle.std.proofs.Common.{◌≡◌, ◌∙◌, ℕ, zero, suc, ◌<◌, length, ◌∷◌, map, true, ◌==◌, List, [], get_or, Contains, slice_get, Option, Some, position, option_map, All, IsSome, is_some, sym, ap, subst}
 use Rattle.std.specs.Option.{option_map_or}
 use Rattle.std.proofs.lemmas.Bool.{eqb-true}
-use Rattle.std.proofs.lemmas.Option.{same_Some, slice_get-get_or}
+use Rattle.std.proofs.lemmas.Option.{same_Some, slice_get-get_or, slice_get_within, get_or_from_slice_get}
+use Rattle.std.proofs.lemmas.List.{get_or-map, length-map}
+use Rattle.std.proofs.lemmas.List.Elements.{All-map}
 use Rattle.std.proofs.lemmas.List.Folds.{find_at}
 use Rattle.pls_model.specs.declared.row.Port.{Port}
 use Rattle.pls_model.specs.declared.row.NodeRow.{NodeRow}
 use Rattle.pls_model.specs.Configuration.{row_of, IsNetwork}
 use Rattle.pls_model.specs.Walk.{edges_of, Adjacent}
-use Rattle.pls_graph.specs.Places.{place_in, named_places}
+use Rattle.pls_graph.specs.Places.{place_in, named_places, beside, places_in}
 use Rattle.pls_graph.proofs.Members.{Contains-map, Contains-from_map, place_from_Contains, Contains-from_place}
-use Rattle.pls_graph.proofs.Finds.{found_place, from_option_map}
+use Rattle.pls_graph.proofs.Finds.{found_place, from_option_map, item_at, position-found}
 use Rattle.pls_graph.proofs.Placed.{row_of_place, place_of_row, neighbour_found, row_place}
 use Rattle.pls_graph.proofs.Adjacent.{Names, Adjacent-port, Names-Adjacent}
-use Rattle.pls_graph.specs.Search.{beside}
+
+-- what stands beside a row are the places of its neighbours
+pub beside_at : (rows : List NodeRow) (i : ℕ) (places : List ℕ)
+    → slice_get (places_in rows) i ≡ Some places → places ≡ beside rows i
+beside_at [] i places at = absurd (cc)
+beside_at (row ∷ rows) zero places at =
+    sym (same_Some (named_places (row ∷ rows) row.ports) places at)
+beside_at (row ∷ rows) (suc i) places at = by rows i at
+  where
+    by : (later : List NodeRow) (i : ℕ)
+        → slice_get (map (λ (row' : NodeRow). named_places (row ∷ rows) row'.ports) later) i
+        ≡ Some places
+        → places
+        ≡ option_map_or (λ (row' : NodeRow). named_places (row ∷ rows) row'.ports)
+        (slice_get later i) []
+    by [] i at = absurd (cc)
+    by (next ∷ later) zero at = sym (same_Some (named_places (row ∷ rows) next.ports) places at)
+    by (next ∷ later) (suc i) at = by later i at
 
 module _ (rows : List NodeRow) (net : IsNetwork rows) where
   -- the node that a port names stands at the place of its identity
@@ -40,6 +59,18 @@ module _ (rows : List NodeRow) (net : IsNetwork rows) where
       let found : (other : NodeRow) × (row_of rows (get_or ports p d).nbr ≡ Some other) =
       neighbour_found rows net place row.0 row.1 p (get_or ports p d) has in
       ap is_some found.1
+
+  -- the neighbours of a row stand at places of rows
+  pub beside_within : (i : ℕ) → i < length rows → All (λ (k : ℕ). k < length rows) (beside rows i)
+  beside_within i inside =
+      let row : (row : NodeRow) × (slice_get rows i ≡ Some row) = item_at rows i inside in
+      subst (All (λ (k : ℕ). k < length rows))
+      (sym (ap (λ (o : Option NodeRow). option_map_or (λ (row : NodeRow). named_places rows row.ports)
+      o []) row.1))
+      (All-map (λ (k : ℕ). k < length rows) (λ (port : Port). place_in rows port.nbr) row.0.ports
+      (λ p d within. let port = get_or row.0.ports p d in
+      let there = at_place i p row.0 port row.1 (slice_get-get_or row.0.ports p d within) in
+      slice_get_within rows (place_in rows port.nbr) there.0 there.1))
 
   -- one identity stands at one place
   pub one_place : (i j : ℕ) (row other : NodeRow) → slice_get rows i ≡ Some row
@@ -101,3 +132,34 @@ module _ (rows : List NodeRow) (net : IsNetwork rows) where
           subst (λ (places : List ℕ). Contains places (place_in rows names.port.nbr))
               (sym beside_row) in',
         )
+
+-- the place beside a row at a port's number is that of the node that the port names
+pub beside_port : (rows : List NodeRow) → IsNetwork rows → (i p : ℕ) (ports : List Port)
+    (port : Port) (d : ℕ)
+    → option_map (λ (row : NodeRow). row.ports) (slice_get rows i) ≡ Some ports
+    → slice_get ports p ≡ Some port
+    → position (λ row. port.nbr == row.id) rows ≡ Some (get_or (beside rows i) p d)
+beside_port rows net i p ports port d at has =
+    let row : (row : NodeRow) × (slice_get rows i ≡ Some row) × (row.ports ≡ ports) =
+    from_option_map (λ (row : NodeRow). row.ports) (slice_get rows i) ports at in
+    let has_row : slice_get row.0.ports p ≡ Some port =
+    ap (λ (ports : List Port). slice_get ports p) row.2 ∙ has in
+    let place : get_or (beside rows i) p d ≡ place_in rows port.nbr =
+    ap (λ (places : List ℕ). get_or places p d) (beside_row rows net i row.0 row.1)
+    ∙ get_or-map (λ (port : Port). place_in rows port.nbr) row.0.ports p port d
+    (slice_get_within row.0.ports p port has_row)
+    ∙ ap (λ (port : Port). place_in rows port.nbr)
+    (get_or_from_slice_get row.0.ports p port port has_row) in
+    let found : (other : NodeRow) × (row_of rows port.nbr ≡ Some other) =
+    neighbour_found rows net i row.0 row.1 p port has_row in
+    (position-found (λ (row : NodeRow). port.nbr == row.id) rows (ap is_some found.1)).0
+    ∙ ap Some (sym place)
+
+pub beside_many : (rows : List NodeRow) → IsNetwork rows → (i : ℕ) (ports : List Port)
+    → option_map (λ (row : NodeRow). row.ports) (slice_get rows i) ≡ Some ports
+    → length (beside rows i) ≡ length ports
+beside_many rows net i ports at =
+    let row : (row : NodeRow) × (slice_get rows i ≡ Some row) × (row.ports ≡ ports) =
+    from_option_map (λ (row : NodeRow). row.ports) (slice_get rows i) ports at in
+    ap length (beside_row rows net i row.0 row.1)
+    ∙ length-map row.0.ports (λ (port : Port). place_in rows port.nbr) ∙ ap length row.2

@@ -11,6 +11,31 @@ pub mod Valid
 pub mod Placed
 pub mod Adjacent
 mod Gaining
-mod Beside
+pub mod Beside
 mod Searched
 mod Apart
+mod Parts
+mod Ranged
+mod PortAdded
+mod Ordered
+mod Halved
+mod Agreed
+mod Sized
+mod Sound
+mod Changing
+mod Ends
+mod StateEdit
+mod WeightEdit
+mod LinkEdit
+mod UnlinkEdit
+mod JoinEdit
+mod LeaveEdit
+mod Sought
+mod LinkDone
+mod UnlinkDone
+mod WeightDone
+mod Undone
+mod Fronts
+mod Shaped
+mod Inserted
+mod EditSteps

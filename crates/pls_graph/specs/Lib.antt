@@ -5,3 +5,6 @@ pub mod Connected
 pub mod Places
 pub mod Levels
 pub mod Search
+pub mod Rows
+pub mod Edits
+pub mod inner

@@ -8,7 +8,6 @@ ghost use Rattle.pls_model.specs.declared.refusal.BuildError.TheVariants.{Twice}
 ghost use Rattle.pls_graph.specs.Build.{SaysRefusal};
 ghost use Rattle.pls_graph.specs.Ways.{weight_in, weight_between, agrees_back, is_mutual};
 
-use crate::size::count_ports;
 use indexmap::{IndexMap, IndexSet};
 use pls_model::{BuildError, NodeRow, Port};
 use std::alloc::{AllocError, Global};
@@ -51,18 +50,6 @@ impl<'a> Index<'a> {
         let ways = ways_of(alloc, rows)?;
         let ids = identities(alloc, rows)?;
         Ok(Index { rows, ids, ways })
-    }
-
-    /// The identities in row order.
-    pub(crate) fn into_ids(self) -> IndexSet<u32>
-        ensures { result.keys ≡ ids_of self.entry }
-    {
-        let Index {
-            rows: _,
-            ids,
-            ways: _,
-        } = self;
-        ids
     }
 
     // Whether a row has the identity.
@@ -165,7 +152,7 @@ fn ways_of(alloc: Global, rows: &[NodeRow]) -> Result<IndexMap<(u32, u32), u32>,
     ensures refused { IfErr result (λ error.
         SaysRefusal (option_map (λ row. Twice row.id) (find names_twice rows.now)) error) }
 {
-    let mut ways = IndexMap::with_capacity(alloc, count_ports(rows) as usize)?;
+    let mut ways = IndexMap::with_capacity(alloc, ports_of(rows))?;
     for row in rows {
         if add_ports(&mut ways, row)? {
             return Err(BuildError::Twice(row.id));
@@ -189,4 +176,12 @@ fn add_ports(ways: &mut IndexMap<(u32, u32), u32>, row: &NodeRow) -> Result<bool
         }
     }
     Ok(false)
+}
+
+/// The number of ports of all rows.
+pub(crate) fn ports_of(rows: &[NodeRow]) -> usize
+    requires { ports_in rows.now ≤ MAX_PORTS }
+    ensures { result ≡ ports_in rows.now }
+{
+    rows.iter().map(|row| row.ports.as_slice().len()).sum()
 }

@@ -1,28 +1,38 @@
 //! Networks. A [`Network`] is seen as the list of its rows and holds that they are a network:
-//! [`Network::build`] names why rows are none, and a caller needs no premise afterwards, since
+//! [`NetworkBuilder::build`] names why rows are none, and a caller needs no premise afterwards, since
 //! `valid` of [`Network::len`] says what holds. Places count the rows from 0; identities rise with
-//! them.
+//! them. All ports stand in one vector, and beside each the place of its neighbour: a search goes by
+//! [`Network::places`] and looks no identity up.
 //!
 //! [`Network::size`] tells how large a network is, [`levels`] the fewest edges from a node to each,
 //! and [`connected`], by the levels from the first node, whether the edges join all nodes.
 //!
 //! Proofs above may cite `proofs/Placed` (rows and ports are found by their identities, and each
-//! port has a port back), `proofs/Valid` (one fact for each refusal), `proofs/Adjacent` (nodes are
-//! adjacent exactly where a port names one), `proofs/Joined` (walks compose and turn), and on lists
-//! `proofs/Members` and `proofs/Finds`.
+//! port has a port back), `proofs/Beside` (neighbours by their places), `proofs/Valid` (one fact for
+//! each refusal), `proofs/Adjacent` (nodes are adjacent exactly where a port names one),
+//! `proofs/Joined` (walks compose and turn), and on lists `proofs/Members` and `proofs/Finds`.
 #![tactic(auto)]
 
 mod breadth;
+mod builder;
+mod editing;
+mod edits;
+mod gaps;
 mod index;
 mod network;
+mod ranges;
 mod reach;
 mod refusal;
+mod seeking;
+mod shaping;
 mod size;
-#[cfg(test)]
-mod tests;
+mod soundness;
+mod table;
 
 pub use breadth::levels;
+pub use builder::NetworkBuilder;
+pub use edits::EditError;
 pub use network::Network;
 pub use pls_model::{BuildError, NodePorts, NodeRow, Port, State};
-pub use reach::connected;
+pub use reach::{connected, first_apart};
 pub use size::Size;

@@ -1,36 +1,42 @@
 //! A network, and how rows become one.
 
-ghost use Rattle.std.specs.Prelude.{◌≡◌, ◌<◌, ◌==◌, length, position, slice_get, option_map, None, Some, IfOk, IfErr, OnOk};
+ghost use Rattle.std.specs.Prelude.{◌≡◌, ◌<◌, ◌≤◌, ◌==◌, All, length, position, slice_get, option_map, None, Some, IfOk, IfErr, OnOk};
 ghost use Rattle.pls_model.specs.Configuration.{IsNetwork, refusal_of, AreWithinLimits};
 ghost use Rattle.pls_graph.specs.Build.{IsRefusal};
+ghost use Rattle.pls_graph.specs.Places.{beside};
 ghost use Rattle.pls_graph.specs.Size.{size_of};
 
-use crate::refusal::checked_ids;
+use crate::builder::NetworkBuilder;
+use crate::index::ports_of;
 use crate::size::{Size, size_of_rows};
-use indexmap::IndexSet;
+use crate::table::Table;
 use pls_model::{BuildError, NodeRow, Port, State};
 use std::alloc::Global;
 use std::marker::Model;
 
-/// A network, seen as the list of its rows. The set has their identities in the same order, so that
-/// the index of an identity is its place.
+/// A network, seen as the list of its rows. Beside each row stand the places of its neighbours, in
+/// the order of its ports.
 #[derive(Drop)]
 pub struct Network {
-    rows: Vec<NodeRow>,
-    ids: IndexSet<u32>,
+    pub(crate) table: Table,
+    // How many ports there are.
+    pub(crate) ports: usize,
+    // Where memory for edits is taken from.
+    pub(crate) alloc: Global,
 }
 
 impl Model for Network {
     ghost use Rattle.std.specs.Prelude.{◌≡◌, List};
     ghost use Rattle.pls_model.specs.declared.row.NodeRow.{NodeRow};
-    ghost use Rattle.pls_model.specs.Configuration.{ids_of, IsNetwork};
+    ghost use Rattle.pls_model.specs.Configuration.{IsNetwork, ports_in};
+    ghost use Rattle.pls_graph.specs.Places.{places_in};
 
     ghost Value = { List NodeRow };
 
-    ghost view = { λ network. network.rows.items };
+    ghost view = { λ network. network.table.rows };
 
-    ghost invariant = { λ network.
-        (network.ids.keys ≡ ids_of network.rows.items) × IsNetwork network.rows.items };
+    ghost invariant = { λ network. (network.table.places ≡ places_in network.table.rows)
+        × IsNetwork network.table.rows × (network.ports ≡ ports_in network.table.rows) };
 }
 
 impl Network {
@@ -43,8 +49,16 @@ impl Network {
         ensures valid { OnOk result (refusal_of rows.items ≡ None) }
         ensures refused { IfErr result (λ error. IsRefusal rows.items error) }
     {
-        let ids = checked_ids(alloc, rows.as_slice())?;
-        Ok(Network { rows, ids })
+        let ports = ports_of(rows.as_slice());
+        let Ok(mut builder) = NetworkBuilder::with_capacity(alloc, rows.len(), ports) else {
+            return Err(BuildError::NoMemory);
+        };
+        for row in &rows {
+            let Ok(()) = builder.row(row) else {
+                return Err(BuildError::NoMemory);
+            };
+        }
+        builder.build(alloc)
     }
 
     /// The number of nodes, at least 1. `valid` says what holds of each network.
@@ -52,21 +66,21 @@ impl Network {
         ensures len { result ≡ length self.now }
         ensures valid { IsNetwork self.now }
     {
-        self.rows.len()
+        self.table.len()
     }
 
     /// How large the network is. It takes no memory.
     pub fn size(&self) -> Size
         ensures { result ≡ size_of self.now }
     {
-        size_of_rows(self.rows.as_slice())
+        size_of_rows(&self.table)
     }
 
     /// The place of an identity, or `None` where no node has it.
     pub fn place_of(&self, id: u32) -> Option<usize>
         ensures { result ≡ position (λ row. id == row.id) self.now }
     {
-        self.ids.get_index_of(&id)
+        self.table.place_of(id)
     }
 
     /// The identity and the state of the node at place i.
@@ -76,8 +90,7 @@ impl Network {
         ensures state { option_map (λ row. row.state) (slice_get self.now i) ≡ Some result.1 }
         ensures valid { IsNetwork self.now }
     {
-        let row = &self.rows[i];
-        (row.id, row.state)
+        self.table.node(i)
     }
 
     /// The ports of the node at place i, in their order.
@@ -85,6 +98,15 @@ impl Network {
         requires { i < length self.now }
         ensures { option_map (λ row. row.ports) (slice_get self.now i) ≡ Some result.now }
     {
-        self.rows[i].ports.as_slice()
+        self.table.ports(i)
+    }
+
+    /// The places of the neighbours of the node at place i, in the order of its ports.
+    pub fn places(&self, i: usize) -> &[u32]
+        requires { i < length self.now }
+        ensures places { result.now ≡ beside self.now i }
+        ensures within { All (λ place. place < length self.now) result.now }
+    {
+        self.table.places(i)
     }
 }

@@ -1,27 +1,42 @@
 //! The tests by which rows are refused, in the order in which they are tried.
 
-ghost use Rattle.std.specs.Prelude.{◌≡◌, ◌≤◌, length, [], ◌∷◌, find, option_map, None, IfOk, IfErr, OnOk};
+ghost use Rattle.std.specs.Prelude.{◌≡◌, [], ◌∷◌, find, option_map, None, IfErr, OnOk};
 ghost use Rattle.std.specs.List.{list_all};
-ghost use Rattle.pls_model.specs.Configuration.{AreWithinLimits, first_of, refusal_of, ids_of, out_of_order, links_itself, names_unknown, lacks_way_back, differs_in_weight, points_nowhere};
-ghost use Rattle.pls_model.specs.declared.refusal.BuildError.TheVariants.{Order, SelfLink, Unknown, OneWay, Weights, Pointer};
+ghost use Rattle.pls_model.specs.Configuration.{AreWithinLimits, first_of, refusal_of, out_of_order, links_itself, names_unknown, lacks_way_back, differs_in_weight, points_nowhere};
+ghost use Rattle.pls_model.specs.declared.refusal.BuildError.TheVariants.{SelfLink, Unknown, OneWay, Weights, Pointer};
 ghost use Rattle.pls_graph.specs.Build.{IsRefusal};
+ghost use Rattle.pls_graph.specs.Places.{places_in};
 ghost use Rattle.pls_graph.specs.Ways.{is_mutual};
 
 use crate::index::Index;
-use indexmap::IndexSet;
+use crate::soundness::are_sound;
+use crate::table::Table;
 use pls_model::{BuildError, NodeRow};
 use std::alloc::Global;
 
-/// The identities of rows that are a network, in their order, or the first refusal that occurs.
-pub(crate) fn checked_ids(alloc: Global, rows: &[NodeRow]) -> Result<IndexSet<u32>, BuildError>
+/// The first refusal that occurs at the rows of a table, whose identities rise, if one does.
+pub(crate) fn check(alloc: Global, table: &Table) -> Result<(), BuildError>
+    requires within_limits { AreWithinLimits table.now.rows }
+    requires order { out_of_order table.now.rows ≡ None }
+    requires places { table.now.places ≡ places_in table.now.rows }
+    ensures valid { OnOk result (refusal_of table.now.rows ≡ None) }
+    ensures refused { IfErr result (λ error. IsRefusal table.now.rows error) }
+{
+    if are_sound(table) {
+        return Ok(());
+    }
+    // A row is refused, or has very many ports.
+    let rows = table.rows(alloc)?;
+    check_rows(alloc, rows.as_slice())
+}
+
+// The first refusal that occurs at rows whose identities rise, if one does.
+fn check_rows(alloc: Global, rows: &[NodeRow]) -> Result<(), BuildError>
     requires within_limits { AreWithinLimits rows.now }
-    ensures ok { IfOk result (λ ids. ids.keys ≡ ids_of rows.now) }
+    requires order { out_of_order rows.now ≡ None }
     ensures valid { OnOk result (refusal_of rows.now ≡ None) }
     ensures refused { IfErr result (λ error. IsRefusal rows.now error) }
 {
-    if let Some(refusal) = order(rows) {
-        return Err(refusal);
-    }
     if let Some(refusal) = self_link(rows) {
         return Err(refusal);
     }
@@ -32,20 +47,7 @@ pub(crate) fn checked_ids(alloc: Global, rows: &[NodeRow]) -> Result<IndexSet<u3
     if let Some(refusal) = pointer(rows) {
         return Err(refusal);
     }
-    Ok(index.into_ids())
-}
-
-// Identities that do not rise.
-fn order(rows: &[NodeRow]) -> Option<BuildError>
-    requires { 1 ≤ length rows.now }
-    ensures { result ≡ option_map (λ row. Order row.id) (out_of_order rows.now) }
-{
-    for (i, row) in rows[1..].iter().enumerate() {
-        if row.id <= rows[i].id {
-            return Some(BuildError::Order(row.id));
-        }
-    }
-    None
+    Ok(())
 }
 
 // A port to its own node.

@@ -3,6 +3,10 @@
 mod base;
 mod bits;
 mod colours;
+mod graph;
+mod labelfile;
+mod lines;
+mod netfile;
 mod pointers;
 mod refusals;
 mod small;

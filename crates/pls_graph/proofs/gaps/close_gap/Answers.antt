@@ -1,0 +1,21 @@
+use Rattle.std.proofs.Common.{◌≡◌, ◌∙◌, ◌<◌, ℕ, List, length, ap, set, get_or, arith}
+use Rattle.pls_graph.specs.inner.Gaps.{place_without}
+use Rattle.pls_graph.proofs.Fronts.{front_all, front_get, front_set}
+use Rattle.pls_graph.proofs.gaps.close_gap.Goals as goal
+
+pub loop-place-preserved : goal.loop-place-preserved
+loop-place-preserved c =
+    let f : ℕ → ℕ = place_without c.args.gone in
+    let old = c.args.places.now in
+    let i = c.loop-place.place-index in
+    let now = c.loop-place.places in
+    let new : c.place_without.result ≡ f (get_or old i 0) =
+    c.place_without.ensures ∙ ap f (ap (λ (xs : List ℕ). get_or xs i 0) c.loop-place.invariant
+    ∙ front_get f i old 0) in
+    ap (set now i) new
+    ∙ ap (λ (xs : List ℕ). set xs i (f (get_or old i 0))) c.loop-place.invariant
+    ∙ front_set f i old 0 c.loop-place-test.true
+
+pub returns : goal.returns
+returns c = c.loop-place.invariant
+    ∙ front_all (place_without c.args.gone) c.loop-place.place-index c.args.places.now c.loop-place-test.false

@@ -1,0 +1,116 @@
+use Rattle.std.proofs.Common.{◌≡◌, ◌≢◌, ◌∙◌, ◌==◌, ◌<◌, ◌≤◌, ◌+◌, ◌-◌, ◌++◌, ◌∷◌, [], ℕ, ap, sym, subst, position, slice_get, Some, None, List, length, option_map, is_some, nat_lt, true, false, arith}
+use Rattle.std.proofs.lemmas.Bool.{eq-eqb, ne_eqb, lt-ltb, le-ltb}
+use Rattle.std.proofs.lemmas.Option.{same_Some, slice_get_within}
+use Rattle.pls_model.specs.declared.row.Port.{Port}
+use Rattle.pls_model.specs.declared.row.NodeRow.{NodeRow}
+use Rattle.pls_model.specs.Configuration.{IsNetwork, ports_in}
+use Rattle.pls_graph.specs.Places.{places_in}
+use Rattle.pls_graph.proofs.Sought.{IsSought, sought, sought_none, ports_read}
+use Rattle.pls_model.specs.Configuration.{port_to}
+use Rattle.pls_graph.proofs.Sought.{free_both, found_as, no_find, unlink_absent_first, unlink_absent_second, unlink_apart, unlink_allowed}
+use Rattle.pls_graph.proofs.network.Network.edge_at.Goals as goal
+
+pub returns-in_default-clause-refused : goal.returns-in_default-clause-refused
+returns-in_default-clause-refused c =
+    unlink_absent_first c.args.self.now c.args.a c.args.b
+    (sought_none c.args.self.now c.args.a (sym c.place_of.ensures ∙ c.in_default.is))
+
+pub returns-in_default-place_of-clause-refused : goal.returns-in_default-place_of-clause-refused
+returns-in_default-place_of-clause-refused c =
+    let now = c.args.self.now in
+    let row : (row : NodeRow) × IsSought now c.args.a c.in-Some.i row =
+    sought now c.args.a c.in-Some.i (sym c.place_of.ensures ∙ c.in-Some.is) in
+    unlink_absent_second now c.args.a c.args.b row.0 row.1.found
+    (sought_none now c.args.b (sym c.place_of-2.ensures ∙ c.in_default-place_of.is))
+
+pub returns-in_default-port_number-clause-refused : goal.returns-in_default-port_number-clause-refused
+returns-in_default-port_number-clause-refused c =
+    let now = c.args.self.now in
+    let i = c.in-Some.i in
+    let j = c.in-Some-place_of.j in
+    let row : (row : NodeRow) × IsSought now c.args.a i row =
+    sought now c.args.a i (sym c.place_of.ensures ∙ c.in-Some.is) in
+    let other : (row : NodeRow) × IsSought now c.args.b j row =
+    sought now c.args.b j (sym c.place_of-2.ensures ∙ c.in-Some-place_of.is) in
+    let ports : row.0.ports ≡ c.ports.result.now =
+    ports_read now i row.0 c.ports.result.now row.1.at c.ports.ensures in
+    let found : c.port_number.result ≡ position (λ port. c.args.b == port.nbr) row.0.ports =
+    c.port_number.ensures
+    ∙ ap (position (λ (port : Port). c.args.b == port.nbr)) (sym ports) in
+    unlink_apart now c.args.a c.args.b row.0 row.1.found other.0 other.1.found
+    (found_as (λ (port : Port). c.args.b == port.nbr) row.0.ports
+    ∙ ap is_some (sym found ∙ c.in_default-port_number.is))
+
+pub returns-in_default-port_number-2-clause-refused : goal.returns-in_default-port_number-2-clause-refused
+returns-in_default-port_number-2-clause-refused c =
+    let now = c.args.self.now in
+    let i = c.in-Some.i in
+    let j = c.in-Some-place_of.j in
+    let row : (row : NodeRow) × IsSought now c.args.a i row =
+    sought now c.args.a i (sym c.place_of.ensures ∙ c.in-Some.is) in
+    let other : (row : NodeRow) × IsSought now c.args.b j row =
+    sought now c.args.b j (sym c.place_of-2.ensures ∙ c.in-Some-place_of.is) in
+    let ports2 : other.0.ports ≡ c.ports-2.result.now =
+    ports_read now j other.0 c.ports-2.result.now other.1.at c.ports-2.ensures in
+    let back : c.port_number-2.result ≡ position (λ port. c.args.a == port.nbr) other.0.ports =
+    c.port_number-2.ensures
+    ∙ ap (position (λ (port : Port). c.args.a == port.nbr)) (sym ports2) in
+    let free : port_to other.0 row.0.id ≡ None =
+    ap (port_to other.0) row.1.same
+    ∙ no_find (λ (port : Port). c.args.a == port.nbr) other.0.ports
+    (sym back ∙ c.in_default-port_number-2.is) in
+    let none : port_to row.0 c.args.b ≡ None = ap (port_to row.0) (sym other.1.same)
+    ∙ free_both now c.len.ensures.valid j i other.0 row.0 other.1.at row.1.at free in
+    unlink_apart now c.args.a c.args.b row.0 row.1.found other.0 other.1.found (ap is_some none)
+
+pub returns-clause-allowed : goal.returns-clause-allowed
+returns-clause-allowed c =
+    let now = c.args.self.now in
+    let i = c.in-Some.i in
+    let j = c.in-Some-place_of.j in
+    let row : (row : NodeRow) × IsSought now c.args.a i row =
+    sought now c.args.a i (sym c.place_of.ensures ∙ c.in-Some.is) in
+    let other : (row : NodeRow) × IsSought now c.args.b j row =
+    sought now c.args.b j (sym c.place_of-2.ensures ∙ c.in-Some-place_of.is) in
+    let ports : row.0.ports ≡ c.ports.result.now =
+    ports_read now i row.0 c.ports.result.now row.1.at c.ports.ensures in
+    let found : c.port_number.result ≡ position (λ port. c.args.b == port.nbr) row.0.ports =
+    c.port_number.ensures
+    ∙ ap (position (λ (port : Port). c.args.b == port.nbr)) (sym ports) in
+    unlink_allowed now c.args.a c.args.b row.0 row.1.found other.0 other.1.found
+    (found_as (λ (port : Port). c.args.b == port.nbr) row.0.ports
+    ∙ ap is_some (sym found ∙ c.in-Some-port_number.is))
+
+pub returns-clause-forth : goal.returns-clause-forth
+returns-clause-forth c = λ r here.
+    let now = c.args.self.now in
+    let i = c.in-Some.i in
+    let j = c.in-Some-place_of.j in
+    let row : (row : NodeRow) × IsSought now c.args.a i row =
+    sought now c.args.a i (sym c.place_of.ensures ∙ c.in-Some.is) in
+    let other : (row : NodeRow) × IsSought now c.args.b j row =
+    sought now c.args.b j (sym c.place_of-2.ensures ∙ c.in-Some-place_of.is) in
+    let ports : row.0.ports ≡ c.ports.result.now =
+    ports_read now i row.0 c.ports.result.now row.1.at c.ports.ensures in
+    let found : c.port_number.result ≡ position (λ port. c.args.b == port.nbr) row.0.ports =
+    c.port_number.ensures
+    ∙ ap (position (λ (port : Port). c.args.b == port.nbr)) (sym ports) in
+    ap (λ (row : NodeRow). position (λ (port : Port). c.args.b == port.nbr) row.ports)
+    (same_Some r row.0 (sym here ∙ row.1.at)) ∙ sym found ∙ c.in-Some-port_number.is
+
+pub returns-clause-back : goal.returns-clause-back
+returns-clause-back c = λ r here.
+    let now = c.args.self.now in
+    let i = c.in-Some.i in
+    let j = c.in-Some-place_of.j in
+    let row : (row : NodeRow) × IsSought now c.args.a i row =
+    sought now c.args.a i (sym c.place_of.ensures ∙ c.in-Some.is) in
+    let other : (row : NodeRow) × IsSought now c.args.b j row =
+    sought now c.args.b j (sym c.place_of-2.ensures ∙ c.in-Some-place_of.is) in
+    let ports2 : other.0.ports ≡ c.ports-2.result.now =
+    ports_read now j other.0 c.ports-2.result.now other.1.at c.ports-2.ensures in
+    let back : c.port_number-2.result ≡ position (λ port. c.args.a == port.nbr) other.0.ports =
+    c.port_number-2.ensures
+    ∙ ap (position (λ (port : Port). c.args.a == port.nbr)) (sym ports2) in
+    ap (λ (row : NodeRow). position (λ (port : Port). c.args.a == port.nbr) row.ports)
+    (same_Some r other.0 (sym here ∙ other.1.at)) ∙ sym back ∙ c.in-Some-port_number-2.is

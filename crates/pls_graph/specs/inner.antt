@@ -1,0 +1,6 @@
+pub mod Ranges
+pub mod Placed
+pub mod Seeking
+pub mod Sound
+pub mod Gaps
+pub mod Dropping

@@ -1,0 +1,81 @@
+//! Nodes by their identities.
+
+ghost use Rattle.std.specs.Prelude.{◌≡◌, ◌≤◌, ◌==◌, List, length, map, option_map, position, None, Some, IfNone, IfSome, true};
+ghost use Rattle.std.specs.List.{position_or_len};
+ghost use Rattle.std.specs.Option.{is_some};
+ghost use Rattle.pls_model.specs.Configuration.{out_of_order};
+ghost use Rattle.pls_model.specs.declared.row.Port.{Port};
+ghost use Rattle.pls_model.specs.declared.limits.TheConstants.{MAX_NODES};
+ghost use Rattle.pls_model.specs.declared.refusal.BuildError.TheVariants.{Order};
+ghost use Rattle.pls_graph.specs.inner.Gaps.{IsGap};
+ghost use Rattle.pls_graph.specs.inner.Ranges.{rows_at};
+ghost use Rattle.pls_graph.specs.inner.Seeking.{AreRising};
+
+use crate::table::Node;
+use pls_model::{BuildError, Port};
+
+/// The first node whose identity is not above that of the node before it, as a refusal.
+pub(crate) fn order(nodes: &[Node]) -> Option<BuildError>
+    requires { 1 ≤ length nodes.now }
+    ensures { (ports : List Port) → result
+        ≡ option_map (λ row. Order row.id) (out_of_order (rows_at ports nodes.now)) }
+{
+    for (i, node) in nodes[1..].iter().enumerate() {
+        if node.id <= nodes[i].id {
+            return Some(BuildError::Order(node.id));
+        }
+    }
+    None
+}
+
+/// The place of an identity among nodes whose identities rise. It is looked for first where it
+/// stands if they have no gaps.
+pub(crate) fn place_among(nodes: &[Node], id: u32) -> Option<usize>
+    requires { AreRising nodes.now }
+    ensures { result ≡ position (λ node. id == node.id) nodes.now }
+{
+    match place_without_gaps(nodes, id) {
+        Some(place) => Some(place),
+        None => nodes.binary_search_by_key(&id, |node| node.id).ok(),
+    }
+}
+
+// The place of an identity that stands as far behind the first one as it is above it; `None` for
+// every other.
+fn place_without_gaps(nodes: &[Node], id: u32) -> Option<usize>
+    requires { AreRising nodes.now }
+    ensures { IfSome result (λ place. position (λ node. id == node.id) nodes.now ≡ Some place) }
+{
+    let first = nodes.first()?;
+    let place = id.checked_sub(first.id)? as usize;
+    if place < nodes.len() && nodes[place].id == id {
+        Some(place)
+    } else {
+        None
+    }
+}
+
+/// The place among nodes whose identities rise at which one would stand that is new; `None` where a
+/// node has it.
+pub(crate) fn gap_among(nodes: &[Node], id: u32) -> Option<usize>
+    requires { AreRising nodes.now }
+    ensures gap { IfSome result (λ i. (ports : List Port) → IsGap id i (rows_at ports nodes.now)) }
+    ensures new { IfSome result (λ _. position (λ node. id == node.id) nodes.now ≡ None) }
+    ensures known { IfNone result (is_some (position (λ node. id == node.id) nodes.now) ≡ true) }
+{
+    nodes.binary_search_by_key(&id, |node| node.id).err()
+}
+
+/// Puts beside each port the place of the node that it names, or the number of nodes where it names
+/// none.
+pub(crate) fn fill_places(nodes: &[Node], ports: &[Port], places: &mut Vec<u32>)
+    requires rising { AreRising nodes.now }
+    requires few { length nodes.now ≤ MAX_NODES }
+    requires both { length places.old.items ≡ length ports.now }
+    ensures { places.new.items ≡ map (λ port. position_or_len (λ node. port.nbr == node.id) nodes.now)
+        ports.now }
+{
+    for (k, port) in ports.iter().enumerate() {
+        places[k] = place_among(nodes, port.nbr).unwrap_or(nodes.len()) as u32;
+    }
+}
