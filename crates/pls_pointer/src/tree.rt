@@ -5,8 +5,8 @@ ghost use Rattle.std.specs.Option.{is_some};
 
 use crate::above::is_one_deeper;
 use pls_bits::NumCode;
-use pls_scheme::{Coded, Judgement, OfNumbers, Ruled, Rules, Verdict, judged_from};
 use pls_model::State;
+use pls_scheme::{Coded, Judgement, OfNumbers, Ruled, Rules, Verdict, judged_from};
 use std::marker::PhantomData;
 
 /// What a label says.

@@ -1,13 +1,11 @@
 //! Whether rules hold where labels say something, before anything is written.
 
-ghost use Rattle.std.specs.Prelude.{◌≡◌, ◌↔◌, ℕ, ◌<◌, List, length, map, slice_get, Some, IsSome, IsTrue};
-ghost use Rattle.std.specs.Option.{option_copied};
+ghost use Rattle.std.specs.Prelude.{◌≡◌, ◌↔◌, ℕ, ◌<◌, List, length, map, slice_get, Some, IsTrue};
 ghost use Rattle.pls_model.specs.declared.row.NodeRow.{NodeRow};
-ghost use Rattle.pls_model.specs.declared.row.Port.{Port};
-ghost use Rattle.pls_model.specs.Configuration.{IsNetwork, row_of};
+ghost use Rattle.pls_graph.specs.Places.{named_places};
 ghost use Rattle.pls_scheme.specs.Judging.{judged_from};
 ghost use Rattle.pls_scheme.specs.Marked.{AreSaidBy};
-ghost use Rattle.pls_scheme.specs.Reading.{label_above, said, said_port};
+ghost use Rattle.pls_scheme.specs.Reading.{said, said_port};
 ghost use Rattle.pls_scheme.specs.Theorem.{HoldEverywhere};
 ghost use Rattle.pls_scheme.specs.inner.Holding.{AreKnown};
 
@@ -53,41 +51,34 @@ fn verdict_at<R: Rules>(
 {
     is_valid(net);
     let (id, state) = net.node(i);
-    let ports = net.ports(i);
+    let places = net.places(i);
     let own = &labels[i];
     let above = match state.up {
-        Some(up) => Some(said_at(net, labels, ports[up as usize].nbr)),
+        Some(up) => Some(&labels[places[up as usize] as usize]),
         None => None,
     };
-    let tally = tally_at(rules, net, labels, own, ports);
+    let tally = tally_at(rules, net, labels, own, net.ports(i), places);
     rules.verdict(id, state, own, above, tally)
 }
 
-// The tally of all ports of a node.
+// The tally of all ports of a node, whose neighbours stand at these places.
 fn tally_at<R: Rules>(
     rules: &R,
     net: &Network,
     labels: &[<R::Layout as Layout>::Label],
     own: &<R::Layout as Layout>::Label,
     ports: &[Port],
+    places: &[u32],
 ) -> R::Tally
     requires each { length labels.now ≡ length net.now }
     requires known { AreKnown net.now ports.now }
+    requires places { places.now ≡ named_places net.now ports.now }
     ensures { (say : ℕ → R.Layout.Label) → AreSaidBy say net.now labels.now
         → result ≡ R.tallied rules.now own.now (map (said_port say) ports.now) }
 {
     let mut tally = rules.start(own);
-    for port in ports {
-        tally = rules.add(own, tally, port.weight, said_at(net, labels, port.nbr));
+    for (p, port) in ports.iter().enumerate() {
+        tally = rules.add(own, tally, port.weight, &labels[places[p] as usize]);
     }
     tally
-}
-
-// What is said of an identity that is known.
-fn said_at<'a, L>(net: &Network, labels: &'a [L], id: u32) -> &'a L
-    requires each { length labels.now ≡ length net.now }
-    requires known { IsSome (row_of net.now id) }
-    ensures { (say : ℕ → L) → AreSaidBy say net.now labels.now → result.now ≡ say id }
-{
-    &labels[net.place_of(id).unwrap()]
 }

@@ -1,2 +1,3 @@
 -- The laws of the example part.
 pub mod ScheduleLaws
+pub mod IndependentSetLaws

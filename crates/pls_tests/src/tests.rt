@@ -9,6 +9,7 @@ mod lines;
 mod netfile;
 mod pointers;
 mod refusals;
+mod schemes;
 mod small;
 mod streams;
 mod trees;
