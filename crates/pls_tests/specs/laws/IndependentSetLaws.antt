@@ -66,9 +66,11 @@ module _ (rows : List NodeRow) (net : IsNetwork rows) (say : ℕ → MarkLabel) 
               × (other.id ≡ port.nbr) = neighbour_row rows net row in' port has in
               let marked : other.state.mark ≡ 1 =
               sym (marks other other_in) ∙ ap (λ (id : ℕ). (say id).mark) named
-              ∙ eqb-true (say port.nbr).mark 1 passes in
-              (port.nbr, (port_adjacent rows net row port in' has).0,
-              (other, other_in, named, marked))
+              ∙ eqb-true (say port.nbr).mark 1 passes in (
+                port.nbr,
+                (port_adjacent rows net row port in' has).0,
+                (other, other_in, named, marked),
+              )
         ]
 
 -- where the rules hold everywhere, the set is maximal independent
@@ -78,9 +80,13 @@ independent_show rows net joined say hold =
 
 -- where each label says its node's mark, the rules hold of a maximal independent set
 pub independent_met : RulesAreMet independent_rules IsMaximalIndependent independent_says
-independent_met rows net joined set say right row in' =
-    (eq-eqb (say row.id).mark row.state.mark (mark row in'), (not_both _ _ independent,
-    (one_of _ _ maximal, tt)))
+independent_met rows net joined set say right row in' = (
+  eq-eqb (say row.id).mark row.state.mark (mark row in'),
+  (
+    not_both _ _ independent,
+    (one_of _ _ maximal, tt),
+  ),
+)
   where
     mark : (row : NodeRow) → Contains rows row → (say row.id).mark ≡ row.state.mark
     mark row in' = ap (λ (label : MarkLabel). label.mark) (right row in')
@@ -92,9 +98,13 @@ independent_met rows net joined set say right row in' =
         let (other, other_in, named) : (other : NodeRow) × Contains rows other
         × (other.id ≡ port.nbr) = neighbour_row rows net row in' port has in
         set.0 row.id port.nbr (port_adjacent rows net row port in' has).0
-        (row, in', refl, sym (mark row in') ∙ eqb-true (say row.id).mark 1 inside)
-        (other, other_in, named, sym (mark other other_in)
-        ∙ ap (λ (id : ℕ). (say id).mark) named ∙ eqb-true (say port.nbr).mark 1 passes)
+        (row, in', refl, sym (mark row in') ∙ eqb-true (say row.id).mark 1 inside) (
+          other,
+          other_in,
+          named,
+          sym (mark other other_in)
+              ∙ ap (λ (id : ℕ). (say id).mark) named ∙ eqb-true (say port.nbr).mark 1 passes,
+        )
 
     maximal : (((say row.id).mark == 1) ≡ true → ⊥)
         → list_any is_inside (map (said_port say) row.ports) ≡ true

@@ -87,16 +87,31 @@ fn pairs_of_pairs_judge(rt: HostRuntime) -> Result<(), Fail> {
         return Err(Fail::from("no tree"));
     };
     let trees = Pair {
-        first: Pair { first: Tree::<Gamma>::new(), second: Tree::<Gamma>::new() },
+        first: Pair {
+            first: Tree::<Gamma>::new(),
+            second: Tree::<Gamma>::new(),
+        },
         second: Tree::<Gamma>::new(),
     };
     let mixed = Pair {
-        first: Pair { first: Tree::<Gamma>::new(), second: Forest::<Gamma>::new() },
-        second: Pair { first: Tree::<Gamma>::new(), second: Tree::<Gamma>::new() },
+        first: Pair {
+            first: Tree::<Gamma>::new(),
+            second: Forest::<Gamma>::new(),
+        },
+        second: Pair {
+            first: Tree::<Gamma>::new(),
+            second: Tree::<Gamma>::new(),
+        },
     };
     let mut steps = Steps::new();
-    assert!(rt; are_accepted(rt.alloc(), &trees, &net, &labels, &mut steps)?, "trees");
-    assert!(rt; !are_accepted(rt.alloc(), &mixed, &net, &labels, &mut steps)?, "a forest too");
+    assert!(rt;
+        are_accepted(rt.alloc(), &trees, &net, &labels, &mut steps)?,
+        "trees"
+    );
+    assert!(rt;
+        !are_accepted(rt.alloc(), &mixed, &net, &labels, &mut steps)?,
+        "a forest too"
+    );
     assert_eq!(rt; steps.number(), 6, "one step a node");
     Ok(())
 }
@@ -115,7 +130,12 @@ fn maximal_independent_sets_are_marked(rt: HostRuntime) -> Result<(), Fail> {
     ] {
         let net = row(rt.alloc(), marks)?;
         let marked = scheme.mark(rt.alloc(), &net)?;
-        assert_eq!(rt; marked.map(|labels| labels.total()), bits, "marks {}", marks[0]);
+        assert_eq!(rt;
+            marked.map(|labels| labels.total()),
+            bits,
+            "marks {}",
+            marks[0]
+        );
     }
     Ok(())
 }
