@@ -11,14 +11,14 @@ use Rattle.pls_model.specs.declared.status.Status.TheVariants.{Done, No, Refused
 use Rattle.pls_scheme.specs.Judging.{round_by}
 use Rattle.pls_app.specs.declared.command.Command.{Command}
 use Rattle.pls_app.specs.declared.command.Command.TheVariants.{Mark, Verify}
-use Rattle.pls_app.specs.declared.command.SchemeName.{SchemeName}
+use Rattle.pls_combine.specs.declared.scheme_name.SchemeName.{SchemeName}
 use Rattle.pls_app.specs.declared.limits.TheConstants.{MAX_INPUT}
 use Rattle.pls_app.specs.Command.{command_of}
 use Rattle.pls_app.specs.Input.{IsInput}
 use Rattle.pls_app.specs.Order.{IsRefused}
 use Rattle.pls_app.specs.Answer.{Answer, Answers, IsAnswer, Works, refusal, report, usage}
-use Rattle.pls_app.specs.Meaning.{judge_of}
-use Rattle.pls_app.specs.Scanned.{Refuses}
+use Rattle.pls_combine.specs.Named.{judge_of}
+use Rattle.pls_app.specs.inner.Scanned.{Refuses}
 use Rattle.pls_app.specs.Run.{IsAnswered, IsRefusalStatus, Tells, TellsRefusal}
 use Rattle.pls_app.specs.Report.{rejecting}
 use Rattle.pls_app.proofs.OneAnswer.{one_answer}

@@ -1,23 +1,21 @@
 -- Labels that `mark` wrote are accepted by `verify`.
-use Rattle.std.proofs.Common.{◌≡◌, ℕ, ◌-◌, ◌*◌, ◌^◌, ◌≤◌, ◌<◌, nat_le, le-leb, if◌then◌else◌, Bool, true, false, List, [], ◌∷◌, ◌++◌, length, All, Some, ap, subst, refl, sym, arith}
+use Rattle.std.proofs.Common.{◌≡◌, ℕ, ◌*◌, ◌^◌, ◌≤◌, ◌<◌, Bool, List, [], ◌∷◌, ◌++◌, length, All, Some, option_map, ap, subst, refl, sym, arith}
 use Rattle.std.proofs.lemmas.List.Elements.{All-head, All-map, All-tail}
 use Rattle.std.proofs.lemmas.List.Sums.{sum_by-cons}
 use Rattle.pls_model.specs.declared.row.NodeRow.{NodeRow}
 use Rattle.pls_model.specs.Configuration.{ids_of}
 use Rattle.pls_graph.specs.Size.{greatest, size_of}
 use Rattle.pls_netfile.specs.NetworkText.{network_text}
-use Rattle.pls_bits.specs.Gamma.{gamma_code}
-use Rattle.pls_bits.specs.GammaLaws.{gamma_short}
-use Rattle.pls_bits.specs.declared.num_code.TheConstants.{MAX_CODED}
 use Rattle.pls_view.specs.Labels.{bits_in}
 use Rattle.pls_labelfile.specs.LabelsText.{labels_text, named}
 use Rattle.pls_scheme.specs.Judging.{round_by}
-use Rattle.pls_scheme.specs.Length.{code_length}
+use Rattle.pls_scheme.specs.Marked.{answered}
+use Rattle.pls_combine.proofs.Bounds.{short_bound}
+use Rattle.pls_combine.proofs.Words.{scheme_of-name_of}
 use Rattle.pls_app.specs.declared.command.Command.TheVariants.{Verify}
-use Rattle.pls_app.specs.declared.command.SchemeName.{SchemeName}
-use Rattle.pls_app.specs.declared.command.SchemeName.TheVariants.{Acyclic, Bipartite, Forest, Tree}
+use Rattle.pls_combine.specs.declared.scheme_name.SchemeName.{SchemeName}
 use Rattle.pls_app.specs.Command.{command_of, verify_words}
-use Rattle.pls_app.specs.Meaning.{judge_of, longest_of}
+use Rattle.pls_combine.specs.Named.{judge_of, longest_of}
 use Rattle.pls_app.specs.Input.{IsInput, IsNetworkInput, IsReadable}
 use Rattle.pls_app.specs.Answer.{Answers, report}
 use Rattle.pls_app.specs.Run.{Certifies, IsDone, Shows, ShowsIn}
@@ -40,16 +38,6 @@ few_in_short (label ∷ labels) short =
           (All-tail Short label labels short),
     )
 
--- the gamma code of a number below 2^32 has at most 125 bits
-short_code : (number : ℕ) → number < 2 ^ 32 → code_length gamma_code number ≤ 125
-short_code number small =
-    by (nat_le number MAX_CODED) (le-leb number MAX_CODED (omega (arith, small)))
-  where
-    by : (fits : Bool) → fits ≡ true
-        → (if fits then length (gamma_code number) else 2 ^ 64 - 1) ≤ 125
-    by true is = gamma_short number
-    by false is = absurd (cc)
-
 -- where each number is below a bound, so is the greatest
 small_greatest : (bound : ℕ) (numbers : List ℕ) → 1 ≤ bound → All (λ number. number < bound) numbers
     → greatest numbers < bound
@@ -63,39 +51,26 @@ small_greatest bound (number ∷ numbers) some small =
           (All-tail Small number numbers small),
     )
 
--- no scheme's bound is above 8,192 bits
-short_bound : (scheme : SchemeName) (rows : List NodeRow) → IsReadable rows
-    → longest_of scheme (size_of rows) ≤ 8192
-short_bound scheme rows readable = by scheme
-  where
-    nodes : code_length gamma_code (length rows) ≤ 125
-    nodes = short_code (length rows) (omega (arith, readable.network.limits.few_nodes))
-
-    ids : code_length gamma_code (greatest (ids_of rows)) ≤ 125
-    ids = short_code (greatest (ids_of rows)) (small_greatest (2 ^ 32) (ids_of rows) (omega arith)
-        (All-map (λ id. id < 2 ^ 32) (λ (row : NodeRow). row.id) rows
-        (λ k d within. (readable.ranges.each k d within).id)))
-
-    by : (scheme : SchemeName) → longest_of scheme (size_of rows) ≤ 8192
-    by Tree = omega (arith, nodes, ids)
-    by Forest = omega (arith, nodes)
-    by Bipartite = omega arith
-    by Acyclic = omega (arith, nodes)
+-- the identities of a network that can stand in a text have 32 bits
+small_ids : (rows : List NodeRow) → IsReadable rows → greatest (ids_of rows) < 2 ^ 32
+small_ids rows readable =
+    small_greatest (2 ^ 32) (ids_of rows) (omega arith)
+    (All-map (λ id. id < 2 ^ 32) (λ (row : NodeRow). row.id) rows
+    (λ k d within. (readable.ranges.each k d within).id))
 
 -- marked labels have at most 8,192 bits each
 short_labels : (scheme : SchemeName) (rows : List NodeRow) (labels : List (List Bool))
     → IsReadable rows
-    → All (λ label. length label ≤ longest_of scheme (size_of rows)) labels
+    → All (λ label. length label ≤ answered (longest_of scheme (size_of rows))) labels
     → All (λ label. length label ≤ 8192) labels
 short_labels scheme rows labels readable short =
-    λ place other within. omega (arith, short place other within, short_bound scheme rows readable)
+    let bound = short_bound scheme (size_of rows)
+    (omega (arith, readable.network.limits.few_nodes)) (omega (arith, small_ids rows readable)) in
+    λ place other within. omega (arith, short place other within, bound)
 
 -- the words of a scheme's `verify` are that command
 verify_is : (scheme : SchemeName) → command_of (verify_words scheme) ≡ Some (Verify scheme)
-verify_is Tree = refl
-verify_is Forest = refl
-verify_is Bipartite = refl
-verify_is Acyclic = refl
+verify_is scheme = ap (option_map Verify) (scheme_of-name_of scheme)
 
 -- the text of a network and the labels that show its property are an input
 marked_input : (scheme : SchemeName) (bytes : List ℕ) (rows : List NodeRow)

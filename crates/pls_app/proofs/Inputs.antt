@@ -1,7 +1,7 @@
 -- What is scanned of an input, and what an input is.
-use Rattle.std.proofs.Common.{◌≡◌, ◌≢◌, ◌∙◌, ℕ, ◌≤◌, ◌<◌, ◌^◌, Bool, true, false, List, [], ◌∷◌, ◌++◌, map, length, nat_lt, All, Contains, Some, None, if◌then◌else◌, option_map, ap, subst, refl, sym, arith}
+use Rattle.std.proofs.Common.{◌≡◌, ◌≢◌, ◌∙◌, ℕ, ◌≤◌, ◌<◌, Bool, true, false, List, [], ◌∷◌, ◌++◌, map, length, nat_lt, All, Contains, Option, Some, None, IsSome, if◌then◌else◌, option_map, ap, subst, refl, sym, arith}
 use Rattle.std.proofs.lemmas.Bool.Decides.{nat_tests}
-use Rattle.std.proofs.lemmas.List.{length-map}
+use Rattle.std.proofs.lemmas.List.{append-nil, length-map}
 use Rattle.pls_base.specs.declared.text_error.TextError.{TextError}
 use Rattle.pls_base.specs.declared.text_error.TextError.TheVariants.{Form, Limit, Sense, NoMemory}
 use Rattle.pls_base.specs.declared.text_error.Quantity.TheVariants.{Bits}
@@ -9,66 +9,26 @@ use Rattle.pls_model.specs.declared.row.NodeRow.{NodeRow}
 use Rattle.pls_model.specs.Configuration.{IsNetwork, ids_of}
 use Rattle.pls_model.specs.Walk.{IsConnected}
 use Rattle.pls_view.specs.Labels.{bits_in}
-use Rattle.pls_netfile.specs.Fault.{NamesFirstFault}
-use Rattle.pls_netfile.specs.Lines.{Left, IsFormFault}
-use Rattle.pls_netfile.specs.NetworkText.{AreRows, IsNetworkPart, network_lines, network_text}
-use Rattle.pls_netfile.specs.NetworkScan.{PassesNetwork, WrittenNetwork, TellsNetwork}
-use Rattle.pls_netfile.proofs.NetworkRows.{network_is_part, one_network, rows_are_part}
-use Rattle.pls_netfile.proofs.WholeTexts.{fault_alone, fault_behind, fault_in_first, fault_in_second, fault_of_text}
-use Rattle.pls_labelfile.specs.LabelsText.{FitsLabel, IsLabelsPart, NamedLabel, labels_lines, labels_text, named}
-use Rattle.pls_labelfile.specs.LabelsScan.{PassesPart, total_bits, WrittenLabels, TellsLabels}
+use Rattle.pls_netfile.specs.NetworkText.{AreRows, network_text}
+use Rattle.pls_netfile.specs.NetworkScan.{WrittenNetwork, TellsNetwork}
+use Rattle.pls_netfile.specs.laws.NetworkRows.{one_network}
+use Rattle.pls_labelfile.specs.LabelsText.{FitsLabel, NamedLabel, labels_text, named}
+use Rattle.pls_labelfile.specs.LabelsScan.{total_bits, WrittenLabels}
 use Rattle.pls_labelfile.specs.Misfit.{misfit}
 use Rattle.pls_labelfile.specs.Refusal.{IsLabelsRefusal, misfit_error, labels_refusal}
+use Rattle.pls_labelfile.specs.declared.limits.TheConstants.{MAX_BITS}
 use Rattle.pls_labelfile.proofs.Named.{bare-named, named-parts, net_labels_fit, total_bits-named}
-use Rattle.pls_labelfile.proofs.LabelsPart.{is_labels_part, labels_part, one_labels}
-use Rattle.pls_app.specs.declared.limits.TheConstants.{MAX_INPUT}
+use Rattle.pls_labelfile.proofs.LabelsPart.{one_labels}
 use Rattle.pls_graph.specs.Connected.{IsFirstApart, smallest_id}
 use Rattle.pls_graph.proofs.Members.{Contains-first}
 use Rattle.pls_graph.proofs.Placed.{smallest_first}
-use Rattle.pls_app.specs.Input.{AreLabels, IsInput, IsInputLines, IsNetworkInput, IsReadable}
-use Rattle.pls_app.specs.Scanned.{IsScanned}
-
--- a fault in the network part is the first fault of the input
-pub fault_in_network : (bytes : List ℕ) (old : Left) (error : TextError) → old.number ≡ 1
-    → old.rest ≡ bytes → IsFormFault IsNetworkPart old error
-    → NamesFirstFault IsInputLines bytes error
-fault_in_network bytes old error first rest fault =
-    let none : All FitsLabel [] = λ k d within. absurd (omega (arith, within)) in (
-      fault.0,
-      fault.1,
-      fault_of_text IsInputLines bytes old fault.0 first rest
-          (fault_in_first IsNetworkPart IsLabelsPart (labels_lines []) old fault.0 network_is_part
-          (is_labels_part [] none) fault.2),
-    )
-
--- a fault in the labels part
-pub fault_in_labels : (bytes : List ℕ) (old mid : Left) (network : WrittenNetwork)
-    (error : TextError) → old.number ≡ 1 → old.rest ≡ bytes → PassesNetwork old mid network
-    → IsFormFault IsLabelsPart mid error → NamesFirstFault IsInputLines bytes error
-fault_in_labels bytes old mid network error first rest passes fault = (
-  fault.0,
-  fault.1,
-  fault_of_text IsInputLines bytes old fault.0 first rest
-      (fault_in_second IsNetworkPart IsLabelsPart (network_lines passes.rows) old mid fault.0
-      network_is_part labels_part (rows_are_part passes.rows passes.tells.fits) passes.passed
-      (fault_alone IsLabelsPart mid fault.0 labels_part fault.2)),
-)
-
--- something left over behind the parts
-pub fault_left_over : (bytes : List ℕ) (old mid now : Left) (network : WrittenNetwork)
-    (labels : WrittenLabels) → old.number ≡ 1 → old.rest ≡ bytes → PassesNetwork old mid network
-    → PassesPart mid now labels → (now.rest ≡ [] → ⊥)
-    → NamesFirstFault IsInputLines bytes (Form now.number)
-fault_left_over bytes old mid now network labels first rest passes passes_labels some = (
-  now.number,
-  refl,
-  fault_of_text IsInputLines bytes old now.number first rest
-      (fault_in_second IsNetworkPart IsLabelsPart (network_lines passes.rows) old mid now.number
-      network_is_part labels_part (rows_are_part passes.rows passes.tells.fits) passes.passed
-      (fault_behind IsLabelsPart (labels_lines passes_labels.labels) mid now labels_part
-      (is_labels_part passes_labels.labels passes_labels.tells.fits) passes_labels.passed
-      some)),
-)
+use Rattle.pls_combine.specs.declared.scheme_name.SchemeName.{SchemeName}
+use Rattle.pls_app.specs.declared.command.Command.{Command}
+use Rattle.pls_app.specs.declared.command.Command.TheVariants.{Mark, Verify}
+use Rattle.pls_app.specs.declared.limits.TheConstants.{MAX_INPUT}
+use Rattle.pls_app.specs.Input.{AreLabels, IsInput, IsInputOf, IsNetworkInput, IsReadable}
+use Rattle.pls_app.specs.Order.{Parts, parts_text, text_behind}
+use Rattle.pls_app.specs.inner.Scanned.{AreBuilt, IsBuilt, IsScanned, TellsBehind, TellsSome}
 
 -- the labels of an input fit
 pub parts_fit : (rows : List NodeRow) (labels : List (List Bool)) → IsReadable rows
@@ -86,58 +46,134 @@ refusal_is ids heading labels NoMemory some refused = absurd (some refl)
 
 -- labels that are not refused have few bits
 few_bits : (ids : List ℕ) (heading : ℕ) (labels : List NamedLabel)
-    → labels_refusal ids heading labels ≡ None → total_bits labels ≤ 2 ^ 28
-few_bits ids heading labels accepted = by (nat_lt (2 ^ 28) (total_bits labels)) refl accepted
+    → labels_refusal ids heading labels ≡ None → total_bits labels ≤ MAX_BITS
+few_bits ids heading labels accepted = by (nat_lt (MAX_BITS) (total_bits labels)) refl accepted
   where
-    by : (b : Bool) → nat_lt (2 ^ 28) (total_bits labels) ≡ b
+    by : (b : Bool) → nat_lt (MAX_BITS) (total_bits labels) ≡ b
         → (if b then Some (Limit Bits) else option_map (misfit_error heading) (misfit ids labels))
-        ≡ None → total_bits labels ≤ 2 ^ 28
+        ≡ None → total_bits labels ≤ MAX_BITS
     by true is accepted = absurd (cc)
     by false is accepted = grind (arith, nat_tests)
 
--- what was scanned and built is an input
-pub input_of : (bytes : List ℕ) (network : WrittenNetwork) (text : WrittenLabels)
-    (net : List NodeRow) (store : List (List Bool)) → length bytes ≤ MAX_INPUT
-    → IsScanned bytes network text
-    → ((rows : List NodeRow) → TellsNetwork network rows → net ≡ rows) → IsNetwork net
-    → IsConnected net
-    → ((labels : List NamedLabel) → TellsLabels text.text labels
-    → store ≡ map (λ label. label.bits) labels)
-    → ((labels : List NamedLabel) → TellsLabels text.text labels
-    → map (λ label. label.id) labels ≡ ids_of net)
-    → ((labels : List NamedLabel) → TellsLabels text.text labels
-    → labels_refusal (ids_of net) text.number labels ≡ None)
-    → IsInput bytes net store
-input_of bytes network text net store short scanned built valid connected stored names accepted =
-    let is_net : net ≡ scanned.rows = built scanned.rows scanned.tells_rows in
-    let is_store = stored scanned.named scanned.tells_labels in
-    let is_named = names scanned.named scanned.tells_labels in
-    let back : named (ids_of net) store ≡ scanned.named =
-    rw (← is_named, is_store) (named-parts scanned.named) in
-    let each : length store ≡ length net =
-    ap length is_store ∙ length-map scanned.named (λ (label : NamedLabel). label.bits)
-    ∙ sym (length-map scanned.named (λ (label : NamedLabel). label.id)) ∙ ap length is_named
-    ∙ length-map net (λ (row : NodeRow). row.id) in
-    let many : length store ≡ length (ids_of net) =
-    each ∙ sym (length-map net (λ (row : NodeRow). row.id)) in
-    let sum : total_bits scanned.named ≡ bits_in store =
-    ap total_bits (sym back) ∙ total_bits-named (ids_of net) store many in
-    let few =
-    few_bits (ids_of net) text.number scanned.named
-    (accepted scanned.named scanned.tells_labels) in
+-- an option that has something
+pub some_of : {X : Type 0} (found : Option X) → IsSome found → (x : X) × (found ≡ Some x)
+some_of None some = absurd (cc)
+some_of (Some x) some = (x, refl)
+
+-- what was scanned and built of a network alone is an input
+network_input : (bytes : List ℕ) (network : WrittenNetwork) (parts : Parts) (net : List NodeRow)
+    → length bytes ≤ MAX_INPUT → TellsNetwork network parts.rows → bytes ≡ parts_text parts
+    → parts.labels ≡ None → net ≡ parts.rows → IsNetwork net → IsConnected net
+    → IsNetworkInput bytes net
+network_input bytes network parts net short tells is none is_net valid connected =
     record {
       short = short;
       readable =
           record {
             network = valid;
             connected = connected;
-            ranges = subst AreRows (sym is_net) scanned.tells_rows.fits;
+            ranges = subst AreRows (sym is_net) tells.fits;
+          };
+      is = is ∙ ap (λ labels. network_text parts.rows ++ text_behind labels) none
+          ∙ append-nil (network_text parts.rows) ∙ ap network_text (sym is_net);
+    }
+
+-- what was scanned and built of a network and its labels is an input
+labelled_input : (bytes : List ℕ) (network : WrittenNetwork) (parts : Parts)
+    (written : WrittenLabels) (labels : List NamedLabel) (net : List NodeRow)
+    (store : List (List Bool)) → length bytes ≤ MAX_INPUT → TellsNetwork network parts.rows
+    → bytes ≡ parts_text parts → parts.labels ≡ Some labels → TellsBehind parts.rows written labels
+    → net ≡ parts.rows → IsNetwork net → IsConnected net → IsBuilt net written store
+    → IsInput bytes net store
+labelled_input bytes network parts written labels net store short tells is some behind is_net valid
+    connected built =
+    let is_store = built.bits labels behind.tells in
+    let is_named = built.ids labels behind.tells in
+    let back : named (ids_of net) store ≡ labels =
+    rw (← is_named, is_store) (named-parts labels) in
+    let each : length store ≡ length net =
+    ap length is_store ∙ length-map labels (λ (label : NamedLabel). label.bits)
+    ∙ sym (length-map labels (λ (label : NamedLabel). label.id)) ∙ ap length is_named
+    ∙ length-map net (λ (row : NodeRow). row.id) in
+    let many : length store ≡ length (ids_of net) =
+    each ∙ sym (length-map net (λ (row : NodeRow). row.id)) in
+    let sum : total_bits labels ≡ bits_in store =
+    ap total_bits (sym back) ∙ total_bits-named (ids_of net) store many in
+    let few = few_bits (ids_of net) written.number labels (built.accepted labels behind.tells) in
+    record {
+      short = short;
+      readable =
+          record {
+            network = valid;
+            connected = connected;
+            ranges = subst AreRows (sym is_net) tells.fits;
           };
       labelled = record { each = each; few = omega (arith, sum, few) };
-      is = scanned.is ∙ ap (λ (rows : List NodeRow). network_text rows ++ labels_text scanned.named)
-          (sym is_net)
+      is = is ∙ ap (λ found. network_text parts.rows ++ text_behind found) some
+          ∙ ap (λ (rows : List NodeRow). network_text rows ++ labels_text labels) (sym is_net)
           ∙ ap (λ (parts : List NamedLabel). network_text net ++ labels_text parts) (sym back);
     }
+
+-- what was scanned and built is an input of the command
+pub input_of : (command : Command) (bytes : List ℕ) (network : WrittenNetwork)
+    (texts : Option WrittenLabels) (net : List NodeRow) (store : Option (List (List Bool)))
+    → length bytes ≤ MAX_INPUT → IsScanned command bytes network texts
+    → ((rows : List NodeRow) → TellsNetwork network rows → net ≡ rows) → IsNetwork net
+    → IsConnected net → AreBuilt net texts store → IsInputOf command bytes net store
+input_of (Mark scheme) bytes network None net None short scanned same valid connected built =
+    network_input bytes network scanned.parts net short scanned.tells_rows scanned.is scanned.reads
+    (same scanned.parts.rows scanned.tells_rows) valid connected
+input_of (Mark scheme) bytes network None net (Some store) short scanned same valid connected built =
+    absurd built
+input_of (Mark scheme) bytes network (Some written) net store short scanned same valid connected
+    built =
+    let no_labels : TellsSome scanned.parts.rows (Some written) None =
+    subst (TellsSome scanned.parts.rows (Some written)) scanned.reads scanned.tells_labels in
+    absurd no_labels
+input_of (Verify scheme) bytes network None net store short scanned same valid connected built =
+    let found = some_of scanned.parts.labels scanned.reads in
+    let no_text : TellsSome scanned.parts.rows None (Some found.0) =
+    subst (TellsSome scanned.parts.rows None) found.1 scanned.tells_labels in
+    absurd no_text
+input_of (Verify scheme) bytes network (Some written) net None short scanned same valid connected
+    built = absurd built
+input_of (Verify scheme) bytes network (Some written) net (Some store) short scanned same valid
+    connected built =
+    let found = some_of scanned.parts.labels scanned.reads in
+    let behind : TellsSome scanned.parts.rows (Some written) (Some found.0) =
+    subst (TellsSome scanned.parts.rows (Some written)) found.1 scanned.tells_labels in
+    labelled_input bytes network scanned.parts written found.0 net store short scanned.tells_rows
+    scanned.is found.1 behind (same scanned.parts.rows scanned.tells_rows) valid connected built
+
+-- the network of an input is connected, and the input is within the limit
+pub input_readable : (command : Command) (bytes : List ℕ) (rows : List NodeRow)
+    (labels : Option (List (List Bool))) → IsInputOf command bytes rows labels → IsReadable rows
+input_readable (Mark scheme) bytes rows None input = input.readable
+input_readable (Mark scheme) bytes rows (Some labels) input = absurd input
+input_readable (Verify scheme) bytes rows None input = absurd input
+input_readable (Verify scheme) bytes rows (Some labels) input = input.readable
+
+pub input_short : (command : Command) (bytes : List ℕ) (rows : List NodeRow)
+    (labels : Option (List (List Bool))) → IsInputOf command bytes rows labels
+    → length bytes ≤ MAX_INPUT
+input_short (Mark scheme) bytes rows None input = input.short
+input_short (Mark scheme) bytes rows (Some labels) input = absurd input
+input_short (Verify scheme) bytes rows None input = absurd input
+input_short (Verify scheme) bytes rows (Some labels) input = input.short
+
+-- an input of `mark` is a network
+pub input_to_mark : (scheme : SchemeName) (bytes : List ℕ) (rows : List NodeRow)
+    (labels : Option (List (List Bool))) → IsInputOf (Mark scheme) bytes rows labels
+    → IsNetworkInput bytes rows
+input_to_mark scheme bytes rows None input = input
+input_to_mark scheme bytes rows (Some labels) input = absurd input
+
+-- an input of `verify` has labels
+pub input_to_verify : (scheme : SchemeName) (bytes : List ℕ) (rows : List NodeRow)
+    (labels : Option (List (List Bool))) → IsInputOf (Verify scheme) bytes rows labels
+    → (found : List (List Bool)) × (labels ≡ Some found) × IsInput bytes rows found
+input_to_verify scheme bytes rows None input = absurd input
+input_to_verify scheme bytes rows (Some labels) input = (labels, refl, input)
 
 -- the smallest node is a node
 smallest_in : (rows : List NodeRow) → IsNetwork rows → Contains (ids_of rows) (smallest_id rows)
@@ -169,10 +205,6 @@ one_apart rows id other one two = by (nat_lt id other) (nat_lt other id) refl re
         let up : other ≤ id = grind (arith, nat_tests) in
         let down : id ≤ other = grind (arith, nat_tests) in
         omega (arith, up, down)
-
--- a test that failed does not hold
-pub no_truth : (b : Bool) → b ≡ false → b ≡ true → ⊥
-no_truth b fails holds = cc
 
 -- the bytes of an input fix its parts
 pub one_input : (bytes : List ℕ) (rows other_rows : List NodeRow)

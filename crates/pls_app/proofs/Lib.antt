@@ -9,4 +9,5 @@ mod Reports
 mod Rounds
 mod TextLengths
 mod Told
+mod Whole
 mod Worked

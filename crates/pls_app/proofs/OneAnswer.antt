@@ -1,43 +1,38 @@
 -- Words and bytes have one answer.
-use Rattle.std.proofs.Common.{◌≡◌, ◌∙◌, ℕ, ◌≤◌, Bool, List, [], ◌++◌, length, All, Option, Some, None, inl, inr, ap, subst, refl, sym, arith}
+use Rattle.std.proofs.Common.{◌≡◌, ◌∙◌, ℕ, Bool, List, [], ◌++◌, All, Option, Some, None, IfSome, inl, inr, ap, subst, refl, sym, arith}
+use Rattle.std.proofs.lemmas.List.{append-nil}
+use Rattle.pls_base.specs.declared.refusal_number.TheConstants.{APART}
 use Rattle.pls_base.specs.declared.text_error.TextError.{TextError}
 use Rattle.pls_base.specs.declared.text_error.TextError.TheVariants.{Form, Sense}
 use Rattle.pls_model.specs.declared.row.NodeRow.{NodeRow}
-use Rattle.pls_bits.specs.Gamma.{gamma_code}
-use Rattle.pls_pointer.proofs.OneMarking.{one_forest_marking, one_tree_marking}
-use Rattle.pls_colour.proofs.LevelMarking.{one_level_marking}
-use Rattle.pls_colour.proofs.Marking.{one_marking}
+use Rattle.pls_model.specs.Configuration.{first_of, ids_of}
+use Rattle.pls_lines.specs.Fault.{NamesFirstFault}
+use Rattle.pls_lines.specs.laws.Fronts.{text_of-append}
+use Rattle.pls_lines.proofs.WholeTexts.{one_first_fault}
+use Rattle.pls_netfile.specs.NetworkText.{network_lines, network_text}
+use Rattle.pls_netfile.specs.laws.NetworkRows.{one_network, rows_are_part}
+use Rattle.pls_labelfile.specs.LabelsText.{FitsLabel, NamedLabel, labels_lines, named}
+use Rattle.pls_labelfile.proofs.LabelsPart.{is_labels_part, one_labels}
+use Rattle.pls_combine.specs.declared.scheme_name.SchemeName.{SchemeName}
+use Rattle.pls_combine.specs.laws.NamedLaws.{named_marked_once}
 use Rattle.pls_app.specs.declared.command.Command.{Command}
 use Rattle.pls_app.specs.declared.command.Command.TheVariants.{Mark, Verify}
-use Rattle.pls_app.specs.declared.command.SchemeName.{SchemeName}
-use Rattle.pls_app.specs.declared.command.SchemeName.TheVariants.{Acyclic, Bipartite, Forest, Tree}
-use Rattle.pls_app.specs.declared.limits.TheConstants.{MAX_INPUT}
 use Rattle.pls_app.specs.Command.{command_of}
-use Rattle.pls_app.specs.Meaning.{HasProperty, IsMarked}
-use Rattle.pls_app.specs.Input.{IsInput, IsInputLines, IsNetworkInput, IsReadable}
-use Rattle.pls_app.specs.Order.{IsFirstRefusal, IsRefused, IsRefusedText, RefusesInput, RefusesNetwork, input_refusals, network_refusals}
+use Rattle.pls_app.specs.Input.{IsInputOf, IsReadable}
+use Rattle.pls_app.specs.Order.{AreWritten, HasForm, IsApart, IsFirstRefusal, IsRefused, IsRefusedText, Parts, Reads, parts_text, refusals_in, text_behind}
 use Rattle.pls_app.specs.Answer.{Answer, Answers, AnswersWords, IsAnswer, Marks, Works, labelled, refusal}
-use Rattle.pls_model.specs.Configuration.{first_of, ids_of}
-use Rattle.pls_netfile.specs.Fault.{NamesFirstFault}
-use Rattle.pls_netfile.specs.NetworkText.{AreRows, IsNetworkPart, network_lines, network_text}
-use Rattle.pls_netfile.proofs.Fronts.{text_of-append}
-use Rattle.pls_netfile.proofs.NetworkRows.{one_network, rows_are_part}
-use Rattle.pls_netfile.proofs.WholeTexts.{one_first_fault}
-use Rattle.pls_labelfile.specs.LabelsText.{FitsLabel, NamedLabel, labels_lines, labels_text, named}
-use Rattle.pls_labelfile.proofs.LabelsPart.{is_labels_part, one_labels}
-use Rattle.pls_app.proofs.Inputs.{apart_from, one_apart, one_input, one_network_input, parts_fit}
-use Rattle.pls_app.proofs.Refused.{input_unrefused, network_unrefused}
+use Rattle.pls_app.proofs.Inputs.{apart_from, input_readable, input_short, one_apart, one_input, one_network_input, parts_fit, some_of}
+use Rattle.pls_app.proofs.Refused.{labelled_unrefused, network_unrefused}
 
 -- the bytes are an input of the command
-abbrev Reads : Command → List ℕ → Type 0
-Reads (Mark scheme) bytes = (rows : List NodeRow) × IsNetworkInput bytes rows
-Reads (Verify scheme) bytes =
-    (rows : List NodeRow) × (labels : List (List Bool)) × IsInput bytes rows labels
+abbrev IsRead : Command → List ℕ → Type 0
+IsRead command bytes =
+    (rows : List NodeRow) × (labels : Option (List (List Bool))) × IsInputOf command bytes rows labels
 
 -- the first refusal is one
-one_first : (refusals : List (Option TextError)) (rows : List NodeRow) (error other : TextError)
-    → IsFirstRefusal refusals rows error → IsFirstRefusal refusals rows other → error ≡ other
-one_first refusals rows error other one two = elim one [
+one_first : (parts : Parts) (error other : TextError) → IsFirstRefusal parts error
+    → IsFirstRefusal parts other → error ≡ other
+one_first parts error other one two = elim one [
   | inl some ↦ elim two [
     | inl too ↦ let same : Some error ≡ Some other = sym some ∙ too in cc
     | inr apart ↦ absurd (let no_one : None ≡ Some error = sym apart.0 ∙ some in cc)
@@ -45,94 +40,77 @@ one_first refusals rows error other one two = elim one [
   | inr apart ↦ elim two [
     | inl some ↦ absurd (let no_one : None ≡ Some other = sym apart.0 ∙ some in cc)
     | inr too ↦
-        apart.1.1 ∙ ap (Sense 17) (one_apart rows apart.1.0 too.1.0 apart.1.2 too.1.2) ∙ sym too.1.1
+        apart.1.1 ∙ ap (Sense APART) (one_apart parts.rows apart.1.0 too.1.0 apart.1.2 too.1.2)
+        ∙ sym too.1.1
   ]
 ]
 
--- a network part has no faulty line
-network_formed : (bytes : List ℕ) (rows : List NodeRow) (error : TextError) → AreRows rows
-    → bytes ≡ network_text rows → NamesFirstFault IsNetworkPart bytes error → ⊥
-network_formed bytes rows error fits is fault =
-    fault.2.2.none (network_lines rows) (rows_are_part rows fits) is
-
--- a network part is refused in one way
-one_network_refusal : (bytes : List ℕ) (error other : TextError) → RefusesNetwork bytes error
-    → RefusesNetwork bytes other → error ≡ other
-one_network_refusal bytes error other one two =
-    let ends : network_text two.rows ++ [] ≡ network_text one.rows ++ [] =
-    ap (λ (text : List ℕ). text ++ []) (sym two.is ∙ one.is) in
-    let same = (one_network two.rows one.rows [] [] two.fits one.fits ends).0 in
-    one_first (network_refusals one.rows) one.rows error other one.first
-    (subst (λ (rows : List NodeRow). IsFirstRefusal (network_refusals rows) rows other) same
-    two.first)
-
--- a network part and a labels part have no faulty line
-input_formed : (bytes : List ℕ) (rows : List NodeRow) (labels : List NamedLabel) (error : TextError)
-    → AreRows rows → All FitsLabel labels → bytes ≡ network_text rows ++ labels_text labels
-    → NamesFirstFault IsInputLines bytes error → ⊥
-input_formed bytes rows labels error fits_rows fits_labels is fault =
-    fault.2.2.none (network_lines rows ++ labels_lines labels)
+-- the parts of an input have no faulty line
+formed : (command : Command) (bytes : List ℕ) (parts : Parts) (error : TextError)
+    → Reads command parts → AreWritten parts → bytes ≡ parts_text parts
+    → NamesFirstFault (HasForm command) bytes error → ⊥
+formed (Mark scheme) bytes parts error reads fits is fault =
+    let alone : bytes ≡ network_text parts.rows =
+    is ∙ ap (λ labels. network_text parts.rows ++ text_behind labels) reads
+    ∙ append-nil (network_text parts.rows) in
+    fault.2.2.none (network_lines parts.rows) (rows_are_part parts.rows fits.rows) alone
+formed (Verify scheme) bytes parts error reads fits is fault =
+    let found = some_of parts.labels reads in
+    let labels : List NamedLabel = found.0 in
+    let fit : IfSome (Some labels) (All FitsLabel) =
+    subst (λ labels. IfSome labels (All FitsLabel)) found.1 fits.labels in
+    fault.2.2.none (network_lines parts.rows ++ labels_lines labels)
     (record {
-      front = network_lines rows;
+      front = network_lines parts.rows;
       back = labels_lines labels;
-      is_first = rows_are_part rows fits_rows;
-      is_second = is_labels_part labels fits_labels;
+      is_first = rows_are_part parts.rows fits.rows;
+      is_second = is_labels_part labels fit;
       parts = refl;
     })
-    (is ∙ sym (text_of-append (network_lines rows) (labels_lines labels)))
+    (is ∙ ap (λ labels. network_text parts.rows ++ text_behind labels) found.1
+    ∙ sym (text_of-append (network_lines parts.rows) (labels_lines labels)))
+
+-- the labels behind a network are one
+one_behind : (command : Command) (rows others : List NodeRow) (labels named : Option (List NamedLabel))
+    → Reads command (record { rows = rows; labels = labels })
+    → Reads command (record { rows = others; labels = named })
+    → IfSome labels (All FitsLabel) → IfSome named (All FitsLabel)
+    → text_behind labels ≡ text_behind named → labels ≡ named
+one_behind (Mark scheme) rows others labels named one other fits fit same = one ∙ sym other
+one_behind (Verify scheme) rows others None named one other fits fit same = absurd (cc)
+one_behind (Verify scheme) rows others (Some labels) None one other fits fit same = absurd (cc)
+one_behind (Verify scheme) rows others (Some labels) (Some named) one other fits fit same =
+    ap Some (one_labels labels named [] [] fits fit
+    (ap (λ (text : List ℕ). text ++ []) same)).0
 
 -- the parts of an input are one
-one_parts : (rows others : List NodeRow) (labels named : List NamedLabel) → AreRows rows
-    → AreRows others → All FitsLabel labels → All FitsLabel named
-    → network_text rows ++ labels_text labels ≡ network_text others ++ labels_text named
-    → (rows ≡ others) × (labels ≡ named)
-one_parts rows others labels named fits fit fits_labels fit_labels same =
-    let first = one_network rows others (labels_text labels) (labels_text named) fits fit same in
-    let ends : labels_text labels ++ [] ≡ labels_text named ++ [] =
-    ap (λ (text : List ℕ). text ++ []) first.1 in
-    (first.0, (one_labels labels named [] [] fits_labels fit_labels ends).0)
-
--- a network part and a labels part are refused in one way
-one_input_refusal : (bytes : List ℕ) (error other : TextError) → RefusesInput bytes error
-    → RefusesInput bytes other → error ≡ other
-one_input_refusal bytes error other one two =
-    let same =
-    one_parts two.rows one.rows two.labels one.labels two.fits_rows one.fits_rows
-    two.fits_labels one.fits_labels (sym two.is ∙ one.is) in
-    let there : IsFirstRefusal (input_refusals one.rows two.labels) one.rows other =
-    subst (λ (rows : List NodeRow). IsFirstRefusal (input_refusals rows two.labels) rows other)
-    same.0 two.first in
-    one_first (input_refusals one.rows one.labels) one.rows error other one.first
-    (subst (λ (labels : List NamedLabel). IsFirstRefusal (input_refusals one.rows labels)
-    one.rows other) same.1 there)
+one_parts : (command : Command) (one other : Parts) → Reads command one → Reads command other
+    → AreWritten one → AreWritten other → parts_text one ≡ parts_text other → one ≡ other
+one_parts command one other reads read fits fit same =
+    let first = one_network one.rows other.rows (text_behind one.labels) (text_behind other.labels)
+    fits.rows fit.rows same in
+    let labels = one_behind command one.rows other.rows one.labels other.labels reads read
+    fits.labels fit.labels first.1 in
+    ap (λ (rows : List NodeRow). record { rows = rows; labels = one.labels }) first.0
+    ∙ ap (λ (labels : Option (List NamedLabel)). record { rows = other.rows; labels = labels }) labels
 
 -- the parts that a command reads are refused in one way
 one_text_refusal : (command : Command) (bytes : List ℕ) (error other : TextError)
     → IsRefusedText command bytes error → IsRefusedText command bytes other → error ≡ other
-one_text_refusal (Mark scheme) bytes error other one two = elim one [
+one_text_refusal command bytes error other one two = elim one [
   | inl form ↦ elim two [
     | inl too ↦
-        form.1 ∙ ap Form (one_first_fault IsNetworkPart bytes form.0 too.0 form.2 too.2) ∙ sym too.1
-    | inr part ↦ absurd (network_formed bytes part.rows error part.fits part.is form)
-  ]
-  | inr part ↦ elim two [
-    | inl form ↦ absurd (network_formed bytes part.rows other part.fits part.is form)
-    | inr too ↦ one_network_refusal bytes error other part too
-  ]
-]
-one_text_refusal (Verify scheme) bytes error other one two = elim one [
-  | inl form ↦ elim two [
-    | inl too ↦
-        form.1 ∙ ap Form (one_first_fault IsInputLines bytes form.0 too.0 form.2 too.2) ∙ sym too.1
-    | inr parts ↦
-        absurd (input_formed bytes parts.rows parts.labels error parts.fits_rows parts.fits_labels
-        parts.is form)
+        form.1 ∙ ap Form (one_first_fault (HasForm command) bytes form.0 too.0 form.2 too.2)
+        ∙ sym too.1
+    | inr parts ↦ absurd (formed command bytes parts.parts error parts.reads parts.fits parts.is form)
   ]
   | inr parts ↦ elim two [
-    | inl form ↦
-        absurd (input_formed bytes parts.rows parts.labels other parts.fits_rows parts.fits_labels
-        parts.is form)
-    | inr too ↦ one_input_refusal bytes error other parts too
+    | inl form ↦ absurd (formed command bytes parts.parts other parts.reads parts.fits parts.is form)
+    | inr too ↦
+        let same = one_parts command too.parts parts.parts too.reads parts.reads too.fits parts.fits
+        (sym too.is ∙ parts.is) in
+        one_first parts.parts error other parts.first
+        (subst (λ (parts : Parts). IsFirstRefusal parts other) same too.first)
   ]
 ]
 
@@ -150,97 +128,85 @@ one_refusal command bytes error other one two = elim one [
   ]
 ]
 
--- a network whose edges join all nodes is not refused
-readable_kept : (rows : List NodeRow) (refusals : List (Option TextError)) (error : TextError)
-    → IsReadable rows → first_of refusals ≡ None → IsFirstRefusal refusals rows error → ⊥
-readable_kept rows refusals error readable none refused = elim refused [
-  | inl some ↦ let no_one : None ≡ Some error = sym none ∙ some in cc
-  | inr apart ↦ apart_from rows apart.1.0 readable.network apart.1.2 readable.connected
-]
+-- an input is the text of parts that the command reads, and nothing before 17 refuses them
+record IsKept (command : Command) (bytes : List ℕ) (rows : List NodeRow) : Type 0 where
+  parts : Parts
+  reads : Reads command parts
+  fits : AreWritten parts
+  is : bytes ≡ parts_text parts
+  of_rows : parts.rows ≡ rows
+  unrefused : first_of (refusals_in parts) ≡ None
 
--- an input of `mark` is not refused
-network_kept : (bytes : List ℕ) (rows : List NodeRow) (error : TextError)
-    → IsNetworkInput bytes rows → RefusesNetwork bytes error → ⊥
-network_kept bytes rows error input refused =
-    let ends : network_text refused.rows ++ [] ≡ network_text rows ++ [] =
-    ap (λ (text : List ℕ). text ++ []) (sym refused.is ∙ input.is) in
-    let same = (one_network refused.rows rows [] [] refused.fits input.readable.ranges ends).0 in
-    readable_kept rows (network_refusals rows) error input.readable
-    (network_unrefused rows input.readable.network)
-    (subst (λ (rows : List NodeRow). IsFirstRefusal (network_refusals rows) rows error) same
-    refused.first)
-
--- an input of `verify` is not refused
-input_kept : (bytes : List ℕ) (rows : List NodeRow) (labels : List (List Bool)) (error : TextError)
-    → IsInput bytes rows labels → RefusesInput bytes error → ⊥
-input_kept bytes rows labels error input refused =
-    let parts : List NamedLabel = named (ids_of rows) labels in
-    let same =
-    one_parts refused.rows rows refused.labels parts refused.fits_rows input.readable.ranges
-    refused.fits_labels (parts_fit rows labels input.readable input.labelled)
-    (sym refused.is ∙ input.is) in
-    let here : IsFirstRefusal (input_refusals rows refused.labels) rows error =
-    subst (λ (rows : List NodeRow). IsFirstRefusal (input_refusals rows refused.labels) rows
-    error) same.0 refused.first in
-    readable_kept rows (input_refusals rows parts) error input.readable
-    (input_unrefused rows labels input.readable.network input.labelled)
-    (subst (λ (labels : List NamedLabel). IsFirstRefusal (input_refusals rows labels) rows error)
-    same.1 here)
+kept : (command : Command) (bytes : List ℕ) (rows : List NodeRow)
+    (labels : Option (List (List Bool))) → IsInputOf command bytes rows labels
+    → IsKept command bytes rows
+kept (Mark scheme) bytes rows None input = record {
+  parts = record { rows = rows; labels = None };
+  reads = refl;
+  fits = record { rows = input.readable.ranges; labels = tt };
+  is = input.is ∙ sym (append-nil (network_text rows));
+  of_rows = refl;
+  unrefused = network_unrefused rows input.readable.network;
+}
+kept (Mark scheme) bytes rows (Some labels) input = absurd input
+kept (Verify scheme) bytes rows None input = absurd input
+kept (Verify scheme) bytes rows (Some labels) input = record {
+  parts = record { rows = rows; labels = Some (named (ids_of rows) labels) };
+  reads = refl;
+  fits = record {
+    rows = input.readable.ranges;
+    labels = parts_fit rows labels input.readable input.labelled;
+  };
+  is = input.is;
+  of_rows = refl;
+  unrefused = labelled_unrefused rows labels input.readable.network input.labelled;
+}
 
 -- what a command reads is not refused
 text_kept : (command : Command) (bytes : List ℕ) (error : TextError)
-    → IsRefusedText command bytes error → Reads command bytes → ⊥
-text_kept (Mark scheme) bytes error refused read = elim refused [
-  | inl form ↦ network_formed bytes read.0 error read.1.readable.ranges read.1.is form
-  | inr part ↦ network_kept bytes read.0 error read.1 part
-]
-text_kept (Verify scheme) bytes error refused read = elim refused [
-  | inl form ↦
-      input_formed bytes read.0 (named (ids_of read.0) read.1) error read.2.readable.ranges
-      (parts_fit read.0 read.1 read.2.readable read.2.labelled) read.2.is form
-  | inr parts ↦ input_kept bytes read.0 read.1 error read.2 parts
-]
-
--- an input is within the limit
-reads_short : (command : Command) (bytes : List ℕ) → Reads command bytes → length bytes ≤ MAX_INPUT
-reads_short (Mark scheme) bytes read = read.1.short
-reads_short (Verify scheme) bytes read = read.2.short
+    → IsRefusedText command bytes error → IsRead command bytes → ⊥
+text_kept command bytes error refused read =
+    let rows : List NodeRow = read.0 in
+    let input = kept command bytes rows read.1 read.2 in
+    let readable = input_readable command bytes rows read.1 read.2 in
+    elim refused [
+      | inl form ↦ formed command bytes input.parts error input.reads input.fits input.is form
+      | inr parts ↦
+          let same = one_parts command parts.parts input.parts parts.reads input.reads parts.fits
+          input.fits (sym parts.is ∙ input.is) in
+          let first : IsFirstRefusal input.parts error =
+          subst (λ (parts : Parts). IsFirstRefusal parts error) same parts.first in
+          elim first [
+            | inl some ↦ let no_one : None ≡ Some error = sym input.unrefused ∙ some in cc
+            | inr apart ↦
+                let here = subst (λ (rows : List NodeRow). IsApart rows error) input.of_rows apart.1 in
+                apart_from rows here.0 readable.network here.2 readable.connected
+          ]
+    ]
 
 -- bytes that are refused are no input
 refused_unread : (command : Command) (bytes : List ℕ) (error : TextError)
-    → IsRefused command bytes error → Reads command bytes → ⊥
+    → IsRefused command bytes error → IsRead command bytes → ⊥
 refused_unread command bytes error refused read = elim refused [
-  | inl many ↦ absurd (omega (arith, many.1, reads_short command bytes read))
+  | inl many ↦ absurd (omega (arith, many.1, input_short command bytes read.0 read.1 read.2))
   | inr text ↦ text_kept command bytes error text.1 read
 ]
 
 -- what a command works on, it reads
 works_read : (command : Command) (bytes : List ℕ) (answer : Answer) → Works command bytes answer
-    → Reads command bytes
-works_read (Mark scheme) bytes answer works = (works.0, works.1)
-works_read (Verify scheme) bytes answer works = (works.0, works.1, works.2)
-
--- a network is marked in one way
-one_marked : (scheme : SchemeName) (rows : List NodeRow) (labels others : List (List Bool))
-    → 1 ≤ length rows → HasProperty scheme rows
-    → IsMarked scheme rows labels → IsMarked scheme rows others → labels ≡ others
-one_marked Tree rows labels others some holds one two =
-    one_tree_marking gamma_code rows labels others holds one two
-one_marked Forest rows labels others some holds one two =
-    one_forest_marking gamma_code rows labels others some one two
-one_marked Bipartite rows labels others some holds one two =
-    one_marking rows labels others some one two
-one_marked Acyclic rows labels others some holds one two =
-    one_level_marking gamma_code rows labels others some one two
+    → IsRead command bytes
+works_read (Mark scheme) bytes answer works = (works.0, None, works.1)
+works_read (Verify scheme) bytes answer works = (works.0, Some works.1, works.2)
 
 -- the marks of a network have one answer
-one_mark : (scheme : SchemeName) (rows : List NodeRow) (answer other : Answer) → 1 ≤ length rows
+one_mark : (scheme : SchemeName) (rows : List NodeRow) (answer other : Answer) → IsReadable rows
     → Marks scheme rows answer → Marks scheme rows other → answer ≡ other
-one_mark scheme rows answer other some one two = elim one [
+one_mark scheme rows answer other readable one two = elim one [
   | inl mine ↦ elim two [
     | inl theirs ↦
         mine.3 ∙ ap (labelled rows)
-        (one_marked scheme rows mine.0 theirs.0 some mine.1 mine.2 theirs.2) ∙ sym theirs.3
+        (named_marked_once scheme rows mine.0 theirs.0 readable.network readable.connected mine.1 mine.2
+        theirs.2) ∙ sym theirs.3
     | inr lacks ↦ absurd (lacks.0 mine.1)
   ]
   | inr lacks ↦ elim two [
@@ -254,7 +220,7 @@ one_work : (command : Command) (bytes : List ℕ) (answer other : Answer) → Wo
     → Works command bytes other → answer ≡ other
 one_work (Mark scheme) bytes answer other one two =
     let same : two.0 ≡ one.0 = one_network_input bytes two.0 one.0 two.1 one.1 in
-    one_mark scheme one.0 answer other one.1.readable.network.limits.some one.2
+    one_mark scheme one.0 answer other one.1.readable one.2
     (subst (λ (rows : List NodeRow). Marks scheme rows other) same two.2)
 one_work (Verify scheme) bytes answer other one two =
     let same = one_input bytes one.0 two.0 one.1 two.1 one.2 two.2 in

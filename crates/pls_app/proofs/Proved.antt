@@ -14,18 +14,12 @@ use Rattle.pls_model.specs.declared.verdict.Verdict.{Verdict}
 use Rattle.pls_model.specs.declared.verdict.Verdict.TheVariants.{Accept, Reject}
 use Rattle.pls_view.specs.Seen.{Seen, views}
 use Rattle.pls_scheme.specs.Judging.{AllAccept, round_by}
-use Rattle.pls_bits.specs.Gamma.{gamma_takes}
-use Rattle.pls_pointer.specs.ForestLaws.{forest_sound}
-use Rattle.pls_pointer.specs.TreeLaws.{tree_sound}
-use Rattle.pls_colour.specs.AcyclicLaws.{acyclic_sound}
-use Rattle.pls_colour.specs.BipartiteLaws.{bipartite_sound}
 use Rattle.pls_app.specs.declared.command.Command.TheVariants.{Mark, Verify}
-use Rattle.pls_app.specs.declared.command.SchemeName.{SchemeName}
-use Rattle.pls_app.specs.declared.command.SchemeName.TheVariants.{Acyclic, Bipartite, Forest, Tree}
+use Rattle.pls_combine.specs.declared.scheme_name.SchemeName.{SchemeName}
 use Rattle.pls_app.specs.Report.{rejects, rejecting}
 use Rattle.pls_app.specs.Answer.{Answer, Answers, refusal_status, report}
-use Rattle.pls_app.specs.Meaning.{HasProperty, judge_of}
-use Rattle.pls_app.specs.Input.{IsReadable}
+use Rattle.pls_combine.specs.Named.{judge_of}
+use Rattle.pls_combine.specs.laws.NamedLaws.{named_sound}
 use Rattle.pls_app.specs.Run.{Lacks, Proves, SomeRejects}
 
 -- a verdict that counts for nothing accepts
@@ -62,18 +56,6 @@ report_done count done = by (count == 0) refl done
     by true is done = eqb-true count 0 is
     by false is done = absurd (cc)
 
--- labels that every node accepts show the property
-pub scheme_sound : (scheme : SchemeName) (rows : List NodeRow) (labels : List (List Bool))
-    → IsReadable rows → AllAccept (judge_of scheme) rows labels
-    → HasProperty scheme rows
-scheme_sound Tree rows labels readable accepted =
-    tree_sound gamma_takes rows labels readable.network readable.connected accepted
-scheme_sound Forest rows labels readable accepted =
-    forest_sound gamma_takes rows labels readable.network accepted
-scheme_sound Bipartite rows labels readable accepted = bipartite_sound rows labels accepted
-scheme_sound Acyclic rows labels readable accepted =
-    acyclic_sound gamma_takes rows readable.network labels accepted
-
 -- `Done` after `verify` says that the network of the input has the property
 pub done_proves : (scheme : SchemeName) (bytes : List ℕ) (answer : Answer)
     → Answers (Verify scheme) bytes answer → answer.status ≡ Done → Proves scheme bytes
@@ -93,7 +75,8 @@ done_proves scheme bytes answer answers done = elim answers [
         rows = rows;
         labels = labels;
         input = judged.2;
-        holds = scheme_sound scheme rows labels judged.2.readable accepted;
+        holds = named_sound scheme rows labels judged.2.readable.network
+            judged.2.readable.connected judged.2.labelled.each accepted;
       }
 ]
 

@@ -1,5 +1,5 @@
 -- Which refusal an input gets.
-use Rattle.std.proofs.Common.{◌≡◌, ◌≢◌, ◌∙◌, ℕ, ◌≤◌, ◌<◌, ◌^◌, ◌⊎◌, Bool, true, false, List, [], ◌∷◌, ◌++◌, length, nat_lt, Option, Some, None, if◌then◌else◌, option_map, inl, inr, ap, subst, refl, sym, arith}
+use Rattle.std.proofs.Common.{◌≡◌, ◌≢◌, ◌∙◌, ℕ, ◌≤◌, ◌<◌, Bool, true, false, List, [], ◌∷◌, ◌++◌, length, nat_lt, All, Option, Some, None, IfSome, if◌then◌else◌, option_map, option_and_then, inl, inr, ap, subst, refl, sym, arith}
 use Rattle.std.proofs.lemmas.Bool.Decides.{nat_tests}
 use Rattle.std.proofs.lemmas.List.{length-map}
 use Rattle.pls_base.specs.declared.text_error.TextError.{TextError}
@@ -9,20 +9,18 @@ use Rattle.pls_base.specs.declared.text_error.Quantity.TheVariants.{Input, Nodes
 use Rattle.pls_model.specs.declared.row.NodeRow.{NodeRow}
 use Rattle.pls_model.specs.declared.limits.TheConstants.{MAX_NODES, MAX_PORTS}
 use Rattle.pls_model.specs.Configuration.{IsNetwork, first_of, ids_of, ports_in}
-use Rattle.pls_netfile.specs.Fault.{NamesFirstFault}
-use Rattle.pls_netfile.specs.NetworkBuild.{Exceeds, IsRefusedBuild, IsSense}
-use Rattle.pls_netfile.specs.NetworkFile.{IsRefusedFile}
-use Rattle.pls_netfile.specs.NetworkText.{AreRows, IsNetworkPart, network_text}
+use Rattle.pls_netfile.specs.NetworkBuild.{IsRefusedBuild}
 use Rattle.pls_netfile.specs.NetworkScan.{WrittenNetwork, TellsNetwork}
-use Rattle.pls_labelfile.specs.LabelsText.{NamedLabel, named}
-use Rattle.pls_labelfile.specs.LabelsScan.{WrittenLabels, TellsLabels, capped, total_bits}
+use Rattle.pls_labelfile.specs.LabelsText.{FitsLabel, NamedLabel, named}
+use Rattle.pls_labelfile.specs.LabelsScan.{WrittenLabels, capped, total_bits}
 use Rattle.pls_labelfile.specs.Misfit.{misfit}
-use Rattle.pls_labelfile.specs.Refusal.{IsLabelsRefusal, misfit_error, labels_refusal}
+use Rattle.pls_labelfile.specs.Refusal.{misfit_error, labels_refusal}
 use Rattle.pls_labelfile.specs.declared.limits.TheConstants.{MAX_BITS}
-use Rattle.pls_app.specs.Order.{IsApart, RefusesInput, RefusesNetwork, heading_of, input_refusals, limits_of, network_refusals, over}
-use Rattle.pls_app.specs.Scanned.{IsScanned}
-use Rattle.pls_app.specs.Input.{AreLabels}
 use Rattle.pls_labelfile.proofs.Named.{named_no_misfit, total_bits-named}
+use Rattle.pls_app.specs.declared.command.Command.{Command}
+use Rattle.pls_app.specs.Input.{AreLabels}
+use Rattle.pls_app.specs.Order.{IsApart, IsFirstRefusal, Parts, RefusesParts, heading_of, limits_of, misfit_in, over, refusals_in}
+use Rattle.pls_app.specs.inner.Scanned.{AreBuilt, AreRefused, IsScanned, TellsSome}
 use Rattle.pls_app.proofs.Inputs.{refusal_is}
 
 -- a count within its limit is no refusal
@@ -61,103 +59,62 @@ first_in [] back error some = absurd (cc)
 first_in (None ∷ front) back error some = first_in front back error some
 first_in (Some found ∷ front) back error some = some
 
+-- a number of bits, if there is one, is within the limit
+abbrev FewBits : Option ℕ → Type 0
+FewBits bits = IfSome bits (λ count. count ≤ MAX_BITS)
+
 -- counts within their limits
-pub limits_kept : (nodes ports bits : ℕ) → nodes ≤ MAX_NODES → ports ≤ MAX_PORTS → bits ≤ MAX_BITS
-    → first_of (limits_of nodes ports bits) ≡ None
-limits_kept nodes ports bits few_nodes few_ports few_bits =
+pub limits_kept : (nodes ports : ℕ) (bits : Option ℕ) → nodes ≤ MAX_NODES → ports ≤ MAX_PORTS
+    → IfSome bits (λ count. count ≤ MAX_BITS) → first_of (limits_of nodes ports bits) ≡ None
+limits_kept nodes ports None few_nodes few_ports few_bits =
+    rw (within Nodes MAX_NODES nodes few_nodes, within Ports MAX_PORTS ports few_ports) refl
+limits_kept nodes ports (Some bits) few_nodes few_ports few_bits =
     rw (
       within Nodes MAX_NODES nodes few_nodes,
       within Ports MAX_PORTS ports few_ports,
-      within Bits
-          MAX_BITS bits few_bits,
+      within Bits MAX_BITS bits few_bits,
     ) refl
 
 -- the counts are within their limits
-record AreKept (nodes ports bits : ℕ) : Type 0 where
+record AreKept (nodes ports : ℕ) (bits : Option ℕ) : Type 0 where
   few_nodes : nodes ≤ MAX_NODES
   few_ports : ports ≤ MAX_PORTS
-  few_bits : bits ≤ MAX_BITS
+  few_bits : FewBits bits
 
-kept_of : (nodes ports bits : ℕ) → first_of (limits_of nodes ports bits) ≡ None
+-- bits that are no refusal are few
+few_bits_of : (bits : Option ℕ) → option_and_then (over Bits MAX_BITS) bits ≡ None → FewBits bits
+few_bits_of None none = tt
+few_bits_of (Some bits) none = few_of Bits MAX_BITS bits none
+
+kept_of : (nodes ports : ℕ) (bits : Option ℕ) → first_of (limits_of nodes ports bits) ≡ None
     → AreKept nodes ports bits
 kept_of nodes ports bits none =
-    by (over Nodes MAX_NODES nodes) (over Ports MAX_PORTS ports) (over Bits MAX_BITS bits) refl refl
-    refl none
+    by (over Nodes MAX_NODES nodes) (over Ports MAX_PORTS ports)
+    (option_and_then (over Bits MAX_BITS) bits) refl refl refl none
   where
     by : (a b c : Option TextError) → over Nodes MAX_NODES nodes ≡ a
-        → over Ports MAX_PORTS ports ≡ b → over Bits MAX_BITS bits ≡ c → first_of (a ∷ b ∷ c ∷ [])
-        ≡ None → AreKept nodes ports bits
+        → over Ports MAX_PORTS ports ≡ b → option_and_then (over Bits MAX_BITS) bits ≡ c
+        → first_of (a ∷ b ∷ c ∷ []) ≡ None → AreKept nodes ports bits
     by None None None a b c none =
         record {
           few_nodes = few_of Nodes MAX_NODES nodes a;
           few_ports = few_of Ports MAX_PORTS ports b;
-          few_bits = few_of Bits MAX_BITS bits c;
+          few_bits = few_bits_of bits c;
         }
     by None None (Some error) a b c none = absurd (cc)
     by None (Some error) other a b c none = absurd (cc)
     by (Some error) two three a b c none = absurd (cc)
 
--- rows with too many nodes or ports
-limit_first : (rows : List NodeRow) (quantity : Quantity) → Exceeds rows quantity
-    → first_of (network_refusals rows) ≡ Some (Limit quantity)
-limit_first rows Nodes more = rw (beyond Nodes MAX_NODES (length rows) more) refl
-limit_first rows Ports more =
-    rw (within Nodes MAX_NODES (length rows) more.0, beyond Ports MAX_PORTS (ports_in rows) more.1)
-    refl
-limit_first rows Input more = absurd more
-limit_first rows Bits more = absurd more
-limit_first rows Events more = absurd more
-limit_first rows Rounds more = absurd more
-limit_first rows Labels more = absurd more
+-- the limits of what the parts say
+abbrev limits_in : Parts → List (Option TextError)
+limits_in parts =
+    limits_of (length parts.rows) (ports_in parts.rows) (option_map total_bits parts.labels)
 
--- rows within the limits that are no network
-sense_first : (rows : List NodeRow) (error : TextError) → IsSense rows error
-    → first_of (network_refusals rows) ≡ Some error
-sense_first rows error sense =
-    rw (
-      within Nodes MAX_NODES (length rows) sense.few.nodes,
-      within Ports MAX_PORTS (ports_in rows)
-          sense.few.ports,
-      sense.first,
-      sense.told,
-    ) refl
-
--- a file that is refused
-pub network_refused : (bytes : List ℕ) (error : TextError) → IsRefusedFile bytes error
-    → error ≢ NoMemory → NamesFirstFault IsNetworkPart bytes error ⊎ RefusesNetwork bytes error
-network_refused bytes (Form line) refused some = inl (line, refl, refused)
-network_refused bytes (Limit quantity) refused some =
-    inr (record {
-      rows = refused.rows;
-      fits = refused.fits;
-      is = refused.says;
-      first = inl (limit_first refused.rows quantity refused.refused);
-    })
-network_refused bytes (Sense number place) refused some =
-    inr (record {
-      rows = refused.rows;
-      fits = refused.fits;
-      is = refused.says;
-      first = inl (sense_first refused.rows (Sense number place) refused.refused);
-    })
-network_refused bytes NoMemory refused some = absurd (some refl)
-
--- rows that are a network are refused by nothing before 17
-pub network_unrefused : (rows : List NodeRow) → IsNetwork rows
-    → first_of (network_refusals rows) ≡ None
-network_unrefused rows net =
-    rw (
-      within Nodes MAX_NODES (length rows) net.limits.few_nodes,
-      within Ports MAX_PORTS
-          (ports_in rows) net.limits.few_ports,
-      net.valid,
-    ) refl
-
--- a file of a network that is not connected
-pub network_apart : (bytes : List ℕ) (rows : List NodeRow) (error : TextError) → AreRows rows
-    → bytes ≡ network_text rows → IsNetwork rows → IsApart rows error → RefusesNetwork bytes error
-network_apart bytes rows error fits is net apart =
-    record { rows = rows; fits = fits; is = is; first = inr (network_unrefused rows net, apart) }
+-- so are those of parts that no limit refuses
+kept_in : (parts : Parts) → first_of (limits_in parts) ≡ None
+    → AreKept (length parts.rows) (ports_in parts.rows) (option_map total_bits parts.labels)
+kept_in parts none =
+    kept_of (length parts.rows) (ports_in parts.rows) (option_map total_bits parts.labels) none
 
 -- a sum that is capped passes the limit where the sum does
 capped_over : (count : ℕ) → over Bits MAX_BITS (capped count) ≡ over Bits MAX_BITS count
@@ -165,182 +122,206 @@ capped_over count =
     let same : nat_lt MAX_BITS (capped count) ≡ nat_lt MAX_BITS count = grind (arith, nat_tests) in
     rw same refl
 
+-- the bits that were counted pass the limit where those that the text says do
+counted_over : (rows : List NodeRow) (texts : Option WrittenLabels)
+    (labels : Option (List NamedLabel)) → TellsSome rows texts labels
+    → option_and_then (over Bits MAX_BITS) (option_map (λ text. text.bits) texts)
+    ≡ option_and_then (over Bits MAX_BITS) (option_map total_bits labels)
+counted_over rows None None tells = refl
+counted_over rows None (Some labels) tells = absurd tells
+counted_over rows (Some written) None tells = absurd tells
+counted_over rows (Some written) (Some labels) tells =
+    ap (over Bits MAX_BITS) tells.sum ∙ capped_over (total_bits labels)
+
 -- the limits of what was scanned are those of what it says
-limits_scanned : (bytes : List ℕ) (network : WrittenNetwork) (labels : WrittenLabels)
-    (scanned : IsScanned bytes network labels)
-    → limits_of network.nodes network.ports labels.bits
-    ≡ limits_of (length scanned.rows) (ports_in scanned.rows) (total_bits scanned.named)
-limits_scanned bytes network labels scanned =
+limits_scanned : (command : Command) (bytes : List ℕ) (network : WrittenNetwork)
+    (texts : Option WrittenLabels) (scanned : IsScanned command bytes network texts)
+    → limits_of network.nodes network.ports (option_map (λ text. text.bits) texts)
+    ≡ limits_in scanned.parts
+limits_scanned command bytes network texts scanned =
     rw (
       scanned.tells_rows.nodes,
       scanned.tells_rows.ports,
-      scanned.sum,
-      capped_over
-          (total_bits scanned.named),
+      counted_over scanned.parts.rows texts scanned.parts.labels scanned.tells_labels,
     ) refl
 
--- what is refused by a limit
-pub limits_refused : (bytes : List ℕ) (network : WrittenNetwork) (labels : WrittenLabels)
-    (error : TextError) → IsScanned bytes network labels
-    → first_of (limits_of network.nodes network.ports labels.bits) ≡ Some error
-    → RefusesInput bytes error
-limits_refused bytes network labels error scanned first =
-    let limits : List (Option TextError) =
-    limits_of (length scanned.rows) (ports_in scanned.rows) (total_bits scanned.named) in
-    let here : first_of limits ≡ Some error =
-    ap first_of (sym (limits_scanned bytes network labels scanned)) ∙ first in
+-- what was scanned can stand in a text
+labels_fit : (rows : List NodeRow) (texts : Option WrittenLabels)
+    (labels : Option (List NamedLabel)) → TellsSome rows texts labels
+    → IfSome labels (All FitsLabel)
+labels_fit rows None None tells = tt
+labels_fit rows None (Some labels) tells = absurd tells
+labels_fit rows (Some written) None tells = absurd tells
+labels_fit rows (Some written) (Some labels) tells = tells.tells.fits
+
+-- the first refusal of what was scanned refuses the bytes
+pub refuses : (command : Command) (bytes : List ℕ) (network : WrittenNetwork)
+    (texts : Option WrittenLabels) (error : TextError)
+    (scanned : IsScanned command bytes network texts) → IsFirstRefusal scanned.parts error
+    → RefusesParts command bytes error
+refuses command bytes network texts error scanned first =
     record {
-      rows = scanned.rows;
-      labels = scanned.named;
-      fits_rows = scanned.tells_rows.fits;
-      fits_labels = scanned.tells_labels.fits;
+      parts = scanned.parts;
+      reads = scanned.reads;
+      fits = record {
+        rows = scanned.tells_rows.fits;
+        labels = labels_fit scanned.parts.rows texts scanned.parts.labels scanned.tells_labels;
+      };
       is = scanned.is;
-      first = inl (first_in limits _ error here);
+      first = first;
     }
+
+-- what is refused by a limit
+pub limits_refused : (command : Command) (bytes : List ℕ) (network : WrittenNetwork)
+    (texts : Option WrittenLabels) (error : TextError) → IsScanned command bytes network texts
+    → first_of (limits_of network.nodes network.ports (option_map (λ text. text.bits) texts))
+    ≡ Some error → RefusesParts command bytes error
+limits_refused command bytes network texts error scanned first =
+    let here : first_of (limits_in scanned.parts) ≡ Some error =
+    ap first_of (sym (limits_scanned command bytes network texts scanned)) ∙ first in
+    refuses command bytes network texts error scanned
+    (inl (first_in (limits_in scanned.parts) _ error here))
 
 -- no limit is passed by what was scanned
-kept_scanned : (bytes : List ℕ) (network : WrittenNetwork) (labels : WrittenLabels)
-    (scanned : IsScanned bytes network labels)
-    → first_of (limits_of network.nodes network.ports labels.bits) ≡ None
-    → first_of (limits_of (length scanned.rows) (ports_in scanned.rows) (total_bits scanned.named))
-    ≡ None
-kept_scanned bytes network labels scanned none =
-    ap first_of (sym (limits_scanned bytes network labels scanned)) ∙ none
+kept_scanned : (command : Command) (bytes : List ℕ) (network : WrittenNetwork)
+    (texts : Option WrittenLabels) (scanned : IsScanned command bytes network texts)
+    → first_of (limits_of network.nodes network.ports (option_map (λ text. text.bits) texts)) ≡ None
+    → first_of (limits_in scanned.parts) ≡ None
+kept_scanned command bytes network texts scanned none =
+    ap first_of (sym (limits_scanned command bytes network texts scanned)) ∙ none
 
 -- what the rows are refused for within the limits
-sense_of : (rows : List NodeRow) (labels : List NamedLabel) (error : TextError)
-    → first_of (limits_of (length rows) (ports_in rows) (total_bits labels)) ≡ None
-    → error ≢ NoMemory → IsRefusedBuild rows error
-    → first_of (input_refusals rows labels) ≡ Some error
-sense_of rows labels (Form line) none some refused = absurd refused
-sense_of rows labels (Limit Nodes) none some refused =
-    absurd (omega (
-      arith,
-      refused,
-      (kept_of (length rows) (ports_in rows) (total_bits labels) none).few_nodes,
-    ))
-sense_of rows labels (Limit Ports) none some refused =
-    absurd (omega (
-      arith,
-      refused.1,
-      (kept_of (length rows) (ports_in rows) (total_bits labels) none).few_ports,
-    ))
-sense_of rows labels (Limit Input) none some refused = absurd refused
-sense_of rows labels (Limit Bits) none some refused = absurd refused
-sense_of rows labels (Limit Events) none some refused = absurd refused
-sense_of rows labels (Limit Rounds) none some refused = absurd refused
-sense_of rows labels (Limit Labels) none some refused = absurd refused
-sense_of rows labels (Sense number place) none some refused =
-    first_behind (limits_of (length rows) (ports_in rows) (total_bits labels)) _ none
-    ∙ rw (refused.first, refused.told) refl
-sense_of rows labels NoMemory none some refused = absurd (some refl)
+sense_of : (parts : Parts) (error : TextError) → first_of (limits_in parts) ≡ None
+    → error ≢ NoMemory → IsRefusedBuild parts.rows error
+    → first_of (refusals_in parts) ≡ Some error
+sense_of parts (Form line) none some refused = absurd refused
+sense_of parts (Limit Nodes) none some refused =
+    absurd (omega (arith, refused, (kept_in parts none).few_nodes))
+sense_of parts (Limit Ports) none some refused =
+    absurd (omega (arith, refused.1, (kept_in parts none).few_ports))
+sense_of parts (Limit Input) none some refused = absurd refused
+sense_of parts (Limit Bits) none some refused = absurd refused
+sense_of parts (Limit Events) none some refused = absurd refused
+sense_of parts (Limit Rounds) none some refused = absurd refused
+sense_of parts (Limit Labels) none some refused = absurd refused
+sense_of parts (Sense number place) none some refused =
+    first_behind (limits_in parts) _ none ∙ rw (refused.first, refused.told) refl
+sense_of parts NoMemory none some refused = absurd (some refl)
 
 -- what is refused for its rows
-pub rows_refused : (bytes : List ℕ) (network : WrittenNetwork) (labels : WrittenLabels)
-    (error : TextError) → IsScanned bytes network labels
-    → first_of (limits_of network.nodes network.ports labels.bits) ≡ None
+pub rows_refused : (command : Command) (bytes : List ℕ) (network : WrittenNetwork)
+    (texts : Option WrittenLabels) (error : TextError) → IsScanned command bytes network texts
+    → first_of (limits_of network.nodes network.ports (option_map (λ text. text.bits) texts)) ≡ None
     → ((rows : List NodeRow) → TellsNetwork network rows → IsRefusedBuild rows error)
-    → error ≢ NoMemory → RefusesInput bytes error
-rows_refused bytes network labels error scanned none refused some =
-    record {
-      rows = scanned.rows;
-      labels = scanned.named;
-      fits_rows = scanned.tells_rows.fits;
-      fits_labels = scanned.tells_labels.fits;
-      is = scanned.is;
-      first = inl (sense_of scanned.rows scanned.named error
-          (kept_scanned bytes network labels scanned none) some
-          (refused scanned.rows scanned.tells_rows));
-    }
+    → error ≢ NoMemory → RefusesParts command bytes error
+rows_refused command bytes network texts error scanned none refused some =
+    refuses command bytes network texts error scanned
+    (inl (sense_of scanned.parts error (kept_scanned command bytes network texts scanned none) some
+    (refused scanned.parts.rows scanned.tells_rows)))
 
 -- labels of few bits are refused for the line that does not fit
 misfit_of : (ids : List ℕ) (heading : ℕ) (labels : List NamedLabel) (found : Option TextError)
     → total_bits labels ≤ MAX_BITS → labels_refusal ids heading labels ≡ found
     → option_map (misfit_error heading) (misfit ids labels) ≡ found
 misfit_of ids heading labels found few refused =
-    let no_more : nat_lt (2 ^ 28) (total_bits labels) ≡ false = grind (arith, nat_tests) in
+    let no_more : nat_lt MAX_BITS (total_bits labels) ≡ false = grind (arith, nat_tests) in
     rw no_more at refused
 
 -- behind a network within the limits, the labels are refused next
-behind_network : (rows : List NodeRow) (labels : List NamedLabel) (found : Option TextError)
-    → IsNetwork rows → total_bits labels ≤ MAX_BITS
-    → labels_refusal (ids_of rows) (heading_of rows) labels ≡ found
-    → first_of (input_refusals rows labels) ≡ first_of (found ∷ [])
-behind_network rows labels found net few refused =
-    let none =
-    limits_kept (length rows) (ports_in rows) (total_bits labels) net.limits.few_nodes
-    net.limits.few_ports few in
-    first_behind (limits_of (length rows) (ports_in rows) (total_bits labels)) _ none
-    ∙ rw (net.valid, misfit_of (ids_of rows) (heading_of rows) labels found few refused) refl
+behind_network : (parts : Parts) (found : Option TextError) → IsNetwork parts.rows
+    → first_of (limits_in parts) ≡ None
+    → option_and_then (misfit_in parts.rows) parts.labels ≡ found
+    → first_of (refusals_in parts) ≡ first_of (found ∷ [])
+behind_network parts found net none refused =
+    first_behind (limits_in parts) _ none ∙ rw (net.valid, refused) refl
+
+-- the refusal of the labels that were scanned is that of the parts
+misfit_scanned : (rows : List NodeRow) (texts : Option WrittenLabels)
+    (labels : Option (List NamedLabel)) (error : TextError) → TellsSome rows texts labels
+    → FewBits (option_map total_bits labels) → AreRefused rows texts error → error ≢ NoMemory
+    → option_and_then (misfit_in rows) labels ≡ Some error
+misfit_scanned rows None labels error tells few refused some = absurd refused
+misfit_scanned rows (Some written) None error tells few refused some = absurd tells
+misfit_scanned rows (Some written) (Some labels) error tells few refused some =
+    let here : labels_refusal (ids_of rows) written.number labels ≡ Some error =
+    refusal_is (ids_of rows) written.number labels error some (refused labels tells.tells) in
+    let there : labels_refusal (ids_of rows) (heading_of rows) labels ≡ Some error =
+    rw tells.heading at here in
+    misfit_of (ids_of rows) (heading_of rows) labels (Some error) few there
+
+-- labels that were built do not refuse the parts
+fit_scanned : (rows : List NodeRow) (texts : Option WrittenLabels)
+    (labels : Option (List NamedLabel)) (store : Option (List (List Bool)))
+    → TellsSome rows texts labels → FewBits (option_map total_bits labels)
+    → AreBuilt rows texts store → option_and_then (misfit_in rows) labels ≡ None
+fit_scanned rows None None store tells few built = refl
+fit_scanned rows None (Some labels) store tells few built = absurd tells
+fit_scanned rows (Some written) None store tells few built = absurd tells
+fit_scanned rows (Some written) (Some labels) None tells few built = absurd built
+fit_scanned rows (Some written) (Some labels) (Some store) tells few built =
+    let here : labels_refusal (ids_of rows) written.number labels ≡ None =
+    built.accepted labels tells.tells in
+    let there : labels_refusal (ids_of rows) (heading_of rows) labels ≡ None =
+    rw tells.heading at here in
+    misfit_of (ids_of rows) (heading_of rows) labels None few there
 
 -- what is refused for its labels
-pub labels_refused : (bytes : List ℕ) (network : WrittenNetwork) (labels : WrittenLabels)
-    (net : List NodeRow) (error : TextError) → IsScanned bytes network labels
-    → first_of (limits_of network.nodes network.ports labels.bits) ≡ None
+pub labels_refused : (command : Command) (bytes : List ℕ) (network : WrittenNetwork)
+    (texts : Option WrittenLabels) (net : List NodeRow) (error : TextError)
+    → IsScanned command bytes network texts
+    → first_of (limits_of network.nodes network.ports (option_map (λ text. text.bits) texts)) ≡ None
     → ((rows : List NodeRow) → TellsNetwork network rows → net ≡ rows) → IsNetwork net
-    → ((named : List NamedLabel) → TellsLabels labels.text named
-    → IsLabelsRefusal (ids_of net) labels.number named error) → error ≢ NoMemory
-    → RefusesInput bytes error
-labels_refused bytes network labels net error scanned none built valid refused some =
-    let is_net : net ≡ scanned.rows = built scanned.rows scanned.tells_rows in
-    let few =
-    (kept_of (length scanned.rows) (ports_in scanned.rows) (total_bits scanned.named)
-    (kept_scanned bytes network labels scanned none)).few_bits in
-    let here =
-    refusal_is (ids_of net) labels.number scanned.named error some
-    (refused scanned.named scanned.tells_labels) in
-    let there : labels_refusal (ids_of scanned.rows) (heading_of scanned.rows) scanned.named
-    ≡ Some error = rw (is_net, scanned.heading) at here in
-    record {
-      rows = scanned.rows;
-      labels = scanned.named;
-      fits_rows = scanned.tells_rows.fits;
-      fits_labels = scanned.tells_labels.fits;
-      is = scanned.is;
-      first = inl (behind_network scanned.rows scanned.named (Some error)
-          (subst IsNetwork is_net valid) few there);
-    }
+    → AreRefused net texts error → error ≢ NoMemory → RefusesParts command bytes error
+labels_refused command bytes network texts net error scanned none built valid refused some =
+    let is_net : net ≡ scanned.parts.rows = built scanned.parts.rows scanned.tells_rows in
+    let kept = kept_scanned command bytes network texts scanned none in
+    let first = misfit_scanned scanned.parts.rows texts scanned.parts.labels error
+    scanned.tells_labels (kept_in scanned.parts kept).few_bits
+    (subst (λ (rows : List NodeRow). AreRefused rows texts error) is_net refused) some in
+    refuses command bytes network texts error scanned
+    (inl (behind_network scanned.parts (Some error) (subst IsNetwork is_net valid) kept first))
 
 -- what is refused since its network is not connected
-pub input_apart : (bytes : List ℕ) (network : WrittenNetwork) (labels : WrittenLabels)
-    (net : List NodeRow) (error : TextError) → IsScanned bytes network labels
-    → first_of (limits_of network.nodes network.ports labels.bits) ≡ None
+pub parts_apart : (command : Command) (bytes : List ℕ) (network : WrittenNetwork)
+    (texts : Option WrittenLabels) (net : List NodeRow) (store : Option (List (List Bool)))
+    (error : TextError) → IsScanned command bytes network texts
+    → first_of (limits_of network.nodes network.ports (option_map (λ text. text.bits) texts)) ≡ None
     → ((rows : List NodeRow) → TellsNetwork network rows → net ≡ rows) → IsNetwork net
-    → ((named : List NamedLabel) → TellsLabels labels.text named
-    → labels_refusal (ids_of net) labels.number named ≡ None) → IsApart net error
-    → RefusesInput bytes error
-input_apart bytes network labels net error scanned none built valid accepted apart =
-    let is_net : net ≡ scanned.rows = built scanned.rows scanned.tells_rows in
-    let few =
-    (kept_of (length scanned.rows) (ports_in scanned.rows) (total_bits scanned.named)
-    (kept_scanned bytes network labels scanned none)).few_bits in
-    let here = accepted scanned.named scanned.tells_labels in
-    let there : labels_refusal (ids_of scanned.rows) (heading_of scanned.rows) scanned.named
-    ≡ None = rw (is_net, scanned.heading) at here in
-    record {
-      rows = scanned.rows;
-      labels = scanned.named;
-      fits_rows = scanned.tells_rows.fits;
-      fits_labels = scanned.tells_labels.fits;
-      is = scanned.is;
-      first = inr (
-        behind_network scanned.rows scanned.named None (subst IsNetwork is_net valid) few
-            there,
-        subst (λ (rows : List NodeRow). IsApart rows error) is_net apart,
-      );
-    }
+    → AreBuilt net texts store → IsApart net error → RefusesParts command bytes error
+parts_apart command bytes network texts net store error scanned none built valid labels apart =
+    let is_net : net ≡ scanned.parts.rows = built scanned.parts.rows scanned.tells_rows in
+    let kept = kept_scanned command bytes network texts scanned none in
+    let fit = fit_scanned scanned.parts.rows texts scanned.parts.labels store
+    scanned.tells_labels (kept_in scanned.parts kept).few_bits
+    (subst (λ (rows : List NodeRow). AreBuilt rows texts store) is_net labels) in
+    refuses command bytes network texts error scanned
+    (inr (
+      behind_network scanned.parts None (subst IsNetwork is_net valid) kept fit,
+      subst (λ (rows : List NodeRow). IsApart rows error) is_net apart,
+    ))
+
+-- a network alone is refused by nothing before 17
+pub network_unrefused : (rows : List NodeRow) → IsNetwork rows
+    → first_of (refusals_in (record { rows = rows; labels = None })) ≡ None
+network_unrefused rows net =
+    let parts : Parts = record { rows = rows; labels = None } in
+    behind_network parts None net
+    (limits_kept (length rows) (ports_in rows) None net.limits.few_nodes net.limits.few_ports tt)
+    refl
 
 -- a network and labels for it are refused by nothing before 17
-pub input_unrefused : (rows : List NodeRow) (labels : List (List Bool)) → IsNetwork rows
-    → AreLabels rows labels → first_of (input_refusals rows (named (ids_of rows) labels)) ≡ None
-input_unrefused rows labels net labelled =
+pub labelled_unrefused : (rows : List NodeRow) (labels : List (List Bool)) → IsNetwork rows
+    → AreLabels rows labels
+    → first_of (refusals_in (record { rows = rows; labels = Some (named (ids_of rows) labels) }))
+    ≡ None
+labelled_unrefused rows labels net labelled =
+    let parts : Parts = record { rows = rows; labels = Some (named (ids_of rows) labels) } in
     let ids : List ℕ = ids_of rows in
     let many : length ids ≡ length rows = length-map rows (λ (row : NodeRow). row.id) in
     let each : length labels ≡ length ids = labelled.each ∙ sym many in
     let few : total_bits (named ids labels) ≤ MAX_BITS =
     omega (arith, total_bits-named ids labels each, labelled.few) in
     let none =
-    limits_kept (length rows) (ports_in rows) (total_bits (named ids labels))
+    limits_kept (length rows) (ports_in rows) (Some (total_bits (named ids labels)))
     net.limits.few_nodes net.limits.few_ports few in
-    first_behind (limits_of (length rows) (ports_in rows) (total_bits (named ids labels))) _ none
-    ∙ rw (net.valid, named_no_misfit ids labels each) refl
+    behind_network parts None net none (rw (named_no_misfit ids labels each) refl)

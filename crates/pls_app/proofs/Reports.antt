@@ -1,8 +1,8 @@
 -- Reports line by line.
 use Rattle.std.proofs.Common.{◌≡◌, ◌∙◌, ℕ, ◌+◌, ◌<◌, ◌≤◌, List, [], ◌∷◌, ◌++◌, map, take, length, get_or, refl}
 use Rattle.std.proofs.lemmas.List.{take_all, take_more, map-append}
-use Rattle.pls_netfile.specs.Text.{text_of}
-use Rattle.pls_netfile.proofs.Fronts.{text_of-append}
+use Rattle.pls_lines.specs.Text.{text_of}
+use Rattle.pls_lines.specs.laws.Fronts.{text_of-append}
 
 -- one more item has one more line
 pub lines_more : {X : Type 0} (f : X → List ℕ) (xs : List X) (i : ℕ) (d : X) (old new : List ℕ)

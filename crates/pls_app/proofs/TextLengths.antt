@@ -10,10 +10,10 @@ use Rattle.pls_model.specs.declared.row.State.{State}
 use Rattle.pls_model.specs.declared.row.NodeRow.{NodeRow}
 use Rattle.pls_model.specs.Configuration.{IsNetwork, ids_of, ports_in}
 use Rattle.pls_bits.proofs.Text.{length-hex_digits}
-use Rattle.pls_netfile.specs.Text.{line_of, text_of}
-use Rattle.pls_netfile.specs.Frame.{part_lines}
+use Rattle.pls_lines.specs.Text.{line_of, text_of}
+use Rattle.pls_lines.specs.Frame.{part_lines}
 use Rattle.pls_netfile.specs.NetworkText.{AreRows, FitsPort, FitsRow, FitsState, network_text, node_line, port_line, row_lines, up_word}
-use Rattle.pls_netfile.proofs.Fronts.{text_of-append}
+use Rattle.pls_lines.specs.laws.Fronts.{text_of-append}
 use Rattle.pls_labelfile.specs.LabelsText.{NamedLabel, hex_word, label_line, labels_text, named}
 
 -- a number below 2^32 has at most ten digits

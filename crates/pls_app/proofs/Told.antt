@@ -4,7 +4,7 @@ use Rattle.pls_base.specs.Streams.{Rose}
 use Rattle.pls_model.specs.declared.status.Status.{Status}
 use Rattle.pls_model.specs.declared.status.Status.TheVariants.{Done, No, WriteFault}
 use Rattle.pls_app.specs.declared.command.Command.{Command}
-use Rattle.pls_app.specs.declared.command.SchemeName.{SchemeName}
+use Rattle.pls_combine.specs.declared.scheme_name.SchemeName.{SchemeName}
 use Rattle.pls_app.specs.Command.{command_of}
 use Rattle.pls_app.specs.Answer.{Answer, Answers, IsAnswer}
 use Rattle.pls_app.proofs.Answered.{command_answer}

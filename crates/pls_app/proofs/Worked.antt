@@ -8,7 +8,7 @@ use Rattle.pls_model.specs.declared.verdict.Verdict.TheVariants.{Accept, Reject}
 use Rattle.pls_model.specs.Configuration.{first_of}
 use Rattle.pls_labelfile.specs.LabelsText.{named}
 use Rattle.pls_app.specs.Answer.{refusal}
-use Rattle.pls_app.specs.Order.{input_refusals, network_refusals}
+use Rattle.pls_app.specs.Order.{Parts, refusals_in}
 use Rattle.pls_app.specs.Report.{report_text}
 
 two : report_text ((1, Accept) ∷ (20, Reject 1 3) ∷ [])
@@ -41,18 +41,29 @@ pair here there =
       ports = record { nbr = 1; weight = there } ∷ [];
     } ∷ []
 
-weights : first_of (network_refusals (pair 1 2)) ≡ Some (Sense 15 1)
+-- they alone
+abbrev alone : ℕ → ℕ → Parts
+alone here there = record { rows = pair here there; labels = None }
+
+-- they, and a label for each, but in the other order
+abbrev with_labels : ℕ → ℕ → Parts
+with_labels here there = record {
+  rows = pair here there;
+  labels = Some (named (2 ∷ 1 ∷ []) ((false ∷ []) ∷ (true ∷ []) ∷ []));
+}
+
+weights : first_of (refusals_in (alone 1 2)) ≡ Some (Sense 15 1)
 weights = refl
 
-sound : first_of (network_refusals (pair 1 1)) ≡ None
+sound : first_of (refusals_in (alone 1 1)) ≡ None
 sound = refl
 
 -- a label that names another node, in the second line of the labels part
-turned : first_of (input_refusals (pair 1 1) (named (2 ∷ 1 ∷ []) ((false ∷ []) ∷ (true ∷ []) ∷ [])))
+turned : first_of (refusals_in (with_labels 1 1))
     ≡ Some (Sense 20 8)
 turned = refl
 
 -- a row is refused before a label
-before : first_of (input_refusals (pair 1 2) (named (2 ∷ 1 ∷ []) ((false ∷ []) ∷ (true ∷ []) ∷ [])))
+before : first_of (refusals_in (with_labels 1 2))
     ≡ Some (Sense 15 1)
 before = refl

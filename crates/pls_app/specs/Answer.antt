@@ -8,14 +8,14 @@ use Rattle.pls_model.specs.declared.status.Status.TheVariants.{Done, No, Usage, 
 use Rattle.pls_model.specs.declared.row.NodeRow.{NodeRow}
 use Rattle.pls_model.specs.declared.verdict.Verdict.{Verdict}
 use Rattle.pls_model.specs.Configuration.{ids_of}
-use Rattle.pls_netfile.specs.Text.{line_of, text_of}
+use Rattle.pls_lines.specs.Text.{line_of, text_of}
 use Rattle.pls_labelfile.specs.LabelsText.{labels_text, named}
 use Rattle.pls_scheme.specs.Judging.{round_by}
 use Rattle.pls_app.specs.declared.command.Command.{Command}
 use Rattle.pls_app.specs.declared.command.Command.TheVariants.{Mark, Verify}
-use Rattle.pls_app.specs.declared.command.SchemeName.{SchemeName}
+use Rattle.pls_combine.specs.declared.scheme_name.SchemeName.{SchemeName}
 use Rattle.pls_app.specs.Command.{command_of}
-use Rattle.pls_app.specs.Meaning.{HasProperty, IsMarked, judge_of}
+use Rattle.pls_combine.specs.Named.{HasProperty, IsMarked, judge_of}
 use Rattle.pls_app.specs.Report.{rejecting, report_text}
 use Rattle.pls_app.specs.Input.{IsInput, IsNetworkInput}
 use Rattle.pls_app.specs.Order.{IsRefused}

@@ -1,22 +1,14 @@
 -- The words that the program knows.
-use Rattle.std.specs.Prelude.{ℕ, List, [], ◌∷◌, map, codes, bytes_eq, Option, Some, None, option_map, if◌then◌else◌}
+use Rattle.std.specs.Prelude.{ℕ, List, [], ◌∷◌, map, codes, bytes_eq, Option, None, option_map, if◌then◌else◌}
 use Rattle.std.specs.Borrow.{Bor}
 use Rattle.pls_app.specs.declared.command.Command.{Command}
 use Rattle.pls_app.specs.declared.command.Command.TheVariants.{Mark, Verify}
-use Rattle.pls_app.specs.declared.command.SchemeName.{SchemeName}
-use Rattle.pls_app.specs.declared.command.SchemeName.TheVariants.{Acyclic, Bipartite, Forest, Tree}
+use Rattle.pls_combine.specs.declared.scheme_name.SchemeName.{SchemeName}
+use Rattle.pls_combine.specs.SchemeWord.{name_of, scheme_of}
 
 -- the words that a run is given, each as its bytes
 abbrev pub words_in : List (Bor (List ℕ)) → List (List ℕ)
 words_in words = map (λ word. word.now) words
-
--- the scheme of a name
-abbrev pub scheme_of : List ℕ → Option SchemeName
-scheme_of word =
-    if bytes_eq word (codes "tree") then Some Tree
-    else (if bytes_eq word (codes "forest") then Some Forest
-    else (if bytes_eq word (codes "bipartite") then Some Bipartite
-    else (if bytes_eq word (codes "acyclic") then Some Acyclic else None)))
 
 -- the command of two words
 abbrev pub command_of_two : List ℕ → List ℕ → Option Command
@@ -30,13 +22,6 @@ command_of [] = None
 command_of (word ∷ []) = None
 command_of (word ∷ scheme ∷ []) = command_of_two word scheme
 command_of (word ∷ scheme ∷ next ∷ others) = None
-
--- the name of a scheme
-abbrev pub name_of : SchemeName → List ℕ
-name_of Tree = codes "tree"
-name_of Forest = codes "forest"
-name_of Bipartite = codes "bipartite"
-name_of Acyclic = codes "acyclic"
 
 -- the words of a scheme's `verify`
 abbrev pub verify_words : SchemeName → List (List ℕ)

@@ -1,13 +1,14 @@
 -- What the commands read: a connected network, and for `verify` a label for each of its nodes.
-use Rattle.std.specs.Prelude.{◌≡◌, ℕ, ◌≤◌, Bool, List, ◌++◌, length}
+use Rattle.std.specs.Prelude.{◌≡◌, ℕ, ◌≤◌, Bool, List, ◌++◌, length, Option, Some, None}
 use Rattle.pls_model.specs.declared.row.NodeRow.{NodeRow}
 use Rattle.pls_model.specs.Configuration.{IsNetwork, ids_of}
 use Rattle.pls_model.specs.Walk.{IsConnected}
-use Rattle.pls_netfile.specs.Fault.{Then}
-use Rattle.pls_netfile.specs.NetworkText.{AreRows, IsNetworkPart, network_text}
+use Rattle.pls_netfile.specs.NetworkText.{AreRows, network_text}
 use Rattle.pls_view.specs.Labels.{bits_in}
-use Rattle.pls_labelfile.specs.LabelsText.{IsLabelsPart, labels_text, named}
+use Rattle.pls_labelfile.specs.LabelsText.{labels_text, named}
 use Rattle.pls_labelfile.specs.declared.limits.TheConstants.{MAX_BITS}
+use Rattle.pls_app.specs.declared.command.Command.{Command}
+use Rattle.pls_app.specs.declared.command.Command.TheVariants.{Mark, Verify}
 use Rattle.pls_app.specs.declared.limits.TheConstants.{MAX_INPUT}
 
 -- the rows are a connected network, and its numbers can stand in a text
@@ -38,6 +39,9 @@ pub record IsInput (bytes : List ℕ) (rows : List NodeRow) (labels : List (List
   pub labelled : AreLabels rows labels
   pub is : bytes ≡ input_text rows labels
 
--- the lines of a network and its labels
-abbrev pub IsInputLines : List (List ℕ) → Type 0
-IsInputLines lines = Then IsNetworkPart IsLabelsPart lines
+-- the bytes are an input of the command: a network, and labels where it reads them
+abbrev pub IsInputOf : Command → List ℕ → List NodeRow → Option (List (List Bool)) → Type 0
+IsInputOf (Mark scheme) bytes rows None = IsNetworkInput bytes rows
+IsInputOf (Mark scheme) bytes rows (Some labels) = ⊥
+IsInputOf (Verify scheme) bytes rows None = ⊥
+IsInputOf (Verify scheme) bytes rows (Some labels) = IsInput bytes rows labels

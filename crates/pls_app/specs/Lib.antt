@@ -1,8 +1,7 @@
 pub mod Command
-pub mod Meaning
 pub mod Report
 pub mod Input
 pub mod Order
-pub mod Scanned
 pub mod Answer
 pub mod Run
+pub mod inner

@@ -3,7 +3,7 @@ use Rattle.std.specs.Prelude.{ℕ, Bool, not, List, [], ◌∷◌, ◌++◌, map
 use Rattle.pls_model.specs.declared.verdict.Verdict.{Verdict}
 use Rattle.pls_model.specs.declared.verdict.Verdict.TheVariants.{Accept, Reject}
 use Rattle.pls_scheme.specs.Judging.{accepts}
-use Rattle.pls_netfile.specs.Text.{line_of, text_of}
+use Rattle.pls_lines.specs.Text.{line_of, text_of}
 
 -- the verdict is a rejection
 abbrev pub rejects : Verdict → Bool

@@ -11,11 +11,12 @@ use Rattle.pls_graph.specs.Size.{size_of}
 use Rattle.pls_labelfile.specs.LabelsText.{labels_text, named}
 use Rattle.pls_view.specs.Seen.{Seen, views}
 use Rattle.pls_scheme.specs.Judging.{AllAccept}
+use Rattle.pls_scheme.specs.Marked.{answered}
 use Rattle.pls_app.specs.declared.limits.TheConstants.{MAX_INPUT}
 use Rattle.pls_app.specs.declared.command.Command.{Command}
-use Rattle.pls_app.specs.declared.command.SchemeName.{SchemeName}
+use Rattle.pls_combine.specs.declared.scheme_name.SchemeName.{SchemeName}
 use Rattle.pls_app.specs.Command.{command_of, verify_words}
-use Rattle.pls_app.specs.Meaning.{HasProperty, judge_of, longest_of}
+use Rattle.pls_combine.specs.Named.{HasProperty, judge_of, longest_of}
 use Rattle.pls_app.specs.Input.{IsInput, IsNetworkInput}
 use Rattle.pls_app.specs.Order.{IsRefused}
 use Rattle.pls_app.specs.Report.{rejects}
@@ -138,7 +139,7 @@ pub record Shows (scheme : SchemeName) (rows : List NodeRow)
   pub holds : HasProperty scheme rows
   pub each : length labels ≡ length rows
   pub accepted : AllAccept (judge_of scheme) rows labels
-  pub short : All (λ label. length label ≤ longest_of scheme (size_of rows)) labels
+  pub short : All (λ label. length label ≤ answered (longest_of scheme (size_of rows))) labels
 
 -- the text has labels that show the property of a network
 pub record ShowsIn (scheme : SchemeName) (rows : List NodeRow) (text : List ℕ) : Type 0 where

@@ -2,15 +2,18 @@
 
 ghost use Rattle.std.specs.Prelude.{◌≡◌, ◌≢◌, ◌≤◌, length, IfOk, OnOk};
 ghost use Rattle.pls_model.specs.declared.status.Status.TheVariants.{Done};
-ghost use Rattle.pls_app.specs.Answer.{Answers, refusal, refusal_status};
+ghost use Rattle.pls_app.specs.Answer.{Answers, Works, refusal, refusal_status};
+ghost use Rattle.pls_app.specs.Input.{IsInputOf};
 ghost use Rattle.pls_app.specs.Run.{Certifies, IsAnswered};
 
 use crate::command::{Command, SchemeName};
-use crate::input::{read_connected, read_labelled};
+use crate::input::read_input;
 use crate::limits::MAX_INPUT;
 use crate::mark::mark;
 use crate::verify::verify;
 use pls_base::{NoMemory, Status, TextError};
+use pls_graph::Network;
+use pls_view::LabelStore;
 use std::alloc::Global;
 use std::marker::Model;
 
@@ -39,35 +42,32 @@ pub(crate) fn answer_to(alloc: Global, command: Command, bytes: &[u8]) -> Result
     ensures certified { IfOk result (λ answer. (scheme : SchemeName) → command ≡ Command.Mark scheme
         → answer.status ≡ Done → Certifies scheme bytes.now answer.text) }
 {
+    match read_input(alloc, command, bytes) {
+        Ok((net, labels)) => work(alloc, command, bytes, &net, labels),
+        Err(error) => refuse(alloc, error),
+    }
+}
+
+// The answer to a command on the parts of its input. The one error is want of memory.
+fn work(
+    alloc: Global,
+    command: Command,
+    bytes: &[u8],
+    net: &Network,
+    labels: Option<LabelStore>,
+) -> Result<Answer, NoMemory>
+    requires { IsInputOf command bytes.now net.now labels }
+    ensures works { IfOk result (λ answer. Works command bytes.now answer) }
+    ensures answered { IfOk result (λ answer. IsAnswered answer.status) }
+    ensures certified { IfOk result (λ answer. (scheme : SchemeName) → command ≡ Command.Mark scheme
+        → answer.status ≡ Done → Certifies scheme bytes.now answer.text) }
+{
     match command {
-        Command::Mark(scheme) => answer_mark(alloc, scheme, bytes),
-        Command::Verify(scheme) => answer_verify(alloc, scheme, bytes),
-    }
-}
-
-// The answer to `mark`.
-fn answer_mark(alloc: Global, scheme: SchemeName, bytes: &[u8]) -> Result<Answer, NoMemory>
-    requires { length bytes.now ≤ MAX_INPUT }
-    ensures answer { IfOk result (λ answer. Answers (Command.Mark scheme) bytes.now answer) }
-    ensures answered { IfOk result (λ answer. IsAnswered answer.status) }
-    ensures certified { IfOk result (λ answer. answer.status ≡ Done
-        → Certifies scheme bytes.now answer.text) }
-{
-    match read_connected(alloc, bytes) {
-        Ok(net) => mark(alloc, scheme, &net),
-        Err(error) => refuse(alloc, error),
-    }
-}
-
-// The answer to `verify`.
-fn answer_verify(alloc: Global, scheme: SchemeName, bytes: &[u8]) -> Result<Answer, NoMemory>
-    requires { length bytes.now ≤ MAX_INPUT }
-    ensures answer { IfOk result (λ answer. Answers (Command.Verify scheme) bytes.now answer) }
-    ensures answered { IfOk result (λ answer. IsAnswered answer.status) }
-{
-    match read_labelled(alloc, bytes) {
-        Ok((net, labels)) => verify(alloc, scheme, &net, &labels),
-        Err(error) => refuse(alloc, error),
+        Command::Mark(scheme) => mark(alloc, scheme, net),
+        Command::Verify(scheme) => {
+            let labels = labels.unwrap();
+            verify(alloc, scheme, net, &labels)
+        }
     }
 }
 

@@ -1,20 +1,12 @@
 //! The words of the command line.
 
-ghost use Rattle.std.specs.Prelude.{◌≡◌, ◌↔◌, IsTrue, map, codes, bytes_eq};
-ghost use Rattle.pls_app.specs.Command.{command_of, command_of_two, scheme_of};
+ghost use Rattle.std.specs.Prelude.{◌≡◌, map, bytes_eq};
+ghost use Rattle.pls_app.specs.Command.{command_of, command_of_two};
+
+use pls_combine::read_scheme;
 
 /// A scheme by its name.
-#[derive(Clone, Copy, Debug, PartialEq, Eq)]
-pub enum SchemeName {
-    /// `tree`: one node has no pointer, and the pointers of the others make a spanning tree.
-    Tree,
-    /// `forest`: no chain of pointers returns to its start.
-    Forest,
-    /// `bipartite`: a colour at each node, which differs across each edge.
-    Bipartite,
-    /// `acyclic`: no three or more nodes make a cycle.
-    Acyclic,
-}
+pub use pls_combine::SchemeName;
 
 /// What a run is asked to do.
 #[derive(Clone, Copy, Debug, PartialEq, Eq)]
@@ -43,23 +35,6 @@ fn read_two(command: &str, scheme: &str) -> Option<Command>
         read_scheme(scheme).map(Command::Mark)
     } else if is_word(command, "verify") {
         read_scheme(scheme).map(Command::Verify)
-    } else {
-        None
-    }
-}
-
-// The scheme that a word names.
-fn read_scheme(word: &str) -> Option<SchemeName>
-    ensures { result ≡ scheme_of word.now }
-{
-    if is_word(word, "tree") {
-        Some(SchemeName::Tree)
-    } else if is_word(word, "forest") {
-        Some(SchemeName::Forest)
-    } else if is_word(word, "bipartite") {
-        Some(SchemeName::Bipartite)
-    } else if is_word(word, "acyclic") {
-        Some(SchemeName::Acyclic)
     } else {
         None
     }

@@ -1,65 +1,96 @@
-//! The parts of an input.
+//! The parts of an input, as a command reads them.
 
-ghost use Rattle.std.specs.Prelude.{◌≡◌, ◌≢◌, ◌≤◌, IfErr, IfOk, OnOk, None, Some, length};
+ghost use Rattle.std.specs.Prelude.{◌≡◌, ◌≢◌, ◌≤◌, IfErr, IfOk, OnOk, None, Some, length, option_map};
 ghost use Rattle.pls_model.specs.Configuration.{IsNetwork, first_of};
 ghost use Rattle.pls_model.specs.Walk.{IsConnected};
-ghost use Rattle.pls_netfile.specs.Fault.{NamesFirstFault};
-ghost use Rattle.pls_app.specs.Input.{IsInput, IsInputLines, IsNetworkInput};
-ghost use Rattle.pls_app.specs.Order.{IsApart, limits_of};
-ghost use Rattle.pls_app.specs.Scanned.{Refuses, IsScanned};
+ghost use Rattle.pls_lines.specs.Fault.{NamesFirstFault};
+ghost use Rattle.pls_app.specs.Input.{IsInputOf};
+ghost use Rattle.pls_app.specs.Order.{HasForm, IsApart, limits_of};
+ghost use Rattle.pls_app.specs.inner.Scanned.{AreBuilt, AreRefused, IsScanned, Refuses};
 
-use crate::command::{Command, SchemeName};
+use crate::command::Command;
 use crate::limits::MAX_INPUT;
+use pls_base::refusal_number::APART;
 use pls_base::{Quantity, TextError};
 use pls_graph::{Network, connected};
-use pls_labelfile::{LabelsText, MAX_BITS, scan_labels};
+use pls_labelfile::{LabelsText, MAX_BITS};
+use pls_lines::{Both, read_whole};
 use pls_model::{MAX_NODES, MAX_PORTS};
-use pls_netfile::{Lines, NetworkText, read_network, scan_network};
+use pls_netfile::NetworkText;
 use pls_view::LabelStore;
 use std::alloc::Global;
 
-// The connected network that an input is, or why it is refused.
-pub(crate) fn read_connected(alloc: Global, bytes: &[u8]) -> Result<Network, TextError>
+// The connected network that an input has, and the labels where the command reads them, or why it
+// is refused.
+pub(crate) fn read_input(
+    alloc: Global,
+    command: Command,
+    bytes: &[u8],
+) -> Result<(Network, Option<LabelStore>), TextError>
     requires { length bytes.now ≤ MAX_INPUT }
-    ensures network { IfOk result (λ net. IsNetworkInput bytes.now net) }
-    ensures refused { IfErr result (λ error. (scheme : SchemeName)
-        → Refuses (Command.Mark scheme) bytes.now error) }
+    ensures parts { IfOk result (λ parts. IsInputOf command bytes.now parts.0 parts.1) }
+    ensures refused { IfErr result (λ error. Refuses command bytes.now error) }
 {
-    let net = read_network(alloc, bytes)?;
-    test_connected(alloc, &net)?;
-    Ok(net)
-}
-
-// The connected network and the labels that an input is, or why it is refused.
-pub(crate) fn read_labelled(alloc: Global, bytes: &[u8]) -> Result<(Network, LabelStore), TextError>
-    requires { length bytes.now ≤ MAX_INPUT }
-    ensures parts { IfOk result (λ parts. IsInput bytes.now parts.0 parts.1) }
-    ensures refused { IfErr result (λ error. (scheme : SchemeName)
-        → Refuses (Command.Verify scheme) bytes.now error) }
-{
-    let (network, labels) = scan_parts(bytes)?;
+    let (network, labels) = scan_parts(command, bytes)?;
     test_limits(&network, &labels)?;
     let net = network.build(alloc)?;
-    let store = labels.build(alloc, &net)?;
+    let store = build_labels(alloc, &labels, &net)?;
     test_connected(alloc, &net)?;
     Ok((net, store))
 }
 
+// The texts of the parts that a command reads, or the number of the first faulty line. It takes no
+// memory.
+fn scan_parts<'a>(
+    command: Command,
+    bytes: &'a [u8],
+) -> Result<(NetworkText<'a>, Option<LabelsText<'a>>), TextError>
+    ensures scanned { IfOk result (λ parts. IsScanned command bytes.now parts.0 parts.1) }
+    ensures form { IfErr result (λ error. NamesFirstFault (HasForm command) bytes.now error) }
+{
+    match command {
+        Command::Mark(_) => {
+            let network = read_whole::<NetworkText<'a>>(bytes)?;
+            Ok((network, None))
+        }
+        Command::Verify(_) => {
+            let parts = read_whole::<Both<NetworkText<'a>, LabelsText<'a>>>(bytes)?;
+            Ok((parts.first, Some(parts.second)))
+        }
+    }
+}
+
 // Refuses parts with too many nodes, ports or bits, in this order. It takes no memory.
-fn test_limits(network: &NetworkText<'_>, labels: &LabelsText<'_>) -> Result<(), TextError>
-    ensures within { OnOk result
-        (first_of (limits_of network.now.nodes network.now.ports labels.now.bits) ≡ None) }
-    ensures refused { IfErr result (λ error.
-        first_of (limits_of network.now.nodes network.now.ports labels.now.bits) ≡ Some error) }
+fn test_limits(network: &NetworkText<'_>, labels: &Option<LabelsText<'_>>) -> Result<(), TextError>
+    ensures within { OnOk result (first_of (limits_of network.now.nodes network.now.ports
+        (option_map (λ labels. labels.bits) labels.now)) ≡ None) }
+    ensures refused { IfErr result (λ error. first_of (limits_of network.now.nodes network.now.ports
+        (option_map (λ labels. labels.bits) labels.now)) ≡ Some error) }
 {
     if network.nodes() > MAX_NODES as u64 {
-        Err(TextError::Limit(Quantity::Nodes))
-    } else if network.ports() > MAX_PORTS as u64 {
-        Err(TextError::Limit(Quantity::Ports))
-    } else if labels.bits() > MAX_BITS {
-        Err(TextError::Limit(Quantity::Bits))
-    } else {
-        Ok(())
+        return Err(TextError::Limit(Quantity::Nodes));
+    }
+    if network.ports() > MAX_PORTS as u64 {
+        return Err(TextError::Limit(Quantity::Ports));
+    }
+    match labels {
+        Some(labels) if labels.bits() > MAX_BITS => Err(TextError::Limit(Quantity::Bits)),
+        _ => Ok(()),
+    }
+}
+
+// The labels that a text says, where there is one, or why they are refused.
+fn build_labels(
+    alloc: Global,
+    labels: &Option<LabelsText<'_>>,
+    net: &Network,
+) -> Result<Option<LabelStore>, TextError>
+    ensures built { IfOk result (λ store. AreBuilt net.now labels.now store) }
+    ensures refused { IfErr result (λ error. AreRefused net.now labels.now error) }
+{
+    match labels {
+        Some(labels) => Ok(Some(labels.build(alloc, net)?)),
+        None => Ok(None),
     }
 }
 
@@ -72,23 +103,8 @@ fn test_connected(alloc: Global, net: &Network) -> Result<(), TextError>
     match connected(alloc, net)? {
         None => Ok(()),
         Some(id) => Err(TextError::Sense {
-            number: 17,
+            number: APART,
             place: id as u64,
         }),
-    }
-}
-
-// The texts of the parts of an input, or the number of its first faulty line. It takes no memory.
-fn scan_parts<'a>(bytes: &'a [u8]) -> Result<(NetworkText<'a>, LabelsText<'a>), TextError>
-    ensures scanned { IfOk result (λ parts. IsScanned bytes.now parts.0 parts.1) }
-    ensures form { IfErr result (λ error. NamesFirstFault IsInputLines bytes.now error) }
-{
-    let mut lines = Lines::new(bytes);
-    let network = scan_network(&mut lines)?;
-    let labels = scan_labels(&mut lines)?;
-    if lines.at_end() {
-        Ok((network, labels))
-    } else {
-        Err(TextError::Form(lines.number()))
     }
 }

@@ -1,8 +1,8 @@
 //! The answer to `verify`.
 
 ghost use Rattle.std.specs.Prelude.{◌≡◌, ◌==◌, if◌then◌else◌, length, map, zip, IfOk};
-ghost use Rattle.pls_scheme.specs.Judging.{round_by, verdicts_by};
-ghost use Rattle.pls_app.specs.Meaning.{judge_of};
+ghost use Rattle.pls_scheme.specs.Judging.{round_by};
+ghost use Rattle.pls_combine.specs.Named.{judge_of};
 ghost use Rattle.pls_app.specs.Report.{rejecting};
 ghost use Rattle.pls_app.specs.Answer.{report};
 ghost use Rattle.pls_app.specs.Run.{IsAnswered};
@@ -11,11 +11,8 @@ use crate::answer::Answer;
 use crate::command::SchemeName;
 use crate::report::{rejecting, report_text};
 use pls_base::{NoMemory, Status, Steps};
-use pls_bits::Gamma;
-use pls_colour::{Acyclic, Bipartite};
 use pls_graph::Network;
 use pls_model::Verdict;
-use pls_pointer::{Forest, Tree};
 use pls_scheme::Checker;
 use pls_view::LabelStore;
 use std::alloc::Global;
@@ -32,31 +29,12 @@ pub(crate) fn verify(
         (λ answer. answer ≡ report (round_by (judge_of scheme) net.now labels.now)) }
     ensures answered { IfOk result (λ answer. IsAnswered answer.status) }
 {
-    let verdicts = round(alloc, scheme, net, labels)?;
+    let verdicts = scheme.round(alloc, net, labels, &mut Steps::new())?;
     let rows = with_ids(alloc, net, &verdicts)?;
     Ok(Answer {
         status: round_status(&rows),
         text: report_text(alloc, &rows)?.into_bytes(),
     })
-}
-
-// The verdict of each node by a scheme.
-fn round(
-    alloc: Global,
-    scheme: SchemeName,
-    net: &Network,
-    labels: &LabelStore,
-) -> Result<Vec<Verdict>, NoMemory>
-    requires { length labels.now ≡ length net.now }
-    ensures { IfOk result (λ found. found.items ≡ verdicts_by (judge_of scheme) net.now labels.now) }
-{
-    let mut steps = Steps::new();
-    match scheme {
-        SchemeName::Tree => Tree::<Gamma>::new().round(alloc, net, labels, &mut steps),
-        SchemeName::Forest => Forest::<Gamma>::new().round(alloc, net, labels, &mut steps),
-        SchemeName::Bipartite => Bipartite::new().round(alloc, net, labels, &mut steps),
-        SchemeName::Acyclic => Acyclic::<Gamma>::new().round(alloc, net, labels, &mut steps),
-    }
 }
 
 // The status of a round: whether all nodes accept.

@@ -3,12 +3,11 @@
 ghost use Rattle.std.specs.Prelude.{◌≡◌, ◌≤◌, ◌<◌, ◌+◌, ◌-◌, ◌/◌, ◌%◌, ◌^◌, ◌==◌, ◌++◌, Bool, List, Option, ℕ, Some, None, IfSome, IfNone, length, replicate, false};
 ghost use Rattle.pls_bits.specs.Gamma.{behind_one, digits, floor_log, gamma_code, gamma_takes, number_from};
 ghost use Rattle.pls_bits.specs.declared.num_code.TheConstants.{MAX_CODED};
-ghost use Rattle.pls_bits.specs.GammaLaws.{gamma_code-grows, gamma_takes-code, gamma_takes-only, gamma_short};
+ghost use Rattle.pls_bits.specs.laws.GammaLaws.{gamma_code-grows, gamma_takes-code, gamma_takes-only, gamma_short};
 
 use crate::bit_buf::BitBuf;
-use crate::bits::Bits;
 use crate::cursor::Cursor;
-use crate::num_code::{MAX_CODED, MAX_CODE_BITS, NumCode};
+use crate::num_code::{MAX_CODED, NumCode};
 use pls_base::NoMemory;
 
 /// The gamma code of Elias (1975, "Universal codeword sets and representations of the integers").
@@ -17,29 +16,40 @@ use pls_base::NoMemory;
 #[derive(Clone, Copy, Debug, PartialEq, Eq)]
 pub struct Gamma;
 
-// How many bits the longest code has.
-const LONGEST: usize = MAX_CODE_BITS as usize;
-
 impl NumCode for Gamma {
     ghost code = { gamma_code };
 
     ghost takes = { gamma_takes };
 
-    // The code is put together in a range of its own first: all of it is appended, or nothing.
     fn write(buf: &mut BitBuf, number: u64) -> Result<(), NoMemory> {
         let zeros = zeros_of(number);
-        let mut room = [false; LONGEST];
-        put_digits(&mut room, number + 1, zeros + 1);
-        buf.append(Bits::of_slice(&room[LONGEST - (2 * zeros + 1)..]))
+        buf.push_digits(zeros, number + 1, zeros + 1)
     }
 
-    // A second cursor goes ahead, so that this one stays where no code comes.
+    // The next 64 bits show the zeros, and mostly all of the code; the code of 0 is a one alone.
+    // The cursor moves only where a code comes.
     fn read(cursor: &mut Cursor<'_>) -> Option<u64> {
-        let mut ahead = cursor.rest().cursor();
-        let zeros = zeros_ahead(&mut ahead)?;
-        let digits = ahead.take(zeros)?;
-        *cursor = ahead;
-        Some(number_behind_one(digits.as_slice()) - 1)
+        let ahead = cursor.peek();
+        if ahead >> 63 == 1 {
+            cursor.skip(1);
+            return Some(0);
+        }
+        let zeros = ahead.leading_zeros() as usize;
+        let size = 2 * zeros + 1;
+        if zeros > 62 {
+            return None;
+        }
+        if size > cursor.len() {
+            return None;
+        }
+        if size <= 64 {
+            cursor.skip(size);
+            return Some((ahead >> (64 - size)) - 1);
+        }
+        cursor.skip(zeros);
+        let behind = cursor.peek();
+        cursor.skip(zeros + 1);
+        Some((behind >> (63 - zeros)) - 1)
     }
 
     fn length(number: u64) -> u64 {
@@ -62,53 +72,4 @@ fn zeros_of(number: u64) -> usize
     ensures small { result ≤ 62 }
 {
     (number + 1).ilog2() as usize
-}
-
-// Puts the last binary digits of a number at the end of a range of zeros.
-fn put_digits(room: &mut [bool], number: u64, count: usize)
-    requires zeros { room.old ≡ replicate (length room.old) false }
-    requires fits { count ≤ length room.old }
-    requires few { count ≤ 64 }
-    ensures { room.new ≡ replicate (length room.old - count) false ++ digits count number }
-{
-    let last = room.len();
-    for place in 0..count {
-        room[last - (place + 1)] = digit(number, place);
-    }
-}
-
-// A binary digit of a number, at a place counted from the last.
-fn digit(number: u64, place: usize) -> bool
-    requires { place < 64 }
-    ensures { result ≡ (number / 2 ^ place % 2 == 1) }
-{
-    (number >> place) & 1 == 1
-}
-
-// How many zeros come before the first one, which the cursor moves past with them; `None` where
-// there are more than 62, or the bits end with them.
-fn zeros_ahead(cursor: &mut Cursor<'_>) -> Option<u64>
-    ensures found { IfSome result (λ zeros. gamma_takes cursor.old ≡ behind_one zeros cursor.new) }
-    ensures few { IfSome result (λ zeros. zeros ≤ 62) }
-    ensures none { IfNone result (gamma_takes cursor.old ≡ None) }
-{
-    for zeros in 0..63 {
-        if cursor.bit()? {
-            return Some(zeros);
-        }
-    }
-    None
-}
-
-// The number whose binary digits are a one and then the given ones.
-fn number_behind_one(digits: &[bool]) -> u64
-    requires { length digits.now ≤ 62 }
-    ensures value { result ≡ number_from 1 digits.now }
-    ensures some { 1 ≤ result }
-{
-    let mut number: u64 = 1;
-    for digit in digits {
-        number = 2 * number + u64::from(*digit);
-    }
-    number
 }

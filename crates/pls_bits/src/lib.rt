@@ -1,8 +1,10 @@
 //! Lists of bits: one that grows, borrowed ranges of it, a cursor that reads from the front, their
 //! hex text, and codes of numbers.
 //!
-//! Each type is seen as a list of truth values, the first bit first. How the bits lie in memory is
-//! this crate's own business: a clause above it speaks of the list alone.
+//! Each type is seen as a list of truth values, the first bit first. In memory bits lie in words of
+//! 64, the first bit of a word its greatest. A store of many lists in one vector of words has to
+//! know this: [`Bits::of_words`] lends some bits of its words, and [`Bits::append_to`] and
+//! [`append_hex`] put bits behind them. A clause above such a store speaks of the lists alone.
 #![tactic(auto)]
 
 mod bit_buf;
@@ -12,10 +14,10 @@ mod cursor;
 mod gamma;
 mod hex_error;
 mod hex_text;
+mod hex_words;
 pub mod laws;
 mod num_code;
-#[cfg(test)]
-mod tests;
+mod words;
 
 pub use bit_buf::BitBuf;
 pub use bits::Bits;
@@ -23,4 +25,5 @@ pub use cursor::Cursor;
 pub use gamma::Gamma;
 pub use hex_error::HexError;
 pub use hex_text::{from_hex, spells_bits};
-pub use num_code::{MAX_CODED, MAX_CODE_BITS, NumCode};
+pub use hex_words::append_hex;
+pub use num_code::{MAX_CODE_BITS, MAX_CODED, NumCode};

@@ -1,32 +1,33 @@
 -- The scheme of networks without cycle: what a label says, what a node judges, and the marker's
 -- labels. The property is that no edges close a ring through three or more nodes.
-use Rattle.std.specs.Prelude.{◌≡◌, ℕ, ◌+◌, ◌==◌, nat_le, Bool, ◌||◌, List, [], ◌∷◌, count_by, Option, option_map, option_and_then}
+use Rattle.std.specs.Prelude.{ℕ, ◌+◌, ◌==◌, nat_le, Bool, ◌||◌, List, [], ◌∷◌, count_by, get_or, Option}
 use Rattle.std.specs.List.{list_all}
 use Rattle.pls_model.specs.declared.row.NodeRow.{NodeRow}
 use Rattle.pls_model.specs.declared.verdict.Verdict.{Verdict}
 use Rattle.pls_graph.specs.declared.size.Size.{Size}
 use Rattle.pls_view.specs.Seen.{Seen}
-use Rattle.pls_scheme.specs.Length.{code_length}
-use Rattle.pls_scheme.specs.Numbers.{AreCodesOf, numbers_in, only_number}
+use Rattle.pls_scheme.specs.Length.{codes_length}
+use Rattle.pls_scheme.specs.Marked.{IsMarkedBy}
+use Rattle.pls_scheme.specs.Numbers.{AreCodesOf, label_in}
 use Rattle.pls_scheme.specs.Reading.{Read, ReadPort, judge_by}
 use Rattle.pls_colour.specs.declared.acyclic.CycleLabel.{CycleLabel}
-use Rattle.pls_colour.specs.Levelled.{AreLevelled}
+use Rattle.pls_colour.specs.Levelled.{saying_level}
+
+-- the number of a label
+abbrev pub numbers_of_cycle : CycleLabel → List ℕ
+numbers_of_cycle label = label.depth ∷ []
+
+-- the label with this depth
+abbrev pub depth_label : ℕ → CycleLabel
+depth_label depth = record { depth = depth }
+
+-- the label of a number
+abbrev pub cycle_label : List ℕ → CycleLabel
+cycle_label list = depth_label (get_or list 0 0)
 
 -- the bits are the code of the node's depth, and nothing more
 abbrev pub IsCycleLabel : (ℕ → List Bool) → List Bool → CycleLabel → Type 0
-IsCycleLabel code bits label = AreCodesOf code (label.depth ∷ []) bits
-
--- the label with this depth
-abbrev pub cycle_label : ℕ → CycleLabel
-cycle_label depth = record { depth = depth }
-
--- the label of one number
-abbrev pub one_depth : List ℕ → Option CycleLabel
-one_depth numbers = option_map cycle_label (only_number numbers)
-
--- the label that bits are, by what takes a code off
-abbrev pub cycle_label_in : (List Bool → Option (ℕ × List Bool)) → List Bool → Option CycleLabel
-cycle_label_in takes bits = option_and_then one_depth (numbers_in takes 1 bits)
+IsCycleLabel code bits label = AreCodesOf code (numbers_of_cycle label) bits
 
 -- the neighbour is one deeper, or one less deep
 abbrev pub is_beside : ℕ → ReadPort CycleLabel → Bool
@@ -50,12 +51,20 @@ acyclic_rules view = differs_by_one view ∷ has_one_above view ∷ []
 
 -- what a node judges
 abbrev pub judge_acyclic : (List Bool → Option (ℕ × List Bool)) → Seen → Verdict
-judge_acyclic takes view = judge_by (cycle_label_in takes) acyclic_rules view
+judge_acyclic takes view = judge_by (label_in cycle_label takes 1) acyclic_rules view
 
--- the label of each node is the code of its level
-abbrev pub IsLevelMarked : (ℕ → List Bool) → List NodeRow → List (List Bool) → Type 0
-IsLevelMarked code rows labels = AreLevelled (λ level label. label ≡ code level) rows labels
+-- the label of a node is its level: its distance in edges from the node whose identity is smallest
+abbrev pub acyclic_says : List NodeRow → NodeRow → CycleLabel → Type 0
+acyclic_says rows row label = saying_level depth_label rows row label
 
--- how many bits a marked label has at most: a code of the number of nodes
+-- so is each label
+abbrev pub IsAcyclicMarked : (ℕ → List Bool) → List NodeRow → List (List Bool) → Type 0
+IsAcyclicMarked code rows labels = IsMarkedBy (IsCycleLabel code) (acyclic_says rows) rows labels
+
+-- no number of a marked label is greater: the number of nodes
+abbrev pub acyclic_limits : Size → List ℕ
+acyclic_limits size = size.nodes ∷ []
+
+-- how many bits a marked label has at most: the code of this number
 abbrev pub longest_acyclic : (ℕ → List Bool) → Size → ℕ
-longest_acyclic code size = code_length code size.nodes
+longest_acyclic code size = codes_length code (acyclic_limits size)

@@ -1,7 +1,4 @@
-pub mod Bipartite
 pub mod Levelled
 pub mod Acyclic
-pub mod SaidDepth
-pub mod AcyclicLaws
-pub mod Marked
-pub mod BipartiteLaws
+pub mod Bipartite
+pub mod laws

@@ -1,13 +1,12 @@
-//! The scheme `acyclic`: the label is the node's depth.
+//! The rules of the scheme `acyclic`: the label is the node's depth.
 
-ghost use Rattle.std.specs.Prelude.{◌≡◌, nat_le, count_by};
-ghost use Rattle.std.specs.List.{list_all};
-ghost use Rattle.pls_colour.specs.Acyclic.{cycle_label_in, is_above, is_beside, judge_acyclic};
-ghost use Rattle.pls_scheme.specs.Reading.{passes_at};
+ghost use Rattle.std.specs.Prelude.{◌≡◌};
+ghost use Rattle.pls_colour.specs.Acyclic.{is_above, is_beside};
+ghost use Rattle.pls_scheme.specs.Reading.{port_with};
 
-use pls_bits::{Bits, NumCode};
-use pls_scheme::{Reads, Rules, Verdict, is_one_more, judged_from, own_label, read_numbers};
-use pls_view::{PortView, View};
+use pls_bits::NumCode;
+use pls_model::State;
+use pls_scheme::{Coded, Judgement, OfNumbers, Ruled, Rules, Verdict, is_one_more, judged_from};
 use std::marker::PhantomData;
 
 /// What a label says.
@@ -17,93 +16,113 @@ pub struct CycleLabel {
     pub depth: u64,
 }
 
+impl OfNumbers<1> for CycleLabel {
+    ghost use Rattle.std.specs.Prelude.{refl};
+    ghost use Rattle.pls_colour.specs.Acyclic.{cycle_label, numbers_of_cycle};
+    ghost use Rattle.pls_scheme.specs.laws.CodeLaws.{are_numbers};
+
+    ghost numbers = { numbers_of_cycle };
+
+    ghost of_numbers = { cycle_label };
+
+    fn numbers(&self) -> [u64; 1] {
+        [self.depth]
+    }
+
+    fn of_numbers(list: &[u64; 1]) -> CycleLabel {
+        let [depth] = *list;
+        CycleLabel { depth }
+    }
+
+    ghost numbers_law = { are_numbers 1 numbers_of_cycle cycle_label refl (λ _. refl) (λ _. refl)
+        (λ _. refl) };
+}
+
 /// The scheme of networks without cycle, whose labels are written in the number code `C`.
+pub type Acyclic<C> = Ruled<AcyclicRules<C>>;
+
+/// The rules of networks without cycle.
 #[derive(Clone, Copy, Debug, PartialEq, Eq)]
-pub struct Acyclic<C> {
+pub struct AcyclicRules<C> {
     code: PhantomData<C>,
 }
 
-impl<C: NumCode> Acyclic<C> {
-    /// The scheme. It takes no memory.
-    pub fn new() -> Self {
-        Acyclic { code: PhantomData }
+impl<C> Default for AcyclicRules<C> {
+    fn default() -> Self {
+        AcyclicRules { code: PhantomData }
     }
 }
 
-impl<C: NumCode> Reads for Acyclic<C> {
-    ghost use Rattle.pls_colour.specs.Acyclic.{IsCycleLabel, cycle_label_in};
-    ghost use Rattle.pls_colour.specs.AcyclicLaws.{cycle_label_in-spells};
-
-    type Said = CycleLabel;
-
-    ghost spells = { λ bits label. IsCycleLabel C.code bits label };
-
-    ghost said = { λ bits. cycle_label_in C.takes bits };
-
-    fn read(bits: &Bits<'_>) -> Option<CycleLabel> {
-        let [depth] = read_numbers::<C, 1>(bits)?;
-        Some(CycleLabel { depth })
-    }
-
-    ghost said_law = { cycle_label_in-spells C.code C.takes C.takes_codes C.takes_only };
-}
-
-impl<C: NumCode> Rules for Acyclic<C> {
+impl<C: NumCode> Judgement for AcyclicRules<C> {
     ghost use Rattle.pls_colour.specs.Acyclic.{acyclic_rules};
 
-    ghost rules = { acyclic_rules };
+    type Layout = Coded<CycleLabel, C, 1>;
 
-    fn verdict(view: &View<'_>) -> Verdict {
-        let own = match own_label::<Acyclic<C>>(view) {
-            Ok(own) => own.depth,
-            Err(verdict) => return verdict,
-        };
-        judged_from(
-            3,
-            &[
-                differs_by_one::<C>(own, &view.ports),
-                has_one_above::<C>(own, &view.ports),
-            ],
-        )
+    ghost rules = { λ _. acyclic_rules };
+}
+
+/// What the rules need of the neighbours.
+#[derive(Clone, Copy, Debug, PartialEq, Eq)]
+pub struct Beside {
+    /// Whether each is one deeper, or one less deep.
+    pub differ: bool,
+    /// How many are one less deep, and 2 where more are.
+    pub above: u32,
+}
+
+impl<C: NumCode> Rules for AcyclicRules<C> {
+    ghost use Rattle.std.specs.Prelude.{count_by, min};
+    ghost use Rattle.std.specs.List.{list_all};
+    ghost use Rattle.pls_colour.specs.Acyclic.{is_above, is_beside};
+
+    type Tally = Beside;
+
+    ghost tallied = { λ _ own ports. record {
+      differ = list_all (is_beside own.depth) ports;
+      above = min (count_by (is_above own.depth) ports) 2;
+    } };
+
+    fn start(&self, _own: &CycleLabel) -> Beside {
+        Beside {
+            differ: true,
+            above: 0,
+        }
     }
-}
 
-// Rule 3: each neighbour is one deeper, or one less deep.
-fn differs_by_one<C: NumCode>(own: u64, ports: &[PortView<'_>]) -> bool
-    ensures { result
-        ≡ list_all (λ port. passes_at (cycle_label_in C.takes) (is_beside own) port.weight
-        port.label) ports.now }
-{
-    ports.iter().all(|port| is_beside::<C>(own, port))
-}
+    fn add(&self, own: &CycleLabel, tally: Beside, weight: u32, label: &CycleLabel) -> Beside {
+        let above = if is_above(own, weight, label) {
+            tally.above.saturating_add(1).min(2)
+        } else {
+            tally.above
+        };
+        Beside {
+            differ: tally.differ && is_beside(own, weight, label),
+            above,
+        }
+    }
 
-// Rule 4: at most one neighbour is one less deep.
-fn has_one_above<C: NumCode>(own: u64, ports: &[PortView<'_>]) -> bool
-    ensures { result
-        ≡ nat_le (count_by (λ port. passes_at (cycle_label_in C.takes) (is_above own) port.weight
-        port.label) ports.now) 1 }
-{
-    ports.iter().filter(|port| is_above::<C>(own, port)).count() <= 1
+    fn verdict(
+        &self,
+        _id: u32,
+        _state: State,
+        _own: &CycleLabel,
+        _above: Option<&CycleLabel>,
+        tally: Beside,
+    ) -> Verdict {
+        judged_from(3, &[tally.differ, tally.above <= 1])
+    }
 }
 
 // Whether the neighbour is one deeper, or one less deep.
-fn is_beside<C: NumCode>(own: u64, port: &PortView<'_>) -> bool
-    ensures { result ≡ passes_at (cycle_label_in C.takes) (is_beside own) port.now.weight
-        port.now.label }
+fn is_beside(own: &CycleLabel, weight: u32, label: &CycleLabel) -> bool
+    ensures { result ≡ is_beside own.now.depth (port_with weight label.now) }
 {
-    match Acyclic::<C>::read(&port.label) {
-        Some(label) => is_one_more(label.depth, own) || is_one_more(own, label.depth),
-        None => false,
-    }
+    is_one_more(label.depth, own.depth) || is_one_more(own.depth, label.depth)
 }
 
 // Whether the neighbour is one less deep.
-fn is_above<C: NumCode>(own: u64, port: &PortView<'_>) -> bool
-    ensures { result ≡ passes_at (cycle_label_in C.takes) (is_above own) port.now.weight
-        port.now.label }
+fn is_above(own: &CycleLabel, weight: u32, label: &CycleLabel) -> bool
+    ensures { result ≡ is_above own.now.depth (port_with weight label.now) }
 {
-    match Acyclic::<C>::read(&port.label) {
-        Some(label) => is_one_more(own, label.depth),
-        None => false,
-    }
+    is_one_more(own.depth, label.depth)
 }

@@ -1,74 +1,60 @@
 //! How networks without cycle are labelled.
 
-use crate::accepted::accepted_levels;
-use crate::acyclic::{Acyclic, CycleLabel};
-use crate::level_labels::WritesLevels;
+use crate::acyclic::{AcyclicRules, CycleLabel};
+use crate::level_labels::{SaysLevels, level_labels};
 use pls_base::NoMemory;
-use pls_bits::{BitBuf, Bits, NumCode};
+use pls_bits::NumCode;
+use pls_facts::is_valid;
 use pls_graph::{Network, Size};
-use pls_scheme::{Property, Reads, Scheme, code_length, write_numbers};
-use pls_view::LabelStore;
+use pls_scheme::{Marker, codes_length, hold_everywhere};
 use std::alloc::Global;
 
-impl<C: NumCode> Property for Acyclic<C> {
+impl<C: NumCode> SaysLevels for AcyclicRules<C> {
+    ghost use Rattle.pls_colour.specs.Acyclic.{depth_label};
+
+    ghost level_label = { depth_label };
+
+    fn level_label(level: u32) -> CycleLabel {
+        CycleLabel {
+            depth: u64::from(level),
+        }
+    }
+}
+
+impl<C: NumCode> Marker for AcyclicRules<C> {
     ghost use Rattle.pls_facts.specs.Cycle.{IsAcyclic};
+    ghost use Rattle.pls_colour.specs.Acyclic.{acyclic_says, longest_acyclic};
+    ghost use Rattle.pls_colour.specs.laws.AcyclicLaws.{acyclic_fits, acyclic_met, acyclic_one_right, acyclic_show};
 
     ghost holds = { λ _ rows. IsAcyclic rows };
 
-    fn decide(&self, alloc: Global, net: &Network) -> Result<bool, NoMemory> {
-        Ok(accepted_levels(alloc, self, net)?.is_some())
-    }
-}
-
-impl<C: NumCode> Scheme for Acyclic<C> {
-    ghost use Rattle.std.specs.Prelude.{[], ◌∷◌};
-    ghost use Rattle.pls_scheme.specs.Numbers.{AreCoded};
-    ghost use Rattle.pls_scheme.proofs.Spellings.{has_spelling, one_spelling};
-    ghost use Rattle.pls_colour.specs.Acyclic.{IsCycleLabel, IsLevelMarked, longest_acyclic};
-    ghost use Rattle.pls_colour.specs.AcyclicLaws.{acyclic_sound, numbers_of_cycle, one_cycle_label};
-
-    type Label = CycleLabel;
-
-    ghost layout = { λ _ bits label. IsCycleLabel C.code bits label };
-
-    ghost writable = { λ _ label. AreCoded (label.depth ∷ []) };
-
-    ghost marked = { λ _ rows labels. IsLevelMarked C.code rows labels };
+    ghost says = { λ _ rows row label. acyclic_says rows row label };
 
     ghost longest = { λ _ size. longest_acyclic C.code size };
 
-    fn read_label(&self, _alloc: Global, bits: Bits<'_>) -> Result<Option<CycleLabel>, NoMemory> {
-        Ok(Self::read(&bits))
+    fn longest(&self, size: &Size) -> u64 {
+        codes_length::<C>(&[size.nodes])
     }
 
-    fn write_label(&self, alloc: Global, label: &CycleLabel) -> Result<BitBuf, NoMemory> {
-        write_numbers::<C>(alloc, &[label.depth])
+    fn right_labels(
+        &self,
+        alloc: Global,
+        net: &Network,
+    ) -> Result<Option<Vec<CycleLabel>>, NoMemory> {
+        is_valid(net);
+        let labels = level_labels::<Self>(alloc, net)?;
+        if hold_everywhere(self, net, &labels) {
+            Ok(Some(labels))
+        } else {
+            Ok(None)
+        }
     }
 
-    fn bound(&self, size: &Size) -> u64 {
-        code_length::<C>(size.nodes)
-    }
+    ghost show_law = { λ _. acyclic_show };
 
-    fn mark(&self, alloc: Global, net: &Network) -> Result<Option<LabelStore>, NoMemory> {
-        let found = accepted_levels(alloc, self, net)?;
-        Ok(found)
-    }
+    ghost met_law = { λ _. acyclic_met };
 
-    ghost reads_back_law = { λ _ label. has_spelling C.code (numbers_of_cycle label) };
+    ghost one_right_law = { λ _. acyclic_one_right };
 
-    ghost one_spelling_law = { λ _ label. one_spelling C.code (numbers_of_cycle label) };
-
-    ghost one_label_law = { λ _. one_cycle_label C.code C.takes C.takes_codes };
-
-    ghost sound_law = { λ _ rows labels net _ _. acyclic_sound C.takes rows net labels };
-}
-
-impl<C: NumCode> WritesLevels for Acyclic<C> {
-    ghost use Rattle.pls_colour.specs.SaidDepth.{SaysDepth};
-
-    ghost says = { λ level bits. SaysDepth C.code level bits };
-
-    fn write_level(alloc: Global, level: u32) -> Result<BitBuf, NoMemory> {
-        write_numbers::<C>(alloc, &[u64::from(level)])
-    }
+    ghost fits_law = { λ _. acyclic_fits C.code C.grows_law C.short_law };
 }

@@ -1,91 +1,64 @@
-//! The scheme `bipartite`: the label is one colour, and differs across each edge.
+//! The rules of the scheme `bipartite`: the label is one colour, and differs across each edge.
 
 ghost use Rattle.std.specs.Prelude.{◌≡◌};
-ghost use Rattle.std.specs.List.{list_all};
-ghost use Rattle.pls_colour.specs.Bipartite.{colour_label, differ, differs_from, judge_bipartite};
-ghost use Rattle.pls_scheme.specs.Reading.{passes_at};
+ghost use Rattle.pls_colour.specs.Bipartite.{differ};
 
-use pls_bits::Bits;
-use pls_scheme::{Reads, Rules, Verdict, judged_from, own_label};
-use pls_view::{PortView, View};
-
-/// What a label says: one of two colours.
-#[derive(Clone, Copy, Debug, PartialEq, Eq)]
-pub struct ColourLabel {
-    /// The colour.
-    pub colour: bool,
-}
+use crate::colour_layout::{ColourLabel, ColourLayout};
+use pls_model::State;
+use pls_scheme::{Judgement, Ruled, Rules, Verdict, judged_from};
 
 /// The scheme of two-colourings. A label is one bit, the node's colour.
+pub type Bipartite = Ruled<BipartiteRules>;
+
+/// The rules of two-colourings.
 #[derive(Clone, Copy, Debug, PartialEq, Eq)]
-pub struct Bipartite;
+pub struct BipartiteRules;
 
-impl Bipartite {
-    /// The scheme. It takes no memory.
-    pub fn new() -> Self {
-        Bipartite
+impl Default for BipartiteRules {
+    fn default() -> Self {
+        BipartiteRules
     }
 }
 
-impl Reads for Bipartite {
-    ghost use Rattle.std.specs.Prelude.{◌≡◌, ◌∷◌, []};
-    ghost use Rattle.pls_colour.specs.Bipartite.{colour_label};
-    ghost use Rattle.pls_colour.specs.BipartiteLaws.{colour_label-spells};
-
-    type Said = ColourLabel;
-
-    ghost spells = { λ bits label. bits ≡ label.colour ∷ [] };
-
-    ghost said = { λ bits. colour_label bits };
-
-    fn read(bits: &Bits<'_>) -> Option<ColourLabel> {
-        if bits.len() == 1 {
-            Some(ColourLabel {
-                colour: bits.bit(0),
-            })
-        } else {
-            None
-        }
-    }
-
-    ghost said_law = { λ bits label. colour_label-spells bits label };
-}
-
-impl Rules for Bipartite {
+impl Judgement for BipartiteRules {
     ghost use Rattle.pls_colour.specs.Bipartite.{bipartite_rules};
 
-    ghost rules = { bipartite_rules };
+    type Layout = ColourLayout;
 
-    fn verdict(view: &View<'_>) -> Verdict {
-        let own = match own_label::<Bipartite>(view) {
-            Ok(own) => own.colour,
-            Err(verdict) => return verdict,
-        };
-        judged_from(3, &[differs_from_neighbours(own, &view.ports)])
+    ghost rules = { λ _. bipartite_rules };
+}
+
+impl Rules for BipartiteRules {
+    ghost use Rattle.std.specs.List.{list_all};
+    ghost use Rattle.pls_colour.specs.Bipartite.{differs_from};
+
+    // Whether the colours of the neighbours so far differ from the own one.
+    type Tally = bool;
+
+    ghost tallied = { λ _ own ports. list_all (differs_from own.colour) ports };
+
+    fn start(&self, _own: &ColourLabel) -> bool {
+        true
     }
-}
 
-// Rule 3: each neighbour's colour differs from the own colour.
-fn differs_from_neighbours(own: bool, ports: &[PortView<'_>]) -> bool
-    ensures { result
-        ≡ list_all (λ port. passes_at colour_label (differs_from own) port.weight port.label)
-        ports.now }
-{
-    ports.iter().all(|port| differs_from(own, port))
-}
+    fn add(&self, own: &ColourLabel, differ: bool, _weight: u32, label: &ColourLabel) -> bool {
+        differ && colours_differ(own.colour, label.colour)
+    }
 
-// Whether the neighbour's colour differs from this one.
-fn differs_from(own: bool, port: &PortView<'_>) -> bool
-    ensures { result ≡ passes_at colour_label (differs_from own) port.now.weight port.now.label }
-{
-    match Bipartite::read(&port.label) {
-        Some(label) => differ(own, label.colour),
-        None => false,
+    fn verdict(
+        &self,
+        _id: u32,
+        _state: State,
+        _own: &ColourLabel,
+        _above: Option<&ColourLabel>,
+        differ: bool,
+    ) -> Verdict {
+        judged_from(3, &[differ])
     }
 }
 
 // Whether two colours differ.
-fn differ(one: bool, other: bool) -> bool
+fn colours_differ(one: bool, other: bool) -> bool
     ensures { result ≡ differ one other }
 {
     one != other

@@ -1,83 +1,60 @@
 //! How networks with a two-colouring are labelled.
 
-ghost use Rattle.std.specs.Prelude.{◌≡◌, ◌∷◌, [], IfOk};
-
-use crate::accepted::accepted_levels;
-use crate::bipartite::{Bipartite, ColourLabel};
-use crate::level_labels::WritesLevels;
+use crate::bipartite::BipartiteRules;
+use crate::colour_layout::ColourLabel;
+use crate::level_labels::{SaysLevels, level_labels};
 use pls_base::NoMemory;
-use pls_bits::{BitBuf, Bits};
+use pls_facts::is_valid;
 use pls_graph::{Network, Size};
-use pls_scheme::{Property, Reads, Scheme};
-use pls_view::LabelStore;
+use pls_scheme::{Marker, hold_everywhere};
 use std::alloc::Global;
 
-impl Property for Bipartite {
-    ghost use Rattle.pls_colour.specs.Bipartite.{IsBipartite};
+impl SaysLevels for BipartiteRules {
+    ghost use Rattle.pls_colour.specs.Bipartite.{parity_label};
+
+    ghost level_label = { parity_label };
+
+    fn level_label(level: u32) -> ColourLabel {
+        ColourLabel {
+            colour: level % 2 == 1,
+        }
+    }
+}
+
+impl Marker for BipartiteRules {
+    ghost use Rattle.pls_facts.specs.Bipartite.{IsBipartite};
+    ghost use Rattle.pls_colour.specs.Bipartite.{bipartite_says, longest_bipartite};
+    ghost use Rattle.pls_colour.specs.laws.BipartiteLaws.{bipartite_fits, bipartite_met, bipartite_one_right, bipartite_show};
 
     ghost holds = { λ _ rows. IsBipartite rows };
 
-    fn decide(&self, alloc: Global, net: &Network) -> Result<bool, NoMemory> {
-        Ok(accepted_levels(alloc, self, net)?.is_some())
-    }
-}
+    ghost says = { λ _ rows row label. bipartite_says rows row label };
 
-impl Scheme for Bipartite {
-    ghost use Rattle.std.specs.Prelude.{◌≡◌, ⊤, [], ◌∷◌, refl};
-    ghost use Rattle.pls_colour.specs.Marked.{IsParityMarked};
-    ghost use Rattle.pls_colour.specs.BipartiteLaws.{bipartite_sound, one_colour, one_spelling};
+    ghost longest = { λ _ size. longest_bipartite size };
 
-    type Label = ColourLabel;
-
-    ghost layout = { λ _ bits label. bits ≡ label.colour ∷ [] };
-
-    ghost writable = { λ _ _. ⊤ };
-
-    ghost marked = { λ _ rows labels. IsParityMarked rows labels };
-
-    ghost longest = { λ _ _. 1 };
-
-    fn read_label(&self, _alloc: Global, bits: Bits<'_>) -> Result<Option<ColourLabel>, NoMemory> {
-        Ok(Self::read(&bits))
-    }
-
-    fn write_label(&self, alloc: Global, label: &ColourLabel) -> Result<BitBuf, NoMemory> {
-        label_of_colour(alloc, label.colour)
-    }
-
-    fn bound(&self, _size: &Size) -> u64 {
+    fn longest(&self, _size: &Size) -> u64 {
         1
     }
 
-    fn mark(&self, alloc: Global, net: &Network) -> Result<Option<LabelStore>, NoMemory> {
-        let found = accepted_levels(alloc, self, net)?;
-        Ok(found)
+    fn right_labels(
+        &self,
+        alloc: Global,
+        net: &Network,
+    ) -> Result<Option<Vec<ColourLabel>>, NoMemory> {
+        is_valid(net);
+        let labels = level_labels::<Self>(alloc, net)?;
+        if hold_everywhere(self, net, &labels) {
+            Ok(Some(labels))
+        } else {
+            Ok(None)
+        }
     }
 
-    ghost reads_back_law = { λ _ label _. (label.colour ∷ [], refl) };
+    ghost show_law = { λ _. bipartite_show };
 
-    ghost one_spelling_law = { λ _ label a b first second. one_spelling label a b first second };
+    ghost met_law = { λ _. bipartite_met };
 
-    ghost one_label_law = { λ _ bits a b first second. one_colour bits a b first second };
+    ghost one_right_law = { λ _. bipartite_one_right };
 
-    ghost sound_law = { λ _ rows labels _ _ _ accepted. bipartite_sound rows labels accepted };
-}
-
-impl WritesLevels for Bipartite {
-    ghost use Rattle.pls_colour.specs.Marked.{SaysParity};
-
-    ghost says = { λ level bits. SaysParity level bits };
-
-    fn write_level(alloc: Global, level: u32) -> Result<BitBuf, NoMemory> {
-        label_of_colour(alloc, level % 2 == 1)
-    }
-}
-
-// The label that says a colour.
-fn label_of_colour(alloc: Global, colour: bool) -> Result<BitBuf, NoMemory>
-    ensures { IfOk result (λ label. label ≡ colour ∷ []) }
-{
-    let mut label = BitBuf::new(alloc);
-    label.push(colour)?;
-    Ok(label)
+    ghost fits_law = { λ _. bipartite_fits };
 }

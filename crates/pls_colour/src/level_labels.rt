@@ -1,55 +1,52 @@
-//! The levels of a network's nodes, as labels.
+//! Labels that say the levels of a network's nodes.
 
-ghost use Rattle.std.specs.Prelude.{◌≡◌, ℕ, Bool, List, IfOk, unwrap_or};
-ghost use Rattle.pls_model.specs.Configuration.{IsNetwork};
+ghost use Rattle.std.specs.Prelude.{◌≡◌, ℕ, map, unwrap_or, IfOk};
 ghost use Rattle.pls_model.specs.Walk.{IsConnected};
-ghost use Rattle.pls_scheme.specs.Spelled.{AreSpelled};
-ghost use Rattle.pls_colour.specs.Levelled.{AreLevelled};
+ghost use Rattle.pls_scheme.specs.Marked.{AreRight};
+ghost use Rattle.pls_colour.specs.Levelled.{saying_level};
 
 use pls_base::NoMemory;
-use pls_bits::BitBuf;
+use pls_facts::is_valid;
 use pls_graph::Network;
+use pls_scheme::{Judgement, Layout};
 use pls_search::levels;
-use pls_view::LabelStore;
 use std::alloc::Global;
 
-/// A way to write a node's level as its label.
-pub(crate) trait WritesLevels {
-    // The bits say the level.
-    ghost says: { ℕ → List Bool → Type 0 };
+// Rules on labels that say levels.
+pub(crate) trait SaysLevels: Judgement {
+    ghost level_label: { ℕ → Self.Layout.Label };
 
-    /// The label that says a level.
-    fn write_level(alloc: Global, level: u32) -> Result<BitBuf, NoMemory>
-        ensures { IfOk result (λ bits. says level bits) };
+    // The label that says a level.
+    fn level_label(level: u32) -> <Self::Layout as Layout>::Label
+        ensures { result ≡ level_label level };
 }
 
 // For each node of a connected network, in their order, the label that says its level.
-pub(crate) fn level_labels<W: WritesLevels>(
+pub(crate) fn level_labels<R: SaysLevels>(
     alloc: Global,
     net: &Network,
-) -> Result<LabelStore, NoMemory>
+) -> Result<Vec<<R::Layout as Layout>::Label>, NoMemory>
     requires { IsConnected net.now }
-    ensures valid { IsNetwork net.now }
-    ensures levels { IfOk result (λ labels. AreLevelled W.says net.now labels) }
+    ensures { IfOk result
+        (λ labels. AreRight (saying_level R.level_label net.now) net.now labels.items) }
 {
-    // A network is valid.
-    net.len();
+    is_valid(net);
     let levels = levels(alloc, net, 0)?;
-    let labels = labels_of_levels::<W>(alloc, &levels)?;
+    let labels = labels_of_levels::<R>(alloc, &levels)?;
     Ok(labels)
 }
 
 // The labels that say these levels, in their order. A node without one gets level 0.
-fn labels_of_levels<W: WritesLevels>(
+fn labels_of_levels<R: SaysLevels>(
     alloc: Global,
     levels: &[Option<u32>],
-) -> Result<LabelStore, NoMemory>
-    ensures { IfOk result (λ labels. AreSpelled (λ bits level. W.says (unwrap_or level 0) bits)
-        levels.now labels) }
+) -> Result<Vec<<R::Layout as Layout>::Label>, NoMemory>
+    ensures { IfOk result (λ labels.
+        labels.items ≡ map (λ level. R.level_label (unwrap_or level 0)) levels.now) }
 {
-    let mut labels = LabelStore::blank(alloc, levels.len())?;
-    for (i, level) in levels.iter().enumerate() {
-        labels.replace(i, &W::write_level(alloc, level.unwrap_or(0))?)?;
-    }
+    let labels = levels
+        .iter()
+        .map(|level| R::level_label(level.unwrap_or(0)))
+        .collect(alloc)?;
     Ok(labels)
 }

@@ -1,18 +1,21 @@
-//! Two-colourings and networks without cycle: the properties `bipartite` and `acyclic`, how a node
-//! checks its label against its neighbours', and how a network is marked, each node with its level
-//! or with the parity of it.
+//! Networks with a two-colouring and networks without cycle: the properties `bipartite` and
+//! `acyclic`, how a node checks its label, and how a network is marked, by the levels of its nodes.
 //!
-//! [`Bipartite`] and [`Acyclic`] are the schemes, [`ColourLabel`] and [`CycleLabel`] what their
-//! labels say. Definitions stand in `specs/`: `Bipartite` and `Acyclic` (the layout, the rules) and
-//! `Marked` (the marker's colours).
+//! [`Bipartite`] and [`Acyclic`] are the schemes; [`BipartiteRules`] and [`AcyclicRules`] what each
+//! states of its own, [`ColourLabel`] and [`CycleLabel`] what their labels say. Definitions stand
+//! in `specs/`, one file a scheme (`acyclic_rules`, `judge_acyclic`, `acyclic_says`,
+//! `IsAcyclicMarked`, `longest_acyclic`, and so for bipartite), the theorems in `specs/laws/`
+//! (`acyclic_show`, `acyclic_met`, `acyclic_one_right`, `acyclic_fits`, `acyclic_sound`,
+//! `acyclic_marked_once`); what cycles and two-colourings are stands in `pls_facts`.
 #![tactic(auto)]
 
-mod accepted;
 mod acyclic;
 mod acyclic_scheme;
 mod bipartite;
 mod bipartite_scheme;
+mod colour_layout;
 mod level_labels;
 
-pub use acyclic::{Acyclic, CycleLabel};
-pub use bipartite::{Bipartite, ColourLabel};
+pub use acyclic::{Acyclic, AcyclicRules, Beside, CycleLabel};
+pub use bipartite::{Bipartite, BipartiteRules};
+pub use colour_layout::{ColourLabel, ColourLayout};

@@ -1,23 +1,31 @@
-//! Laws of graphs that several schemes rest on: walks, chains of pointers, trees, cycles.
+//! Laws of graphs that several schemes rest on: walks, chains of pointers, trees, cycles, levels,
+//! two-colourings, and what all nodes agree on.
 //!
-//! `Pointer` has chains of pointers, `SpanningTree` spanning trees and the edges that pointers
-//! name, `Cycle` cycles. The functions do nothing: each says what holds of the definitions, and is
-//! proved once.
+//! The definitions stand in `specs/`: `Pointer` has chains of pointers, `SpanningTree` spanning
+//! trees and the edges that pointers name, `Cycle` cycles, `Bipartite` two-colourings, `OnlyNode`
+//! the one node that passes a test, `Agreement` what neighbours have in common. Each law is a
+//! function that does nothing and says what holds of the definitions; [`only_node`] finds the one
+//! node that passes a test.
 //!
-//! Proofs above may cite `proofs/Turned` (a walk turned round), `proofs/Chains` (chains compose, a
-//! node has one chain that ends, a depth falls by its length), `proofs/Pointed` (the row and the
-//! port of a pointer), `proofs/PointedEdges` (the edges that pointers lie on), `proofs/Bounded` (a
-//! chain that ends is shorter than its network is large), `proofs/Roots` (the rows without
-//! pointer), `proofs/Agreed` (what agrees at each port of a connected network) and `proofs/Depths`
-//! (depths in a network without cycle).
+//! Proofs above may cite all of `proofs/`. `Lists` has what holds of lists alone, `Neighbours` the
+//! nodes at the ports, `Levels` levels from any node, `ChainDepths` the lengths of chains,
+//! `OnlyNode` and `Roots` the one node that passes a test, `Agreed` what agrees at each port,
+//! `Depths` depths where there is no cycle, `Colourings` colours at ports and parities of levels,
+//! `Chains`, `Pointed`, `PointedEdges`, `Bounded` and `Trees` pointers and their edges.
 #![tactic(auto)]
 
+mod agreement_laws;
 mod cycle_laws;
+mod only;
 mod pointer_laws;
 mod tree_laws;
+mod valid;
 mod walk_laws;
 
+pub use agreement_laws::all_agree;
 pub use cycle_laws::cycles_and_depths;
+pub use only::{PointsAtNone, StateTest, only_node};
 pub use pointer_laws::chain_ends;
 pub use tree_laws::tree_of_pointers;
+pub use valid::is_valid;
 pub use walk_laws::walks;

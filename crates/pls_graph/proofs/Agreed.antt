@@ -11,7 +11,7 @@ use Rattle.pls_model.specs.declared.row.State.{State}
 use Rattle.pls_model.specs.declared.row.NodeRow.{NodeRow}
 use Rattle.pls_model.specs.Configuration.{links_itself, names_twice, out_of_order, points_nowhere, refusal_of, row_of}
 use Rattle.pls_graph.specs.Places.{place_in}
-use Rattle.pls_graph.specs.Ways.{agrees_back, is_mutual}
+use Rattle.pls_graph.specs.inner.Ways.{agrees_back, is_mutual}
 use Rattle.pls_graph.specs.inner.Sound.{is_sound}
 use Rattle.pls_graph.proofs.Finds.{from_option_map}
 use Rattle.pls_graph.proofs.Mutual.{no_unknown, no_one_way, no_weights}

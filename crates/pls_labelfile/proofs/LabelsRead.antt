@@ -8,9 +8,9 @@ use Rattle.std.proofs.lemmas.Result.{IfErr-at_err}
 use Rattle.pls_base.specs.declared.text_error.TextError.{TextError}
 use Rattle.pls_base.specs.declared.text_error.TextError.TheVariants.{Form, Limit}
 use Rattle.pls_base.specs.declared.text_error.Quantity.TheVariants.{Bits}
-use Rattle.pls_netfile.specs.Fault.{IsFirstFault, NamesFirstFault}
-use Rattle.pls_netfile.specs.Part.{PassesWhole}
-use Rattle.pls_netfile.proofs.WholeTexts.{same_fault, whole_text}
+use Rattle.pls_lines.specs.Fault.{IsFirstFault, NamesFirstFault}
+use Rattle.pls_lines.specs.Part.{PassesWhole}
+use Rattle.pls_lines.proofs.WholeTexts.{same_fault, whole_text}
 use Rattle.pls_labelfile.specs.LabelsText.{NamedLabel, IsLabelsPart, labels_lines, named}
 use Rattle.pls_labelfile.specs.LabelsScan.{PassesPart, TellsLabels, WrittenLabels, total_bits}
 use Rattle.pls_labelfile.specs.Misfit.{misfit}

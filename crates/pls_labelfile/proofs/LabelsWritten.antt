@@ -1,14 +1,16 @@
 -- The text of labels, written line by line.
-use Rattle.std.proofs.Common.{◌≡◌, ℕ, ◌+◌, ◌≤◌, Bool, List, [], ◌∷◌, ◌++◌, map, take, length, Some, codes, decimal, sym, ◌∙◌, ap, slice_get, option_map, append_assoc, add-one, arith}
+use Rattle.std.proofs.Common.{◌≡◌, ℕ, ◌+◌, ◌<◌, ◌≤◌, ◌^◌, zero, suc, Bool, List, [], ◌∷◌, ◌++◌, map, take, length, Some, codes, decimal, sym, ◌∙◌, ap, subst, slice_get, option_map, append_assoc, add-one, arith}
+use Rattle.std.specs.List.{All, sum_by}
+use Rattle.std.proofs.lemmas.List.Elements.{All-push}
 use Rattle.std.specs.Fmt.{digits}
-use Rattle.std.proofs.lemmas.List.{map_push, length-map}
+use Rattle.std.proofs.lemmas.List.{map_push, length-map, take_all}
 use Rattle.std.proofs.lemmas.Option.{slice_get-map}
 use Rattle.pls_model.specs.declared.row.NodeRow.{NodeRow}
 use Rattle.pls_model.specs.Configuration.{ids_of}
-use Rattle.pls_netfile.specs.Text.{text_of}
-use Rattle.pls_netfile.proofs.Fronts.{text_of-append}
-use Rattle.pls_labelfile.specs.LabelsText.{NamedLabel, label_line, labels_text, named}
-use Rattle.pls_labelfile.proofs.Named.{named-take, named-all}
+use Rattle.pls_lines.specs.Text.{text_of}
+use Rattle.pls_lines.specs.laws.Fronts.{text_of-append}
+use Rattle.pls_labelfile.specs.LabelsText.{NamedLabel, FitsLabel, label_line, labels_text, named}
+use Rattle.pls_labelfile.proofs.Named.{each_short, named-take, named-all, named_fit}
 
 -- the lines of a labels part up to the labels of the first nodes
 abbrev pub lines_so_far : List NodeRow → List (List Bool) → ℕ → List (List ℕ)
@@ -61,3 +63,33 @@ whole_text rows labels count old new all long so_far more =
     more ∙ ap (λ (text : List ℕ). text ++ text_of (codes "end" ∷ [])) so_far
     ∙ sym (text_of-append (lines_so_far rows labels count) (codes "end" ∷ []))
     ∙ ap labels_text labels_are
+
+-- ---- the identities that were written are small
+
+take_next : (ids : List ℕ) (place id : ℕ) → slice_get ids place ≡ Some id
+    → take (suc place) ids ≡ take place ids ++ id ∷ []
+take_next [] place id at = absurd (cc)
+take_next (x ∷ ids) zero id at = let same : x ≡ id = cc in ap (λ (y : ℕ). y ∷ []) same
+take_next (x ∷ ids) (suc place) id at =
+    ap (λ (others : List ℕ). x ∷ others) (take_next ids place id at)
+
+pub one_small_more : (rows : List NodeRow) (place id : ℕ)
+    → option_map (λ row. row.id) (slice_get rows place) ≡ Some id
+    → All (λ id. id < 2 ^ 32) (take place (ids_of rows)) → id < 2 ^ 32
+    → All (λ id. id < 2 ^ 32) (take (place + 1) (ids_of rows))
+one_small_more rows place id id_at so_far small =
+    let ids_at : slice_get (ids_of rows) place ≡ Some id =
+    slice_get-map (λ (row : NodeRow). row.id) rows place ∙ id_at in
+    subst (All (λ id. id < 2 ^ 32))
+    (sym (ap (λ (n : ℕ). take n (ids_of rows)) (add-one place)
+    ∙ take_next (ids_of rows) place id ids_at))
+    (All-push (λ id. id < 2 ^ 32) (take place (ids_of rows)) id so_far small)
+
+pub all_small : (rows : List NodeRow) (labels : List (List Bool)) (count : ℕ) → length rows ≤ count
+    → All (λ id. id < 2 ^ 32) (take count (ids_of rows)) → sum_by length labels ≤ 2 ^ 28
+    → All FitsLabel (named (ids_of rows) labels)
+all_small rows labels count all small few =
+    named_fit (ids_of rows) labels
+    (subst (All (λ id. id < 2 ^ 32))
+    (take_all count (ids_of rows) (omega (arith, length-map rows (λ row. row.id)))) small)
+    (each_short labels (2 ^ 28) few)

@@ -97,7 +97,7 @@ pub named-all : (ids : List ℕ) (labels : List (List Bool)) (i : ℕ) → lengt
 named-all ids labels i p q = rw (take_all i ids p, take_all i labels q) refl
 
 -- no label has more bits than all of them
-each_short : (labels : List (List Bool)) (most : ℕ) → sum_by length labels ≤ most
+pub each_short : (labels : List (List Bool)) (most : ℕ) → sum_by length labels ≤ most
     → All (λ bits. length bits ≤ most) labels
 each_short [] most few = All-nil (λ bits. length bits ≤ most)
 each_short (bits ∷ labels) most few =

@@ -8,7 +8,7 @@ use Rattle.pls_labelfile.specs.LabelsText.{NamedLabel}
 use Rattle.pls_labelfile.specs.LabelsScan.{IsTold, TellsLabels, WrittenLabels, total_bits, capped}
 use Rattle.pls_labelfile.specs.Misfit.{misfit}
 use Rattle.pls_labelfile.specs.Refusal.{misfit_error, labels_refusal}
-use Rattle.pls_labelfile.proofs.NextLabels.{one_told}
+use Rattle.pls_labelfile.proofs.LabelsPart.{one_told}
 
 -- the sum of the lengths that was kept is that of the labels
 kept_sum : (written : WrittenLabels) → IsTold written → (labels : List NamedLabel)

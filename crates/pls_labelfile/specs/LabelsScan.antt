@@ -1,7 +1,7 @@
 -- What a reader of a labels part has passed, and what it keeps of the part.
-use Rattle.std.specs.Prelude.{◌≡◌, ℕ, ◌-◌, ◌≤◌, ◌^◌, List, map, length, min, sum_by, All}
-use Rattle.pls_netfile.specs.Lines.{Left, Passes}
-use Rattle.pls_labelfile.specs.LabelsText.{NamedLabel, FitsLabel, label_line, labels_lines, labels_text}
+use Rattle.std.specs.Prelude.{◌≡◌, ℕ, ◌-◌, ◌≤◌, ◌^◌, List, length, min, sum_by, All}
+use Rattle.pls_lines.specs.Lines.{Left, Passes}
+use Rattle.pls_labelfile.specs.LabelsText.{NamedLabel, FitsLabel, labels_lines, labels_text}
 
 -- how many bits all labels have together
 abbrev pub total_bits : List NamedLabel → ℕ
@@ -32,13 +32,6 @@ pub record IsTold (written : WrittenLabels) : Type 0 where
   pub tells : TellsLabels written.text labels
   pub sum : written.bits ≡ capped (total_bits labels)
   pub within : written.number ≤ 2 ^ 63
-
--- the reader has passed the lines of labels with so many bits
-pub record PassesLabels (old new : Left) (bits : ℕ) : Type 0 where
-  pub labels : List NamedLabel
-  pub fits : All FitsLabel labels
-  pub passed : Passes old new (map label_line labels)
-  pub sum : bits ≡ capped (total_bits labels)
 
 -- the reader has passed a labels part, and kept its text, its place and the sum of its lengths
 pub record PassesPart (old new : Left) (written : WrittenLabels) : Type 0 where

@@ -1,88 +1,128 @@
 //! The line of a label.
 
-ghost use Rattle.std.specs.Prelude.{◌≡◌, ◌≢◌, ◌↔◌, length, IfNone, IfOk, IfSome, IsTrue};
-ghost use Rattle.pls_labelfile.specs.LabelsText.{hex_word};
-ghost use Rattle.pls_labelfile.specs.LabelLine.{AreInRange, IsHexWord, LabelWords, written_label};
+ghost use Rattle.std.specs.Prelude.{◌≡◌, ◌≢◌, ◌≤◌, ◌<◌, ◌+◌, ◌^◌, ◌↔◌, ◌∷◌, ◌++◌, ℕ, List, length, slice_set, IfNone, IfSome, IsTrue};
+ghost use Rattle.pls_lines.specs.LineKind.{Says};
+ghost use Rattle.pls_lines.specs.Lines.{Stands};
+ghost use Rattle.pls_bits.specs.Hex.{hex_digits};
+ghost use Rattle.pls_view.specs.Stored.{cost};
+ghost use Rattle.pls_labelfile.specs.LabelsText.{FitsLabel, NamedLabel, label_line, label_of_words};
+ghost use Rattle.pls_labelfile.specs.inner.HexWord.{IsHexWord, SaysLabels, word_length};
 
 use crate::limits::MAX_BITS;
-use pls_base::NoMemory;
-use pls_bits::{BitBuf, HexError, from_hex, spells_bits};
-use pls_netfile::{LineKind, after_word, is_same, number_then, u32_then};
-use std::alloc::Global;
+use pls_bits::spells_bits;
+use pls_lines::{LineKind, after_word, bytes_before, is_same, number_before, u32_before};
+use pls_view::LabelRoom;
 use std::marker::Model;
 
-/// What a line `label ID LEN HEX` says. Its last word is lent.
+/// What a line `label ID LEN HEX` says, seen as the label. The word for its bits is lent.
 #[derive(Drop)]
 pub struct LabelLine<'a> {
-    /// The identity that the label names.
-    pub id: u32,
-    /// How many bits the label has.
-    pub len: usize,
-    /// The hex digits of the bits, or `-` where there are none.
-    pub hex: &'a [u8],
+    id: u32,
+    len: usize,
+    hex: &'a [u8],
 }
 
 impl<'a> Model for LabelLine<'a> {
-    ghost use Rattle.pls_labelfile.specs.LabelLine.{LabelWords};
+    ghost use Rattle.pls_labelfile.specs.LabelsText.{NamedLabel};
+    ghost use Rattle.pls_labelfile.specs.inner.HexWord.{IsHexWord, word_bits};
 
-    ghost Value = { LabelWords };
+    ghost Value = { NamedLabel };
 
-    ghost view = { λ line. record { id = line.id; len = line.len; hex = line.hex.now } };
+    ghost view = { λ line. record { id = line.id; bits = word_bits line.len line.hex.now } };
+
+    ghost invariant = { λ line. IsHexWord line.len line.hex.now };
 }
 
 impl<'a> LineKind<'a> for LabelLine<'a> {
-    ghost use Rattle.pls_labelfile.specs.LabelLine.{FitsWords, written_label as written_words};
+    ghost use Rattle.pls_labelfile.specs.LabelsText.{FitsLabel, label_line};
+    ghost use Rattle.pls_labelfile.specs.laws.LabelLaws.{label_lines};
 
-    ghost written = { written_words };
+    ghost written = { label_line };
 
-    ghost Fits = { FitsWords };
+    ghost Fits = { FitsLabel };
 
-    fn read(line: &'a [u8]) -> Option<Self> {
-        let words = label_words(line)?;
-        if is_hex_word(words.len, words.hex) {
-            Some(words)
+    ghost kind_law = { label_lines };
+
+    fn read(text: &'a [u8]) -> Option<(Self, &'a [u8])> {
+        let (id, len, hex, rest) = label_words(text)?;
+        if is_hex_word(len, hex) {
+            Some((LabelLine { id, len, hex }, rest))
         } else {
             None
         }
     }
 }
 
-impl LabelLine<'_> {
-    /// The bits of the label.
-    pub fn bits(&self, alloc: Global) -> Result<BitBuf, NoMemory>
-        requires { IsHexWord self.now.len self.now.hex }
-        ensures long { IfOk result (λ bits. length bits ≡ self.now.len) }
-        ensures written { IfOk result (λ bits. hex_word bits ≡ self.now.hex) }
+impl<'a> LabelLine<'a> {
+    /// The identity that the label names.
+    pub fn id(&self) -> u32
+        ensures { result ≡ self.now.id }
     {
-        if self.len == 0 {
-            return Ok(BitBuf::new(alloc));
-        }
-        match from_hex(alloc, self.len, self.hex) {
-            Ok(bits) => Ok(bits),
-            Err(error) => {
-                prove!(error == HexError::NoMemory);
-                Err(NoMemory)
-            }
-        }
+        self.id
+    }
+
+    /// How many bits the label has.
+    pub fn len(&self) -> usize
+        ensures { result ≡ length self.now.bits }
+    {
+        self.len
+    }
+
+    // Puts the bits of the label at a place of a store with room for them. Its digits were tested
+    // when the line was read, and are not tested again.
+    pub(crate) fn put_into(&self, room: &mut LabelRoom, place: usize)
+        requires within { place < length room.old.labels }
+        requires room { cost (length self.now.bits) ≤ room.old.spare }
+        ensures replaced { room.new.labels ≡ slice_set room.old.labels place self.now.bits }
+        ensures spare { room.new.spare + cost (length self.now.bits) ≡ room.old.spare }
+    {
+        room.replace_spare_hex(place, self.len(), self.digits());
+    }
+
+    // The hex digits of the bits, none where there is no bit.
+    fn digits(&self) -> &'a [u8]
+        ensures { hex_digits self.now.bits ≡ result.now }
+    {
+        if self.len == 0 { b"" } else { self.hex }
+    }
+
+    // What `read` answers, for a text of labels that was read before: its digits are not tested.
+    pub(crate) fn read_again(text: &'a [u8]) -> Option<(LabelLine<'a>, &'a [u8])>
+        requires { SaysLabels text.now }
+        ensures fits { IfSome result (λ read. FitsLabel read.0) }
+        ensures stands { IfSome result (λ read. text.now ≡ label_line read.0 ++ 10 ∷ read.1.now) }
+        ensures none { IfNone result (Stands (Says FitsLabel label_line) text.now → ⊥) }
+    {
+        let (id, len, hex, rest) = label_words(text)?;
+        Some((LabelLine { id, len, hex }, rest))
     }
 }
 
-// The words of a line `label ID LEN HEX`, with the last of them as it stands; `None` where the line
-// has no such words.
-pub(crate) fn label_words<'a>(line: &'a [u8]) -> Option<LabelLine<'a>>
-    ensures in_range { IfSome result (λ words. AreInRange words) }
-    ensures written { IfSome result (λ words. line.now ≡ written_label words) }
-    ensures none { IfNone result ((words : LabelWords) → AreInRange words
-        → line.now ≢ written_label words) }
+// The words of a line `label ID LEN HEX` at the front of a text, the last of them as it stands but
+// for its length, and what follows the line feed; `None` where no such line stands there.
+fn label_words<'a>(text: &'a [u8]) -> Option<(u32, usize, &'a [u8], &'a [u8])>
+    ensures id { IfSome result (λ words. words.0 < 2 ^ 32) }
+    ensures short { IfSome result (λ words. words.1 ≤ 2 ^ 28) }
+    ensures long { IfSome result (λ words. length words.2.now ≡ word_length words.1) }
+    ensures stands { IfSome result (λ words.
+        text.now ≡ label_of_words words.0 words.1 words.2.now ++ 10 ∷ words.3.now) }
+    ensures none { IfNone result ((label : NamedLabel) (rest : List ℕ) → FitsLabel label
+        → text.now ≢ label_line label ++ 10 ∷ rest) }
 {
-    let words = after_word(line, b"label")?;
-    let (id, words) = u32_then(words)?;
-    let (len, hex) = number_then(words, MAX_BITS)?;
-    Some(LabelLine {
-        id,
-        len: len as usize,
-        hex,
-    })
+    let words = after_word(text, b"label")?;
+    let (id, words) = u32_before(words, b' ')?;
+    let (len, last) = number_before(words, b' ', MAX_BITS)?;
+    let len = len as usize;
+    let (hex, rest) = bytes_before(last, word_length_of(len), b'\n')?;
+    Some((id, len, hex, rest))
+}
+
+// How many bytes the word for `len` bits has.
+fn word_length_of(len: usize) -> usize
+    requires { len ≤ 2 ^ 28 }
+    ensures { result ≡ word_length len }
+{
+    if len == 0 { 1 } else { 2 * len.div_ceil(8) }
 }
 
 // Whether a word is that for some list of `len` bits. It looks at each digit once.

@@ -3,7 +3,7 @@
 ghost use Rattle.std.specs.Prelude.{◌≡◌, ◌↔◌, ℕ, List, length, map, None, IfErr, IfOk, OnOk};
 ghost use Rattle.std.specs.Result.{IsErrOf};
 ghost use Rattle.pls_model.specs.Configuration.{ids_of};
-ghost use Rattle.pls_netfile.specs.Fault.{IsFirstFault};
+ghost use Rattle.pls_lines.specs.Fault.{IsFirstFault};
 ghost use Rattle.pls_labelfile.specs.LabelsText.{IsLabelsPart, NamedLabel, named};
 ghost use Rattle.pls_labelfile.specs.LabelsScan.{TellsLabels};
 ghost use Rattle.pls_labelfile.specs.Refusal.{IsLabelsRefusal, labels_refusal};
@@ -11,7 +11,7 @@ ghost use Rattle.pls_labelfile.specs.Refusal.{IsLabelsRefusal, labels_refusal};
 use crate::labels_text::LabelsText;
 use pls_base::TextError;
 use pls_graph::Network;
-use pls_netfile::read_whole;
+use pls_lines::read_whole;
 use pls_view::LabelStore;
 use std::alloc::Global;
 
@@ -19,7 +19,6 @@ use std::alloc::Global;
 ///
 /// `Form` with the number of the first line that is not of the form, which may stand behind `end`;
 /// else the refusals of [`LabelsText::build`].
-#[tactic(auto, using(crate::proofs::LabelsPart::labels_part))]
 pub fn read_labels(alloc: Global, text: &[u8], net: &Network) -> Result<LabelStore, TextError>
     ensures ok { IfOk result (λ store. TellsLabels text.now (named (ids_of net.now) store)) }
     ensures lengths { IfOk result (λ store. length store ≡ length net.now) }

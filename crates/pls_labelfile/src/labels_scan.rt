@@ -1,15 +1,14 @@
 //! How a labels part is passed without memory.
 
-ghost use Rattle.std.specs.Prelude.{◌≡◌, ◌≤◌, ◌^◌, IfErr, IfOk, OnErr};
-ghost use Rattle.pls_netfile.specs.Lines.{IsFormFault, Stands};
+ghost use Rattle.std.specs.Prelude.{◌≡◌, IfErr, IfOk, OnErr};
+ghost use Rattle.pls_lines.specs.Lines.{IsFormFault};
 ghost use Rattle.pls_labelfile.specs.LabelsText.{IsLabelsPart};
-ghost use Rattle.pls_labelfile.specs.LabelLine.{IsLabelLine};
-ghost use Rattle.pls_labelfile.specs.LabelsScan.{PassesLabels, PassesPart};
+ghost use Rattle.pls_labelfile.specs.LabelsScan.{PassesPart};
 
-use crate::label_line::LabelLine;
+use crate::labels_tally::LabelsTally;
 use crate::labels_text::LabelsText;
 use pls_base::TextError;
-use pls_netfile::{Lines, Part, next_of, scan};
+use pls_lines::{Lines, ListText, Part, scan};
 
 /// Reads one labels part, which the reader passes. It takes no memory.
 ///
@@ -24,31 +23,18 @@ pub fn scan_labels<'a>(lines: &mut Lines<'a>) -> Result<LabelsText<'a>, TextErro
 }
 
 impl<'a> Part<'a> for LabelsText<'a> {
+    ghost use Rattle.pls_labelfile.specs.LabelsText.{IsLabelsPart};
+    ghost use Rattle.pls_labelfile.specs.LabelsScan.{PassesPart};
+    ghost use Rattle.pls_labelfile.specs.laws.LabelLaws.{labels_some_part};
+
     ghost Format = { IsLabelsPart };
 
     ghost Passed = { PassesPart };
 
-    fn pass(lines: &mut Lines<'a>) -> Result<Self, TextError> {
-        let start = lines.again();
-        lines.expect(b"labels")?;
-        let bits = pass_labels(lines);
-        lines.expect(b"end")?;
-        let text = lines.since(&start);
-        let number = start.number();
-        Ok(LabelsText { text, number, bits })
-    }
-}
+    ghost part_law = { labels_some_part };
 
-// Passes the label lines that stand next, as many as there are, and answers how many bits the
-// labels have, or 2^64 - 1 where that is less.
-fn pass_labels(lines: &mut Lines<'_>) -> u64
-    ensures labels { PassesLabels lines.old lines.new result }
-    ensures no_label { Stands IsLabelLine lines.new.rest → ⊥ }
-    ensures small { lines.new.number ≤ 2 ^ 63 }
-{
-    let mut bits: u64 = 0;
-    while let Some(label) = next_of::<LabelLine>(lines) {
-        bits = bits.saturating_add(label.len as u64);
+    fn pass(lines: &mut Lines<'a>) -> Result<Self, TextError> {
+        let part = ListText::<'a, LabelsTally>::pass(lines)?;
+        Ok(LabelsText { part })
     }
-    bits
 }

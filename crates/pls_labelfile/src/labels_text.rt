@@ -2,15 +2,15 @@
 
 ghost use Rattle.std.specs.Prelude.{◌≡◌};
 
+use crate::labels_tally::LabelsTally;
+use pls_lines::ListText;
 use std::marker::Model;
 
 /// The text of a labels part, which it lends, the number of its heading line, and how many bits its
 /// labels have together.
 #[derive(Drop)]
 pub struct LabelsText<'a> {
-    pub(crate) text: &'a [u8],
-    pub(crate) number: u64,
-    pub(crate) bits: u64,
+    pub(crate) part: ListText<'a, LabelsTally>,
 }
 
 impl<'a> Model for LabelsText<'a> {
@@ -18,9 +18,10 @@ impl<'a> Model for LabelsText<'a> {
 
     ghost Value = { WrittenLabels };
 
-    ghost view = { λ part. kept part.text.now part.number part.bits };
+    ghost view = { λ text. kept text.part.lines.rest text.part.lines.number text.part.kept.bits };
 
-    ghost invariant = { λ part. IsTold (kept part.text.now part.number part.bits) };
+    ghost invariant = { λ text.
+        IsTold (kept text.part.lines.rest text.part.lines.number text.part.kept.bits) };
 }
 
 impl<'a> LabelsText<'a> {
@@ -28,6 +29,6 @@ impl<'a> LabelsText<'a> {
     pub fn bits(&self) -> u64
         ensures { result ≡ self.now.bits }
     {
-        self.bits
+        self.part.kept.bits
     }
 }

@@ -1,17 +1,9 @@
 //! Laws of the text of labels. Their functions do nothing: each says what holds of the definitions.
 
-ghost use Rattle.std.specs.Prelude.{◌≡◌, ◌≤◌, ◌^◌, ℕ, List, ◌++◌, length, map, None, All};
-ghost use Rattle.pls_model.specs.Configuration.{ids_of};
-ghost use Rattle.pls_netfile.specs.Fault.{IsFirstFault};
-ghost use Rattle.pls_netfile.specs.Lines.{IsFault, Left};
-ghost use Rattle.pls_netfile.specs.NetworkText.{AreRows};
-ghost use Rattle.pls_view.specs.Labels.{bits_in};
-ghost use Rattle.pls_labelfile.specs.LabelsText.{FitsLabel, IsLabelsPart, NamedLabel, labels_text, named};
-ghost use Rattle.pls_labelfile.specs.LabelsScan.{TellsLabels};
-ghost use Rattle.pls_labelfile.specs.Refusal.{labels_refusal};
-
-use pls_graph::Network;
-use pls_view::LabelStore;
+ghost use Rattle.std.specs.Prelude.{◌≡◌, ℕ, List, ◌++◌, All};
+ghost use Rattle.pls_lines.specs.Fault.{IsFirstFault};
+ghost use Rattle.pls_lines.specs.Lines.{IsFault, Left};
+ghost use Rattle.pls_labelfile.specs.LabelsText.{FitsLabel, IsLabelsPart, NamedLabel, labels_text};
 
 /// A text fixes the labels at its front, and what follows them.
 pub fn text_fixes_labels()
@@ -29,17 +21,4 @@ pub fn no_fault()
 pub fn one_first_fault()
     ensures { (text : List ℕ) (j k : ℕ) → IsFirstFault IsLabelsPart text j
         → IsFirstFault IsLabelsPart text k → j ≡ k }
-{}
-
-/// Labels for all nodes of a network, with at most 2^28 bits together, are read back from the text
-/// that [`write_labels`] gives: it says them, and nothing refuses them.
-///
-/// [`write_labels`]: crate::write_labels
-pub fn written_is_read(net: &Network, labels: &LabelStore)
-    requires lengths { length labels.now ≡ length net.now }
-    requires ranges { AreRows net.now }
-    requires few { bits_in labels.now ≤ 2 ^ 28 }
-    ensures tells { let all = named (ids_of net.now) labels.now in TellsLabels (labels_text all) all }
-    ensures accepted { labels_refusal (ids_of net.now) 1 (named (ids_of net.now) labels.now) ≡ None }
-    ensures bits { map (λ label. label.bits) (named (ids_of net.now) labels.now) ≡ labels.now }
 {}

@@ -1,9 +1,9 @@
 -- What a reader of a network part has passed, and what it keeps of the part.
-use Rattle.std.specs.Prelude.{◌≡◌, ℕ, List, flat_map, length, All}
+use Rattle.std.specs.Prelude.{◌≡◌, ℕ, List, length}
 use Rattle.pls_model.specs.declared.row.NodeRow.{NodeRow}
 use Rattle.pls_model.specs.Configuration.{ports_in}
-use Rattle.pls_netfile.specs.Lines.{Left, Passes}
-use Rattle.pls_netfile.specs.NetworkText.{FitsRow, AreRows, row_lines, network_lines, network_text}
+use Rattle.pls_lines.specs.Lines.{Left, Passes}
+use Rattle.pls_netfile.specs.NetworkText.{AreRows, network_lines, network_text}
 
 -- the text of a network, and how many nodes and ports it has
 pub record WrittenNetwork : Type 0 where
@@ -26,21 +26,6 @@ pub record TellsNetwork (written : WrittenNetwork) (rows : List NodeRow) : Type 
 pub record IsTold (written : WrittenNetwork) : Type 0 where
   pub rows : List NodeRow
   pub tells : TellsNetwork written rows
-
--- the reader has passed the lines of one row with so many ports
-pub record PassesRow (old new : Left) (ports : ℕ) : Type 0 where
-  pub row : NodeRow
-  pub fits : FitsRow row
-  pub passed : Passes old new (row_lines row)
-  pub many : ports ≡ length row.ports
-
--- the reader has passed the lines of rows with so many nodes and ports
-pub record PassesRows (old new : Left) (nodes ports : ℕ) : Type 0 where
-  pub rows : List NodeRow
-  pub fits : All FitsRow rows
-  pub passed : Passes old new (flat_map row_lines rows)
-  pub many : nodes ≡ length rows
-  pub sum : ports ≡ ports_in rows
 
 -- the reader has passed a network part, and kept its text
 pub record PassesNetwork (old new : Left) (written : WrittenNetwork) : Type 0 where

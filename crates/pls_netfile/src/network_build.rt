@@ -8,17 +8,18 @@ ghost use Rattle.pls_netfile.specs.NetworkScan.{TellsNetwork};
 ghost use Rattle.pls_netfile.specs.NetworkBuild.{IsRefusedBuild, text_error_of};
 
 use crate::network_text::NetworkText;
+use crate::refusal_numbers::{ONE_WAY, ORDER, POINTER, SELF_LINK, TWICE, UNKNOWN, WEIGHTS};
 use pls_base::{Quantity, TextError};
-use pls_graph::Network;
-use pls_model::{BuildError, MAX_NODES, MAX_PORTS, NodeRow};
+use pls_graph::{Network, NetworkBuilder};
+use pls_model::{BuildError, MAX_NODES, MAX_PORTS};
 use std::alloc::Global;
 
 impl<'a> NetworkText<'a> {
     /// The network of the rows that the text says.
     ///
     /// `Limit(Nodes)`, and then `Limit(Ports)`, where there are more than the limit allows, before any
-    /// memory is taken. `Sense` with a number from 10 to 16 and an identity for the refusals of
-    /// [`Network::build`]. `NoMemory` for want of memory.
+    /// memory is taken. `Sense` with a number from [`ORDER`] to [`POINTER`] and an identity for
+    /// the refusals of [`NetworkBuilder::build`]. `NoMemory` for want of memory.
     pub fn build(&self, alloc: Global) -> Result<Network, TextError>
         ensures ok { IfOk result (λ network. (rows : List NodeRow) → TellsNetwork self.now rows
             → network ≡ rows) }
@@ -38,13 +39,13 @@ impl<'a> NetworkText<'a> {
 }
 
 // The network of rows within the limits.
-fn network_of(alloc: Global, rows: Vec<NodeRow>) -> Result<Network, TextError>
-    requires { AreWithinLimits rows.items }
-    ensures ok { IfOk result (λ network. network ≡ rows.items) }
+fn network_of(alloc: Global, rows: NetworkBuilder) -> Result<Network, TextError>
+    requires { AreWithinLimits rows }
+    ensures ok { IfOk result (λ network. network ≡ rows) }
     ensures valid { IfOk result (λ network. IsNetwork network) }
-    ensures refused { IfErr result (λ error. IsRefusedBuild rows.items error) }
+    ensures refused { IfErr result (λ error. IsRefusedBuild rows error) }
 {
-    match Network::build(alloc, rows) {
+    match rows.build(alloc) {
         Ok(network) => Ok(network),
         Err(refusal) => Err(text_error(refusal)),
     }
@@ -55,13 +56,13 @@ fn text_error(refusal: BuildError) -> TextError
     ensures { result ≡ text_error_of refusal }
 {
     match refusal {
-        BuildError::Order(id) => sense(10, id),
-        BuildError::SelfLink(id) => sense(11, id),
-        BuildError::Twice(id) => sense(12, id),
-        BuildError::Unknown(id) => sense(13, id),
-        BuildError::OneWay(id) => sense(14, id),
-        BuildError::Weights(id) => sense(15, id),
-        BuildError::Pointer(id) => sense(16, id),
+        BuildError::Order(id) => sense(ORDER, id),
+        BuildError::SelfLink(id) => sense(SELF_LINK, id),
+        BuildError::Twice(id) => sense(TWICE, id),
+        BuildError::Unknown(id) => sense(UNKNOWN, id),
+        BuildError::OneWay(id) => sense(ONE_WAY, id),
+        BuildError::Weights(id) => sense(WEIGHTS, id),
+        BuildError::Pointer(id) => sense(POINTER, id),
         BuildError::NoMemory => TextError::NoMemory,
     }
 }

@@ -1,12 +1,13 @@
 -- The scheme of forests: what a label says, what a node judges, and the marker's labels. The
 -- property is that following pointers never leads back to the start.
-use Rattle.std.specs.Prelude.{◌≡◌, ℕ, ◌==◌, Bool, ◌||◌, List, [], ◌∷◌, length, slice_get, Option, Some, option_map, option_and_then}
+use Rattle.std.specs.Prelude.{ℕ, ◌==◌, Bool, ◌||◌, List, [], ◌∷◌, get_or, Option}
 use Rattle.pls_model.specs.declared.row.NodeRow.{NodeRow}
 use Rattle.pls_model.specs.declared.verdict.Verdict.{Verdict}
 use Rattle.pls_graph.specs.declared.size.Size.{Size}
 use Rattle.pls_view.specs.Seen.{Seen}
-use Rattle.pls_scheme.specs.Length.{code_length}
-use Rattle.pls_scheme.specs.Numbers.{AreCodesOf, numbers_in, only_number}
+use Rattle.pls_scheme.specs.Length.{codes_length}
+use Rattle.pls_scheme.specs.Marked.{IsMarkedBy}
+use Rattle.pls_scheme.specs.Numbers.{AreCodesOf, label_in}
 use Rattle.pls_scheme.specs.Reading.{Read, judge_by}
 use Rattle.pls_facts.specs.Pointer.{IsChainOf, NoneReturns}
 use Rattle.pls_pointer.specs.Pointing.{is_one_deeper_than_target, points}
@@ -16,21 +17,21 @@ use Rattle.pls_pointer.specs.declared.forest.DepthLabel.{DepthLabel}
 abbrev pub IsForest : List NodeRow → Type 0
 IsForest rows = NoneReturns rows
 
+-- the number of a label
+abbrev pub numbers_of_depth : DepthLabel → List ℕ
+numbers_of_depth label = label.depth ∷ []
+
+-- the label of a depth
+abbrev pub depth_says : ℕ → DepthLabel
+depth_says depth = record { depth = depth }
+
+-- the label of a number
+abbrev pub depth_label : List ℕ → DepthLabel
+depth_label list = depth_says (get_or list 0 0)
+
 -- the bits are the code of the node's depth, and nothing more
 abbrev pub IsDepthLabel : (ℕ → List Bool) → List Bool → DepthLabel → Type 0
-IsDepthLabel code bits label = AreCodesOf code (label.depth ∷ []) bits
-
--- the label with this depth
-abbrev pub depth_label : ℕ → DepthLabel
-depth_label depth = record { depth = depth }
-
--- the label of one number
-abbrev pub one_depth : List ℕ → Option DepthLabel
-one_depth numbers = option_map depth_label (only_number numbers)
-
--- the label that bits are, by what takes a code off
-abbrev pub depth_in : (List Bool → Option (ℕ × List Bool)) → List Bool → Option DepthLabel
-depth_in takes bits = option_and_then one_depth (numbers_in takes 1 bits)
+IsDepthLabel code bits label = AreCodesOf code (numbers_of_depth label) bits
 
 -- rule 3: the node points at a port, or its depth is 0
 abbrev pub points_or_is_at_0 : Read DepthLabel → Bool
@@ -46,16 +47,20 @@ forest_rules view = points_or_is_at_0 view ∷ is_deeper_in_forest view ∷ []
 
 -- what a node judges
 abbrev pub judge_forest : (List Bool → Option (ℕ × List Bool)) → Seen → Verdict
-judge_forest takes view = judge_by (depth_in takes) forest_rules view
+judge_forest takes view = judge_by (label_in depth_label takes 1) forest_rules view
 
--- the label of each node is the length of its chain of pointers
-pub record IsForestMarked (code : ℕ → List Bool) (rows : List NodeRow)
-    (labels : List (List Bool)) : Type 0 where
-  pub each : length labels ≡ length rows
-  pub label : (row : NodeRow) (place : ℕ) (label : List Bool) → slice_get rows place ≡ Some row
-      → slice_get labels place ≡ Some label
-      → (last depth : ℕ) × IsChainOf rows row.id last depth × (label ≡ code depth)
+-- the label of a node is the length of its chain of pointers
+abbrev pub forest_says : List NodeRow → NodeRow → DepthLabel → Type 0
+forest_says rows row label = (last : ℕ) × IsChainOf rows row.id last label.depth
 
--- how many bits a marked label has at most: a code of the number of nodes
+-- so is each label
+abbrev pub IsForestMarked : (ℕ → List Bool) → List NodeRow → List (List Bool) → Type 0
+IsForestMarked code rows labels = IsMarkedBy (IsDepthLabel code) (forest_says rows) rows labels
+
+-- no number of a marked label is greater: the number of nodes
+abbrev pub forest_limits : Size → List ℕ
+forest_limits size = size.nodes ∷ []
+
+-- how many bits a marked label has at most: the code of this number
 abbrev pub longest_forest : (ℕ → List Bool) → Size → ℕ
-longest_forest code size = code_length code size.nodes
+longest_forest code size = codes_length code (forest_limits size)

@@ -1,12 +1,12 @@
-//! The scheme `forest`: the label is the node's depth.
+//! The rules of the scheme `forest`: the label is the node's depth.
 
 ghost use Rattle.std.specs.Prelude.{◌≡◌, ◌==◌, ◌||◌};
 ghost use Rattle.std.specs.Option.{is_some};
 
-use crate::above::{is_one_deeper, label_above};
-use pls_bits::{Bits, NumCode};
-use pls_scheme::{Reads, Rules, Verdict, judged_from, own_label, read_numbers};
-use pls_view::View;
+use crate::above::is_one_deeper;
+use pls_bits::NumCode;
+use pls_model::State;
+use pls_scheme::{Coded, Judgement, OfNumbers, Ruled, Rules, Verdict, judged_from};
 use std::marker::PhantomData;
 
 /// What a label says.
@@ -16,61 +16,82 @@ pub struct DepthLabel {
     pub depth: u64,
 }
 
+impl OfNumbers<1> for DepthLabel {
+    ghost use Rattle.std.specs.Prelude.{refl};
+    ghost use Rattle.pls_pointer.specs.Forest.{depth_label, numbers_of_depth};
+    ghost use Rattle.pls_scheme.specs.laws.CodeLaws.{are_numbers};
+
+    ghost numbers = { numbers_of_depth };
+
+    ghost of_numbers = { depth_label };
+
+    fn numbers(&self) -> [u64; 1] {
+        [self.depth]
+    }
+
+    fn of_numbers(list: &[u64; 1]) -> DepthLabel {
+        let [depth] = *list;
+        DepthLabel { depth }
+    }
+
+    ghost numbers_law = { are_numbers 1 numbers_of_depth depth_label refl (λ _. refl) (λ _. refl)
+        (λ _. refl) };
+}
+
 /// The scheme of forests of pointers, whose labels are written in the number code `C`.
+pub type Forest<C> = Ruled<ForestRules<C>>;
+
+/// The rules of forests of pointers.
 #[derive(Clone, Copy, Debug, PartialEq, Eq)]
-pub struct Forest<C> {
+pub struct ForestRules<C> {
     code: PhantomData<C>,
 }
 
-impl<C: NumCode> Forest<C> {
-    /// The scheme. It takes no memory.
-    pub fn new() -> Self {
-        Forest { code: PhantomData }
+impl<C> Default for ForestRules<C> {
+    fn default() -> Self {
+        ForestRules { code: PhantomData }
     }
 }
 
-impl<C: NumCode> Reads for Forest<C> {
-    ghost use Rattle.pls_pointer.specs.Forest.{IsDepthLabel, depth_in};
-    ghost use Rattle.pls_pointer.specs.ForestLaws.{depth_in-spells};
-
-    type Said = DepthLabel;
-
-    ghost spells = { λ bits label. IsDepthLabel C.code bits label };
-
-    ghost said = { λ bits. depth_in C.takes bits };
-
-    fn read(bits: &Bits<'_>) -> Option<DepthLabel> {
-        let [depth] = read_numbers::<C, 1>(bits)?;
-        Some(DepthLabel { depth })
-    }
-
-    ghost said_law = { depth_in-spells C.code C.takes C.takes_codes C.takes_only };
-}
-
-impl<C: NumCode> Rules for Forest<C> {
+impl<C: NumCode> Judgement for ForestRules<C> {
     ghost use Rattle.pls_pointer.specs.Forest.{forest_rules};
 
-    ghost rules = { forest_rules };
+    type Layout = Coded<DepthLabel, C, 1>;
 
-    fn verdict(view: &View<'_>) -> Verdict {
-        let own = match own_label::<Forest<C>>(view) {
-            Ok(own) => own,
-            Err(verdict) => return verdict,
-        };
-        let above = label_above::<Forest<C>>(view).map(|above| above.depth);
+    ghost rules = { λ _. forest_rules };
+}
+
+impl<C: NumCode> Rules for ForestRules<C> {
+    // Of the other neighbours the rules need nothing.
+    type Tally = ();
+
+    ghost tallied = { λ _ _ _. tt };
+
+    fn start(&self, _own: &DepthLabel) {}
+
+    fn add(&self, _own: &DepthLabel, _tally: (), _weight: u32, _label: &DepthLabel) {}
+
+    fn verdict(
+        &self,
+        _id: u32,
+        state: State,
+        own: &DepthLabel,
+        above: Option<&DepthLabel>,
+        _tally: (),
+    ) -> Verdict {
         judged_from(
             3,
             &[
-                points_or_is_at_0(view, own),
-                is_one_deeper(own.depth, above),
+                points_or_is_at_0(state, own),
+                is_one_deeper(own.depth, above.map(|above| above.depth)),
             ],
         )
     }
 }
 
 // Rule 3: the node points at a port, or its depth is 0.
-fn points_or_is_at_0(view: &View<'_>, own: DepthLabel) -> bool
-    ensures { result ≡ (is_some view.now.state.up || own.depth == 0) }
+fn points_or_is_at_0(state: State, own: &DepthLabel) -> bool
+    ensures { result ≡ (is_some state.up || own.now.depth == 0) }
 {
-    view.state.up.is_some() || own.depth == 0
+    state.up.is_some() || own.depth == 0
 }

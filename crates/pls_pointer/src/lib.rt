@@ -1,17 +1,19 @@
 //! Pointers that make a tree or a forest: the properties `tree` and `forest`, how a node checks its
 //! depth against that of the node it points at, and how a network is marked.
 //!
-//! [`Tree`] and [`Forest`] are the schemes, over any number code; [`TreeLabel`] and [`DepthLabel`]
-//! what their labels say. Definitions stand in `specs/`, one file a scheme; what trees and chains
-//! of pointers are stands in `pls_facts`.
+//! [`Tree`] and [`Forest`] are the schemes, over any number code; [`TreeRules`] and [`ForestRules`]
+//! what each states of its own, [`TreeLabel`] and [`DepthLabel`] what their labels say. Definitions
+//! stand in `specs/`, one file a scheme (`tree_rules`, `judge_tree`, `tree_says`, `IsTreeMarked`,
+//! `longest_tree`, and so for forests), the theorems in `specs/laws/` (`tree_show`, `tree_met`,
+//! `tree_one_right`, `tree_fits`, `tree_sound`, `tree_marked_once`); what trees and chains of
+//! pointers are stands in `pls_facts`.
 #![tactic(auto)]
 
 mod above;
 mod forest;
 mod forest_scheme;
-mod root;
 mod tree;
 mod tree_scheme;
 
-pub use forest::{DepthLabel, Forest};
-pub use tree::{Tree, TreeLabel};
+pub use forest::{DepthLabel, Forest, ForestRules};
+pub use tree::{Tree, TreeLabel, TreeRules};

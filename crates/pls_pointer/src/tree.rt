@@ -1,15 +1,12 @@
-//! The scheme `tree`: the label is the root's identity and the node's depth.
+//! The rules of the scheme `tree`: the label is the root's identity and the node's depth.
 
-ghost use Rattle.std.specs.Prelude.{◌≡◌, ◌==◌, ◌&&◌, ◌||◌, false};
-ghost use Rattle.std.specs.List.{list_all};
+ghost use Rattle.std.specs.Prelude.{◌≡◌, ◌==◌, ◌&&◌, ◌||◌};
 ghost use Rattle.std.specs.Option.{is_some};
-ghost use Rattle.pls_scheme.specs.Reading.{passes_at};
-ghost use Rattle.pls_pointer.specs.Tree.{names_root, tree_in};
 
-use crate::above::{is_one_deeper, label_above};
-use pls_bits::{Bits, NumCode};
-use pls_scheme::{Reads, Rules, Verdict, judged_from, own_label, read_numbers};
-use pls_view::{PortView, View};
+use crate::above::is_one_deeper;
+use pls_bits::NumCode;
+use pls_scheme::{Coded, Judgement, OfNumbers, Ruled, Rules, Verdict, judged_from};
+use pls_model::State;
 use std::marker::PhantomData;
 
 /// What a label says.
@@ -21,82 +18,90 @@ pub struct TreeLabel {
     pub depth: u64,
 }
 
+impl OfNumbers<2> for TreeLabel {
+    ghost use Rattle.std.specs.Prelude.{refl};
+    ghost use Rattle.pls_pointer.specs.Tree.{numbers_of_tree, tree_label};
+    ghost use Rattle.pls_scheme.specs.laws.CodeLaws.{are_numbers};
+
+    ghost numbers = { numbers_of_tree };
+
+    ghost of_numbers = { tree_label };
+
+    fn numbers(&self) -> [u64; 2] {
+        [self.root, self.depth]
+    }
+
+    fn of_numbers(list: &[u64; 2]) -> TreeLabel {
+        let [root, depth] = *list;
+        TreeLabel { root, depth }
+    }
+
+    ghost numbers_law = { are_numbers 2 numbers_of_tree tree_label refl (λ _. refl) (λ _. refl)
+        (λ _. refl) };
+}
+
 /// The scheme of trees of pointers, whose labels are written in the number code `C`.
+pub type Tree<C> = Ruled<TreeRules<C>>;
+
+/// The rules of trees of pointers.
 #[derive(Clone, Copy, Debug, PartialEq, Eq)]
-pub struct Tree<C> {
+pub struct TreeRules<C> {
     code: PhantomData<C>,
 }
 
-impl<C: NumCode> Tree<C> {
-    /// The scheme. It takes no memory.
-    pub fn new() -> Self {
-        Tree { code: PhantomData }
+impl<C> Default for TreeRules<C> {
+    fn default() -> Self {
+        TreeRules { code: PhantomData }
     }
 }
 
-impl<C: NumCode> Reads for Tree<C> {
-    ghost use Rattle.pls_pointer.specs.Tree.{IsTreeLabel, tree_in};
-    ghost use Rattle.pls_pointer.specs.TreeLaws.{tree_in-spells};
-
-    type Said = TreeLabel;
-
-    ghost spells = { λ bits label. IsTreeLabel C.code bits label };
-
-    ghost said = { λ bits. tree_in C.takes bits };
-
-    fn read(bits: &Bits<'_>) -> Option<TreeLabel> {
-        let [root, depth] = read_numbers::<C, 2>(bits)?;
-        Some(TreeLabel { root, depth })
-    }
-
-    ghost said_law = { tree_in-spells C.code C.takes C.takes_codes C.takes_only };
-}
-
-impl<C: NumCode> Rules for Tree<C> {
+impl<C: NumCode> Judgement for TreeRules<C> {
     ghost use Rattle.pls_pointer.specs.Tree.{tree_rules};
 
-    ghost rules = { tree_rules };
+    type Layout = Coded<TreeLabel, C, 2>;
 
-    fn verdict(view: &View<'_>) -> Verdict {
-        let own = match own_label::<Tree<C>>(view) {
-            Ok(own) => own,
-            Err(verdict) => return verdict,
-        };
-        let above = label_above::<Tree<C>>(view).map(|above| above.depth);
+    ghost rules = { λ _. tree_rules };
+}
+
+impl<C: NumCode> Rules for TreeRules<C> {
+    ghost use Rattle.std.specs.List.{list_all};
+    ghost use Rattle.pls_pointer.specs.Tree.{names_root};
+
+    // Whether the neighbours so far name the own root.
+    type Tally = bool;
+
+    ghost tallied = { λ _ own ports. list_all (names_root own.root) ports };
+
+    fn start(&self, _own: &TreeLabel) -> bool {
+        true
+    }
+
+    fn add(&self, own: &TreeLabel, agrees: bool, _weight: u32, label: &TreeLabel) -> bool {
+        agrees && label.root == own.root
+    }
+
+    fn verdict(
+        &self,
+        id: u32,
+        state: State,
+        own: &TreeLabel,
+        above: Option<&TreeLabel>,
+        agrees: bool,
+    ) -> Verdict {
         judged_from(
             3,
             &[
-                agrees_on_root::<C>(own.root, &view.ports),
-                points_or_is_root(view, own),
-                is_one_deeper(own.depth, above),
+                agrees,
+                points_or_is_root(id, state, own),
+                is_one_deeper(own.depth, above.map(|above| above.depth)),
             ],
         )
     }
 }
 
-// Rule 3: every neighbour's root is this one.
-fn agrees_on_root<C: NumCode>(root: u64, ports: &[PortView<'_>]) -> bool
-    ensures { result
-        ≡ list_all (λ port. passes_at (tree_in C.takes) (names_root root) port.weight port.label)
-        ports.now }
-{
-    ports.iter().all(|port| names_root::<C>(root, port))
-}
-
-// Whether the neighbour's root is this one.
-fn names_root<C: NumCode>(root: u64, port: &PortView<'_>) -> bool
-    ensures { result
-        ≡ passes_at (tree_in C.takes) (names_root root) port.now.weight port.now.label }
-{
-    match Tree::<C>::read(&port.label) {
-        Some(label) => label.root == root,
-        None => false,
-    }
-}
-
 // Rule 4: the node points at a port, or it is the root, of depth 0.
-fn points_or_is_root(view: &View<'_>, own: TreeLabel) -> bool
-    ensures { result ≡ (is_some view.now.state.up || (own.depth == 0 && view.now.id == own.root)) }
+fn points_or_is_root(id: u32, state: State, own: &TreeLabel) -> bool
+    ensures { result ≡ (is_some state.up || (own.now.depth == 0 && id == own.now.root)) }
 {
-    view.state.up.is_some() || (own.depth == 0 && u64::from(view.id) == own.root)
+    state.up.is_some() || (own.depth == 0 && u64::from(id) == own.root)
 }

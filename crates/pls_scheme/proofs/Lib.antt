@@ -1,10 +1,8 @@
 pub mod Accepted
 pub mod Codes
-pub mod Judged
-pub mod Readings
-pub mod Rounds
+pub mod Deciding
+pub mod Fitting
+pub mod HeldRules
+pub mod Markings
+pub mod Passing
 pub mod SaidPorts
-pub mod Same
-pub mod Saying
-pub mod Spellings
-pub mod Texts

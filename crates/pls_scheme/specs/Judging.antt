@@ -1,8 +1,10 @@
 -- Verdicts by numbered rules, and the round of all nodes.
 use Rattle.std.specs.Prelude.{◌≡◌, ℕ, ◌+◌, ◌≤◌, Bool, true, false, if◌then◌else◌, List, [], ◌∷◌, map, All}
+use Rattle.std.specs.List.{AllByRecursion}
 use Rattle.pls_model.specs.declared.row.NodeRow.{NodeRow}
 use Rattle.pls_model.specs.declared.verdict.Verdict.{Verdict}
 use Rattle.pls_model.specs.declared.verdict.Verdict.TheVariants.{Accept, Reject}
+use Rattle.pls_base.specs.Steps.{up_by}
 use Rattle.pls_view.specs.Seen.{Seen, views}
 
 -- the verdict of rules tried in order, the first of which has this number: the first that fails
@@ -10,6 +12,10 @@ abbrev pub judged_from : ℕ → List Bool → Verdict
 judged_from number [] = Accept
 judged_from number (holds ∷ others) = if holds then judged_from (number + 1) others
     else Reject 1 number
+
+-- each of the rules holds
+abbrev pub AllHold : List Bool → Type 0
+AllHold rules = AllByRecursion (λ (holds : Bool). holds ≡ true) rules
 
 -- the verdict of each node, in the order of the rows
 abbrev pub verdicts_by : (Seen → Verdict) → List NodeRow → List (List Bool) → List Verdict
@@ -32,3 +38,7 @@ LeafWithin leaves (Reject leaf rule) = leaf ≤ leaves
 abbrev pub accepts : Verdict → Bool
 accepts Accept = true
 accepts (Reject leaf rule) = false
+
+-- the counter rose by some number of steps that is at most this
+abbrev pub RoseByAtMost : ℕ → ℕ → ℕ → Type 0
+RoseByAtMost most old new = (count : ℕ) × (count ≤ most) × (new ≡ up_by count old)

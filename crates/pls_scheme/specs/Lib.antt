@@ -1,7 +1,10 @@
 pub mod Judging
-pub mod Numbers
 pub mod Reading
+pub mod Numbers
 pub mod Length
-pub mod EndInDepths
 pub mod Spelled
-pub mod LeafLaws
+pub mod Marked
+pub mod SchemeLaws
+pub mod Theorem
+pub mod inner
+pub mod laws

@@ -1,7 +1,6 @@
 -- Views whose labels are read, and verdicts by rules on what was read. Rule 1 asks that the own
 -- label can be read, rule 2 that each neighbour's can; the others are asked of what they say.
-use Rattle.std.specs.Prelude.{ℕ, Bool, List, [], ◌∷◌, map, slice_get, Option, Some, None, false, option_map, option_and_then}
-use Rattle.std.specs.Option.{option_map_or}
+use Rattle.std.specs.Prelude.{ℕ, Bool, List, [], ◌∷◌, map, slice_get, Option, Some, None, option_map, option_and_then}
 use Rattle.pls_model.specs.declared.row.State.{State}
 use Rattle.pls_model.specs.declared.row.Port.{Port}
 use Rattle.pls_model.specs.declared.row.NodeRow.{NodeRow}
@@ -51,12 +50,22 @@ judged_read rules view (Some own) (Some ports) =
 abbrev pub judge_by : {L : Type 0} → (List Bool → Option L) → (Read L → List Bool) → Seen → Verdict
 judge_by read rules view = judged_read rules view (read view.own) (read_ports read view.ports)
 
--- what is read at a port with this weight and label passes a test; nothing passes where the label
--- cannot be read
-abbrev pub passes_at : {L : Type 0} → (List Bool → Option L) → (ReadPort L → Bool) → ℕ → List Bool
-    → Bool
-passes_at read test weight label =
-    option_map_or test (read_port read (record { weight = weight; label = label })) false
+-- what is read at a port with this weight and label, where it can be
+abbrev pub read_at : {L : Type 0} → (List Bool → Option L) → ℕ → List Bool → Option (ReadPort L)
+read_at read weight label = read_port read (record { weight = weight; label = label })
+
+-- a port with this weight, whose label says this
+abbrev pub port_with : {L : Type 0} → ℕ → L → ReadPort L
+port_with weight label = record { weight = weight; label = label }
+
+-- what the label says at the port with this number, if there is one
+abbrev pub label_above : {L : Type 0} → List (ReadPort L) → Option ℕ → Option L
+label_above ports up = option_map (λ port. port.label) (option_and_then (slice_get ports) up)
+
+-- what a node of this identity and state reads, whose label says this, at all its ports or at the
+-- first of them
+abbrev pub reading : {L : Type 0} → ℕ → State → L → List (ReadPort L) → Read L
+reading id state own ports = record { id = id; state = state; own = own; ports = ports }
 
 -- what a port shows where each label says what a function of the identity says
 abbrev pub said_port : {L : Type 0} → (ℕ → L) → Port → ReadPort L

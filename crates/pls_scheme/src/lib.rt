@@ -3,35 +3,56 @@
 //! Korman, Kutten and Peleg, "Proof labeling schemes", Distributed Computing 22 (2010).
 //!
 //! The meanings (`judge`, `holds`, `layout`, `marked`, `bound`) are definitions over views and
-//! rows; the calls answer them, and the laws say that a scheme is sound and that its labels have
-//! one spelling. Code over any scheme rests on these texts alone.
+//! rows; the calls answer them, and the laws say that a scheme is sound, that its labels have one
+//! spelling, and that a network is marked in one way. Code over any scheme rests on these texts
+//! alone.
 //!
-//! Schemes share the rest. [`Reads`] is a way to read labels, and [`own_label`] decides by it the
-//! rules 1 and 2, that the own label and each neighbour's are of the layout; [`judged_from`] names
-//! the first of the later rules that fails. [`read_numbers`] and [`write_numbers`] are for labels
-//! that are a few numbers. Proofs may cite `proofs/Saying` (rounds in which each label says what a
-//! function of the identity says), `proofs/Readings` (tests of what is read, in place),
-//! `proofs/Spellings` (labels of numbers have one spelling) and `proofs/Texts` (labels by places
-//! and by identities).
+//! A basic scheme states only what is its own: how its labels are written ([`Layout`]; [`Coded`]
+//! for labels that are a few numbers), its rules ([`Rules`] over labels that are read, each once,
+//! or [`JudgesInPlace`] over lent bits), its property and what labels are right ([`Marker`]).
+//! [`Basic`] makes the scheme of it, [`Ruled`] of [`Rules`]. Other schemes implement [`Checker`],
+//! [`Property`] and [`Scheme`] themselves.
+//!
+//! Definitions stand in `specs/`: `Judging` has verdicts and rounds, `Reading` what a node reads,
+//! `Theorem` what makes rules and a marker a scheme, `Marked` marked labels, `SchemeLaws` the laws.
+//! Proofs may cite `specs/laws/` (`Saying`: rounds in which each label says what a function of the
+//! identity says; `CodeLaws`: labels of numbers), and of `proofs/` what is right for each node
+//! (`Markings`), labels of numbers within limits (`Fitting`) and tests at the ports (`SaidPorts`).
 #![tactic(auto)]
 
+mod basic;
 mod checker;
+mod coded;
 mod consequences;
+mod holding;
+mod in_place;
+mod judgement;
+mod judging;
 mod labels;
+mod layout;
 mod length;
+mod marker;
 mod numbers;
+mod once;
 mod property;
-mod reading;
 mod rules;
 mod scheme;
 
+pub use basic::{Basic, Ruled};
 pub use checker::Checker;
+pub use coded::{Coded, OfNumbers};
 pub use consequences::{are_accepted, certifies};
-pub use labels::labels_of_depths;
-pub use length::code_length;
+pub use holding::hold_everywhere;
+pub use in_place::JudgesInPlace;
+pub use judgement::Judgement;
+pub use judging::{is_one_more, judged_from};
+pub use labels::labels_of;
+pub use layout::{Layout, ReadsInPlace};
+pub use length::{code_length, codes_length};
+pub use marker::Marker;
 pub use numbers::{read_numbers, write_numbers};
+pub use once::{Once, Pass};
 pub use pls_model::Verdict;
 pub use property::Property;
-pub use reading::{Reads, own_label};
-pub use rules::{Rules, is_one_more, judged_from};
+pub use rules::Rules;
 pub use scheme::Scheme;

@@ -1,86 +1,52 @@
-//! Verifiers that read the labels of a view and judge by numbered rules on what they read.
+//! Rules on labels that are read, each once.
 
-ghost use Rattle.std.specs.Prelude.{◌≡◌, ◌+◌, ◌≤◌, ◌==◌, Bool, List, length};
+ghost use Rattle.std.specs.Prelude.{◌≡◌, ◌++◌, ◌∷◌, [], List};
+ghost use Rattle.std.specs.Option.{option_copied};
 ghost use Rattle.pls_scheme.specs.Judging.{judged_from};
-ghost use Rattle.pls_scheme.specs.Reading.{Read, judge_by};
+ghost use Rattle.pls_scheme.specs.Reading.{ReadPort, label_above, port_with, reading};
 
-use crate::checker::Checker;
-use crate::reading::Reads;
-use pls_base::{NoMemory, Steps};
-use pls_model::Verdict;
-use pls_view::View;
-use std::alloc::Global;
+use crate::judgement::Judgement;
+use crate::layout::{Layout, ReadsInPlace};
+use pls_model::{State, Verdict};
 
-/// Rules on what a node reads in its view, from number 3 on; the rules 1 and 2 are that its own
-/// label and each neighbour's can be read. Whatever has rules is a [`Checker`] of one leaf that
-/// takes no memory.
-pub trait Rules: Reads {
-    // Whether each rule holds, in the order of their numbers.
-    ghost rules: { Read Self.Said → List Bool };
+/// Rules that are tried on labels that are read: the own label, and each neighbour's, once for all
+/// rules. Of the neighbours they know the one that the node points at, and a tally of all.
+pub trait Rules: Judgement<Layout: ReadsInPlace> {
+    /// What the rules need of all ports.
+    type Tally: Drop;
 
-    /// A rejection by the first rule that fails, or acceptance. It takes no memory.
-    fn verdict(view: &View<'_>) -> Verdict
-        ensures { result ≡ judge_by Self.said rules view.now };
-}
+    // What the rules need of ports, under what the own label says.
+    ghost tallied: { Self → Self.Layout.Label → List (ReadPort Self.Layout.Label) → Self.Tally };
 
-impl<R: Rules> Checker for R {
-    ghost use Rattle.std.specs.Prelude.{true, false, refl};
-    ghost use Rattle.pls_scheme.specs.Reading.{judge_by};
-    ghost use Rattle.pls_scheme.specs.LeafLaws.{judge_by-leaf};
+    /// The tally of no port.
+    fn start(&self, own: &<Self::Layout as Layout>::Label) -> Self::Tally
+        ensures { result ≡ tallied self.now own.now [] };
 
-    ghost judge = { λ _ view. judge_by R.said R.rules view };
-
-    ghost leaves = { λ _. 1 };
-
-    ghost lends = { λ _. true };
-
-    ghost TAKES_MEMORY = { false };
-
-    const TAKES_MEMORY: bool = false;
-
-    fn leaves(&self) -> u8 {
-        1
-    }
-
-    fn lends(&self) -> bool {
-        true
-    }
-
-    fn verify(
+    /// The tally with one more port.
+    fn add(
         &self,
-        _alloc: Global,
-        view: &View<'_>,
-        steps: &mut Steps,
-    ) -> Result<Verdict, NoMemory> {
-        steps.tick();
-        Ok(R::verdict(view))
-    }
+        own: &<Self::Layout as Layout>::Label,
+        tally: Self::Tally,
+        weight: u32,
+        label: &<Self::Layout as Layout>::Label,
+    ) -> Self::Tally
+        ensures { (ports : List (ReadPort Self.Layout.Label))
+            → tally ≡ tallied self.now own.now ports
+            → result ≡ tallied self.now own.now (ports ++ port_with weight label.now ∷ []) };
 
-    ghost leaf_law = { λ _ view. judge_by-leaf R.said R.rules view };
-
-    ghost lends_law = { λ _ _. refl };
-}
-
-/// The verdict of rules in their order, the first of which has the number `first`: a rejection by
-/// the first rule that fails, or acceptance.
-pub fn judged_from(first: u8, rules: &[bool]) -> Verdict
-    requires { first + length rules.now ≤ 256 }
-    ensures { result ≡ judged_from first rules.now }
-{
-    for (i, holds) in rules.iter().enumerate() {
-        if !*holds {
-            return Verdict::Reject {
-                leaf: 1,
-                rule: first + i as u8,
-            };
-        }
-    }
-    Verdict::Accept
-}
-
-/// Whether one number is the other and one more.
-pub fn is_one_more(one: u64, other: u64) -> bool
-    ensures { result ≡ (one == other + 1) }
-{
-    u128::from(one) == u128::from(other) + 1
+    /// The verdict by the node's identity and state, what its label says, what the label above
+    /// says, at the port that the node points at, if it points at one, and the tally of all ports:
+    /// a rejection by the first rule that fails, or acceptance.
+    fn verdict(
+        &self,
+        id: u32,
+        state: State,
+        own: &<Self::Layout as Layout>::Label,
+        above: Option<&<Self::Layout as Layout>::Label>,
+        tally: Self::Tally,
+    ) -> Verdict
+        ensures { (ports : List (ReadPort Self.Layout.Label))
+            → option_copied above.entry ≡ label_above ports state.up
+            → tally ≡ tallied self.now own.now ports
+            → result ≡ judged_from 3 (Self.rules self.now (reading id state own.now ports)) };
 }

@@ -2,6 +2,7 @@
 #![tactic(auto)]
 
 mod memory_run;
+pub mod schedule;
 #[cfg(test)]
 mod tests;
 

@@ -1,13 +1,18 @@
 //! The worked examples, as tables of schemes, inputs, texts and statuses.
 
 mod base;
+mod bits;
 mod colours;
 mod graph;
+mod labelfile;
+mod lines;
+mod netfile;
 mod pointers;
 mod refusals;
 mod small;
 mod streams;
 mod trees;
+mod views;
 
 use crate::run_in_memory;
 use pls_base::Status;

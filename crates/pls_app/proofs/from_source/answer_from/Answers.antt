@@ -4,7 +4,7 @@ use Rattle.pls_base.specs.declared.text_error.TextError.TheVariants.{Limit}
 use Rattle.pls_base.specs.declared.text_error.Quantity.TheVariants.{Input}
 use Rattle.pls_model.specs.declared.status.Status.TheVariants.{Done}
 use Rattle.pls_app.specs.declared.command.Command.TheVariants.{Mark}
-use Rattle.pls_app.specs.declared.command.SchemeName.{SchemeName}
+use Rattle.pls_combine.specs.declared.scheme_name.SchemeName.{SchemeName}
 use Rattle.pls_app.specs.Answer.{Answer, Answers, refusal}
 use Rattle.pls_app.specs.Run.{Certifies}
 use Rattle.pls_app.proofs.Answered.{refused_answer, too_long}

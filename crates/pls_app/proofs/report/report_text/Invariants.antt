@@ -1,5 +1,5 @@
 use Rattle.std.proofs.Common.{◌≡◌, map, take, string_bytes}
-use Rattle.pls_netfile.specs.Text.{text_of}
+use Rattle.pls_lines.specs.Text.{text_of}
 use Rattle.pls_app.specs.Report.{verdict_line}
 use Rattle.pls_app.proofs.report.report_text.Given as goal
 

@@ -2,7 +2,7 @@ use Rattle.std.proofs.Common.{◌≡◌, ◌∙◌, ℕ, List, map, zip, ap, ref
 use Rattle.pls_model.specs.declared.row.NodeRow.{NodeRow}
 use Rattle.pls_view.specs.Seen.{label_of}
 use Rattle.pls_scheme.specs.Judging.{round_by}
-use Rattle.pls_app.specs.Meaning.{judge_of}
+use Rattle.pls_combine.specs.Named.{judge_of}
 use Rattle.pls_app.proofs.Rounds.{zip-round}
 use Rattle.pls_app.proofs.verify.verify.Goals as goal
 
@@ -13,7 +13,7 @@ returns-clause-reports c =
     let labels = c.args.labels.now in
     let ids : List ℕ = map (λ (row : NodeRow). row.id) net in
     let rows : c.in_ok-rows.rows.items ≡ round_by judge net labels =
-    c.in_ok-rows.ensures ∙ ap (zip ids) (c.deref.ensures.value ∙ c.in_ok-verdicts.ensures)
+    c.in_ok-rows.ensures ∙ ap (zip ids) (c.deref.ensures.value ∙ c.in_ok-verdicts.ensures.verdicts)
     ∙ zip-round judge (label_of net labels) net in
     let text = c.in_ok-report_text.ensures in
     rw (

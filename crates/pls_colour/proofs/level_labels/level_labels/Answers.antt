@@ -1,11 +1,8 @@
-use Rattle.std.proofs.Common.{subst, sym}
-use Rattle.pls_graph.specs.Levels.{AreLevels}
-use Rattle.pls_colour.proofs.Levelled.{spelled_levels}
+use Rattle.pls_colour.proofs.Found.{levels_right}
 use Rattle.pls_colour.proofs.level_labels.level_labels.Goals as goal
 
-pub returns-clause-levels : goal.returns-clause-levels
-returns-clause-levels g c =
-    spelled_levels g.W.WritesLevels.says c.args.net.now c.deref.result.now c.in_ok-labels.labels
-    c.requires
-    (subst (AreLevels c.args.net.now 0) (sym c.deref.ensures.value) c.in_ok-levels.ensures)
-    c.in_ok-labels.ensures
+pub returns : goal.returns
+returns g c =
+    rw (c.in_ok-labels.ensures, c.deref.ensures.value)
+    (levels_right g.R.SaysLevels.level_label c.args.net.now c.requires c.in_ok-levels.levels.items
+    c.in_ok-levels.ensures)

@@ -1,4 +1,4 @@
-use Rattle.pls_netfile.proofs.WholeTexts.{no_fault}
+use Rattle.pls_lines.proofs.WholeTexts.{no_fault}
 use Rattle.pls_labelfile.specs.LabelsText.{IsLabelsPart, labels_lines}
 use Rattle.pls_labelfile.proofs.LabelsPart.{labels_part, is_labels_part}
 use Rattle.pls_labelfile.proofs.laws.no_fault.Goals as goal

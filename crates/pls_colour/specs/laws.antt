@@ -1,0 +1,4 @@
+pub mod LevelLaws
+pub mod AcyclicLaws
+pub mod ColourLaws
+pub mod BipartiteLaws

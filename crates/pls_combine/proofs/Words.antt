@@ -1,0 +1,12 @@
+-- Names of schemes are read again.
+use Rattle.std.proofs.Common.{◌≡◌, Some, refl}
+use Rattle.pls_combine.specs.declared.scheme_name.SchemeName.{SchemeName}
+use Rattle.pls_combine.specs.declared.scheme_name.SchemeName.TheVariants.{Acyclic, Bipartite, Forest, Tree}
+use Rattle.pls_combine.specs.SchemeWord.{name_of, scheme_of}
+
+-- the name of a scheme names it
+pub scheme_of-name_of : (scheme : SchemeName) → scheme_of (name_of scheme) ≡ Some scheme
+scheme_of-name_of Tree = refl
+scheme_of-name_of Forest = refl
+scheme_of-name_of Bipartite = refl
+scheme_of-name_of Acyclic = refl

@@ -1,0 +1,13 @@
+use Rattle.pls_combine.proofs.named_scheme.SchemeNameProperty.decide.Goals as goal
+
+pub returns-in-Tree : goal.returns-in-Tree
+returns-in-Tree c = rw c.in-Tree.is c.decide.ensures
+
+pub returns-in-Forest : goal.returns-in-Forest
+returns-in-Forest c = rw c.in-Forest.is c.decide-in-Forest.ensures
+
+pub returns-in-Bipartite : goal.returns-in-Bipartite
+returns-in-Bipartite c = rw c.in-Bipartite.is c.decide-in-Bipartite.ensures
+
+pub returns-in-Acyclic : goal.returns-in-Acyclic
+returns-in-Acyclic c = rw c.in-Acyclic.is c.decide-in-Acyclic.ensures

@@ -1,0 +1,3 @@
+pub mod SchemeWord
+pub mod Named
+pub mod laws

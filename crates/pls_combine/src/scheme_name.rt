@@ -1,0 +1,41 @@
+//! The names of schemes.
+
+ghost use Rattle.std.specs.Prelude.{◌≡◌, bytes_eq, codes};
+ghost use Rattle.pls_combine.specs.SchemeWord.{scheme_of};
+
+/// A scheme by its name. Numbers of its labels are written in the gamma code.
+#[derive(Clone, Copy, Debug, PartialEq, Eq)]
+pub enum SchemeName {
+    /// `tree`: one node has no pointer, and the pointers of the others make a spanning tree.
+    Tree,
+    /// `forest`: no chain of pointers returns to its start.
+    Forest,
+    /// `bipartite`: a colour at each node, which differs across each edge.
+    Bipartite,
+    /// `acyclic`: no three or more nodes make a cycle.
+    Acyclic,
+}
+
+/// The scheme that a word names, or `None` where it names none.
+pub fn read_scheme(word: &str) -> Option<SchemeName>
+    ensures { result ≡ scheme_of word.now }
+{
+    if is_word(word, "tree") {
+        Some(SchemeName::Tree)
+    } else if is_word(word, "forest") {
+        Some(SchemeName::Forest)
+    } else if is_word(word, "bipartite") {
+        Some(SchemeName::Bipartite)
+    } else if is_word(word, "acyclic") {
+        Some(SchemeName::Acyclic)
+    } else {
+        None
+    }
+}
+
+// Whether two words are the same.
+fn is_word(word: &str, known: &str) -> bool
+    ensures { result ≡ bytes_eq word.now known.now }
+{
+    word == known
+}

@@ -1,0 +1,3 @@
+-- What private functions say to each other.
+pub mod HexWord
+pub mod LabelsTally

@@ -1,0 +1,29 @@
+//! Labels that are written are read back.
+
+ghost use Rattle.std.specs.Prelude.{◌≡◌, ◌≤◌, length, IfErr, IfOk};
+ghost use Rattle.pls_base.specs.declared.text_error.TextError.TheVariants.{NoMemory};
+ghost use Rattle.pls_view.specs.Labels.{bits_in};
+ghost use Rattle.pls_labelfile.specs.declared.limits.TheConstants.{MAX_BITS};
+
+use crate::labels_read::read_labels;
+use crate::labels_write::write_labels;
+use pls_base::TextError;
+use pls_graph::Network;
+use pls_view::LabelStore;
+use std::alloc::Global;
+
+/// What is written of the labels of all nodes of a network is read as those labels, where they have
+/// at most 2^28 bits together. The one refusal is want of memory.
+pub fn written_is_read(
+    alloc: Global,
+    net: &Network,
+    labels: &LabelStore,
+) -> Result<LabelStore, TextError>
+    requires lengths { length labels.now ≡ length net.now }
+    requires few { bits_in labels.now ≤ MAX_BITS }
+    ensures same { IfOk result (λ read. read ≡ labels.now) }
+    ensures memory { IfErr result (λ error. error ≡ NoMemory) }
+{
+    let text = write_labels(alloc, net, labels)?;
+    read_labels(alloc, text.as_slice(), net)
+}

@@ -1,0 +1,13 @@
+pub mod NextLine
+pub mod LeadingNumbers
+mod Options
+pub mod WholeTexts
+pub mod Passing
+pub mod ListItems
+pub mod ListPassed
+pub mod ListRead
+pub mod BothPassed
+pub mod ListOfAll
+pub mod ListWritten
+pub mod Stepped
+pub mod FormTold

@@ -1,0 +1,3 @@
+pub mod PointingLaws
+pub mod TreeLaws
+pub mod ForestLaws

@@ -1,0 +1,5 @@
+pub mod LeafLaws
+pub mod CodeLaws
+pub mod Readings
+pub mod Saying
+pub mod Marking

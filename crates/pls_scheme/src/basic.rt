@@ -1,0 +1,166 @@
+//! Basic schemes: rules and a marker, as a scheme.
+
+use crate::checker::Checker;
+use crate::in_place::{JudgesInPlace, judged};
+use crate::labels::labels_of;
+use crate::layout::Layout;
+use crate::marker::Marker;
+use crate::once::Once;
+use crate::property::Property;
+use crate::scheme::Scheme;
+use pls_base::{NoMemory, Steps};
+use pls_bits::{BitBuf, Bits};
+use pls_facts::is_valid;
+use pls_graph::{Network, Size};
+use pls_model::Verdict;
+use pls_view::{LabelStore, View};
+use std::alloc::Global;
+
+/// A basic scheme, by rules that are tried in place and a marker: a verifier of one leaf that takes
+/// no memory, and a marker that writes the labels that are right.
+#[derive(Clone, Copy, Debug, PartialEq, Eq)]
+pub struct Basic<R> {
+    /// The rules, which the marker knows.
+    pub rules: R,
+}
+
+/// A basic scheme by rules that read each label of a view once.
+pub type Ruled<R> = Basic<Once<R>>;
+
+impl<R: Default> Basic<R> {
+    /// The scheme whose rules are the usual ones. It takes no memory.
+    pub fn new() -> Self {
+        Basic {
+            rules: R::default(),
+        }
+    }
+}
+
+impl<R: JudgesInPlace> Checker for Basic<R> {
+    ghost use Rattle.std.specs.Prelude.{true, false, refl};
+    ghost use Rattle.pls_scheme.specs.Reading.{judge_by};
+    ghost use Rattle.pls_scheme.specs.laws.LeafLaws.{judge_by-leaf};
+
+    ghost judge = { λ s view. judge_by R.Layout.said (R.rules s.rules) view };
+
+    ghost leaves = { λ _. 1 };
+
+    ghost lends = { λ _. true };
+
+    ghost TAKES_MEMORY = { false };
+
+    const TAKES_MEMORY: bool = false;
+
+    fn leaves(&self) -> u8 {
+        1
+    }
+
+    fn lends(&self) -> bool {
+        true
+    }
+
+    fn verify(
+        &self,
+        _alloc: Global,
+        view: &View<'_>,
+        steps: &mut Steps,
+    ) -> Result<Verdict, NoMemory> {
+        steps.tick();
+        Ok(judged(&self.rules, view))
+    }
+
+    ghost leaf_law = { λ s. judge_by-leaf R.Layout.said (R.rules s.rules) };
+
+    ghost lends_law = { λ _ _. refl };
+}
+
+impl<R: Marker> Property for Basic<R> {
+    ghost holds = { λ s rows. R.holds s.rules rows };
+
+    fn decide(&self, alloc: Global, net: &Network) -> Result<bool, NoMemory> {
+        self.rules.decide(alloc, net)
+    }
+}
+
+impl<R: JudgesInPlace + Marker> Scheme for Basic<R> {
+    ghost use Rattle.pls_scheme.specs.Marked.{IsMarkedBy};
+    ghost use Rattle.pls_scheme.specs.laws.Marking.{marked_once, one_said, sound_by};
+
+    type Label = <R::Layout as Layout>::Label;
+
+    ghost layout = { λ _ bits label. R.Layout.spells bits label };
+
+    ghost writable = { λ _ label. R.Layout.writable label };
+
+    ghost marked = { λ s rows labels.
+        IsMarkedBy R.Layout.spells (R.says s.rules rows) rows labels };
+
+    ghost longest = { λ s size. R.longest s.rules size };
+
+    fn read_label(&self, alloc: Global, bits: Bits<'_>) -> Result<Option<Self::Label>, NoMemory> {
+        R::Layout::read(alloc, &bits)
+    }
+
+    fn write_label(&self, alloc: Global, label: &Self::Label) -> Result<BitBuf, NoMemory> {
+        R::Layout::write(alloc, label)
+    }
+
+    fn bound(&self, size: &Size) -> u64 {
+        self.rules.longest(size)
+    }
+
+    fn mark(&self, alloc: Global, net: &Network) -> Result<Option<LabelStore>, NoMemory> {
+        is_valid(net);
+        // So its identities, weights and marks are numbers of 32 bits.
+        net.size();
+        let Some(said) = self.rules.right_labels(alloc, net)? else {
+            return Ok(None);
+        };
+        let labels = labels_of::<R::Layout>(alloc, &said)?;
+        Ok(Some(labels))
+    }
+
+    ghost reads_back_law = { λ _. R.Layout.spelling_law };
+
+    ghost one_spelling_law = { λ _. R.Layout.one_spelling_law };
+
+    ghost one_label_law = { λ _. one_said R.Layout.said R.Layout.spells R.Layout.said_law };
+
+    ghost sound_law = { λ s. sound_by R.Layout.said (R.rules s.rules) (R.holds s.rules)
+        (R.show_law s.rules) };
+
+    ghost one_marking_law = { λ s. marked_once R.Layout.spells (R.holds s.rules) (R.says s.rules)
+        R.Layout.one_spelling_law (R.one_right_law s.rules) };
+}
+
+impl<R: Marker> Marker for Once<R> {
+    ghost holds = { λ s rows. R.holds s.rules rows };
+
+    ghost says = { λ s rows row label. R.says s.rules rows row label };
+
+    ghost longest = { λ s size. R.longest s.rules size };
+
+    fn longest(&self, size: &Size) -> u64 {
+        self.rules.longest(size)
+    }
+
+    fn right_labels(
+        &self,
+        alloc: Global,
+        net: &Network,
+    ) -> Result<Option<Vec<<R::Layout as Layout>::Label>>, NoMemory> {
+        self.rules.right_labels(alloc, net)
+    }
+
+    fn decide(&self, alloc: Global, net: &Network) -> Result<bool, NoMemory> {
+        self.rules.decide(alloc, net)
+    }
+
+    ghost show_law = { λ s. R.show_law s.rules };
+
+    ghost met_law = { λ s. R.met_law s.rules };
+
+    ghost one_right_law = { λ s. R.one_right_law s.rules };
+
+    ghost fits_law = { λ s. R.fits_law s.rules };
+}
