@@ -1,5 +1,4 @@
 pub mod NextLine
-pub mod NumberWords
 pub mod LeadingNumbers
 mod Options
 pub mod WholeTexts

@@ -9,5 +9,6 @@ pub mod Frame
 pub mod ListPart
 pub mod Worded
 pub mod Steps
+pub mod Counted
 pub mod inner
 pub mod laws

@@ -8,3 +8,5 @@ pub mod ListLaws
 pub mod BothLaws
 pub mod LineWords
 pub mod WordedLaws
+pub mod CountedLaws
+pub mod NumberWords

@@ -20,12 +20,16 @@
 //! here: the scan ([`ListText`], [`read_list`]), the items that the text says ([`ListText::items`],
 //! [`next_item`]), the number of an item's line, and the writer ([`write_list`]).
 //!
+//! A part of any items under a heading of one word needs no tally of its own: [`Count`] counts them,
+//! and a [`HeadingWord`] is all that is said of the heading.
+//!
 //! `specs/Worded` is for kinds of line that are told by their words, `specs/Steps` for lists in
 //! which what came before says what may follow; `specs/laws` has their laws, which the laws of a
 //! part are made of.
 #![tactic(auto)]
 
 mod both;
+mod counted;
 mod line_kind;
 mod lines;
 mod list_tally;
@@ -37,6 +41,7 @@ mod part;
 mod words;
 
 pub use both::Both;
+pub use counted::{Count, Headed, HeadingWord};
 pub use line_kind::{LineKind, count_of, list_of, next_of};
 pub use lines::Lines;
 pub use list_tally::ListTally;

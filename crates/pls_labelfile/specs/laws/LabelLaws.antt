@@ -10,7 +10,7 @@ use Rattle.pls_lines.specs.Plain.{Lacks}
 use Rattle.pls_lines.specs.LineKind.{Always, IsLineKind, alone}
 use Rattle.pls_lines.specs.Part.{IsSomePart}
 use Rattle.pls_lines.specs.ListPart.{IsListKind}
-use Rattle.pls_lines.proofs.NumberWords.{decimal_lacks, same_number, behind_word}
+use Rattle.pls_lines.specs.laws.NumberWords.{decimal_lacks, same_number, behind_word}
 use Rattle.pls_lines.specs.laws.LineWords.{first_word, fixed_kind, line_lacks, same_head}
 use Rattle.pls_lines.specs.laws.ListLaws.{list_is_some_part}
 use Rattle.pls_labelfile.specs.LabelsText.{NamedLabel, FitsLabel, AreLabels, IsLabelsPart, hex_word, label_line, label_of_words}

@@ -1,14 +1,16 @@
 -- Lines that are told by their words are a kind of line.
-use Rattle.std.proofs.Common.{◌≡◌, ◌≢◌, ℕ, ◌<◌, nat_lt, true, List, [], ◌∷◌, Option, Some, None, codes, refl, sym, ◌∙◌, ap, arith}
+use Rattle.std.proofs.Common.{◌≡◌, ◌≢◌, ℕ, ◌<◌, ◌^◌, nat_lt, true, List, [], ◌∷◌, Option, Some, None, codes, decimal, map, refl, sym, ◌∙◌, ap, arith}
 use Rattle.std.specs.List.{AllByRecursion, list_all}
 use Rattle.std.proofs.lemmas.Bool.{and_parts}
 use Rattle.std.proofs.lemmas.Bool.Decides.{nat_tests}
 use Rattle.pls_lines.specs.Plain.{Lacks}
 use Rattle.pls_lines.specs.Text.{line_of}
 use Rattle.pls_lines.specs.LineKind.{IsLineKind}
-use Rattle.pls_lines.specs.Worded.{IsWord, IsWorded, worded}
+use Rattle.pls_lines.specs.Worded.{IsNumbered, IsWord, IsWorded, numbered, worded}
 use Rattle.pls_lines.specs.laws.Cuts.{same_first, lacks_here}
 use Rattle.pls_lines.specs.laws.LineWords.{line_lacks}
+use Rattle.pls_lines.specs.laws.NumberWords.{number_said, number_word}
+use Rattle.std.specs.Str.Parse.{digits_value}
 
 -- a line tells its words
 pub record SameWords (v w : List ℕ) (vs ws : List (List ℕ)) : Type 0 where
@@ -82,3 +84,32 @@ module _ {X : Type 0} (Fits : X → Type 0) (word : X → List ℕ) (args : X �
     no_end = not_end;
     one = one_value;
   }
+
+-- lines of a word and numbers are a kind of line
+module _ {X : Type 0} (Fits : X → Type 0) (word numbers : X → List ℕ)
+    (said : List ℕ → List ℕ → Option X) (is : IsNumbered Fits word numbers said) where
+  -- the words of numbers are words, and say the numbers
+  are_words : (ns : List ℕ) → AllByRecursion (λ n. n < 2 ^ 64) ns
+      → AllByRecursion IsWord (map decimal ns)
+  are_words [] small = tt
+  are_words (n ∷ ns) small = (number_word n small.0, are_words ns small.1)
+
+  numbers_said : (ns : List ℕ) → AllByRecursion (λ n. n < 2 ^ 64) ns
+      → map (digits_value 10) (map decimal ns) ≡ ns
+  numbers_said [] small = refl
+  numbers_said (n ∷ ns) small =
+      let first = number_said n small.0 in
+      let others = numbers_said ns small.1 in
+      λ i. first i ∷ others i
+
+  pub numbered_kind : IsLineKind Fits (numbered word numbers)
+  numbered_kind =
+      worded_kind Fits word (λ value. map decimal (numbers value))
+      (λ first words. said first (map (digits_value 10) words)) (record {
+        above = is.above;
+        are_words = λ value fits. are_words (numbers value) (is.small value fits);
+        back = λ value fits.
+            ap (said (word value)) (numbers_said (numbers value) (is.small value fits))
+            ∙ is.back value;
+        no_end = is.no_end;
+      })

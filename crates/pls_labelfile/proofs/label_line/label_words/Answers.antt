@@ -1,5 +1,5 @@
 use Rattle.std.proofs.Common.{codes, length, sym, ◌∙◌, ap, arith}
-use Rattle.pls_lines.proofs.NumberWords.{behind_word, behind_number, same_number}
+use Rattle.pls_lines.specs.laws.NumberWords.{behind_word, behind_number, same_number}
 use Rattle.pls_labelfile.specs.LabelsText.{hex_word}
 use Rattle.pls_labelfile.specs.inner.HexWord.{word_length}
 use Rattle.pls_labelfile.specs.laws.LabelLaws.{words_behind, word_long}

@@ -1,6 +1,6 @@
 use Rattle.std.proofs.Common.{[], decimal, ◌∙◌}
 use Rattle.pls_lines.specs.laws.LineWords.{first_word}
-use Rattle.pls_lines.proofs.NumberWords.{behind_word}
+use Rattle.pls_lines.specs.laws.NumberWords.{behind_word}
 use Rattle.pls_lines.proofs.number_lines.one_number.Goals as goal
 
 pub returns-in_err-number-clause-none : goal.returns-in_err-number-clause-none

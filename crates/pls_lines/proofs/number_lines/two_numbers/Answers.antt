@@ -1,6 +1,6 @@
 use Rattle.std.proofs.Common.{ℕ, List, [], ◌∷◌, ◌++◌, decimal, ◌∙◌, ap, arith}
 use Rattle.pls_lines.specs.laws.LineWords.{first_word}
-use Rattle.pls_lines.proofs.NumberWords.{behind_word, behind_number}
+use Rattle.pls_lines.specs.laws.NumberWords.{behind_word, behind_number}
 use Rattle.pls_lines.proofs.number_lines.two_numbers.Goals as goal
 
 pub returns-in_err-first-clause-none : goal.returns-in_err-first-clause-none
