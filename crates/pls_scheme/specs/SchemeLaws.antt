@@ -19,7 +19,8 @@ IsSound judge holds =
 
 -- each label that can be written has a spelling
 abbrev pub HasSpellings : {L : Type 0} → (L → Type 0) → (List Bool → L → Type 0) → Type 0
-HasSpellings {L} writable layout = (label : L) → writable label → (bits : List Bool) × layout bits label
+HasSpellings {L} writable layout = (label : L) → writable label
+    → (bits : List Bool) × layout bits label
 
 -- bits that are one label are equal
 abbrev pub HaveOneSpelling : {L : Type 0} → (List Bool → L → Type 0) → Type 0

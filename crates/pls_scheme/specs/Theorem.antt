@@ -33,8 +33,8 @@ RulesAreMet {L} rules holds says =
     → AreRightEverywhere (says rows) rows say → HoldEverywhere rules rows say
 
 -- for each node of a connected network with the property one label is right
-abbrev pub OneIsRight : {L : Type 0} → (List NodeRow → Type 0) → (List NodeRow → NodeRow → L → Type 0)
-    → Type 0
+abbrev pub OneIsRight : {L : Type 0} → (List NodeRow → Type 0)
+    → (List NodeRow → NodeRow → L → Type 0) → Type 0
 OneIsRight {L} holds says =
     (rows : List NodeRow) → IsNetwork rows → IsConnected rows → holds rows
     → (row : NodeRow) (one other : L) → Contains rows row → says rows row one → says rows row other

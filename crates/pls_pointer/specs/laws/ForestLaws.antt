@@ -46,8 +46,8 @@ forest_one_right rows net joined forest row one other in' mine theirs =
 
 -- what is right is short
 pub forest_fits : (code : ℕ → List Bool) → Grows code → IsShort code
-    → RightFits (IsDepthLabel code) (λ label. AreCoded (numbers_of_depth label)) IsForest forest_says
-    (longest_forest code)
+    → RightFits (IsDepthLabel code) (λ label. AreCoded (numbers_of_depth label)) IsForest
+    forest_says (longest_forest code)
 forest_fits code grows short rows net joined forest words say right row in' =
     let (last, chain) = right row in' in
     let below : (say row.id).depth < length rows =

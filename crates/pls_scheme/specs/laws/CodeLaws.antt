@@ -116,7 +116,8 @@ are_numbers count numbers of_numbers small many there places = record {
 }
 
 module _ {L : Type 0} (count : ℕ) (numbers : L → List ℕ) (of_numbers : List ℕ → L)
-    (are : AreNumbers count numbers of_numbers) (code : ℕ → List Bool) (takes : List Bool → Option (ℕ × List Bool))
+    (are : AreNumbers count numbers of_numbers) (code : ℕ → List Bool)
+    (takes : List Bool → Option (ℕ × List Bool))
     (taken : TakesCodes code takes) where
   -- a label is read from its spelling
   pub label_in-spelled : (bits : List Bool) (label : L) → AreCodesOf code (numbers label) bits

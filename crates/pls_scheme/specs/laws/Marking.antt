@@ -21,7 +21,8 @@ one_said said spells law bits a b first second =
 pub sound_by : {L : Type 0} (read : List Bool → Option L) (rules : Read L → List Bool)
     (holds : List NodeRow → Type 0) → RulesShow rules holds → IsSound (judge_by read rules) holds
 sound_by {L} read rules holds show rows labels net joined each accepted =
-    show rows net joined say (λ row in'. (accepted_say read rules rows labels other accepted row in').1)
+    show rows net joined say
+    (λ row in'. (accepted_say read rules rows labels other accepted row in').1)
   where
     first : (row : NodeRow) × Contains rows row
     first = some_item rows net.limits.some
