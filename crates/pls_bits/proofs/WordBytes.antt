@@ -10,7 +10,7 @@ use Rattle.hex.specs.Hex.{encode_lower, encode_with, lower_digits}
 use Rattle.pls_bits.specs.Bytes.{bit_number, byte_at, byte_count, bytes_of, weigh}
 use Rattle.pls_bits.specs.Gamma.{digits, number_from}
 use Rattle.pls_bits.specs.Hex.{hex_digits}
-use Rattle.pls_bits.specs.BinaryLaws.{length-digits}
+use Rattle.pls_bits.specs.laws.BinaryLaws.{length-digits}
 use Rattle.pls_bits.specs.inner.Word.{bits_of_word}
 use Rattle.pls_bits.proofs.Packing.{length-bytes_of, slice_index-bytes_of}
 use Rattle.pls_bits.proofs.Peeked.{digits-mod}

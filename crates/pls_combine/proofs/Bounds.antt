@@ -1,7 +1,7 @@
 -- How long marked labels are at most.
 use Rattle.std.proofs.Common.{◌≡◌, ℕ, ◌-◌, ◌^◌, ◌≤◌, nat_le, le-leb, if◌then◌else◌, Bool, true, false, length, arith}
 use Rattle.pls_bits.specs.Gamma.{gamma_code}
-use Rattle.pls_bits.specs.GammaLaws.{gamma_short}
+use Rattle.pls_bits.specs.laws.GammaLaws.{gamma_short}
 use Rattle.pls_bits.specs.declared.num_code.TheConstants.{MAX_CODED}
 use Rattle.pls_graph.specs.declared.size.Size.{Size}
 use Rattle.pls_scheme.specs.Length.{code_length}

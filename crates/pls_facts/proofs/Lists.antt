@@ -1,5 +1,5 @@
 -- Lists: their items at places, their images, and the items that pass a test.
-use Rattle.std.proofs.Common.{◌≡◌, ◌∙◌, ℕ, zero, suc, ◌+◌, ◌<◌, ◌≤◌, inl, inr, Bool, true, false, ◌||◌, List, [], ◌∷◌, ◌++◌, length, map, take, slice_get, get_or, All, Contains, Some, option_map, count_by, cond, refl, sym, ap, arith}
+use Rattle.std.proofs.Common.{◌≡◌, ◌∙◌, ℕ, zero, suc, ◌+◌, ◌<◌, ◌≤◌, inl, inr, Bool, true, false, ◌||◌, List, [], ◌∷◌, ◌++◌, length, map, take, slice_get, get_or, Option, All, Contains, Some, option_map, count_by, cond, refl, sym, ap, arith}
 use Rattle.std.specs.List.{AllPairs, filter, list_any}
 use Rattle.std.proofs.lemmas.Bool.{or_cases}
 use Rattle.std.proofs.lemmas.List.{map-append, same_lists, take_more}
@@ -113,3 +113,8 @@ module _ {X Y : Type 0} where
       let here : X → ℕ = λ x. cond (p (f x)) 1 0 in
       sum_by-cons there (f x) (map f xs) ∙ ap (λ (n : ℕ). here x + n) (count_by-map p f xs)
       ∙ sym (sum_by-cons here x xs)
+
+-- what a place gives, where the item there is known
+pub given_at : {X Y : Type 0} (f : X → Y) (found : Option X) (x : X) (y : Y)
+    → option_map f found ≡ Some y → found ≡ Some x → f x ≡ y
+given_at f found x y given is = let shown : Some (f x) ≡ Some y = ap (option_map f) (sym is) ∙ given in cc

@@ -1,6 +1,7 @@
 -- The nodes at the ports of a network, and the ports between adjacent nodes.
-use Rattle.std.proofs.Common.{◌≡◌, ◌≢◌, ℕ, ◌≤◌, ◌==◌, inl, inr, true, List, [], ◌∷◌, map, Contains, Some, slice_get, sym, ap, subst, arith}
+use Rattle.std.proofs.Common.{◌≡◌, ◌≢◌, ◌∙◌, ℕ, ◌≤◌, ◌==◌, inl, inr, true, List, [], ◌∷◌, map, Contains, Some, slice_get, sym, ap, subst, arith}
 use Rattle.std.proofs.lemmas.Bool.{eqb-true}
+use Rattle.std.proofs.lemmas.Option.{same_Some}
 use Rattle.pls_model.specs.declared.row.Port.{Port}
 use Rattle.pls_model.specs.declared.row.NodeRow.{NodeRow}
 use Rattle.pls_model.specs.Configuration.{IsNetwork, ids_of, row_of}
@@ -11,6 +12,7 @@ use Rattle.pls_graph.proofs.Finds.{found_place}
 use Rattle.pls_graph.proofs.Joined.{Adjacent-turned}
 use Rattle.pls_graph.proofs.Members.{Contains-cons_cases, Contains-from_place, Contains-map, place_from_Contains}
 use Rattle.pls_graph.proofs.Placed.{names_another, neighbour_found, row_place}
+use Rattle.pls_facts.proofs.Pointed.{row_of_id}
 
 -- a number of a row is at most the greatest of all rows
 pub within_greatest : (number : NodeRow → ℕ) (rows : List NodeRow) (row : NodeRow)
@@ -81,6 +83,16 @@ module _ (rows : List NodeRow) (net : IsNetwork rows) where
         owner = sym place.2;
         names = sym (eqb-true v way.port.nbr at.2);
       }
+
+  -- and of the ports of its row one does
+  pub port_leads : (row : NodeRow) → Contains rows row → (v : ℕ)
+      → Adjacent (edges_of rows) row.id v
+      → (port : Port) × Contains row.ports port × (port.nbr ≡ v)
+  port_leads row in' v adjacent =
+      let way : Leads rows row.id v = leads row.id v adjacent in
+      let same : way.row ≡ row =
+      same_Some way.row row (sym way.found ∙ row_of_id rows net row in') in
+      (way.port, subst (λ (row : NodeRow). Contains row.ports way.port) same way.has, way.names)
 
   -- an adjacent node is one of the nodes
   pub adjacent_known : (u v : ℕ) → Adjacent (edges_of rows) u v → Contains (ids_of rows) v

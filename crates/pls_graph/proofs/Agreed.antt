@@ -1,17 +1,17 @@
 -- Rows that pass the tests of each row are not refused, and what a port back says.
-use Rattle.std.proofs.Common.{◌≡◌, ◌∙◌, ℕ, ◌<◌, Bool, true, false, not, ◌&&◌, ◌==◌, List, [], ◌∷◌, map, length, Option, Some, None, refl, sym, ap, arith, option_map, slice_get}
+use Rattle.std.proofs.Common.{◌≡◌, ◌∙◌, ℕ, Bool, true, false, not, ◌&&◌, ◌==◌, List, [], ◌∷◌, Option, Some, None, refl, sym, ap, option_map, slice_get}
 use Rattle.std.specs.Bool.{OnTrue}
-use Rattle.std.specs.List.{find, list_all, position_or_len}
-use Rattle.std.specs.Option.{option_map_or, option_and_then}
+use Rattle.std.specs.List.{find, list_all}
+use Rattle.std.specs.Option.{option_map_or}
 use Rattle.std.proofs.lemmas.Bool.{and_parts}
 use Rattle.std.proofs.lemmas.List.Folds.{find_at}
 use Rattle.std.proofs.lemmas.Option.{same_Some}
 use Rattle.pls_model.specs.declared.row.Port.{Port}
 use Rattle.pls_model.specs.declared.row.State.{State}
 use Rattle.pls_model.specs.declared.row.NodeRow.{NodeRow}
-use Rattle.pls_model.specs.Configuration.{links_itself, names_twice, out_of_order, points_nowhere, port_to, refusal_of, row_of}
+use Rattle.pls_model.specs.Configuration.{links_itself, names_twice, out_of_order, points_nowhere, refusal_of, row_of}
 use Rattle.pls_graph.specs.Places.{place_in}
-use Rattle.pls_graph.specs.Ways.{agrees_back, is_mutual}
+use Rattle.pls_graph.specs.inner.Ways.{agrees_back, is_mutual}
 use Rattle.pls_graph.specs.inner.Sound.{is_sound}
 use Rattle.pls_graph.proofs.Finds.{from_option_map}
 use Rattle.pls_graph.proofs.Mutual.{no_unknown, no_one_way, no_weights}

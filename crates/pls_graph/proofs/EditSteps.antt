@@ -1,16 +1,15 @@
 -- What two changes of a table, one at each end of an edge, make of rows and places.
-use Rattle.std.proofs.Common.{◌≡◌, ◌≢◌, ◌∙◌, ◌==◌, ◌+◌, ◌-◌, ◌≤◌, ◌<◌, ◌++◌, [], ◌∷◌, ℕ, ap, sym, subst, position, slice_get, Some, None, List, length, map, set, take, get_or, arith, remove, refl}
+use Rattle.std.proofs.Common.{◌≡◌, ◌≢◌, ◌∙◌, ◌==◌, ◌-◌, ◌<◌, ◌++◌, [], ◌∷◌, ℕ, ap, sym, subst, position, slice_get, Some, None, List, length, set, take, get_or, arith, remove, refl}
 use Rattle.std.proofs.lemmas.List.{length-map, length-set, get_or-set_same, set-set}
 use Rattle.std.proofs.lemmas.Option.{slice_get_within, slice_get-get_or, get_or_from_slice_get}
 use Rattle.pls_model.specs.declared.row.Port.{Port}
 use Rattle.pls_model.specs.declared.row.NodeRow.{NodeRow}
-use Rattle.pls_model.specs.Configuration.{IsNetwork, ports_in}
+use Rattle.pls_model.specs.Configuration.{IsNetwork}
 use Rattle.pls_graph.specs.Edits.{linking, link_refusal, weighing}
 use Rattle.pls_graph.specs.Places.{named_places, places_in}
-use Rattle.pls_graph.specs.Rows.{gaining}
 use Rattle.pls_graph.specs.inner.Dropping.{dropping}
 use Rattle.pls_graph.proofs.Shaped.{set_same}
-use Rattle.pls_graph.proofs.Sought.{IsSought, sought}
+use Rattle.pls_graph.proofs.Sought.{sought}
 use Rattle.pls_graph.proofs.LinkDone.{IsLinked, link_done}
 use Rattle.pls_graph.proofs.UnlinkDone.{IsUnlinked, apart, port_at, second_within, unlink_done}
 use Rattle.pls_graph.proofs.WeightDone.{IsWeighed, MayWeigh, may_first, may_second, weight_done}

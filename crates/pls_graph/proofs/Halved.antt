@@ -1,5 +1,5 @@
 -- The place of an identity, as a binary search among nodes finds it.
-use Rattle.std.proofs.Common.{◌≡◌, ◌∙◌, ℕ, ◌<◌, ◌≤◌, Bool, false, cond, true, ◌==◌, List, length, get_or, position, Option, Some, None, Result, Ok, Err, IfSome, IfNone, is_some, option_map, refl, sym, ap, subst, arith, slice_get, inl, inr, nat_lt}
+use Rattle.std.proofs.Common.{◌≡◌, ◌∙◌, ℕ, ◌<◌, ◌≤◌, Bool, false, cond, true, ◌==◌, List, length, get_or, position, Some, None, Result, Ok, Err, IfSome, IfNone, is_some, option_map, refl, sym, ap, subst, arith, slice_get, inl, inr, nat_lt}
 use Rattle.std.specs.List.{position_or_len}
 use Rattle.std.specs.Result.{result_ok, result_err}
 use Rattle.std.specs.declared.cmp.Ordering.TheVariants.{Less, Greater}

@@ -1,7 +1,7 @@
 -- The ranges of nodes, their rows and places, where a node comes or goes.
-use Rattle.std.proofs.Common.{◌≡◌, ◌≢◌, ◌∙◌, ℕ, zero, suc, ◌+◌, ◌-◌, ◌<◌, ◌≤◌, ◌⊎◌, inl, inr, All, min, nat_lt, cond, Bool, true, false, List, [], ◌∷◌, ◌++◌, insert, remove, map, length, take, drop, get_or, slice_get, Some, refl, sym, ap, arith}
-use Rattle.std.proofs.lemmas.Option.{same_Some, slice_get-get_or}
-use Rattle.std.proofs.lemmas.List.{drop-map, take-map, length-map, take_all, drop_all, append-nil}
+use Rattle.std.proofs.Common.{◌≡◌, ◌≢◌, ◌∙◌, ℕ, zero, suc, ◌+◌, ◌<◌, ◌≤◌, ◌⊎◌, inl, inr, All, min, nat_lt, cond, Bool, true, false, List, [], ◌∷◌, ◌++◌, insert, remove, map, length, take, drop, slice_get, Some, refl, sym, ap, arith}
+use Rattle.std.proofs.lemmas.Option.{same_Some}
+use Rattle.std.proofs.lemmas.List.{drop-map, take-map, take_all, drop_all, append-nil}
 use Rattle.indexmap.proofs.SetLemmas.{map-insert, map-remove}
 use Rattle.pls_model.specs.declared.limits.TheConstants.{MAX_NODES}
 use Rattle.pls_model.specs.declared.row.Port.{Port}

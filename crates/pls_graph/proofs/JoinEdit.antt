@@ -1,9 +1,9 @@
 -- A network with one more node, which has no ports, is one.
-use Rattle.std.proofs.Common.{◌≡◌, ◌≢◌, ◌∙◌, ◌⊎◌, inl, inr, ℕ, ◌+◌, ◌-◌, ◌<◌, ◌≤◌, true, false, cond, not, Bool, ◌==◌, nat_lt, nat_le, zero, suc, List, [], ◌∷◌, ◌++◌, map, length, Option, Some, None, refl, sym, ap, subst, arith, slice_get, insert, All, get_or, is_some, take, drop}
-use Rattle.std.specs.List.{filter, find, position_or_len}
-use Rattle.std.proofs.lemmas.Bool.{eqb-true, eqb-false, eq-eqb, ne_eqb, lt-ltb, le-ltb}
+use Rattle.std.proofs.Common.{◌≡◌, ◌≢◌, ◌∙◌, ◌⊎◌, inl, inr, ℕ, ◌<◌, ◌≤◌, true, false, cond, Bool, ◌==◌, nat_lt, zero, suc, List, [], ◌∷◌, map, length, Option, Some, None, refl, sym, ap, subst, arith, slice_get, insert, All, get_or, take, drop}
+use Rattle.std.specs.List.{filter, position_or_len}
+use Rattle.std.proofs.lemmas.Bool.{ne_eqb, lt-ltb, le-ltb}
 use Rattle.std.proofs.lemmas.Bool.Decides.{nat_tests}
-use Rattle.std.proofs.lemmas.Option.{same_Some, slice_get_within, get_or_from_slice_get}
+use Rattle.std.proofs.lemmas.Option.{same_Some, slice_get_within}
 use Rattle.std.proofs.lemmas.List.Edits.{length-insert}
 use Rattle.std.proofs.lemmas.List.Elements.{All-map}
 use Rattle.pls_graph.proofs.Beside.{beside_row, beside_within}
@@ -12,10 +12,10 @@ use Rattle.indexmap.proofs.SetLemmas.{map-insert}
 use Rattle.pls_model.specs.declared.row.Port.{Port}
 use Rattle.pls_model.specs.declared.row.NodeRow.{NodeRow}
 use Rattle.pls_model.specs.declared.limits.TheConstants.{MAX_NODES, MAX_NUM}
-use Rattle.pls_model.specs.Configuration.{IsNetwork, port_to, ports_in, row_of}
+use Rattle.pls_model.specs.Configuration.{IsNetwork, ports_in, row_of}
 use Rattle.pls_graph.specs.Places.{named_places, place_in, places_in}
 use Rattle.pls_graph.specs.inner.Gaps.{IsGap, place_with, places_with}
-use Rattle.pls_graph.specs.Edits.{alone, joined, join_refusal}
+use Rattle.pls_graph.specs.Edits.{alone, joined}
 use Rattle.pls_graph.proofs.Placed.{WayBack}
 use Rattle.pls_graph.proofs.Rising.{RiseFrom}
 use Rattle.pls_graph.proofs.Changing.{All-at, All_here}

@@ -1,11 +1,11 @@
 -- A network without a node that had no ports is one.
-use Rattle.std.proofs.Common.{◌≡◌, ◌≢◌, ◌∙◌, ℕ, ◌+◌, ◌-◌, ◌<◌, ◌≤◌, true, false, cond, not, Bool, ◌==◌, nat_lt, nat_le, zero, suc, List, [], ◌∷◌, map, length, Option, Some, None, refl, sym, ap, subst, arith, slice_get, remove, All, get_or, Contains, sum_by}
+use Rattle.std.proofs.Common.{◌≡◌, ◌≢◌, ◌∙◌, ℕ, ◌<◌, ◌≤◌, true, false, cond, not, Bool, ◌==◌, zero, suc, List, [], ◌∷◌, map, length, Option, Some, None, refl, sym, ap, arith, slice_get, remove, get_or}
 use Rattle.std.specs.List.{filter, find, position_or_len}
-use Rattle.std.proofs.lemmas.Bool.{eqb-true, eqb-false, eq-eqb, ne_eqb}
+use Rattle.std.proofs.lemmas.Bool.{eqb-true, eq-eqb, ne_eqb}
 use Rattle.std.proofs.lemmas.Bool.Decides.{nat_tests}
 use Rattle.std.proofs.lemmas.Option.{same_Some, slice_get_within, get_or_from_slice_get}
 use Rattle.std.proofs.lemmas.List.Edits.{length-remove}
-use Rattle.std.proofs.lemmas.List.Elements.{All-filter, All-contains}
+use Rattle.std.proofs.lemmas.List.Elements.{All-filter}
 use Rattle.std.proofs.lemmas.List.Sums.{sum_by-remove}
 use Rattle.std.proofs.lemmas.List.{nil_from_length}
 use Rattle.indexmap.proofs.SetLemmas.{map-remove}
@@ -16,11 +16,10 @@ use Rattle.pls_model.specs.Configuration.{IsNetwork, port_to, ports_in, row_of}
 use Rattle.pls_graph.specs.Places.{named_places, place_in, places_in}
 use Rattle.pls_graph.specs.inner.Gaps.{place_without, places_without}
 use Rattle.pls_graph.specs.Edits.{left}
-use Rattle.pls_graph.proofs.Finds.{found_place}
 use Rattle.pls_graph.proofs.Members.{place_from_Contains, Contains-from_place, Contains-from_filter}
 use Rattle.pls_graph.proofs.Placed.{WayBack, row_of_place}
 use Rattle.pls_graph.proofs.Rising.{RiseFrom}
-use Rattle.pls_graph.proofs.Sound.{IsSound, AreSound, sound, sound_valid}
+use Rattle.pls_graph.proofs.Sound.{AreSound, sound, sound_valid}
 
 -- a search by a test that one item fails, without the item
 without : {X : Type 0} (p : X → Bool) (xs : List X) (i : ℕ) (d : X) → i < length xs

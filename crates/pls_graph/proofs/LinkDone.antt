@@ -1,9 +1,8 @@
 -- What the steps of a link make of rows and places.
-use Rattle.std.proofs.Common.{◌≡◌, ◌≢◌, ◌∙◌, ◌==◌, ◌+◌, ◌≤◌, ◌<◌, ◌++◌, [], ◌∷◌, ℕ, ap, sym, subst, position, slice_get, Some, None, List, length, map, set, get_or, arith}
+use Rattle.std.proofs.Common.{◌≡◌, ◌≢◌, ◌∙◌, ◌==◌, ◌+◌, ◌++◌, [], ◌∷◌, ℕ, ap, sym, subst, position, slice_get, Some, None, List, set, get_or}
 use Rattle.std.proofs.lemmas.Option.{slice_get_within, get_or_from_slice_get}
 use Rattle.std.proofs.lemmas.List.{get_or-map, get_or-set_other}
 use Rattle.pls_model.specs.declared.row.NodeRow.{NodeRow}
-use Rattle.pls_model.specs.declared.limits.TheConstants.{MAX_PORTS}
 use Rattle.pls_model.specs.Configuration.{IsNetwork, port_to, ports_in}
 use Rattle.pls_graph.specs.Places.{named_places, places_in}
 use Rattle.pls_graph.specs.Edits.{linking, linked, link_refusal}

@@ -1,19 +1,19 @@
 -- A network with one more edge is one.
-use Rattle.std.proofs.Common.{◌≡◌, ◌≢◌, ◌∙◌, ℕ, ◌+◌, ◌<◌, ◌≤◌, ◌⊎◌, inl, inr, true, false, cond, Bool, ◌==◌, ◌||◌, nat_le, zero, suc, List, [], ◌∷◌, ◌++◌, map, length, Option, Some, None, refl, sym, ap, subst, arith, slice_get, set, is_some, option_map, length-append, sum_by, get_or}
+use Rattle.std.proofs.Common.{◌≡◌, ◌≢◌, ◌∙◌, ℕ, ◌+◌, ◌≤◌, ◌⊎◌, inl, inr, true, false, cond, Bool, ◌==◌, ◌||◌, nat_le, zero, suc, List, [], ◌∷◌, ◌++◌, map, length, Option, Some, None, refl, sym, ap, subst, arith, slice_get, set, is_some, option_map, length-append, get_or}
 use Rattle.std.specs.List.{find, list_any}
 use Rattle.std.specs.Option.{option_map_or, option_or}
 use Rattle.std.proofs.lemmas.Bool.{eqb-true, eqb-false, eq-eqb, ne_eqb, leb-false, lt-leb}
 use Rattle.std.proofs.lemmas.Option.{same_Some, slice_get-map, slice_get_within, get_or_from_slice_get}
-use Rattle.std.proofs.lemmas.List.{map-append, length-set}
+use Rattle.std.proofs.lemmas.List.{map-append}
 use Rattle.std.proofs.lemmas.Simd.{map-map}
 use Rattle.std.proofs.lemmas.List.Folds.{find-append, list_any-append}
 use Rattle.std.proofs.lemmas.List.Sums.{sum_by-set}
 use Rattle.pls_model.specs.declared.row.Port.{Port}
 use Rattle.pls_model.specs.declared.row.NodeRow.{NodeRow}
 use Rattle.pls_model.specs.declared.limits.TheConstants.{MAX_NUM, MAX_PORTS}
-use Rattle.pls_model.specs.Configuration.{IsNetwork, has_repeat, links_itself, points_nowhere, port_to, ports_in, row_of}
+use Rattle.pls_model.specs.Configuration.{IsNetwork, has_repeat, port_to, ports_in, row_of}
 use Rattle.pls_graph.specs.Places.{named_places, place_in, places_in}
-use Rattle.pls_graph.specs.Edits.{changed, change_row, linking, linked}
+use Rattle.pls_graph.specs.Edits.{changed, linking, linked}
 use Rattle.pls_graph.proofs.Finds.{eqb_comm, found_place, list_any-map, placed}
 use Rattle.pls_graph.proofs.Placed.{WayBack, row_of_place, ids_differ}
 use Rattle.pls_graph.proofs.Rising.{RiseFrom}

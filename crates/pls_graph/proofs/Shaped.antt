@@ -1,17 +1,16 @@
 -- A node of a table, its range or one of its ports, after it is another.
-use Rattle.std.proofs.Common.{◌≡◌, ◌≢◌, ◌∙◌, ℕ, ◌+◌, ◌-◌, ◌<◌, ◌≤◌, ◌⊎◌, inl, inr, List, [], ◌∷◌, length, map, set, take, drop, remove, get_or, slice_get, Some, refl, sym, ap, subst, arith, length-take, length-drop}
+use Rattle.std.proofs.Common.{◌≡◌, ◌≢◌, ◌∙◌, ℕ, ◌+◌, ◌-◌, ◌<◌, ◌≤◌, ◌⊎◌, inl, inr, List, length, set, take, drop, remove, get_or, slice_get, Some, refl, sym, ap, arith, length-take, length-drop}
 use Rattle.std.proofs.lemmas.Bool.{cases_order}
 use Rattle.std.proofs.Math.Seq.{take-set-lt}
 use Rattle.std.proofs.lemmas.List.Edits.{get_or-remove_above, get_or-remove_below, length-remove}
-use Rattle.std.proofs.lemmas.List.{drop-set-add, get_or-take, get_or-drop, length-set, same_lists, set-get_or, take-take}
-use Rattle.std.proofs.lemmas.Option.{get_or_from_slice_get, same_Some, slice_get_within, slice_get-get_or}
+use Rattle.std.proofs.lemmas.List.{drop-set-add, get_or-take, get_or-drop, same_lists, set-get_or, take-take}
+use Rattle.std.proofs.lemmas.Option.{get_or_from_slice_get}
 use Rattle.pls_model.specs.declared.row.Port.{Port}
 use Rattle.pls_model.specs.declared.row.State.{State}
 use Rattle.pls_model.specs.declared.row.NodeRow.{NodeRow}
 use Rattle.pls_graph.specs.Edits.{in_state}
 use Rattle.pls_graph.specs.declared.table.Node.{Node}
-use Rattle.pls_graph.specs.inner.Dropping.{dropping}
-use Rattle.pls_graph.specs.inner.Ranges.{part, row_at, rows_at, places_at, Holds, AreRanges}
+use Rattle.pls_graph.specs.inner.Ranges.{part, rows_at, places_at, Holds, AreRanges}
 use Rattle.pls_graph.proofs.Parts.{length-part}
 use Rattle.pls_graph.proofs.Ranged.{part_beside, ranges_set, rows_changed, places_changed}
 use Rattle.pls_graph.proofs.PortAdded.{row_is, places_are, range_within}

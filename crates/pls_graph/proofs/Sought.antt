@@ -1,5 +1,5 @@
 -- What a search for an identity says, and which refusals follow.
-use Rattle.std.proofs.Common.{◌≡◌, ◌≢◌, ◌∙◌, ℕ, ◌+◌, ◌-◌, ◌≤◌, ◌<◌, [], ◌∷◌, is_some, true, false, cond, not, Bool, ◌==◌, ◌||◌, List, length, position, Option, Some, None, Result, refl, sym, ap, subst, arith, slice_get, set, nat_lt, get_or, option_map}
+use Rattle.std.proofs.Common.{◌≡◌, ◌≢◌, ◌∙◌, ℕ, ◌+◌, ◌-◌, ◌≤◌, [], ◌∷◌, is_some, true, false, cond, Bool, ◌==◌, List, length, position, Option, Some, None, refl, sym, ap, subst, arith, slice_get, nat_lt, get_or, option_map}
 use Rattle.std.specs.List.{position_or_len, find}
 use Rattle.std.proofs.lemmas.Bool.{eqb-true, eqb-false, ltb-true, ltb-false}
 use Rattle.std.proofs.lemmas.Option.{same_Some, get_or_from_slice_get, slice_get-get_or, slice_get_past}
@@ -12,7 +12,7 @@ use Rattle.pls_model.specs.declared.row.NodeRow.{NodeRow}
 use Rattle.pls_model.specs.Configuration.{IsNetwork, first_of, port_to, ports_in, row_of}
 use Rattle.pls_model.specs.declared.limits.TheConstants.{MAX_PORTS}
 use Rattle.pls_graph.specs.Edits.{fits_state, leave_refusal, unlink_refusal, state_refusal, link_refusal, cause}
-use Rattle.pls_graph.specs.declared.edits.EditError.TheVariants.{Absent, Present, Pointer, SelfLink, HasPorts, Last, Full, NoMemory}
+use Rattle.pls_graph.specs.declared.edits.EditError.TheVariants.{Absent, Present, Pointer, SelfLink, HasPorts, Last, Full}
 use Rattle.pls_graph.proofs.Placed.{WayBack, way_back, row_of_place}
 use Rattle.pls_graph.proofs.Finds.{list_any-find, None-is_some, item_at, found_place}
 

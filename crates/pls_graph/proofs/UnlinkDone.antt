@@ -1,5 +1,5 @@
 -- What the steps of an unlink make of rows and places.
-use Rattle.std.proofs.Common.{◌≡◌, ◌≢◌, ◌∙◌, ◌==◌, ◌+◌, ◌≤◌, ◌<◌, [], ◌∷◌, ℕ, ap, sym, subst, position, slice_get, Some, None, List, length, map, set, get_or, arith, remove, true}
+use Rattle.std.proofs.Common.{◌≡◌, ◌≢◌, ◌∙◌, ◌==◌, ◌+◌, ◌<◌, ℕ, ap, sym, subst, position, slice_get, Some, List, length, set, get_or, arith, remove}
 use Rattle.std.proofs.lemmas.Bool.{eqb-true}
 use Rattle.std.proofs.lemmas.Option.{slice_get_within, slice_get-get_or, get_or_from_slice_get}
 use Rattle.std.proofs.lemmas.List.{get_or-map, get_or-set_other, length-map}

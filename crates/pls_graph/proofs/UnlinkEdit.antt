@@ -1,9 +1,8 @@
 -- A network with one edge less is one.
-use Rattle.std.proofs.Common.{◌≡◌, ◌≢◌, ◌∙◌, ℕ, ◌+◌, ◌-◌, ◌<◌, ◌≤◌, true, false, cond, not, Bool, ◌==◌, ◌||◌, nat_lt, nat_le, zero, suc, List, [], ◌∷◌, map, length, position, Option, Some, None, refl, sym, ap, subst, arith, slice_get, set, remove, get_or, is_some, option_map}
-use Rattle.std.specs.List.{filter, find, list_any, position_or_len}
+use Rattle.std.proofs.Common.{◌≡◌, ◌≢◌, ◌∙◌, ℕ, ◌+◌, ◌-◌, ◌<◌, ◌≤◌, true, false, cond, not, Bool, ◌==◌, ◌||◌, nat_lt, nat_le, zero, suc, List, [], ◌∷◌, map, length, position, Option, Some, None, refl, sym, ap, subst, arith, slice_get, set, remove, option_map}
+use Rattle.std.specs.List.{filter, find, list_any}
 use Rattle.std.specs.Option.{option_map_or, option_and_then}
 use Rattle.std.proofs.lemmas.Bool.{eqb-true, eqb-false, eq-eqb, ne_eqb, leb-false, lt-leb, ltb-true, ltb-false}
-use Rattle.std.proofs.lemmas.Bool.Decides.{nat_tests}
 use Rattle.std.proofs.lemmas.Option.{same_Some, slice_get_within, get_or_from_slice_get}
 use Rattle.std.proofs.lemmas.List.Edits.{length-remove}
 use Rattle.std.proofs.lemmas.List.Sums.{sum_by-set}
@@ -11,14 +10,14 @@ use Rattle.indexmap.proofs.SetLemmas.{map-remove}
 use Rattle.pls_model.specs.declared.row.Port.{Port}
 use Rattle.pls_model.specs.declared.row.NodeRow.{NodeRow}
 use Rattle.pls_model.specs.declared.limits.TheConstants.{MAX_NUM}
-use Rattle.pls_model.specs.Configuration.{IsNetwork, has_repeat, links_itself, points_nowhere, port_to, ports_in, row_of}
+use Rattle.pls_model.specs.Configuration.{IsNetwork, has_repeat, links_itself, points_nowhere, port_to, ports_in}
 use Rattle.pls_graph.specs.Places.{named_places, place_in, places_in}
 use Rattle.pls_graph.specs.Edits.{changed, losing, pointer_without, unlinked}
 use Rattle.pls_graph.specs.inner.Dropping.{dropping}
 use Rattle.pls_graph.proofs.Finds.{eqb_comm}
 use Rattle.pls_graph.proofs.Members.{place_from_Contains, Contains-from_place, Contains-from_filter}
 use Rattle.pls_graph.proofs.Placed.{WayBack, row_place}
-use Rattle.pls_graph.proofs.Sound.{IsSound, AreSound, sound, sound_valid, none_passes}
+use Rattle.pls_graph.proofs.Sound.{AreSound, sound, sound_valid}
 use Rattle.pls_graph.proofs.Changing.{Keeps, Keeps-changed, IsFit, AreSound-changed, All_here, limits_changed, row_of_changed}
 use Rattle.pls_graph.proofs.Ends.{at_ends, at_other, at_rest, at_row, by_ends, ends_at, ends_apart, ends_keep, ends_map, ends_places, mid_is}
 

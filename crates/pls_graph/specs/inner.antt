@@ -4,3 +4,5 @@ pub mod Seeking
 pub mod Sound
 pub mod Gaps
 pub mod Dropping
+pub mod Search
+pub mod Ways

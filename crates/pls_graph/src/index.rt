@@ -6,7 +6,7 @@ ghost use Rattle.pls_model.specs.Configuration.{differs_back, differs_in_weight,
 ghost use Rattle.pls_model.specs.declared.limits.TheConstants.{MAX_PORTS};
 ghost use Rattle.pls_model.specs.declared.refusal.BuildError.TheVariants.{Twice};
 ghost use Rattle.pls_graph.specs.Build.{SaysRefusal};
-ghost use Rattle.pls_graph.specs.Ways.{weight_in, weight_between, agrees_back, is_mutual};
+ghost use Rattle.pls_graph.specs.inner.Ways.{weight_in, weight_between, agrees_back, is_mutual};
 
 use indexmap::{IndexMap, IndexSet};
 use pls_model::{BuildError, NodeRow, Port};
@@ -26,7 +26,7 @@ impl<'a> Model for Index<'a> {
     ghost use Rattle.std.specs.Prelude.{◌≡◌, ℕ, List};
     ghost use Rattle.pls_model.specs.declared.row.NodeRow.{NodeRow};
     ghost use Rattle.pls_model.specs.Configuration.{ids_of};
-    ghost use Rattle.pls_graph.specs.Ways.{weight_in, weight_between};
+    ghost use Rattle.pls_graph.specs.inner.Ways.{weight_in, weight_between};
 
     ghost Value = { List NodeRow };
 

@@ -6,7 +6,7 @@ ghost use Rattle.pls_model.specs.Configuration.{AreWithinLimits, first_of, refus
 ghost use Rattle.pls_model.specs.declared.refusal.BuildError.TheVariants.{SelfLink, Unknown, OneWay, Weights, Pointer};
 ghost use Rattle.pls_graph.specs.Build.{IsRefusal};
 ghost use Rattle.pls_graph.specs.Places.{places_in};
-ghost use Rattle.pls_graph.specs.Ways.{is_mutual};
+ghost use Rattle.pls_graph.specs.inner.Ways.{is_mutual};
 
 use crate::index::Index;
 use crate::soundness::are_sound;

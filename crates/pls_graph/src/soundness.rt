@@ -8,7 +8,7 @@ ghost use Rattle.std.specs.Option.{option_map_or};
 ghost use Rattle.pls_model.specs.declared.row.NodeRow.{NodeRow};
 ghost use Rattle.pls_model.specs.Configuration.{has_repeat};
 ghost use Rattle.pls_graph.specs.Places.{place_in, places_in};
-ghost use Rattle.pls_graph.specs.Ways.{agrees_back, is_mutual};
+ghost use Rattle.pls_graph.specs.inner.Ways.{agrees_back, is_mutual};
 ghost use Rattle.pls_graph.specs.inner.Sound.{is_sound};
 
 use crate::table::Table;

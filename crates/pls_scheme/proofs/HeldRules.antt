@@ -12,11 +12,6 @@ use Rattle.pls_scheme.specs.Marked.{AreSaidBy}
 use Rattle.pls_scheme.specs.Reading.{label_above, reading, said, said_port}
 use Rattle.pls_scheme.specs.inner.Holding.{AreKnown}
 
--- what a place gives, where the item there is known
-pub given_at : {X Y : Type 0} (f : X → Y) (found : Option X) (x : X) (y : Y)
-    → option_map f found ≡ Some y → found ≡ Some x → f x ≡ y
-given_at f found x y given is = let shown : Some (f x) ≡ Some y = ap (option_map f) (sym is) ∙ given in cc
-
 -- the label at the place of an identity
 pub said_at_place : {L : Type 0} (rows : List NodeRow) (labels : List L) (say : ℕ → L)
     → length labels ≡ length rows → AreSaidBy say rows labels → (id place : ℕ) (label : L)

@@ -2,7 +2,7 @@
 use Rattle.std.proofs.Common.{◌≡◌, ◌∙◌, ℕ, Bool, List, length, slice_get, get_or, map, option_map, All, Contains, Option, Some, None, ◌==◌, position, unwrap_or, refl, sym, ap, subst, arith}
 use Rattle.std.specs.Option.{option_and_then}
 use Rattle.std.proofs.lemmas.List.{length-map}
-use Rattle.std.proofs.lemmas.Option.{slice_get-get_or, slice_get-map, slice_get_within}
+use Rattle.std.proofs.lemmas.Option.{same_Some, slice_get-get_or, slice_get-map, slice_get_within}
 use Rattle.pls_model.specs.declared.row.NodeRow.{NodeRow}
 use Rattle.pls_model.specs.Configuration.{IsNetwork}
 use Rattle.pls_graph.proofs.Members.{Contains-from_place, place_from_Contains}
@@ -102,6 +102,15 @@ right_map {D} {L} says rows make items each right =
         by None is same = absurd (cc)
         by (Some item) is same =
             let made : make item ≡ one = cc in subst (says row) made (right place row item at is)
+
+-- what is right where the label of each node is made of its row
+pub right_rows : {L : Type 0} (says : NodeRow → L → Type 0) (rows : List NodeRow)
+    (make : NodeRow → L) → ((row : NodeRow) → says row (make row))
+    → AreRight says rows (map make rows)
+right_rows says rows make right = right_map says rows make rows refl
+    (λ place row item at has.
+    subst (λ (item : NodeRow). says row (make item)) (same_Some row item (sym at ∙ has))
+    (right row))
 
 -- what is right for each node, as a function of the identity
 pub record IsSaidBy {L : Type 0} (says : NodeRow → L → Type 0) (rows : List NodeRow)

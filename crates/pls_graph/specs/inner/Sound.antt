@@ -2,7 +2,7 @@
 use Rattle.std.specs.Prelude.{Bool, not, ◌&&◌, List}
 use Rattle.pls_model.specs.declared.row.NodeRow.{NodeRow}
 use Rattle.pls_model.specs.Configuration.{links_itself, names_twice, points_nowhere}
-use Rattle.pls_graph.specs.Ways.{is_mutual}
+use Rattle.pls_graph.specs.inner.Ways.{is_mutual}
 
 -- the row names no neighbour twice nor itself, points at one of its ports or none, and each of its
 -- ports has one back of the same weight

@@ -1,6 +1,7 @@
 //! Labels in one store, and views of a node with many ports.
 
 use super::bits::{bits_of, zeros_and_ones};
+use pls_bits::{from_hex, spells_bits};
 use pls_netfile::read_network;
 use pls_view::{LabelRoom, LabelStore, View};
 use std::test::Fail;
@@ -81,5 +82,22 @@ fn a_view_of_nine_ports(rt: HostRuntime) -> Result<(), Fail> {
             "the label at port {number}"
         );
     }
+    Ok(())
+}
+
+#[test]
+fn hex_digits_are_put_without_memory(rt: HostRuntime) -> Result<(), Fail> {
+    let digits = "0123456789abcdef88";
+    let wanted = from_hex(rt.alloc(), 69, digits.as_bytes())?;
+    let mut room = LabelRoom::blank(rt.alloc(), 2)?;
+    room.reserve(128)?;
+    assert!(rt;
+        spells_bits(69, digits.as_bytes()),
+        "{digits} spell 69 bits"
+    );
+    room.replace_spare_hex(1, 69, digits.as_bytes());
+    assert!(rt; room.bits(0).is_empty(), "the first label");
+    assert!(rt; room.bits(1).equal(wanted.bits()), "the second label");
+    assert_eq!(rt; room.total(), 69, "the bits of both");
     Ok(())
 }

@@ -1,4 +1,4 @@
-use Rattle.std.proofs.Common.{◌≡◌, ◌∙◌, ◌<◌, ℕ, List, length, ap, set, get_or, arith}
+use Rattle.std.proofs.Common.{◌≡◌, ◌∙◌, ℕ, List, ap, set, get_or}
 use Rattle.pls_graph.specs.inner.Gaps.{place_without}
 use Rattle.pls_graph.proofs.Fronts.{front_all, front_get, front_set}
 use Rattle.pls_graph.proofs.gaps.close_gap.Goals as goal

@@ -1,4 +1,4 @@
-use Rattle.std.proofs.Common.{◌≡◌, ◌∙◌, ◌<◌, ℕ, List, length, ap, set, get_or, arith}
+use Rattle.std.proofs.Common.{◌≡◌, ◌∙◌, ℕ, List, ap, set, get_or}
 use Rattle.pls_graph.specs.inner.Gaps.{place_within}
 use Rattle.pls_graph.proofs.Fronts.{front_all, front_get, front_set}
 use Rattle.pls_graph.proofs.gaps.open_gap.Goals as goal

@@ -1,6 +1,5 @@
 use Rattle.std.proofs.Common.{◌∙◌, rules}
 use Rattle.std.proofs.lemmas.List.Sorted.{answers_always}
-use Rattle.pls_graph.specs.declared.table.Node.{Node}
 use Rattle.pls_graph.proofs.Halved.{halved}
 use Rattle.pls_graph.proofs.seeking.place_among.Goals as goal
 

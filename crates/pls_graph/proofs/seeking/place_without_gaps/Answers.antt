@@ -1,4 +1,3 @@
-use Rattle.std.proofs.Common.{◌<◌, length}
 use Rattle.std.proofs.lemmas.Option.{slice_get-get_or}
 use Rattle.pls_graph.proofs.Ordered.{placed_node}
 use Rattle.pls_graph.proofs.seeking.place_without_gaps.Goals as goal

@@ -5,11 +5,11 @@ use Rattle.pls_model.specs.declared.row.Port.{Port}
 use Rattle.pls_model.specs.declared.row.State.{State}
 use Rattle.pls_model.specs.declared.row.NodeRow.{NodeRow}
 use Rattle.pls_graph.proofs.Placed.{pointer_within}
-use Rattle.pls_facts.proofs.Lists.{item_at}
+use Rattle.pls_facts.proofs.Lists.{given_at, item_at}
 use Rattle.pls_scheme.specs.Judging.{judged_from}
 use Rattle.pls_scheme.specs.Reading.{Read, label_above, said_port}
 use Rattle.pls_scheme.specs.inner.Holding.{AreKnown}
-use Rattle.pls_scheme.proofs.HeldRules.{all_known, given_at, label_above-said, reading-said}
+use Rattle.pls_scheme.proofs.HeldRules.{all_known, label_above-said, reading-said}
 use Rattle.pls_scheme.proofs.holding.verdict_at.Goals as goal
 use Rattle.pls_scheme.proofs.holding.verdict_at.Goals.{in-Some, in-None}
 

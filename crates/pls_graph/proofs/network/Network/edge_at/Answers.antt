@@ -1,10 +1,7 @@
-use Rattle.std.proofs.Common.{◌≡◌, ◌≢◌, ◌∙◌, ◌==◌, ◌<◌, ◌≤◌, ◌+◌, ◌-◌, ◌++◌, ◌∷◌, [], ℕ, ap, sym, subst, position, slice_get, Some, None, List, length, option_map, is_some, nat_lt, true, false, arith}
-use Rattle.std.proofs.lemmas.Bool.{eq-eqb, ne_eqb, lt-ltb, le-ltb}
-use Rattle.std.proofs.lemmas.Option.{same_Some, slice_get_within}
+use Rattle.std.proofs.Common.{◌≡◌, ◌∙◌, ◌==◌, ap, sym, position, None, is_some}
+use Rattle.std.proofs.lemmas.Option.{same_Some}
 use Rattle.pls_model.specs.declared.row.Port.{Port}
 use Rattle.pls_model.specs.declared.row.NodeRow.{NodeRow}
-use Rattle.pls_model.specs.Configuration.{IsNetwork, ports_in}
-use Rattle.pls_graph.specs.Places.{places_in}
 use Rattle.pls_graph.proofs.Sought.{IsSought, sought, sought_none, ports_read}
 use Rattle.pls_model.specs.Configuration.{port_to}
 use Rattle.pls_graph.proofs.Sought.{free_both, found_as, no_find, unlink_absent_first, unlink_absent_second, unlink_apart, unlink_allowed}

@@ -1,13 +1,10 @@
-use Rattle.std.proofs.Common.{◌≡◌, ◌≢◌, ◌∙◌, ◌==◌, ◌<◌, ◌≤◌, ◌+◌, ◌-◌, ◌++◌, ◌∷◌, [], ℕ, ap, sym, subst, position, slice_get, Some, None, List, length, option_map, is_some, nat_lt, true, false, arith}
+use Rattle.std.proofs.Common.{◌≡◌, ◌∙◌, ◌==◌, ◌-◌, ap, sym, position, is_some, nat_lt}
 use Rattle.std.proofs.lemmas.Bool.{eq-eqb, ne_eqb, lt-ltb, le-ltb}
-use Rattle.std.proofs.lemmas.Option.{same_Some, slice_get_within}
 use Rattle.pls_model.specs.declared.row.Port.{Port}
 use Rattle.pls_model.specs.declared.row.NodeRow.{NodeRow}
-use Rattle.pls_model.specs.Configuration.{IsNetwork, ports_in}
-use Rattle.pls_graph.specs.Places.{places_in}
+use Rattle.pls_model.specs.Configuration.{ports_in}
 use Rattle.pls_graph.proofs.Sought.{IsSought, sought, sought_none, ports_read}
 use Rattle.pls_model.specs.declared.limits.TheConstants.{MAX_PORTS}
-use Rattle.pls_model.specs.Configuration.{port_to}
 use Rattle.pls_graph.proofs.Sought.{link_absent_first, link_absent_second, link_present, link_self, link_full, link_allowed, found_as}
 use Rattle.pls_graph.proofs.network.Network.ends_to_link.Goals as goal
 

@@ -1,17 +1,13 @@
-use Rattle.std.proofs.Common.{◌≡◌, ◌≢◌, ◌∙◌, ◌==◌, ◌<◌, ◌≤◌, ◌+◌, ◌-◌, ◌++◌, ◌∷◌, [], ℕ, ap, sym, subst, position, slice_get, Some, None, List, length, option_map, is_some, nat_lt, true, false, arith}
-use Rattle.std.proofs.lemmas.Bool.{eq-eqb, ne_eqb, lt-ltb, le-ltb}
-use Rattle.std.proofs.lemmas.Option.{same_Some, slice_get_within}
-use Rattle.pls_model.specs.declared.row.Port.{Port}
+use Rattle.std.proofs.Common.{◌≡◌, ◌∙◌, ◌<◌, [], ℕ, ap, sym, subst, None, List, length, arith}
 use Rattle.pls_model.specs.declared.row.NodeRow.{NodeRow}
 use Rattle.pls_model.specs.Configuration.{IsNetwork, ports_in}
 use Rattle.pls_graph.specs.Places.{places_in}
-use Rattle.pls_graph.proofs.Sought.{IsSought, sought, sought_none, ports_read}
 use Rattle.std.specs.List.{insert}
 use Rattle.std.proofs.Common.{All}
 use Rattle.pls_model.specs.Configuration.{row_of}
 use Rattle.pls_model.specs.declared.limits.TheConstants.{MAX_NODES}
 use Rattle.pls_graph.specs.inner.Gaps.{IsGap, places_with}
-use Rattle.pls_graph.specs.Edits.{alone, joined}
+use Rattle.pls_graph.specs.Edits.{joined}
 use Rattle.pls_graph.proofs.JoinEdit.{gap_within, joined_is, joined_places, joined_ports, joined_valid, all_small}
 use Rattle.pls_graph.proofs.network.Network.join.Goals as goal
 

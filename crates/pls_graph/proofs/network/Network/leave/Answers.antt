@@ -1,6 +1,5 @@
-use Rattle.std.proofs.Common.{◌≡◌, ◌≢◌, ◌∙◌, ◌==◌, ◌<◌, ◌≤◌, ◌+◌, ◌-◌, ◌++◌, ◌∷◌, [], ℕ, ap, sym, subst, position, slice_get, Some, None, List, length, option_map, is_some, nat_lt, true, false, arith}
-use Rattle.std.proofs.lemmas.Bool.{eq-eqb, ne_eqb, lt-ltb, le-ltb}
-use Rattle.std.proofs.lemmas.Option.{same_Some, slice_get_within}
+use Rattle.std.proofs.Common.{◌≡◌, ◌≢◌, ◌∙◌, ◌==◌, ℕ, ap, sym, subst, position, slice_get, List, length, option_map, nat_lt, arith}
+use Rattle.std.proofs.lemmas.Bool.{ne_eqb, lt-ltb, le-ltb}
 use Rattle.pls_model.specs.declared.row.Port.{Port}
 use Rattle.pls_model.specs.declared.row.NodeRow.{NodeRow}
 use Rattle.pls_model.specs.Configuration.{IsNetwork, ports_in}
@@ -9,7 +8,7 @@ use Rattle.pls_graph.proofs.Sought.{IsSought, sought, sought_none, ports_read}
 use Rattle.std.specs.List.{remove}
 use Rattle.pls_graph.specs.inner.Gaps.{places_without}
 use Rattle.pls_graph.specs.Edits.{left}
-use Rattle.pls_graph.proofs.Sought.{leave_absent, leave_ports, leave_last, leave_allowed}
+use Rattle.pls_graph.proofs.Sought.{leave_absent, leave_ports, leave_allowed}
 use Rattle.pls_graph.proofs.LeaveEdit.{left_is, left_places, left_ports, left_valid}
 use Rattle.pls_graph.proofs.network.Network.leave.Goals as goal
 

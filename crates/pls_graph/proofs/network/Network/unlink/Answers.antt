@@ -1,11 +1,5 @@
-use Rattle.std.proofs.Common.{◌≡◌, ◌≢◌, ◌∙◌, ◌==◌, ◌<◌, ◌≤◌, ◌+◌, ◌-◌, ◌++◌, ◌∷◌, [], ℕ, ap, sym, subst, position, slice_get, Some, None, List, length, option_map, is_some, nat_lt, true, false, arith}
-use Rattle.std.proofs.lemmas.Bool.{eq-eqb, ne_eqb, lt-ltb, le-ltb}
-use Rattle.std.proofs.lemmas.Option.{same_Some, slice_get_within}
-use Rattle.pls_model.specs.declared.row.Port.{Port}
+use Rattle.std.proofs.Common.{◌≡◌, ◌∙◌, ◌==◌, ap, sym, position, slice_get, Some, List, arith}
 use Rattle.pls_model.specs.declared.row.NodeRow.{NodeRow}
-use Rattle.pls_model.specs.Configuration.{IsNetwork, ports_in}
-use Rattle.pls_graph.specs.Places.{places_in}
-use Rattle.pls_graph.proofs.Sought.{IsSought, sought, sought_none, ports_read}
 use Rattle.pls_graph.specs.Edits.{unlinked}
 use Rattle.pls_graph.proofs.UnlinkDone.{IsUnlinked}
 use Rattle.pls_graph.proofs.EditSteps.{unlink_second, unlink_steps, unlink_within}

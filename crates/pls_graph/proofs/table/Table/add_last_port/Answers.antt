@@ -1,7 +1,6 @@
-use Rattle.std.proofs.Common.{◌≡◌, ◌∙◌, ◌-◌, ◌∷◌, ◌++◌, [], List, ℕ, length, set, slice_get, Some, Result, Ok, Err, OnOk, refl, sym, ap, arith, length-append}
+use Rattle.std.proofs.Common.{◌≡◌, ◌∙◌, ◌-◌, ◌∷◌, ◌++◌, [], List, ℕ, length, set, slice_get, Some, Result, Ok, Err, OnOk, refl, ap, arith, length-append}
 use Rattle.std.proofs.lemmas.List.{set_at, get_or_at}
 use Rattle.std.proofs.lemmas.Option.{slice_get-get_or}
-use Rattle.pls_model.specs.declared.row.NodeRow.{NodeRow}
 use Rattle.pls_graph.specs.Rows.{gaining}
 use Rattle.pls_graph.proofs.table.Table.add_last_port.Goals as goal
 

@@ -1,12 +1,9 @@
-use Rattle.std.proofs.Common.{◌≡◌, ◌∙◌, ◌+◌, ◌<◌, ◌≤◌, ◌++◌, [], ◌∷◌, List, ℕ, length, slice_get, set, take, Some, Fits, w64, refl, sym, ap, subst, arith, length-append}
-use Rattle.std.proofs.lemmas.List.{length-map}
-use Rattle.std.proofs.lemmas.Option.{slice_get-get_or}
+use Rattle.std.proofs.Common.{◌≡◌, ◌∙◌, ◌+◌, ◌++◌, [], ◌∷◌, List, ℕ, length, slice_get, set, take, Some, sym, ap, subst, arith}
 use Rattle.pls_model.specs.declared.row.Port.{Port}
 use Rattle.pls_model.specs.declared.row.NodeRow.{NodeRow}
-use Rattle.pls_graph.specs.declared.table.Node.{Node}
 use Rattle.pls_graph.specs.Rows.{gaining}
 use Rattle.pls_graph.specs.inner.Placed.{Placed}
-use Rattle.pls_graph.specs.inner.Ranges.{AreRanges, row_at, rows_at, places_at}
+use Rattle.pls_graph.specs.inner.Ranges.{AreRanges, rows_at, places_at}
 use Rattle.pls_graph.proofs.Ranged.{ranges_larger}
 use Rattle.pls_graph.proofs.PortAdded.{fuller_ranges, fuller_both, fuller_rows, fuller_places, larger_ranges, larger_both, larger_rows, larger_places, range_within, longer, table_kept, node_read, on_err}
 use Rattle.pls_graph.proofs.table.Table.add_port.Goals as goal

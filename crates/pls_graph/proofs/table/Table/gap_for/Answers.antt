@@ -1,4 +1,4 @@
-use Rattle.std.proofs.Common.{◌≡◌, ◌∙◌, ◌==◌, ℕ, Option, List, position, sym, ap, subst, Some, None, IfSome, IfNone, is_some, true}
+use Rattle.std.proofs.Common.{◌≡◌, ◌∙◌, ◌==◌, Option, position, sym, ap, subst, Some, None, IfSome, IfNone, is_some, true}
 use Rattle.pls_model.specs.declared.row.NodeRow.{NodeRow}
 use Rattle.pls_model.specs.Configuration.{out_of_order, row_of}
 use Rattle.pls_graph.specs.declared.table.Node.{Node}

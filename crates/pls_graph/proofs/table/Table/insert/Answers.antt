@@ -1,7 +1,6 @@
-use Rattle.std.proofs.Common.{◌≡◌, ◌∙◌, ◌<◌, ◌≤◌, [], List, ℕ, All, insert, map, length, refl, sym, ap, subst, arith}
+use Rattle.std.proofs.Common.{◌≡◌, ◌∙◌, ◌<◌, [], List, ℕ, All, insert, map, length, refl, sym, ap, subst, arith}
 use Rattle.std.proofs.lemmas.List.{length-map}
 use Rattle.pls_model.specs.declared.limits.TheConstants.{MAX_NODES}
-use Rattle.pls_model.specs.declared.row.NodeRow.{NodeRow}
 use Rattle.pls_graph.specs.declared.table.Node.{Node}
 use Rattle.pls_graph.specs.inner.Placed.{Placed}
 use Rattle.pls_graph.specs.inner.Gaps.{place_within, places_with}

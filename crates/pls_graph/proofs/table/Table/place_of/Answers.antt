@@ -1,4 +1,4 @@
-use Rattle.std.proofs.Common.{◌≡◌, ◌∙◌, ◌==◌, List, None, ap, sym, subst, position}
+use Rattle.std.proofs.Common.{◌∙◌, ◌==◌, List, ap, sym, subst, position}
 use Rattle.pls_model.specs.declared.row.NodeRow.{NodeRow}
 use Rattle.pls_model.specs.Configuration.{out_of_order}
 use Rattle.pls_graph.specs.declared.table.Node.{Node}

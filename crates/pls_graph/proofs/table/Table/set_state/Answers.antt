@@ -1,10 +1,7 @@
-use Rattle.std.proofs.Common.{◌≡◌, ◌∙◌, ◌+◌, ◌-◌, ◌<◌, ◌≤◌, List, ℕ, length, slice_get, set, remove, Some, Fits, w64, refl, sym, ap, subst, arith}
-use Rattle.pls_model.specs.declared.row.Port.{Port}
-use Rattle.pls_model.specs.declared.row.State.{State}
+use Rattle.std.proofs.Common.{◌≡◌, ◌∙◌, List, slice_get, set, Some, refl, ap, arith}
 use Rattle.pls_model.specs.declared.row.NodeRow.{NodeRow}
-use Rattle.pls_graph.specs.declared.table.Node.{Node}
 use Rattle.pls_graph.specs.inner.Placed.{Placed}
-use Rattle.pls_graph.specs.inner.Ranges.{AreRanges, row_at, rows_at, places_at}
+use Rattle.pls_graph.specs.inner.Ranges.{rows_at, places_at}
 use Rattle.pls_graph.proofs.PortAdded.{node_read}
 use Rattle.pls_graph.specs.Edits.{in_state}
 use Rattle.pls_graph.proofs.Shaped.{range_kept, state_rows, state_places}

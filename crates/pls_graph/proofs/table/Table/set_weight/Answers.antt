@@ -1,10 +1,8 @@
-use Rattle.std.proofs.Common.{◌≡◌, ◌∙◌, ◌+◌, ◌-◌, ◌<◌, ◌≤◌, List, ℕ, length, slice_get, set, remove, Some, Fits, w64, refl, sym, ap, subst, arith}
+use Rattle.std.proofs.Common.{◌≡◌, ◌∙◌, ◌+◌, ◌<◌, List, slice_get, set, Some, sym, ap, arith}
 use Rattle.pls_model.specs.declared.row.Port.{Port}
-use Rattle.pls_model.specs.declared.row.State.{State}
 use Rattle.pls_model.specs.declared.row.NodeRow.{NodeRow}
-use Rattle.pls_graph.specs.declared.table.Node.{Node}
 use Rattle.pls_graph.specs.inner.Placed.{Placed}
-use Rattle.pls_graph.specs.inner.Ranges.{part, AreRanges, row_at, rows_at, places_at}
+use Rattle.pls_graph.specs.inner.Ranges.{part, row_at, rows_at}
 use Rattle.pls_graph.proofs.PortAdded.{node_read}
 use Rattle.std.proofs.Common.{option_map}
 use Rattle.std.proofs.lemmas.Option.{slice_get-map}

@@ -8,8 +8,8 @@ use Rattle.std.proofs.lemmas.Nat.{pow_pos}
 use Rattle.std.proofs.lemmas.Option.{same_Some}
 use Rattle.pls_bits.specs.Gamma.{behind_one, behind_zeros, digits, floor_log, gamma_code, gamma_takes, number_from}
 use Rattle.pls_bits.specs.declared.num_code.TheConstants.{MAX_CODED, MAX_CODE_BITS}
-use Rattle.pls_bits.specs.BinaryLaws.{digits-number_from, length-digits, number_behind-le, number_behind-lt, number_from-digits, one_in_front}
-use Rattle.pls_bits.specs.FloorLogLaws.{floor_log-bound, floor_log-grows, floor_log-le, floor_log-lt_suc, floor_log-unique}
+use Rattle.pls_bits.specs.laws.BinaryLaws.{digits-number_from, length-digits, number_behind-le, number_behind-lt, number_from-digits, one_in_front}
+use Rattle.pls_bits.specs.laws.FloorLogLaws.{floor_log-bound, floor_log-grows, floor_log-le, floor_log-lt_suc, floor_log-unique}
 
 -- ---- the length
 
