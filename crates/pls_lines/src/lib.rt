@@ -7,8 +7,8 @@
 //! [`Lines`] stands before a line of a text, and lends what is left of it. A [`LineKind`] says how
 //! its values are written, one a line, and reads the line at the front of a text, up to its line
 //! feed: word by word ([`after_word`], [`number_before`], [`u32_before`], [`bytes_before`],
-//! [`one_number`], [`two_numbers`]), so that no byte is looked at twice. [`next_of`] reads the next line as such a
-//! value, and [`count_of`] and [`list_of`] read as many as stand.
+//! [`one_number`], [`two_numbers`]), so that no byte is looked at twice. [`next_of`] reads the next
+//! line as such a value, and [`count_of`] and [`list_of`] read as many as stand.
 //!
 //! A [`Part`] says which format it has and what is kept of its lines. [`scan`] reads the part that
 //! stands next, and [`read_whole`] the part that a text is; they take no memory, and name the first
@@ -20,8 +20,8 @@
 //! here: the scan ([`ListText`], [`read_list`]), the items that the text says ([`ListText::items`],
 //! [`next_item`]), the number of an item's line, and the writer ([`write_list`]).
 //!
-//! A part of any items under a heading of one word needs no tally of its own: [`Count`] counts them,
-//! and a [`HeadingWord`] is all that is said of the heading.
+//! A part of any items under a heading of one word needs no tally of its own: [`Count`] counts
+//! them, and a [`HeadingWord`] is all that is said of the heading.
 //!
 //! `specs/Worded` is for kinds of line that are told by their words, `specs/Steps` for lists in
 //! which what came before says what may follow; `specs/laws` has their laws, which the laws of a

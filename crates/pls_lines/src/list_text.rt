@@ -32,8 +32,8 @@ pub struct ListText<'a, T: ListTally<'a>> {
 impl<'a, T: ListTally<'a>> Part<'a> for ListText<'a, T> {
     ghost Format = { IsListPart (Says T.Heading.Fits T.Heading.written) T.Item.written T.Are };
 
-    ghost Passed = { λ old new part. PassesList T.Heading.Fits T.Heading.written T.Item.written T.Are
-        T.tally old new part.heading part.lines part.kept };
+    ghost Passed = { λ old new part. PassesList T.Heading.Fits T.Heading.written T.Item.written
+        T.Are T.tally old new part.heading part.lines part.kept };
 
     ghost part_law = { list_is_some_part T.Heading.Fits T.Heading.written T.Item.Fits
         T.Item.written T.Are T.Heading.kind_law T.Item.kind_law T.list_law };
@@ -48,10 +48,12 @@ impl<'a, T: ListTally<'a>> Part<'a> for ListText<'a, T> {
 fn pass_list<'a, T: ListTally<'a>>(lines: &mut Lines<'a>) -> Result<ListText<'a, T>, TextError>
     ensures ok { IfOk result (λ part. PassesList T.Heading.Fits T.Heading.written T.Item.written
         T.Are T.tally lines.old lines.new part.heading part.lines part.kept) }
-    ensures format { OnOk result
-        (PassesFormat (IsListPart (Says T.Heading.Fits T.Heading.written) T.Item.written T.Are) lines.old lines.new) }
-    ensures form { IfErr result (λ error.
-        IsFormFault (IsListPart (Says T.Heading.Fits T.Heading.written) T.Item.written T.Are) lines.old error) }
+    ensures format { OnOk result (PassesFormat
+        (IsListPart (Says T.Heading.Fits T.Heading.written) T.Item.written T.Are)
+        lines.old lines.new) }
+    ensures form { IfErr result (λ error. IsFormFault
+        (IsListPart (Says T.Heading.Fits T.Heading.written) T.Item.written T.Are)
+        lines.old error) }
 {
     T::laws();
     T::Heading::laws();
@@ -80,8 +82,9 @@ fn pass_list<'a, T: ListTally<'a>>(lines: &mut Lines<'a>) -> Result<ListText<'a,
 pub fn read_list<'a, T: ListTally<'a>>(text: &'a [u8]) -> Result<ListText<'a, T>, TextError>
     ensures whole { IfOk result (λ part. IsWholeList T.Heading.Fits T.Heading.written T.Item.written
         T.Are T.tally text.now part.heading part.lines part.kept) }
-    ensures form { IfErr result (λ error.
-        NamesFirstFault (IsListPart (Says T.Heading.Fits T.Heading.written) T.Item.written T.Are) text.now error) }
+    ensures form { IfErr result (λ error. NamesFirstFault
+        (IsListPart (Says T.Heading.Fits T.Heading.written) T.Item.written T.Are)
+        text.now error) }
 {
     T::laws();
     T::Heading::laws();
@@ -109,8 +112,8 @@ fn pass_items<'a, T: ListTally<'a>>(lines: &mut Lines<'a>) -> T
 
 // Passes the item that stands next, and counts it, if it may follow; else both stay.
 fn pass_item<'a, T: ListTally<'a>>(lines: &mut Lines<'a>, kept: &mut T) -> bool
-    ensures passed { OnTrue result
-        (PassesItem T.Item.Fits T.Item.written T.Are T.tally lines.old lines.new kept.old kept.new) }
+    ensures passed { OnTrue result (PassesItem T.Item.Fits T.Item.written T.Are T.tally
+        lines.old lines.new kept.old kept.new) }
     ensures fewer { OnTrue result (length lines.new.rest < length lines.old.rest) }
     ensures none { OnFalse result ((items : List T.Item) → Begun T.Are items
         → kept.old ≡ T.tally items

@@ -6,8 +6,8 @@ ghost use Rattle.pls_lines.specs.Text.{line_of};
 use crate::numbers::number_before;
 use crate::words::after_word;
 
-/// The number up to `most` of a line at the front of a text that is a word and this number, and what
-/// follows its line feed; `None` where no such line stands there.
+/// The number up to `most` of a line at the front of a text that is a word and this number, and
+/// what follows its line feed; `None` where no such line stands there.
 pub fn one_number<'a>(text: &'a [u8], word: &[u8], most: u64) -> Option<(u64, &'a [u8])>
     requires few { most ≤ 2 ^ 63 }
     ensures stands { IfSome result (λ read.

@@ -1,9 +1,9 @@
 //! The text of a network: for each node its line, and behind it a line for each of its ports.
 //!
 //! `specs/NetworkText` says how a network is written. [`scan_network`] passes one network part
-//! without memory, or names its first faulty line; the [`NetworkText`] that it gives lends the text,
-//! counts its nodes and ports, and builds their network. [`read_network`] and [`write_network`] are
-//! inverse to each other ([`read_written`], [`write_read`]). Laws: a text fixes its network
+//! without memory, or names its first faulty line; the [`NetworkText`] that it gives lends the
+//! text, counts its nodes and ports, and builds their network. [`read_network`] and
+//! [`write_network`] are inverse to each other ([`read_written`], [`write_read`]). Laws: a text fixes its network
 //! ([`one_network`]), and it has one first faulty line at most ([`one_first_fault`]), none where it
 //! is the text of a network ([`no_fault`]).
 //!

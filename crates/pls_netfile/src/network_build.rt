@@ -17,8 +17,8 @@ use std::alloc::Global;
 impl<'a> NetworkText<'a> {
     /// The network of the rows that the text says.
     ///
-    /// `Limit(Nodes)`, and then `Limit(Ports)`, where there are more than the limit allows, before any
-    /// memory is taken. `Sense` with a number from [`ORDER`] to [`POINTER`] and an identity for
+    /// `Limit(Nodes)`, and then `Limit(Ports)`, where there are more than the limit allows, before
+    /// any memory is taken. `Sense` with a number from [`ORDER`] to [`POINTER`] and an identity for
     /// the refusals of [`NetworkBuilder::build`]. `NoMemory` for want of memory.
     pub fn build(&self, alloc: Global) -> Result<Network, TextError>
         ensures ok { IfOk result (λ network. (rows : List NodeRow) → TellsNetwork self.now rows

@@ -52,8 +52,8 @@ fn the_first_faulty_line_is_named(rt: HostRuntime) {
 
 #[test]
 fn a_part_is_scanned_and_the_rest_left(rt: HostRuntime) -> Result<(), Fail> {
-    let text =
-        b"network\nnode 7 - 4294967295 4611686018427387904\nnode 9 1 0 5\nport 7 0\nport 8 3\nend\nrest";
+    let text = b"network\nnode 7 - 4294967295 4611686018427387904\nnode 9 1 0 5\nport 7 0\n\
+                 port 8 3\nend\nrest";
     let mut lines = Lines::new(text);
     let part = scan_network(&mut lines)?;
     assert_eq!(rt; (part.nodes(), part.ports()), (2, 2));
