@@ -19,7 +19,6 @@ mod network_rows;
 mod network_scan;
 mod network_text;
 mod network_write;
-mod refusal_numbers;
 mod round_trips;
 
 pub use laws::{no_fault, one_first_fault, one_network};
@@ -29,5 +28,4 @@ pub use network_scan::scan_network;
 pub use network_text::NetworkText;
 pub use network_write::write_network;
 pub use pls_base::NoMemory;
-pub use refusal_numbers::{ONE_WAY, ORDER, POINTER, SELF_LINK, TWICE, UNKNOWN, WEIGHTS};
 pub use round_trips::{read_written, write_read};

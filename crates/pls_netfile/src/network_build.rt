@@ -8,7 +8,7 @@ ghost use Rattle.pls_netfile.specs.NetworkScan.{TellsNetwork};
 ghost use Rattle.pls_netfile.specs.NetworkBuild.{IsRefusedBuild, text_error_of};
 
 use crate::network_text::NetworkText;
-use crate::refusal_numbers::{ONE_WAY, ORDER, POINTER, SELF_LINK, TWICE, UNKNOWN, WEIGHTS};
+use pls_base::refusal_number::{ONE_WAY, ORDER, POINTER, SELF_LINK, TWICE, UNKNOWN, WEIGHTS};
 use pls_base::{Quantity, TextError};
 use pls_graph::{Network, NetworkBuilder};
 use pls_model::{BuildError, MAX_NODES, MAX_PORTS};
