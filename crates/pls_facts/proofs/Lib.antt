@@ -18,3 +18,5 @@ pub mod Levels
 pub mod Parity
 pub mod Colourings
 pub mod Worked
+pub mod Descent
+pub mod RootLevels

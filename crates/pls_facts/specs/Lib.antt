@@ -4,4 +4,7 @@ pub mod Cycle
 pub mod Bipartite
 pub mod OnlyNode
 pub mod Agreement
+pub mod Leader
+pub mod NodeCount
+pub mod Descent
 pub mod inner

@@ -16,6 +16,7 @@
 
 mod agreement_laws;
 mod cycle_laws;
+mod descent_laws;
 mod only;
 mod pointer_laws;
 mod tree_laws;
@@ -24,6 +25,7 @@ mod walk_laws;
 
 pub use agreement_laws::all_agree;
 pub use cycle_laws::cycles_and_depths;
+pub use descent_laws::one_root;
 pub use only::{PointsAtNone, StateTest, only_node};
 pub use pointer_laws::chain_ends;
 pub use tree_laws::tree_of_pointers;

@@ -1,0 +1,2 @@
+pub mod RootedLaws
+pub mod LeaderLaws

@@ -1,0 +1,36 @@
+//! What the schemes of a root have in common.
+
+ghost use Rattle.std.specs.Prelude.{◌≡◌, ◌<◌, length, map, unwrap_or, IfOk};
+ghost use Rattle.pls_model.specs.Walk.{IsConnected};
+ghost use Rattle.pls_leader.specs.Rooted.{AreLevelsFrom, is_0_at_root_alone};
+
+use pls_base::NoMemory;
+use pls_graph::Network;
+use pls_search::levels;
+use std::alloc::Global;
+
+// Whether the depth is 0 exactly where the identity is the root.
+pub(crate) fn is_0_at_root_alone(id: u32, root: u64, depth: u64) -> bool
+    ensures { result ≡ is_0_at_root_alone id root depth }
+{
+    (depth == 0) == (u64::from(id) == root)
+}
+
+// For each node of a connected network, in their order, the fewest edges from the node at a place.
+pub(crate) fn levels_from(alloc: Global, net: &Network, place: usize) -> Result<Vec<u32>, NoMemory>
+    requires joined { IsConnected net.now }
+    requires within { place < length net.now }
+    ensures { IfOk result (λ levels. AreLevelsFrom net.now place levels.items) }
+{
+    let found = levels(alloc, net, place)?;
+    let levels = known(alloc, &found)?;
+    Ok(levels)
+}
+
+// The levels, of which each is found. A node without one gets level 0.
+fn known(alloc: Global, found: &[Option<u32>]) -> Result<Vec<u32>, NoMemory>
+    ensures { IfOk result (λ levels. levels.items ≡ map (λ level. unwrap_or level 0) found.now) }
+{
+    let levels = found.iter().map(|level| level.unwrap_or(0)).collect(alloc)?;
+    Ok(levels)
+}
