@@ -6,7 +6,7 @@ use Rattle.pls_bits.specs.declared.num_code.TheConstants.{MAX_CODED}
 use Rattle.pls_graph.specs.declared.size.Size.{Size}
 use Rattle.pls_scheme.specs.Length.{code_length}
 use Rattle.pls_combine.specs.declared.scheme_name.SchemeName.{SchemeName}
-use Rattle.pls_combine.specs.declared.scheme_name.SchemeName.TheVariants.{Acyclic, Bipartite, Forest, Tree}
+use Rattle.pls_combine.specs.declared.scheme_name.SchemeName.TheVariants.{Acyclic, Bipartite, Forest, Leader, Tree}
 use Rattle.pls_combine.specs.Named.{longest_of}
 
 -- the code of a number that has one has at most 125 bits
@@ -34,3 +34,4 @@ short_bound scheme size few small = by scheme
     by Forest = omega (arith, nodes)
     by Bipartite = omega arith
     by Acyclic = omega (arith, nodes)
+    by Leader = omega (arith, nodes, ids)

@@ -16,8 +16,11 @@ use Rattle.pls_colour.specs.Acyclic.{IsAcyclicMarked, IsCycleLabel, judge_acycli
 use Rattle.pls_colour.specs.Bipartite.{IsBipartiteMarked, IsColourLabel, judge_bipartite, longest_bipartite}
 use Rattle.pls_colour.specs.declared.acyclic.CycleLabel.{CycleLabel}
 use Rattle.pls_colour.specs.declared.colour_layout.ColourLabel.{ColourLabel}
+use Rattle.pls_facts.specs.Leader.{HasOneLeader}
+use Rattle.pls_leader.specs.Leader.{IsLeaderLabel, IsLeaderMarked, judge_leader, longest_leader}
+use Rattle.pls_leader.specs.declared.leader.LeaderLabel.{LeaderLabel}
 use Rattle.pls_combine.specs.declared.scheme_name.SchemeName.{SchemeName}
-use Rattle.pls_combine.specs.declared.scheme_name.SchemeName.TheVariants.{Acyclic, Bipartite, Forest, Tree}
+use Rattle.pls_combine.specs.declared.scheme_name.SchemeName.TheVariants.{Acyclic, Bipartite, Forest, Leader, Tree}
 
 -- the property of a scheme
 abbrev pub HasProperty : SchemeName → List NodeRow → Type 0
@@ -25,6 +28,7 @@ HasProperty Tree rows = IsTree rows
 HasProperty Forest rows = IsForest rows
 HasProperty Bipartite rows = IsBipartite rows
 HasProperty Acyclic rows = IsAcyclic rows
+HasProperty Leader rows = HasOneLeader rows
 
 -- the verdict of a scheme on a view
 abbrev pub judge_of : SchemeName → Seen → Verdict
@@ -32,6 +36,7 @@ judge_of Tree view = judge_tree gamma_takes view
 judge_of Forest view = judge_forest gamma_takes view
 judge_of Bipartite view = judge_bipartite view
 judge_of Acyclic view = judge_acyclic gamma_takes view
+judge_of Leader view = judge_leader gamma_takes view
 
 -- the labels are those of a connected network with the property
 abbrev pub IsMarked : SchemeName → List NodeRow → List (List Bool) → Type 0
@@ -39,6 +44,7 @@ IsMarked Tree rows labels = IsTreeMarked gamma_code rows labels
 IsMarked Forest rows labels = IsForestMarked gamma_code rows labels
 IsMarked Bipartite rows labels = IsBipartiteMarked rows labels
 IsMarked Acyclic rows labels = IsAcyclicMarked gamma_code rows labels
+IsMarked Leader rows labels = IsLeaderMarked gamma_code rows labels
 
 -- how many bits a marked label has at most, in a network of this size
 abbrev pub longest_of : SchemeName → Size → ℕ
@@ -46,6 +52,7 @@ longest_of Tree size = longest_tree gamma_code size
 longest_of Forest size = longest_forest gamma_code size
 longest_of Bipartite size = longest_bipartite size
 longest_of Acyclic size = longest_acyclic gamma_code size
+longest_of Leader size = longest_leader gamma_code size
 
 -- the bits are some label of the scheme
 abbrev pub IsLabelOf : SchemeName → List Bool → Type 0
@@ -53,6 +60,7 @@ IsLabelOf Tree bits = (label : TreeLabel) × IsTreeLabel gamma_code bits label
 IsLabelOf Forest bits = (label : DepthLabel) × IsDepthLabel gamma_code bits label
 IsLabelOf Bipartite bits = (label : ColourLabel) × IsColourLabel bits label
 IsLabelOf Acyclic bits = (label : CycleLabel) × IsCycleLabel gamma_code bits label
+IsLabelOf Leader bits = (label : LeaderLabel) × IsLeaderLabel gamma_code bits label
 
 -- the bits are this label of the scheme, which is its bits
 abbrev pub IsLabelled : SchemeName → List Bool → List Bool → Type 0

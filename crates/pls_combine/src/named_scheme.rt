@@ -8,6 +8,7 @@ use pls_base::{NoMemory, Steps};
 use pls_bits::{BitBuf, Bits, Gamma};
 use pls_colour::{Acyclic, Bipartite};
 use pls_graph::{Network, Size};
+use pls_leader::Leader;
 use pls_model::Verdict;
 use pls_pointer::{Forest, Tree};
 use pls_scheme::{Checker, Property, Scheme};
@@ -48,6 +49,7 @@ impl Checker for SchemeName {
             SchemeName::Forest => Forest::<Gamma>::new().verify(alloc, view, steps),
             SchemeName::Bipartite => Bipartite::new().verify(alloc, view, steps),
             SchemeName::Acyclic => Acyclic::<Gamma>::new().verify(alloc, view, steps),
+            SchemeName::Leader => Leader::<Gamma>::new().verify(alloc, view, steps),
         }
     }
 
@@ -63,6 +65,7 @@ impl Checker for SchemeName {
             SchemeName::Forest => Forest::<Gamma>::new().round(alloc, net, labels, steps),
             SchemeName::Bipartite => Bipartite::new().round(alloc, net, labels, steps),
             SchemeName::Acyclic => Acyclic::<Gamma>::new().round(alloc, net, labels, steps),
+            SchemeName::Leader => Leader::<Gamma>::new().round(alloc, net, labels, steps),
         }
     }
 
@@ -82,6 +85,7 @@ impl Property for SchemeName {
             SchemeName::Forest => Forest::<Gamma>::new().decide(alloc, net),
             SchemeName::Bipartite => Bipartite::new().decide(alloc, net),
             SchemeName::Acyclic => Acyclic::<Gamma>::new().decide(alloc, net),
+            SchemeName::Leader => Leader::<Gamma>::new().decide(alloc, net),
         }
     }
 }
@@ -122,6 +126,7 @@ impl Scheme for SchemeName {
             SchemeName::Forest => Forest::<Gamma>::new().bound(size),
             SchemeName::Bipartite => Bipartite::new().bound(size),
             SchemeName::Acyclic => Acyclic::<Gamma>::new().bound(size),
+            SchemeName::Leader => Leader::<Gamma>::new().bound(size),
         }
     }
 
@@ -131,6 +136,7 @@ impl Scheme for SchemeName {
             SchemeName::Forest => Forest::<Gamma>::new().mark(alloc, net),
             SchemeName::Bipartite => Bipartite::new().mark(alloc, net),
             SchemeName::Acyclic => Acyclic::<Gamma>::new().mark(alloc, net),
+            SchemeName::Leader => Leader::<Gamma>::new().mark(alloc, net),
         }
     }
 
@@ -155,5 +161,6 @@ fn is_label(alloc: Global, scheme: SchemeName, bits: &Bits<'_>) -> Result<bool, 
         SchemeName::Forest => Forest::<Gamma>::new().read_label(alloc, bits)?.is_some(),
         SchemeName::Bipartite => Bipartite::new().read_label(alloc, bits)?.is_some(),
         SchemeName::Acyclic => Acyclic::<Gamma>::new().read_label(alloc, bits)?.is_some(),
+        SchemeName::Leader => Leader::<Gamma>::new().read_label(alloc, bits)?.is_some(),
     })
 }

@@ -14,6 +14,8 @@ pub enum SchemeName {
     Bipartite,
     /// `acyclic`: no three or more nodes make a cycle.
     Acyclic,
+    /// `leader`: exactly one node has mark 1.
+    Leader,
 }
 
 /// The scheme that a word names, or `None` where it names none.
@@ -28,6 +30,8 @@ pub fn read_scheme(word: &str) -> Option<SchemeName>
         Some(SchemeName::Bipartite)
     } else if is_word(word, "acyclic") {
         Some(SchemeName::Acyclic)
+    } else if is_word(word, "leader") {
+        Some(SchemeName::Leader)
     } else {
         None
     }

@@ -12,8 +12,10 @@ use Rattle.pls_pointer.specs.laws.ForestLaws.{forest_marked_once, forest_sound}
 use Rattle.pls_pointer.specs.laws.TreeLaws.{tree_marked_once, tree_sound}
 use Rattle.pls_colour.specs.laws.AcyclicLaws.{acyclic_marked_once, acyclic_sound}
 use Rattle.pls_colour.specs.laws.BipartiteLaws.{bipartite_marked_once, bipartite_sound}
+use Rattle.pls_leader.specs.Leader.{leader_label, leader_rules}
+use Rattle.pls_leader.specs.laws.LeaderLaws.{leader_marked_once, leader_sound}
 use Rattle.pls_combine.specs.declared.scheme_name.SchemeName.{SchemeName}
-use Rattle.pls_combine.specs.declared.scheme_name.SchemeName.TheVariants.{Acyclic, Bipartite, Forest, Tree}
+use Rattle.pls_combine.specs.declared.scheme_name.SchemeName.TheVariants.{Acyclic, Bipartite, Forest, Leader, Tree}
 use Rattle.pls_combine.specs.Named.{HasProperty, IsLabelOf, IsLabelled, IsMarked, judge_of}
 
 -- a rejection names the one leaf
@@ -22,6 +24,7 @@ one_leaf Tree = judge_by-leaf (label_in tree_label gamma_takes 2) tree_rules
 one_leaf Forest = judge_by-leaf (label_in depth_label gamma_takes 1) forest_rules
 one_leaf Bipartite = judge_by-leaf colour_label bipartite_rules
 one_leaf Acyclic = judge_by-leaf (label_in cycle_label gamma_takes 1) acyclic_rules
+one_leaf Leader = judge_by-leaf (label_in leader_label gamma_takes 2) leader_rules
 
 -- a connected network whose nodes all accept some labels has the property
 pub named_sound : (scheme : SchemeName) → IsSound (judge_of scheme) (HasProperty scheme)
@@ -29,6 +32,7 @@ named_sound Tree = tree_sound gamma_takes
 named_sound Forest = forest_sound gamma_takes
 named_sound Bipartite = bipartite_sound
 named_sound Acyclic = acyclic_sound gamma_takes
+named_sound Leader = leader_sound gamma_takes
 
 -- a connected network with the property is marked in one way
 pub named_marked_once : (scheme : SchemeName) → IsMarkedOnce (HasProperty scheme) (IsMarked scheme)
@@ -36,6 +40,7 @@ named_marked_once Tree = tree_marked_once gamma_code
 named_marked_once Forest = forest_marked_once gamma_code
 named_marked_once Bipartite = bipartite_marked_once
 named_marked_once Acyclic = acyclic_marked_once gamma_code
+named_marked_once Leader = leader_marked_once gamma_code
 
 -- a label is its own spelling, and the only one
 pub has_spellings : (scheme : SchemeName) → HasSpellings (IsLabelOf scheme) (IsLabelled scheme)

@@ -11,3 +11,6 @@ returns-in-Bipartite c = rw c.in-Bipartite.is c.decide-in-Bipartite.ensures
 
 pub returns-in-Acyclic : goal.returns-in-Acyclic
 returns-in-Acyclic c = rw c.in-Acyclic.is c.decide-in-Acyclic.ensures
+
+pub returns-in-Leader : goal.returns-in-Leader
+returns-in-Leader c = rw c.in-Leader.is c.decide-in-Leader.ensures
