@@ -6,7 +6,7 @@ use Rattle.pls_model.specs.declared.row.NodeRow.{NodeRow}
 use Rattle.pls_model.specs.Configuration.{ids_of}
 use Rattle.pls_graph.specs.Size.{greatest, size_of}
 use Rattle.pls_netfile.specs.NetworkText.{network_text}
-use Rattle.pls_view.specs.Labels.{bits_in}
+use Rattle.pls_view.specs.Labels.{bits_together}
 use Rattle.pls_labelfile.specs.LabelsText.{labels_text, named}
 use Rattle.pls_scheme.specs.Judging.{round_by}
 use Rattle.pls_scheme.specs.Marked.{answered}
@@ -25,7 +25,7 @@ use Rattle.pls_app.proofs.TextLengths.{text_fits}
 
 -- labels of at most 8,192 bits each have at most so many times as many bits as there are labels
 few_in_short : (labels : List (List Bool)) → All (λ label. length label ≤ 8192) labels
-    → bits_in labels ≤ 8192 * length labels
+    → bits_together labels ≤ 8192 * length labels
 few_in_short [] short = omega arith
 few_in_short (label ∷ labels) short =
     let Short : List Bool → Type 0 = λ label. length label ≤ 8192 in

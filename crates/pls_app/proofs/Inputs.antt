@@ -8,7 +8,7 @@ use Rattle.pls_base.specs.declared.text_error.Quantity.TheVariants.{Bits}
 use Rattle.pls_model.specs.declared.row.NodeRow.{NodeRow}
 use Rattle.pls_model.specs.Configuration.{IsNetwork, ids_of}
 use Rattle.pls_model.specs.Walk.{IsConnected}
-use Rattle.pls_view.specs.Labels.{bits_in}
+use Rattle.pls_view.specs.Labels.{bits_together}
 use Rattle.pls_netfile.specs.NetworkText.{AreRows, network_text}
 use Rattle.pls_netfile.specs.NetworkScan.{WrittenNetwork, TellsNetwork}
 use Rattle.pls_netfile.specs.laws.NetworkRows.{one_network}
@@ -97,7 +97,7 @@ labelled_input bytes network parts written labels net store short tells is some 
     ∙ length-map net (λ (row : NodeRow). row.id) in
     let many : length store ≡ length (ids_of net) =
     each ∙ sym (length-map net (λ (row : NodeRow). row.id)) in
-    let sum : total_bits labels ≡ bits_in store =
+    let sum : total_bits labels ≡ bits_together store =
     ap total_bits (sym back) ∙ total_bits-named (ids_of net) store many in
     let few = few_bits (ids_of net) written.number labels (built.accepted labels behind.tells) in
     record {

@@ -4,7 +4,7 @@ use Rattle.pls_model.specs.declared.row.NodeRow.{NodeRow}
 use Rattle.pls_model.specs.Configuration.{IsNetwork, ids_of}
 use Rattle.pls_model.specs.Walk.{IsConnected}
 use Rattle.pls_netfile.specs.NetworkText.{AreRows, network_text}
-use Rattle.pls_view.specs.Labels.{bits_in}
+use Rattle.pls_view.specs.Labels.{bits_together}
 use Rattle.pls_labelfile.specs.LabelsText.{labels_text, named}
 use Rattle.pls_labelfile.specs.declared.limits.TheConstants.{MAX_BITS}
 use Rattle.pls_app.specs.declared.command.Command.{Command}
@@ -20,7 +20,7 @@ pub record IsReadable (rows : List NodeRow) : Type 0 where
 -- the labels are one for each node, within the limit on their bits
 pub record AreLabels (rows : List NodeRow) (labels : List (List Bool)) : Type 0 where
   pub each : length labels ≡ length rows
-  pub few : bits_in labels ≤ MAX_BITS
+  pub few : bits_together labels ≤ MAX_BITS
 
 -- the bytes are the text of a network, within the limit
 pub record IsNetworkInput (bytes : List ℕ) (rows : List NodeRow) : Type 0 where

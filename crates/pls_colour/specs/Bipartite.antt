@@ -13,8 +13,8 @@ use Rattle.pls_colour.specs.declared.colour_layout.ColourLabel.{ColourLabel}
 use Rattle.pls_colour.specs.Levelled.{saying_level}
 
 -- the label with this colour
-abbrev pub label_of_colour : Bool → ColourLabel
-label_of_colour colour = record { colour = colour }
+abbrev pub colour_says : Bool → ColourLabel
+colour_says colour = record { colour = colour }
 
 -- the bits are one, the colour
 abbrev pub IsColourLabel : List Bool → ColourLabel → Type 0
@@ -23,7 +23,7 @@ IsColourLabel bits label = bits ≡ label.colour ∷ []
 -- what a label says: its one bit is the colour
 abbrev pub colour_label : List Bool → Option ColourLabel
 colour_label [] = None
-colour_label (colour ∷ []) = Some (label_of_colour colour)
+colour_label (colour ∷ []) = Some (colour_says colour)
 colour_label (colour ∷ next ∷ others) = None
 
 -- the two colours differ
@@ -49,7 +49,7 @@ judge_bipartite view = judge_by colour_label bipartite_rules view
 
 -- the label for a level: whether it is odd
 abbrev pub parity_label : ℕ → ColourLabel
-parity_label level = label_of_colour (is_odd level)
+parity_label level = colour_says (is_odd level)
 
 -- the label of a node is the parity of its level: of its distance in edges from the node whose
 -- identity is smallest

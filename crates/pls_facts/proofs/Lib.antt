@@ -13,7 +13,7 @@ pub mod ChainDepths
 pub mod Roots
 pub mod Trees
 pub mod Cycles
-pub mod Depths
+pub mod CycleDepths
 pub mod Levels
 pub mod Parity
 pub mod Colourings

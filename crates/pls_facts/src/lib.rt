@@ -10,7 +10,7 @@
 //! Proofs above may cite all of `proofs/`. `Lists` has what holds of lists alone, `Neighbours` the
 //! nodes at the ports, `Levels` levels from any node, `ChainDepths` the lengths of chains,
 //! `OnlyNode` and `Roots` the one node that passes a test, `Agreed` what agrees at each port,
-//! `Depths` depths where there is no cycle, `Colourings` colours at ports and parities of levels,
+//! `CycleDepths` depths where there is no cycle, `Colourings` colours at ports and parities of levels,
 //! `Chains`, `Pointed`, `PointedEdges`, `Bounded` and `Trees` pointers and their edges.
 #![tactic(auto)]
 

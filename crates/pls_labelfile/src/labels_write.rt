@@ -5,7 +5,7 @@ ghost use Rattle.pls_model.specs.Configuration.{ids_of};
 ghost use Rattle.pls_lines.specs.Text.{text_of};
 ghost use Rattle.pls_labelfile.specs.LabelsText.{FitsLabel, label_line, labels_text, named};
 ghost use Rattle.pls_labelfile.specs.declared.limits.TheConstants.{MAX_BITS};
-ghost use Rattle.pls_view.specs.Labels.{bits_in};
+ghost use Rattle.pls_view.specs.Labels.{bits_together};
 
 use pls_base::NoMemory;
 use pls_bits::Bits;
@@ -19,7 +19,7 @@ pub fn write_labels(alloc: Global, net: &Network, labels: &LabelStore) -> Result
     requires { length labels.now ≡ length net.now }
     ensures text { IfOk result (λ text.
         text.items ≡ labels_text (named (ids_of net.now) labels.now)) }
-    ensures fits { OnOk result (bits_in labels.now ≤ MAX_BITS
+    ensures fits { OnOk result (bits_together labels.now ≤ MAX_BITS
         → All FitsLabel (named (ids_of net.now) labels.now)) }
 {
     let mut text = String::from_str(alloc, "labels\n")?;

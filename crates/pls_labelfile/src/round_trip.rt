@@ -2,7 +2,7 @@
 
 ghost use Rattle.std.specs.Prelude.{◌≡◌, ◌≤◌, length, IfErr, IfOk};
 ghost use Rattle.pls_base.specs.declared.text_error.TextError.TheVariants.{NoMemory};
-ghost use Rattle.pls_view.specs.Labels.{bits_in};
+ghost use Rattle.pls_view.specs.Labels.{bits_together};
 ghost use Rattle.pls_labelfile.specs.declared.limits.TheConstants.{MAX_BITS};
 
 use crate::labels_read::read_labels;
@@ -20,7 +20,7 @@ pub fn written_is_read(
     labels: &LabelStore,
 ) -> Result<LabelStore, TextError>
     requires lengths { length labels.now ≡ length net.now }
-    requires few { bits_in labels.now ≤ MAX_BITS }
+    requires few { bits_together labels.now ≤ MAX_BITS }
     ensures same { IfOk result (λ read. read ≡ labels.now) }
     ensures memory { IfErr result (λ error. error ≡ NoMemory) }
 {

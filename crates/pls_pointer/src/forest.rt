@@ -3,7 +3,7 @@
 ghost use Rattle.std.specs.Prelude.{◌≡◌, ◌==◌, ◌||◌};
 ghost use Rattle.std.specs.Option.{is_some};
 
-use crate::above::is_one_deeper;
+use crate::deeper::is_one_deeper;
 use pls_bits::NumCode;
 use pls_model::State;
 use pls_scheme::{Coded, Judgement, OfNumbers, Ruled, Rules, Verdict, judged_from};

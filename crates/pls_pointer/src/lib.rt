@@ -9,7 +9,7 @@
 //! pointers are stands in `pls_facts`.
 #![tactic(auto)]
 
-mod above;
+mod deeper;
 mod forest;
 mod forest_scheme;
 mod tree;

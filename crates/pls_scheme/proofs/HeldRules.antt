@@ -13,7 +13,7 @@ use Rattle.pls_graph.specs.Places.{beside, named_places, place_in}
 use Rattle.pls_graph.proofs.Finds.{position-found}
 use Rattle.pls_graph.proofs.Placed.{neighbour_found}
 use Rattle.pls_scheme.specs.Marked.{AreSaidBy}
-use Rattle.pls_scheme.specs.Reading.{label_above, reading, said, said_port}
+use Rattle.pls_scheme.specs.Reading.{label_above, reading, read_where, port_where}
 use Rattle.pls_scheme.specs.inner.Holding.{AreKnown}
 
 -- the label at the place of an identity
@@ -96,13 +96,13 @@ all_known rows net i row at p d within =
 -- what the label above says
 pub label_above-said : {L : Type 0} (say : ℕ → L) (ports : List Port) (up : ℕ) (port : Port)
     → slice_get ports up ≡ Some port
-    → label_above (map (said_port say) ports) (Some up) ≡ Some (say port.nbr)
-label_above-said {L} say ports up port at = rw (slice_get-map (said_port say) ports up, at) refl
+    → label_above (map (port_where say) ports) (Some up) ≡ Some (say port.nbr)
+label_above-said {L} say ports up port at = rw (slice_get-map (port_where say) ports up, at) refl
 
 -- what the node of a row reads, from what is known of the row
 pub reading-said : {L : Type 0} (say : ℕ → L) (row : NodeRow) (id : ℕ) (state : State)
     (ports : List Port) (own : L) → row.id ≡ id → row.state ≡ state → row.ports ≡ ports
     → own ≡ say row.id
-    → reading id state own (map (said_port say) ports) ≡ said say row
-reading-said say row id state ports own id_is state_is ports_are own_is =
+    → reading id state own (map (port_where say) ports) ≡ read_where say row
+reading-read_where say row id state ports own id_is state_is ports_are own_is =
     rw (← id_is, ← state_is, ← ports_are, own_is) refl

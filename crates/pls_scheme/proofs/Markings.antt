@@ -11,7 +11,7 @@ use Rattle.pls_view.specs.Seen.{label_of}
 use Rattle.pls_view.proofs.Views.{label_at}
 use Rattle.pls_scheme.specs.Judging.{AllAccept, AllHold}
 use Rattle.pls_scheme.specs.Marked.{AreRight, IsMarkedBy}
-use Rattle.pls_scheme.specs.Reading.{Read, judge_by, said}
+use Rattle.pls_scheme.specs.Reading.{Read, judge_by, read_where}
 use Rattle.pls_scheme.specs.Spelled.{AreSpelled}
 use Rattle.pls_scheme.specs.laws.Saying.{said_accepted}
 use Rattle.pls_facts.proofs.Lists.{item_at}
@@ -74,7 +74,7 @@ module _ {L : Type 0} (spells : List Bool → L → Type 0) (says : NodeRow → 
         -- where rules hold of what is right, marked labels are accepted
         pub marked_accepted : (tests : Read L → List Bool)
             → ((say : ℕ → L) → ((row : NodeRow) → Contains rows row → says row (say row.id))
-            → (row : NodeRow) → Contains rows row → AllHold (tests (said say row)))
+            → (row : NodeRow) → Contains rows row → AllHold (tests (read_where say row)))
             → AllAccept (judge_by read tests) rows labels
         marked_accepted tests hold =
             let (say, right) : (say : ℕ → L)

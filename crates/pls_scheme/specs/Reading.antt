@@ -68,15 +68,15 @@ abbrev pub reading : {L : Type 0} → ℕ → State → L → List (ReadPort L) 
 reading id state own ports = record { id = id; state = state; own = own; ports = ports }
 
 -- what a port shows where each label says what a function of the identity says
-abbrev pub said_port : {L : Type 0} → (ℕ → L) → Port → ReadPort L
-said_port say port = record { weight = port.weight; label = say port.nbr }
+abbrev pub port_where : {L : Type 0} → (ℕ → L) → Port → ReadPort L
+port_where say port = record { weight = port.weight; label = say port.nbr }
 
 -- what the node of a row reads where each label says what a function of the identity says
-abbrev pub said : {L : Type 0} → (ℕ → L) → NodeRow → Read L
-said say row =
+abbrev pub read_where : {L : Type 0} → (ℕ → L) → NodeRow → Read L
+read_where say row =
     record {
       id = row.id;
       state = row.state;
       own = say row.id;
-      ports = map (said_port say) row.ports;
+      ports = map (port_where say) row.ports;
     }

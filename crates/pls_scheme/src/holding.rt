@@ -5,11 +5,11 @@ ghost use Rattle.pls_model.specs.declared.row.NodeRow.{NodeRow};
 ghost use Rattle.pls_graph.specs.Places.{named_places};
 ghost use Rattle.pls_scheme.specs.Judging.{judged_from};
 ghost use Rattle.pls_scheme.specs.Marked.{AreSaidBy};
-ghost use Rattle.pls_scheme.specs.Reading.{said, said_port};
+ghost use Rattle.pls_scheme.specs.Reading.{read_where, port_where};
 ghost use Rattle.pls_scheme.specs.Theorem.{HoldEverywhere};
 ghost use Rattle.pls_scheme.specs.inner.Holding.{AreKnown};
 
-use crate::consequences::accepts;
+use crate::certify::accepts;
 use crate::layout::Layout;
 use crate::rules::Rules;
 use pls_facts::is_valid;
@@ -47,7 +47,7 @@ fn verdict_at<R: Rules>(
     requires within { i < length net.now }
     ensures { (say : ℕ → R.Layout.Label) → AreSaidBy say net.now labels.now
         → (row : NodeRow) → slice_get net.now i ≡ Some row
-        → result ≡ judged_from 3 (R.rules rules.now (said say row)) }
+        → result ≡ judged_from 3 (R.rules rules.now (read_where say row)) }
 {
     is_valid(net);
     let (id, state) = net.node(i);
@@ -74,7 +74,7 @@ fn tally_at<R: Rules>(
     requires known { AreKnown net.now ports.now }
     requires places { places.now ≡ named_places net.now ports.now }
     ensures { (say : ℕ → R.Layout.Label) → AreSaidBy say net.now labels.now
-        → result ≡ R.tallied rules.now own.now (map (said_port say) ports.now) }
+        → result ≡ R.tallied rules.now own.now (map (port_where say) ports.now) }
 {
     let mut tally = rules.start(own);
     for (p, port) in ports.iter().enumerate() {

@@ -23,7 +23,7 @@
 mod basic;
 mod checker;
 mod coded;
-mod consequences;
+mod certify;
 mod holding;
 mod in_place;
 mod judgement;
@@ -41,7 +41,7 @@ mod scheme;
 pub use basic::{Basic, Ruled};
 pub use checker::Checker;
 pub use coded::{Coded, OfNumbers};
-pub use consequences::{are_accepted, certifies};
+pub use certify::{are_accepted, certifies};
 pub use holding::hold_everywhere;
 pub use in_place::JudgesInPlace;
 pub use judgement::Judgement;

@@ -8,7 +8,7 @@ use Rattle.pls_bits.specs.Words.{bits_of}
 use Rattle.pls_bits.proofs.Appended.{bits_of-front}
 use Rattle.pls_bits.proofs.Ranges.{bits_of-none, length-bits_of}
 use Rattle.pls_view.specs.declared.label_room.Slot.{Slot}
-use Rattle.pls_view.specs.Labels.{bits_in}
+use Rattle.pls_view.specs.Labels.{bits_together}
 use Rattle.pls_view.specs.inner.Slots.{IsFree, IsRoom, LiesIn, bits_of_slots, label_in}
 
 -- a slot
@@ -23,9 +23,9 @@ lengths words (slot ∷ slots) =
     (ap (λ rest. slot.len ∷ rest) (lengths words slots))
 
 -- the labels have as many bits as the slots
-pub bits_in-labels : (words : List ℕ) (slots : List Slot)
-    → bits_in (map (label_in words) slots) ≡ bits_of_slots slots
-bits_in-labels words slots =
+pub bits_together-labels : (words : List ℕ) (slots : List Slot)
+    → bits_together (map (label_in words) slots) ≡ bits_of_slots slots
+bits_together-labels words slots =
     sym (sum-map (length {A = Bool}) (map (label_in words) slots)) ∙ ap sum (lengths words slots)
     ∙ sum-map (λ (slot : Slot). slot.len) slots
 

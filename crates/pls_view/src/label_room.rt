@@ -4,7 +4,7 @@ ghost use Rattle.std.specs.Prelude.{◌≡◌, ◌≤◌, ◌<◌, ◌+◌, ◌*
 ghost use Rattle.std.specs.List.{All, insert, remove};
 ghost use Rattle.std.specs.Vec.{vec_capacity};
 ghost use Rattle.pls_bits.specs.Hex.{Spells, hex_digits};
-ghost use Rattle.pls_view.specs.Labels.{bits_in};
+ghost use Rattle.pls_view.specs.Labels.{bits_together};
 ghost use Rattle.pls_view.specs.Stored.{cost};
 ghost use Rattle.pls_view.specs.inner.Slots.{LiesIn, bits_of_slots, label_in};
 
@@ -88,7 +88,7 @@ impl LabelRoom {
 
     /// How many bits all labels have together.
     pub fn total(&self) -> u64
-        ensures { result ≡ bits_in self.now.labels }
+        ensures { result ≡ bits_together self.now.labels }
     {
         self.total
     }

@@ -9,7 +9,7 @@ use Rattle.pls_model.specs.Walk.{edges_of}
 use Rattle.pls_graph.specs.Levels.{IsLevel}
 use Rattle.pls_graph.specs.Size.{size_of}
 use Rattle.pls_scheme.specs.Numbers.{AreCoded, label_in}
-use Rattle.pls_scheme.specs.Reading.{said, said_port}
+use Rattle.pls_scheme.specs.Reading.{read_where, port_where}
 use Rattle.pls_scheme.specs.SchemeLaws.{IsMarkedOnce, IsSound}
 use Rattle.pls_scheme.specs.Theorem.{AreRightEverywhere, OneIsRight, RightFits, RulesAreMet, RulesShow}
 use Rattle.pls_scheme.specs.laws.CodeLaws.{one_spelling}
@@ -17,7 +17,7 @@ use Rattle.pls_scheme.specs.laws.Marking.{marked_once, sound_by}
 use Rattle.pls_scheme.proofs.Fitting.{within_fits}
 use Rattle.pls_scheme.proofs.SaidPorts.{all_ports_pass, passes_port}
 use Rattle.pls_facts.specs.Cycle.{AreSearched, IsAcyclic}
-use Rattle.pls_facts.proofs.Depths.{acyclic_by_depths, searched_differ, searched_one_above}
+use Rattle.pls_facts.proofs.CycleDepths.{acyclic_by_depths, searched_differ, searched_one_above}
 use Rattle.pls_facts.proofs.Levels.{levels_searched}
 use Rattle.pls_facts.proofs.Lists.{count_by-map, item_at}
 use Rattle.pls_facts.proofs.Neighbours.{adjacent_known}
@@ -31,7 +31,7 @@ module _ (say : ℕ → CycleLabel) (row : NodeRow) where
   meets_rule_3 : ((port : Port) → Contains row.ports port
       → ((say port.nbr).depth ≡ (say row.id).depth + 1)
       ⊎ ((say row.id).depth ≡ (say port.nbr).depth + 1))
-      → differs_by_one (said say row) ≡ true
+      → differs_by_one (read_where say row) ≡ true
   meets_rule_3 differ = all_ports_pass (is_beside (say row.id).depth) say row.ports passes
     where
       either : (one other : Bool) → (one ≡ true) ⊎ (other ≡ true) → (one || other) ≡ true
@@ -40,7 +40,7 @@ module _ (say : ℕ → CycleLabel) (row : NodeRow) where
       either false false holds = elim holds [ inl one ↦ one | inr other ↦ other ]
 
       passes : (port : Port) → Contains row.ports port
-          → is_beside (say row.id).depth (said_port say port) ≡ true
+          → is_beside (say row.id).depth (port_where say port) ≡ true
       passes port has =
           let own : ℕ = (say row.id).depth in
           let other : ℕ = (say port.nbr).depth in
@@ -51,10 +51,10 @@ module _ (say : ℕ → CycleLabel) (row : NodeRow) where
 
   -- with one less deep neighbour at most, rule 4 is met
   meets_rule_4 : count_by (λ (port : Port). (say port.nbr).depth + 1 == (say row.id).depth)
-      row.ports ≤ 1 → has_one_above (said say row) ≡ true
+      row.ports ≤ 1 → has_one_above (read_where say row) ≡ true
   meets_rule_4 few =
       ap (λ (count : ℕ). nat_le count 1)
-      (count_by-map (is_above (say row.id).depth) (said_port say) row.ports)
+      (count_by-map (is_above (say row.id).depth) (port_where say) row.ports)
       ∙ le-leb (count_by (λ (port : Port). (say port.nbr).depth + 1 == (say row.id).depth)
       row.ports) 1 few
 
@@ -71,8 +71,8 @@ acyclic_show rows net joined say hold =
       | inr less ↦ inr (eqb-true own (other + 1) less)
     ])
     (λ row in'. subst (λ (count : ℕ). count ≤ 1)
-    (count_by-map (is_above (say row.id).depth) (said_port say) row.ports)
-    (leb-true (count_by (is_above (say row.id).depth) (map (said_port say) row.ports)) 1
+    (count_by-map (is_above (say row.id).depth) (port_where say) row.ports)
+    (leb-true (count_by (is_above (say row.id).depth) (map (port_where say) row.ports)) 1
     (hold row in').1.0))
 
 module _ (rows : List NodeRow) (net : IsNetwork rows) (say : ℕ → CycleLabel)

@@ -4,7 +4,7 @@ use Rattle.pls_model.specs.declared.row.Port.{Port}
 use Rattle.pls_model.specs.declared.row.NodeRow.{NodeRow}
 use Rattle.pls_model.specs.Walk.{edges_of}
 use Rattle.pls_graph.specs.Levels.{IsLevel}
-use Rattle.pls_scheme.specs.Reading.{said_port}
+use Rattle.pls_scheme.specs.Reading.{port_where}
 use Rattle.pls_scheme.specs.SchemeLaws.{IsMarkedOnce, IsSound}
 use Rattle.pls_scheme.specs.Theorem.{OneIsRight, RightFits, RulesAreMet, RulesShow}
 use Rattle.pls_scheme.specs.laws.Marking.{marked_once, sound_by}
@@ -50,7 +50,7 @@ bipartite_met rows net joined bipartite say right row in' =
     first = item_at rows 0 (let some = net.limits.some in omega (arith, some))
 
     passes : (port : Port) → Contains row.ports port
-        → differs_from (say row.id).colour (said_port say port) ≡ true
+        → differs_from (say row.id).colour (port_where say port) ≡ true
     passes port has =
         let (other, other_in, named) : (other : NodeRow) × Contains rows other
         × (other.id ≡ port.nbr) = neighbour_row rows net row in' port has in

@@ -10,7 +10,7 @@ use Rattle.pls_model.specs.Walk.{edges_of}
 use Rattle.pls_graph.specs.Levels.{IsLevel}
 use Rattle.pls_graph.specs.Size.{greatest, size_of}
 use Rattle.pls_scheme.specs.Numbers.{AreCoded, label_in}
-use Rattle.pls_scheme.specs.Reading.{said, said_port}
+use Rattle.pls_scheme.specs.Reading.{read_where, port_where}
 use Rattle.pls_scheme.specs.SchemeLaws.{IsMarkedOnce, IsSound}
 use Rattle.pls_scheme.specs.Theorem.{AreRightEverywhere, OneIsRight, RightFits, RulesAreMet, RulesShow}
 use Rattle.pls_scheme.specs.laws.CodeLaws.{one_spelling}
@@ -36,7 +36,7 @@ either false true holds = refl
 either false false holds = elim holds [ inl one ↦ one | inr other ↦ other ]
 
 -- where rule 5 holds, a depth above 0 falls at some port
-falls_at_port : (say : ℕ → LeaderLabel) (row : NodeRow) → falls_to_root (said say row) ≡ true
+falls_at_port : (say : ℕ → LeaderLabel) (row : NodeRow) → falls_to_root (read_where say row) ≡ true
     → 1 ≤ (say row.id).depth
     → (port : Port) × Contains row.ports port
     × ((say row.id).depth ≡ (say port.nbr).depth + 1)
@@ -45,7 +45,7 @@ falls_at_port say row holds some =
       | inl none ↦ absurd (let is = eqb-true (say row.id).depth 0 none in omega (arith, some, is))
       | inr falls ↦
           let (port, has, less) : (port : Port) × Contains row.ports port
-          × (is_one_less_deep (say row.id).depth (said_port say port) ≡ true) =
+          × (is_one_less_deep (say row.id).depth (port_where say port) ≡ true) =
           passes_at_some (is_one_less_deep (say row.id).depth) say row.ports falls in
           (port, has, eqb-true (say row.id).depth ((say port.nbr).depth + 1) less)
     ]
@@ -54,14 +54,14 @@ falls_at_port say row holds some =
 port_falls : (say : ℕ → LeaderLabel) (row : NodeRow)
     → (1 ≤ (say row.id).depth → (port : Port) × Contains row.ports port
     × ((say row.id).depth ≡ (say port.nbr).depth + 1))
-    → falls_to_root (said say row) ≡ true
+    → falls_to_root (read_where say row) ≡ true
 port_falls say row falls =
     by ((say row.id).depth == 0) refl
   where
     here : ℕ
     here = (say row.id).depth
 
-    by : (none : Bool) → (here == 0) ≡ none → falls_to_root (said say row) ≡ true
+    by : (none : Bool) → (here == 0) ≡ none → falls_to_root (read_where say row) ≡ true
     by true is = either (here == 0) _ (inl is)
     by false is =
         let some : 1 ≤ here = above here is in
@@ -157,7 +157,7 @@ leader_met rows net joined one say right row in' = (
     named row in' = (here rows net one say right row in').0
 
     agree : (port : Port) → Contains row.ports port
-        → names_root (say row.id).root (said_port say port) ≡ true
+        → names_root (say row.id).root (port_where say port) ≡ true
     agree port has =
         let (other, other_in, is) : (row : NodeRow) × Contains rows row × (row.id ≡ port.nbr) =
         neighbour_row rows net row in' port has in

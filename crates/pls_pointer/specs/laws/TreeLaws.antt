@@ -7,7 +7,7 @@ use Rattle.pls_model.specs.declared.row.NodeRow.{NodeRow}
 use Rattle.pls_model.specs.Configuration.{IsNetwork, ids_of}
 use Rattle.pls_graph.specs.Size.{greatest, size_of}
 use Rattle.pls_scheme.specs.Numbers.{AreCoded, label_in}
-use Rattle.pls_scheme.specs.Reading.{said, said_port}
+use Rattle.pls_scheme.specs.Reading.{read_where, port_where}
 use Rattle.pls_scheme.specs.SchemeLaws.{IsMarkedOnce, IsSound}
 use Rattle.pls_scheme.specs.Theorem.{OneIsRight, RightFits, RulesAreMet, RulesShow}
 use Rattle.pls_scheme.specs.laws.CodeLaws.{one_spelling}
@@ -32,14 +32,14 @@ use Rattle.pls_pointer.specs.laws.PointingLaws.{deeper_falls, falls_deeper, poin
 
 module _ (say : ℕ → TreeLabel) (row : NodeRow) where
   -- where rule 3 holds, the root at each port is the own one
-  agree_at_port : agrees_on_root (said say row) ≡ true → (port : Port) → Contains row.ports port
+  agree_at_port : agrees_on_root (read_where say row) ≡ true → (port : Port) → Contains row.ports port
       → (say port.nbr).root ≡ (say row.id).root
   agree_at_port agrees port has =
       eqb-true (say port.nbr).root (say row.id).root
       (passes_port (names_root (say row.id).root) say row.ports agrees port has)
 
   -- where rule 4 holds, a node without pointer is the root
-  root_names_itself : points_or_is_root (said say row) ≡ true → row.state.up ≡ None
+  root_names_itself : points_or_is_root (read_where say row) ≡ true → row.state.up ≡ None
       → row.id ≡ (say row.id).root
   root_names_itself holds none =
       let here : (is_some row.state.up || ((say row.id).depth == 0 && row.id == (say row.id).root))
@@ -92,7 +92,7 @@ tree_met rows net joined tree say right row in' = (
     chain_of row in' = (root.0.id, (right row in' root.0 root.1 root.2).1)
 
     agree : (port : Port) → Contains row.ports port
-        → names_root (say row.id).root (said_port say port) ≡ true
+        → names_root (say row.id).root (port_where say port) ≡ true
     agree port has =
         let (other, other_in, is) : (row : NodeRow) × Contains rows row × (row.id ≡ port.nbr) =
         neighbour_row rows net row in' port has in

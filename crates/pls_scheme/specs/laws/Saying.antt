@@ -11,7 +11,7 @@ use Rattle.pls_graph.proofs.Members.{Contains-map, Contains-from_place}
 use Rattle.pls_graph.proofs.Placed.{neighbour_found, row_place}
 use Rattle.pls_view.specs.Seen.{Seen, label_of, seen, seen_port}
 use Rattle.pls_scheme.specs.Judging.{AllAccept, AllHold, judged_from}
-use Rattle.pls_scheme.specs.Reading.{Read, ReadPort, judge_by, judged_read, read_port, read_ports, said, said_port}
+use Rattle.pls_scheme.specs.Reading.{Read, ReadPort, judge_by, judged_read, read_port, read_ports, read_where, port_where}
 use Rattle.pls_scheme.specs.laws.Readings.{judged_by_rules, split_read}
 
 -- rules that accept hold, each of them
@@ -73,7 +73,7 @@ module _ {L : Type 0} (read : List Bool → Option L) (rules : Read L → List B
   -- a port that is read says what its label says
   said_first : (label : ℕ → List Bool) (other : L) (port : Port) (first : ReadPort L)
       → read_port read (seen_port label port) ≡ Some first
-      → first ≡ said_port (say_of label other) port
+      → first ≡ port_where (say_of label other) port
   said_first label other port first is = by (read (label port.nbr)) is
     where
       by : (said : Option L) → option_map (λ label. the_port port label) said ≡ Some first
@@ -84,13 +84,13 @@ module _ {L : Type 0} (read : List Bool → Option L) (rules : Read L → List B
   -- ports that are read say what their labels say
   said_ports : (label : ℕ → List Bool) (other : L) (ports : List Port) (found : List (ReadPort L))
       → read_ports read (map (seen_port label) ports) ≡ Some found
-      → found ≡ map (said_port (say_of label other)) ports
+      → found ≡ map (port_where (say_of label other)) ports
   said_ports label other [] found is = cc
   said_ports label other (port ∷ ports) found is =
       let parts = split_read read (seen_port label port) (map (seen_port label) ports) found is in
-      let first : parts.0 ≡ said_port (say_of label other) port =
+      let first : parts.0 ≡ port_where (say_of label other) port =
       said_first label other port parts.0 parts.2 in
-      let others : parts.1 ≡ map (said_port (say_of label other)) ports =
+      let others : parts.1 ≡ map (port_where (say_of label other)) ports =
       said_ports label other ports parts.1 parts.3 in
       sym parts.4 ∙ rw (first, others) refl
 
@@ -99,7 +99,7 @@ module _ {L : Type 0} (read : List Bool → Option L) (rules : Read L → List B
       → AllAccept (judge_by read rules) rows labels
       → (row : NodeRow) → Contains rows row
       → (read (label_of rows labels row.id) ≡ Some (say_of (label_of rows labels) other row.id))
-      × AllHold (rules (said (say_of (label_of rows labels) other) row))
+      × AllHold (rules (read_where (say_of (label_of rows labels) other) row))
   accepted_say rows labels other accepted row in' =
       (read_here, subst AllHold (rw (← own_is, ports_are) refl) found.right)
     where
@@ -114,7 +114,7 @@ module _ {L : Type 0} (read : List Bool → Option L) (rules : Read L → List B
       own_is : unwrap_or (read (label row.id)) other ≡ found.own
       own_is = ap (λ (said : Option L). unwrap_or said other) found.own_read
 
-      ports_are : found.ports ≡ map (said_port (say_of label other)) row.ports
+      ports_are : found.ports ≡ map (port_where (say_of label other)) row.ports
       ports_are = said_ports label other row.ports found.ports found.ports_read
 
       read_here : read (label row.id) ≡ Some (say_of label other row.id)
@@ -136,7 +136,7 @@ module _ {L : Type 0} (read : List Bool → Option L) (rules : Read L → List B
   -- ports whose labels say what a function says are read to that
   read_ports-said : (label : ℕ → List Bool) (say : ℕ → L) (ports : List Port)
       → All (λ port. read (label port.nbr) ≡ Some (say port.nbr)) ports
-      → read_ports read (map (seen_port label) ports) ≡ Some (map (said_port say) ports)
+      → read_ports read (map (seen_port label) ports) ≡ Some (map (port_where say) ports)
   read_ports-said label say [] says = refl
   read_ports-said label say (port ∷ ports) says =
       let Says : Port → Type 0 = λ port. read (label port.nbr) ≡ Some (say port.nbr) in
@@ -148,7 +148,7 @@ module _ {L : Type 0} (read : List Bool → Option L) (rules : Read L → List B
       → (labels : List (List Bool)) (say : ℕ → L)
       → ((row : NodeRow) → Contains rows row
       → read (label_of rows labels row.id) ≡ Some (say row.id))
-      → ((row : NodeRow) → Contains rows row → AllHold (rules (said say row)))
+      → ((row : NodeRow) → Contains rows row → AllHold (rules (read_where say row)))
       → AllAccept (judge_by read rules) rows labels
   said_accepted rows net labels say says hold =
       All-map (λ (view : Seen). judge_by read rules view ≡ Accept) (seen label) rows
@@ -162,13 +162,13 @@ module _ {L : Type 0} (read : List Bool → Option L) (rules : Read L → List B
       accepts i row at =
           let in' : Contains rows row = Contains-from_place rows i row at in
           let ports : read_ports read (map (seen_port label) row.ports)
-          ≡ Some (map (said_port say) row.ports) =
+          ≡ Some (map (port_where say) row.ports) =
           read_ports-said label say row.ports
           (λ p d within. neighbour i row at p (get_or row.ports p d)
           (slice_get-get_or row.ports p d within)) in
-          judged_by_rules read rules (seen label row) (say row.id) (map (said_port say) row.ports)
+          judged_by_rules read rules (seen label row) (say row.id) (map (port_where say) row.ports)
           (says row in') ports
-          ∙ hold-judged 3 (rules (said say row)) (hold row in')
+          ∙ hold-judged 3 (rules (read_where say row)) (hold row in')
         where
           neighbour : (i : ℕ) (row : NodeRow) → slice_get rows i ≡ Some row → (p : ℕ) (port : Port)
               → slice_get row.ports p ≡ Some port

@@ -9,7 +9,7 @@ use Rattle.pls_model.specs.Configuration.{IsNetwork}
 use Rattle.pls_model.specs.Walk.{Adjacent, edges_of}
 use Rattle.pls_graph.specs.Size.{greatest}
 use Rattle.pls_scheme.specs.Numbers.{AreCoded, AreCodesOf}
-use Rattle.pls_scheme.specs.Reading.{said, said_port}
+use Rattle.pls_scheme.specs.Reading.{read_where, port_where}
 use Rattle.pls_scheme.specs.Theorem.{HoldEverywhere, OneIsRight, RightFits, RulesAreMet, RulesShow}
 use Rattle.pls_scheme.proofs.Fitting.{within_fits}
 use Rattle.pls_scheme.proofs.SaidPorts.{passes_at_some, some_port_passes}
@@ -48,7 +48,7 @@ module _ (rows : List NodeRow) (net : IsNetwork rows) (say : ℕ → MarkLabel) 
         let there : (say port.nbr).mark ≡ 1 =
         ap (λ (id : ℕ). (say id).mark) (names ∙ sym is_v) ∙ marks other other_in
         ∙ other_marked in
-        apart ((say one.id).mark == 1) (list_any is_inside (map (said_port say) one.ports))
+        apart ((say one.id).mark == 1) (list_any is_inside (map (port_where say) one.ports))
         (hold one one_in).1.0 (eq-eqb (say one.id).mark 1 own)
         (some_port_passes is_inside say one.ports port has (eq-eqb (say port.nbr).mark 1 there))
 
@@ -57,7 +57,7 @@ module _ (rows : List NodeRow) (net : IsNetwork rows) (say : ℕ → MarkLabel) 
         → (other : ℕ) × Adjacent (edges_of rows) row.id other × IsInside rows other
     some_beside row in' outside =
         elim (or_cases ((say row.id).mark == 1)
-        (list_any is_inside (map (said_port say) row.ports)) (hold row in').1.1.0) [
+        (list_any is_inside (map (port_where say) row.ports)) (hold row in').1.1.0) [
           | inl inside ↦ absurd (outside (sym (marks row in')
               ∙ eqb-true (say row.id).mark 1 inside))
           | inr some ↦
@@ -92,7 +92,7 @@ independent_met rows net joined set say right row in' = (
     mark row in' = ap (λ (label : MarkLabel). label.mark) (right row in')
 
     independent : ((say row.id).mark == 1) ≡ true
-        → list_any is_inside (map (said_port say) row.ports) ≡ true → ⊥
+        → list_any is_inside (map (port_where say) row.ports) ≡ true → ⊥
     independent inside some =
         let (port, has, passes) = passes_at_some is_inside say row.ports some in
         let (other, other_in, named) : (other : NodeRow) × Contains rows other
@@ -107,7 +107,7 @@ independent_met rows net joined set say right row in' = (
         )
 
     maximal : (((say row.id).mark == 1) ≡ true → ⊥)
-        → list_any is_inside (map (said_port say) row.ports) ≡ true
+        → list_any is_inside (map (port_where say) row.ports) ≡ true
     maximal outside =
         let (id, step, (other, other_in, is, marked)) = set.1 row in'
         (λ one. outside (eq-eqb (say row.id).mark 1 (mark row in' ∙ one))) in

@@ -6,7 +6,7 @@ use Rattle.pls_model.specs.declared.verdict.Verdict.TheVariants.{Accept}
 use Rattle.pls_graph.proofs.Members.{Contains-from_place, place_from_Contains}
 use Rattle.pls_facts.proofs.Lists.{item_at}
 use Rattle.pls_scheme.specs.Judging.{accepts}
-use Rattle.pls_scheme.specs.Reading.{said}
+use Rattle.pls_scheme.specs.Reading.{read_where}
 use Rattle.pls_scheme.specs.laws.Saying.{hold-judged, judged-each}
 use Rattle.pls_scheme.proofs.Accepted.{accepts-true}
 use Rattle.pls_scheme.proofs.holding.hold_everywhere.Goals as goal
@@ -17,7 +17,7 @@ returns-then-not-accepts g c say is =
     let (row, at) : (row : NodeRow) × (slice_get rows c.loop-i.i ≡ Some row) =
     item_at rows c.loop-i.i (let within = c.loop-i-test.true in
     omega (arith, within, c.len-i-end.ensures.len)) in
-    let rules = g.R.Judgement.rules c.args.rules.now (said say row) in (
+    let rules = g.R.Judgement.rules c.args.rules.now (read_where say row) in (
       λ no. absurd (cc),
       λ hold.
           let verdict : c.verdict_at.result ≡ Accept =
@@ -33,7 +33,7 @@ loop-i-preserved g c say is place row within at = elim (cases_lt place c.loop-i.
   | inr late ↦
       let here : slice_get c.args.net.now c.loop-i.i ≡ Some row =
       ap (slice_get c.args.net.now) (omega (arith, late, within)) ∙ at in
-      let rules = g.R.Judgement.rules c.args.rules.now (said say row) in
+      let rules = g.R.Judgement.rules c.args.rules.now (read_where say row) in
       judged-each 3 rules (sym (c.verdict_at.ensures say is row here)
       ∙ accepts-true c.verdict_at.result (cc))
 ]

@@ -3,7 +3,7 @@ use Rattle.std.proofs.lemmas.Option.{slice_get-get_or}
 use Rattle.pls_model.specs.declared.row.Port.{Port}
 use Rattle.pls_graph.specs.Places.{place_in}
 use Rattle.pls_facts.proofs.Lists.{map-take_more}
-use Rattle.pls_scheme.specs.Reading.{ReadPort, port_with, said_port}
+use Rattle.pls_scheme.specs.Reading.{ReadPort, port_with, port_where}
 use Rattle.pls_scheme.proofs.HeldRules.{place_named, place_within, said_there}
 use Rattle.pls_scheme.proofs.holding.tally_at.Goals as goal
 
@@ -45,15 +45,15 @@ loop-p-preserved g c say said =
     let at : slice_get ports p ≡ Some port =
     slice_get-get_or ports p some_port c.loop-p-test.true in
     let Label : Type 0 = g.row.R-Layout-Label.Denot in
-    let before : List (ReadPort Label) = map (said_port say) (take p ports) in
+    let before : List (ReadPort Label) = map (port_where say) (take p ports) in
     let read : ReadPort Label = port_with port.weight c.index-labels-places.result in
-    let same : read ≡ said_port say port =
+    let same : read ≡ port_where say port =
     ap (λ (label : Label). port_with port.weight label)
     (said_there c.args.net.now c.args.labels.now say c.requires.each said ports
     c.args.places.now c.requires.places p port at
     (c.requires.known p some_port c.loop-p-test.true) 0 c.index-labels-places.result
     c.index-labels-places.is) in
-    let next : before ++ read ∷ [] ≡ map (said_port say) (take (p + 1) ports) =
-    map-take_more (said_port say) ports p port before read refl at same in
+    let next : before ++ read ∷ [] ≡ map (port_where say) (take (p + 1) ports) =
+    map-take_more (port_where say) ports p port before read refl at same in
     c.add-tally.ensures before (c.loop-p.invariant say said)
     ∙ ap (g.R.Rules.tallied c.args.rules.now c.args.own.now) next

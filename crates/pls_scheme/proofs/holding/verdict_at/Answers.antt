@@ -8,7 +8,7 @@ use Rattle.pls_graph.specs.Places.{named_places}
 use Rattle.pls_graph.proofs.Placed.{pointer_within}
 use Rattle.pls_facts.proofs.Lists.{given_at, item_at}
 use Rattle.pls_scheme.specs.Judging.{judged_from}
-use Rattle.pls_scheme.specs.Reading.{Read, label_above, said_port}
+use Rattle.pls_scheme.specs.Reading.{Read, label_above, port_where}
 use Rattle.pls_scheme.specs.inner.Holding.{AreKnown}
 use Rattle.pls_scheme.proofs.HeldRules.{all_known, label_above-said, places_are, places_many, reading-said, said_there}
 use Rattle.pls_scheme.proofs.holding.verdict_at.Goals as goal
@@ -69,7 +69,7 @@ returns g c say said row at =
     (let each = c.requires.each in let within = c.requires.within in omega arith)
     c.index-labels-i.is) in
     let above : option_copied c.match-state.above
-    ≡ label_above (map (said_port say) ports) state.up =
+    ≡ label_above (map (port_where say) ports) state.up =
     elim c.match-state.branch [
       | in-Some w ↦
           let within : w.in-Some.up < length ports =
@@ -88,12 +88,12 @@ returns g c say said row at =
           c.places-places.ensures.places ∙ ap (named_places rows) ports_are) w.in-Some.up port
           port_at (known w.in-Some.up (record { nbr = 0; weight = 0 }) within) 0 _
           w.index-labels-places.is)
-          ∙ sym (ap (label_above (map (said_port say) ports)) w.in-Some.is
+          ∙ sym (ap (label_above (map (port_where say) ports)) w.in-Some.is
           ∙ label_above-said say ports w.in-Some.up port port_at)
       | in-None w ↦ ap option_copied w.above-is
-          ∙ sym (ap (label_above (map (said_port say) ports)) w.in-None.is)
+          ∙ sym (ap (label_above (map (port_where say) ports)) w.in-None.is)
     ] in
-    c.verdict.ensures (map (said_port say) ports) above (c.tally_at-tally.ensures say said)
+    c.verdict.ensures (map (port_where say) ports) above (c.tally_at-tally.ensures say said)
     ∙ ap (λ (read : Read Label). judged_from 3 (g.R.Judgement.rules c.args.rules.now read))
     (reading-said say row c.node-id.result.0 state ports c.index-labels-i.result id_is state_is
     ports_are own_is)

@@ -11,11 +11,9 @@ returns-clause-answers c fits =
     c.run-status.ensures.answers (λ rose. absurd (omega (arith, rose)))
     (inr (
       c.args.input.items,
-      (
-        ap Some c.new-source.ensures,
-        λ answer is. rw c.in_ok-sink.ensures (record {
-          unfailing = refl;
-          room = omega (arith, fits answer is);
-        }),
-      ),
+      ap Some c.new-source.ensures,
+      λ answer is. rw c.in_ok-sink.ensures (record {
+        unfailing = refl;
+        room = omega (arith, fits answer is);
+      }),
     ))
