@@ -21,9 +21,9 @@
 #![tactic(auto)]
 
 mod basic;
+mod certify;
 mod checker;
 mod coded;
-mod certify;
 mod holding;
 mod in_place;
 mod judgement;
@@ -39,9 +39,9 @@ mod rules;
 mod scheme;
 
 pub use basic::{Basic, Ruled};
+pub use certify::{are_accepted, certifies};
 pub use checker::Checker;
 pub use coded::{Coded, OfNumbers};
-pub use certify::{are_accepted, certifies};
 pub use holding::hold_everywhere;
 pub use in_place::JudgesInPlace;
 pub use judgement::Judgement;
