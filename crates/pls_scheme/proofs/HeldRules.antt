@@ -104,5 +104,5 @@ pub reading-said : {L : Type 0} (say : ℕ → L) (row : NodeRow) (id : ℕ) (st
     (ports : List Port) (own : L) → row.id ≡ id → row.state ≡ state → row.ports ≡ ports
     → own ≡ say row.id
     → reading id state own (map (port_where say) ports) ≡ read_where say row
-reading-read_where say row id state ports own id_is state_is ports_are own_is =
+reading-said say row id state ports own id_is state_is ports_are own_is =
     rw (← id_is, ← state_is, ← ports_are, own_is) refl
