@@ -1,2 +1,3 @@
 pub mod RootedLaws
 pub mod LeaderLaws
+pub mod CountNumbers
