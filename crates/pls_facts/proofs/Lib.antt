@@ -23,3 +23,4 @@ pub mod RootLevels
 pub mod Sums
 pub mod ParentLines
 pub mod TreeSums
+pub mod ParentEnds
