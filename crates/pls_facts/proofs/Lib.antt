@@ -20,3 +20,7 @@ pub mod Colourings
 pub mod Worked
 pub mod Descent
 pub mod RootLevels
+pub mod Sums
+pub mod ParentLines
+pub mod TreeSums
+pub mod ParentEnds

@@ -7,4 +7,6 @@ pub mod Agreement
 pub mod Leader
 pub mod NodeCount
 pub mod Descent
+pub mod Parents
+pub mod TreeSums
 pub mod inner

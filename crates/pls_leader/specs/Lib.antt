@@ -1,3 +1,4 @@
 pub mod Rooted
 pub mod Leader
+pub mod Count
 pub mod laws

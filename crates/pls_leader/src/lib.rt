@@ -10,9 +10,11 @@
 //! `pls_facts`.
 #![tactic(auto)]
 
+mod count;
 mod leader;
 mod leader_scheme;
 mod rooted;
 
+pub use count::{Count, CountLabel, CountRules, Family};
 pub use leader::{Around, Leader, LeaderLabel, LeaderRules};
 pub use leader_scheme::IsLeader;

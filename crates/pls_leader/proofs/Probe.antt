@@ -1,0 +1,1 @@
+use Rattle.pls_leader.specs.laws.CountLaws.{count_met}
