@@ -16,7 +16,7 @@ use Rattle.pls_graph.proofs.Members.{Contains-from_map, Contains-from_place}
 use Rattle.pls_graph.proofs.Placed.{ids_rise}
 use Rattle.pls_scheme.specs.Numbers.{AreCoded, label_in}
 use Rattle.pls_scheme.specs.Judging.{AllHold}
-use Rattle.pls_scheme.specs.Reading.{said, said_port}
+use Rattle.pls_scheme.specs.Reading.{read_where, port_where}
 use Rattle.pls_scheme.specs.SchemeLaws.{IsMarkedOnce, IsSound}
 use Rattle.pls_scheme.specs.Theorem.{AreRightEverywhere, OneIsRight, RightFits, RulesAreMet}
 use Rattle.pls_scheme.specs.laws.CodeLaws.{one_spelling}
@@ -239,7 +239,7 @@ module _ (rows : List NodeRow) (net : IsNetwork rows) (say : ℕ → CountLabel)
 
   -- where each node's number is the number of nodes, the rules hold
   pub rules_met : AreCounted rows → (row : NodeRow) (in' : Contains rows row)
-      → AllHold (count_rules (said say row))
+      → AllHold (count_rules (read_where say row))
   rules_met counted row in' = (
     all_ports_pass (agrees_with (say row.id)) say row.ports agree,
     (
@@ -257,7 +257,7 @@ module _ (rows : List NodeRow) (net : IsNetwork rows) (say : ℕ → CountLabel)
             or_else (depth row.id == 0) _ falls,
             (
               eq-eqb (say row.id).size
-                  (children_sizes row.id (map (said_port say) row.ports) + 1)
+                  (children_sizes row.id (map (port_where say) row.ports) + 1)
                   (let sum = summed row in' in
                   let shown = children_said say row in
                   omega (arith, sum, shown)),
@@ -270,7 +270,7 @@ module _ (rows : List NodeRow) (net : IsNetwork rows) (say : ℕ → CountLabel)
   )
     where
       agree : (port : Port) → Contains row.ports port
-          → agrees_with (say row.id) (said_port say port) ≡ true
+          → agrees_with (say row.id) (port_where say port) ≡ true
       agree port has =
           let (other, other_in, named) : (other : NodeRow) × Contains rows other
           × (other.id ≡ port.nbr) =
@@ -301,7 +301,7 @@ module _ (rows : List NodeRow) (net : IsNetwork rows) (say : ℕ → CountLabel)
           (ap (λ (id : ℕ). (say id).size) at ∙ root_size ∙ sym (is row in').total))
 
       falls : (depth row.id == 0) ≡ false
-          → list_any (is_parent_above (say row.id)) (map (said_port say) row.ports) ≡ true
+          → list_any (is_parent_above (say row.id)) (map (port_where say) row.ports) ≡ true
       falls some =
           let apart : row.id ≢ root =
           λ at. let none = root_at_0 rows net root depth level_at row in' at in
