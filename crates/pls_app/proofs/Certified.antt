@@ -1,15 +1,19 @@
 -- Labels that `mark` wrote are accepted by `verify`.
 use Rattle.std.proofs.Common.{◌≡◌, ℕ, ◌*◌, ◌^◌, ◌≤◌, ◌<◌, Bool, List, [], ◌∷◌, ◌++◌, length, All, Some, option_map, ap, subst, refl, sym, arith}
-use Rattle.std.proofs.lemmas.List.Elements.{All-head, All-map, All-tail}
+use Rattle.std.specs.Prelude.{flat_map}
+use Rattle.std.proofs.lemmas.List.Elements.{All-cons, All-contains, All-head, All-map, All-nil, All-tail}
 use Rattle.std.proofs.lemmas.List.Sums.{sum_by-cons}
+use Rattle.pls_model.specs.declared.row.Port.{Port}
 use Rattle.pls_model.specs.declared.row.NodeRow.{NodeRow}
 use Rattle.pls_model.specs.Configuration.{ids_of}
-use Rattle.pls_graph.specs.Size.{greatest, size_of}
-use Rattle.pls_netfile.specs.NetworkText.{network_text}
+use Rattle.pls_graph.specs.Size.{greatest, size_of, weights_of}
+use Rattle.pls_graph.proofs.Members.{Contains-first, Contains-from_flat_map, Contains-later}
+use Rattle.pls_netfile.specs.NetworkText.{FitsPort, FitsRow, network_text}
 use Rattle.pls_view.specs.Labels.{bits_together}
 use Rattle.pls_labelfile.specs.LabelsText.{labels_text, named}
 use Rattle.pls_scheme.specs.Judging.{round_by}
 use Rattle.pls_scheme.specs.Marked.{answered}
+use Rattle.pls_scheme.specs.Theorem.{AreWords}
 use Rattle.pls_combine.proofs.Bounds.{short_bound}
 use Rattle.pls_combine.proofs.Words.{scheme_of-name_of}
 use Rattle.pls_app.specs.declared.command.Command.TheVariants.{Verify}
@@ -51,12 +55,39 @@ small_greatest bound (number ∷ numbers) some small =
           (All-tail Small number numbers small),
     )
 
--- the identities of a network that can stand in a text have 32 bits
-small_ids : (rows : List NodeRow) → IsReadable rows → greatest (ids_of rows) < 2 ^ 32
-small_ids rows readable =
-    small_greatest (2 ^ 32) (ids_of rows) (omega arith)
-    (All-map (λ id. id < 2 ^ 32) (λ (row : NodeRow). row.id) rows
-    (λ k d within. (readable.ranges.each k d within).id))
+-- the weights of the ports of rows that can stand in a text have 32 bits
+small_weights : (rows : List NodeRow) → All FitsRow rows
+    → All (λ weight. weight < 2 ^ 32) (weights_of rows)
+small_weights rows fits = each (flat_map (λ row. row.ports) rows) (λ port among.
+    let found = Contains-from_flat_map (λ (row : NodeRow). row.ports) rows port among in
+    let row = All-contains FitsRow rows found.0 fits found.1 in
+    (All-contains FitsPort found.0.ports port row.ports found.2).weight)
+  where
+    each : (ports : List Port)
+        → ((port : Port) → Contains ports port → port.weight < 2 ^ 32)
+        → All (λ weight. weight < 2 ^ 32) (map (λ port. port.weight) ports)
+    each [] small = All-nil (λ weight. weight < 2 ^ 32)
+    each (port ∷ ports) small =
+        All-cons (λ weight. weight < 2 ^ 32) port.weight (map (λ port. port.weight) ports)
+        (small port (Contains-first port ports))
+        (each ports (λ other among. small other (Contains-later port ports other among)))
+
+-- the greatest numbers of a network that can stand in a text have 32 bits
+words_of : (rows : List NodeRow) → IsReadable rows → AreWords (size_of rows)
+words_of rows readable =
+    let ids = small_greatest (2 ^ 32) (ids_of rows) (omega arith)
+        (All-map (λ id. id < 2 ^ 32) (λ (row : NodeRow). row.id) rows
+        (λ k d within. (readable.ranges.each k d within).id)) in
+    let marks = small_greatest (2 ^ 32) (map (λ (row : NodeRow). row.state.mark) rows) (omega arith)
+        (All-map (λ mark. mark < 2 ^ 32) (λ (row : NodeRow). row.state.mark) rows
+        (λ k d within. (readable.ranges.each k d within).state.mark)) in
+    let weights = small_greatest (2 ^ 32) (weights_of rows) (omega arith)
+        (small_weights rows readable.ranges.each) in
+    record {
+      max_id = omega (arith, ids);
+      max_weight = omega (arith, weights);
+      max_mark = omega (arith, marks);
+    }
 
 -- marked labels have at most 8,192 bits each
 short_labels : (scheme : SchemeName) (rows : List NodeRow) (labels : List (List Bool))
@@ -64,8 +95,8 @@ short_labels : (scheme : SchemeName) (rows : List NodeRow) (labels : List (List 
     → All (λ label. length label ≤ answered (longest_of scheme (size_of rows))) labels
     → All (λ label. length label ≤ 8192) labels
 short_labels scheme rows labels readable short =
-    let bound = short_bound scheme (size_of rows)
-    (omega (arith, readable.network.limits.few_nodes)) (omega (arith, small_ids rows readable)) in
+    let bound = short_bound scheme (size_of rows) readable.network.limits.few_nodes
+        (words_of rows readable) in
     λ place other within. omega (arith, short place other within, bound)
 
 -- the words of a scheme's `verify` are that command

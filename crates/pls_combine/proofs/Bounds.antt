@@ -4,6 +4,8 @@ use Rattle.pls_bits.specs.Gamma.{gamma_code}
 use Rattle.pls_bits.specs.laws.GammaLaws.{gamma_short}
 use Rattle.pls_bits.specs.declared.num_code.TheConstants.{MAX_CODED}
 use Rattle.pls_graph.specs.declared.size.Size.{Size}
+use Rattle.pls_model.specs.declared.limits.TheConstants.{MAX_NODES}
+use Rattle.pls_scheme.specs.Theorem.{AreWords}
 use Rattle.pls_scheme.specs.Length.{code_length}
 use Rattle.pls_combine.specs.declared.scheme_name.SchemeName.{SchemeName}
 use Rattle.pls_combine.specs.declared.scheme_name.SchemeName.TheVariants.{Acyclic, Bipartite, Forest, Leader, Tree}
@@ -18,16 +20,16 @@ short_code number small = by (nat_le number MAX_CODED) (le-leb number MAX_CODED 
     by true is = gamma_short number
     by false is = absurd (cc)
 
--- no scheme's bound is above 8,192 bits
-pub short_bound : (scheme : SchemeName) (size : Size) → size.nodes ≤ MAX_CODED
-    → size.max_id ≤ MAX_CODED → longest_of scheme size ≤ 8192
-short_bound scheme size few small = by scheme
+-- no scheme's bound is above 8,192 bits, in a network within the limits
+pub short_bound : (scheme : SchemeName) (size : Size) → size.nodes ≤ MAX_NODES → AreWords size
+    → longest_of scheme size ≤ 8192
+short_bound scheme size few words = by scheme
   where
     nodes : code_length gamma_code size.nodes ≤ 125
-    nodes = short_code size.nodes few
+    nodes = short_code size.nodes (omega (arith, few))
 
     ids : code_length gamma_code size.max_id ≤ 125
-    ids = short_code size.max_id small
+    ids = short_code size.max_id (omega (arith, words.max_id))
 
     by : (scheme : SchemeName) → longest_of scheme size ≤ 8192
     by Tree = omega (arith, nodes, ids)
