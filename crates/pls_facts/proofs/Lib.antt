@@ -17,4 +17,6 @@ pub mod Depths
 pub mod Levels
 pub mod Parity
 pub mod Colourings
+pub mod Weights
+pub mod ShortestPaths
 pub mod Worked

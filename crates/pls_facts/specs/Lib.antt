@@ -4,4 +4,6 @@ pub mod Cycle
 pub mod Bipartite
 pub mod OnlyNode
 pub mod Agreement
+pub mod Weight
+pub mod ShortestPath
 pub mod inner
