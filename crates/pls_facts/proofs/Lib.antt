@@ -17,6 +17,7 @@ pub mod Depths
 pub mod Levels
 pub mod Parity
 pub mod Colourings
+pub mod NamedPlaces
 pub mod Weights
 pub mod ShortestPaths
 pub mod Worked

@@ -1,2 +1,3 @@
 pub mod Depths
+pub mod Distances
 pub mod inner
