@@ -17,6 +17,9 @@ pub mod CycleDepths
 pub mod Levels
 pub mod Parity
 pub mod Colourings
+pub mod NamedPlaces
+pub mod Weights
+pub mod ShortestPaths
 pub mod Worked
 pub mod Descent
 pub mod RootLevels

@@ -9,4 +9,6 @@ pub mod NodeCount
 pub mod Descent
 pub mod Parents
 pub mod TreeSums
+pub mod Weight
+pub mod ShortestPath
 pub mod inner

@@ -17,3 +17,4 @@ mod tree_scheme;
 
 pub use forest::{DepthLabel, Forest, ForestRules};
 pub use tree::{Tree, TreeLabel, TreeRules};
+pub use tree_scheme::root_and_depths;

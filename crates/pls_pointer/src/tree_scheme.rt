@@ -66,9 +66,9 @@ fn labels_of_depths(alloc: Global, root: u32, depths: &[u32]) -> Result<Vec<Tree
     Ok(labels)
 }
 
-// The root's identity, and the depth of each node in their order, or `None` where the pointers make
-// no tree.
-fn root_and_depths(alloc: Global, net: &Network) -> Result<Option<(u32, Vec<u32>)>, NoMemory>
+/// The root's identity, and the depth of each node in their order, or `None` where the pointers
+/// make no tree. The one error is want of memory.
+pub fn root_and_depths(alloc: Global, net: &Network) -> Result<Option<(u32, Vec<u32>)>, NoMemory>
     ensures lacking { IfOk result (λ found. IfNone found (IsTree net.now → ⊥)) }
     ensures holds { IfOk result (λ found. IfSome found (λ tree. IsTree net.now)) }
     ensures root { IfOk result (λ found. IfSome found

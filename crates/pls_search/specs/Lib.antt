@@ -1,3 +1,4 @@
 pub mod Depths
 pub mod SubtreeSizes
+pub mod Distances
 pub mod inner

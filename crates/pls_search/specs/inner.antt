@@ -1,3 +1,4 @@
 -- What private functions say to each other.
 pub mod Noting
 pub mod Passing
+pub mod Ahead

@@ -1,0 +1,140 @@
+-- What a node has gathered with one more port.
+use Rattle.std.proofs.Common.{◌≡◌, ◌≢◌, ◌∙◌, ◌⊎◌, inl, inr, arith, ℕ, zero, suc, ◌+◌, ◌==◌, nat_le, Bool, true, false, cond, ◌&&◌, if◌then◌else◌, List, [], ◌∷◌, ◌++◌, map, length, Option, Some, None, slice_get, option_map, refl, sym, ap}
+use Rattle.std.specs.List.{list_all}
+use Rattle.std.specs.Option.{option_and_then, option_map_or}
+use Rattle.std.proofs.lemmas.Bool.{cases_eq, eq-eqb, ne_eqb}
+use Rattle.std.proofs.lemmas.List.{map-append}
+use Rattle.std.proofs.lemmas.List.Folds.{list_all-append}
+use Rattle.std.proofs.lemmas.Option.{slice_get-map}
+use Rattle.pls_model.specs.declared.row.State.{State}
+use Rattle.pls_scheme.specs.Reading.{Read, ReadPort, port_with, reading, target}
+use Rattle.pls_pointer.specs.Tree.{names_root}
+use Rattle.pls_pointer.specs.declared.tree.TreeLabel.{TreeLabel}
+use Rattle.pls_distance.specs.declared.spt.SptLabel.{SptLabel}
+use Rattle.pls_distance.specs.declared.gathering.Gathered.{Gathered}
+use Rattle.pls_distance.specs.Spt.{agrees_on_its_root, follows_target, is_nearest, is_reached_by, tree_port, tree_reading}
+use Rattle.pls_distance.specs.inner.Gathering.{gathered, is_port}
+
+-- a test of all with one more
+all_more : {X : Type 0} (test : X → Bool) (items : List X) (last : X)
+    → list_all test (items ++ last ∷ []) ≡ (list_all test items && test last)
+all_more test items last = list_all-append test items (last ∷ [])
+    ∙ ap (λ (b : Bool). list_all test items && b) (and_true (test last))
+  where
+    and_true : (b : Bool) → (b && true) ≡ b
+    and_true true = refl
+    and_true false = refl
+
+-- what stands at the place that a pointer names, with one more item
+at_pointer_more : {X : Type 0} (items : List X) (last : X) (up : Option ℕ)
+    → option_and_then (slice_get (items ++ last ∷ [])) up
+    ≡ (if is_port up (length items) then Some last else option_and_then (slice_get items) up)
+at_pointer_more items last None = refl
+at_pointer_more {X} items last (Some number) = at items number
+  where
+    at : (items : List X) (number : ℕ) → slice_get (items ++ last ∷ []) number
+        ≡ (if number == length items then Some last else slice_get items number)
+    at [] zero = refl
+    at [] (suc number) = rw (ne_eqb (suc number) 0 (λ same. absurd (cc))) refl
+    at (first ∷ items) zero = rw (ne_eqb 0 (suc (length items)) (λ same. absurd (cc))) refl
+    at (first ∷ items) (suc number) =
+        at items number
+        ∙ ap (λ (here : Bool). if here then Some last else slice_get items number)
+        (by (cases_eq number (length items)))
+      where
+        by : ((number ≡ length items) ⊎ (number ≢ length items))
+            → (number == length items) ≡ (suc number == suc (length items))
+        by (inl same) = eq-eqb number (length items) same
+            ∙ sym (eq-eqb (suc number) (suc (length items)) (ap suc same))
+        by (inr apart) = ne_eqb number (length items) apart
+            ∙ sym (ne_eqb (suc number) (suc (length items)) (λ same. apart (omega (arith, same))))
+
+module _ (id : ℕ) (state : State) (own : SptLabel) (ports : List (ReadPort SptLabel))
+    (port : ReadPort SptLabel) where
+  abbrev before : Read SptLabel
+  before = reading id state own ports
+
+  abbrev after : Read SptLabel
+  after = reading id state own (ports ++ port ∷ [])
+
+  agrees_more : agrees_on_its_root after
+      ≡ (agrees_on_its_root before && (port.label.root == own.root))
+  agrees_more = ap (list_all (names_root own.root)) (map-append tree_port ports (port ∷ []))
+      ∙ all_more (names_root own.root) (map tree_port ports) (tree_port port)
+
+  nearest_more : is_nearest after
+      ≡ (is_nearest before && nat_le own.dist (port.label.dist + port.weight))
+  nearest_more = all_more (is_reached_by own.dist) ports port
+
+  -- of what is read at the target
+  abbrev both : Option (ReadPort SptLabel) → Bool
+  both read =
+      option_map_or (λ (port : ReadPort TreeLabel). own.depth == port.label.depth + 1)
+      (option_map tree_port read) true
+      && option_map_or (λ (port : ReadPort SptLabel).
+      own.dist == port.label.dist + port.weight) read true
+
+  follows_both : (ports : List (ReadPort SptLabel))
+      → follows_target (reading id state own ports)
+      ≡ both (option_and_then (slice_get ports) state.up)
+  follows_both ports =
+      ap (λ (read : Option (ReadPort TreeLabel)).
+      option_map_or (λ (port : ReadPort TreeLabel). own.depth == port.label.depth + 1) read true
+      && option_map_or (λ (port : ReadPort SptLabel). own.dist == port.label.dist + port.weight)
+      (option_and_then (slice_get ports) state.up) true)
+      (read_tree state.up)
+    where
+      read_tree : (up : Option ℕ) → option_and_then (slice_get (map tree_port ports)) up
+          ≡ option_map tree_port (option_and_then (slice_get ports) up)
+      read_tree None = refl
+      read_tree (Some number) = slice_get-map tree_port ports number
+
+  follows_more : follows_target after
+      ≡ (if is_port state.up (length ports) then (own.depth == port.label.depth + 1
+      && own.dist == port.label.dist + port.weight) else follows_target before)
+  follows_more = follows_both (ports ++ port ∷ [])
+      ∙ ap both (at_pointer_more ports port state.up) ∙ by (is_port state.up (length ports))
+    where
+      by : (here : Bool)
+          → both (if here then Some port else option_and_then (slice_get ports) state.up)
+          ≡ (if here then (own.depth == port.label.depth + 1
+          && own.dist == port.label.dist + port.weight) else follows_target before)
+      by true = refl
+      by false = sym (follows_both ports)
+
+  -- what is gathered with one more port
+  pub is_gathered : (before_it after_it : Gathered) → before_it ≡ gathered before
+      → after_it.own ≡ before_it.own
+      → after_it.agrees ≡ (before_it.agrees && (port.label.root == before_it.own.root))
+      → after_it.follows ≡ (if is_port state.up (length ports)
+      then (before_it.own.depth == port.label.depth + 1
+      && before_it.own.dist == port.label.dist + port.weight) else before_it.follows)
+      → after_it.nearest
+      ≡ (before_it.nearest && nat_le before_it.own.dist (port.label.dist + port.weight))
+      → after_it ≡ gathered after
+  is_gathered before_it after_it is own_is agrees_is follows_is nearest_is =
+      four after_it (gathered after)
+      (own_is ∙ ap (λ (it : Gathered). it.own) is)
+      (agrees_is ∙ ap (λ (it : Gathered). it.agrees && (port.label.root == it.own.root)) is
+      ∙ sym agrees_more)
+      (follows_is ∙ ap (λ (it : Gathered). if is_port state.up (length ports)
+      then (it.own.depth == port.label.depth + 1
+      && it.own.dist == port.label.dist + port.weight) else it.follows) is ∙ sym follows_more)
+      (nearest_is ∙ ap (λ (it : Gathered).
+      it.nearest && nat_le it.own.dist (port.label.dist + port.weight)) is ∙ sym nearest_more)
+    where
+      four : (one other : Gathered) → one.own ≡ other.own → one.agrees ≡ other.agrees
+          → one.follows ≡ other.follows → one.nearest ≡ other.nearest → one ≡ other
+      four one other own agrees follows nearest =
+          ap (λ (own : SptLabel). record {
+            own = own; agrees = one.agrees; follows = one.follows; nearest = one.nearest;
+          }) own
+          ∙ ap (λ (agrees : Bool). record {
+            own = other.own; agrees = agrees; follows = one.follows; nearest = one.nearest;
+          }) agrees
+          ∙ ap (λ (follows : Bool). record {
+            own = other.own; agrees = other.agrees; follows = follows; nearest = one.nearest;
+          }) follows
+          ∙ ap (λ (nearest : Bool). record {
+            own = other.own; agrees = other.agrees; follows = other.follows; nearest = nearest;
+          }) nearest

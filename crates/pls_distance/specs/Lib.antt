@@ -1,0 +1,3 @@
+pub mod Spt
+pub mod inner
+pub mod laws

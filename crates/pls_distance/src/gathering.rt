@@ -1,0 +1,111 @@
+//! What a node gathers of its ports, one after another.
+
+ghost use Rattle.std.specs.Prelude.{◌≡◌, ℕ, ◌++◌, ◌∷◌, [], List, length, ◌==◌, ◌&&◌, ◌+◌, if◌then◌else◌};
+ghost use Rattle.pls_model.specs.declared.row.State.{State};
+ghost use Rattle.pls_scheme.specs.Reading.{ReadPort, port_with, reading};
+ghost use Rattle.pls_distance.specs.declared.spt.SptLabel.{SptLabel};
+ghost use Rattle.pls_distance.specs.Spt.{spt_rules};
+ghost use Rattle.pls_distance.specs.inner.Gathering.{gathered, is_port};
+
+use crate::farther::{is_farther_by, is_reached_by};
+use crate::spt::SptLabel;
+use pls_model::State;
+use pls_scheme::is_one_more;
+
+/// What the own label says, and which rules on the ports hold at those so far.
+#[derive(Clone, Copy, Debug, PartialEq, Eq)]
+pub struct Gathered {
+    pub(crate) own: SptLabel,
+    // Each of the neighbours has the own root.
+    pub(crate) agrees: bool,
+    // The node is one deeper than the one that it points at, and farther by the edge's weight.
+    pub(crate) follows: bool,
+    // By none of the ports the node would be nearer to the root.
+    pub(crate) nearest: bool,
+}
+
+impl Gathered {
+    // Before the first port.
+    pub(crate) fn before(own: SptLabel) -> Gathered
+        ensures { (id : ℕ) (state : State) → result ≡ gathered (reading id state own []) }
+    {
+        Gathered {
+            own,
+            agrees: true,
+            follows: true,
+            nearest: true,
+        }
+    }
+
+    // With one more port, the one at this place, of a node with this pointer.
+    pub(crate) fn with(self, up: Option<u32>, place: usize, weight: u32, label: SptLabel) -> Gathered
+        ensures { (id : ℕ) (state : State) (own : SptLabel) (ports : List (ReadPort SptLabel))
+            → state.up ≡ up → length ports ≡ place → self ≡ gathered (reading id state own ports)
+            → result ≡ gathered (reading id state own (ports ++ port_with weight label ∷ [])) }
+    {
+        let Gathered {
+            own,
+            agrees,
+            follows,
+            nearest,
+        } = self;
+        Gathered {
+            own,
+            agrees: both(agrees, label.root == own.root),
+            follows: follows_so_far(&own, is_port(up, place), weight, &label, follows),
+            nearest: both(nearest, is_reached_by(own.dist, label.dist, weight)),
+        }
+    }
+
+    // Which rules hold, of a node with this identity and state that has gathered all its ports.
+    pub(crate) fn rules(&self, id: u32, state: State) -> [bool; 4]
+        ensures { (own : SptLabel) (ports : List (ReadPort SptLabel))
+            → self.now ≡ gathered (reading id state own ports)
+            → result ≡ spt_rules (reading id state own ports) }
+    {
+        let is_root = self.own.depth == 0 && u64::from(id) == self.own.root;
+        let points = state.up.is_some();
+        [
+            self.agrees,
+            (points || is_root) && (points || self.own.dist == 0),
+            self.follows,
+            self.nearest,
+        ]
+    }
+}
+
+// Whether a pointer names the port at a place.
+fn is_port(up: Option<u32>, place: usize) -> bool
+    ensures { result ≡ is_port up place }
+{
+    match up {
+        Some(port) => port as usize == place,
+        None => false,
+    }
+}
+
+// Whether both hold.
+fn both(one: bool, other: bool) -> bool
+    ensures { result ≡ (one && other) }
+{
+    one && other
+}
+
+// Whether a node is one deeper than the node at a port, and farther by the weight of the edge, if
+// it points at that port, and else what held before.
+fn follows_so_far(
+    own: &SptLabel,
+    points: bool,
+    weight: u32,
+    above: &SptLabel,
+    before: bool,
+) -> bool
+    ensures { result ≡ (if points then (own.now.depth == above.now.depth + 1
+        && own.now.dist == above.now.dist + weight) else before) }
+{
+    if points {
+        is_one_more(own.depth, above.depth) && is_farther_by(own.dist, above.dist, weight)
+    } else {
+        before
+    }
+}
