@@ -12,7 +12,7 @@ use Rattle.pls_graph.proofs.Joined.{Adjacent-turned}
 use Rattle.pls_graph.proofs.Members.{Contains-from_place}
 use Rattle.pls_scheme.specs.Judging.{AllHold}
 use Rattle.pls_scheme.specs.Numbers.{AreCoded, label_in}
-use Rattle.pls_scheme.specs.Reading.{ReadPort, said, said_port, target}
+use Rattle.pls_scheme.specs.Reading.{ReadPort, read_where, port_where, target}
 use Rattle.pls_scheme.specs.SchemeLaws.{IsMarkedOnce, IsSound}
 use Rattle.pls_scheme.specs.Theorem.{OneIsRight, RightFits, RulesAreMet, RulesShow}
 use Rattle.pls_scheme.specs.laws.CodeLaws.{one_spelling}
@@ -46,7 +46,7 @@ module _ (say : ℕ → SptLabel) where
   dist_said id = (say id).dist
 
   -- what is read of the tree is what labels say of it
-  tree_read : (row : NodeRow) → tree_reading (said say row) ≡ said tree_say row
+  tree_read : (row : NodeRow) → tree_reading (read_where say row) ≡ read_where tree_say row
   tree_read row = ap (λ (ports : List (ReadPort TreeLabel)). record {
     id = row.id;
     state = row.state;
@@ -54,16 +54,16 @@ module _ (say : ℕ → SptLabel) where
     ports = ports;
   }) (both row.ports)
     where
-      both : (ports : List Port) → map tree_port (map (said_port say) ports)
-          ≡ map (said_port tree_say) ports
+      both : (ports : List Port) → map tree_port (map (port_where say) ports)
+          ≡ map (port_where tree_say) ports
       both [] = refl
       both (port ∷ ports) =
-          ap (λ (others : List (ReadPort TreeLabel)). said_port tree_say port ∷ others) (both ports)
+          ap (λ (others : List (ReadPort TreeLabel)). port_where tree_say port ∷ others) (both ports)
 
   module _ (rows : List NodeRow) (net : IsNetwork rows) where
     -- where each node is as far from its target as the weight of the edge, distances fall so
     farther_falls : ((row : NodeRow) → Contains rows row
-        → is_farther_than_target (said say row) ≡ true) → FallsByWeight rows dist_said
+        → is_farther_than_target (read_where say row) ≡ true) → FallsByWeight rows dist_said
     farther_falls farther u v points =
         let step : IsPointer rows u v = IsPointer-next rows net u v points in
         let in' : Contains rows step.row = Contains-from_place rows step.place step.row step.at in
@@ -88,16 +88,16 @@ module _ (say : ℕ → SptLabel) where
 
     -- and the other way round
     falls_farther : FallsByWeight rows dist_said → (row : NodeRow) → Contains rows row
-        → is_farther_than_target (said say row) ≡ true
+        → is_farther_than_target (read_where say row) ≡ true
     falls_farther falls row in' = by row.state.up refl
       where
         test : Option (ReadPort SptLabel) → Bool
         test read = option_map_or (λ (port : ReadPort SptLabel).
             (say row.id).dist == port.label.dist + port.weight) read true
 
-        by : (up : Option ℕ) → row.state.up ≡ up → is_farther_than_target (said say row) ≡ true
+        by : (up : Option ℕ) → row.state.up ≡ up → is_farther_than_target (read_where say row) ≡ true
         by None is = ap (λ (up : Option ℕ). test
-            (option_and_then (slice_get (map (said_port say) row.ports)) up)) is
+            (option_and_then (slice_get (map (port_where say) row.ports)) up)) is
         by (Some number) is =
             let (port, has, points) : (port : Port) × (slice_get row.ports number ≡ Some port)
             × (next rows row.id ≡ Some port.nbr) =
@@ -110,7 +110,7 @@ module _ (say : ℕ → SptLabel) where
             (omega (arith, down, weighs))
 
     -- where no node would be nearer by one of its ports, distances rise by at most the weights
-    nearest_rises : ((row : NodeRow) → Contains rows row → is_nearest (said say row) ≡ true)
+    nearest_rises : ((row : NodeRow) → Contains rows row → is_nearest (read_where say row) ≡ true)
         → RisesByWeight rows dist_said
     nearest_rises nearest u v adjacent =
         let way : Leads rows v u =
@@ -133,7 +133,7 @@ module _ (say : ℕ → SptLabel) where
 
     -- and the other way round
     rises_nearest : RisesByWeight rows dist_said → (row : NodeRow) → Contains rows row
-        → is_nearest (said say row) ≡ true
+        → is_nearest (read_where say row) ≡ true
     rises_nearest rises row in' = all_ports_pass (is_reached_by (say row.id).dist) say row.ports near
       where
         near : (port : Port) → Contains row.ports port
@@ -157,17 +157,17 @@ spt_show rows net joined say hold =
     (dist_said say) (farther_falls say rows net farther) (nearest_rises say rows net nearest)
   where
     of_tree : (row : NodeRow) → Contains rows row
-        → AllHold (tree_rules (tree_reading (said say row)))
+        → AllHold (tree_rules (tree_reading (read_where say row)))
     of_tree row in' =
         let rules = hold row in' in
         (rules.0, ((and_parts _ _ rules.1.0).0, ((and_parts _ _ rules.1.1.0).0, tt)))
 
-    farther : (row : NodeRow) → Contains rows row → is_farther_than_target (said say row) ≡ true
+    farther : (row : NodeRow) → Contains rows row → is_farther_than_target (read_where say row) ≡ true
     farther row in' =
-        (and_parts (is_deeper_in_tree (tree_reading (said say row)))
-        (is_farther_than_target (said say row)) (hold row in').1.1.0).1
+        (and_parts (is_deeper_in_tree (tree_reading (read_where say row)))
+        (is_farther_than_target (read_where say row)) (hold row in').1.1.0).1
 
-    nearest : (row : NodeRow) → Contains rows row → is_nearest (said say row) ≡ true
+    nearest : (row : NodeRow) → Contains rows row → is_nearest (read_where say row) ≡ true
     nearest row in' = (hold row in').1.1.1.0
 
 module _ (rows : List NodeRow) (net : IsNetwork rows) (shortest : IsShortestPathTree rows)
@@ -227,7 +227,7 @@ spt_met rows net joined shortest say right row in' = (
   ),
 )
   where
-    of_tree : AllHold (tree_rules (tree_reading (said say row)))
+    of_tree : AllHold (tree_rules (tree_reading (read_where say row)))
     of_tree = subst (λ read. AllHold (tree_rules read)) (sym (tree_read say row))
         (tree_met rows net joined shortest.tree (tree_say say)
         (λ row in' root root_in none. let is = right row in' root root_in none in (is.0, is.1)) row
