@@ -88,13 +88,13 @@ module _ (HasParent : ℕ → ℕ → Type 0) (up : ℕ → Option ℕ) (nodes :
       elim (ends_or_long fuel x (up x) (within u x in' is) refl) [
         | inl ended ↦ inl (is, ended)
         | inr long ↦ inr record {
-            steps = (is, long.steps);
-            many = omega (arith, long.many);
-            known = λ y y_in. elim (Contains-cons_cases x (line_from up fuel (up x)) y y_in) [
-              | inl same ↦ subst (Contains nodes) same (within u x in' is)
-              | inr later ↦ long.known y later
-            ];
-          }
+          steps = (is, long.steps);
+          many = omega (arith, long.many);
+          known = λ y y_in. elim (Contains-cons_cases x (line_from up fuel (up x)) y y_in) [
+            | inl same ↦ subst (Contains nodes) same (within u x in' is)
+            | inr later ↦ long.known y later
+          ];
+        }
       ]
 
   -- each chain ends

@@ -524,8 +524,12 @@ module _ (parents : List (Option ℕ)) where
       few : (xs : List ℕ) → sum_by (λ c. when (child v c) (when true 1)) xs ≤ length xs
       few [] = omega arith
       few (x ∷ xs) =
-          omega (arith, few xs, sum_by-cons (λ c. when (child v c) (when true 1)) x xs,
-          when-le (child v x) 1)
+          omega (
+            arith,
+            few xs,
+            sum_by-cons (λ c. when (child v c) (when true 1)) x xs,
+            when-le (child v x) 1,
+          )
 
   module _ (inside : AreParentsWithin parents) where
     up_has : (u x : ℕ) → u < n → parent_of parents u ≡ Some x → HasParentAt parents u x
@@ -554,28 +558,31 @@ module _ (parents : List (Option ℕ)) where
 
       -- the numbers of chains that meet each place
       pub the_totals : (total : ℕ → ℕ) × AreTotals parents total
-      the_totals = (met, record {
-        sums = λ v v_in.
-            met_by-children (HasParentAt parents) (below n) (parent_of parents) line are_parents v
-            (lt-below n v v_in);
-        few = λ v.
-            let low = met_by-few (HasParentAt parents) (below n) (parent_of parents) line
-            are_parents v in
-            let long = below-length n in
-            omega (arith, low, long);
-        many = λ v.
-            let so = met_by-many (HasParentAt parents) (below n) (parent_of parents) line
-            are_parents v in
-            record {
-              all = so.all;
-              distinct = so.distinct;
-              many = so.many;
-              are = λ x. (
+      the_totals = (
+        met,
+        record {
+          sums = λ v v_in.
+              met_by-children (HasParentAt parents) (below n) (parent_of parents) line are_parents v
+              (lt-below n v v_in);
+          few = λ v.
+              let low = met_by-few (HasParentAt parents) (below n) (parent_of parents) line
+              are_parents v in
+              let long = below-length n in
+              omega (arith, low, long);
+          many = λ v.
+              let so = met_by-many (HasParentAt parents) (below n) (parent_of parents) line
+              are_parents v in
+              record {
+                all = so.all;
+                distinct = so.distinct;
+                many = so.many;
+                are = λ x. (
                   λ in'. let such = (so.are x).0 in' in (below-lt n x such.0, such.1),
                   λ such. (so.are x).1 (lt-below n x such.0, such.1),
                 );
-            };
-      })
+              };
+        },
+      )
         where
           line : ℕ → List ℕ
           line u = line_from (parent_of parents) (length (below n)) (parent_of parents u)

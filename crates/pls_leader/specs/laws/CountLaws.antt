@@ -141,9 +141,10 @@ module _ (rows : List NodeRow) (net : IsNetwork rows) (say : ℕ → CountLabel)
       → Contains (ids_of rows) x × (depth x < depth u)
   up_falls u x in' points =
       let (apart, named) : (u ≢ root) × (x ≡ (say u).parent) = up-Some u x points in
-      let less = parent_less u (say u).parent in' (parent_of u in' apart) in
-      (subst (Contains (ids_of rows)) (sym named) less.0,
-      let same = ap depth named in omega (arith, less.1, same))
+      let less = parent_less u (say u).parent in' (parent_of u in' apart) in (
+        subst (Contains (ids_of rows)) (sym named) less.0,
+        let same = ap depth named in omega (arith, less.1, same),
+      )
 
   abbrev line : ℕ → List ℕ
   line u = line_from up (length rows) (up u)
@@ -330,7 +331,7 @@ module _ (rows : List NodeRow) (net : IsNetwork rows) (say : ℕ → CountLabel)
       × ((say row.id).size ≤ length rows) × ((say row.id).total ≤ length rows)
   within_limits row in' = (
     (let at = (is row in').root_is in let low = id_within rows first.0 first_in in
-    omega (arith, at, low)),
+        omega (arith, at, low)),
     (let own = (is row in').own in let low = id_within rows row in' in omega (arith, own, low)),
     elim (cases_eq row.id root) [
       | inl at ↦
@@ -397,12 +398,25 @@ count_fits code grows short rows net joined counted words say right row in' =
     let few = net.limits.few_nodes in
     within_fits code grows short numbers_of_count (say row.id) (count_limits (size_of rows))
     (omega arith) (
-      low.0, omega (arith, id_small),
-      (low.1, omega (arith, id_small),
-      (low.2, omega (arith, id_small),
-      (low.3, omega (arith, few),
-      (low.4, omega (arith, few),
-      (low.5, omega (arith, few), tt))))),
+      low.0,
+      omega (arith, id_small),
+      (
+        low.1,
+        omega (arith, id_small),
+        (
+          low.2,
+          omega (arith, id_small),
+          (
+            low.3,
+            omega (arith, few),
+            (
+              low.4,
+              omega (arith, few),
+              (low.5, omega (arith, few), tt),
+            ),
+          ),
+        ),
+      ),
     )
 
 -- labels that every node of a connected network accepts show that each node's number is the number

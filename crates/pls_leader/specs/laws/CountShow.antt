@@ -41,9 +41,10 @@ module _ (rows : List NodeRow) (net : IsNetwork rows) (joined : IsConnected rows
   agree_at row port in' has =
       let both = and_parts ((say port.nbr).root == (say row.id).root)
       ((say port.nbr).total == (say row.id).total)
-      (passes_port (agrees_with (say row.id)) say row.ports (hold row in').0 port has) in
-      (eqb-true (say port.nbr).root (say row.id).root both.0,
-      eqb-true (say port.nbr).total (say row.id).total both.1)
+      (passes_port (agrees_with (say row.id)) say row.ports (hold row in').0 port has) in (
+        eqb-true (say port.nbr).root (say row.id).root both.0,
+        eqb-true (say port.nbr).total (say row.id).total both.1,
+      )
 
   -- what a node says of itself
   itself : (row : NodeRow) → Contains rows row
@@ -69,9 +70,12 @@ module _ (rows : List NodeRow) (net : IsNetwork rows) (joined : IsConnected rows
         × (other.id ≡ port.nbr) =
         neighbour_row rows net row in' port has in
         let own : (say port.nbr).own ≡ port.nbr =
-        ap (λ (id : ℕ). (say id).own) (sym is) ∙ (itself other other_in).0 ∙ is in
-        (port, has, sym own ∙ eqb-true (say port.nbr).own (say row.id).parent both.0,
-        eqb-true (say row.id).depth ((say port.nbr).depth + 1) both.1)
+        ap (λ (id : ℕ). (say id).own) (sym is) ∙ (itself other other_in).0 ∙ is in (
+          port,
+          has,
+          sym own ∙ eqb-true (say port.nbr).own (say row.id).parent both.0,
+          eqb-true (say row.id).depth ((say port.nbr).depth + 1) both.1,
+        )
   ]
 
   rooted : AreRooted rows (λ id. (say id).root) (λ id. (say id).depth)
@@ -92,9 +96,10 @@ module _ (rows : List NodeRow) (net : IsNetwork rows) (joined : IsConnected rows
         | inl deep ↦ absurd (let at_0 = root.1.at_0 in let no : nat_lt 0 0 ≡ true = rw at_0 at deep in cc)
         | inr both ↦
             let parts = and_parts ((say root.0.id).parent == root.0.id)
-            ((say root.0.id).size == (say root.0.id).total) both in
-            (eqb-true (say root.0.id).parent root.0.id parts.0,
-            eqb-true (say root.0.id).size (say root.0.id).total parts.1)
+            ((say root.0.id).size == (say root.0.id).total) both in (
+              eqb-true (say root.0.id).parent root.0.id parts.0,
+              eqb-true (say root.0.id).size (say root.0.id).total parts.1,
+            )
       ]
 
   parents : HaveParents rows root.0.id (λ id. (say id).parent)
