@@ -1,5 +1,5 @@
 -- Where no chain of parents returns, each ends, after fewer steps than there are nodes.
-use Rattle.std.proofs.Common.{◌≡◌, ◌∙◌, ℕ, zero, suc, ◌+◌, ◌≤◌, ◌<◌, ◌==◌, ◌⊎◌, inl, inr, Bool, true, false, List, [], ◌∷◌, length, Contains, Option, Some, None, refl, sym, ap, subst, arith}
+use Rattle.std.proofs.Common.{◌≡◌, ℕ, zero, suc, ◌+◌, ◌≤◌, ◌==◌, ◌⊎◌, inl, inr, Bool, true, false, List, [], ◌∷◌, length, Contains, Option, Some, None, refl, sym, ap, subst, arith}
 use Rattle.std.specs.List.{sum_by}
 use Rattle.std.proofs.lemmas.Bool.{cases_eq, eqb-true}
 use Rattle.std.proofs.lemmas.List.Sums.{sum_by-cons}
@@ -88,13 +88,13 @@ module _ (HasParent : ℕ → ℕ → Type 0) (up : ℕ → Option ℕ) (nodes :
       elim (ends_or_long fuel x (up x) (within u x in' is) refl) [
         | inl ended ↦ inl (is, ended)
         | inr long ↦ inr record {
-            steps = (is, long.steps);
-            many = omega (arith, long.many);
-            known = λ y y_in. elim (Contains-cons_cases x (line_from up fuel (up x)) y y_in) [
-              | inl same ↦ subst (Contains nodes) same (within u x in' is)
-              | inr later ↦ long.known y later
-            ];
-          }
+          steps = (is, long.steps);
+          many = omega (arith, long.many);
+          known = λ y y_in. elim (Contains-cons_cases x (line_from up fuel (up x)) y y_in) [
+            | inl same ↦ subst (Contains nodes) same (within u x in' is)
+            | inr later ↦ long.known y later
+          ];
+        }
       ]
 
   -- each chain ends

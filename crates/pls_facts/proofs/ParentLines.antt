@@ -9,7 +9,7 @@ use Rattle.std.proofs.lemmas.Option.{same_Some}
 use Rattle.pls_graph.proofs.Members.{Contains-filter, Contains-first, Contains-from_filter, Contains-later}
 use Rattle.pls_facts.specs.Parents.{AreSoMany, ChainMeets, ParentChain}
 use Rattle.pls_facts.specs.SpanningTree.{AreDistinct}
-use Rattle.pls_facts.proofs.Sums.{AreApart, AreApart-from_pairs, eqb_turned, same_many, sum-add, sum-at, sum-filter, sum-one, sum-same, sum-swap, sum-when, sum-zero, when, when-add, when-none, when-same, when-swap}
+use Rattle.pls_facts.proofs.Sums.{AreApart, AreApart-from_pairs, eqb_turned, same_many, sum-add, sum-at, sum-filter, sum-one, sum-same, sum-swap, sum-when, sum-zero, when, when-add, when-none, when-swap}
 
 -- how often a node stands in a list
 abbrev pub hits : ℕ → List ℕ → ℕ
@@ -219,13 +219,15 @@ module _ (HasParent : ℕ → ℕ → Type 0) (nodes : List ℕ) (up : ℕ → O
     distinct = AllPairs-filter (λ one other. one ≢ other) meets nodes are.apart;
     many = many;
     are = λ x. (
-        λ in'.
-            let found = Contains-from_filter meets nodes x in' in
-            (found.0, meets_hits v x (rest x) found.0 (are.ends x found.0)
-            (ltb-true 0 (hits v (x ∷ rest x)) found.1)),
-        λ such. Contains-filter meets nodes x such.0 (lt-ltb 0 (hits v (x ∷ rest x))
-            (hits_meets v x (rest x) such.1.0 such.0 (are.ends x such.0) such.1.1)),
-      );
+      λ in'.
+          let found = Contains-from_filter meets nodes x in' in (
+            found.0,
+            meets_hits v x (rest x) found.0 (are.ends x found.0)
+                (ltb-true 0 (hits v (x ∷ rest x)) found.1),
+          ),
+      λ such. Contains-filter meets nodes x such.0 (lt-ltb 0 (hits v (x ∷ rest x))
+          (hits_meets v x (rest x) such.1.0 such.0 (are.ends x such.0) such.1.1)),
+    );
   }
     where
       meets : ℕ → Bool

@@ -1,5 +1,5 @@
 -- Sums over lists: term by term, in either order, and of what one item alone adds.
-use Rattle.std.proofs.Common.{◌≡◌, ◌≢◌, ◌∙◌, ℕ, zero, suc, ◌+◌, ◌≤◌, ◌<◌, ◌==◌, inl, inr, Bool, true, false, List, [], ◌∷◌, map, length, Contains, get_or, refl, sym, ap, arith, slice_get, Some}
+use Rattle.std.proofs.Common.{◌≡◌, ◌≢◌, ◌∙◌, ℕ, suc, ◌+◌, ◌==◌, inl, inr, Bool, true, false, List, [], ◌∷◌, map, length, Contains, get_or, refl, sym, ap, arith, slice_get, Some}
 use Rattle.std.specs.List.{AllPairs, filter, sum_by}
 use Rattle.std.proofs.lemmas.Bool.{cases_eq, eq-eqb, eqb-true, ne_eqb}
 use Rattle.std.proofs.lemmas.List.Sums.{sum_by-cons}
@@ -71,8 +71,13 @@ module _ {X : Type 0} where
       → sum_by (λ x. f x + g x) xs ≡ sum_by f xs + sum_by g xs
   sum-add f g [] = refl
   sum-add f g (x ∷ xs) =
-      omega (arith, sum-add f g xs, sum_by-cons f x xs, sum_by-cons g x xs,
-      sum_by-cons (λ (x : X). f x + g x) x xs)
+      omega (
+        arith,
+        sum-add f g xs,
+        sum_by-cons f x xs,
+        sum_by-cons g x xs,
+        sum_by-cons (λ (x : X). f x + g x) x xs,
+      )
 
   pub sum-zero : (f : X → ℕ) (xs : List X) → ((x : X) → Contains xs x → f x ≡ 0)
       → sum_by f xs ≡ 0
@@ -150,8 +155,12 @@ pub sum-map : {X Y : Type 0} (h : X → Y) (f : Y → ℕ) (xs : List X)
     → sum_by f (map h xs) ≡ sum_by (λ x. f (h x)) xs
 sum-map h f [] = refl
 sum-map {X} {Y} h f (x ∷ xs) =
-    omega (arith, sum-map h f xs, sum_by-cons f (h x) (map h xs),
-    sum_by-cons (λ (x : X). f (h x)) x xs)
+    omega (
+      arith,
+      sum-map h f xs,
+      sum_by-cons f (h x) (map h xs),
+      sum_by-cons (λ (x : X). f (h x)) x xs,
+    )
 
 -- distinct numbers are as many as others that are the same
 pub same_many : (xs ys : List ℕ) → AreApart (λ x. x) xs → AreApart (λ y. y) ys

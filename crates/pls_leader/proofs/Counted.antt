@@ -1,7 +1,6 @@
 -- What the marker of the number of nodes writes is right: places of parents are parents, and chains
 -- from place to place are chains from node to node.
-use Rattle.std.proofs.Common.{◌≡◌, ◌≢◌, ◌↔◌, ◌∙◌, ℕ, ◌+◌, ◌<◌, ◌≤◌, ◌==◌, inl, inr, Bool, true, false, List, [], ◌∷◌, length, map, get_or, position, unwrap_or, Contains, Option, Some, None, slice_get, refl, sym, ap, subst, arith}
-use Rattle.std.specs.List.{AllPairs}
+use Rattle.std.proofs.Common.{◌≡◌, ◌≢◌, ◌∙◌, ℕ, ◌+◌, ◌<◌, ◌≤◌, ◌==◌, inl, inr, true, false, List, [], ◌∷◌, length, map, get_or, position, unwrap_or, Contains, Option, Some, None, slice_get, refl, sym, ap, subst, arith}
 use Rattle.std.specs.Option.{option_map}
 use Rattle.std.proofs.lemmas.Bool.{cases_eq, cases_lt, eq-eqb, eqb-true}
 use Rattle.std.proofs.lemmas.List.{length-map}
@@ -10,7 +9,7 @@ use Rattle.std.proofs.lemmas.Option.{get_or_from_slice_get, same_Some, slice_get
 use Rattle.pls_model.specs.declared.row.Port.{Port}
 use Rattle.pls_model.specs.declared.row.NodeRow.{NodeRow}
 use Rattle.pls_model.specs.Configuration.{IsNetwork, ids_of}
-use Rattle.pls_model.specs.Walk.{Adjacent, edges_of}
+use Rattle.pls_model.specs.Walk.{edges_of}
 use Rattle.pls_graph.specs.Levels.{IsLevel}
 use Rattle.pls_graph.specs.Places.{beside}
 use Rattle.pls_graph.proofs.Beside.{Adjacent-beside, beside-Adjacent, beside_within}
@@ -33,6 +32,24 @@ abbrev pub IsWritten : List NodeRow → NodeRow → Option ℕ → ℕ → Type 
 IsWritten rows row None parent = parent ≡ row.id
 IsWritten rows row (Some up) parent = (node : NodeRow) → slice_get rows up ≡ Some node
     → node.id ≡ parent
+
+-- what is written is the identity at the parent's place, or the own one
+pub written_parent : (rows : List NodeRow) (row : NodeRow) (parents : List (Option ℕ))
+    (place up id : ℕ) → get_or parents place None ≡ Some up
+    → option_map (λ (row : NodeRow). row.id) (slice_get rows up) ≡ Some id
+    → (entry : Option ℕ) → slice_get parents place ≡ Some entry → IsWritten rows row entry id
+written_parent rows row parents place up id is named entry at =
+    let same : Some up ≡ entry = sym is ∙ get_or_from_slice_get parents place entry None at in
+    subst (λ (entry : Option ℕ). IsWritten rows row entry id) same
+    (λ node here. same_Some node.id id
+    (sym (ap (option_map (λ (row : NodeRow). row.id)) here) ∙ named))
+
+pub written_own : (rows : List NodeRow) (row : NodeRow) (parents : List (Option ℕ))
+    (place id : ℕ) → get_or parents place None ≡ None → id ≡ row.id
+    → (entry : Option ℕ) → slice_get parents place ≡ Some entry → IsWritten rows row entry id
+written_own rows row parents place id is own entry at =
+    let same : None ≡ entry = sym is ∙ get_or_from_slice_get parents place entry None at in
+    subst (λ (entry : Option ℕ). IsWritten rows row entry id) same own
 
 module _ (rows : List NodeRow) (net : IsNetwork rows) (levels : List ℕ)
     (from : AreLevelsFrom rows 0 levels) (parents : List (Option ℕ))
@@ -77,9 +94,11 @@ module _ (rows : List NodeRow) (net : IsNetwork rows) (levels : List ℕ)
   nearer_is : (place other : ℕ) (row node : NodeRow) → IsRow place row → IsRow other node
       → is_above levels place other ≡ true → IsOneNearer rows root row.id node.id
   nearer_is place other row node at there above =
-      let is : level place ≡ level other + 1 = eqb-true (level place) (level other + 1) above in
-      (level other, subst (IsLevel (edges_of rows) root row.id) is (level_is place row at),
-      level_is other node there)
+      let is : level place ≡ level other + 1 = eqb-true (level place) (level other + 1) above in (
+        level other,
+        subst (IsLevel (edges_of rows) root row.id) is (level_is place row at),
+        level_is other node there,
+      )
 
   is_nearer : (place other : ℕ) (row node : NodeRow) → IsRow place row → IsRow other node
       → IsOneNearer rows root row.id node.id → is_above levels place other ≡ true
@@ -122,9 +141,12 @@ module _ (rows : List NodeRow) (net : IsNetwork rows) (levels : List ℕ)
   up_there place parent row at has =
       let least = nearest.nearest place (Some parent) has in
       let low : parent < length rows = beside_low parent least.0 in
-      let (node, there) : (node : NodeRow) × IsRow parent node = item_at rows parent low in
-      (node, there, parent_is place parent row node at there least,
-      eqb-true (level place) (level parent + 1) least.1)
+      let (node, there) : (node : NodeRow) × IsRow parent node = item_at rows parent low in (
+        node,
+        there,
+        parent_is place parent row node at there least,
+        eqb-true (level place) (level parent + 1) least.1,
+      )
     where
       beside_low : (parent : ℕ) → Contains (beside rows place) parent → parent < length rows
       beside_low parent in' =
@@ -278,11 +300,13 @@ module _ (rows : List NodeRow) (net : IsNetwork rows) (levels : List ℕ)
           × (get_or (map id_at so.all) i d ≡ id_at other)
       item i d within =
           let (other, has) : (other : ℕ) × (slice_get so.all i ≡ Some other) =
-          item_at so.all i within in
-          (other, Contains-from_place so.all i other has,
-          get_or_from_slice_get so.all i other other has,
-          get_or_from_slice_get (map id_at so.all) i (id_at other) d
-          (slice_get-map id_at so.all i ∙ ap (option_map id_at) has))
+          item_at so.all i within in (
+            other,
+            Contains-from_place so.all i other has,
+            get_or_from_slice_get so.all i other other has,
+            get_or_from_slice_get (map id_at so.all) i (id_at other) d
+                (slice_get-map id_at so.all i ∙ ap (option_map id_at) has),
+          )
 
       distinct : AreDistinct (map id_at so.all)
       distinct i j d before within same =
@@ -314,9 +338,10 @@ module _ (rows : List NodeRow) (net : IsNetwork rows) (levels : List ℕ)
           let named : node.id ≡ id = sym (id_of other node node_at) ∙ is in
           let chain = ((so.are other).0 other_in).1 in
           subst (λ (id : ℕ). Contains (ids_of rows) id × ChainMeets (IsParent rows root) id row.id)
-          named
-          (id_of_row rows node (Contains-from_place rows other node node_at),
-          chain_there other place node row chain.0 node_at at chain.1)
+          named (
+            id_of_row rows node (Contains-from_place rows other node node_at),
+            chain_there other place node row chain.0 node_at at chain.1,
+          )
 
       back : (id : ℕ) → Contains (ids_of rows) id × ChainMeets (IsParent rows root) id row.id
           → Contains (map id_at so.all) id

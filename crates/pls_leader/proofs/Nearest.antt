@@ -1,12 +1,15 @@
 -- What loops over places have made so far.
-use Rattle.std.proofs.Common.{◌≡◌, ◌↔◌, ◌∙◌, ℕ, zero, suc, ◌+◌, ◌<◌, ◌≤◌, ◌⊎◌, inl, inr, min, Bool, true, false, List, [], ◌∷◌, ◌++◌, length, take, get_or, Contains, Option, Some, None, slice_get, refl, sym, ap, subst, arith}
+use Rattle.std.proofs.Common.{◌≡◌, ◌∙◌, ℕ, zero, suc, ◌+◌, ◌<◌, ◌≤◌, ◌⊎◌, inl, inr, min, Bool, true, false, List, [], ◌∷◌, ◌++◌, length, take, get_or, Option, Some, None, slice_get, refl, sym, ap, subst, arith}
+use Rattle.std.specs.Option.{option_map}
 use Rattle.std.proofs.lemmas.Bool.{cases_lt}
-use Rattle.std.proofs.lemmas.List.{length-append, take_more}
+use Rattle.std.proofs.lemmas.List.{length-append, take_all, take_more}
 use Rattle.std.proofs.lemmas.List.Elements.{Contains-append_left, Contains-push, Contains-push_cases}
 use Rattle.std.proofs.lemmas.Option.{same_Some, slice_get_within}
+use Rattle.pls_model.specs.declared.row.State.{State}
 use Rattle.pls_model.specs.declared.row.NodeRow.{NodeRow}
 use Rattle.pls_graph.specs.Places.{beside}
-use Rattle.pls_graph.proofs.Members.{place_from_Contains}
+use Rattle.pls_graph.proofs.Finds.{from_option_map}
+use Rattle.pls_graph.proofs.Members.{Contains-from_place, place_from_Contains}
 use Rattle.pls_facts.specs.NodeCount.{AreCounted}
 use Rattle.pls_scheme.specs.Marked.{AreRight}
 use Rattle.pls_leader.specs.inner.Nearest.{AreNearest, IsLeast, is_above, lesser}
@@ -130,18 +133,47 @@ module _ (test : ℕ → Bool) (xs : List ℕ) (x : ℕ) where
   )
 
 -- so with the next of a list
-module _ (test : ℕ → Bool) (xs : List ℕ) (i : ℕ) (within : i < length xs) (x : ℕ)
-    (is : get_or xs i x ≡ x) where
-  pub least_next : (found : Option ℕ) → IsLeast test (take i xs) found → test x ≡ true
-      → IsLeast test (take (i + 1) xs) (Some (lesser found x))
+module _ (test : ℕ → Bool) (xs : List ℕ) (i : ℕ) (within : i < length xs) where
+  pub least_next : (found : Option ℕ) → IsLeast test (take i xs) found
+      → test (get_or xs i 0) ≡ true
+      → IsLeast test (take (i + 1) xs) (Some (lesser found (get_or xs i 0)))
   least_next found least passes =
-      subst (λ (xs : List ℕ). IsLeast test xs (Some (lesser found x)))
-      (sym (take_more xs i x within ∙ ap (λ (x : ℕ). take i xs ++ x ∷ []) is))
-      (least_more test (take i xs) x found least passes)
+      subst (λ (xs' : List ℕ). IsLeast test xs' (Some (lesser found (get_or xs i 0))))
+      (sym (take_more xs i 0 within)) (least_more test (take i xs) (get_or xs i 0) found least passes)
 
-  pub least_stays : (found : Option ℕ) → IsLeast test (take i xs) found → test x ≡ false
-      → IsLeast test (take (i + 1) xs) found
+  pub least_stays : (found : Option ℕ) → IsLeast test (take i xs) found
+      → test (get_or xs i 0) ≡ false → IsLeast test (take (i + 1) xs) found
   least_stays found least fails =
-      subst (λ (xs : List ℕ). IsLeast test xs found)
-      (sym (take_more xs i x within ∙ ap (λ (x : ℕ). take i xs ++ x ∷ []) is))
-      (least_same test (take i xs) x found least fails)
+      subst (λ (xs' : List ℕ). IsLeast test xs' found) (sym (take_more xs i 0 within))
+      (least_same test (take i xs) (get_or xs i 0) found least fails)
+
+-- the number in the state at a place
+module _ (rows : List NodeRow) (place : ℕ) (state : State)
+    (at : option_map (λ (row : NodeRow). row.state) (slice_get rows place) ≡ Some state) where
+  pub counted_state : AreCounted rows → state.num ≡ length rows
+  counted_state counted =
+      let (row, here, is) : (row : NodeRow) × (slice_get rows place ≡ Some row)
+      × (row.state ≡ state) =
+      from_option_map (λ (row : NodeRow). row.state) (slice_get rows place) state at in
+      ap (λ (state : State). state.num) (sym is)
+      ∙ counted row (Contains-from_place rows place row here)
+
+  pub counted_next : AreCountedSoFar rows place → state.num ≡ length rows
+      → AreCountedSoFar rows (place + 1)
+  counted_next before is other row within here = elim (cases_lt other place) [
+    | inl less ↦ before other row less here
+    | inr more ↦
+        let same : other ≡ place = omega (arith, within, more) in
+        let (found, there, shown) : (row : NodeRow) × (slice_get rows place ≡ Some row)
+        × (row.state ≡ state) =
+        from_option_map (λ (row : NodeRow). row.state) (slice_get rows place) state at in
+        let one : row ≡ found = same_Some row found
+        (sym here ∙ ap (slice_get rows) same ∙ there) in
+        ap (λ (row : NodeRow). row.state.num) one ∙ ap (λ (state : State). state.num) shown ∙ is
+  ]
+
+-- what is found of all of a list
+pub take_whole : (test : ℕ → Bool) (xs : List ℕ) (i : ℕ) (found : Option ℕ) → length xs ≤ i
+    → IsLeast test (take i xs) found → IsLeast test xs found
+take_whole test xs i found past least =
+    subst (λ (xs : List ℕ). IsLeast test xs found) (take_all i xs past) least

@@ -1,20 +1,19 @@
 -- Handing sizes on to parents keeps the balance of what is there and what is to come.
-use Rattle.std.proofs.Common.{◌≡◌, ◌≢◌, ◌∙◌, ℕ, zero, suc, ◌+◌, ◌-◌, ◌<◌, ◌≤◌, ◌==◌, ◌⊎◌, inl, inr, nat_lt, nat_le, Bool, true, false, List, [], ◌∷◌, length, set, get_or, Contains, Option, Some, None, slice_get, slice_index_or, refl, sym, ap, subst, arith}
+use Rattle.std.proofs.Common.{◌≡◌, ◌≢◌, ◌∙◌, ℕ, zero, suc, ◌+◌, ◌-◌, ◌<◌, ◌≤◌, ◌==◌, ◌⊎◌, inl, inr, nat_lt, nat_le, Bool, true, false, List, [], ◌∷◌, length, set, get_or, Contains, Option, Some, None, slice_get, refl, sym, ap, subst, arith}
 use Rattle.std.specs.List.{sum_by}
 use Rattle.std.specs.Option.{option_map_or}
-use Rattle.std.proofs.lemmas.Bool.{cases_eq, eq-eqb, eqb-true, le-leb, leb-true, lt-ltb, ne_eqb}
+use Rattle.std.proofs.lemmas.Bool.{cases_eq, eq-eqb, le-leb, leb-true, lt-ltb, ne_eqb}
 use Rattle.std.proofs.Math.Numerals.{add-one}
 use Rattle.std.proofs.lemmas.List.Kept.{AllPairs-cons}
-use Rattle.std.proofs.lemmas.List.Elements.{All-nil}
 use Rattle.std.proofs.lemmas.List.{get_or-set_other, get_or-set_same, length-set}
 use Rattle.std.proofs.lemmas.List.Sums.{sum_by-cons}
-use Rattle.std.proofs.lemmas.Option.{get_or_from_slice_get, same_Some, slice_get-get_or, slice_get_within}
+use Rattle.std.proofs.lemmas.Option.{get_or_from_slice_get, slice_get-get_or, slice_get_within}
 use Rattle.pls_graph.proofs.Members.{Contains-cons_cases, Contains-first, Contains-from_place, Contains-later}
 use Rattle.pls_facts.specs.Parents.{AreSoMany, ChainMeets, NoParentsReturn}
 use Rattle.pls_facts.specs.SpanningTree.{AreDistinct}
 use Rattle.pls_facts.proofs.ParentEnds.{never_ends}
-use Rattle.pls_facts.proofs.ParentLines.{AreParents, is_child, is_child-up, line_from, met_by, met_by-children, met_by-few, met_by-many}
-use Rattle.pls_facts.proofs.Sums.{AreApart, eqb_turned, sum-add, sum-at, sum-same, sum-zero, when, when-none}
+use Rattle.pls_facts.proofs.ParentLines.{AreParents, is_child, line_from, met_by, met_by-children, met_by-few, met_by-many}
+use Rattle.pls_facts.proofs.Sums.{AreApart, sum-add, sum-at, sum-same, sum-zero, when, when-none}
 use Rattle.pls_search.specs.SubtreeSizes.{AreParentsWithin, AreSubtreeSizes, HasParentAt}
 use Rattle.pls_search.specs.inner.Passing.{AreTotals, AreWaits, IsPassing, and_at, below, from_children, number_at, parent_of, visits_from}
 
@@ -524,8 +523,12 @@ module _ (parents : List (Option ℕ)) where
       few : (xs : List ℕ) → sum_by (λ c. when (child v c) (when true 1)) xs ≤ length xs
       few [] = omega arith
       few (x ∷ xs) =
-          omega (arith, few xs, sum_by-cons (λ c. when (child v c) (when true 1)) x xs,
-          when-le (child v x) 1)
+          omega (
+            arith,
+            few xs,
+            sum_by-cons (λ c. when (child v c) (when true 1)) x xs,
+            when-le (child v x) 1,
+          )
 
   module _ (inside : AreParentsWithin parents) where
     up_has : (u x : ℕ) → u < n → parent_of parents u ≡ Some x → HasParentAt parents u x
@@ -554,28 +557,31 @@ module _ (parents : List (Option ℕ)) where
 
       -- the numbers of chains that meet each place
       pub the_totals : (total : ℕ → ℕ) × AreTotals parents total
-      the_totals = (met, record {
-        sums = λ v v_in.
-            met_by-children (HasParentAt parents) (below n) (parent_of parents) line are_parents v
-            (lt-below n v v_in);
-        few = λ v.
-            let low = met_by-few (HasParentAt parents) (below n) (parent_of parents) line
-            are_parents v in
-            let long = below-length n in
-            omega (arith, low, long);
-        many = λ v.
-            let so = met_by-many (HasParentAt parents) (below n) (parent_of parents) line
-            are_parents v in
-            record {
-              all = so.all;
-              distinct = so.distinct;
-              many = so.many;
-              are = λ x. (
+      the_totals = (
+        met,
+        record {
+          sums = λ v v_in.
+              met_by-children (HasParentAt parents) (below n) (parent_of parents) line are_parents v
+              (lt-below n v v_in);
+          few = λ v.
+              let low = met_by-few (HasParentAt parents) (below n) (parent_of parents) line
+              are_parents v in
+              let long = below-length n in
+              omega (arith, low, long);
+          many = λ v.
+              let so = met_by-many (HasParentAt parents) (below n) (parent_of parents) line
+              are_parents v in
+              record {
+                all = so.all;
+                distinct = so.distinct;
+                many = so.many;
+                are = λ x. (
                   λ in'. let such = (so.are x).0 in' in (below-lt n x such.0, such.1),
                   λ such. (so.are x).1 (lt-below n x such.0, such.1),
                 );
-            };
-      })
+              };
+        },
+      )
         where
           line : ℕ → List ℕ
           line u = line_from (parent_of parents) (length (below n)) (parent_of parents u)

@@ -1,13 +1,11 @@
 -- Where the rules of the number of nodes hold everywhere, each node's number is the number of nodes.
-use Rattle.std.proofs.Common.{◌≡◌, ◌≢◌, ◌∙◌, ℕ, ◌+◌, ◌≤◌, ◌==◌, ◌&&◌, ◌||◌, inl, inr, nat_lt, Bool, true, false, List, map, length, Contains, refl, sym, ap, arith}
-use Rattle.std.specs.List.{filter, sum_by}
+use Rattle.std.proofs.Common.{◌≡◌, ◌≢◌, ◌∙◌, ℕ, ◌+◌, ◌≤◌, ◌==◌, inl, inr, nat_lt, true, List, map, Contains, sym, ap, arith}
 use Rattle.std.proofs.lemmas.Bool.{and_parts, cases_eq, eqb-true, or_cases}
 use Rattle.pls_model.specs.declared.row.Port.{Port}
 use Rattle.pls_model.specs.declared.row.NodeRow.{NodeRow}
 use Rattle.pls_model.specs.Configuration.{IsNetwork}
 use Rattle.pls_model.specs.Walk.{IsConnected}
-use Rattle.pls_scheme.specs.Reading.{ReadPort, said, said_port}
-use Rattle.pls_scheme.specs.SchemeLaws.{IsSound}
+use Rattle.pls_scheme.specs.Reading.{said_port}
 use Rattle.pls_scheme.specs.Theorem.{HoldEverywhere, RulesShow}
 use Rattle.pls_scheme.proofs.SaidPorts.{passes_at_some, passes_port}
 use Rattle.pls_facts.specs.Descent.{AreRooted, IsTheRoot}
@@ -20,7 +18,7 @@ use Rattle.pls_facts.proofs.Pointed.{id_of_row}
 use Rattle.pls_facts.proofs.Sums.{sum-filter, sum-map, when}
 use Rattle.pls_facts.proofs.TreeSums.{sums_count}
 use Rattle.pls_leader.specs.declared.count.CountLabel.{CountLabel}
-use Rattle.pls_leader.specs.Count.{agrees_on_count, agrees_with, children_sizes, count_rules, falls_to_parent, is_below_or_whole, is_own_child, is_parent_above, names_itself}
+use Rattle.pls_leader.specs.Count.{agrees_with, children_sizes, count_rules, is_own_child, is_parent_above}
 use Rattle.pls_leader.specs.laws.RootedLaws.{root_where_0}
 
 -- the sizes of the children, as the ports of a row show them
@@ -41,9 +39,10 @@ module _ (rows : List NodeRow) (net : IsNetwork rows) (joined : IsConnected rows
   agree_at row port in' has =
       let both = and_parts ((say port.nbr).root == (say row.id).root)
       ((say port.nbr).total == (say row.id).total)
-      (passes_port (agrees_with (say row.id)) say row.ports (hold row in').0 port has) in
-      (eqb-true (say port.nbr).root (say row.id).root both.0,
-      eqb-true (say port.nbr).total (say row.id).total both.1)
+      (passes_port (agrees_with (say row.id)) say row.ports (hold row in').0 port has) in (
+        eqb-true (say port.nbr).root (say row.id).root both.0,
+        eqb-true (say port.nbr).total (say row.id).total both.1,
+      )
 
   -- what a node says of itself
   itself : (row : NodeRow) → Contains rows row
@@ -69,9 +68,12 @@ module _ (rows : List NodeRow) (net : IsNetwork rows) (joined : IsConnected rows
         × (other.id ≡ port.nbr) =
         neighbour_row rows net row in' port has in
         let own : (say port.nbr).own ≡ port.nbr =
-        ap (λ (id : ℕ). (say id).own) (sym is) ∙ (itself other other_in).0 ∙ is in
-        (port, has, sym own ∙ eqb-true (say port.nbr).own (say row.id).parent both.0,
-        eqb-true (say row.id).depth ((say port.nbr).depth + 1) both.1)
+        ap (λ (id : ℕ). (say id).own) (sym is) ∙ (itself other other_in).0 ∙ is in (
+          port,
+          has,
+          sym own ∙ eqb-true (say port.nbr).own (say row.id).parent both.0,
+          eqb-true (say row.id).depth ((say port.nbr).depth + 1) both.1,
+        )
   ]
 
   rooted : AreRooted rows (λ id. (say id).root) (λ id. (say id).depth)
@@ -92,9 +94,10 @@ module _ (rows : List NodeRow) (net : IsNetwork rows) (joined : IsConnected rows
         | inl deep ↦ absurd (let at_0 = root.1.at_0 in let no : nat_lt 0 0 ≡ true = rw at_0 at deep in cc)
         | inr both ↦
             let parts = and_parts ((say root.0.id).parent == root.0.id)
-            ((say root.0.id).size == (say root.0.id).total) both in
-            (eqb-true (say root.0.id).parent root.0.id parts.0,
-            eqb-true (say root.0.id).size (say root.0.id).total parts.1)
+            ((say root.0.id).size == (say root.0.id).total) both in (
+              eqb-true (say root.0.id).parent root.0.id parts.0,
+              eqb-true (say root.0.id).size (say root.0.id).total parts.1,
+            )
       ]
 
   parents : HaveParents rows root.0.id (λ id. (say id).parent)
