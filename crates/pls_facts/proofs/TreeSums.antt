@@ -1,5 +1,5 @@
 -- Sums along a tree count its nodes: each node but the root adds to that of one other.
-use Rattle.std.proofs.Common.{◌≡◌, ◌≢◌, ◌∙◌, ℕ, ◌+◌, ◌<◌, ◌==◌, Bool, true, false, not, List, length, position, Contains, Some, get_or, slice_get, refl, sym, ap, subst, arith}
+use Rattle.std.proofs.Common.{◌≡◌, ◌≢◌, ◌∙◌, ℕ, ◌+◌, ◌==◌, Bool, true, false, not, List, length, position, Contains, Some, get_or, slice_get, refl, sym, ap, subst, arith}
 use Rattle.std.specs.List.{AllPairs, sum_by}
 use Rattle.std.proofs.lemmas.Bool.{eqb-false, eqb-true}
 use Rattle.std.proofs.lemmas.Option.{same_Some, slice_get-get_or}
@@ -13,7 +13,7 @@ use Rattle.pls_graph.proofs.Placed.{place_of_port}
 use Rattle.pls_facts.specs.TreeSums.{AreSummed, HaveParents, of_children}
 use Rattle.pls_facts.proofs.Neighbours.{neighbour_row, port_adjacent, port_leads}
 use Rattle.pls_facts.proofs.OnlyNode.{ids_ascend}
-use Rattle.pls_facts.proofs.Sums.{AreApart, AreApart-from_pairs, eqb_turned, sum-add, sum-at, sum-filter, sum-one, sum-same, sum-swap, sum-when, sum-zero, when, when-none, when-same}
+use Rattle.pls_facts.proofs.Sums.{AreApart, AreApart-from_pairs, eqb_turned, sum-add, sum-at, sum-filter, sum-one, sum-same, sum-swap, sum-when, sum-zero, when, when-none}
 
 module _ (rows : List NodeRow) (net : IsNetwork rows) where
   -- the identities of the rows differ

@@ -1,2 +1,3 @@
 pub mod Right
-pub mod Probe
+pub mod Nearest
+pub mod Counted

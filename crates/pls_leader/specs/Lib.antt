@@ -2,3 +2,4 @@ pub mod Rooted
 pub mod Leader
 pub mod Count
 pub mod laws
+pub mod inner

@@ -11,8 +11,10 @@
 #![tactic(auto)]
 
 mod count;
+mod count_scheme;
 mod leader;
 mod leader_scheme;
+mod parents;
 mod rooted;
 
 pub use count::{Count, CountLabel, CountRules, Family};

@@ -1,20 +1,19 @@
 -- Handing sizes on to parents keeps the balance of what is there and what is to come.
-use Rattle.std.proofs.Common.{◌≡◌, ◌≢◌, ◌∙◌, ℕ, zero, suc, ◌+◌, ◌-◌, ◌<◌, ◌≤◌, ◌==◌, ◌⊎◌, inl, inr, nat_lt, nat_le, Bool, true, false, List, [], ◌∷◌, length, set, get_or, Contains, Option, Some, None, slice_get, slice_index_or, refl, sym, ap, subst, arith}
+use Rattle.std.proofs.Common.{◌≡◌, ◌≢◌, ◌∙◌, ℕ, zero, suc, ◌+◌, ◌-◌, ◌<◌, ◌≤◌, ◌==◌, ◌⊎◌, inl, inr, nat_lt, nat_le, Bool, true, false, List, [], ◌∷◌, length, set, get_or, Contains, Option, Some, None, slice_get, refl, sym, ap, subst, arith}
 use Rattle.std.specs.List.{sum_by}
 use Rattle.std.specs.Option.{option_map_or}
-use Rattle.std.proofs.lemmas.Bool.{cases_eq, eq-eqb, eqb-true, le-leb, leb-true, lt-ltb, ne_eqb}
+use Rattle.std.proofs.lemmas.Bool.{cases_eq, eq-eqb, le-leb, leb-true, lt-ltb, ne_eqb}
 use Rattle.std.proofs.Math.Numerals.{add-one}
 use Rattle.std.proofs.lemmas.List.Kept.{AllPairs-cons}
-use Rattle.std.proofs.lemmas.List.Elements.{All-nil}
 use Rattle.std.proofs.lemmas.List.{get_or-set_other, get_or-set_same, length-set}
 use Rattle.std.proofs.lemmas.List.Sums.{sum_by-cons}
-use Rattle.std.proofs.lemmas.Option.{get_or_from_slice_get, same_Some, slice_get-get_or, slice_get_within}
+use Rattle.std.proofs.lemmas.Option.{get_or_from_slice_get, slice_get-get_or, slice_get_within}
 use Rattle.pls_graph.proofs.Members.{Contains-cons_cases, Contains-first, Contains-from_place, Contains-later}
 use Rattle.pls_facts.specs.Parents.{AreSoMany, ChainMeets, NoParentsReturn}
 use Rattle.pls_facts.specs.SpanningTree.{AreDistinct}
 use Rattle.pls_facts.proofs.ParentEnds.{never_ends}
-use Rattle.pls_facts.proofs.ParentLines.{AreParents, is_child, is_child-up, line_from, met_by, met_by-children, met_by-few, met_by-many}
-use Rattle.pls_facts.proofs.Sums.{AreApart, eqb_turned, sum-add, sum-at, sum-same, sum-zero, when, when-none}
+use Rattle.pls_facts.proofs.ParentLines.{AreParents, is_child, line_from, met_by, met_by-children, met_by-few, met_by-many}
+use Rattle.pls_facts.proofs.Sums.{AreApart, sum-add, sum-at, sum-same, sum-zero, when, when-none}
 use Rattle.pls_search.specs.SubtreeSizes.{AreParentsWithin, AreSubtreeSizes, HasParentAt}
 use Rattle.pls_search.specs.inner.Passing.{AreTotals, AreWaits, IsPassing, and_at, below, from_children, number_at, parent_of, visits_from}
 

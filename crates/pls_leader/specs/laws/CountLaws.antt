@@ -1,15 +1,15 @@
 -- The theorem of the scheme of the number of nodes.
-use Rattle.std.proofs.Common.{◌≡◌, ◌≢◌, ◌∙◌, ℕ, ◌+◌, ◌<◌, ◌≤◌, ◌==◌, ◌&&◌, ◌||◌, inl, inr, nat_lt, not, Bool, true, false, List, [], ◌∷◌, map, length, Contains, Option, Some, None, slice_get, get_or, if◌then◌else◌, refl, sym, ap, subst, arith}
-use Rattle.std.specs.List.{list_any, sum_by}
+use Rattle.std.proofs.Common.{◌≡◌, ◌≢◌, ◌∙◌, ℕ, ◌+◌, ◌<◌, ◌≤◌, ◌==◌, ◌&&◌, ◌||◌, inl, inr, nat_lt, not, Bool, true, false, List, [], map, length, Contains, Option, Some, None, slice_get, get_or, if◌then◌else◌, refl, sym, ap, subst, arith}
+use Rattle.std.specs.List.{list_any}
 use Rattle.std.specs.Option.{option_map, option_map_or}
-use Rattle.std.proofs.lemmas.Bool.{and_from, cases_eq, eq-eqb, eqb-true, lt-ltb, ne_eqb}
+use Rattle.std.proofs.lemmas.Bool.{and_from, cases_eq, eq-eqb, ne_eqb}
 use Rattle.std.proofs.lemmas.List.{length-map}
 use Rattle.std.proofs.lemmas.Option.{get_or_from_slice_get, same_Some, slice_get-map}
 use Rattle.pls_bits.specs.NumberCode.{Grows, IsShort}
 use Rattle.pls_model.specs.declared.row.Port.{Port}
 use Rattle.pls_model.specs.declared.row.NodeRow.{NodeRow}
 use Rattle.pls_model.specs.Configuration.{IsNetwork, ids_of}
-use Rattle.pls_model.specs.Walk.{Adjacent, edges_of}
+use Rattle.pls_model.specs.Walk.{edges_of}
 use Rattle.pls_graph.specs.Levels.{IsLevel}
 use Rattle.pls_graph.specs.Size.{greatest, size_of}
 use Rattle.pls_graph.proofs.Members.{Contains-from_map, Contains-from_place}
@@ -26,17 +26,17 @@ use Rattle.pls_scheme.proofs.SaidPorts.{all_ports_pass, some_port_passes}
 use Rattle.pls_facts.specs.NodeCount.{AreCounted}
 use Rattle.pls_facts.specs.Parents.{AreSoMany, ChainMeets}
 use Rattle.pls_facts.specs.SpanningTree.{AreDistinct}
-use Rattle.pls_facts.specs.TreeSums.{AreSummed, HaveParents, of_children}
+use Rattle.pls_facts.specs.TreeSums.{AreSummed, HaveParents}
 use Rattle.pls_facts.proofs.Levels.{one_level}
 use Rattle.pls_facts.proofs.Lists.{item_at}
 use Rattle.pls_facts.proofs.Neighbours.{adjacent_known, id_within, neighbour_row, port_leads}
-use Rattle.pls_facts.proofs.ParentLines.{AreParents, AreSoMany-one, Ended, is_child, line_ends, line_from, met_by, met_by-few, met_by-many, so_many-children}
+use Rattle.pls_facts.proofs.ParentLines.{AreParents, AreSoMany-one, is_child, line_ends, line_from, met_by, met_by-few, met_by-many, so_many-children}
 use Rattle.pls_facts.proofs.Pointed.{id_of_row}
 use Rattle.pls_facts.proofs.RootLevels.{alone_at_0, below_nodes, level_of, root_at_0}
 use Rattle.pls_facts.proofs.Sums.{sum-map, sum-same, when}
 use Rattle.pls_facts.proofs.TreeSums.{adds, children_add, sums_count}
 use Rattle.pls_leader.specs.declared.count.CountLabel.{CountLabel}
-use Rattle.pls_leader.specs.Count.{IsCountLabel, IsCountMarked, IsCounted, IsOneNearer, IsParent, agrees_with, children_sizes, count_label, count_limits, count_of, count_rules, count_says, falls_to_parent, is_below_or_whole, is_parent_above, judge_count, longest_count, numbers_of_count}
+use Rattle.pls_leader.specs.Count.{IsCountLabel, IsCountMarked, IsCounted, IsOneNearer, IsParent, agrees_with, children_sizes, count_label, count_limits, count_of, count_rules, count_says, is_parent_above, judge_count, longest_count, numbers_of_count}
 use Rattle.pls_leader.specs.laws.CountShow.{children_said, count_show}
 use Rattle.pls_leader.specs.laws.RootedLaws.{at_0_alone}
 

@@ -1,1 +1,0 @@
-use Rattle.pls_leader.specs.laws.CountLaws.{count_met}
