@@ -5,7 +5,7 @@ use Rattle.pls_model.specs.declared.row.Port.{Port}
 use Rattle.pls_model.specs.declared.row.NodeRow.{NodeRow}
 use Rattle.pls_model.specs.Configuration.{IsNetwork}
 use Rattle.pls_model.specs.Walk.{IsConnected}
-use Rattle.pls_scheme.specs.Reading.{said_port}
+use Rattle.pls_scheme.specs.Reading.{port_where}
 use Rattle.pls_scheme.specs.Theorem.{HoldEverywhere, RulesShow}
 use Rattle.pls_scheme.proofs.SaidPorts.{passes_at_some, passes_port}
 use Rattle.pls_facts.specs.Descent.{AreRooted, IsTheRoot}
@@ -23,11 +23,11 @@ use Rattle.pls_leader.specs.laws.RootedLaws.{root_where_0}
 
 -- the sizes of the children, as the ports of a row show them
 pub children_said : (say : ℕ → CountLabel) (row : NodeRow)
-    → children_sizes row.id (map (said_port say) row.ports)
+    → children_sizes row.id (map (port_where say) row.ports)
     ≡ of_children (λ id. (say id).parent) (λ id. (say id).size) row
 children_said say row =
-    sum-filter (is_own_child row.id) (λ port. port.label.size) (map (said_port say) row.ports)
-    ∙ sum-map (said_port say) (λ port. when (is_own_child row.id port) port.label.size) row.ports
+    sum-filter (is_own_child row.id) (λ port. port.label.size) (map (port_where say) row.ports)
+    ∙ sum-map (port_where say) (λ port. when (is_own_child row.id port) port.label.size) row.ports
     ∙ sym (sum-filter (λ port. row.id == (say port.nbr).parent) (λ port. (say port.nbr).size)
     row.ports)
 
@@ -60,7 +60,7 @@ module _ (rows : List NodeRow) (net : IsNetwork rows) (joined : IsConnected rows
     | inl none ↦ absurd (let is = eqb-true (say row.id).depth 0 none in omega (arith, some, is))
     | inr falls ↦
         let (port, has, passes) : (port : Port) × Contains row.ports port
-        × (is_parent_above (say row.id) (said_port say port) ≡ true) =
+        × (is_parent_above (say row.id) (port_where say port) ≡ true) =
         passes_at_some (is_parent_above (say row.id)) say row.ports falls in
         let both = and_parts ((say port.nbr).own == (say row.id).parent)
         ((say row.id).depth == (say port.nbr).depth + 1) passes in
@@ -112,8 +112,8 @@ module _ (rows : List NodeRow) (net : IsNetwork rows) (joined : IsConnected rows
 
   summed : AreSummed rows (λ id. (say id).parent) (λ id. (say id).size)
   summed row in' =
-      let is : (say row.id).size ≡ children_sizes row.id (map (said_port say) row.ports) + 1 =
-      eqb-true (say row.id).size (children_sizes row.id (map (said_port say) row.ports) + 1)
+      let is : (say row.id).size ≡ children_sizes row.id (map (port_where say) row.ports) + 1 =
+      eqb-true (say row.id).size (children_sizes row.id (map (port_where say) row.ports) + 1)
       (hold row in').1.1.1.1.1.0 in
       omega (arith, is, children_said say row)
 
