@@ -8,7 +8,7 @@ use Rattle.pls_model.specs.declared.limits.TheConstants.{MAX_NODES}
 use Rattle.pls_scheme.specs.Theorem.{AreWords}
 use Rattle.pls_scheme.specs.Length.{code_length}
 use Rattle.pls_combine.specs.declared.scheme_name.SchemeName.{SchemeName}
-use Rattle.pls_combine.specs.declared.scheme_name.SchemeName.TheVariants.{Acyclic, Bipartite, Forest, Leader, Tree}
+use Rattle.pls_combine.specs.declared.scheme_name.SchemeName.TheVariants.{Acyclic, Bipartite, Count, Forest, Leader, Tree}
 use Rattle.pls_combine.specs.Named.{longest_of}
 
 -- the code of a number that has one has at most 125 bits
@@ -37,3 +37,4 @@ short_bound scheme size few words = by scheme
     by Bipartite = omega arith
     by Acyclic = omega (arith, nodes)
     by Leader = omega (arith, nodes, ids)
+    by Count = omega (arith, nodes, ids)

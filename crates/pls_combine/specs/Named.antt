@@ -19,8 +19,11 @@ use Rattle.pls_colour.specs.declared.colour_layout.ColourLabel.{ColourLabel}
 use Rattle.pls_facts.specs.Leader.{HasOneLeader}
 use Rattle.pls_leader.specs.Leader.{IsLeaderLabel, IsLeaderMarked, judge_leader, longest_leader}
 use Rattle.pls_leader.specs.declared.leader.LeaderLabel.{LeaderLabel}
+use Rattle.pls_facts.specs.NodeCount.{AreCounted}
+use Rattle.pls_leader.specs.Count.{IsCountLabel, IsCountMarked, judge_count, longest_count}
+use Rattle.pls_leader.specs.declared.count.CountLabel.{CountLabel}
 use Rattle.pls_combine.specs.declared.scheme_name.SchemeName.{SchemeName}
-use Rattle.pls_combine.specs.declared.scheme_name.SchemeName.TheVariants.{Acyclic, Bipartite, Forest, Leader, Tree}
+use Rattle.pls_combine.specs.declared.scheme_name.SchemeName.TheVariants.{Acyclic, Bipartite, Count, Forest, Leader, Tree}
 
 -- the property of a scheme
 abbrev pub HasProperty : SchemeName → List NodeRow → Type 0
@@ -29,6 +32,7 @@ HasProperty Forest rows = IsForest rows
 HasProperty Bipartite rows = IsBipartite rows
 HasProperty Acyclic rows = IsAcyclic rows
 HasProperty Leader rows = HasOneLeader rows
+HasProperty Count rows = AreCounted rows
 
 -- the verdict of a scheme on a view
 abbrev pub judge_of : SchemeName → Seen → Verdict
@@ -37,6 +41,7 @@ judge_of Forest view = judge_forest gamma_takes view
 judge_of Bipartite view = judge_bipartite view
 judge_of Acyclic view = judge_acyclic gamma_takes view
 judge_of Leader view = judge_leader gamma_takes view
+judge_of Count view = judge_count gamma_takes view
 
 -- the labels are those of a connected network with the property
 abbrev pub IsMarked : SchemeName → List NodeRow → List (List Bool) → Type 0
@@ -45,6 +50,7 @@ IsMarked Forest rows labels = IsForestMarked gamma_code rows labels
 IsMarked Bipartite rows labels = IsBipartiteMarked rows labels
 IsMarked Acyclic rows labels = IsAcyclicMarked gamma_code rows labels
 IsMarked Leader rows labels = IsLeaderMarked gamma_code rows labels
+IsMarked Count rows labels = IsCountMarked gamma_code rows labels
 
 -- how many bits a marked label has at most, in a network of this size
 abbrev pub longest_of : SchemeName → Size → ℕ
@@ -53,6 +59,7 @@ longest_of Forest size = longest_forest gamma_code size
 longest_of Bipartite size = longest_bipartite size
 longest_of Acyclic size = longest_acyclic gamma_code size
 longest_of Leader size = longest_leader gamma_code size
+longest_of Count size = longest_count gamma_code size
 
 -- the bits are some label of the scheme
 abbrev pub IsLabelOf : SchemeName → List Bool → Type 0
@@ -61,6 +68,7 @@ IsLabelOf Forest bits = (label : DepthLabel) × IsDepthLabel gamma_code bits lab
 IsLabelOf Bipartite bits = (label : ColourLabel) × IsColourLabel bits label
 IsLabelOf Acyclic bits = (label : CycleLabel) × IsCycleLabel gamma_code bits label
 IsLabelOf Leader bits = (label : LeaderLabel) × IsLeaderLabel gamma_code bits label
+IsLabelOf Count bits = (label : CountLabel) × IsCountLabel gamma_code bits label
 
 -- the bits are this label of the scheme, which is its bits
 abbrev pub IsLabelled : SchemeName → List Bool → List Bool → Type 0

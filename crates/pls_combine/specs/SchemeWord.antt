@@ -1,7 +1,7 @@
 -- The words that name schemes.
 use Rattle.std.specs.Prelude.{ℕ, List, codes, bytes_eq, Option, Some, None, if◌then◌else◌}
 use Rattle.pls_combine.specs.declared.scheme_name.SchemeName.{SchemeName}
-use Rattle.pls_combine.specs.declared.scheme_name.SchemeName.TheVariants.{Acyclic, Bipartite, Forest, Leader, Tree}
+use Rattle.pls_combine.specs.declared.scheme_name.SchemeName.TheVariants.{Acyclic, Bipartite, Count, Forest, Leader, Tree}
 
 -- the name of a scheme
 abbrev pub name_of : SchemeName → List ℕ
@@ -10,6 +10,7 @@ name_of Forest = codes "forest"
 name_of Bipartite = codes "bipartite"
 name_of Acyclic = codes "acyclic"
 name_of Leader = codes "leader"
+name_of Count = codes "count"
 
 -- the scheme of a name
 abbrev pub scheme_of : List ℕ → Option SchemeName
@@ -18,4 +19,5 @@ scheme_of word =
     else (if bytes_eq word (codes "forest") then Some Forest
     else (if bytes_eq word (codes "bipartite") then Some Bipartite
     else (if bytes_eq word (codes "acyclic") then Some Acyclic
-    else (if bytes_eq word (codes "leader") then Some Leader else None))))
+    else (if bytes_eq word (codes "leader") then Some Leader
+    else (if bytes_eq word (codes "count") then Some Count else None)))))

@@ -8,7 +8,7 @@ use pls_base::{NoMemory, Steps};
 use pls_bits::{BitBuf, Bits, Gamma};
 use pls_colour::{Acyclic, Bipartite};
 use pls_graph::{Network, Size};
-use pls_leader::Leader;
+use pls_leader::{Count, Leader};
 use pls_model::Verdict;
 use pls_pointer::{Forest, Tree};
 use pls_scheme::{Checker, Property, Scheme};
@@ -50,6 +50,7 @@ impl Checker for SchemeName {
             SchemeName::Bipartite => Bipartite::new().verify(alloc, view, steps),
             SchemeName::Acyclic => Acyclic::<Gamma>::new().verify(alloc, view, steps),
             SchemeName::Leader => Leader::<Gamma>::new().verify(alloc, view, steps),
+            SchemeName::Count => Count::<Gamma>::new().verify(alloc, view, steps),
         }
     }
 
@@ -66,6 +67,7 @@ impl Checker for SchemeName {
             SchemeName::Bipartite => Bipartite::new().round(alloc, net, labels, steps),
             SchemeName::Acyclic => Acyclic::<Gamma>::new().round(alloc, net, labels, steps),
             SchemeName::Leader => Leader::<Gamma>::new().round(alloc, net, labels, steps),
+            SchemeName::Count => Count::<Gamma>::new().round(alloc, net, labels, steps),
         }
     }
 
@@ -86,6 +88,7 @@ impl Property for SchemeName {
             SchemeName::Bipartite => Bipartite::new().decide(alloc, net),
             SchemeName::Acyclic => Acyclic::<Gamma>::new().decide(alloc, net),
             SchemeName::Leader => Leader::<Gamma>::new().decide(alloc, net),
+            SchemeName::Count => Count::<Gamma>::new().decide(alloc, net),
         }
     }
 }
@@ -127,6 +130,7 @@ impl Scheme for SchemeName {
             SchemeName::Bipartite => Bipartite::new().bound(size),
             SchemeName::Acyclic => Acyclic::<Gamma>::new().bound(size),
             SchemeName::Leader => Leader::<Gamma>::new().bound(size),
+            SchemeName::Count => Count::<Gamma>::new().bound(size),
         }
     }
 
@@ -137,6 +141,7 @@ impl Scheme for SchemeName {
             SchemeName::Bipartite => Bipartite::new().mark(alloc, net),
             SchemeName::Acyclic => Acyclic::<Gamma>::new().mark(alloc, net),
             SchemeName::Leader => Leader::<Gamma>::new().mark(alloc, net),
+            SchemeName::Count => Count::<Gamma>::new().mark(alloc, net),
         }
     }
 
@@ -162,5 +167,6 @@ fn is_label(alloc: Global, scheme: SchemeName, bits: &Bits<'_>) -> Result<bool, 
         SchemeName::Bipartite => Bipartite::new().read_label(alloc, bits)?.is_some(),
         SchemeName::Acyclic => Acyclic::<Gamma>::new().read_label(alloc, bits)?.is_some(),
         SchemeName::Leader => Leader::<Gamma>::new().read_label(alloc, bits)?.is_some(),
+        SchemeName::Count => Count::<Gamma>::new().read_label(alloc, bits)?.is_some(),
     })
 }

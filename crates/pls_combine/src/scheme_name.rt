@@ -16,6 +16,8 @@ pub enum SchemeName {
     Acyclic,
     /// `leader`: exactly one node has mark 1.
     Leader,
+    /// `count`: the number of each node is how many nodes there are.
+    Count,
 }
 
 /// The scheme that a word names, or `None` where it names none.
@@ -32,6 +34,8 @@ pub fn read_scheme(word: &str) -> Option<SchemeName>
         Some(SchemeName::Acyclic)
     } else if is_word(word, "leader") {
         Some(SchemeName::Leader)
+    } else if is_word(word, "count") {
+        Some(SchemeName::Count)
     } else {
         None
     }

@@ -14,3 +14,6 @@ returns-in-Acyclic c = rw c.in-Acyclic.is c.decide-in-Acyclic.ensures
 
 pub returns-in-Leader : goal.returns-in-Leader
 returns-in-Leader c = rw c.in-Leader.is c.decide-in-Leader.ensures
+
+pub returns-in-Count : goal.returns-in-Count
+returns-in-Count c = rw c.in-Count.is c.decide-in-Count.ensures
