@@ -127,14 +127,26 @@ module _ (id : ℕ) (state : State) (own : SptLabel) (ports : List (ReadPort Spt
           → one.follows ≡ other.follows → one.nearest ≡ other.nearest → one ≡ other
       four one other own agrees follows nearest =
           ap (λ (own : SptLabel). record {
-            own = own; agrees = one.agrees; follows = one.follows; nearest = one.nearest;
+            own = own;
+            agrees = one.agrees;
+            follows = one.follows;
+            nearest = one.nearest;
           }) own
           ∙ ap (λ (agrees : Bool). record {
-            own = other.own; agrees = agrees; follows = one.follows; nearest = one.nearest;
+            own = other.own;
+            agrees = agrees;
+            follows = one.follows;
+            nearest = one.nearest;
           }) agrees
           ∙ ap (λ (follows : Bool). record {
-            own = other.own; agrees = other.agrees; follows = follows; nearest = one.nearest;
+            own = other.own;
+            agrees = other.agrees;
+            follows = follows;
+            nearest = one.nearest;
           }) follows
           ∙ ap (λ (nearest : Bool). record {
-            own = other.own; agrees = other.agrees; follows = other.follows; nearest = nearest;
+            own = other.own;
+            agrees = other.agrees;
+            follows = other.follows;
+            nearest = nearest;
           }) nearest

@@ -38,7 +38,13 @@ impl Gathered {
     }
 
     // With one more port, the one at this place, of a node with this pointer.
-    pub(crate) fn with(self, up: Option<u32>, place: usize, weight: u32, label: SptLabel) -> Gathered
+    pub(crate) fn with(
+        self,
+        up: Option<u32>,
+        place: usize,
+        weight: u32,
+        label: SptLabel,
+    ) -> Gathered
         ensures { (id : ℕ) (state : State) (own : SptLabel) (ports : List (ReadPort SptLabel))
             → state.up ≡ up → length ports ≡ place → self ≡ gathered (reading id state own ports)
             → result ≡ gathered (reading id state own (ports ++ port_with weight label ∷ [])) }
@@ -93,13 +99,7 @@ fn both(one: bool, other: bool) -> bool
 
 // Whether a node is one deeper than the node at a port, and farther by the weight of the edge, if
 // it points at that port, and else what held before.
-fn follows_so_far(
-    own: &SptLabel,
-    points: bool,
-    weight: u32,
-    above: &SptLabel,
-    before: bool,
-) -> bool
+fn follows_so_far(own: &SptLabel, points: bool, weight: u32, above: &SptLabel, before: bool) -> bool
     ensures { result ≡ (if points then (own.now.depth == above.now.depth + 1
         && own.now.dist == above.now.dist + weight) else before) }
 {

@@ -4,7 +4,7 @@
 use crate::gathering::Gathered;
 use pls_bits::NumCode;
 use pls_model::Verdict;
-use pls_scheme::{Basic, Coded, JudgesInPlace, Judgement, OfNumbers, ReadsInPlace, judged_from};
+use pls_scheme::{Basic, Coded, Judgement, JudgesInPlace, OfNumbers, ReadsInPlace, judged_from};
 use pls_view::{PortView, View};
 use std::marker::PhantomData;
 

@@ -172,44 +172,44 @@ spt_show rows net joined say hold =
 
 module _ (rows : List NodeRow) (net : IsNetwork rows) (shortest : IsShortestPathTree rows)
     (say : ℕ → SptLabel) (right : (row : NodeRow) → Contains rows row → spt_says rows row (say row.id))
-    where
-      root : (row : NodeRow) × Contains rows row × (row.state.up ≡ None)
-      root = a_root rows shortest.tree.one_root
+  where
+    root : (row : NodeRow) × Contains rows row × (row.state.up ≡ None)
+    root = a_root rows shortest.tree.one_root
 
-      -- where what is said is right, it is the distance from the root
-      said_distance : (row : NodeRow) → Contains rows row
-          → IsDistance rows root.0.id row.id (dist_said say row.id)
-      said_distance row in' =
-          let (named, chain, weighs) : ((say row.id).root ≡ root.0.id)
-          × (chain : IsChainOf rows row.id root.0.id (say row.id).depth)
-          × ((say row.id).dist ≡ walk_weight rows row.id chain.nodes) =
-          right row in' root.0 root.1 root.2 in
-          subst (IsDistance rows root.0.id row.id) (sym weighs)
-          (chain_distance rows net shortest row.id root.0.id (say row.id).depth chain)
+    -- where what is said is right, it is the distance from the root
+    said_distance : (row : NodeRow) → Contains rows row
+        → IsDistance rows root.0.id row.id (dist_said say row.id)
+    said_distance row in' =
+        let (named, chain, weighs) : ((say row.id).root ≡ root.0.id)
+        × (chain : IsChainOf rows row.id root.0.id (say row.id).depth)
+        × ((say row.id).dist ≡ walk_weight rows row.id chain.nodes) =
+        right row in' root.0 root.1 root.2 in
+        subst (IsDistance rows root.0.id row.id) (sym weighs)
+        (chain_distance rows net shortest row.id root.0.id (say row.id).depth chain)
 
-      said_falls : FallsByWeight rows (dist_said say)
-      said_falls = distances_fall rows net shortest root.0.id (dist_said say) said_distance
-          (λ row in'. ((say row.id).depth, (right row in' root.0 root.1 root.2).1))
+    said_falls : FallsByWeight rows (dist_said say)
+    said_falls = distances_fall rows net shortest root.0.id (dist_said say) said_distance
+        (λ row in'. ((say row.id).depth, (right row in' root.0 root.1 root.2).1))
 
-      said_rises : RisesByWeight rows (dist_said say)
-      said_rises = distances_rise rows net root.0.id (dist_said say) (λ u v adjacent.
-          let (row, in', is) : (row : NodeRow) × Contains rows row × (row.id ≡ u) =
-          row_from_id rows u
-          (adjacent_known rows net v u (Adjacent-turned (edges_of rows) u v adjacent)) in
-          subst (λ (u : ℕ). IsDistance rows root.0.id u (dist_said say u)) is
-          (said_distance row in'))
+    said_rises : RisesByWeight rows (dist_said say)
+    said_rises = distances_rise rows net root.0.id (dist_said say) (λ u v adjacent.
+        let (row, in', is) : (row : NodeRow) × Contains rows row × (row.id ≡ u) =
+        row_from_id rows u
+        (adjacent_known rows net v u (Adjacent-turned (edges_of rows) u v adjacent)) in
+        subst (λ (u : ℕ). IsDistance rows root.0.id u (dist_said say u)) is
+        (said_distance row in'))
 
-      -- the root is no way from itself
-      said_at_root : (row : NodeRow) → Contains rows row → row.state.up ≡ None
-          → (say row.id).dist ≡ 0
-      said_at_root row in' none =
-          let (named, chain, weighs) : ((say row.id).root ≡ row.id)
-          × (chain : IsChainOf rows row.id row.id (say row.id).depth)
-          × ((say row.id).dist ≡ walk_weight rows row.id chain.nodes) =
-          right row in' row in' none in
-          weighs ∙ ap (walk_weight rows row.id)
-          (one_chain rows row.id row.id row.id chain.nodes [] chain.chain chain.ends refl
-          (root_points_nowhere rows net row in' none))
+    -- the root is no way from itself
+    said_at_root : (row : NodeRow) → Contains rows row → row.state.up ≡ None
+        → (say row.id).dist ≡ 0
+    said_at_root row in' none =
+        let (named, chain, weighs) : ((say row.id).root ≡ row.id)
+        × (chain : IsChainOf rows row.id row.id (say row.id).depth)
+        × ((say row.id).dist ≡ walk_weight rows row.id chain.nodes) =
+        right row in' row in' none in
+        weighs ∙ ap (walk_weight rows row.id)
+        (one_chain rows row.id row.id row.id chain.nodes [] chain.chain chain.ends refl
+        (root_points_nowhere rows net row in' none))
 
 -- where what is said is right, the rules hold
 pub spt_met : RulesAreMet spt_rules IsShortestPathTree spt_says
