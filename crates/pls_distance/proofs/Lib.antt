@@ -1,1 +1,2 @@
 mod MorePorts
+mod Followed
