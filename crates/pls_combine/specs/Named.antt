@@ -22,8 +22,11 @@ use Rattle.pls_leader.specs.declared.leader.LeaderLabel.{LeaderLabel}
 use Rattle.pls_facts.specs.NodeCount.{AreCounted}
 use Rattle.pls_leader.specs.Count.{IsCountLabel, IsCountMarked, judge_count, longest_count}
 use Rattle.pls_leader.specs.declared.count.CountLabel.{CountLabel}
+use Rattle.pls_facts.specs.ShortestPath.{IsShortestPathTree}
+use Rattle.pls_distance.specs.Spt.{IsSptLabel, IsSptMarked, judge_spt, longest_spt}
+use Rattle.pls_distance.specs.declared.spt.SptLabel.{SptLabel}
 use Rattle.pls_combine.specs.declared.scheme_name.SchemeName.{SchemeName}
-use Rattle.pls_combine.specs.declared.scheme_name.SchemeName.TheVariants.{Acyclic, Bipartite, Count, Forest, Leader, Tree}
+use Rattle.pls_combine.specs.declared.scheme_name.SchemeName.TheVariants.{Acyclic, Bipartite, Count, Forest, Leader, ShortestPathTree, Tree}
 
 -- the property of a scheme
 abbrev pub HasProperty : SchemeName → List NodeRow → Type 0
@@ -33,6 +36,7 @@ HasProperty Bipartite rows = IsBipartite rows
 HasProperty Acyclic rows = IsAcyclic rows
 HasProperty Leader rows = HasOneLeader rows
 HasProperty Count rows = AreCounted rows
+HasProperty ShortestPathTree rows = IsShortestPathTree rows
 
 -- the verdict of a scheme on a view
 abbrev pub judge_of : SchemeName → Seen → Verdict
@@ -42,6 +46,7 @@ judge_of Bipartite view = judge_bipartite view
 judge_of Acyclic view = judge_acyclic gamma_takes view
 judge_of Leader view = judge_leader gamma_takes view
 judge_of Count view = judge_count gamma_takes view
+judge_of ShortestPathTree view = judge_spt gamma_takes view
 
 -- the labels are those of a connected network with the property
 abbrev pub IsMarked : SchemeName → List NodeRow → List (List Bool) → Type 0
@@ -51,6 +56,7 @@ IsMarked Bipartite rows labels = IsBipartiteMarked rows labels
 IsMarked Acyclic rows labels = IsAcyclicMarked gamma_code rows labels
 IsMarked Leader rows labels = IsLeaderMarked gamma_code rows labels
 IsMarked Count rows labels = IsCountMarked gamma_code rows labels
+IsMarked ShortestPathTree rows labels = IsSptMarked gamma_code rows labels
 
 -- how many bits a marked label has at most, in a network of this size
 abbrev pub longest_of : SchemeName → Size → ℕ
@@ -60,6 +66,7 @@ longest_of Bipartite size = longest_bipartite size
 longest_of Acyclic size = longest_acyclic gamma_code size
 longest_of Leader size = longest_leader gamma_code size
 longest_of Count size = longest_count gamma_code size
+longest_of ShortestPathTree size = longest_spt gamma_code size
 
 -- the bits are some label of the scheme
 abbrev pub IsLabelOf : SchemeName → List Bool → Type 0
@@ -69,6 +76,7 @@ IsLabelOf Bipartite bits = (label : ColourLabel) × IsColourLabel bits label
 IsLabelOf Acyclic bits = (label : CycleLabel) × IsCycleLabel gamma_code bits label
 IsLabelOf Leader bits = (label : LeaderLabel) × IsLeaderLabel gamma_code bits label
 IsLabelOf Count bits = (label : CountLabel) × IsCountLabel gamma_code bits label
+IsLabelOf ShortestPathTree bits = (label : SptLabel) × IsSptLabel gamma_code bits label
 
 -- the bits are this label of the scheme, which is its bits
 abbrev pub IsLabelled : SchemeName → List Bool → List Bool → Type 0

@@ -7,6 +7,7 @@ use crate::scheme_name::SchemeName;
 use pls_base::{NoMemory, Steps};
 use pls_bits::{BitBuf, Bits, Gamma};
 use pls_colour::{Acyclic, Bipartite};
+use pls_distance::Spt;
 use pls_graph::{Network, Size};
 use pls_leader::{Count, Leader};
 use pls_model::Verdict;
@@ -51,6 +52,7 @@ impl Checker for SchemeName {
             SchemeName::Acyclic => Acyclic::<Gamma>::new().verify(alloc, view, steps),
             SchemeName::Leader => Leader::<Gamma>::new().verify(alloc, view, steps),
             SchemeName::Count => Count::<Gamma>::new().verify(alloc, view, steps),
+            SchemeName::ShortestPathTree => Spt::<Gamma>::new().verify(alloc, view, steps),
         }
     }
 
@@ -68,6 +70,7 @@ impl Checker for SchemeName {
             SchemeName::Acyclic => Acyclic::<Gamma>::new().round(alloc, net, labels, steps),
             SchemeName::Leader => Leader::<Gamma>::new().round(alloc, net, labels, steps),
             SchemeName::Count => Count::<Gamma>::new().round(alloc, net, labels, steps),
+            SchemeName::ShortestPathTree => Spt::<Gamma>::new().round(alloc, net, labels, steps),
         }
     }
 
@@ -89,6 +92,7 @@ impl Property for SchemeName {
             SchemeName::Acyclic => Acyclic::<Gamma>::new().decide(alloc, net),
             SchemeName::Leader => Leader::<Gamma>::new().decide(alloc, net),
             SchemeName::Count => Count::<Gamma>::new().decide(alloc, net),
+            SchemeName::ShortestPathTree => Spt::<Gamma>::new().decide(alloc, net),
         }
     }
 }
@@ -131,6 +135,7 @@ impl Scheme for SchemeName {
             SchemeName::Acyclic => Acyclic::<Gamma>::new().bound(size),
             SchemeName::Leader => Leader::<Gamma>::new().bound(size),
             SchemeName::Count => Count::<Gamma>::new().bound(size),
+            SchemeName::ShortestPathTree => Spt::<Gamma>::new().bound(size),
         }
     }
 
@@ -142,6 +147,7 @@ impl Scheme for SchemeName {
             SchemeName::Acyclic => Acyclic::<Gamma>::new().mark(alloc, net),
             SchemeName::Leader => Leader::<Gamma>::new().mark(alloc, net),
             SchemeName::Count => Count::<Gamma>::new().mark(alloc, net),
+            SchemeName::ShortestPathTree => Spt::<Gamma>::new().mark(alloc, net),
         }
     }
 
@@ -168,5 +174,6 @@ fn is_label(alloc: Global, scheme: SchemeName, bits: &Bits<'_>) -> Result<bool, 
         SchemeName::Acyclic => Acyclic::<Gamma>::new().read_label(alloc, bits)?.is_some(),
         SchemeName::Leader => Leader::<Gamma>::new().read_label(alloc, bits)?.is_some(),
         SchemeName::Count => Count::<Gamma>::new().read_label(alloc, bits)?.is_some(),
+        SchemeName::ShortestPathTree => Spt::<Gamma>::new().read_label(alloc, bits)?.is_some(),
     })
 }

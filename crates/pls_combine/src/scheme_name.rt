@@ -18,6 +18,8 @@ pub enum SchemeName {
     Leader,
     /// `count`: the number of each node is how many nodes there are.
     Count,
+    /// `spt`: the pointers make a tree, and no walk from the root is lighter than a chain.
+    ShortestPathTree,
 }
 
 /// The scheme that a word names, or `None` where it names none.
@@ -36,6 +38,8 @@ pub fn read_scheme(word: &str) -> Option<SchemeName>
         Some(SchemeName::Leader)
     } else if is_word(word, "count") {
         Some(SchemeName::Count)
+    } else if is_word(word, "spt") {
+        Some(SchemeName::ShortestPathTree)
     } else {
         None
     }

@@ -16,8 +16,10 @@ use Rattle.pls_leader.specs.Leader.{leader_label, leader_rules}
 use Rattle.pls_leader.specs.laws.LeaderLaws.{leader_marked_once, leader_sound}
 use Rattle.pls_leader.specs.Count.{count_label, count_rules}
 use Rattle.pls_leader.specs.laws.CountLaws.{count_marked_once, count_sound}
+use Rattle.pls_distance.specs.Spt.{spt_label, spt_rules}
+use Rattle.pls_distance.specs.laws.SptLaws.{spt_marked_once, spt_sound}
 use Rattle.pls_combine.specs.declared.scheme_name.SchemeName.{SchemeName}
-use Rattle.pls_combine.specs.declared.scheme_name.SchemeName.TheVariants.{Acyclic, Bipartite, Count, Forest, Leader, Tree}
+use Rattle.pls_combine.specs.declared.scheme_name.SchemeName.TheVariants.{Acyclic, Bipartite, Count, Forest, Leader, ShortestPathTree, Tree}
 use Rattle.pls_combine.specs.Named.{HasProperty, IsLabelOf, IsLabelled, IsMarked, judge_of}
 
 -- a rejection names the one leaf
@@ -28,6 +30,7 @@ one_leaf Bipartite = judge_by-leaf colour_label bipartite_rules
 one_leaf Acyclic = judge_by-leaf (label_in cycle_label gamma_takes 1) acyclic_rules
 one_leaf Leader = judge_by-leaf (label_in leader_label gamma_takes 2) leader_rules
 one_leaf Count = judge_by-leaf (label_in count_label gamma_takes 6) count_rules
+one_leaf ShortestPathTree = judge_by-leaf (label_in spt_label gamma_takes 3) spt_rules
 
 -- a connected network whose nodes all accept some labels has the property
 pub named_sound : (scheme : SchemeName) → IsSound (judge_of scheme) (HasProperty scheme)
@@ -37,6 +40,7 @@ named_sound Bipartite = bipartite_sound
 named_sound Acyclic = acyclic_sound gamma_takes
 named_sound Leader = leader_sound gamma_takes
 named_sound Count = count_sound gamma_takes
+named_sound ShortestPathTree = spt_sound gamma_takes
 
 -- a connected network with the property is marked in one way
 pub named_marked_once : (scheme : SchemeName) → IsMarkedOnce (HasProperty scheme) (IsMarked scheme)
@@ -46,6 +50,7 @@ named_marked_once Bipartite = bipartite_marked_once
 named_marked_once Acyclic = acyclic_marked_once gamma_code
 named_marked_once Leader = leader_marked_once gamma_code
 named_marked_once Count = count_marked_once gamma_code
+named_marked_once ShortestPathTree = spt_marked_once gamma_code
 
 -- a label is its own spelling, and the only one
 pub has_spellings : (scheme : SchemeName) → HasSpellings (IsLabelOf scheme) (IsLabelled scheme)

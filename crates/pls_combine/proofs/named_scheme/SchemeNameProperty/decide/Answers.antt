@@ -17,3 +17,6 @@ returns-in-Leader c = rw c.in-Leader.is c.decide-in-Leader.ensures
 
 pub returns-in-Count : goal.returns-in-Count
 returns-in-Count c = rw c.in-Count.is c.decide-in-Count.ensures
+
+pub returns-in-ShortestPathTree : goal.returns-in-ShortestPathTree
+returns-in-ShortestPathTree c = rw c.in-ShortestPathTree.is c.decide-in-ShortestPathTree.ensures
