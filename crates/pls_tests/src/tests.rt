@@ -5,6 +5,7 @@ mod bits;
 mod colours;
 mod graph;
 mod labelfile;
+mod leaders;
 mod lines;
 mod netfile;
 mod pointers;

@@ -17,14 +17,14 @@ use std::test::Fail;
 // A network of up to four nodes, 0 to 3: its edges, one bit a pair of nodes, and for each node its
 // pointer, 0 for none, else the number of the port and one.
 #[derive(Clone, Copy)]
-struct Small {
-    nodes: u32,
-    edges: u32,
-    pointers: u32,
+pub(super) struct Small {
+    pub(super) nodes: u32,
+    pub(super) edges: u32,
+    pub(super) pointers: u32,
 }
 
 // Whether a number has this bit.
-fn has(bits: u32, place: u32) -> bool {
+pub(super) fn has(bits: u32, place: u32) -> bool {
     bits.wrapping_shr(place) & 1 == 1
 }
 
@@ -47,7 +47,7 @@ fn pair(a: u32, b: u32) -> u32 {
 
 impl Small {
     // Whether two nodes are adjacent, along these edges.
-    fn joins(edges: u32, a: u32, b: u32) -> bool {
+    pub(super) fn joins(edges: u32, a: u32, b: u32) -> bool {
         a != b && has(edges, pair(a, b))
     }
 
@@ -78,7 +78,7 @@ impl Small {
 }
 
 // Whether these edges join the nodes up to a number of them.
-fn are_joined(edges: u32, nodes: u32) -> bool {
+pub(super) fn are_joined(edges: u32, nodes: u32) -> bool {
     let mut reached = 1_u32;
     for _ in 0..4 {
         for a in 0..4 {
@@ -180,7 +180,7 @@ fn text_of(alloc: Global, net: Small) -> Result<Vec<u8>, AllocError> {
 
 // Whether a scheme marks a connected network; what it decides is to be the same, and all nodes are
 // to accept its labels.
-fn marks<S: Scheme>(alloc: Global, scheme: &S, net: &Network) -> Result<bool, Fail>
+pub(super) fn marks<S: Scheme>(alloc: Global, scheme: &S, net: &Network) -> Result<bool, Fail>
     requires { IsConnected net.now }
 {
     let decided = scheme.decide(alloc, net)?;
