@@ -17,14 +17,14 @@ use std::test::Fail;
 // A network of up to four nodes, 0 to 3: its edges, one bit a pair of nodes, and for each node its
 // pointer, 0 for none, else the number of the port and one.
 #[derive(Clone, Copy)]
-struct Small {
-    nodes: u32,
-    edges: u32,
-    pointers: u32,
+pub(super) struct Small {
+    pub(super) nodes: u32,
+    pub(super) edges: u32,
+    pub(super) pointers: u32,
 }
 
 // Whether a number has this bit.
-fn has(bits: u32, place: u32) -> bool {
+pub(super) fn has(bits: u32, place: u32) -> bool {
     bits.wrapping_shr(place) & 1 == 1
 }
 
@@ -34,7 +34,7 @@ fn with(bits: u32, place: u32) -> u32 {
 }
 
 // The number of a pair of nodes.
-fn pair(a: u32, b: u32) -> u32 {
+pub(super) fn pair(a: u32, b: u32) -> u32 {
     match (a.min(b), a.max(b)) {
         (0, 1) => 0,
         (0, 2) => 1,
@@ -47,17 +47,17 @@ fn pair(a: u32, b: u32) -> u32 {
 
 impl Small {
     // Whether two nodes are adjacent, along these edges.
-    fn joins(edges: u32, a: u32, b: u32) -> bool {
+    pub(super) fn joins(edges: u32, a: u32, b: u32) -> bool {
         a != b && has(edges, pair(a, b))
     }
 
     // The pointer of a node: 0 for none, else the number of the port and one.
-    fn pointer(self, node: u32) -> u32 {
+    pub(super) fn pointer(self, node: u32) -> u32 {
         self.pointers.wrapping_shr(node.saturating_mul(2)) & 3
     }
 
     // The neighbour at the pointed port of a node: the ports are in the order of the neighbours.
-    fn target(self, node: u32) -> Option<u32> {
+    pub(super) fn target(self, node: u32) -> Option<u32> {
         let mut left = self.pointer(node);
         for nbr in 0..4 {
             if nbr < self.nodes && Small::joins(self.edges, node, nbr) && left > 0 {
@@ -71,14 +71,14 @@ impl Small {
     }
 
     // Whether each pointer is 0 or a port's, and there is none of a node that is not there.
-    fn is_proper(self) -> bool {
+    pub(super) fn is_proper(self) -> bool {
         (0..4).all(|node| self.pointer(node) == 0
             || node < self.nodes && self.target(node).is_some())
     }
 }
 
 // Whether these edges join the nodes up to a number of them.
-fn are_joined(edges: u32, nodes: u32) -> bool {
+pub(super) fn are_joined(edges: u32, nodes: u32) -> bool {
     let mut reached = 1_u32;
     for _ in 0..4 {
         for a in 0..4 {
@@ -94,7 +94,7 @@ fn are_joined(edges: u32, nodes: u32) -> bool {
 
 // Exactly one node has no pointer, and the pointed edges are one fewer than the nodes and join
 // them.
-fn is_tree(net: Small) -> bool {
+pub(super) fn is_tree(net: Small) -> bool {
     let mut roots = 0_u32;
     let mut pointed = 0_u32;
     for node in 0..4 {
@@ -180,7 +180,7 @@ fn text_of(alloc: Global, net: Small) -> Result<Vec<u8>, AllocError> {
 
 // Whether a scheme marks a connected network; what it decides is to be the same, and all nodes are
 // to accept its labels.
-fn marks<S: Scheme>(alloc: Global, scheme: &S, net: &Network) -> Result<bool, Fail>
+pub(super) fn marks<S: Scheme>(alloc: Global, scheme: &S, net: &Network) -> Result<bool, Fail>
     requires { IsConnected net.now }
 {
     let decided = scheme.decide(alloc, net)?;
