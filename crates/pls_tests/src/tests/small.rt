@@ -34,7 +34,7 @@ fn with(bits: u32, place: u32) -> u32 {
 }
 
 // The number of a pair of nodes.
-fn pair(a: u32, b: u32) -> u32 {
+pub(super) fn pair(a: u32, b: u32) -> u32 {
     match (a.min(b), a.max(b)) {
         (0, 1) => 0,
         (0, 2) => 1,
@@ -52,12 +52,12 @@ impl Small {
     }
 
     // The pointer of a node: 0 for none, else the number of the port and one.
-    fn pointer(self, node: u32) -> u32 {
+    pub(super) fn pointer(self, node: u32) -> u32 {
         self.pointers.wrapping_shr(node.saturating_mul(2)) & 3
     }
 
     // The neighbour at the pointed port of a node: the ports are in the order of the neighbours.
-    fn target(self, node: u32) -> Option<u32> {
+    pub(super) fn target(self, node: u32) -> Option<u32> {
         let mut left = self.pointer(node);
         for nbr in 0..4 {
             if nbr < self.nodes && Small::joins(self.edges, node, nbr) && left > 0 {
@@ -71,7 +71,7 @@ impl Small {
     }
 
     // Whether each pointer is 0 or a port's, and there is none of a node that is not there.
-    fn is_proper(self) -> bool {
+    pub(super) fn is_proper(self) -> bool {
         (0..4).all(|node| self.pointer(node) == 0
             || node < self.nodes && self.target(node).is_some())
     }
@@ -94,7 +94,7 @@ pub(super) fn are_joined(edges: u32, nodes: u32) -> bool {
 
 // Exactly one node has no pointer, and the pointed edges are one fewer than the nodes and join
 // them.
-fn is_tree(net: Small) -> bool {
+pub(super) fn is_tree(net: Small) -> bool {
     let mut roots = 0_u32;
     let mut pointed = 0_u32;
     for node in 0..4 {

@@ -5,10 +5,10 @@ use pls_base::Status;
 use std::test::Fail;
 
 // Two nodes that point at each other.
-const CIRCLE: &str = "network\nnode 1 0 0 0\nport 2 0\nnode 2 0 0 0\nport 1 0\nend\n";
+pub(super) const CIRCLE: &str = "network\nnode 1 0 0 0\nport 2 0\nnode 2 0 0 0\nport 1 0\nend\n";
 
 // Three nodes in a row; the second points at the first, and the third at the second.
-const CHAIN: &str = "network\nnode 1 - 0 0\nport 2 1\nnode 2 0 0 0\nport 1 1\nport 3 2\n\
+pub(super) const CHAIN: &str = "network\nnode 1 - 0 0\nport 2 1\nnode 2 0 0 0\nport 1 1\nport 3 2\n\
                      node 3 0 0 0\nport 2 2\nend\n";
 
 // Three nodes in a row; the second points at the first alone.
