@@ -1,5 +1,5 @@
 -- Labels that `mark` wrote are accepted by `verify`.
-use Rattle.std.proofs.Common.{◌≡◌, ℕ, ◌*◌, ◌^◌, ◌≤◌, ◌<◌, Bool, List, [], ◌∷◌, ◌++◌, length, All, Some, option_map, ap, subst, refl, sym, arith}
+use Rattle.std.proofs.Common.{◌≡◌, ℕ, ◌*◌, ◌^◌, ◌≤◌, ◌<◌, Bool, List, [], ◌∷◌, ◌++◌, length, map, All, Contains, Some, option_map, ap, subst, refl, sym, arith}
 use Rattle.std.specs.Prelude.{flat_map}
 use Rattle.std.proofs.lemmas.List.Elements.{All-cons, All-contains, All-head, All-map, All-nil, All-tail}
 use Rattle.std.proofs.lemmas.List.Sums.{sum_by-cons}
@@ -76,13 +76,13 @@ small_weights rows fits = each (flat_map (λ row. row.ports) rows) (λ port amon
 words_of : (rows : List NodeRow) → IsReadable rows → AreWords (size_of rows)
 words_of rows readable =
     let ids = small_greatest (2 ^ 32) (ids_of rows) (omega arith)
-        (All-map (λ id. id < 2 ^ 32) (λ (row : NodeRow). row.id) rows
-        (λ k d within. (readable.ranges.each k d within).id)) in
+    (All-map (λ id. id < 2 ^ 32) (λ (row : NodeRow). row.id) rows
+    (λ k d within. (readable.ranges.each k d within).id)) in
     let marks = small_greatest (2 ^ 32) (map (λ (row : NodeRow). row.state.mark) rows) (omega arith)
-        (All-map (λ mark. mark < 2 ^ 32) (λ (row : NodeRow). row.state.mark) rows
-        (λ k d within. (readable.ranges.each k d within).state.mark)) in
+    (All-map (λ mark. mark < 2 ^ 32) (λ (row : NodeRow). row.state.mark) rows
+    (λ k d within. (readable.ranges.each k d within).state.mark)) in
     let weights = small_greatest (2 ^ 32) (weights_of rows) (omega arith)
-        (small_weights rows readable.ranges.each) in
+    (small_weights rows readable.ranges.each) in
     record {
       max_id = omega (arith, ids);
       max_weight = omega (arith, weights);
@@ -96,7 +96,7 @@ short_labels : (scheme : SchemeName) (rows : List NodeRow) (labels : List (List 
     → All (λ label. length label ≤ 8192) labels
 short_labels scheme rows labels readable short =
     let bound = short_bound scheme (size_of rows) readable.network.limits.few_nodes
-        (words_of rows readable) in
+    (words_of rows readable) in
     λ place other within. omega (arith, short place other within, bound)
 
 -- the words of a scheme's `verify` are that command
