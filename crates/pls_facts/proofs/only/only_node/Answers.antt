@@ -1,4 +1,4 @@
-use Rattle.std.proofs.Common.{◌+◌, ◌∙◌, sym, subst, take}
+use Rattle.std.proofs.Common.{◌+◌, sym, subst, take}
 use Rattle.pls_facts.specs.inner.Found.{IsOnlyFound}
 use Rattle.pls_facts.proofs.Finding.{found_first, found_stays, found_twice}
 use Rattle.pls_facts.proofs.only.only_node.Goals as goal
