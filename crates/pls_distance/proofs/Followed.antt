@@ -1,5 +1,5 @@
 -- Distances that follow the pointers, as functions of the identity, and the labels made of them.
-use Rattle.std.proofs.Common.{◌≡◌, ◌∙◌, ◌↔◌, ℕ, ◌+◌, ◌<◌, ◌==◌, position, List, [], ◌∷◌, ◌++◌, inl, inr, length, get_or, Contains, Option, Some, None, slice_get, slice_index_or, option_map, unwrap_or, refl, sym, ap, subst, arith, length-append}
+use Rattle.std.proofs.Common.{◌≡◌, ◌∙◌, ◌↔◌, ℕ, ◌+◌, ◌<◌, ◌==◌, position, List, [], ◌∷◌, ◌++◌, inl, inr, length, get_or, Contains, Option, Some, None, slice_get, option_map, unwrap_or, refl, sym, ap, subst, arith, length-append}
 use Rattle.std.proofs.Math.Seq.{get_or-append_seam}
 use Rattle.std.proofs.lemmas.Bool.{cases_eq}
 use Rattle.std.proofs.lemmas.List.{get_or_append_left}
@@ -8,7 +8,7 @@ use Rattle.pls_model.specs.declared.row.Port.{Port}
 use Rattle.pls_model.specs.declared.row.State.{State}
 use Rattle.pls_model.specs.declared.row.NodeRow.{NodeRow}
 use Rattle.pls_model.specs.Configuration.{IsNetwork}
-use Rattle.pls_model.specs.Walk.{Adjacent, IsConnected, edges_of}
+use Rattle.pls_model.specs.Walk.{IsConnected, edges_of}
 use Rattle.pls_graph.specs.Places.{place_in}
 use Rattle.pls_graph.proofs.Finds.{from_option_map}
 use Rattle.pls_graph.proofs.Joined.{Adjacent-turned}
@@ -117,7 +117,8 @@ module _ (rows : List NodeRow) (net : IsNetwork rows) (joined : IsConnected rows
   far_at i row at = ap (far found) (place_named rows net i row at)
 
   -- it is its distance from the root
-  pub is_distance : (row : NodeRow) → Contains rows row → IsDistance rows root.id row.id (far_of row.id)
+  pub is_distance : (row : NodeRow) → Contains rows row
+      → IsDistance rows root.id row.id (far_of row.id)
   is_distance row in' =
       let (i, at) : (i : ℕ) × (slice_get rows i ≡ Some row) = place_from_Contains rows row in' in
       let (entry, has) : (entry : Option ℕ) × (slice_get found i ≡ Some entry) =
@@ -197,7 +198,8 @@ module _ (rows : List NodeRow) (net : IsNetwork rows) (joined : IsConnected rows
           ends row in' last (get_or depths i 0) chain ∙ sym (only other other_in none) in
           let down = chain_weighs rows far_of (followed_falls followed) row.id last chain.nodes
           chain.chain in
-          let stays = (is_distance root (Contains-from_place rows place root at_root)).least [] refl in
+          let here = is_distance root (Contains-from_place rows place root at_root) in
+          let stays = here.least [] refl in
           let last_far : far_of last ≡ far_of root.id =
           ap far_of (ends row in' last (get_or depths i 0) chain) in
           let weighs : far found i ≡ walk_weight rows row.id chain.nodes =

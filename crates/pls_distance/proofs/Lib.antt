@@ -1,2 +1,3 @@
 mod MorePorts
 mod Followed
+pub mod Worked

@@ -1,5 +1,5 @@
 -- What a node has gathered with one more port.
-use Rattle.std.proofs.Common.{◌≡◌, ◌≢◌, ◌∙◌, ◌⊎◌, inl, inr, arith, ℕ, zero, suc, ◌+◌, ◌==◌, nat_le, Bool, true, false, cond, ◌&&◌, if◌then◌else◌, List, [], ◌∷◌, ◌++◌, map, length, Option, Some, None, slice_get, option_map, refl, sym, ap}
+use Rattle.std.proofs.Common.{◌≡◌, ◌≢◌, ◌∙◌, ◌⊎◌, inl, inr, arith, ℕ, zero, suc, ◌+◌, ◌==◌, nat_le, Bool, true, false, ◌&&◌, if◌then◌else◌, List, [], ◌∷◌, ◌++◌, map, length, Option, Some, None, slice_get, option_map, refl, sym, ap}
 use Rattle.std.specs.List.{list_all}
 use Rattle.std.specs.Option.{option_and_then, option_map_or}
 use Rattle.std.proofs.lemmas.Bool.{cases_eq, eq-eqb, ne_eqb}
@@ -7,12 +7,12 @@ use Rattle.std.proofs.lemmas.List.{map-append}
 use Rattle.std.proofs.lemmas.List.Folds.{list_all-append}
 use Rattle.std.proofs.lemmas.Option.{slice_get-map}
 use Rattle.pls_model.specs.declared.row.State.{State}
-use Rattle.pls_scheme.specs.Reading.{Read, ReadPort, port_with, reading, target}
+use Rattle.pls_scheme.specs.Reading.{Read, ReadPort, reading}
 use Rattle.pls_pointer.specs.Tree.{names_root}
 use Rattle.pls_pointer.specs.declared.tree.TreeLabel.{TreeLabel}
 use Rattle.pls_distance.specs.declared.spt.SptLabel.{SptLabel}
 use Rattle.pls_distance.specs.declared.gathering.Gathered.{Gathered}
-use Rattle.pls_distance.specs.Spt.{agrees_on_its_root, follows_target, is_nearest, is_reached_by, tree_port, tree_reading}
+use Rattle.pls_distance.specs.Spt.{agrees_on_its_root, follows_target, is_nearest, is_reached_by, tree_port}
 use Rattle.pls_distance.specs.inner.Gathering.{gathered, is_port}
 
 -- a test of all with one more

@@ -3,7 +3,7 @@ use Rattle.std.proofs.Common.{◌≡◌, ◌∙◌, ℕ, ◌==◌, List, Contain
 use Rattle.std.proofs.lemmas.List.Folds.{find_at}
 use Rattle.pls_model.specs.declared.row.Port.{Port}
 use Rattle.pls_model.specs.declared.row.NodeRow.{NodeRow}
-use Rattle.pls_model.specs.Configuration.{IsNetwork, row_of}
+use Rattle.pls_model.specs.Configuration.{IsNetwork}
 use Rattle.pls_graph.specs.Places.{place_in}
 use Rattle.pls_graph.proofs.Beside.{one_place}
 use Rattle.pls_graph.proofs.Members.{place_from_Contains}
@@ -31,5 +31,8 @@ module _ (rows : List NodeRow) (net : IsNetwork rows) where
       let (other, other_in, is) : (other : NodeRow) × Contains rows other × (other.id ≡ port.nbr) =
       neighbour_row rows net row in' port has in
       let (j, at) : (j : ℕ) × (slice_get rows j ≡ Some other) =
-      place_from_Contains rows other other_in in
-      (other, ap (λ (id : ℕ). slice_get rows (place_in rows id)) (sym is) ∙ row_named j other at, is)
+      place_from_Contains rows other other_in in (
+        other,
+        ap (λ (id : ℕ). slice_get rows (place_in rows id)) (sym is) ∙ row_named j other at,
+        is,
+      )

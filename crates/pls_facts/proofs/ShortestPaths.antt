@@ -4,7 +4,7 @@ use Rattle.std.proofs.lemmas.Option.{same_Some}
 use Rattle.pls_model.specs.declared.row.Port.{Port}
 use Rattle.pls_model.specs.declared.row.NodeRow.{NodeRow}
 use Rattle.pls_model.specs.Configuration.{IsNetwork}
-use Rattle.pls_model.specs.Walk.{Adjacent, Walk, edges_of}
+use Rattle.pls_model.specs.Walk.{Walk, edges_of}
 use Rattle.pls_graph.specs.Size.{greatest, weights_of}
 use Rattle.pls_graph.proofs.Members.{Contains-cons_cases, Contains-flat_map, Contains-from_place}
 use Rattle.pls_facts.specs.Pointer.{next, Chain, IsChainOf}
@@ -56,7 +56,8 @@ module _ (rows : List NodeRow) (net : IsNetwork rows) (shortest : IsShortestPath
   chain_distance u root count chain =
       let (back, turned, weighs) : (back : List ℕ) × Walk (edges_of rows) root back u
       × (walk_weight rows root back ≡ walk_weight rows u chain.nodes) =
-      Walk-turned rows net u root chain.nodes (chain_walk rows net u root chain.nodes chain.chain) in
+      Walk-turned rows net u root chain.nodes
+      (chain_walk rows net u root chain.nodes chain.chain) in
       record {
         nodes = back;
         walk = turned;

@@ -7,7 +7,7 @@ use Rattle.pls_model.specs.Configuration.{IsNetwork}
 use Rattle.pls_model.specs.Walk.{Adjacent, Walk, edges_of}
 use Rattle.pls_graph.proofs.Adjacent.{Adjacent-port}
 use Rattle.pls_graph.proofs.Joined.{Adjacent-turned, Walk-append}
-use Rattle.pls_graph.proofs.Members.{Contains-from_place, place_from_Contains}
+use Rattle.pls_graph.proofs.Members.{place_from_Contains}
 use Rattle.pls_graph.proofs.Placed.{WayBack, port_of_place, row_of_place, way_back}
 use Rattle.pls_facts.specs.Pointer.{next, Chain}
 use Rattle.pls_facts.specs.Weight.{IsDistance, edge_weight, walk_weight}
@@ -37,7 +37,8 @@ module _ (rows : List NodeRow) where
 
     -- along an edge the number rises by at most the weight of the edge
     abbrev pub RisesByWeight : Type 0
-    RisesByWeight = (u v : ℕ) → Adjacent (edges_of rows) u v → value v ≤ value u + edge_weight rows u v
+    RisesByWeight = (u v : ℕ) → Adjacent (edges_of rows) u v
+        → value v ≤ value u + edge_weight rows u v
 
     -- so along a chain it falls by the weight of the chain
     pub chain_weighs : FallsByWeight → (u v : ℕ) (nodes : List ℕ) → Chain rows u nodes v
@@ -113,7 +114,8 @@ module _ (rows : List NodeRow) where
         (Adjacent-port rows net step.place step.number step.row step.port step.at step.has))
 
     -- so a chain is a walk
-    pub chain_walk : (u v : ℕ) (nodes : List ℕ) → Chain rows u nodes v → Walk (edges_of rows) u nodes v
+    pub chain_walk : (u v : ℕ) (nodes : List ℕ) → Chain rows u nodes v
+        → Walk (edges_of rows) u nodes v
     chain_walk u v [] same = same
     chain_walk u v (x ∷ nodes) chain =
         (next_adjacent u x chain.0, chain_walk x v nodes chain.1)

@@ -3,15 +3,20 @@
 //!
 //! The definitions stand in `specs/`: `Pointer` has chains of pointers, `SpanningTree` spanning
 //! trees and the edges that pointers name, `Cycle` cycles, `Bipartite` two-colourings, `OnlyNode`
-//! the one node that passes a test, `Agreement` what neighbours have in common. Each law is a
-//! function that does nothing and says what holds of the definitions; [`only_node`] finds the one
-//! node that passes a test.
+//! the one node that passes a test, `Agreement` what neighbours have in common, `Leader` one marked
+//! node, `NodeCount` numbers that count the nodes, `Descent` depths that lead to a root, `Parents`
+//! chains of parents, `TreeSums` sums along them, `Weight` weights of walks and distances,
+//! `ShortestPath` shortest-path trees. Each law is a function that does nothing and says what holds
+//! of the definitions; [`only_node`] finds the one node that passes a test.
 //!
 //! Proofs above may cite all of `proofs/`. `Lists` has what holds of lists alone, `Neighbours` the
 //! nodes at the ports, `Levels` levels from any node, `ChainDepths` the lengths of chains,
 //! `OnlyNode` and `Roots` the one node that passes a test, `Agreed` what agrees at each port,
-//! `CycleDepths` depths where there is no cycle, `Colourings` colours at ports and parities of levels,
-//! `Chains`, `Pointed`, `PointedEdges`, `Bounded` and `Trees` pointers and their edges.
+//! `CycleDepths` depths where there is no cycle, `RootLevels` depths that lead to a root, `Colourings`
+//! colours at ports and parities of levels, `Chains`, `Pointed`, `PointedEdges`, `Bounded` and
+//! `Trees` pointers and their edges, `ParentEnds` and `ParentLines` chains of parents, `Sums` and
+//! `TreeSums` sums along them, `Weights` and `ShortestPaths` weights along walks and chains,
+//! `NamedPlaces` the places of identities.
 #![tactic(auto)]
 
 mod agreement_laws;

@@ -47,7 +47,8 @@ fn look_beside(
     ensures added { OnOk result
         (AddBeside net.now place weight (heap_items ahead.old) (heap_items ahead.new)) }
     ensures light { OnOk result (AreLight net.now place) }
-    ensures len { OnOk result (heap_len ahead.new ≡ heap_len ahead.old + length (beside net.now place)) }
+    ensures len { OnOk result
+        (heap_len ahead.new ≡ heap_len ahead.old + length (beside net.now place)) }
 {
     let places = net.places(place);
     for (p, port) in net.ports(place).iter().enumerate() {

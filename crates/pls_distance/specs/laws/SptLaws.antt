@@ -1,5 +1,5 @@
 -- The theorem of the scheme of shortest-path trees.
-use Rattle.std.proofs.Common.{◌≡◌, ◌≤◌, ◌<◌, ◌∙◌, ◌+◌, ◌*◌, ◌||◌, ◌==◌, ◌&&◌, ℕ, nat_le, Bool, true, List, [], ◌∷◌, map, length, slice_get, Contains, Option, Some, None, is_some, refl, sym, ap, subst, arith, mul-le-mul_right, leb-true, le-leb}
+use Rattle.std.proofs.Common.{◌≡◌, ◌≤◌, ◌<◌, ◌∙◌, ◌+◌, ◌*◌, ◌==◌, ℕ, nat_le, Bool, true, List, [], ◌∷◌, map, length, slice_get, Contains, Option, Some, None, refl, sym, ap, subst, arith, mul-le-mul_right, leb-true, le-leb}
 use Rattle.std.specs.Option.{option_and_then, option_map_or}
 use Rattle.std.proofs.lemmas.Bool.{and_from, and_parts, eq-eqb, eqb-true}
 use Rattle.pls_bits.specs.NumberCode.{Grows, IsShort}
@@ -12,7 +12,7 @@ use Rattle.pls_graph.proofs.Joined.{Adjacent-turned}
 use Rattle.pls_graph.proofs.Members.{Contains-from_place}
 use Rattle.pls_scheme.specs.Judging.{AllHold}
 use Rattle.pls_scheme.specs.Numbers.{AreCoded, label_in}
-use Rattle.pls_scheme.specs.Reading.{ReadPort, read_where, port_where, target}
+use Rattle.pls_scheme.specs.Reading.{ReadPort, read_where, port_where}
 use Rattle.pls_scheme.specs.SchemeLaws.{IsMarkedOnce, IsSound}
 use Rattle.pls_scheme.specs.Theorem.{OneIsRight, RightFits, RulesAreMet, RulesShow}
 use Rattle.pls_scheme.specs.laws.CodeLaws.{one_spelling}
@@ -34,7 +34,7 @@ use Rattle.pls_pointer.specs.declared.tree.TreeLabel.{TreeLabel}
 use Rattle.pls_pointer.specs.laws.PointingLaws.{points_or, target_said}
 use Rattle.pls_pointer.specs.laws.TreeLaws.{tree_met, tree_show}
 use Rattle.pls_distance.specs.declared.spt.SptLabel.{SptLabel}
-use Rattle.pls_distance.specs.Spt.{IsSptLabel, IsSptMarked, agrees_on_its_root, far_says, follows_target, is_farther_than_target, is_nearest, is_reached_by, judge_spt, longest_spt, numbers_of_spt, points_or_is_there, spt_label, spt_limits, spt_rules, spt_says, tree_part, tree_port, tree_reading}
+use Rattle.pls_distance.specs.Spt.{IsSptLabel, IsSptMarked, far_says, is_farther_than_target, is_nearest, is_reached_by, judge_spt, longest_spt, numbers_of_spt, spt_label, spt_limits, spt_rules, spt_says, tree_part, tree_port, tree_reading}
 
 module _ (say : ℕ → SptLabel) where
   -- what labels say of the tree
@@ -115,7 +115,8 @@ module _ (say : ℕ → SptLabel) where
     nearest_rises nearest u v adjacent =
         let way : Leads rows v u =
         leads rows net v u (Adjacent-turned (edges_of rows) u v adjacent) in
-        let passes : nat_le (say way.row.id).dist ((say way.port.nbr).dist + way.port.weight) ≡ true =
+        let passes :
+        nat_le (say way.row.id).dist ((say way.port.nbr).dist + way.port.weight) ≡ true =
         passes_port (is_reached_by (say way.row.id).dist) say way.row.ports
         (nearest way.row way.in') way.port way.has in
         let few : (say way.row.id).dist ≤ (say way.port.nbr).dist + way.port.weight =
@@ -134,7 +135,8 @@ module _ (say : ℕ → SptLabel) where
     -- and the other way round
     rises_nearest : RisesByWeight rows dist_said → (row : NodeRow) → Contains rows row
         → is_nearest (read_where say row) ≡ true
-    rises_nearest rises row in' = all_ports_pass (is_reached_by (say row.id).dist) say row.ports near
+    rises_nearest rises row in' =
+        all_ports_pass (is_reached_by (say row.id).dist) say row.ports near
       where
         near : (port : Port) → Contains row.ports port
             → nat_le (say row.id).dist ((say port.nbr).dist + port.weight) ≡ true
@@ -171,7 +173,8 @@ spt_show rows net joined say hold =
     nearest row in' = (hold row in').1.1.1.0
 
 module _ (rows : List NodeRow) (net : IsNetwork rows) (shortest : IsShortestPathTree rows)
-    (say : ℕ → SptLabel) (right : (row : NodeRow) → Contains rows row → spt_says rows row (say row.id))
+    (say : ℕ → SptLabel)
+    (right : (row : NodeRow) → Contains rows row → spt_says rows row (say row.id))
   where
     root : (row : NodeRow) × Contains rows row × (row.state.up ≡ None)
     root = a_root rows shortest.tree.one_root

@@ -204,7 +204,7 @@ fn shortest_path_trees_of_all_small_networks(rt: HostRuntime) -> Result<(), Fail
                 }
             }
         }
-        // One alone; 2 weights and 2 * 2 pointers; 3 rows with 4 and 12; the triangle with 8 and 27.
+        // One alone; a pair: 2 weights, 2 * 2 pointers; 3 rows: 4 and 12; the triangle: 8 and 27.
         assert_eq!(rt; tried, 1 + 2 * 4 + 3 * 4 * 12 + 8 * 27, "networks");
     }
     Ok(())

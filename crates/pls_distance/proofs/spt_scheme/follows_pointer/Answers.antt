@@ -1,4 +1,4 @@
-use Rattle.std.proofs.Common.{◌≡◌, ◌∙◌, ◌↔◌, ◌+◌, ◌<◌, ◌==◌, ℕ, List, [], Option, Some, None, IsTrue, true, length, get_or, map, slice_get, option_map, unwrap_or, sym, ap, subst, arith, rules}
+use Rattle.std.proofs.Common.{◌≡◌, ◌∙◌, ◌+◌, ◌<◌, ◌==◌, ℕ, List, [], Option, Some, length, get_or, map, slice_get, option_map, sym, ap, arith, rules}
 use Rattle.std.specs.Option.{option_map_or}
 use Rattle.std.proofs.lemmas.Bool.{eq-eqb, eqb-true}
 use Rattle.std.proofs.lemmas.List.{get_or-map}
@@ -10,7 +10,7 @@ use Rattle.pls_graph.proofs.Beside.{beside_many}
 use Rattle.pls_graph.proofs.Finds.{from_option_map, item_at}
 use Rattle.pls_search.proofs.Pointed.{up_within}
 use Rattle.pls_distance.specs.inner.Following.{far}
-use Rattle.pls_distance.proofs.Followed.{followed_at, followed_none}
+use Rattle.pls_distance.proofs.Followed.{followed_at}
 use Rattle.pls_distance.proofs.spt_scheme.follows_pointer.Goals as goal
 
 pub bounds-ports-up : goal.bounds-ports-up
@@ -38,7 +38,8 @@ returns c =
     let up = c.in-Some.up in
     let none : Port = record { nbr = 0; weight = 0 } in
     let port : Port = get_or ports up none in
-    let within : up < length ports = up_within rows c.node.ensures.valid c.args.place c.node.result.1
+    let within : up < length ports =
+    up_within rows c.node.ensures.valid c.args.place c.node.result.1
     c.node.ensures.state ports up c.ports.ensures c.in-Some.is in
     let (row, at, is) : (row : NodeRow) × (slice_get rows c.args.place ≡ Some row)
     × (row.ports ≡ ports) =

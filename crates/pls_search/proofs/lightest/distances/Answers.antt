@@ -1,10 +1,13 @@
-use Rattle.std.proofs.Common.{◌≡◌, ◌∙◌, ◌+◌, ◌*◌, ◌<◌, ◌≤◌, ◌^◌, ℕ, List, [], ◌∷◌, Option, None, Some, heap_items, rules, true, false, not, IsPermutation, is_none, is_some, count_by, length, replicate, slice_get, slice_index_or, sym, ap, subst, arith}
+use Rattle.std.proofs.Common.{◌≡◌, ◌∙◌, ◌<◌, ℕ, List, [], ◌∷◌, Option, None, Some, heap_items, rules, false, not, IsPermutation, is_some, length, replicate, slice_get, slice_index_or, sym, ap, subst, arith}
 use Rattle.std.proofs.lemmas.List.{nil_from_length}
 use Rattle.pls_model.specs.declared.row.NodeRow.{NodeRow}
 use Rattle.pls_graph.proofs.Finds.{item_at, Some-is_some}
-use Rattle.pls_search.specs.inner.Ahead.{Ahead, by_weight, reached_by}
+use Rattle.pls_search.specs.inner.Ahead.{Ahead, reached_by}
 use Rattle.pls_search.specs.inner.Noting.{IsNoted}
-use Rattle.pls_search.proofs.Reaching.{AreDistances-end, Reaching, Reaching-entered, Reaching-first, Reaching-passed, read_within, beside_few, fewer_left, first_was, first_within}
+use Rattle.pls_search.proofs.Adding.{beside_few, read_within}
+use Rattle.pls_search.proofs.Entering.{Reaching-entered}
+use Rattle.pls_search.proofs.Exhausted.{AreDistances-end}
+use Rattle.pls_search.proofs.Reaching.{Reaching, Reaching-first, Reaching-passed, fewer_left, first_was, first_within}
 use Rattle.pls_search.proofs.lightest.distances.Goals as goal
 
 pub loop-weight-init : goal.loop-weight-init

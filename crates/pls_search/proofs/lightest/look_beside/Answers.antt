@@ -7,7 +7,7 @@ use Rattle.pls_model.specs.declared.row.NodeRow.{NodeRow}
 use Rattle.pls_graph.specs.Places.{named_places, place_in}
 use Rattle.pls_graph.proofs.Finds.{from_option_map}
 use Rattle.pls_search.specs.inner.Ahead.{reached_at, reached_by}
-use Rattle.pls_search.proofs.Reaching.{added_more}
+use Rattle.pls_search.proofs.Adding.{added_more}
 use Rattle.pls_search.proofs.lightest.look_beside.Goals as goal
 
 pub loop-p-preserved : goal.loop-p-preserved
@@ -32,16 +32,19 @@ loop-p-preserved c =
     ∙ get_or-map (λ (port : Port). place_in rows port.nbr) ports p none 0 c.loop-p-test.true in
     let weighs : c.from.result ≡ port.weight = c.from.ensures in
     let few : port.weight < 2 ^ 32 = search rules in
+    let light_ports : List Port → Type 0 = All (λ (port : Port). port.weight < 2 ^ 32) in
     let old = heap_items c.loop-p.ahead in
     let new = heap_items c.push.new.self in
     let (order, len, so_far, light) = c.loop-p.invariant in (
       c.in_ok-push.ensures.heap_order order,
       omega (arith, c.in_ok-push.ensures.len, len),
-      added_more (reached_at rows c.args.weight) (heap_items c.args.ahead.now) old new ports p none c.loop-p-test.true so_far
+      added_more (reached_at rows c.args.weight) (heap_items c.args.ahead.now) old new ports p none
+          c.loop-p-test.true so_far
           (subst (λ (weight : ℕ). IsPermutation
           (reached_by (c.args.weight + weight) (place_in rows port.nbr) ∷ old) new) weighs
           (subst (λ (place : ℕ). IsPermutation
           (reached_by (c.args.weight + c.from.result) place ∷ old) new) place
           c.in_ok-push.ensures.permutation)),
-      subst (All (λ (port : Port). port.weight < 2 ^ 32)) (sym (take_more ports p none c.loop-p-test.true)) (All-push (λ (port : Port). port.weight < 2 ^ 32) (take p ports) port light few),
+      subst light_ports (sym (take_more ports p none c.loop-p-test.true))
+          (All-push (λ (port : Port). port.weight < 2 ^ 32) (take p ports) port light few),
     )

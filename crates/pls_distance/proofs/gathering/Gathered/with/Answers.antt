@@ -1,4 +1,4 @@
-use Rattle.std.proofs.Common.{◌≡◌, ◌∙◌, refl, rules, sym, subst}
+use Rattle.std.proofs.Common.{refl, rules}
 use Rattle.pls_scheme.specs.Reading.{port_with}
 use Rattle.pls_distance.proofs.MorePorts.{is_gathered}
 use Rattle.pls_distance.proofs.gathering.Gathered.with.Goals as goal

@@ -1,4 +1,4 @@
-use Rattle.std.proofs.Common.{◌≡◌, ◌∙◌, ◌==◌, ℕ, List, Option, None, Some, true, false, length, position, slice_get, sym, ap, subst}
+use Rattle.std.proofs.Common.{◌≡◌, ◌∙◌, ◌==◌, ℕ, List, Option, None, Some, true, false, length, position, sym, subst}
 use Rattle.pls_model.specs.declared.row.NodeRow.{NodeRow}
 use Rattle.pls_distance.specs.inner.Following.{AreFollowed, AreLabels}
 use Rattle.pls_distance.proofs.Followed.{followed_right, followed_shortest, root_place, shortest_followed}
@@ -22,7 +22,8 @@ returns-then-not-follow_pointers-clause-lacking g c shortest =
     let is : position (λ (row : NodeRow). c.in-Some.root == row.id) rows
     ≡ Some c.in-Some-place_of.place = sym c.place_of.ensures ∙ c.in-Some-place_of.is in
     let found = c.in_ok-found.found.items in
-    let followed = shortest_followed rows c.root_and_depths.ensures.valid c.requires tree c.in-Some.root only
+    let followed =
+    shortest_followed rows c.root_and_depths.ensures.valid c.requires tree c.in-Some.root only
     c.in-Some.depths.items deep c.in-Some-place_of.place is found c.in_ok-found.ensures shortest in
     let yes : c.follow_pointers.result ≡ true =
     c.follow_pointers.ensures.1 (subst (AreFollowed rows) (sym c.deref.ensures.value) followed) in
