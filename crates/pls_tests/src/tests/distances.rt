@@ -129,15 +129,17 @@ impl Weighed {
         };
         (0..4).any(|a| (0..4).any(|b| walk(from, a)
             .saturating_add(walk(a, b))
-            .saturating_add(walk(b, to)) < weight))
+            .saturating_add(walk(b, to))
+            < weight))
     }
 
     // The pointers make a tree, and no walk from the root to a node weighs less than its chain.
     fn is_shortest(self) -> bool {
-        is_tree(self.net) && (0..4).all(|node| {
-            let (weight, root) = self.chain(node);
-            node >= self.net.nodes || !self.is_lighter(root, node, weight)
-        })
+        is_tree(self.net)
+            && (0..4).all(|node| {
+                let (weight, root) = self.chain(node);
+                node >= self.net.nodes || !self.is_lighter(root, node, weight)
+            })
     }
 
     // The text of the network.
