@@ -1,5 +1,5 @@
-//! Least weights of walks, and shortest-path trees: worked examples, and small networks with two
-//! weights and all pointers, decided as a plain program decides them.
+//! Least weights of walks, and shortest-path trees: worked examples, and small networks with weights
+//! of 0 and 1 and all pointers, of four nodes all that make a tree, decided as a plain program does.
 
 ghost use Rattle.pls_model.specs.Walk.{IsConnected};
 ghost use Rattle.std.specs.Prelude.{IfOk};
@@ -164,29 +164,32 @@ impl Weighed {
     }
 }
 
-// The networks of so many nodes with these edges, each choice of the weights, and all pointers: how
-// many there are, and of how many the scheme decides other than the plain program.
-fn compare(alloc: Global, nodes: u32, edges: u32, weights: (u32, u32)) -> Result<(u32, u32), Fail> {
+// The networks of so many nodes with these edges, each choice of weights, and pointers: how many are
+// tried, and of how many the scheme decides other than the plain program.
+fn compare(alloc: Global, nodes: u32, edges: u32) -> Result<(u32, u32), Fail> {
     let mut tried = 0_u32;
     let mut wrong = 0_u32;
-    for pointers in 0..64 {
-        for second in 0..8 {
-            let net = Small {
-                nodes,
-                edges,
-                pointers,
-            };
-            // Pairs without edge have no weight, so each network is tried once.
-            if net.is_proper() && second & !edges == 0 {
-                let weighed = Weighed {
-                    net,
-                    second,
-                    weights,
-                };
-                let read = joined(alloc, &weighed.text(alloc)?)?;
-                let marked = marks(alloc, &Spt::<Gamma>::new(), &read)?;
-                tried = tried.saturating_add(1);
-                wrong = wrong.saturating_add(u32::from(marked != weighed.is_shortest()));
+    for pointers in 0..256 {
+        let net = Small {
+            nodes,
+            edges,
+            pointers,
+        };
+        // Of four nodes those are tried whose pointers make a tree: no weights make one of others.
+        if net.is_proper() && (nodes < 4 || is_tree(net)) {
+            for second in 0..64 {
+                // Pairs without edge have no weight, so each network is tried once.
+                if second & !edges == 0 {
+                    let weighed = Weighed {
+                        net,
+                        second,
+                        weights: (0, 1),
+                    };
+                    let read = joined(alloc, &weighed.text(alloc)?)?;
+                    let marked = marks(alloc, &Spt::<Gamma>::new(), &read)?;
+                    tried = tried.saturating_add(1);
+                    wrong = wrong.saturating_add(u32::from(marked != weighed.is_shortest()));
+                }
             }
         }
     }
@@ -195,19 +198,20 @@ fn compare(alloc: Global, nodes: u32, edges: u32, weights: (u32, u32)) -> Result
 
 #[test]
 fn shortest_path_trees_of_all_small_networks(rt: HostRuntime) -> Result<(), Fail> {
-    for weights in [(0, 1), (1, 2)] {
-        let mut tried = 0_u32;
-        for (nodes, sets) in [(1, 1), (2, 2), (3, 8)] {
-            for edges in 0..sets {
-                if are_joined(edges, nodes) {
-                    let (more, wrong) = compare(rt.alloc(), nodes, edges, weights)?;
-                    assert_eq!(rt; wrong, 0, "{nodes} nodes, edges {edges}");
-                    tried = tried.saturating_add(more);
-                }
+    let mut tried = 0_u32;
+    for (nodes, sets) in [(1, 1), (2, 2), (3, 8), (4, 64)] {
+        for edges in 0..sets {
+            if are_joined(edges, nodes) {
+                let (more, wrong) = compare(rt.alloc(), nodes, edges)?;
+                assert_eq!(rt; wrong, 0, "{nodes} nodes, edges {edges}");
+                tried = tried.saturating_add(more);
             }
         }
-        // One alone; a pair: 2 weights, 2 * 2 pointers; 3 rows: 4 and 12; the triangle: 8 and 27.
-        assert_eq!(rt; tried, 1 + 2 * 4 + 3 * 4 * 12 + 8 * 27, "networks");
     }
+    // Choices of weights and of pointers: a node alone; a pair; 3 rows and the triangle. Of four nodes
+    // a root and a spanning tree, in 16 trees, 3 rings, 12 with a triangle, 6 of five edges, one of six.
+    let small = 1 + 2 * 4 + 3 * 4 * 12 + 8 * 27;
+    let four = 8 * 16 * 4 + 16 * (3 * 16 + 12 * 12) + 32 * 6 * 32 + 64 * 64;
+    assert_eq!(rt; tried, small + four, "networks");
     Ok(())
 }
