@@ -1,4 +1,4 @@
-//! One leader, and the number of nodes: worked examples, all small networks, and sizes of subtrees.
+//! One leader, and the number of nodes: worked examples, and all small networks.
 
 use super::small::{Small, are_joined, has, marks};
 use pls_base::Steps;
@@ -9,7 +9,6 @@ use pls_leader::{Count, Leader};
 use pls_model::Verdict;
 use pls_netfile::read_network;
 use pls_scheme::{Checker, Scheme};
-use pls_search::subtree_sizes;
 use std::alloc::{AllocError, Global};
 use std::process::Abort;
 use std::test::Fail;
@@ -109,35 +108,6 @@ fn roots_and_numbers_are_judged(rt: HostRuntime) -> Result<(), Fail> {
     let two = "labels\nlabel 1 16 495b\nlabel 2 18 4d24c0\nend\n";
     assert_judged(&rt, alloc, &count, [TWO, two], &[0, 0])?;
     assert_judged(&rt, alloc, &count, [NONE, two], &[4, 4])
-}
-
-#[test]
-fn sizes_of_subtrees(rt: HostRuntime) -> Result<(), Fail> {
-    let cases = [
-        ("alone", [None, None, None, None], [1, 1, 1, 1]),
-        (
-            "a row upwards",
-            [None, Some(0), Some(1), Some(2)],
-            [4, 3, 2, 1],
-        ),
-        (
-            "a row downwards",
-            [Some(1), Some(2), Some(3), None],
-            [1, 2, 3, 4],
-        ),
-        ("a star", [None, Some(0), Some(0), Some(0)], [4, 1, 1, 1]),
-        (
-            "a root in the middle",
-            [Some(2), Some(0), None, Some(2)],
-            [2, 1, 4, 1],
-        ),
-        ("two trees", [Some(1), None, Some(3), None], [1, 2, 1, 2]),
-    ];
-    for (name, parents, due) in cases {
-        let sizes = subtree_sizes(rt.alloc(), &parents)?;
-        assert_eq!(rt; sizes.as_slice(), due.as_slice(), "{name}");
-    }
-    Ok(())
 }
 
 // The text of a network, where the bits of the pointers tell which nodes are marked, and which know

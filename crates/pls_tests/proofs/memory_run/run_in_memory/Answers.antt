@@ -1,4 +1,4 @@
-use Rattle.std.proofs.Common.{◌≡◌, Some, ap, inr, refl, arith}
+use Rattle.std.proofs.Common.{◌≡◌, Some, ap, inr, arith}
 use Rattle.pls_tests.proofs.memory_run.run_in_memory.Goals as goal
 
 pub returns-clause-text : goal.returns-clause-text
@@ -13,7 +13,7 @@ returns-clause-answers c fits =
       c.args.input.items,
       ap Some c.new-source.ensures,
       λ answer is. rw c.in_ok-sink.ensures (record {
-        unfailing = refl;
+        unfailing = c.new.ensures.items;
         room = omega (arith, fits answer is);
       }),
     ))
