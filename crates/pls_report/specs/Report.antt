@@ -36,7 +36,8 @@ node_line row = line_of (codes "node" ∷ decimal row.0 ∷ outcome_words row.1)
 
 -- `waiting W`, where the round was played from a schedule
 abbrev pub waiting_words : Bool → List (ℕ × Outcome) → List (List ℕ)
-waiting_words simulated rows = if simulated then codes "waiting" ∷ decimal (waiting rows) ∷ [] else []
+waiting_words simulated rows =
+    if simulated then codes "waiting" ∷ decimal (waiting rows) ∷ [] else []
 
 -- `rejecting R`, or `rejecting R waiting W`
 abbrev pub closing_line : Bool → List (ℕ × Outcome) → List ℕ

@@ -77,7 +77,8 @@ fn write_outcome<K: Sink>(sink: &mut K, outcome: &Outcome) -> Result<(), Fault>
 // Writes what a node's line says that has decided.
 fn write_verdict<K: Sink>(sink: &mut K, verdict: Verdict) -> Result<(), Fault>
     ensures { Writes (K.taken sink.old) (K.taken sink.new) (K.faults sink.old) (K.faults sink.new)
-        (K.IsSureOf sink.old) (K.IsSureOf sink.new) result (outcome_tail (Outcome.Decided verdict)) }
+        (K.IsSureOf sink.old) (K.IsSureOf sink.new) result
+        (outcome_tail (Outcome.Decided verdict)) }
 {
     match verdict {
         Verdict::Accept => put(sink, b" accept"),
@@ -110,7 +111,8 @@ fn write_waiting<K: Sink>(
     sink: &mut K,
 ) -> Result<(), Fault>
     ensures { Writes (K.taken sink.old) (K.taken sink.new) (K.faults sink.old) (K.faults sink.new)
-        (K.IsSureOf sink.old) (K.IsSureOf sink.new) result (waiting_tail simulated (waiting rows.now)) }
+        (K.IsSureOf sink.old) (K.IsSureOf sink.new) result
+        (waiting_tail simulated (waiting rows.now)) }
 {
     if !simulated {
         return Ok(());

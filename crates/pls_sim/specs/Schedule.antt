@@ -64,7 +64,8 @@ since_restart node [] = []
 since_restart node (event ∷ later) = if list_any (restarts node) (event ∷ later)
     then since_restart node later else event ∷ later
 
--- a node has heard a neighbour: after its last restart, something arrived that goes from there to it
+-- a node has heard a neighbour: after its last restart, something arrived that goes from there to
+-- the node
 abbrev pub has_heard : List NodeRow → List Event → ℕ → ℕ → Bool
 has_heard rows events node neighbour =
     list_any (brings rows (emits_of events) neighbour node) (since_restart node events)
@@ -72,7 +73,8 @@ has_heard rows events node neighbour =
 -- the numbers, from this one on, of those ports at which nothing was heard
 abbrev pub unheard_from : (ℕ → Bool) → ℕ → List Port → List ℕ
 unheard_from heard number [] = []
-unheard_from heard number (port ∷ ports) = if heard port.nbr then unheard_from heard (number + 1) ports
+unheard_from heard number (port ∷ ports) = if heard port.nbr
+    then unheard_from heard (number + 1) ports
     else number ∷ unheard_from heard (number + 1) ports
 
 -- the numbers of all ports of a node at which nothing was heard, in rising order
@@ -85,10 +87,12 @@ outcome_after [] verdict = Decided verdict
 outcome_after (port ∷ ports) verdict = Waiting (port ∷ ports)
 
 -- the outcome of a node
-abbrev pub outcome_of : (Seen → Verdict) → List NodeRow → List (List Bool) → List Event → NodeRow → Outcome
+abbrev pub outcome_of : (Seen → Verdict) → List NodeRow → List (List Bool) → List Event → NodeRow
+    → Outcome
 outcome_of judge rows labels events row =
     outcome_after (unheard rows events row) (judge (seen (label_of rows labels) row))
 
 -- the outcomes of all nodes, in their order
-abbrev pub outcomes_by : (Seen → Verdict) → List NodeRow → List (List Bool) → List Event → List Outcome
+abbrev pub outcomes_by : (Seen → Verdict) → List NodeRow → List (List Bool) → List Event
+    → List Outcome
 outcomes_by judge rows labels events = map (outcome_of judge rows labels events) rows

@@ -183,8 +183,9 @@ impl<'n> Sim<'n> {
         Ok(numbers)
     }
 
-    /// What has become of the node at place `i`, under these labels: it waits where it has not heard
-    /// at some port since its last restart, and else it has decided as the checker judges its view.
+    /// What has become of the node at place `i`, under these labels: it waits where it has not
+    /// heard at some port since its last restart, and else it has decided as the checker judges its
+    /// view.
     ///
     /// The one error is want of memory, which does not come where all of at most 8 ports were heard
     /// and the checker lends.
