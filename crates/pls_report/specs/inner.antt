@@ -1,2 +1,0 @@
--- What private functions say to each other.
-pub mod Pieces
