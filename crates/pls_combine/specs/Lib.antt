@@ -1,3 +1,9 @@
 pub mod SchemeWord
 pub mod Named
+pub mod Parts
+pub mod Combined
+pub mod Joined
+pub mod Tagged
+pub mod Expression
+pub mod inner
 pub mod laws

@@ -1,1 +1,9 @@
+pub mod BothLaws
+pub mod ExpressionLaws
+pub mod LeafLaws
 pub mod NamedLaws
+pub mod OneOfLaws
+pub mod PairLaws
+pub mod PartsAccepted
+pub mod PutLaws
+pub mod TaggedLaws

@@ -1,12 +1,24 @@
-//! The schemes by their names, as one type that is a scheme itself.
-//!
-//! [`SchemeName`] is a [`Scheme`](pls_scheme::Scheme): its calls are those of the scheme that it
-//! names, over the gamma code, and [`read_scheme`] reads its name. What a name means stands in
-//! `specs/Named`, one line a scheme for the property, the verdict, the labels and their length.
-//! Code above goes through this type, so that a new scheme is named here and nowhere else.
+//! The schemes by their names, and schemes joined by `and` and `or`.
 #![tactic(auto)]
 
-mod named_scheme;
+mod any_scheme;
+mod both;
+mod both_scheme;
+mod joined;
+mod named;
+mod one_of;
+mod one_of_scheme;
+mod parts;
 mod scheme_name;
+mod scheme_tree;
+mod tests_of_views;
 
-pub use scheme_name::{SchemeName, read_scheme};
+pub use any_scheme::AnyScheme;
+pub use both::Both;
+pub use both_scheme::PairLabel;
+pub use named::Named;
+pub use one_of::OneOf;
+pub use one_of_scheme::Tagged;
+pub use parts::{FirstPart, Rest, SecondPart};
+pub use scheme_name::{SchemeName, named_scheme};
+pub use scheme_tree::SchemeTree;

@@ -3,7 +3,7 @@
 ghost use Rattle.std.specs.Prelude.{◌≡◌, bytes_eq, codes};
 ghost use Rattle.pls_combine.specs.SchemeWord.{scheme_of};
 
-/// A scheme by its name. Numbers of its labels are written in the gamma code.
+/// The name of a basic scheme.
 #[derive(Clone, Copy, Debug, PartialEq, Eq)]
 pub enum SchemeName {
     /// `tree`: one node has no pointer, and the pointers of the others make a spanning tree.
@@ -23,7 +23,7 @@ pub enum SchemeName {
 }
 
 /// The scheme that a word names, or `None` where it names none.
-pub fn read_scheme(word: &str) -> Option<SchemeName>
+pub fn named_scheme(word: &str) -> Option<SchemeName>
     ensures { result ≡ scheme_of word.now }
 {
     if is_word(word, "tree") {
