@@ -12,7 +12,7 @@ use Rattle.pls_combine.specs.laws.OneOfLaws.{one_of_marked_once, one_of_sound}
 -- a rejection names one of the leaves, or 0
 pub expression_leaf : (takes : List Bool → Option (ℕ × List Bool)) (scheme : SchemeTree)
     → LeavesWithin (leaves_of scheme) (judge_of takes scheme)
-expression_leaf takes (Basic name) = one_leaf takes name
+expression_leaf takes (Basic name) view = one_leaf takes name view
 expression_leaf takes (And' p first q second) view =
     judge_both-leaf (judge_of takes first) (leaves_of first) (judge_of takes second)
     (leaves_of second) (expression_leaf takes first) (expression_leaf takes second) takes view

@@ -1,7 +1,7 @@
-use Rattle.std.proofs.Common.{true, false}
+use Rattle.std.proofs.Common.{true, false, arith}
 use Rattle.pls_graph.specs.Size.{size_of}
 use Rattle.pls_combine.specs.Expression.{judge_of, leaves_of, longest_of}
-use Rattle.pls_combine.proofs.Marking.{both_accepted, both_short, tagged_accepted}
+use Rattle.pls_combine.proofs.Marking.{both_accepted, both_short, tagged_accepted, tagged_short}
 use Rattle.pls_combine.proofs.scheme_tree.+mark_tree.Goals as goal
 
 pub returns-in_ok-labels-in-And-clause-accepted : goal.returns-in_ok-labels-in-And-clause-accepted
@@ -61,3 +61,33 @@ returns-in_ok-labels-in-Or-2-clause-accepted g t c =
     (rw c.in-Some-4.is at (c.in_ok-rests-in-Or-2.ensures.each))
     c.in_ok-labels-in-Or-2.ensures.tagged
     (rw (c.in-Some-4.is, c.deref-in-Or-2.ensures) at (c.in_ok-rests-in-Or-2.ensures.accepted)))
+
+pub returns-in-Basic-clause-accepted : goal.returns-in-Basic-clause-accepted
+returns-in-Basic-clause-accepted g t c =
+    rw (c.in-Basic.is, ← c.new.ensures) c.mark.ensures.accepted
+
+pub returns-in-Some-3-clause-short : goal.returns-in-Some-3-clause-short
+returns-in-Some-3-clause-short g t c =
+    let first = c.in-Or.first.value in
+    let second = c.in-Or.second.value in
+    rw c.in-Or.is
+    (tagged_short (judge_of g.C.NumCode.takes first) (leaves_of first)
+    (judge_of g.C.NumCode.takes second) c.args.net.now c.is_valid-in-Or.ensures false
+    c.in-Some-3.rests c.in_ok-labels-in-Or.labels
+    (rw c.in-Some-3.is at (c.in_ok-rests-in-Or.ensures.each))
+    c.in_ok-labels-in-Or.ensures.tagged c.in_ok-labels-in-Or.ensures.fit
+    (longest_of g.C.NumCode.code first (size_of c.args.net.now)) _ (omega arith)
+    (rw (c.in-Some-3.is, c.deref-in-Or.ensures) at (c.in_ok-rests-in-Or.ensures.short)))
+
+pub returns-in_ok-labels-in-Or-2-clause-short : goal.returns-in_ok-labels-in-Or-2-clause-short
+returns-in_ok-labels-in-Or-2-clause-short g t c =
+    let first = c.in-Or.first.value in
+    let second = c.in-Or.second.value in
+    rw c.in-Or.is
+    (tagged_short (judge_of g.C.NumCode.takes first) (leaves_of first)
+    (judge_of g.C.NumCode.takes second) c.args.net.now c.is_valid-in-Or.ensures true
+    c.in-Some-4.rests c.in_ok-labels-in-Or-2.labels
+    (rw c.in-Some-4.is at (c.in_ok-rests-in-Or-2.ensures.each))
+    c.in_ok-labels-in-Or-2.ensures.tagged c.in_ok-labels-in-Or-2.ensures.fit
+    (longest_of g.C.NumCode.code second (size_of c.args.net.now)) _ (omega arith)
+    (rw (c.in-Some-4.is, c.deref-in-Or-2.ensures) at (c.in_ok-rests-in-Or-2.ensures.short)))
