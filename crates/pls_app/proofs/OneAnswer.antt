@@ -14,6 +14,7 @@ use Rattle.pls_netfile.specs.laws.NetworkRows.{one_network, rows_are_part}
 use Rattle.pls_labelfile.specs.LabelsText.{FitsLabel, NamedLabel, labels_lines, named}
 use Rattle.pls_labelfile.proofs.LabelsPart.{is_labels_part, one_labels}
 use Rattle.pls_combine.specs.declared.scheme_name.SchemeName.{SchemeName}
+use Rattle.pls_bits.specs.Gamma.{gamma_code}
 use Rattle.pls_combine.specs.laws.NamedLaws.{named_marked_once}
 use Rattle.pls_app.specs.declared.command.Command.{Command}
 use Rattle.pls_app.specs.declared.command.Command.TheVariants.{Mark, Verify}
@@ -205,7 +206,7 @@ one_mark scheme rows answer other readable one two = elim one [
   | inl mine ↦ elim two [
     | inl theirs ↦
         mine.3 ∙ ap (labelled rows)
-        (named_marked_once scheme rows mine.0 theirs.0 readable.network readable.connected mine.1 mine.2
+        (named_marked_once gamma_code scheme rows mine.0 theirs.0 readable.network readable.connected mine.1 mine.2
         theirs.2) ∙ sym theirs.3
     | inr lacks ↦ absurd (lacks.0 mine.1)
   ]

@@ -19,6 +19,7 @@ use Rattle.pls_combine.specs.declared.scheme_name.SchemeName.{SchemeName}
 use Rattle.pls_app.specs.Report.{rejects, rejecting}
 use Rattle.pls_app.specs.Answer.{Answer, Answers, refusal_status, report}
 use Rattle.pls_combine.specs.Named.{judge_of}
+use Rattle.pls_bits.specs.Gamma.{gamma_takes}
 use Rattle.pls_combine.specs.laws.NamedLaws.{named_sound}
 use Rattle.pls_app.specs.Run.{Lacks, Proves, SomeRejects}
 
@@ -75,7 +76,7 @@ done_proves scheme bytes answer answers done = elim answers [
         rows = rows;
         labels = labels;
         input = judged.2;
-        holds = named_sound scheme rows labels judged.2.readable.network
+        holds = named_sound gamma_takes scheme rows labels judged.2.readable.network
             judged.2.readable.connected judged.2.labelled.each accepted;
       }
 ]

@@ -3,7 +3,7 @@
 ghost use Rattle.std.specs.Prelude.{◌≡◌, map, bytes_eq};
 ghost use Rattle.pls_app.specs.Command.{command_of, command_of_two};
 
-use pls_combine::read_scheme;
+use pls_combine::named_scheme;
 
 /// A scheme by its name.
 pub use pls_combine::SchemeName;
@@ -32,9 +32,9 @@ fn read_two(command: &str, scheme: &str) -> Option<Command>
     ensures { result ≡ command_of_two command.now scheme.now }
 {
     if is_word(command, "mark") {
-        read_scheme(scheme).map(Command::Mark)
+        named_scheme(scheme).map(Command::Mark)
     } else if is_word(command, "verify") {
-        read_scheme(scheme).map(Command::Verify)
+        named_scheme(scheme).map(Command::Verify)
     } else {
         None
     }

@@ -9,6 +9,8 @@ ghost use Rattle.pls_app.specs.Run.{IsAnswered, ShowsIn};
 use crate::answer::Answer;
 use crate::command::SchemeName;
 use pls_base::{NoMemory, Status};
+use pls_bits::Gamma;
+use pls_combine::Named;
 use pls_graph::Network;
 use pls_labelfile::write_labels;
 use pls_scheme::Scheme;
@@ -22,7 +24,7 @@ pub(crate) fn mark(alloc: Global, scheme: SchemeName, net: &Network) -> Result<A
     ensures shows { IfOk result (λ answer. answer.status ≡ Done
         → ShowsIn scheme net.now answer.text) }
 {
-    match scheme.mark(alloc, net)? {
+    match Named::<Gamma>::new(scheme).mark(alloc, net)? {
         Some(labels) => Ok(Answer {
             status: Status::Done,
             text: write_labels(alloc, net, &labels)?,

@@ -11,6 +11,8 @@ use crate::answer::Answer;
 use crate::command::SchemeName;
 use crate::report::{rejecting, report_text};
 use pls_base::{NoMemory, Status, Steps};
+use pls_bits::Gamma;
+use pls_combine::Named;
 use pls_graph::Network;
 use pls_model::Verdict;
 use pls_scheme::Checker;
@@ -29,7 +31,7 @@ pub(crate) fn verify(
         (λ answer. answer ≡ report (round_by (judge_of scheme) net.now labels.now)) }
     ensures answered { IfOk result (λ answer. IsAnswered answer.status) }
 {
-    let verdicts = scheme.round(alloc, net, labels, &mut Steps::new())?;
+    let verdicts = Named::<Gamma>::new(scheme).round(alloc, net, labels, &mut Steps::new())?;
     let rows = with_ids(alloc, net, &verdicts)?;
     Ok(Answer {
         status: round_status(&rows),

@@ -2,6 +2,7 @@
 
 ghost use Rattle.std.specs.Prelude.{◌≡◌};
 ghost use Rattle.pls_combine.specs.Expression.{IsSmall};
+ghost use Rattle.pls_combine.specs.inner.Trees.{expression_of};
 
 use crate::scheme_tree::{
     SchemeTree, bound_of, decide_tree, leaves_of, lends_of, mark_tree, verify_tree,
@@ -24,25 +25,24 @@ pub struct AnyScheme<C> {
 }
 
 impl<C> Model for AnyScheme<C> {
-    ghost use Rattle.std.specs.Coded.{codes};
-    ghost use Rattle.pls_combine.specs.contracts.scheme_tree.SchemeTree as e;
-    ghost use Rattle.pls_combine.specs.declared.scheme_tree.SchemeTree.{SchemeTree};
-    ghost use Rattle.pls_combine.specs.Expression.{IsSmall};
+    ghost use Rattle.pls_combine.specs.Expression.{Expression, IsSmall};
+    ghost use Rattle.pls_combine.specs.inner.Trees.{expression_of};
+    ghost use Rattle.pls_combine.specs.inner.Codes.{coded_expression};
 
-    ghost Value = { SchemeTree };
+    ghost Value = { Expression };
 
-    ghost coded = { Prim.hlevel (codes, e.the_row.coded) };
+    ghost coded = { coded_expression };
 
-    ghost view = { λ scheme. scheme.tree };
+    ghost view = { λ scheme. expression_of scheme.tree };
 
-    ghost invariant = { λ scheme. IsSmall scheme.tree };
+    ghost invariant = { λ scheme. IsSmall (expression_of scheme.tree) };
 }
 
 impl<C> AnyScheme<C> {
     // The expression as a scheme. It takes no memory.
     pub(crate) fn of_tree(tree: SchemeTree) -> Self
-        requires { IsSmall tree }
-        ensures { result ≡ tree }
+        requires { IsSmall (expression_of tree) }
+        ensures { result ≡ expression_of tree }
     {
         AnyScheme {
             tree,
@@ -52,7 +52,7 @@ impl<C> AnyScheme<C> {
 
     // The expression.
     pub(crate) fn tree(&self) -> &SchemeTree
-        ensures same { result.now ≡ self.now }
+        ensures same { expression_of result.now ≡ self.now }
         ensures small { IsSmall self.now }
     {
         &self.tree

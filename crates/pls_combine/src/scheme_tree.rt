@@ -6,6 +6,7 @@ ghost use Rattle.pls_model.specs.Walk.{IsConnected};
 ghost use Rattle.pls_scheme.specs.Judging.{AllAccept};
 ghost use Rattle.pls_scheme.specs.Marked.{answered};
 ghost use Rattle.pls_combine.specs.Expression.{HasProperty, IsMarked, judge_of, leaves_of, lends_of, longest_of};
+ghost use Rattle.pls_combine.specs.inner.Trees.{expression_of};
 
 use crate::both::raised;
 use crate::joined::{joined_bound, joined_labels, tagged_bound, tagged_labels};
@@ -35,8 +36,8 @@ pub enum SchemeTree {
 
 // How many leaves the expression has.
 pub(crate) fn leaves_of(tree: &SchemeTree) -> u8
-    requires { leaves_of tree.now ≤ 8 }
-    ensures value { result ≡ leaves_of tree.now }
+    requires { leaves_of (expression_of tree.now) ≤ 8 }
+    ensures value { result ≡ leaves_of (expression_of tree.now) }
     ensures some { 1 ≤ result }
 {
     match tree {
@@ -49,7 +50,7 @@ pub(crate) fn leaves_of(tree: &SchemeTree) -> u8
 
 // Whether a view of at most 8 ports is judged without memory.
 pub(crate) fn lends_of(tree: &SchemeTree) -> bool
-    ensures { result ≡ lends_of tree.now }
+    ensures { result ≡ lends_of (expression_of tree.now) }
 {
     match tree {
         SchemeTree::Basic(_) => true,
@@ -66,9 +67,9 @@ pub(crate) fn verify_tree<C: NumCode>(
     tree: &SchemeTree,
     view: &View<'_>,
 ) -> Result<Verdict, NoMemory>
-    requires { leaves_of tree.now ≤ 8 }
-    ensures verdict { IfOk result (λ verdict. verdict ≡ judge_of C.takes tree.now view.now) }
-    ensures lent { lends_of tree.now ≡ true → length view.now.ports ≤ 8 → IsOk result }
+    requires { leaves_of (expression_of tree.now) ≤ 8 }
+    ensures verdict { IfOk result (λ verdict. verdict ≡ judge_of C.takes (expression_of tree.now) view.now) }
+    ensures lent { lends_of (expression_of tree.now) ≡ true → length view.now.ports ≤ 8 → IsOk result }
 {
     match tree {
         SchemeTree::Basic(name) => Named::<C>::new(*name).verify(alloc, view, &mut Steps::new()),
@@ -109,7 +110,7 @@ pub(crate) fn decide_tree<C: NumCode>(
     net: &Network,
 ) -> Result<bool, NoMemory>
     requires { IsConnected net.now }
-    ensures { IfOk result (λ yes. IsTrue yes ↔ HasProperty tree.now net.now) }
+    ensures { IfOk result (λ yes. IsTrue yes ↔ HasProperty (expression_of tree.now) net.now) }
 {
     match tree {
         SchemeTree::Basic(name) => Named::<C>::new(*name).decide(alloc, net),
@@ -124,7 +125,7 @@ pub(crate) fn decide_tree<C: NumCode>(
 
 // The bound of the expression, or `u64::MAX` where it is greater.
 pub(crate) fn bound_of<C: NumCode>(tree: &SchemeTree, size: &Size) -> u64
-    ensures { result ≡ answered (longest_of C.code tree.now size.now) }
+    ensures { result ≡ answered (longest_of C.code (expression_of tree.now) size.now) }
 {
     match tree {
         SchemeTree::Basic(name) => Named::<C>::new(*name).bound(size),
@@ -144,16 +145,16 @@ pub(crate) fn mark_tree<C: NumCode>(
     net: &Network,
 ) -> Result<Option<LabelStore>, NoMemory>
     requires { IsConnected net.now }
-    ensures lacking { IfOk result (λ found. IfNone found (HasProperty tree.now net.now → ⊥)) }
-    ensures holds { IfOk result (λ found. IfSome found (λ labels. HasProperty tree.now net.now)) }
+    ensures lacking { IfOk result (λ found. IfNone found (HasProperty (expression_of tree.now) net.now → ⊥)) }
+    ensures holds { IfOk result (λ found. IfSome found (λ labels. HasProperty (expression_of tree.now) net.now)) }
     ensures marked { IfOk result (λ found. IfSome found
-        (λ labels. IsMarked C.code tree.now net.now labels)) }
+        (λ labels. IsMarked C.code (expression_of tree.now) net.now labels)) }
     ensures each { IfOk result (λ found. IfSome found
         (λ labels. length labels ≡ length net.now)) }
     ensures accepted { IfOk result (λ found. IfSome found
-        (λ labels. AllAccept (judge_of C.takes tree.now) net.now labels)) }
+        (λ labels. AllAccept (judge_of C.takes (expression_of tree.now)) net.now labels)) }
     ensures short { IfOk result (λ found. IfSome found (λ labels.
-        All (λ label. length label ≤ answered (longest_of C.code tree.now (size_of net.now))) labels)) }
+        All (λ label. length label ≤ answered (longest_of C.code (expression_of tree.now) (size_of net.now))) labels)) }
 {
     match tree {
         SchemeTree::Basic(name) => Named::<C>::new(*name).mark(alloc, net),

@@ -1,7 +1,7 @@
 use Rattle.std.proofs.Common.{◌≡◌, ◌∙◌, ℕ, List, map, zip, ap, refl}
 use Rattle.pls_model.specs.declared.row.NodeRow.{NodeRow}
 use Rattle.pls_view.specs.Seen.{label_of}
-use Rattle.pls_scheme.specs.Judging.{round_by}
+use Rattle.pls_scheme.specs.Judging.{round_by, verdicts_by}
 use Rattle.pls_combine.specs.Named.{judge_of}
 use Rattle.pls_app.proofs.Rounds.{zip-round}
 use Rattle.pls_app.proofs.verify.verify.Goals as goal
@@ -12,8 +12,10 @@ returns-clause-reports c =
     let net = c.args.net.now in
     let labels = c.args.labels.now in
     let ids : List ℕ = map (λ (row : NodeRow). row.id) net in
+    let verdicts : c.in_ok-verdicts.verdicts.items ≡ verdicts_by judge net labels =
+    rw (← c.new.ensures) c.in_ok-verdicts.ensures.verdicts in
     let rows : c.in_ok-rows.rows.items ≡ round_by judge net labels =
-    c.in_ok-rows.ensures ∙ ap (zip ids) (c.deref.ensures.value ∙ c.in_ok-verdicts.ensures.verdicts)
+    c.in_ok-rows.ensures ∙ ap (zip ids) (c.deref.ensures.value ∙ verdicts)
     ∙ zip-round judge (label_of net labels) net in
     let text = c.in_ok-report_text.ensures in
     rw (

@@ -1,13 +1,14 @@
 use Rattle.std.proofs.Common.{true, false, arith}
 use Rattle.pls_graph.specs.Size.{size_of}
 use Rattle.pls_combine.specs.Expression.{judge_of, leaves_of, longest_of}
+use Rattle.pls_combine.specs.inner.Trees.{expression_of}
 use Rattle.pls_combine.proofs.Marking.{both_accepted, both_short, tagged_accepted, tagged_short}
 use Rattle.pls_combine.proofs.scheme_tree.+mark_tree.Goals as goal
 
 pub returns-in_ok-labels-in-And-clause-accepted : goal.returns-in_ok-labels-in-And-clause-accepted
 returns-in_ok-labels-in-And-clause-accepted g t c =
-    let first = c.in-And.first.value in
-    let second = c.in-And.second.value in
+    let first = expression_of c.in-And.first.value in
+    let second = expression_of c.in-And.second.value in
     rw c.in-And.is
     (both_accepted g.C.NumCode.code g.C.NumCode.takes g.met.C.NumCode.takes_codes
     g.met.C.NumCode.takes_only (judge_of g.C.NumCode.takes first) (leaves_of first)
@@ -21,8 +22,8 @@ returns-in_ok-labels-in-And-clause-accepted g t c =
 
 pub returns-in_ok-labels-in-And-clause-short : goal.returns-in_ok-labels-in-And-clause-short
 returns-in_ok-labels-in-And-clause-short g t c =
-    let first = c.in-And.first.value in
-    let second = c.in-And.second.value in
+    let first = expression_of c.in-And.first.value in
+    let second = expression_of c.in-And.second.value in
     rw c.in-And.is
     (both_short g.C.NumCode.code g.C.NumCode.takes g.met.C.NumCode.takes_codes
     g.met.C.NumCode.takes_only (judge_of g.C.NumCode.takes first) (leaves_of first)
@@ -40,8 +41,8 @@ returns-in_ok-labels-in-And-clause-short g t c =
 
 pub returns-in-Some-3-clause-accepted : goal.returns-in-Some-3-clause-accepted
 returns-in-Some-3-clause-accepted g t c =
-    let first = c.in-Or.first.value in
-    let second = c.in-Or.second.value in
+    let first = expression_of c.in-Or.first.value in
+    let second = expression_of c.in-Or.second.value in
     rw c.in-Or.is
     (tagged_accepted (judge_of g.C.NumCode.takes first) (leaves_of first)
     (judge_of g.C.NumCode.takes second) c.args.net.now c.is_valid-in-Or.ensures false
@@ -52,8 +53,8 @@ returns-in-Some-3-clause-accepted g t c =
 
 pub returns-in_ok-labels-in-Or-2-clause-accepted : goal.returns-in_ok-labels-in-Or-2-clause-accepted
 returns-in_ok-labels-in-Or-2-clause-accepted g t c =
-    let first = c.in-Or.first.value in
-    let second = c.in-Or.second.value in
+    let first = expression_of c.in-Or.first.value in
+    let second = expression_of c.in-Or.second.value in
     rw c.in-Or.is
     (tagged_accepted (judge_of g.C.NumCode.takes first) (leaves_of first)
     (judge_of g.C.NumCode.takes second) c.args.net.now c.is_valid-in-Or.ensures true
@@ -68,8 +69,8 @@ returns-in-Basic-clause-accepted g t c =
 
 pub returns-in-Some-3-clause-short : goal.returns-in-Some-3-clause-short
 returns-in-Some-3-clause-short g t c =
-    let first = c.in-Or.first.value in
-    let second = c.in-Or.second.value in
+    let first = expression_of c.in-Or.first.value in
+    let second = expression_of c.in-Or.second.value in
     rw c.in-Or.is
     (tagged_short (judge_of g.C.NumCode.takes first) (leaves_of first)
     (judge_of g.C.NumCode.takes second) c.args.net.now c.is_valid-in-Or.ensures false
@@ -81,8 +82,8 @@ returns-in-Some-3-clause-short g t c =
 
 pub returns-in_ok-labels-in-Or-2-clause-short : goal.returns-in_ok-labels-in-Or-2-clause-short
 returns-in_ok-labels-in-Or-2-clause-short g t c =
-    let first = c.in-Or.first.value in
-    let second = c.in-Or.second.value in
+    let first = expression_of c.in-Or.first.value in
+    let second = expression_of c.in-Or.second.value in
     rw c.in-Or.is
     (tagged_short (judge_of g.C.NumCode.takes first) (leaves_of first)
     (judge_of g.C.NumCode.takes second) c.args.net.now c.is_valid-in-Or.ensures true
