@@ -1,3 +1,5 @@
+pub mod Depths
+pub mod Found
 pub mod Bounds
 pub mod Words
 pub mod Fits

@@ -5,5 +5,6 @@ pub mod Combined
 pub mod Joined
 pub mod Tagged
 pub mod Expression
+pub mod ExpressionText
 pub mod inner
 pub mod laws

@@ -7,3 +7,4 @@ pub mod PairLaws
 pub mod PartsAccepted
 pub mod PutLaws
 pub mod TaggedLaws
+pub mod TextLaws

@@ -4,12 +4,15 @@
 mod any_scheme;
 mod both;
 mod both_scheme;
+mod fronts;
 mod joined;
 mod named;
 mod one_of;
 mod one_of_scheme;
 mod parts;
+mod scheme_error;
 mod scheme_name;
+mod scheme_text;
 mod scheme_tree;
 mod tests_of_views;
 
@@ -20,5 +23,7 @@ pub use named::Named;
 pub use one_of::OneOf;
 pub use one_of_scheme::Tagged;
 pub use parts::{FirstPart, Rest, SecondPart};
+pub use scheme_error::SchemeError;
 pub use scheme_name::{SchemeName, named_scheme};
+pub use scheme_text::{print_scheme, read_scheme};
 pub use scheme_tree::SchemeTree;

@@ -1,7 +1,7 @@
 //! The names of schemes.
 
 ghost use Rattle.std.specs.Prelude.{◌≡◌, bytes_eq, codes};
-ghost use Rattle.pls_combine.specs.SchemeWord.{scheme_of};
+ghost use Rattle.pls_combine.specs.SchemeWord.{name_of, scheme_of};
 
 /// The name of a basic scheme.
 #[derive(Clone, Copy, Debug, PartialEq, Eq)]
@@ -42,6 +42,21 @@ pub fn named_scheme(word: &str) -> Option<SchemeName>
         Some(SchemeName::ShortestPathTree)
     } else {
         None
+    }
+}
+
+// The word that names a scheme.
+pub(crate) fn name_of(name: SchemeName) -> &'static str
+    ensures { result.now ≡ name_of name }
+{
+    match name {
+        SchemeName::Tree => "tree",
+        SchemeName::Forest => "forest",
+        SchemeName::Bipartite => "bipartite",
+        SchemeName::Acyclic => "acyclic",
+        SchemeName::Leader => "leader",
+        SchemeName::Count => "count",
+        SchemeName::ShortestPathTree => "spt",
     }
 }
 

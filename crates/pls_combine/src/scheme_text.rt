@@ -1,23 +1,27 @@
 //! Expressions of schemes as texts.
 
-ghost use Rattle.std.specs.Prelude.{◌≡◌, ◌<◌, ◌↔◌, ◌⊎◌, IfOk, IfErr, nat_lt, option_map, length};
+ghost use Rattle.std.specs.Prelude.{◌≡◌, ◌≤◌, ◌↔◌, ◌⊎◌, ◌++◌, Bool, true, IfOk, IfErr, OnOk, Some, min, nat_lt, option_map};
+ghost use Rattle.std.specs.Option.{is_some};
 ghost use Rattle.std.specs.Result.{IsErrOf};
 ghost use Rattle.std.specs.String.{string_bytes};
 ghost use Rattle.pls_combine.specs.Expression.{IsSmall, leaves_of};
 ghost use Rattle.pls_combine.specs.ExpressionText.{HasTooMany, IsNoExpression, IsNoScheme, IsTooDeep, deepest, depth_after, expression_text};
+ghost use Rattle.pls_combine.specs.inner.Fronts.{expression_in};
+ghost use Rattle.pls_combine.specs.inner.Trees.{expression_of};
 
 use crate::any_scheme::AnyScheme;
 use crate::fronts::{names_front, tree_front};
 use crate::scheme_error::SchemeError;
+use crate::scheme_name::name_of;
 use crate::scheme_tree::SchemeTree;
 use pls_base::NoMemory;
 use pls_bits::NumCode;
 use std::alloc::Global;
 
-/// The greatest number of names in an expression.
+// The greatest number of names in an expression.
 const MOST_NAMES: u8 = 8;
 
-/// How deep parentheses may stand.
+// How deep parentheses may stand.
 const MOST_DEPTH: u8 = 7;
 
 /// The scheme of a text: `leader`, `tree`, `forest`, `spt`, `bipartite`, `acyclic`, `count`,
@@ -36,13 +40,91 @@ pub fn read_scheme<C: NumCode>(alloc: Global, text: &str) -> Result<AnyScheme<C>
     if is_too_deep(bytes) {
         return Err(SchemeError::TooDeep);
     }
-    match names_front(bytes, MOST_DEPTH) {
-        Some((names, rest)) if rest.is_empty() => {
-            if names > MOST_NAMES {
-                return Err(SchemeError::TooMany);
-            }
-            Ok(AnyScheme::of_tree(read_tree(alloc, bytes)?))
-        }
-        _ => Err(SchemeError::NotAScheme),
+    let Some(names) = names_in(bytes) else {
+        return Err(SchemeError::NotAScheme);
+    };
+    if names > MOST_NAMES {
+        return Err(SchemeError::TooMany);
     }
+    Ok(AnyScheme::of_tree(tree_in(alloc, bytes)?))
+}
+
+// Whether parentheses stand more than 7 deep somewhere. It takes no memory.
+fn is_too_deep(text: &[u8]) -> bool
+    ensures { result ≡ nat_lt 7 (deepest 0 text.now) }
+{
+    let mut depth: u8 = 0;
+    for character in text {
+        depth = depth_after(depth, *character);
+        if depth > MOST_DEPTH {
+            return true;
+        }
+    }
+    false
+}
+
+// How deep parentheses stand behind a character.
+fn depth_after(depth: u8, character: u8) -> u8
+    requires { depth ≤ 7 }
+    ensures { result ≡ depth_after depth character }
+{
+    match character {
+        b'(' => depth + 1,
+        b')' => depth.saturating_sub(1),
+        _ => depth,
+    }
+}
+
+// How many names the expression of a text has, counted up to 255, or `None` where the text is that
+// of none of so many levels. It takes no memory.
+fn names_in(text: &[u8]) -> Option<u8>
+    ensures { result ≡ option_map (λ scheme. min (leaves_of scheme) 255) (expression_in text.now) }
+{
+    let (names, rest) = names_front(text, MOST_DEPTH)?;
+    if rest.is_empty() { Some(names) } else { None }
+}
+
+// The expression of a text.
+fn tree_in(alloc: Global, text: &[u8]) -> Result<SchemeTree, NoMemory>
+    requires { is_some (expression_in text.now) ≡ true }
+    ensures { IfOk result (λ tree. expression_in text.now ≡ Some (expression_of tree)) }
+{
+    match tree_front(alloc, text, MOST_DEPTH)? {
+        Some((tree, _)) => Ok(tree),
+        None => unreachable!(),
+    }
+}
+
+/// The text of a scheme, which [`read_scheme`] reads back. The one error is want of memory.
+pub fn print_scheme<C: NumCode>(alloc: Global, scheme: &AnyScheme<C>) -> Result<String, NoMemory>
+    ensures { IfOk result (λ text. string_bytes text ≡ expression_text scheme.now) }
+{
+    let mut text = String::new(alloc);
+    print_tree(&mut text, scheme.tree())?;
+    Ok(text)
+}
+
+// Puts the text of an expression behind a text.
+fn print_tree(text: &mut String, tree: &SchemeTree) -> Result<(), NoMemory>
+    ensures { OnOk result (string_bytes text.new
+        ≡ string_bytes text.old ++ expression_text (expression_of tree.now)) }
+{
+    match tree {
+        SchemeTree::Basic(name) => text.push_str(name_of(*name))?,
+        SchemeTree::And(first, second) => {
+            text.push_str("and(")?;
+            print_tree(text, first)?;
+            text.push_str(",")?;
+            print_tree(text, second)?;
+            text.push_str(")")?;
+        }
+        SchemeTree::Or(first, second) => {
+            text.push_str("or(")?;
+            print_tree(text, first)?;
+            text.push_str(",")?;
+            print_tree(text, second)?;
+            text.push_str(")")?;
+        }
+    }
+    Ok(())
 }
