@@ -1,12 +1,12 @@
 //! Expressions of schemes as texts.
 
-ghost use Rattle.std.specs.Prelude.{◌≡◌, ◌≤◌, ◌↔◌, ◌⊎◌, ◌++◌, Bool, true, IfOk, IfErr, OnOk, Some, min, nat_lt, option_map};
+ghost use Rattle.std.specs.Prelude.{◌≡◌, ◌≤◌, ◌↔◌, ◌⊎◌, ◌++◌, Bool, true, IfOk, IfErr, OnOk, Some, nat_lt};
 ghost use Rattle.std.specs.Option.{is_some};
 ghost use Rattle.std.specs.Result.{IsErrOf};
 ghost use Rattle.std.specs.String.{string_bytes};
 ghost use Rattle.pls_combine.specs.Expression.{IsSmall, leaves_of};
 ghost use Rattle.pls_combine.specs.ExpressionText.{HasTooMany, IsNoExpression, IsNoScheme, IsTooDeep, deepest, depth_after, expression_text};
-ghost use Rattle.pls_combine.specs.inner.Fronts.{expression_in};
+ghost use Rattle.pls_combine.specs.inner.Fronts.{expression_in, names_in, refusal_of};
 ghost use Rattle.pls_combine.specs.inner.Trees.{expression_of};
 
 use crate::any_scheme::AnyScheme;
@@ -37,16 +37,24 @@ pub fn read_scheme<C: NumCode>(alloc: Global, text: &str) -> Result<AnyScheme<C>
         (error ≡ SchemeError.NoMemory) ⊎ IsNoScheme text.now) }
 {
     let bytes = text.as_bytes();
-    if is_too_deep(bytes) {
-        return Err(SchemeError::TooDeep);
+    match refusal_of(bytes) {
+        Some(error) => Err(error),
+        None => Ok(AnyScheme::of_tree(tree_in(alloc, bytes)?)),
     }
-    let Some(names) = names_in(bytes) else {
-        return Err(SchemeError::NotAScheme);
-    };
-    if names > MOST_NAMES {
-        return Err(SchemeError::TooMany);
+}
+
+// Why a text is refused. It takes no memory.
+fn refusal_of(text: &[u8]) -> Option<SchemeError>
+    ensures { result ≡ refusal_of text.now }
+{
+    if is_too_deep(text) {
+        return Some(SchemeError::TooDeep);
     }
-    Ok(AnyScheme::of_tree(tree_in(alloc, bytes)?))
+    match names_in(text) {
+        None => Some(SchemeError::NotAScheme),
+        Some(names) if names > MOST_NAMES => Some(SchemeError::TooMany),
+        Some(_) => None,
+    }
 }
 
 // Whether parentheses stand more than 7 deep somewhere. It takes no memory.
@@ -75,10 +83,10 @@ fn depth_after(depth: u8, character: u8) -> u8
     }
 }
 
-// How many names the expression of a text has, counted up to 255, or `None` where the text is that
-// of none of so many levels. It takes no memory.
+// How many names the expression has that is the whole of a text, counted up to 255. It takes no
+// memory.
 fn names_in(text: &[u8]) -> Option<u8>
-    ensures { result ≡ option_map (λ scheme. min (leaves_of scheme) 255) (expression_in text.now) }
+    ensures { result ≡ names_in text.now }
 {
     let (names, rest) = names_front(text, MOST_DEPTH)?;
     if rest.is_empty() { Some(names) } else { None }

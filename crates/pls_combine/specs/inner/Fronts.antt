@@ -1,14 +1,17 @@
 -- What stands at the front of a text: an expression with so many levels below it, read from the
 -- left.
-use Rattle.std.specs.Prelude.{ℕ, zero, suc, ◌+◌, ◌≤◌, ◌==◌, nat_le, min, List, [], ◌∷◌, length, codes, Option, Some, None, option_map, option_and_then, if◌then◌else◌}
+use Rattle.std.specs.Prelude.{ℕ, zero, suc, ◌+◌, ◌≤◌, ◌==◌, nat_le, nat_lt, min, List, [], ◌∷◌, length, codes, Option, Some, None, option_map, option_and_then, if◌then◌else◌}
 use Rattle.std.specs.Borrow.{Bor}
 use Rattle.std.specs.Option.{option_or}
 use Rattle.pls_combine.specs.declared.fronts.Join.{Join}
 use Rattle.pls_combine.specs.declared.fronts.Join.TheVariants.{Both, Either}
+use Rattle.pls_combine.specs.declared.scheme_error.SchemeError.{SchemeError}
+use Rattle.pls_combine.specs.declared.scheme_error.SchemeError.TheVariants.{NotAScheme, TooDeep, TooMany}
 use Rattle.pls_combine.specs.declared.scheme_name.SchemeName.{SchemeName}
 use Rattle.pls_combine.specs.declared.scheme_name.SchemeName.TheVariants.{Acyclic, Bipartite, Count, Forest, Leader, ShortestPathTree, Tree}
 use Rattle.pls_combine.specs.declared.scheme_tree.SchemeTree.{SchemeTree}
 use Rattle.pls_combine.specs.Expression.{Expression, And, Basic, Or, leaves_of}
+use Rattle.pls_combine.specs.ExpressionText.{deepest}
 use Rattle.pls_combine.specs.SchemeWord.{name_of}
 use Rattle.pls_combine.specs.inner.Trees.{expression_of}
 
@@ -85,15 +88,29 @@ seen_tree found = followed (expression_of found.0) found.1.now
 abbrev pub counted : Front Expression → Front ℕ
 counted front = followed (min (leaves_of front.item) 255) front.rest
 
--- the expression that is the whole of a text
-abbrev pub whole_of : Front Expression → Option Expression
-whole_of front = if length front.rest == 0 then Some front.item else None
+-- what is found where nothing follows
+abbrev pub alone : {A : Type 0} → Front A → Option A
+alone front = if length front.rest == 0 then Some front.item else None
 
+-- the expression, at most 8 deep, that is the whole of a text
 abbrev pub expression_in : List ℕ → Option Expression
-expression_in text = option_and_then whole_of (expression_front 7 text)
+expression_in text = option_and_then alone (expression_front 7 text)
 
--- the expression of at most 8 names, and of a depth of at most 8, that is the whole of a text
+-- how many names it has, counted up to 255
+abbrev pub names_in : List ℕ → Option ℕ
+names_in text = option_and_then alone (option_map counted (expression_front 7 text))
+
+-- that expression, where it has at most 8 names
 abbrev pub scheme_in : List ℕ → Option Expression
 scheme_in text =
     option_and_then (λ scheme. if nat_le (leaves_of scheme) 8 then Some scheme else None)
     (expression_in text)
+
+-- why a text is refused that is read in this way
+abbrev pub refused_names : Option ℕ → Option SchemeError
+refused_names None = Some NotAScheme
+refused_names (Some names) = if nat_lt 8 names then Some TooMany else None
+
+abbrev pub refusal_of : List ℕ → Option SchemeError
+refusal_of text =
+    if nat_lt 7 (deepest 0 text) then Some TooDeep else refused_names (names_in text)

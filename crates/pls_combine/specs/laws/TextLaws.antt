@@ -12,7 +12,7 @@ use Rattle.pls_combine.specs.declared.scheme_name.SchemeName.TheVariants.{Acycli
 use Rattle.pls_combine.specs.Expression.{Expression, And, Basic, IsSmall, Or, depth_of, leaves_of}
 use Rattle.pls_combine.specs.ExpressionText.{IsTooDeep, deepest, depth_after, expression_text}
 use Rattle.pls_combine.specs.SchemeWord.{name_of}
-use Rattle.pls_combine.specs.inner.Fronts.{Front, after, close_front, expression_front, expression_in, followed, join_front, joined, name_front, pair_front, scheme_in, second_front, whole_of, worded}
+use Rattle.pls_combine.specs.inner.Fronts.{Front, after, close_front, expression_front, expression_in, followed, join_front, joined, name_front, pair_front, scheme_in, second_front, alone, worded}
 
 -- two and what joins them, behind what opens them and in front of more
 abbrev behind_opening : List ℕ → List ℕ → List ℕ → List ℕ
@@ -276,12 +276,12 @@ pub expression_in-text : (scheme : Expression) → depth_of scheme ≤ 8
     → expression_in (expression_text scheme) ≡ Some scheme
 expression_in-text scheme shallow =
     ap expression_in (sym (append-nil (expression_text scheme)))
-    ∙ ap (option_and_then whole_of) (front_read 7 scheme (omega (arith, shallow)) [])
+    ∙ ap (option_and_then alone) (front_read 7 scheme (omega (arith, shallow)) [])
 
 pub expression_in-is : (text : List ℕ) (scheme : Expression) → expression_in text ≡ Some scheme
     → (text ≡ expression_text scheme) × (depth_of scheme ≤ 8)
 expression_in-is text scheme is =
-    option_and_then_some whole_of (expression_front 7 text) scheme is at
+    option_and_then_some alone (expression_front 7 text) scheme is at
   where
     empty : (rest : List ℕ) → length rest ≡ 0 → rest ≡ []
     empty [] none = refl
@@ -295,7 +295,7 @@ expression_in-is text scheme is =
     ended found false end same = absurd (nothing_found scheme same)
 
     at : (found : Front Expression) → expression_front 7 text ≡ Some found
-        → whole_of found ≡ Some scheme → (text ≡ expression_text scheme) × (depth_of scheme ≤ 8)
+        → alone found ≡ Some scheme → (text ≡ expression_text scheme) × (depth_of scheme ≤ 8)
     at found stands whole =
         let front = front_is 7 text found stands in
         let end = ended found (length found.rest == 0) refl whole in (
