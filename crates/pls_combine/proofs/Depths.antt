@@ -3,7 +3,7 @@ use Rattle.std.proofs.Common.{◌≡◌, ◌∙◌, ℕ, suc, ◌<◌, ◌≤◌
 use Rattle.std.proofs.Math.Seq.{drop-cons}
 use Rattle.std.proofs.lemmas.Bool.{lt-ltb, ltb-true, ltb_from_iff}
 use Rattle.pls_combine.specs.ExpressionText.{deepest, depth_after}
-use Rattle.pls_combine.specs.laws.TextLaws.{deepest-start}
+use Rattle.pls_combine.specs.laws.DepthLaws.{deepest-start}
 
 -- behind a character, where they stood no more than 7 deep in front of it
 pub deepest-step : (depth character : ℕ) (text : List ℕ) → depth ≤ 7

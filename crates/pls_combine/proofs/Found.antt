@@ -1,7 +1,7 @@
 -- What calls find at the front of a text.
 use Rattle.std.proofs.Common.{◌≡◌, ◌≢◌, ◌∙◌, ◌++◌, ℕ, List, MatchOption, Option, Some, None, option_map, Bor, refl, sym, ap}
 use Rattle.pls_combine.specs.inner.Fronts.{after}
-use Rattle.pls_combine.specs.laws.TextLaws.{after_is, after_word}
+use Rattle.pls_combine.specs.laws.FrontLaws.{after_is, after_word}
 
 -- what strips a word off finds what follows it
 pub after_found : (word text : List ℕ) (found : Option (Bor (List ℕ)))

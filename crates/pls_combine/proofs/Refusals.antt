@@ -9,7 +9,8 @@ use Rattle.pls_combine.specs.declared.scheme_error.SchemeError.TheVariants.{NoMe
 use Rattle.pls_combine.specs.Expression.{Expression, IsSmall, depth_of, leaves_of}
 use Rattle.pls_combine.specs.ExpressionText.{HasTooMany, IsNoExpression, IsNoScheme, IsTooDeep, deepest, expression_text}
 use Rattle.pls_combine.specs.inner.Fronts.{Front, alone, counted, expression_front, expression_in, names_in, refusal_of, refused_names}
-use Rattle.pls_combine.specs.laws.TextLaws.{deep_text, expression_in-is, expression_in-text, one_expression}
+use Rattle.pls_combine.specs.laws.DepthLaws.{deep_text}
+use Rattle.pls_combine.specs.laws.TextLaws.{expression_in-is, expression_in-text, one_expression}
 
 -- nothing is something
 nothing_found : (scheme : Expression) → None ≡ Some scheme → ⊥

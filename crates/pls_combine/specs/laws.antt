@@ -1,5 +1,7 @@
 pub mod BothLaws
+pub mod DepthLaws
 pub mod ExpressionLaws
+pub mod FrontLaws
 pub mod LeafLaws
 pub mod NamedLaws
 pub mod OneOfLaws
