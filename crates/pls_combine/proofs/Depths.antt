@@ -1,5 +1,5 @@
 -- How deep parentheses stand from a place of a text on.
-use Rattle.std.proofs.Common.{◌≡◌, ◌∙◌, ℕ, suc, ◌<◌, ◌≤◌, max, nat_lt, Bool, true, List, [], ◌∷◌, length, drop, get_or, ap, arith}
+use Rattle.std.proofs.Common.{◌≡◌, ◌∙◌, ℕ, suc, ◌<◌, ◌≤◌, nat_lt, true, List, ◌∷◌, length, drop, get_or, ap, arith}
 use Rattle.std.proofs.Math.Seq.{drop-cons}
 use Rattle.std.proofs.lemmas.Bool.{lt-ltb, ltb-true, ltb_from_iff}
 use Rattle.pls_combine.specs.ExpressionText.{deepest, depth_after}

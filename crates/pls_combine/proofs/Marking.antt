@@ -12,7 +12,7 @@ use Rattle.pls_model.specs.declared.verdict.Verdict.{Verdict}
 use Rattle.pls_model.specs.declared.verdict.Verdict.TheVariants.{Accept}
 use Rattle.pls_model.specs.Configuration.{IsNetwork}
 use Rattle.pls_bits.specs.NumberCode.{Grows, IsShort, TakesCodes, TakesOnly}
-use Rattle.pls_bits.specs.declared.num_code.TheConstants.{MAX_CODED, MAX_CODE_BITS}
+use Rattle.pls_bits.specs.declared.num_code.TheConstants.{MAX_CODED}
 use Rattle.pls_graph.proofs.Members.{Contains-map}
 use Rattle.pls_view.specs.Seen.{EachFits, Seen, SeenPort, label_of, narrow_by, seen}
 use Rattle.pls_view.proofs.Narrowed.{seen-narrowed, seen_fits}
@@ -22,7 +22,7 @@ use Rattle.pls_scheme.specs.Marked.{answered}
 use Rattle.pls_combine.specs.Parts.{cut_at, first_part, has_parts, is_tagged, parts_of, second_part, tag_of}
 use Rattle.pls_combine.specs.Combined.{judge_both, judge_one_of, judge_tagged}
 use Rattle.pls_combine.specs.Joined.{EachJoined, joined_at, joined_bits, longest_both}
-use Rattle.pls_combine.specs.Tagged.{EachTagged, longest_one_of, tagged_at}
+use Rattle.pls_combine.specs.Tagged.{EachTagged, tagged_at}
 use Rattle.pls_combine.specs.inner.Fits.{AllFit, HasCodes}
 use Rattle.pls_combine.specs.laws.BothLaws.{first_of_nothing, second_of_nothing}
 use Rattle.pls_combine.specs.laws.PairLaws.{both_parts, drop_front, take_front}

@@ -1,5 +1,5 @@
 -- Why texts of expressions are refused.
-use Rattle.std.proofs.Common.{◌≡◌, ◌∙◌, ◌↔◌, ◌⊎◌, inl, inr, ℕ, ◌<◌, ◌≤◌, ◌==◌, min, nat_le, nat_lt, Bool, true, false, List, length, Option, Some, None, option_map, Result, Ok, Err, if◌then◌else◌, refl, sym, ap, subst, arith}
+use Rattle.std.proofs.Common.{◌≡◌, ◌∙◌, ◌↔◌, inl, inr, ℕ, ◌<◌, ◌≤◌, ◌==◌, min, nat_lt, Bool, true, false, List, length, Option, Some, None, option_map, Result, Ok, Err, if◌then◌else◌, refl, sym, ap, subst, arith}
 use Rattle.std.specs.Option.{option_and_then}
 use Rattle.std.specs.Result.{IsErrAnd}
 use Rattle.std.proofs.lemmas.Bool.{cases_lt, ltb-false, ltb-true}
@@ -8,7 +8,7 @@ use Rattle.pls_combine.specs.declared.scheme_error.SchemeError.{SchemeError}
 use Rattle.pls_combine.specs.declared.scheme_error.SchemeError.TheVariants.{NoMemory, NotAScheme, TooDeep, TooMany}
 use Rattle.pls_combine.specs.Expression.{Expression, IsSmall, depth_of, leaves_of}
 use Rattle.pls_combine.specs.ExpressionText.{HasTooMany, IsNoExpression, IsNoScheme, IsTooDeep, deepest, expression_text}
-use Rattle.pls_combine.specs.inner.Fronts.{Front, alone, counted, expression_front, expression_in, names_in, refusal_of, refused_names}
+use Rattle.pls_combine.specs.inner.Fronts.{Front, alone, counted, expression_front, expression_in, names_in, refusal_of}
 use Rattle.pls_combine.specs.laws.DepthLaws.{deep_text}
 use Rattle.pls_combine.specs.laws.TextLaws.{expression_in-is, expression_in-text, one_expression}
 

@@ -46,7 +46,8 @@ impl<A: Checker, B: Checker, C: NumCode> Checker for Both<A, B, C> {
     ghost use Rattle.pls_combine.specs.Combined.{judge_both};
     ghost use Rattle.pls_combine.specs.laws.LeafLaws.{judge_both-leaf};
 
-    ghost judge = { λ s view. judge_both C.takes (A.judge s.first) (A.leaves s.first) (B.judge s.second) view };
+    ghost judge = { λ s view. judge_both C.takes (A.judge s.first) (A.leaves s.first)
+        (B.judge s.second) view };
 
     ghost leaves = { λ s. A.leaves s.first + B.leaves s.second };
 
@@ -86,7 +87,9 @@ impl<A: Checker, B: Checker, C: NumCode> Checker for Both<A, B, C> {
         }
     }
 
-    ghost leaf_law = { λ s view. judge_both-leaf (A.judge s.first) (A.leaves s.first) (B.judge s.second) (B.leaves s.second) (A.leaf_law s.first) (B.leaf_law s.second) C.takes view };
+    ghost leaf_law = { λ s view. judge_both-leaf (A.judge s.first) (A.leaves s.first)
+        (B.judge s.second) (B.leaves s.second) (A.leaf_law s.first) (B.leaf_law s.second) C.takes
+        view };
 
     ghost lends_law = { λ s no. absurd (cc) };
 }

@@ -35,15 +35,17 @@ impl<A: Scheme, B: Scheme, C: NumCode> Scheme for Both<A, B, C> {
 
     type Label = PairLabel<A::Label, B::Label>;
 
-    ghost layout = { λ s bits label.
-        IsPair C.code (A.layout s.first) (B.layout s.second) label.first label.second bits };
+    ghost layout = { λ s bits label. IsPair C.code (A.layout s.first) (B.layout s.second)
+        label.first label.second bits };
 
-    ghost writable = { λ s label.
-        IsShortPair (A.layout s.first) (A.writable s.first) (B.writable s.second) label.first label.second };
+    ghost writable = { λ s label. IsShortPair (A.layout s.first) (A.writable s.first)
+        (B.writable s.second) label.first label.second };
 
-    ghost marked = { λ s rows labels. AreJoined C.code (A.marked s.first) (B.marked s.second) rows labels };
+    ghost marked = { λ s rows labels. AreJoined C.code (A.marked s.first) (B.marked s.second) rows
+        labels };
 
-    ghost longest = { λ s size. longest_both C.code (A.longest s.first size) (B.longest s.second size) };
+    ghost longest = { λ s size. longest_both C.code (A.longest s.first size)
+        (B.longest s.second size) };
 
     fn read_label(&self, alloc: Global, bits: Bits<'_>) -> Result<Option<Self::Label>, NoMemory> {
         let Some((front, back)) = parts::<C>(&bits) else {
@@ -80,13 +82,23 @@ impl<A: Scheme, B: Scheme, C: NumCode> Scheme for Both<A, B, C> {
         Ok(Some(labels))
     }
 
-    ghost reads_back_law = { λ s label short. pair_has_spelling C.code (A.layout s.first) (B.layout s.second) (A.writable s.first) (B.writable s.second) label.first label.second (A.reads_back_law s.first label.first) (B.reads_back_law s.second label.second) short };
+    ghost reads_back_law = { λ s label short. pair_has_spelling C.code (A.layout s.first)
+        (B.layout s.second) (A.writable s.first) (B.writable s.second) label.first label.second
+        (A.reads_back_law s.first label.first) (B.reads_back_law s.second label.second) short };
 
-    ghost one_spelling_law = { λ s label a b one two. pair_spelling C.code (A.layout s.first) (B.layout s.second) label.first label.second (A.one_spelling_law s.first label.first) (B.one_spelling_law s.second label.second) a b one two };
+    ghost one_spelling_law = { λ s label a b one two. pair_spelling C.code (A.layout s.first)
+        (B.layout s.second) label.first label.second (A.one_spelling_law s.first label.first)
+        (B.one_spelling_law s.second label.second) a b one two };
 
-    ghost one_label_law = { λ s bits a b one two. one_pair C.code C.takes C.takes_codes (A.layout s.first) (B.layout s.second) (A.one_label_law s.first) (B.one_label_law s.second) bits a b one two };
+    ghost one_label_law = { λ s bits a b one two. one_pair C.code C.takes C.takes_codes
+        (A.layout s.first) (B.layout s.second) (A.one_label_law s.first) (B.one_label_law s.second)
+        bits a b one two };
 
-    ghost sound_law = { λ s. both_sound C.code C.takes C.takes_only (A.judge s.first) (A.leaves s.first) (B.judge s.second) (A.holds s.first) (B.holds s.second) (A.sound_law s.first) (B.sound_law s.second) };
+    ghost sound_law = { λ s. both_sound C.code C.takes C.takes_only (A.judge s.first)
+        (A.leaves s.first) (B.judge s.second) (A.holds s.first) (B.holds s.second)
+        (A.sound_law s.first) (B.sound_law s.second) };
 
-    ghost one_marking_law = { λ s. both_marked_once C.code (A.holds s.first) (B.holds s.second) (A.marked s.first) (B.marked s.second) (A.one_marking_law s.first) (B.one_marking_law s.second) };
+    ghost one_marking_law = { λ s. both_marked_once C.code (A.holds s.first) (B.holds s.second)
+        (A.marked s.first) (B.marked s.second) (A.one_marking_law s.first)
+        (B.one_marking_law s.second) };
 }

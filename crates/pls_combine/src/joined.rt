@@ -46,7 +46,8 @@ pub(crate) fn joined_labels<C: NumCode>(
     requires { length fronts.now ≡ length backs.now }
     ensures joined { IfOk result (EachJoined C.code fronts.now backs.now) }
     ensures coded { IfOk result (λ labels. HasCodes fronts.now) }
-    ensures fit { IfOk result (λ labels. AllFit (joined_at C.code fronts.now backs.now) (length fronts.now)) }
+    ensures fit { IfOk result
+        (λ labels. AllFit (joined_at C.code fronts.now backs.now) (length fronts.now)) }
 {
     let mut labels = LabelStore::blank(alloc, fronts.len())?;
     for i in 0..fronts.len() {

@@ -21,8 +21,7 @@ pub fn is_small<C>(scheme: &AnyScheme<C>)
 #[tactic(auto, using(crate::specs::laws::TextLaws::one_expression))]
 pub fn one_text<C>(one: &AnyScheme<C>, other: &AnyScheme<C>)
     ensures { expression_text one.now ≡ expression_text other.now → one.now ≡ other.now }
-{
-}
+{}
 
 /// The bound of an expression in the gamma code is at most 2^17 bits, in a network within the
 /// limits.

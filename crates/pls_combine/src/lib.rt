@@ -1,4 +1,21 @@
-//! The schemes by their names, and schemes joined by `and` and `or`.
+//! The basic schemes by their names, and schemes joined by `and` and `or`.
+//!
+//! [`Named`] is a basic scheme by its [`SchemeName`]: its calls are those of the scheme that it
+//! names. What a name means stands in `specs/Named`, one line a scheme for the property, the
+//! verdict, the labels and their length, so that a new basic scheme is named here and nowhere else.
+//!
+//! [`Both`] and [`OneOf`] are the conjunction and the disjunction of any two schemes, by the laws of
+//! the traits alone. A node lends each part of a view to the scheme of the part
+//! ([`FirstPart`], [`SecondPart`], [`Rest`]) and copies no label.
+//!
+//! [`AnyScheme`] is an expression of names as a scheme, seen as the expression
+//! (`specs/Expression`: `HasProperty`, `judge_of`, `IsMarked`, `longest_of`, by its cases), which
+//! [`read_scheme`] reads and [`print_scheme`] writes (`specs/ExpressionText`: `expression_text`).
+//! Code above goes through this type.
+//!
+//! Further definitions stand in `specs/`: `Combined` has the verdicts of combinations, `Parts`,
+//! `Joined` and `Tagged` their labels. Proofs may cite `specs/laws/` (`ExpressionLaws`, `TextLaws`)
+//! and of `proofs/` how long labels are (`Bounds`).
 #![tactic(auto)]
 
 mod any_scheme;

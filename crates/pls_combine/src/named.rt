@@ -184,7 +184,11 @@ impl<C: NumCode> Scheme for Named<C> {
 }
 
 // Whether bits are of the layout of a scheme.
-fn is_label<C: NumCode>(alloc: Global, scheme: SchemeName, bits: &Bits<'_>) -> Result<bool, NoMemory>
+fn is_label<C: NumCode>(
+    alloc: Global,
+    scheme: SchemeName,
+    bits: &Bits<'_>,
+) -> Result<bool, NoMemory>
     ensures { IfOk result (λ yes. IsTrue yes ↔ IsNamedLabel C.code scheme bits.now) }
 {
     let bits = bits.again();

@@ -39,7 +39,8 @@ impl<A: Checker, B: Checker> Checker for OneOf<A, B> {
     ghost use Rattle.pls_combine.specs.Combined.{judge_one_of};
     ghost use Rattle.pls_combine.specs.laws.LeafLaws.{judge_one_of-leaf};
 
-    ghost judge = { λ s view. judge_one_of (A.judge s.first) (A.leaves s.first) (B.judge s.second) view };
+    ghost judge = { λ s view. judge_one_of (A.judge s.first) (A.leaves s.first) (B.judge s.second)
+        view };
 
     ghost leaves = { λ s. A.leaves s.first + B.leaves s.second };
 
@@ -77,7 +78,8 @@ impl<A: Checker, B: Checker> Checker for OneOf<A, B> {
         }
     }
 
-    ghost leaf_law = { λ s view. judge_one_of-leaf (A.judge s.first) (A.leaves s.first) (B.judge s.second) (B.leaves s.second) (A.leaf_law s.first) (B.leaf_law s.second) view };
+    ghost leaf_law = { λ s view. judge_one_of-leaf (A.judge s.first) (A.leaves s.first)
+        (B.judge s.second) (B.leaves s.second) (A.leaf_law s.first) (B.leaf_law s.second) view };
 
     ghost lends_law = { λ s no. absurd (cc) };
 }

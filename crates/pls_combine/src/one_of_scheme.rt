@@ -41,8 +41,8 @@ impl<A: Scheme, B: Scheme> Scheme for OneOf<A, B> {
 
     ghost writable = { λ s label. CanBeTagged (A.writable s.first) (B.writable s.second) label };
 
-    ghost marked = { λ s rows labels.
-        AreOneOf (A.holds s.first) (A.marked s.first) (B.marked s.second) rows labels };
+    ghost marked = { λ s rows labels. AreOneOf (A.holds s.first) (A.marked s.first)
+        (B.marked s.second) rows labels };
 
     ghost longest = { λ s size. longest_one_of (A.longest s.first size) (B.longest s.second size) };
 
@@ -92,13 +92,21 @@ impl<A: Scheme, B: Scheme> Scheme for OneOf<A, B> {
         Ok(Some(labels))
     }
 
-    ghost reads_back_law = { λ s label. tagged_has_spelling (A.layout s.first) (B.layout s.second) (A.writable s.first) (B.writable s.second) (A.reads_back_law s.first) (B.reads_back_law s.second) label };
+    ghost reads_back_law = { λ s label. tagged_has_spelling (A.layout s.first) (B.layout s.second)
+        (A.writable s.first) (B.writable s.second) (A.reads_back_law s.first)
+        (B.reads_back_law s.second) label };
 
-    ghost one_spelling_law = { λ s label a b. tagged_spelling (A.layout s.first) (B.layout s.second) (A.one_spelling_law s.first) (B.one_spelling_law s.second) label a b };
+    ghost one_spelling_law = { λ s label a b. tagged_spelling (A.layout s.first) (B.layout s.second)
+        (A.one_spelling_law s.first) (B.one_spelling_law s.second) label a b };
 
-    ghost one_label_law = { λ s bits a b. one_tagged (A.layout s.first) (B.layout s.second) (A.one_label_law s.first) (B.one_label_law s.second) bits a b };
+    ghost one_label_law = { λ s bits a b. one_tagged (A.layout s.first) (B.layout s.second)
+        (A.one_label_law s.first) (B.one_label_law s.second) bits a b };
 
-    ghost sound_law = { λ s rows labels. one_of_sound (A.judge s.first) (A.leaves s.first) (B.judge s.second) (A.holds s.first) (B.holds s.second) (A.sound_law s.first) (B.sound_law s.second) rows labels };
+    ghost sound_law = { λ s rows labels. one_of_sound (A.judge s.first) (A.leaves s.first)
+        (B.judge s.second) (A.holds s.first) (B.holds s.second) (A.sound_law s.first)
+        (B.sound_law s.second) rows labels };
 
-    ghost one_marking_law = { λ s. one_of_marked_once (A.holds s.first) (B.holds s.second) (A.marked s.first) (B.marked s.second) (A.one_marking_law s.first) (B.one_marking_law s.second) };
+    ghost one_marking_law = { λ s. one_of_marked_once (A.holds s.first) (B.holds s.second)
+        (A.marked s.first) (B.marked s.second) (A.one_marking_law s.first)
+        (B.one_marking_law s.second) };
 }

@@ -68,8 +68,10 @@ pub(crate) fn verify_tree<C: NumCode>(
     view: &View<'_>,
 ) -> Result<Verdict, NoMemory>
     requires { leaves_of (expression_of tree.now) ≤ 8 }
-    ensures verdict { IfOk result (λ verdict. verdict ≡ judge_of C.takes (expression_of tree.now) view.now) }
-    ensures lent { lends_of (expression_of tree.now) ≡ true → length view.now.ports ≤ 8 → IsOk result }
+    ensures verdict { IfOk result
+        (λ verdict. verdict ≡ judge_of C.takes (expression_of tree.now) view.now) }
+    ensures lent { lends_of (expression_of tree.now) ≡ true → length view.now.ports ≤ 8
+        → IsOk result }
 {
     match tree {
         SchemeTree::Basic(name) => Named::<C>::new(*name).verify(alloc, view, &mut Steps::new()),
@@ -145,16 +147,18 @@ pub(crate) fn mark_tree<C: NumCode>(
     net: &Network,
 ) -> Result<Option<LabelStore>, NoMemory>
     requires { IsConnected net.now }
-    ensures lacking { IfOk result (λ found. IfNone found (HasProperty (expression_of tree.now) net.now → ⊥)) }
-    ensures holds { IfOk result (λ found. IfSome found (λ labels. HasProperty (expression_of tree.now) net.now)) }
+    ensures lacking { IfOk result (λ found. IfNone found
+        (HasProperty (expression_of tree.now) net.now → ⊥)) }
+    ensures holds { IfOk result (λ found. IfSome found
+        (λ labels. HasProperty (expression_of tree.now) net.now)) }
     ensures marked { IfOk result (λ found. IfSome found
         (λ labels. IsMarked C.code (expression_of tree.now) net.now labels)) }
     ensures each { IfOk result (λ found. IfSome found
         (λ labels. length labels ≡ length net.now)) }
     ensures accepted { IfOk result (λ found. IfSome found
         (λ labels. AllAccept (judge_of C.takes (expression_of tree.now)) net.now labels)) }
-    ensures short { IfOk result (λ found. IfSome found (λ labels.
-        All (λ label. length label ≤ answered (longest_of C.code (expression_of tree.now) (size_of net.now))) labels)) }
+    ensures short { IfOk result (λ found. IfSome found (λ labels. All (λ label. length label
+        ≤ answered (longest_of C.code (expression_of tree.now) (size_of net.now))) labels)) }
 {
     match tree {
         SchemeTree::Basic(name) => Named::<C>::new(*name).mark(alloc, net),

@@ -1,6 +1,6 @@
 -- What stands at the front of a text: an expression with so many levels below it, read from the
 -- left.
-use Rattle.std.specs.Prelude.{ℕ, zero, suc, ◌+◌, ◌≤◌, ◌==◌, nat_le, nat_lt, min, List, [], ◌∷◌, length, codes, Option, Some, None, option_map, option_and_then, if◌then◌else◌}
+use Rattle.std.specs.Prelude.{ℕ, zero, suc, ◌==◌, nat_le, nat_lt, min, List, [], ◌∷◌, length, codes, Option, Some, None, option_map, option_and_then, if◌then◌else◌}
 use Rattle.std.specs.Borrow.{Bor}
 use Rattle.std.specs.Option.{option_or}
 use Rattle.pls_combine.specs.declared.fronts.Join.{Join}
@@ -12,7 +12,6 @@ use Rattle.pls_combine.specs.declared.scheme_name.SchemeName.TheVariants.{Acycli
 use Rattle.pls_combine.specs.declared.scheme_tree.SchemeTree.{SchemeTree}
 use Rattle.pls_combine.specs.Expression.{Expression, And, Basic, Or, leaves_of}
 use Rattle.pls_combine.specs.ExpressionText.{deepest}
-use Rattle.pls_combine.specs.SchemeWord.{name_of}
 use Rattle.pls_combine.specs.inner.Trees.{expression_of}
 
 -- something at the front of a text, and what follows it

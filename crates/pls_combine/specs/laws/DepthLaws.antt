@@ -1,19 +1,13 @@
 -- How deep parentheses stand in the text of an expression.
-use Rattle.std.proofs.Common.{◌≡◌, ◌∙◌, ◌↔◌, ◌⊎◌, inl, inr, ℕ, zero, suc, ◌+◌, ◌-◌, ◌<◌, ◌≤◌, ◌==◌, ◌++◌, ◌&&◌, max, not, nat_le, le-leb, Bool, true, false, List, [], ◌∷◌, length, codes, Option, Some, None, option_map, if◌then◌else◌, refl, sym, ap, subst, arith}
+use Rattle.std.proofs.Common.{◌≡◌, ◌∙◌, ◌↔◌, ℕ, ◌+◌, ◌-◌, ◌<◌, ◌≤◌, ◌==◌, ◌++◌, ◌&&◌, max, not, Bool, true, false, List, [], ◌∷◌, codes, if◌then◌else◌, refl, sym, ap, arith}
 use Rattle.std.specs.List.{list_all}
-use Rattle.std.specs.Option.{option_and_then, option_or}
-use Rattle.std.proofs.lemmas.Bool.{and_parts, eq-eqb, eqb-true, leb-true}
-use Rattle.std.proofs.lemmas.List.{append-nil, append_assoc}
-use Rattle.std.proofs.lemmas.Option.{option_and_then_some, same_Some}
-use Rattle.pls_combine.specs.declared.fronts.Join.{Join}
-use Rattle.pls_combine.specs.declared.fronts.Join.TheVariants.{Both, Either}
+use Rattle.std.proofs.lemmas.Bool.{and_parts}
+use Rattle.std.proofs.lemmas.List.{append-nil}
 use Rattle.pls_combine.specs.declared.scheme_name.SchemeName.{SchemeName}
 use Rattle.pls_combine.specs.declared.scheme_name.SchemeName.TheVariants.{Acyclic, Bipartite, Count, Forest, Leader, ShortestPathTree, Tree}
-use Rattle.pls_combine.specs.Expression.{Expression, And, Basic, IsSmall, Or, depth_of, leaves_of}
+use Rattle.pls_combine.specs.Expression.{Expression, And, Basic, Or, depth_of}
 use Rattle.pls_combine.specs.ExpressionText.{IsTooDeep, deepest, depth_after, expression_text}
 use Rattle.pls_combine.specs.SchemeWord.{name_of}
-use Rattle.pls_combine.specs.inner.Fronts.{Front, after, close_front, expression_front, expression_in, followed, join_front, joined, name_front, pair_front, scheme_in, second_front, alone, worded}
-
 use Rattle.pls_combine.specs.laws.FrontLaws.{behind_opening, deep_some, pair_onto}
 
 -- characters among which there is no parenthesis

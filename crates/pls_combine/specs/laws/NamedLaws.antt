@@ -1,5 +1,5 @@
 -- The laws of schemes, for the named ones: those of each by its name.
-use Rattle.std.proofs.Common.{◌≡◌, ◌∙◌, ℕ, Bool, List, Option, sym, refl}
+use Rattle.std.proofs.Common.{◌∙◌, ℕ, Bool, List, Option, sym, refl}
 use Rattle.pls_scheme.specs.SchemeLaws.{AreOneLabel, HasSpellings, HaveOneSpelling, IsMarkedOnce, IsSound, LeavesWithin}
 use Rattle.pls_scheme.specs.laws.LeafLaws.{judge_by-leaf}
 use Rattle.pls_scheme.specs.Numbers.{label_in}

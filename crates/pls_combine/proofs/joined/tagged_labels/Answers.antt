@@ -1,4 +1,4 @@
-use Rattle.std.proofs.Common.{◌≡◌, ◌∙◌, ◌+◌, ◌∷◌, ℕ, [], length, set, get_or, ap, subst, Bool, List, arith, refl}
+use Rattle.std.proofs.Common.{◌≡◌, ◌∙◌, [], length, set, get_or, ap, subst, Bool, List, arith, refl}
 use Rattle.std.proofs.lemmas.List.{length-set}
 use Rattle.std.proofs.lemmas.Option.{get_or_from_slice_get}
 use Rattle.pls_combine.specs.Tagged.{tagged_at}

@@ -1,8 +1,8 @@
 use Rattle.std.proofs.Common.{◌≡◌, ◌∙◌, None, Some, inr, sym, ap, refl, subst}
 use Rattle.pls_combine.specs.declared.scheme_error.SchemeError.TheVariants.{NotAScheme, TooDeep, TooMany}
 use Rattle.pls_combine.specs.ExpressionText.{HasTooMany, IsNoExpression, IsTooDeep, expression_text}
-use Rattle.pls_combine.specs.Expression.{Expression, IsSmall}
-use Rattle.pls_combine.specs.inner.Fronts.{expression_in, refusal_of}
+use Rattle.pls_combine.specs.Expression.{IsSmall}
+use Rattle.pls_combine.specs.inner.Fronts.{refusal_of}
 use Rattle.pls_combine.specs.inner.Trees.{expression_of}
 use Rattle.std.proofs.lemmas.Option.{same_Some}
 use Rattle.pls_combine.specs.laws.TextLaws.{expression_in-is}
