@@ -1,1 +1,5 @@
+pub mod Levels
+pub mod Comparisons
+pub mod MorePorts
+pub mod Written
 pub mod Worked

@@ -1,2 +1,4 @@
 pub mod Labels
 pub mod Rules
+pub mod inner
+pub mod laws

@@ -2,7 +2,16 @@
 //! that they chose, and how a network is marked.
 #![tactic(auto)]
 
+mod comparing;
+mod gathering;
 mod label;
+mod layout;
+mod mst;
+mod reading;
 
+pub use comparing::{Between, Compared};
+pub use gathering::Gathered;
 pub use label::{MstHead, MstLabel};
+pub use layout::MstLayout;
+pub use mst::{Mst, MstRules};
 pub use pls_boruvka::{Level, LevelList};

@@ -1,0 +1,4 @@
+-- What private functions say to each other.
+pub mod Reading
+pub mod Comparing
+pub mod Gathering
