@@ -1,1 +1,7 @@
 pub mod LabelLaws
+pub mod Fragments
+pub mod Levelwise
+pub mod Kept
+pub mod TreeEdges
+pub mod Sound
+pub mod MstLaws

@@ -5,6 +5,7 @@
 mod comparing;
 mod gathering;
 mod label;
+mod laws;
 mod layout;
 mod mst;
 mod reading;
@@ -12,6 +13,7 @@ mod reading;
 pub use comparing::{Between, Compared};
 pub use gathering::Gathered;
 pub use label::{MstHead, MstLabel};
+pub use laws::mst_sound;
 pub use layout::MstLayout;
 pub use mst::{Mst, MstRules};
 pub use pls_boruvka::{Level, LevelList};
