@@ -5,4 +5,8 @@ pub mod Kept
 pub mod TreeEdges
 pub mod Passed
 pub mod Sound
+pub mod JoinedPointers
+pub mod ChosenLevels
+pub mod LevelRules
+pub mod OneLevels
 pub mod MstLaws

@@ -1,14 +1,34 @@
 -- The theorem of the scheme `mst`.
-use Rattle.std.proofs.Common.{ℕ, Bool, List, Contains, Option}
+use Rattle.std.proofs.Common.{◌≡◌, ◌∙◌, ℕ, Bool, List, [], map, Contains, Option, Some, None, refl, sym, ap, subst}
+use Rattle.pls_model.specs.declared.row.Port.{Port}
 use Rattle.pls_model.specs.declared.row.NodeRow.{NodeRow}
-use Rattle.pls_scheme.specs.SchemeLaws.{IsSound}
-use Rattle.pls_scheme.specs.Theorem.{RulesShow}
-use Rattle.pls_scheme.specs.laws.Marking.{sound_by}
+use Rattle.pls_model.specs.Configuration.{IsNetwork, ids_of}
+use Rattle.pls_model.specs.Walk.{edges_of}
+use Rattle.pls_scheme.specs.SchemeLaws.{IsMarkedOnce, IsSound}
+use Rattle.pls_scheme.specs.Theorem.{OneIsRight, RulesAreMet, RulesShow}
+use Rattle.pls_scheme.specs.laws.Marking.{marked_once, sound_by}
+use Rattle.pls_facts.specs.EdgeOrder.{ComesBefore}
 use Rattle.pls_facts.specs.MinimumSpanningTree.{IsMinimumSpanningTree}
-use Rattle.pls_mst.specs.Labels.{mst_label}
+use Rattle.pls_facts.specs.Pointer.{Falls, IsChainOf, pointed_port}
+use Rattle.pls_facts.specs.SpanningTree.{pointed_edges}
+use Rattle.pls_facts.proofs.ChainDepths.{chain_of_root, chains_fall}
+use Rattle.pls_facts.proofs.Chains.{IsChainOf-one}
+use Rattle.pls_facts.proofs.EdgeKeys.{ComesBefore-order}
+use Rattle.pls_facts.proofs.Pointed.{id_of_row, row_from_id}
+use Rattle.pls_facts.proofs.PortEdges.{IsGraph-network}
+use Rattle.pls_facts.proofs.Roots.{a_root, one_root_of}
+use Rattle.pls_boruvka.specs.Boruvka.{AreChainLengths, AreLevels}
+use Rattle.pls_boruvka.specs.declared.level.Level.{Level}
+use Rattle.pls_mst.specs.declared.label.MstLabel.{MstLabel}
+use Rattle.pls_mst.specs.Labels.{IsMstLabel, mst_label}
+use Rattle.pls_mst.specs.Mst.{AreLevelsOf, IsMstMarked, MstSays}
 use Rattle.pls_mst.specs.Rules.{judge_mst, mst_rules}
 use Rattle.pls_mst.specs.laws.Fragments.{KeepsRules}
 use Rattle.pls_mst.specs.laws.Kept.{kept_rules}
+use Rattle.pls_mst.specs.laws.LabelLaws.{one_mst_spelling}
+use Rattle.pls_mst.specs.laws.LevelRules.{AreSaid, KeepsRules-levels}
+use Rattle.pls_mst.specs.laws.OneLevels.{one_levels}
+use Rattle.pls_mst.specs.laws.Passed.{rules_pass}
 use Rattle.pls_mst.specs.laws.Sound.{IsLightest-fragments, IsTree-fragments}
 
 -- where the rules hold everywhere in a connected network, the pointers make a spanning tree, and
@@ -26,3 +46,116 @@ mst_show rows net joined say hold = record {
 pub mst_sound : (takes : List Bool → Option (ℕ × List Bool))
     → IsSound (judge_mst takes) IsMinimumSpanningTree
 mst_sound takes = sound_by (mst_label takes) mst_rules IsMinimumSpanningTree mst_show
+
+module _ (rows : List NodeRow) (net : IsNetwork rows) where
+  -- chains have one length
+  one_depth : (depth other : ℕ → ℕ) → AreChainLengths rows depth → AreChainLengths rows other
+      → (u : ℕ) → Contains (ids_of rows) u → depth u ≡ other u
+  one_depth depth other deep also u u_in =
+      let (row, in', named) : (row : NodeRow) × Contains rows row × (row.id ≡ u) =
+      row_from_id rows u u_in in
+      subst (λ (u : ℕ). depth u ≡ other u) named
+      (IsChainOf-one rows row.id (deep row in').0 (also row in').0 (depth row.id) (other row.id)
+      (deep row in').1 (also row in').1).1
+
+  -- levels that are of a node are what any levels of the rows say of it
+  same_levels : (row : NodeRow) → Contains rows row → (list : List Level)
+      → AreLevelsOf rows row.id list → (depth : ℕ → ℕ) (levels : List (ℕ → Level))
+      → AreChainLengths rows depth → AreLevels rows depth levels
+      → list ≡ map (λ level. level row.id) levels
+  same_levels row in' list of depth levels deep are =
+      of.said ∙ one_levels (edges_of rows) (ids_of rows) (IsGraph-network rows net)
+      (ComesBefore (pointed_edges rows)) (ComesBefore-order (pointed_edges rows)) of.depth depth
+      (one_depth of.depth depth of.deep deep) [] of.levels levels of.are are row.id
+      (id_of_row rows row in')
+
+-- where what is said is right, the rules hold
+pub mst_met : RulesAreMet mst_rules IsMinimumSpanningTree MstSays
+mst_met rows net joined holds say right row in' =
+    rules_pass say row (KeepsRules-levels rows net holds.tree holds.lightest depth falls at_root
+    root.0.id root_named levels are say said row in')
+  where
+    root : (row : NodeRow) × Contains rows row × (row.state.up ≡ None)
+    root = a_root rows holds.tree.one_root
+
+    some : AreLevelsOf rows root.0.id (say root.0.id).levels
+    some = (right root.0 root.1).levels
+
+    depth : ℕ → ℕ
+    depth = some.depth
+
+    levels : List (ℕ → Level)
+    levels = some.levels
+
+    are : AreLevels rows depth levels
+    are = some.are
+
+    falls : Falls rows depth
+    falls = chains_fall rows net depth some.deep
+
+    at_root : (row : NodeRow) → Contains rows row → row.state.up ≡ None → depth row.id ≡ 0
+    at_root row in' none = chain_of_root rows net row in' none (some.deep row in').0 (depth row.id)
+        (some.deep row in').1
+
+    root_named : (row : NodeRow) → Contains rows row → row.state.up ≡ None → root.0.id ≡ row.id
+    root_named row in' none = ap (λ (row : NodeRow). row.id)
+        (one_root_of rows holds.tree.one_root root.0 row root.1 in' root.2 none)
+
+    said : AreSaid rows say root.0.id depth levels
+    said = record {
+      root = λ row in'. ((right row in').root root.0 root.1 root.2).0;
+      own = λ row in'. (right row in').own;
+      parent = λ row port in'. (right row in').parent port;
+      parent_of_root = λ row in'. (right row in').own_parent;
+      depth = λ row in'.
+          (IsChainOf-one rows row.id root.0.id (some.deep row in').0 (say row.id).depth
+          (depth row.id) ((right row in').root root.0 root.1 root.2).1 (some.deep row in').1).1;
+      levels = λ row in'. same_levels rows net row in' (say row.id).levels (right row in').levels
+          depth levels some.deep are;
+    }
+
+-- one label is right for a node
+pub mst_one_right : OneIsRight IsMinimumSpanningTree MstSays
+mst_one_right rows net joined holds row one other in' mine theirs =
+    same_label (mine.own ∙ sym theirs.own)
+    (here.0 ∙ sym there.0) (parents (pointed_port row) refl)
+    (IsChainOf-one rows row.id root.0.id root.0.id one.depth other.depth here.1 there.1).1
+    (same_levels rows net row in' one.levels mine.levels theirs.levels.depth theirs.levels.levels
+    theirs.levels.deep theirs.levels.are ∙ sym theirs.levels.said)
+  where
+    root : (row : NodeRow) × Contains rows row × (row.state.up ≡ None)
+    root = a_root rows holds.tree.one_root
+
+    here : (one.root ≡ root.0.id) × IsChainOf rows row.id root.0.id one.depth
+    here = mine.root root.0 root.1 root.2
+
+    there : (other.root ≡ root.0.id) × IsChainOf rows row.id root.0.id other.depth
+    there = theirs.root root.0 root.1 root.2
+
+    parents : (pointed : Option Port) → pointed_port row ≡ pointed → one.parent ≡ other.parent
+    parents None is = mine.own_parent is ∙ sym (theirs.own_parent is)
+    parents (Some port) is = mine.parent port is ∙ sym (theirs.parent port is)
+
+    same_label : one.own ≡ other.own → one.root ≡ other.root → one.parent ≡ other.parent
+        → one.depth ≡ other.depth → one.levels ≡ other.levels → one ≡ other
+    same_label own root parent depth levels =
+        ap (λ (own : ℕ). label_of one.root own one.parent one.depth one.levels) own
+        ∙ ap (λ (root : ℕ). label_of root other.own one.parent one.depth one.levels) root
+        ∙ ap (λ (parent : ℕ). label_of other.root other.own parent one.depth one.levels) parent
+        ∙ ap (λ (depth : ℕ). label_of other.root other.own other.parent depth one.levels) depth
+        ∙ ap (label_of other.root other.own other.parent other.depth) levels
+      where
+        label_of : ℕ → ℕ → ℕ → ℕ → List Level → MstLabel
+        label_of root own parent depth levels = record {
+          root = root;
+          own = own;
+          parent = parent;
+          depth = depth;
+          levels = levels;
+        }
+
+-- a network is marked in one way
+pub mst_marked_once : (code : ℕ → List Bool)
+    → IsMarkedOnce IsMinimumSpanningTree (IsMstMarked code)
+mst_marked_once code = marked_once (IsMstLabel code) IsMinimumSpanningTree MstSays
+    (one_mst_spelling code) mst_one_right
