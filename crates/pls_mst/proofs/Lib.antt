@@ -2,4 +2,5 @@ pub mod Levels
 pub mod Comparisons
 pub mod MorePorts
 pub mod Written
+pub mod Logarithm
 pub mod Worked

@@ -2,3 +2,4 @@
 pub mod Reading
 pub mod Comparing
 pub mod Gathering
+pub mod Making

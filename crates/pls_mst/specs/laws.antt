@@ -9,4 +9,5 @@ pub mod JoinedPointers
 pub mod ChosenLevels
 pub mod LevelRules
 pub mod OneLevels
+pub mod Fits
 pub mod MstLaws

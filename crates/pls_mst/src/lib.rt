@@ -8,6 +8,7 @@ mod label;
 mod laws;
 mod layout;
 mod mst;
+mod mst_scheme;
 mod reading;
 
 pub use comparing::{Between, Compared};

@@ -1,28 +1,37 @@
 -- The theorem of the scheme `mst`.
-use Rattle.std.proofs.Common.{◌≡◌, ◌∙◌, ℕ, Bool, List, [], map, Contains, Option, Some, None, refl, sym, ap, subst}
+use Rattle.std.proofs.Common.{◌≡◌, ◌∙◌, ℕ, ◌^◌, ◌≤◌, Bool, List, [], map, length, Contains, Option, Some, None, refl, sym, ap, subst, arith}
+use Rattle.std.specs.List.{flat_map}
+use Rattle.std.proofs.lemmas.List.{length-map}
+use Rattle.pls_bits.specs.NumberCode.{Grows, IsShort}
 use Rattle.pls_model.specs.declared.row.Port.{Port}
 use Rattle.pls_model.specs.declared.row.NodeRow.{NodeRow}
 use Rattle.pls_model.specs.Configuration.{IsNetwork, ids_of}
-use Rattle.pls_model.specs.Walk.{edges_of}
+use Rattle.pls_model.specs.Walk.{Edge, edges_of}
+use Rattle.pls_graph.specs.Size.{size_of}
 use Rattle.pls_scheme.specs.SchemeLaws.{IsMarkedOnce, IsSound}
-use Rattle.pls_scheme.specs.Theorem.{OneIsRight, RulesAreMet, RulesShow}
+use Rattle.pls_scheme.specs.Theorem.{OneIsRight, RightFits, RulesAreMet, RulesShow}
 use Rattle.pls_scheme.specs.laws.Marking.{marked_once, sound_by}
+use Rattle.pls_scheme.proofs.Fitting.{AreWithin}
 use Rattle.pls_facts.specs.EdgeOrder.{ComesBefore}
 use Rattle.pls_facts.specs.MinimumSpanningTree.{IsMinimumSpanningTree}
 use Rattle.pls_facts.specs.Pointer.{Falls, IsChainOf, pointed_port}
 use Rattle.pls_facts.specs.SpanningTree.{pointed_edges}
+use Rattle.pls_facts.proofs.Bounded.{IsChainOf-short}
 use Rattle.pls_facts.proofs.ChainDepths.{chain_of_root, chains_fall}
 use Rattle.pls_facts.proofs.Chains.{IsChainOf-one}
 use Rattle.pls_facts.proofs.EdgeKeys.{ComesBefore-order}
+use Rattle.pls_facts.proofs.Neighbours.{id_within, neighbour_row}
 use Rattle.pls_facts.proofs.Pointed.{id_of_row, row_from_id}
 use Rattle.pls_facts.proofs.PortEdges.{IsGraph-network}
 use Rattle.pls_facts.proofs.Roots.{a_root, one_root_of}
 use Rattle.pls_boruvka.specs.Boruvka.{AreChainLengths, AreLevels}
 use Rattle.pls_boruvka.specs.declared.level.Level.{Level}
+use Rattle.pls_boruvka.proofs.Halving.{few_levels}
 use Rattle.pls_mst.specs.declared.label.MstLabel.{MstLabel}
-use Rattle.pls_mst.specs.Labels.{IsMstLabel, mst_label}
-use Rattle.pls_mst.specs.Mst.{AreLevelsOf, IsMstMarked, MstSays}
+use Rattle.pls_mst.specs.Labels.{AreOrdered, IsMstLabel, IsMstWritable, mst_label, numbers_of_level}
+use Rattle.pls_mst.specs.Mst.{AreLevelsOf, IsMstMarked, MstSays, longest_mst}
 use Rattle.pls_mst.specs.Rules.{judge_mst, mst_rules}
+use Rattle.pls_mst.specs.laws.Fits.{label_fits, levels_within, limits_of}
 use Rattle.pls_mst.specs.laws.Fragments.{KeepsRules}
 use Rattle.pls_mst.specs.laws.Kept.{kept_rules}
 use Rattle.pls_mst.specs.laws.LabelLaws.{one_mst_spelling}
@@ -30,6 +39,7 @@ use Rattle.pls_mst.specs.laws.LevelRules.{AreSaid, KeepsRules-levels}
 use Rattle.pls_mst.specs.laws.OneLevels.{one_levels}
 use Rattle.pls_mst.specs.laws.Passed.{rules_pass}
 use Rattle.pls_mst.specs.laws.Sound.{IsLightest-fragments, IsTree-fragments}
+use Rattle.pls_mst.specs.laws.TreeEdges.{pointed_has}
 
 -- where the rules hold everywhere in a connected network, the pointers make a spanning tree, and
 -- none weighs less
@@ -159,3 +169,54 @@ pub mst_marked_once : (code : ℕ → List Bool)
     → IsMarkedOnce IsMinimumSpanningTree (IsMstMarked code)
 mst_marked_once code = marked_once (IsMstLabel code) IsMinimumSpanningTree MstSays
     (one_mst_spelling code) mst_one_right
+
+-- what is right can be written, and is short
+pub mst_fits : (code : ℕ → List Bool) → Grows code → IsShort code
+    → RightFits (IsMstLabel code) IsMstWritable IsMinimumSpanningTree MstSays (longest_mst code)
+mst_fits code grows short rows net joined holds words say right row in' =
+    let within : AreWithin (flat_map numbers_of_level (map (λ level. level row.id) levels))
+    (limits_of (size_of rows) (length levels))
+    × AreOrdered (map (λ level. level row.id) levels) =
+    levels_within rows net words (ComesBefore tree) is.levels.depth row.id known [] levels
+    is.levels.are in
+    label_fits rows net words code grows short (say row.id) (length levels)
+    (ap length is.levels.said ∙ length-map levels (λ (level : ℕ → Level). level row.id))
+    (omega (arith, few, length-map rows (λ (row : NodeRow). row.id)))
+    (omega (arith, here.0, id_within rows root.0 root.1))
+    (omega (arith, is.own, id_within rows row in')) (parent_within (pointed_port row) refl)
+    (let below = IsChainOf-short rows net row.id root.0.id (say row.id).depth here.1 in
+    omega (arith, below))
+    (subst (λ (list : List Level). AreWithin (flat_map numbers_of_level list)
+    (limits_of (size_of rows) (length levels))) (sym is.levels.said) within.0)
+    (subst AreOrdered (sym is.levels.said) within.1)
+  where
+    tree : List Edge
+    tree = pointed_edges rows
+
+    root : (row : NodeRow) × Contains rows row × (row.state.up ≡ None)
+    root = a_root rows holds.tree.one_root
+
+    is : MstSays rows row (say row.id)
+    is = right row in'
+
+    here : ((say row.id).root ≡ root.0.id) × IsChainOf rows row.id root.0.id (say row.id).depth
+    here = is.root root.0 root.1 root.2
+
+    levels : List (ℕ → Level)
+    levels = is.levels.levels
+
+    known : Contains (ids_of rows) row.id
+    known = id_of_row rows row in'
+
+    few : 2 ^ length levels ≤ length (ids_of rows)
+    few = few_levels (edges_of rows) (ids_of rows) (IsGraph-network rows net) (ComesBefore tree)
+        is.levels.depth [] levels row.id known is.levels.are
+
+    parent_within : (pointed : Option Port) → pointed_port row ≡ pointed
+        → (say row.id).parent ≤ (size_of rows).max_id
+    parent_within None none = omega (arith, is.own_parent none, id_within rows row in')
+    parent_within (Some port) pointed =
+        let (other, other_in, named) : (other : NodeRow) × Contains rows other
+        × (other.id ≡ port.nbr) =
+        neighbour_row rows net row in' port (pointed_has row port pointed) in
+        omega (arith, is.parent port pointed, named, id_within rows other other_in)
