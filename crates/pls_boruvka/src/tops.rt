@@ -73,6 +73,7 @@ fn note_top(
     start: usize,
     top: usize,
 )
+    requires within { start < length parents.now }
     requires each { length joined.now ≡ length parents.now }
     requires falls { HasDepths parents.now }
     requires top { IsTop parents.now joined.now start top }

@@ -9,6 +9,7 @@ use Rattle.pls_facts.specs.EdgeOrder.{edge_key}
 use Rattle.pls_facts.specs.Precedes.{IsAtMost}
 use Rattle.pls_facts.specs.SpanningTree.{edge_at, pointed_edge, pointed_edges}
 use Rattle.pls_boruvka.specs.declared.choice.Choice.{Choice}
+use Rattle.pls_boruvka.specs.inner.Tops.{parent_at}
 
 -- the edge
 abbrev pub edge_of : Choice → Edge
@@ -40,11 +41,11 @@ choice_at id port child = record {
 
 -- of two places the one whose parent is the other, or neither is
 abbrev pub ChildOf : List (Option ℕ) → ℕ → ℕ → Option ℕ → Type 0
-ChildOf parents place other None = (slice_index_or parents place None ≢ Some other)
-    × (slice_index_or parents other None ≢ Some place)
+ChildOf parents place other None =
+    (parent_at parents place ≢ Some other) × (parent_at parents other ≢ Some place)
 ChildOf parents place other (Some child) =
-    ((child ≡ place) × (slice_index_or parents place None ≡ Some other))
-    ⊎ ((child ≡ other) × (slice_index_or parents other None ≡ Some place))
+    ((child ≡ place) × (parent_at parents place ≡ Some other))
+    ⊎ ((child ≡ other) × (parent_at parents other ≡ Some place))
 
 -- the top of a place
 abbrev pub top_at : List ℕ → ℕ → ℕ
@@ -60,7 +61,7 @@ pub record LeavesAt (rows : List NodeRow) (tops : List ℕ) (place count : ℕ) 
   pub has : slice_get row.ports number ≡ Some port
   pub early : number < count
   pub apart : top_at tops (place_in rows port.nbr) ≢ top_at tops place
-  pub choice : IsChoice rows (edge_at row port) choice
+  pub right : IsChoice rows (edge_at row port) choice
 
 -- an edge at any of its ports does
 abbrev pub LeavesPlace : List NodeRow → List ℕ → ℕ → Choice → Type 0

@@ -6,6 +6,7 @@ use Rattle.pls_boruvka.specs.declared.joining.Chosen.{Chosen}
 use Rattle.pls_boruvka.specs.declared.level.Level.{Level}
 use Rattle.pls_boruvka.specs.Boruvka.{chosen_edge}
 use Rattle.pls_boruvka.specs.inner.Choices.{edge_of, top_at}
+use Rattle.pls_boruvka.specs.inner.Tops.{Each}
 
 -- what the level says of the nodes of a fragment, by its top and by the edge that was found for it
 pub record IsChosen (rows : List NodeRow) (top : ℕ) (choice : Option Choice) (chosen : Chosen)
@@ -28,8 +29,7 @@ found_at tops choices place = slice_index_or choices (top_at tops place) None
 pub record AreChosen (rows : List NodeRow) (tops : List ℕ) (choices : List (Option Choice))
     (all : List Chosen) : Type 0 where
   pub each : length all ≡ length rows
-  pub chosen : (place : ℕ) (one : Chosen) → slice_get all place ≡ Some one
-      → IsChosen rows (top_at tops place) (found_at tops choices place) one
+  pub chosen : Each (λ place. IsChosen rows (top_at tops place) (found_at tops choices place)) all
 
 -- for some place no pointed edge was found
 abbrev pub SomeUnpointed : List ℕ → List (Option Choice) → Type 0
@@ -38,8 +38,7 @@ SomeUnpointed tops choices =
 
 -- the children of chosen edges are places
 abbrev pub AreChildrenWithin : ℕ → List Chosen → Type 0
-AreChildrenWithin size all = (place : ℕ) (one : Chosen) → slice_get all place ≡ Some one
-    → one.child < size
+AreChildrenWithin size all = Each (λ place one. one.child < size) all
 
 -- a place is the child of one of the chosen edges
 abbrev pub IsChild : List Chosen → ℕ → Type 0
