@@ -1,2 +1,4 @@
 pub mod Listed
 pub mod Climbing
+pub mod ChainLengths
+pub mod Placing

@@ -16,9 +16,9 @@ pub fn fragments(alloc: Global, net: &Network, joined: &[bool]) -> Result<Vec<u3
     requires each { length joined.now ≡ length net.now }
     ensures { IfOk result (λ names. AreFragmentNames net.now joined.now names.items) }
 {
+    let mut names = Vec::with_capacity(alloc, net.len())?;
     let parents = parents_of(alloc, net)?;
     let tops = tops_of(alloc, parents.as_slice(), joined)?;
-    let mut names = Vec::with_capacity(alloc, tops.len())?;
     for top in &tops {
         names.push(net.node(*top).0)?;
     }
