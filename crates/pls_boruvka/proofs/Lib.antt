@@ -2,3 +2,5 @@ pub mod Listed
 pub mod Climbing
 pub mod ChainLengths
 pub mod Placing
+pub mod Pointing
+pub mod Firsts
