@@ -1,6 +1,6 @@
 //! The first edge that leaves each fragment: one pass over all ports.
 
-ghost use Rattle.std.specs.Prelude.{◌≡◌, ◌<◌, All, length, IfOk};
+ghost use Rattle.std.specs.Prelude.{◌≡◌, ◌<◌, All, None, length, replicate, IfOk};
 ghost use Rattle.pls_boruvka.specs.inner.Choices.{AreChoices, ChildOf, IsFirstOf, LeavesPlace, choice_at};
 ghost use Rattle.pls_boruvka.specs.inner.Tops.{AreParents};
 
@@ -22,12 +22,19 @@ pub(crate) fn choices_of(
     requires within { All (λ top. top < length net.now) tops.now }
     ensures { IfOk result (λ choices. AreChoices net.now tops.now (length net.now) choices.items) }
 {
-    let mut choices = vec![in alloc; None; net.len()]?;
+    let mut choices = no_choices(alloc, net.len())?;
     for place in 0..net.len() {
         let top = tops[place];
         choices[top] = earlier(choices[top], first_at(net, parents, tops, place));
     }
     Ok(choices)
+}
+
+// Nothing found at so many tops.
+fn no_choices(alloc: Global, count: usize) -> Result<Vec<Option<Choice>>, NoMemory>
+    ensures { IfOk result (λ choices. choices.items ≡ replicate count None) }
+{
+    Ok(vec![in alloc; None; count]?)
 }
 
 // The first of the edges at a node that leave its fragment.
