@@ -60,7 +60,7 @@ fn chosen_at(net: &Network, top: usize, choice: Option<Choice>) -> Option<Chosen
 // Joins the pointers that lie on chosen edges.
 pub(crate) fn join(joined: &mut [bool], all: &[Chosen])
     requires within { AreChildrenWithin (length joined.old) all.now }
-    ensures { JoinChildren all.now joined.old joined.new }
+    ensures { JoinChildren all.now (length all.now) joined.old joined.new }
 {
     for chosen in all {
         joined[chosen.child] = true;
@@ -70,7 +70,7 @@ pub(crate) fn join(joined: &mut [bool], all: &[Chosen])
 // Adds to each list what the level says.
 pub(crate) fn add_level(lists: &mut [LevelList], all: &[Chosen]) -> Result<(), NoMemory>
     requires each { length all.now ≡ length lists.old }
-    ensures { OnOk result (AddLevel all.now lists.old lists.new) }
+    ensures { OnOk result (AddLevel all.now (length all.now) lists.old lists.new) }
 {
     for place in 0..all.len() {
         lists[place].push(all[place].level)?;

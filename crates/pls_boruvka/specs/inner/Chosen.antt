@@ -1,5 +1,5 @@
 -- What a level says of each node, and which pointers its edges join.
-use Rattle.std.specs.Prelude.{◌≡◌, ◌≢◌, ℕ, ◌<◌, ◌⊎◌, ◌↔◌, Bool, true, false, List, [], ◌∷◌, ◌++◌, length, Option, Some, None, slice_get, slice_index_or}
+use Rattle.std.specs.Prelude.{◌≡◌, ◌≢◌, ℕ, ◌<◌, ◌≤◌, ◌⊎◌, ◌↔◌, Bool, true, false, List, [], ◌∷◌, ◌++◌, length, Option, Some, None, slice_get, slice_index_or}
 use Rattle.pls_model.specs.declared.row.NodeRow.{NodeRow}
 use Rattle.pls_boruvka.specs.declared.choice.Choice.{Choice}
 use Rattle.pls_boruvka.specs.declared.joining.Chosen.{Chosen}
@@ -40,22 +40,24 @@ SomeUnpointed tops choices =
 abbrev pub AreChildrenWithin : ℕ → List Chosen → Type 0
 AreChildrenWithin size all = Each (λ place one. one.child < size) all
 
--- a place is the child of one of the chosen edges
-abbrev pub IsChild : List Chosen → ℕ → Type 0
-IsChild all child = (place : ℕ) × (one : Chosen) × (slice_get all place ≡ Some one)
-    × (one.child ≡ child)
+-- a place is the child of one of the first edges that were chosen
+abbrev pub IsChild : List Chosen → ℕ → ℕ → Type 0
+IsChild all count child = (place : ℕ) × (one : Chosen) × (place < count)
+    × (slice_get all place ≡ Some one) × (one.child ≡ child)
 
--- those places are joined that were before, and those that are children
-pub record JoinChildren (all : List Chosen) (old new : List Bool) : Type 0 where
+-- those places are joined that were before, and the children of the first edges that were chosen
+pub record JoinChildren (all : List Chosen) (count : ℕ) (old new : List Bool) : Type 0 where
   pub each : length new ≡ length old
   pub joined : (place : ℕ) → (slice_index_or new place false ≡ true)
-      ↔ ((slice_index_or old place false ≡ true) ⊎ IsChild all place)
+      ↔ ((slice_index_or old place false ≡ true) ⊎ IsChild all count place)
 
--- each list has what the level says behind it
-pub record AddLevel (all : List Chosen) (old new : List (List Level)) : Type 0 where
+-- the first lists have what the level says behind what they had, and the others are as they were
+pub record AddLevel (all : List Chosen) (count : ℕ) (old new : List (List Level)) : Type 0 where
   pub each : length new ≡ length old
-  pub added : (place : ℕ) (one : Chosen) → slice_get all place ≡ Some one
+  pub added : (place : ℕ) (one : Chosen) → place < count → slice_get all place ≡ Some one
       → slice_index_or new place [] ≡ slice_index_or old place [] ++ one.level ∷ []
+  pub kept : (place : ℕ) → count ≤ place
+      → slice_index_or new place [] ≡ slice_index_or old place []
 
 -- all tops are the same
 abbrev pub AreOne : List ℕ → Type 0
