@@ -4,3 +4,5 @@ pub mod ChainLengths
 pub mod Placing
 pub mod Pointing
 pub mod Firsts
+pub mod Halving
+pub mod LightestLevels
