@@ -6,3 +6,4 @@ pub mod Pointing
 pub mod Firsts
 pub mod Halving
 pub mod LightestLevels
+pub mod JoinedChains
