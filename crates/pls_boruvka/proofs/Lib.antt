@@ -7,3 +7,4 @@ pub mod Firsts
 pub mod Halving
 pub mod LightestLevels
 pub mod JoinedChains
+pub mod Leaving
