@@ -8,3 +8,5 @@ pub mod Halving
 pub mod LightestLevels
 pub mod JoinedChains
 pub mod Leaving
+pub mod NextLevel
+pub mod Unjoined

@@ -40,10 +40,3 @@ pub written_back : {X : Type 0} (new items : List X) (size : ℕ) → length new
     → new ≡ take size (new ++ drop (length new) items)
 written_back new items size many = sym (take-append_seam new (drop (length new) items))
     ∙ ap (λ (size : ℕ). take size (new ++ drop (length new) items)) many
-
--- within a list, what is given for a place past its end does not matter
-pub default_free : {X : Type 0} (xs : List X) (place : ℕ) (one other : X) → place < length xs
-    → get_or xs place one ≡ get_or xs place other
-default_free xs place one other within =
-    get_or_from_slice_get xs place (get_or xs place other) one
-    (slice_get-get_or xs place other within)

@@ -1,8 +1,8 @@
 use Rattle.std.proofs.Common.{◌≡◌, ◌∙◌, ◌+◌, ◌<◌, ℕ, List, Option, None, length, replicate, get_or, ap, subst, sym, arith}
+use Rattle.std.proofs.lemmas.List.{get_or_default}
 use Rattle.pls_boruvka.specs.declared.choice.Choice.{Choice}
 use Rattle.pls_boruvka.specs.inner.Choices.{AreChoices, IsEarlier}
 use Rattle.pls_boruvka.proofs.Firsts.{AreChoices-more, AreChoices-none}
-use Rattle.pls_boruvka.proofs.Listed.{default_free}
 use Rattle.pls_boruvka.proofs.choosing.choices_of.Goals as goal
 
 pub loop-place-init : goal.loop-place-init
@@ -16,7 +16,7 @@ loop-place-preserved c =
     let within : top < length c.args.net.now = c.requires.within c.loop-place.place 0
     (omega (arith, c.loop-place-test.true, c.requires.each)) in
     let found : c.index.result.now ≡ get_or choices top None = c.index.ensures
-    ∙ default_free choices top c.index.result.now None (omega (arith, within, c.loop-place.invariant.each)) in
+    ∙ get_or_default choices top c.index.result.now None (omega (arith, within, c.loop-place.invariant.each)) in
     AreChoices-more c.args.net.now c.args.tops.now c.loop-place.place c.loop-place.choices.items
     c.first_at.result c.earlier.result
     within c.loop-place.invariant c.first_at.ensures
