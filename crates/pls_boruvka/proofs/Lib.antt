@@ -10,3 +10,4 @@ pub mod JoinedChains
 pub mod Leaving
 pub mod NextLevel
 pub mod Unjoined
+pub mod Begun

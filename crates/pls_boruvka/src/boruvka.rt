@@ -31,20 +31,24 @@ pub fn boruvka_levels(alloc: Global, net: &Network) -> Result<Option<Vec<LevelLi
         × IsSpanningTree (edges_of net.now) other (ids_of net.now)
         × (weight_of other < weight_of (pointed_edges net.now)))) }
 {
-    let parents = parents_of(alloc, net)?;
-    let mut joined = vec![in alloc; false; net.len()]?;
     let mut lists = no_levels(alloc, net.len())?;
+    let parents = parents_of(alloc, net)?;
+    let parents = parents.as_slice();
+    let mut joined = vec![in alloc; false; net.len()]?;
+    let joined = joined.as_mut_slice();
     loop {
-        let tops = tops_of(alloc, parents.as_slice(), joined.as_slice())?;
-        if are_one(tops.as_slice()) {
+        let tops = tops_of(alloc, parents, joined)?;
+        let tops = tops.as_slice();
+        if are_one(tops) {
             return Ok(Some(lists));
         }
-        let choices = choices_of(alloc, net, parents.as_slice(), tops.as_slice())?;
-        let Some(all) = chosen_of(alloc, net, tops.as_slice(), choices.as_slice())? else {
+        let choices = choices_of(alloc, net, parents, tops)?;
+        let Some(all) = chosen_of(alloc, net, tops, choices.as_slice())? else {
             return Ok(None);
         };
-        join(joined.as_mut_slice(), all.as_slice());
-        add_level(lists.as_mut_slice(), all.as_slice())?;
+        let all = all.as_slice();
+        join(joined, all);
+        add_level(lists.as_mut_slice(), all)?;
     }
 }
 
