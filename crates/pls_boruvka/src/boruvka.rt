@@ -34,7 +34,7 @@ pub fn boruvka_levels(alloc: Global, net: &Network) -> Result<Option<Vec<LevelLi
     let mut lists = no_levels(alloc, net.len())?;
     let parents = parents_of(alloc, net)?;
     let parents = parents.as_slice();
-    let mut joined = vec![in alloc; false; net.len()]?;
+    let mut joined = none_joined(alloc, net.len())?;
     let joined = joined.as_mut_slice();
     loop {
         let tops = tops_of(alloc, parents, joined)?;
@@ -75,4 +75,11 @@ fn no_levels(alloc: Global, count: usize) -> Result<Vec<LevelList>, NoMemory>
         lists.push(LevelList::from_vec(Vec::new(alloc)))?;
     }
     Ok(lists)
+}
+
+// So many nodes whose pointers are not joined.
+fn none_joined(alloc: Global, count: usize) -> Result<Vec<bool>, NoMemory>
+    ensures { IfOk result (λ joined. joined.items ≡ replicate count false) }
+{
+    Ok(vec![in alloc; false; count]?)
 }
