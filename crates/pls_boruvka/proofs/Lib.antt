@@ -11,3 +11,4 @@ pub mod Leaving
 pub mod NextLevel
 pub mod Unjoined
 pub mod Begun
+pub mod OneAnswer

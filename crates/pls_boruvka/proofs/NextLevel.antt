@@ -32,7 +32,7 @@ use Rattle.pls_boruvka.proofs.Leaving.{IsFound, found_for, fragment_of, row_at}
 use Rattle.pls_boruvka.proofs.Placing.{id_at, id_at-row}
 
 -- an edge that is the first to leave a set is the first to leave one with the same nodes
-IsFirstLeaving-same : (edges : List Edge) (nodes : List ℕ) → IsGraph edges nodes
+pub IsFirstLeaving-same : (edges : List Edge) (nodes : List ℕ) → IsGraph edges nodes
     → (Before : Edge → Edge → Type 0) (one other : ℕ → Bool)
     → ((u : ℕ) → Contains nodes u → one u ≡ other u) → (edge : Edge) → Contains edges edge
     → IsFirstLeaving edges Before one edge → IsFirstLeaving edges Before other edge
