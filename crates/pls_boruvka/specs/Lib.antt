@@ -1,2 +1,3 @@
 pub mod Fragments
 pub mod Boruvka
+pub mod inner
