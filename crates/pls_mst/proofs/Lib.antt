@@ -3,4 +3,5 @@ pub mod Comparisons
 pub mod MorePorts
 pub mod Written
 pub mod Logarithm
+pub mod Made
 pub mod Worked

@@ -8,6 +8,5 @@ pub mod Sound
 pub mod JoinedPointers
 pub mod ChosenLevels
 pub mod LevelRules
-pub mod OneLevels
 pub mod Fits
 pub mod MstLaws

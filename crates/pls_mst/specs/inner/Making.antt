@@ -20,10 +20,15 @@ label_from root row depth levels = record {
   levels = levels;
 }
 
--- so is the label at each place below a count, of the depth and the levels there
+-- so is the label of the node at a place, of the depth and the levels there
+abbrev pub IsMadeAt : List NodeRow → ℕ → List ℕ → List (List Level) → ℕ → MstLabel → Type 0
+IsMadeAt rows root depths lists place label =
+    (row : NodeRow) → slice_get rows place ≡ Some row
+    → label ≡ label_from root row (get_or depths place 0) (get_or lists place [])
+
+-- so are these labels, one for each of the first nodes
 pub record AreMade (rows : List NodeRow) (root : ℕ) (depths : List ℕ) (lists : List (List Level))
     (count : ℕ) (labels : List MstLabel) : Type 0 where
   pub each : length labels ≡ count
-  pub label : (place : ℕ) (row : NodeRow) (label : MstLabel) → slice_get rows place ≡ Some row
-      → slice_get labels place ≡ Some label
-      → label ≡ label_from root row (get_or depths place 0) (get_or lists place [])
+  pub label : (place : ℕ) (label : MstLabel) → slice_get labels place ≡ Some label
+      → IsMadeAt rows root depths lists place label

@@ -106,47 +106,47 @@ module _ (rows : List NodeRow) (net : IsNetwork rows) (words : AreWords (size_of
 
   module _ (Before : Edge → Edge → Type 0) (depth : ℕ → ℕ) (u : ℕ) (known : Contains (ids_of rows) u)
     where
-    abbrev AreLevels : List Edge → List (ℕ → Level) → Type 0
-    AreLevels joined levels =
-        AreLevelsFrom (edges_of rows) Before (ids_of rows) depth joined levels
+      abbrev AreLevels : List Edge → List (ℕ → Level) → Type 0
+      AreLevels joined levels =
+          AreLevelsFrom (edges_of rows) Before (ids_of rows) depth joined levels
 
-    -- what levels say of a node
-    abbrev said : List (ℕ → Level) → List Level
-    said levels = map (λ level. level u) levels
+      -- what levels say of a node
+      abbrev said : List (ℕ → Level) → List Level
+      said levels = map (λ level. level u) levels
 
-    -- the numbers of levels are within their limits
-    pub levels_within : (joined : List Edge) (levels : List (ℕ → Level)) → AreLevels joined levels
-        → AreWithin (flat_map numbers_of_level (said levels)) (limits_of size (length levels))
-        × AreOrdered (said levels)
-    levels_within joined [] are = (tt, All-nil (λ (level : Level). level.a < level.b))
-    levels_within joined (level ∷ levels) are =
-        let rest = levels_within (joined ++ chosen_edges level (ids_of rows)) levels are.1 in
-        let edge : Edge = chosen_edge (level u) in
-        let among : Contains (edges_of rows) edge = are.0.among u known in
-        let ends = (IsGraph-network rows net).ends edge among in
-        let here = edge_within edge among in
-        let ids : (id : ℕ) → Contains (ids_of rows) id → id ≤ size.max_id =
-        within_list (ids_of rows) in
-        let most : size.max_id ≤ 2 ^ 32 - 1 = words.max_id in
-        let heavy : size.max_weight ≤ 2 ^ 32 - 1 = words.max_weight in
-        let four : AreWithin (numbers_of_level (level u) ++ flat_map numbers_of_level (said levels))
-        (limits_of size (suc (length levels))) = (
-          ids (level u).fragment (are.0.fragments.known u known),
-          omega (arith, most),
-          (
-            here.1,
-            omega (arith, heavy),
+      -- the numbers of levels are within their limits
+      pub levels_within : (joined : List Edge) (levels : List (ℕ → Level)) → AreLevels joined levels
+          → AreWithin (flat_map numbers_of_level (said levels)) (limits_of size (length levels))
+          × AreOrdered (said levels)
+      levels_within joined [] are = (tt, All-nil (λ (level : Level). level.a < level.b))
+      levels_within joined (level ∷ levels) are =
+          let rest = levels_within (joined ++ chosen_edges level (ids_of rows)) levels are.1 in
+          let edge : Edge = chosen_edge (level u) in
+          let among : Contains (edges_of rows) edge = are.0.among u known in
+          let ends = (IsGraph-network rows net).ends edge among in
+          let here = edge_within edge among in
+          let ids : (id : ℕ) → Contains (ids_of rows) id → id ≤ size.max_id =
+          within_list (ids_of rows) in
+          let most : size.max_id ≤ 2 ^ 32 - 1 = words.max_id in
+          let heavy : size.max_weight ≤ 2 ^ 32 - 1 = words.max_weight in
+          let four : AreWithin (numbers_of_level (level u) ++ flat_map numbers_of_level (said levels))
+          (limits_of size (suc (length levels))) = (
+            ids (level u).fragment (are.0.fragments.known u known),
+            omega (arith, most),
             (
-              ids edge.a ends.0,
-              omega (arith, most),
-              (ids edge.b ends.1, omega (arith, most), rest.0),
+              here.1,
+              omega (arith, heavy),
+              (
+                ids edge.a ends.0,
+                omega (arith, most),
+                (ids edge.b ends.1, omega (arith, most), rest.0),
+              ),
             ),
-          ),
-        ) in (
-          subst (λ (numbers : List ℕ). AreWithin numbers (limits_of size (suc (length levels))))
-              (sym (flat_map-cons numbers_of_level (level u) (said levels))) four,
-          All-cons (λ (level : Level). level.a < level.b) (level u) (said levels) here.0 rest.1,
-        )
+          ) in (
+            subst (λ (numbers : List ℕ). AreWithin numbers (limits_of size (suc (length levels))))
+                (sym (flat_map-cons numbers_of_level (level u) (said levels))) four,
+            All-cons (λ (level : Level). level.a < level.b) (level u) (said levels) here.0 rest.1,
+          )
 
   -- a label fits whose numbers are within their limits
   module _ (code : ℕ → List Bool) (grows : Grows code) (short : IsShort code) (label : MstLabel)

@@ -1,13 +1,15 @@
 -- The theorem of the scheme `mst`.
-use Rattle.std.proofs.Common.{◌≡◌, ◌∙◌, ℕ, ◌^◌, ◌≤◌, Bool, List, [], map, length, Contains, Option, Some, None, refl, sym, ap, subst, arith}
+use Rattle.std.proofs.Common.{◌≡◌, ◌∙◌, ℕ, ◌^◌, ◌≤◌, Bool, List, [], map, length, slice_get, option_map, Contains, Option, Some, None, refl, sym, ap, subst, arith}
 use Rattle.std.specs.List.{flat_map}
 use Rattle.std.proofs.lemmas.List.{length-map}
+use Rattle.std.proofs.lemmas.Option.{same_Some, slice_get-map}
 use Rattle.pls_bits.specs.NumberCode.{Grows, IsShort}
 use Rattle.pls_model.specs.declared.row.Port.{Port}
 use Rattle.pls_model.specs.declared.row.NodeRow.{NodeRow}
 use Rattle.pls_model.specs.Configuration.{IsNetwork, ids_of}
 use Rattle.pls_model.specs.Walk.{Edge, edges_of}
 use Rattle.pls_graph.specs.Size.{size_of}
+use Rattle.pls_graph.proofs.Members.{place_from_Contains}
 use Rattle.pls_scheme.specs.SchemeLaws.{IsMarkedOnce, IsSound}
 use Rattle.pls_scheme.specs.Theorem.{OneIsRight, RightFits, RulesAreMet, RulesShow}
 use Rattle.pls_scheme.specs.laws.Marking.{marked_once, sound_by}
@@ -24,9 +26,10 @@ use Rattle.pls_facts.proofs.Neighbours.{id_within, neighbour_row}
 use Rattle.pls_facts.proofs.Pointed.{id_of_row, row_from_id}
 use Rattle.pls_facts.proofs.PortEdges.{IsGraph-network}
 use Rattle.pls_facts.proofs.Roots.{a_root, one_root_of}
-use Rattle.pls_boruvka.specs.Boruvka.{AreChainLengths, AreLevels}
+use Rattle.pls_boruvka.specs.Boruvka.{AreChainLengths, AreLevelLists, AreLevels}
 use Rattle.pls_boruvka.specs.declared.level.Level.{Level}
 use Rattle.pls_boruvka.proofs.Halving.{few_levels}
+use Rattle.pls_boruvka.proofs.OneAnswer.{one_answer}
 use Rattle.pls_mst.specs.declared.label.MstLabel.{MstLabel}
 use Rattle.pls_mst.specs.Labels.{AreOrdered, IsMstLabel, IsMstWritable, mst_label, numbers_of_level}
 use Rattle.pls_mst.specs.Mst.{AreLevelsOf, IsMstMarked, MstSays, longest_mst}
@@ -36,7 +39,6 @@ use Rattle.pls_mst.specs.laws.Fragments.{KeepsRules}
 use Rattle.pls_mst.specs.laws.Kept.{kept_rules}
 use Rattle.pls_mst.specs.laws.LabelLaws.{one_mst_spelling}
 use Rattle.pls_mst.specs.laws.LevelRules.{AreSaid, KeepsRules-levels}
-use Rattle.pls_mst.specs.laws.OneLevels.{one_levels}
 use Rattle.pls_mst.specs.laws.Passed.{rules_pass}
 use Rattle.pls_mst.specs.laws.Sound.{IsLightest-fragments, IsTree-fragments}
 use Rattle.pls_mst.specs.laws.TreeEdges.{pointed_has}
@@ -58,26 +60,31 @@ pub mst_sound : (takes : List Bool → Option (ℕ × List Bool))
 mst_sound takes = sound_by (mst_label takes) mst_rules IsMinimumSpanningTree mst_show
 
 module _ (rows : List NodeRow) (net : IsNetwork rows) where
-  -- chains have one length
-  one_depth : (depth other : ℕ → ℕ) → AreChainLengths rows depth → AreChainLengths rows other
-      → (u : ℕ) → Contains (ids_of rows) u → depth u ≡ other u
-  one_depth depth other deep also u u_in =
-      let (row, in', named) : (row : NodeRow) × Contains rows row × (row.id ≡ u) =
-      row_from_id rows u u_in in
-      subst (λ (u : ℕ). depth u ≡ other u) named
-      (IsChainOf-one rows row.id (deep row in').0 (also row in').0 (depth row.id) (other row.id)
-      (deep row in').1 (also row in').1).1
-
   -- levels that are of a node are what any levels of the rows say of it
   same_levels : (row : NodeRow) → Contains rows row → (list : List Level)
       → AreLevelsOf rows row.id list → (depth : ℕ → ℕ) (levels : List (ℕ → Level))
       → AreChainLengths rows depth → AreLevels rows depth levels
       → list ≡ map (λ level. level row.id) levels
   same_levels row in' list of depth levels deep are =
-      of.said ∙ one_levels (edges_of rows) (ids_of rows) (IsGraph-network rows net)
-      (ComesBefore (pointed_edges rows)) (ComesBefore-order (pointed_edges rows)) of.depth depth
-      (one_depth of.depth depth of.deep deep) [] of.levels levels of.are are row.id
-      (id_of_row rows row in')
+      let (place, at) : (place : ℕ) × (slice_get rows place ≡ Some row) =
+      place_from_Contains rows row in' in
+      let there : slice_get (map (say of.levels) rows) place ≡ Some (say of.levels row) =
+      slice_get-map (say of.levels) rows place ∙ ap (option_map (say of.levels)) at in
+      let also : slice_get (map (say levels) rows) place ≡ Some (say levels row) =
+      slice_get-map (say levels) rows place ∙ ap (option_map (say levels)) at in
+      of.said ∙ same_Some (say of.levels row) (say levels row) (sym there
+      ∙ ap (λ (lists : List (List Level)). slice_get lists place)
+      (one_answer rows net (map (say of.levels) rows) (map (say levels) rows)
+      (lists_of of.depth of.levels of.deep of.are) (lists_of depth levels deep are)) ∙ also)
+    where
+      -- what levels say of the node of a row
+      say : List (ℕ → Level) → NodeRow → List Level
+      say levels row = map (λ level. level row.id) levels
+
+      lists_of : (depth : ℕ → ℕ) (levels : List (ℕ → Level)) → AreChainLengths rows depth
+          → AreLevels rows depth levels → AreLevelLists rows (map (say levels) rows)
+      lists_of depth levels deep are =
+          record { depth = depth; levels = levels; deep = deep; are = are; said = refl }
 
 -- where what is said is right, the rules hold
 pub mst_met : RulesAreMet mst_rules IsMinimumSpanningTree MstSays
