@@ -9,7 +9,7 @@ use Rattle.pls_model.specs.declared.limits.TheConstants.{MAX_NODES}
 use Rattle.pls_scheme.specs.Theorem.{AreWords}
 use Rattle.pls_scheme.specs.Length.{code_length}
 use Rattle.pls_combine.specs.declared.scheme_name.SchemeName.{SchemeName}
-use Rattle.pls_combine.specs.declared.scheme_name.SchemeName.TheVariants.{Acyclic, Bipartite, Count, Forest, Leader, ShortestPathTree, Tree}
+use Rattle.pls_combine.specs.declared.scheme_name.SchemeName.TheVariants.{Acyclic, Bipartite, Count, Forest, Leader, MinimumSpanningTree, ShortestPathTree, Tree}
 use Rattle.pls_combine.specs.Expression as expressions
 use Rattle.pls_combine.specs.Expression.{And, Basic, Expression, IsSmall, Or, leaves_of}
 use Rattle.pls_combine.specs.Named.{longest_of}
@@ -48,6 +48,7 @@ short_bound scheme size few words = by scheme
     by Leader = omega (arith, nodes, ids)
     by Count = omega (arith, nodes, ids)
     by ShortestPathTree = omega (arith, nodes, ids, far)
+    by MinimumSpanningTree = omega (arith, front, levels)
 
 abbrev longest_expression : Expression → Size → ℕ
 longest_expression scheme size = expressions.longest_of gamma_code scheme size

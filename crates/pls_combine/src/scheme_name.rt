@@ -20,6 +20,8 @@ pub enum SchemeName {
     Count,
     /// `spt`: the pointers make a tree, and no walk from the root is lighter than a chain.
     ShortestPathTree,
+    /// `mst`: the pointers make a tree, and no spanning tree weighs less than its edges.
+    MinimumSpanningTree,
 }
 
 /// The scheme that a word names, or `None` where it names none.
@@ -40,6 +42,8 @@ pub fn named_scheme(word: &str) -> Option<SchemeName>
         Some(SchemeName::Count)
     } else if is_word(word, "spt") {
         Some(SchemeName::ShortestPathTree)
+    } else if is_word(word, "mst") {
+        Some(SchemeName::MinimumSpanningTree)
     } else {
         None
     }
@@ -57,6 +61,7 @@ pub(crate) fn name_of(name: SchemeName) -> &'static str
         SchemeName::Leader => "leader",
         SchemeName::Count => "count",
         SchemeName::ShortestPathTree => "spt",
+        SchemeName::MinimumSpanningTree => "mst",
     }
 }
 
