@@ -1,13 +1,17 @@
 -- How long marked labels are at most.
 use Rattle.std.proofs.Common.{◌≡◌, ℕ, ◌+◌, ◌-◌, ◌*◌, ◌^◌, ◌≤◌, nat_le, le-leb, if◌then◌else◌, Bool, true, false, length, arith}
+use Rattle.std.proofs.Common.{mul-le-mul}
 use Rattle.std.proofs.Math.Nat.{mul-le-mul_right}
 use Rattle.pls_bits.specs.Gamma.{gamma_code}
+use Rattle.pls_bits.specs.Gamma.{floor_log}
+use Rattle.pls_bits.specs.laws.FloorLogLaws.{floor_log-grows}
 use Rattle.pls_bits.specs.laws.GammaLaws.{gamma_short}
 use Rattle.pls_bits.specs.declared.num_code.TheConstants.{MAX_CODED}
 use Rattle.pls_graph.specs.declared.size.Size.{Size}
 use Rattle.pls_model.specs.declared.limits.TheConstants.{MAX_NODES}
 use Rattle.pls_scheme.specs.Theorem.{AreWords}
-use Rattle.pls_scheme.specs.Length.{code_length}
+use Rattle.pls_scheme.specs.Length.{code_length, codes_length}
+use Rattle.pls_mst.specs.Mst.{front_limits, level_limits}
 use Rattle.pls_combine.specs.declared.scheme_name.SchemeName.{SchemeName}
 use Rattle.pls_combine.specs.declared.scheme_name.SchemeName.TheVariants.{Acyclic, Bipartite, Count, Forest, Leader, MinimumSpanningTree, ShortestPathTree, Tree}
 use Rattle.pls_combine.specs.Expression as expressions
@@ -39,6 +43,24 @@ short_bound scheme size few words = by scheme
 
     far : code_length gamma_code (size.nodes * size.max_weight) ≤ 125
     far = short_code (size.nodes * size.max_weight) (omega (arith, some, words.max_weight))
+
+    weights : code_length gamma_code size.max_weight ≤ 125
+    weights = short_code size.max_weight (omega (arith, words.max_weight))
+
+    few_levels : floor_log size.nodes ≤ 15
+    few_levels = floor_log-grows size.nodes 32768 few
+
+    many : code_length gamma_code (floor_log size.nodes) ≤ 125
+    many = short_code (floor_log size.nodes) (omega (arith, few_levels))
+
+    front : codes_length gamma_code (front_limits size) ≤ 625
+    front = omega (arith, nodes, ids, many)
+
+    level : codes_length gamma_code (level_limits size) ≤ 500
+    level = omega (arith, ids, weights)
+
+    levels : floor_log size.nodes * codes_length gamma_code (level_limits size) ≤ 15 * 500
+    levels = mul-le-mul few_levels level
 
     by : (scheme : SchemeName) → longest_of scheme size ≤ 8192
     by Tree = omega (arith, nodes, ids)
