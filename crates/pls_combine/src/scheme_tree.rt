@@ -13,7 +13,7 @@ use crate::joined::{joined_bound, joined_labels, tagged_bound, tagged_labels};
 use crate::named::Named;
 use crate::parts::{FirstPart, Rest, SecondPart};
 use crate::scheme_name::SchemeName;
-use crate::tests_of_views::{lacks_parts, own_tag};
+use crate::part_rules::{lacks_parts, own_tag};
 use pls_base::{NoMemory, Steps};
 use pls_bits::NumCode;
 use pls_facts::is_valid;
