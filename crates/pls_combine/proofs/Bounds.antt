@@ -1,10 +1,10 @@
 -- How long marked labels are at most.
-use Rattle.std.proofs.Common.{◌≡◌, ℕ, ◌+◌, ◌-◌, ◌*◌, ◌^◌, ◌≤◌, nat_le, le-leb, if◌then◌else◌, Bool, true, false, length, arith}
+use Rattle.std.proofs.Common.{◌≡◌, ℕ, ◌+◌, ◌-◌, ◌*◌, ◌^◌, ◌≤◌, nat_le, le-leb, if◌then◌else◌, Bool, true, false, length, subst, arith}
 use Rattle.std.proofs.Common.{mul-le-mul}
 use Rattle.std.proofs.Math.Nat.{mul-le-mul_right}
 use Rattle.pls_bits.specs.Gamma.{gamma_code}
 use Rattle.pls_bits.specs.Gamma.{floor_log}
-use Rattle.pls_bits.specs.laws.FloorLogLaws.{floor_log-grows}
+use Rattle.pls_bits.specs.laws.FloorLogLaws.{floor_log-grows, floor_log-unique}
 use Rattle.pls_bits.specs.laws.GammaLaws.{gamma_short}
 use Rattle.pls_bits.specs.declared.num_code.TheConstants.{MAX_CODED}
 use Rattle.pls_graph.specs.declared.size.Size.{Size}
@@ -48,7 +48,9 @@ short_bound scheme size few words = by scheme
     weights = short_code size.max_weight (omega (arith, words.max_weight))
 
     few_levels : floor_log size.nodes ≤ 15
-    few_levels = floor_log-grows size.nodes 32768 few
+    few_levels = subst (λ (most : ℕ). floor_log size.nodes ≤ most)
+        (floor_log-unique 15 32768 (omega arith) (omega arith) (omega arith))
+        (floor_log-grows size.nodes 32768 few)
 
     many : code_length gamma_code (floor_log size.nodes) ≤ 125
     many = short_code (floor_log size.nodes) (omega (arith, few_levels))

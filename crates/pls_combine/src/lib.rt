@@ -27,12 +27,12 @@ mod laws;
 mod named;
 mod one_of;
 mod one_of_scheme;
+mod part_rules;
 mod parts;
 mod scheme_error;
 mod scheme_name;
 mod scheme_text;
 mod scheme_tree;
-mod tests_of_views;
 
 pub use any_scheme::AnyScheme;
 pub use both::Both;

@@ -1,4 +1,5 @@
-//! What a node that judges a combination tests first: that each label of its view has its parts.
+//! The rules of leaf 0, by which a node that judges a combination tests that each label of its view
+//! has its parts.
 
 ghost use Rattle.std.specs.Prelude.{◌≡◌, ℕ, true, false, IfSome, IfNone, IfOk, IfErr};
 ghost use Rattle.std.specs.List.{list_all};
