@@ -14,9 +14,8 @@ use Rattle.pls_scheme.specs.Length.{code_length, codes_length}
 use Rattle.pls_mst.specs.Mst.{front_limits, level_limits}
 use Rattle.pls_combine.specs.declared.scheme_name.SchemeName.{SchemeName}
 use Rattle.pls_combine.specs.declared.scheme_name.SchemeName.TheVariants.{Acyclic, Bipartite, Count, Forest, Leader, MinimumSpanningTree, ShortestPathTree, Tree}
-use Rattle.pls_combine.specs.Expression as expressions
-use Rattle.pls_combine.specs.Expression.{And, Basic, Expression, IsSmall, Or, leaves_of}
-use Rattle.pls_combine.specs.Named.{longest_of}
+use Rattle.pls_combine.specs.Expression.{And, Basic, Expression, IsSmall, Or, leaves_of, longest_of}
+use Rattle.pls_combine.specs.Named.{longest_named}
 
 -- the code of a number that has one has at most 125 bits
 short_code : (number : ℕ) → number ≤ MAX_CODED → code_length gamma_code number ≤ 125
@@ -29,7 +28,7 @@ short_code number small = by (nat_le number MAX_CODED) (le-leb number MAX_CODED 
 
 -- no scheme's bound is above 8,192 bits, in a network within the limits
 pub short_bound : (scheme : SchemeName) (size : Size) → size.nodes ≤ MAX_NODES → AreWords size
-    → longest_of scheme size ≤ 8192
+    → longest_named gamma_code scheme size ≤ 8192
 short_bound scheme size few words = by scheme
   where
     nodes : code_length gamma_code size.nodes ≤ 125
@@ -64,7 +63,7 @@ short_bound scheme size few words = by scheme
     levels : floor_log size.nodes * codes_length gamma_code (level_limits size) ≤ 15 * 500
     levels = mul-le-mul few_levels level
 
-    by : (scheme : SchemeName) → longest_of scheme size ≤ 8192
+    by : (scheme : SchemeName) → longest_named gamma_code scheme size ≤ 8192
     by Tree = omega (arith, nodes, ids)
     by Forest = omega (arith, nodes)
     by Bipartite = omega arith
@@ -74,9 +73,6 @@ short_bound scheme size few words = by scheme
     by ShortestPathTree = omega (arith, nodes, ids, far)
     by MinimumSpanningTree = omega (arith, front, levels)
 
-abbrev longest_expression : Expression → Size → ℕ
-longest_expression scheme size = expressions.longest_of gamma_code scheme size
-
 leaf_some : (scheme : Expression) → 1 ≤ leaves_of scheme
 leaf_some (Basic name) = omega arith
 leaf_some (And first second) = omega (arith, leaf_some first)
@@ -85,7 +81,7 @@ leaf_some (Or first second) = omega (arith, leaf_some first)
 -- an expression has at most 8,320 bits for each of its names
 expression_bound : (scheme : Expression) (size : Size) → leaves_of scheme ≤ 8
     → size.nodes ≤ MAX_NODES → AreWords size
-    → longest_expression scheme size + 128 ≤ 8320 * leaves_of scheme
+    → longest_of gamma_code scheme size + 128 ≤ 8320 * leaves_of scheme
 expression_bound (Basic name) size few nodes words =
     let one = short_bound name size nodes words in
     omega (arith, one)
@@ -93,7 +89,7 @@ expression_bound (And first second) size few nodes words =
     let some = leaf_some second in
     let one = expression_bound first size (omega (arith, few)) nodes words in
     let two = expression_bound second size (omega (arith, few)) nodes words in
-    let code = short_code (longest_expression first size) (omega (arith, few, one)) in
+    let code = short_code (longest_of gamma_code first size) (omega (arith, few, one)) in
     omega (arith, code, one, two)
 expression_bound (Or first second) size few nodes words =
     let one = expression_bound first size (omega (arith, few)) nodes words in
@@ -104,7 +100,7 @@ expression_bound (Or first second) size few nodes words =
 
 -- no small expression's bound is above 2^17 bits, in a network within the limits
 pub short_expression : (scheme : Expression) (size : Size) → IsSmall scheme → size.nodes ≤ MAX_NODES
-    → AreWords size → longest_expression scheme size ≤ 2 ^ 17
+    → AreWords size → longest_of gamma_code scheme size ≤ 2 ^ 17
 short_expression scheme size small nodes words =
     let whole = expression_bound scheme size small.few nodes words in
     omega (arith, whole, small.few)

@@ -3,7 +3,6 @@
 use Rattle.std.specs.Prelude.{◌≡◌, ℕ, Bool, List, Option}
 use Rattle.pls_model.specs.declared.row.NodeRow.{NodeRow}
 use Rattle.pls_model.specs.declared.verdict.Verdict.{Verdict}
-use Rattle.pls_bits.specs.Gamma.{gamma_code, gamma_takes}
 use Rattle.pls_graph.specs.declared.size.Size.{Size}
 use Rattle.pls_view.specs.Seen.{Seen}
 use Rattle.pls_facts.specs.Bipartite.{IsBipartite}
@@ -93,16 +92,3 @@ IsNamedLabel code MinimumSpanningTree bits = (label : MstLabel) × IsMstLabel co
 -- the bits are this label of the scheme, which is its bits
 abbrev pub IsNamedSpelling : (ℕ → List Bool) → SchemeName → List Bool → List Bool → Type 0
 IsNamedSpelling code scheme bits label = (bits ≡ label) × IsNamedLabel code scheme bits
-
--- the same in the gamma code
-abbrev pub HasProperty : SchemeName → List NodeRow → Type 0
-HasProperty scheme rows = HasNamed scheme rows
-
-abbrev pub judge_of : SchemeName → Seen → Verdict
-judge_of scheme view = judge_named gamma_takes scheme view
-
-abbrev pub IsMarked : SchemeName → List NodeRow → List (List Bool) → Type 0
-IsMarked scheme rows labels = IsNamedMarked gamma_code scheme rows labels
-
-abbrev pub longest_of : SchemeName → Size → ℕ
-longest_of scheme size = longest_named gamma_code scheme size

@@ -43,6 +43,6 @@ pub use one_of::OneOf;
 pub use one_of_scheme::Tagged;
 pub use parts::{FirstPart, Rest, SecondPart};
 pub use scheme_error::SchemeError;
-pub use scheme_name::{SchemeName, named_scheme};
+pub use scheme_name::SchemeName;
 pub use scheme_text::{print_scheme, read_scheme};
 pub use scheme_tree::SchemeTree;

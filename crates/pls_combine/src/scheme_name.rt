@@ -1,7 +1,7 @@
-//! The names of schemes.
+//! The names of basic schemes.
 
-ghost use Rattle.std.specs.Prelude.{◌≡◌, bytes_eq, codes};
-ghost use Rattle.pls_combine.specs.SchemeWord.{name_of, scheme_of};
+ghost use Rattle.std.specs.Prelude.{◌≡◌};
+ghost use Rattle.pls_combine.specs.SchemeWord.{name_of};
 
 /// The name of a basic scheme.
 #[derive(Clone, Copy, Debug, PartialEq, Eq)]
@@ -24,31 +24,6 @@ pub enum SchemeName {
     MinimumSpanningTree,
 }
 
-/// The scheme that a word names, or `None` where it names none.
-pub fn named_scheme(word: &str) -> Option<SchemeName>
-    ensures { result ≡ scheme_of word.now }
-{
-    if is_word(word, "tree") {
-        Some(SchemeName::Tree)
-    } else if is_word(word, "forest") {
-        Some(SchemeName::Forest)
-    } else if is_word(word, "bipartite") {
-        Some(SchemeName::Bipartite)
-    } else if is_word(word, "acyclic") {
-        Some(SchemeName::Acyclic)
-    } else if is_word(word, "leader") {
-        Some(SchemeName::Leader)
-    } else if is_word(word, "count") {
-        Some(SchemeName::Count)
-    } else if is_word(word, "spt") {
-        Some(SchemeName::ShortestPathTree)
-    } else if is_word(word, "mst") {
-        Some(SchemeName::MinimumSpanningTree)
-    } else {
-        None
-    }
-}
-
 // The word that names a scheme.
 pub(crate) fn name_of(name: SchemeName) -> &'static str
     ensures { result.now ≡ name_of name }
@@ -63,11 +38,4 @@ pub(crate) fn name_of(name: SchemeName) -> &'static str
         SchemeName::ShortestPathTree => "spt",
         SchemeName::MinimumSpanningTree => "mst",
     }
-}
-
-// Whether two words are the same.
-fn is_word(word: &str, known: &str) -> bool
-    ensures { result ≡ bytes_eq word.now known.now }
-{
-    word == known
 }
