@@ -1,5 +1,5 @@
 -- Labels that `mark` wrote are accepted by `verify`.
-use Rattle.std.proofs.Common.{◌≡◌, ℕ, ◌*◌, ◌^◌, ◌≤◌, ◌<◌, Bool, List, [], ◌∷◌, ◌++◌, length, map, All, Contains, Some, option_map, ap, subst, refl, sym, arith}
+use Rattle.std.proofs.Common.{◌≡◌, ℕ, ◌*◌, ◌^◌, ◌≤◌, ◌<◌, Bool, false, List, [], ◌∷◌, ◌++◌, length, map, All, Contains, Some, option_map, ap, subst, refl, sym, arith}
 use Rattle.std.specs.Prelude.{flat_map}
 use Rattle.std.proofs.lemmas.List.Elements.{All-cons, All-contains, All-head, All-map, All-nil, All-tail}
 use Rattle.std.proofs.lemmas.List.Sums.{sum_by-cons}
@@ -10,8 +10,7 @@ use Rattle.pls_graph.specs.Size.{greatest, size_of, weights_of}
 use Rattle.pls_graph.proofs.Members.{Contains-first, Contains-from_flat_map, Contains-later}
 use Rattle.pls_netfile.specs.NetworkText.{FitsPort, FitsRow, network_text}
 use Rattle.pls_view.specs.Labels.{bits_together}
-use Rattle.pls_labelfile.specs.LabelsText.{labels_text, named}
-use Rattle.pls_scheme.specs.Judging.{round_by}
+use Rattle.pls_labelfile.specs.LabelsText.{labels_text}
 use Rattle.pls_scheme.specs.Marked.{answered}
 use Rattle.pls_scheme.specs.Theorem.{AreWords}
 use Rattle.pls_combine.proofs.Bounds.{short_bound}
@@ -20,10 +19,12 @@ use Rattle.pls_app.specs.declared.command.Command.TheVariants.{Verify}
 use Rattle.pls_combine.specs.declared.scheme_name.SchemeName.{SchemeName}
 use Rattle.pls_app.specs.Command.{command_of, verify_words}
 use Rattle.pls_combine.specs.Named.{judge_of, longest_of}
-use Rattle.pls_app.specs.Input.{IsInput, IsNetworkInput, IsReadable}
-use Rattle.pls_app.specs.Answer.{Answers, report}
+use Rattle.pls_labelfile.specs.declared.limits.TheConstants.{MAX_BITS}
+use Rattle.pls_app.specs.declared.shape.Shape.TheVariants.{Network, Labelled}
+use Rattle.pls_app.specs.Input.{Input, IsInput, IsReadable, net_labels_text}
+use Rattle.pls_app.specs.Answer.{Answer, Answers, decided_by, report}
 use Rattle.pls_app.specs.Run.{Certifies, IsDone, Shows, ShowsIn}
-use Rattle.pls_app.proofs.Answered.{command_answer, judged_answer}
+use Rattle.pls_app.proofs.Answered.{command_answer, worked_answer}
 use Rattle.pls_app.proofs.Proved.{accepted_report}
 use Rattle.pls_app.proofs.TextLengths.{text_fits}
 
@@ -104,53 +105,55 @@ verify_is : (scheme : SchemeName) → command_of (verify_words scheme) ≡ Some 
 verify_is scheme = ap (option_map Verify) (scheme_of-name_of scheme)
 
 -- the text of a network and the labels that show its property are an input
-marked_input : (scheme : SchemeName) (bytes : List ℕ) (rows : List NodeRow)
-    (labels : List (List Bool)) → IsNetworkInput bytes rows → Shows scheme rows labels
-    → IsInput (bytes ++ labels_text (named (ids_of rows) labels)) rows labels
-marked_input scheme bytes rows labels input shows =
-    let text : List ℕ = labels_text (named (ids_of rows) labels) in
-    let short = short_labels scheme rows labels input.readable shows.short in
+marked_input : (scheme : SchemeName) (bytes : List ℕ) (input : Input) (labels : List (List Bool))
+    → IsInput Network bytes input → Shows scheme input.rows labels
+    → IsInput Labelled (bytes ++ net_labels_text input.rows labels)
+    (record { rows = input.rows; labels = labels; events = [] })
+marked_input scheme bytes input labels is shows =
+    let rows : List NodeRow = input.rows in
+    let text : List ℕ = net_labels_text rows labels in
+    let short = short_labels scheme rows labels is.readable shows.short in
     let same : bytes ++ text ≡ network_text rows ++ text =
-    ap (λ (front : List ℕ). front ++ text) input.is in
-    let fits = text_fits rows labels input.readable.network input.readable.ranges short in
+    ap (λ (front : List ℕ). front ++ text) is.is in
+    let fits = text_fits rows labels is.readable.network is.readable.ranges short in
+    let few : bits_together labels ≤ MAX_BITS =
+    omega (
+      arith,
+      few_in_short labels short,
+      shows.each,
+      is.readable.network.limits.few_nodes,
+    ) in
     record {
       short = omega (arith, ap (length {A = ℕ}) same, fits);
-      readable = input.readable;
-      labelled =
-          record {
-            each = shows.each;
-            few = omega (
-              arith,
-              few_in_short labels short,
-              shows.each,
-              input.readable.network.limits.few_nodes,
-            );
-          };
+      readable = is.readable;
+      filled = (record { each = shows.each; few = few }, refl);
       is = same;
     }
 
 -- labels that show the property of a network certify its text
-pub certified : (scheme : SchemeName) (bytes : List ℕ) (rows : List NodeRow) (text : List ℕ)
-    → IsNetworkInput bytes rows → ShowsIn scheme rows text → Certifies scheme bytes text
-certified scheme bytes rows text input shown =
+pub certified : (scheme : SchemeName) (bytes : List ℕ) (input : Input) (text : List ℕ)
+    → IsInput Network bytes input → ShowsIn scheme input.rows text → Certifies scheme bytes text
+certified scheme bytes input text is shown =
+    let rows : List NodeRow = input.rows in
     let labels = shown.labels in
-    let mine : List ℕ = labels_text (named (ids_of rows) labels) in
-    let answers : Answers (Verify scheme) (bytes ++ mine)
-    (report (round_by (judge_of scheme) rows labels)) =
-    judged_answer scheme (bytes ++ mine) rows labels _
-    (marked_input scheme bytes rows labels input shown.shows) refl in
+    let mine : List ℕ = net_labels_text rows labels in
+    let read : Input = record { rows = rows; labels = labels; events = [] } in
+    let answer : Answer = report false (decided_by (judge_of scheme) rows labels) in
+    let answers : Answers (Verify scheme) (bytes ++ mine) answer =
+    worked_answer (Verify scheme) (bytes ++ mine) read answer
+    (marked_input scheme bytes input labels is shown.shows) refl refl in
     let verified : IsDone (verify_words scheme) (bytes ++ mine) = record {
-      answer = report (round_by (judge_of scheme) rows labels);
-      is = command_answer (verify_words scheme) (bytes ++ mine) (Verify scheme) _ (verify_is scheme)
-          answers;
+      answer = answer;
+      is = command_answer (verify_words scheme) (bytes ++ mine) (Verify scheme) answer
+          (verify_is scheme) answers;
       done = accepted_report scheme rows labels shown.shows.accepted;
     } in
     record {
-      rows = rows;
-      labels = labels;
       input = input;
+      labels = labels;
+      is = is;
       shows = shown.shows;
-      is = shown.is;
+      text_is = shown.is;
       verified =
           subst (λ (text : List ℕ). IsDone (verify_words scheme) (bytes ++ text)) (sym shown.is)
           verified;

@@ -1,5 +1,5 @@
 -- What is scanned of an input, and what an input is.
-use Rattle.std.proofs.Common.{◌≡◌, ◌≢◌, ◌∙◌, ℕ, ◌≤◌, ◌<◌, Bool, true, false, List, [], ◌∷◌, ◌++◌, map, length, nat_lt, All, Contains, Option, Some, None, IsSome, if◌then◌else◌, option_map, ap, subst, refl, sym, arith}
+use Rattle.std.proofs.Common.{◌≡◌, ◌≢◌, ◌∙◌, ℕ, ◌+◌, ◌≤◌, ◌<◌, Bool, true, false, List, [], ◌∷◌, ◌++◌, map, length, nat_lt, All, Contains, Option, Some, None, IfSome, IsSome, if◌then◌else◌, option_map, ap, subst, refl, sym, arith}
 use Rattle.std.proofs.lemmas.Bool.Decides.{nat_tests}
 use Rattle.std.proofs.lemmas.List.{append-nil, length-map}
 use Rattle.pls_base.specs.declared.text_error.TextError.{TextError}
@@ -9,26 +9,31 @@ use Rattle.pls_model.specs.declared.row.NodeRow.{NodeRow}
 use Rattle.pls_model.specs.Configuration.{IsNetwork, ids_of}
 use Rattle.pls_model.specs.Walk.{IsConnected}
 use Rattle.pls_view.specs.Labels.{bits_together}
-use Rattle.pls_netfile.specs.NetworkText.{AreRows, network_text}
+use Rattle.pls_netfile.specs.NetworkText.{AreRows, network_lines, network_text}
 use Rattle.pls_netfile.specs.NetworkScan.{WrittenNetwork, TellsNetwork}
 use Rattle.pls_netfile.specs.laws.NetworkRows.{one_network}
-use Rattle.pls_labelfile.specs.LabelsText.{FitsLabel, NamedLabel, labels_text, named}
+use Rattle.pls_labelfile.specs.LabelsText.{FitsLabel, NamedLabel, labels_lines, labels_text, named}
 use Rattle.pls_labelfile.specs.LabelsScan.{total_bits, WrittenLabels}
 use Rattle.pls_labelfile.specs.Misfit.{misfit}
 use Rattle.pls_labelfile.specs.Refusal.{IsLabelsRefusal, misfit_error, labels_refusal}
 use Rattle.pls_labelfile.specs.declared.limits.TheConstants.{MAX_BITS}
 use Rattle.pls_labelfile.proofs.Named.{bare-named, named-parts, net_labels_fit, total_bits-named}
 use Rattle.pls_labelfile.proofs.LabelsPart.{one_labels}
+use Rattle.pls_lines.specs.Counted.{counted}
+use Rattle.pls_sim.specs.declared.event.Event.{Event}
+use Rattle.pls_sim.specs.declared.limits.TheConstants.{MAX_EVENTS}
+use Rattle.pls_sim.specs.ScheduleText.{WrittenSchedule, schedule_text}
+use Rattle.pls_sim.proofs.Told.{one_told}
 use Rattle.pls_graph.specs.Connected.{IsFirstApart, smallest_id}
 use Rattle.pls_graph.proofs.Members.{Contains-first}
 use Rattle.pls_graph.proofs.Placed.{smallest_first}
-use Rattle.pls_combine.specs.declared.scheme_name.SchemeName.{SchemeName}
-use Rattle.pls_app.specs.declared.command.Command.{Command}
-use Rattle.pls_app.specs.declared.command.Command.TheVariants.{Mark, Verify}
+use Rattle.pls_app.specs.declared.shape.Shape.{Shape}
+use Rattle.pls_app.specs.declared.shape.Shape.TheVariants.{Network, Labelled, Scheduled}
+use Rattle.pls_app.specs.declared.input.Texts.{Texts}
 use Rattle.pls_app.specs.declared.limits.TheConstants.{MAX_INPUT}
-use Rattle.pls_app.specs.Input.{AreLabels, IsInput, IsInputOf, IsNetworkInput, IsReadable}
-use Rattle.pls_app.specs.Order.{Parts, parts_text, text_behind}
-use Rattle.pls_app.specs.inner.Scanned.{AreBuilt, IsBuilt, IsScanned, TellsBehind, TellsSome}
+use Rattle.pls_app.specs.Input.{AreEvents, AreLabels, Input, IsInput, IsReadable, first_event_line, net_labels_text}
+use Rattle.pls_app.specs.Order.{Parts, events_behind, heading_of, labels_behind, parts_text}
+use Rattle.pls_app.specs.inner.Scanned.{AreBuilt, AreListed, IsBuilt, IsScanned, TellsBehind, TellsEvents, TellsLast, TellsSome, first_line_of, lines_behind}
 
 -- the labels of an input fit
 pub parts_fit : (rows : List NodeRow) (labels : List (List Bool)) → IsReadable rows
@@ -60,33 +65,67 @@ pub some_of : {X : Type 0} (found : Option X) → IsSome found → (x : X) × (f
 some_of None some = absurd (cc)
 some_of (Some x) some = (x, refl)
 
--- what was scanned and built of a network alone is an input
-network_input : (bytes : List ℕ) (network : WrittenNetwork) (parts : Parts) (net : List NodeRow)
-    → length bytes ≤ MAX_INPUT → TellsNetwork network parts.rows → bytes ≡ parts_text parts
-    → parts.labels ≡ None → net ≡ parts.rows → IsNetwork net → IsConnected net
-    → IsNetworkInput bytes net
-network_input bytes network parts net short tells is none is_net valid connected =
-    record {
-      short = short;
-      readable =
-          record {
-            network = valid;
-            connected = connected;
-            ranges = subst AreRows (sym is_net) tells.fits;
-          };
-      is = is ∙ ap (λ labels. network_text parts.rows ++ text_behind labels) none
-          ∙ append-nil (network_text parts.rows) ∙ ap network_text (sym is_net);
-    }
+-- the text of the parts, where some are not there
+pub alone_parts : (parts : Parts) → parts.labels ≡ None → parts.events ≡ None
+    → parts_text parts ≡ network_text parts.rows
+alone_parts parts none no_more =
+    ap (λ labels. network_text parts.rows ++ (labels_behind labels ++ events_behind parts.events))
+    none ∙ ap (λ events. network_text parts.rows ++ events_behind events) no_more
+    ∙ append-nil (network_text parts.rows)
 
--- what was scanned and built of a network and its labels is an input
-labelled_input : (bytes : List ℕ) (network : WrittenNetwork) (parts : Parts)
-    (written : WrittenLabels) (labels : List NamedLabel) (net : List NodeRow)
-    (store : List (List Bool)) → length bytes ≤ MAX_INPUT → TellsNetwork network parts.rows
-    → bytes ≡ parts_text parts → parts.labels ≡ Some labels → TellsBehind parts.rows written labels
-    → net ≡ parts.rows → IsNetwork net → IsConnected net → IsBuilt net written store
-    → IsInput bytes net store
-labelled_input bytes network parts written labels net store short tells is some behind is_net valid
-    connected built =
+pub labelled_parts : (parts : Parts) (labels : List NamedLabel) → parts.labels ≡ Some labels
+    → parts.events ≡ None → parts_text parts ≡ network_text parts.rows ++ labels_text labels
+labelled_parts parts labels some no_more =
+    ap (λ labels. network_text parts.rows ++ (labels_behind labels ++ events_behind parts.events))
+    some
+    ∙ ap (λ events. network_text parts.rows ++ (labels_text labels ++ events_behind events)) no_more
+    ∙ ap (λ (behind : List ℕ). network_text parts.rows ++ behind) (append-nil (labels_text labels))
+
+pub scheduled_parts : (parts : Parts) (labels : List NamedLabel) (events : List Event)
+    → parts.labels ≡ Some labels → parts.events ≡ Some events
+    → parts_text parts ≡ network_text parts.rows ++ (labels_text labels ++ schedule_text events)
+scheduled_parts parts labels events some more =
+    ap (λ labels. network_text parts.rows ++ (labels_behind labels ++ events_behind parts.events))
+    some
+    ∙ ap (λ events. network_text parts.rows ++ (labels_text labels ++ events_behind events)) more
+
+-- no text was scanned where there is no part, and else one was
+no_labels : (rows : List NodeRow) (texts : Option WrittenLabels)
+    (labels : Option (List NamedLabel)) → labels ≡ None → TellsSome rows texts labels
+    → texts ≡ None
+no_labels rows None labels none tells = refl
+no_labels rows (Some written) labels none tells = absurd (rw none at tells)
+
+some_labels : (rows : List NodeRow) (texts : Option WrittenLabels)
+    (labels : Option (List NamedLabel)) (found : List NamedLabel) → labels ≡ Some found
+    → TellsSome rows texts labels
+    → (written : WrittenLabels) × (texts ≡ Some written) × TellsBehind rows written found
+some_labels rows None labels found some tells = absurd (rw some at tells)
+some_labels rows (Some written) labels found some tells = (written, refl, rw some at tells)
+
+no_events : (rows : List NodeRow) (labels : Option (List NamedLabel))
+    (texts : Option WrittenSchedule) (events : Option (List Event)) → events ≡ None
+    → TellsEvents rows labels texts events → texts ≡ None
+no_events rows labels None events none tells = refl
+no_events rows labels (Some written) events none tells = absurd (rw none at tells)
+
+some_events : (rows : List NodeRow) (labels : Option (List NamedLabel))
+    (texts : Option WrittenSchedule) (events : Option (List Event)) (found : List Event)
+    → events ≡ Some found → TellsEvents rows labels texts events
+    → (written : WrittenSchedule) × (texts ≡ Some written) × TellsLast rows labels written found
+some_events rows labels None events found some tells = absurd (rw some at tells)
+some_events rows labels (Some written) events found some tells = (written, refl, rw some at tells)
+
+-- the labels that were built of a text are its labels, one for each node
+record AreRead (rows : List NodeRow) (store : List (List Bool))
+    (labels : List NamedLabel) : Type 0 where
+  are : AreLabels rows store
+  back : named (ids_of rows) store ≡ labels
+
+read_labels : (rows net : List NodeRow) (written : WrittenLabels) (labels : List NamedLabel)
+    (store : List (List Bool)) → TellsBehind rows written labels → IsBuilt net written store
+    → AreRead net store labels
+read_labels rows net written labels store behind built =
     let is_store = built.bits labels behind.tells in
     let is_named = built.ids labels behind.tells in
     let back : named (ids_of net) store ≡ labels =
@@ -100,80 +139,148 @@ labelled_input bytes network parts written labels net store short tells is some 
     let sum : total_bits labels ≡ bits_together store =
     ap total_bits (sym back) ∙ total_bits-named (ids_of net) store many in
     let few = few_bits (ids_of net) written.number labels (built.accepted labels behind.tells) in
-    record {
-      short = short;
-      readable =
-          record {
-            network = valid;
-            connected = connected;
-            ranges = subst AreRows (sym is_net) tells.fits;
-          };
-      labelled = record { each = each; few = omega (arith, sum, few) };
-      is = is ∙ ap (λ found. network_text parts.rows ++ text_behind found) some
-          ∙ ap (λ (rows : List NodeRow). network_text rows ++ labels_text labels) (sym is_net)
-          ∙ ap (λ (parts : List NamedLabel). network_text net ++ labels_text parts) (sym back);
-    }
+    record { are = record { each = each; few = omega (arith, sum, few) }; back = back }
 
--- what was scanned and built is an input of the command
-pub input_of : (command : Command) (bytes : List ℕ) (network : WrittenNetwork)
-    (texts : Option WrittenLabels) (net : List NodeRow) (store : Option (List (List Bool)))
-    → length bytes ≤ MAX_INPUT → IsScanned command bytes network texts
-    → ((rows : List NodeRow) → TellsNetwork network rows → net ≡ rows) → IsNetwork net
-    → IsConnected net → AreBuilt net texts store → IsInputOf command bytes net store
-input_of (Mark scheme) bytes network None net None short scanned same valid connected built =
-    network_input bytes network scanned.parts net short scanned.tells_rows scanned.is scanned.reads
-    (same scanned.parts.rows scanned.tells_rows) valid connected
-input_of (Mark scheme) bytes network None net (Some store) short scanned same valid connected built =
-    absurd built
-input_of (Mark scheme) bytes network (Some written) net store short scanned same valid connected
-    built =
-    let no_labels : TellsSome scanned.parts.rows (Some written) None =
-    subst (TellsSome scanned.parts.rows (Some written)) scanned.reads scanned.tells_labels in
-    absurd no_labels
-input_of (Verify scheme) bytes network None net store short scanned same valid connected built =
-    let found = some_of scanned.parts.labels scanned.reads in
-    let no_text : TellsSome scanned.parts.rows None (Some found.0) =
-    subst (TellsSome scanned.parts.rows None) found.1 scanned.tells_labels in
-    absurd no_text
-input_of (Verify scheme) bytes network (Some written) net None short scanned same valid connected
-    built = absurd built
-input_of (Verify scheme) bytes network (Some written) net (Some store) short scanned same valid
-    connected built =
-    let found = some_of scanned.parts.labels scanned.reads in
-    let behind : TellsSome scanned.parts.rows (Some written) (Some found.0) =
-    subst (TellsSome scanned.parts.rows (Some written)) found.1 scanned.tells_labels in
-    labelled_input bytes network scanned.parts written found.0 net store short scanned.tells_rows
-    scanned.is found.1 behind (same scanned.parts.rows scanned.tells_rows) valid connected built
+-- events that were counted within the limit are so many
+few_events : (written : WrittenSchedule) (events : List Event) → written.events ≡ counted events
+    → written.events ≤ MAX_EVENTS → length events ≤ MAX_EVENTS
+few_events written events count few = omega (arith, count, few)
 
--- the network of an input is connected, and the input is within the limit
-pub input_readable : (command : Command) (bytes : List ℕ) (rows : List NodeRow)
-    (labels : Option (List (List Bool))) → IsInputOf command bytes rows labels → IsReadable rows
-input_readable (Mark scheme) bytes rows None input = input.readable
-input_readable (Mark scheme) bytes rows (Some labels) input = absurd input
-input_readable (Verify scheme) bytes rows None input = absurd input
-input_readable (Verify scheme) bytes rows (Some labels) input = input.readable
+-- what was scanned and built of an input, within the limits
+pub record IsMade (shape : Shape) (bytes : List ℕ) (texts : Texts) (net : List NodeRow)
+    (store : List (List Bool)) (list : List Event) : Type 0 where
+  pub scanned : IsScanned shape bytes texts
+  pub few : IfSome texts.schedule (λ text. text.events ≤ MAX_EVENTS)
+  pub rows : (rows : List NodeRow) → TellsNetwork texts.network rows → net ≡ rows
+  pub valid : IsNetwork net
+  pub labels : AreBuilt net texts.labels store
+  pub events : AreListed texts.schedule list
 
-pub input_short : (command : Command) (bytes : List ℕ) (rows : List NodeRow)
-    (labels : Option (List (List Bool))) → IsInputOf command bytes rows labels
-    → length bytes ≤ MAX_INPUT
-input_short (Mark scheme) bytes rows None input = input.short
-input_short (Mark scheme) bytes rows (Some labels) input = absurd input
-input_short (Verify scheme) bytes rows None input = absurd input
-input_short (Verify scheme) bytes rows (Some labels) input = input.short
+module _ (bytes : List ℕ) (texts : Texts) (net : List NodeRow) (store : List (List Bool))
+    (list : List Event) (short : length bytes ≤ MAX_INPUT) (connected : IsConnected net) where
+  abbrev pub Made : Shape → Type 0
+  Made shape = IsMade shape bytes texts net store list
 
--- an input of `mark` is a network
-pub input_to_mark : (scheme : SchemeName) (bytes : List ℕ) (rows : List NodeRow)
-    (labels : Option (List (List Bool))) → IsInputOf (Mark scheme) bytes rows labels
-    → IsNetworkInput bytes rows
-input_to_mark scheme bytes rows None input = input
-input_to_mark scheme bytes rows (Some labels) input = absurd input
+  is_net : (shape : Shape) (made : Made shape) → net ≡ made.scanned.parts.rows
+  is_net shape made = made.rows made.scanned.parts.rows made.scanned.tells_rows
 
--- an input of `verify` has labels
-pub input_to_verify : (scheme : SchemeName) (bytes : List ℕ) (rows : List NodeRow)
-    (labels : Option (List (List Bool))) → IsInputOf (Verify scheme) bytes rows labels
-    → (found : List (List Bool)) × (labels ≡ Some found) × IsInput bytes rows found
-input_to_verify scheme bytes rows None input = absurd input
-input_to_verify scheme bytes rows (Some labels) input = (labels, refl, input)
+  readable : (shape : Shape) → Made shape → IsReadable net
+  readable shape made = record {
+    network = made.valid;
+    connected = connected;
+    ranges = subst AreRows (sym (is_net shape made)) made.scanned.tells_rows.fits;
+  }
+
+  -- the labels of parts that have them
+  labels_read : (shape : Shape) (made : Made shape) (found : List NamedLabel)
+      → made.scanned.parts.labels ≡ Some found → AreRead net store found
+  labels_read shape made found some =
+      let parts = made.scanned.parts in
+      let text = some_labels parts.rows texts.labels parts.labels found some
+      made.scanned.tells_labels in
+      read_labels parts.rows net text.0 found store text.2 (rw text.1 at made.labels)
+
+  labels_none : (shape : Shape) (made : Made shape) → made.scanned.parts.labels ≡ None → store ≡ []
+  labels_none shape made none =
+      let parts = made.scanned.parts in
+      rw (no_labels parts.rows texts.labels parts.labels none made.scanned.tells_labels)
+      at made.labels
+
+  -- the events of parts that have them
+  events_read : (shape : Shape) (made : Made shape) (found : List Event)
+      → made.scanned.parts.events ≡ Some found → (list ≡ found) × AreEvents list
+  events_read shape made found some =
+      let parts = made.scanned.parts in
+      let text = some_events parts.rows parts.labels texts.schedule parts.events found some
+      made.scanned.tells_events in
+      let listed : AreListed (Some text.0) list = rw text.1 at made.events in
+      let few : IfSome (Some text.0) (λ text. text.events ≤ MAX_EVENTS) = rw text.1 at made.few in
+      let same = listed found text.2.tells in (
+        same,
+        subst AreEvents (sym same) (record {
+          ranges = text.2.tells.fits;
+          few = few_events text.0 found text.2.count few;
+        }),
+      )
+
+  events_none : (shape : Shape) (made : Made shape) → made.scanned.parts.events ≡ None → list ≡ []
+  events_none shape made none =
+      let parts = made.scanned.parts in
+      rw (no_events parts.rows parts.labels texts.schedule parts.events none
+      made.scanned.tells_events) at made.events
+
+  -- what was scanned and built is an input
+  pub input_of : (shape : Shape) → Made shape
+      → IsInput shape bytes (record { rows = net; labels = store; events = list })
+  input_of Network made = record {
+    short = short;
+    readable = readable Network made;
+    filled = (
+      labels_none Network made made.scanned.has.0,
+      events_none Network made made.scanned.has.1,
+    );
+    is = made.scanned.is
+        ∙ alone_parts made.scanned.parts made.scanned.has.0 made.scanned.has.1
+        ∙ ap network_text (sym (is_net Network made));
+  }
+  input_of Labelled made =
+      let found = some_of made.scanned.parts.labels made.scanned.has.0 in
+      let read = labels_read Labelled made found.0 found.1 in
+      record {
+        short = short;
+        readable = readable Labelled made;
+        filled = (read.are, events_none Labelled made made.scanned.has.1);
+        is = made.scanned.is
+            ∙ labelled_parts made.scanned.parts found.0 found.1 made.scanned.has.1
+            ∙ ap (λ (rows : List NodeRow). network_text rows ++ labels_text found.0)
+            (sym (is_net Labelled made))
+            ∙ ap (λ (labels : List NamedLabel). network_text net ++ labels_text labels)
+            (sym read.back);
+      }
+  input_of Scheduled made =
+      let found = some_of made.scanned.parts.labels made.scanned.has.0 in
+      let events = some_of made.scanned.parts.events made.scanned.has.1 in
+      let read = labels_read Scheduled made found.0 found.1 in
+      let listed = events_read Scheduled made events.0 events.1 in
+      record {
+        short = short;
+        readable = readable Scheduled made;
+        filled = (read.are, listed.1);
+        is = made.scanned.is
+            ∙ scheduled_parts made.scanned.parts found.0 events.0 found.1 events.1
+            ∙ ap (λ (rows : List NodeRow). network_text rows
+            ++ (labels_text found.0 ++ schedule_text events.0)) (sym (is_net Scheduled made))
+            ∙ ap (λ (labels : List NamedLabel). network_text net
+            ++ (labels_text labels ++ schedule_text events.0)) (sym read.back)
+            ∙ ap (λ (events : List Event). network_text net
+            ++ (net_labels_text net store ++ schedule_text events)) (sym listed.0);
+      }
+
+  -- the line of the first event
+  pub line_of : (shape : Shape) → Made shape → shape ≡ Scheduled
+      → first_line_of texts.schedule
+      ≡ first_event_line (record { rows = net; labels = store; events = list })
+  line_of Network made is = absurd (cc)
+  line_of Labelled made is = absurd (cc)
+  line_of Scheduled made is =
+      let parts = made.scanned.parts in
+      let found = some_of parts.labels made.scanned.has.0 in
+      let events = some_of parts.events made.scanned.has.1 in
+      let read = labels_read Scheduled made found.0 found.1 in
+      let text = some_events parts.rows parts.labels texts.schedule parts.events events.0 events.1
+      made.scanned.tells_events in
+      let heading : text.0.number
+      ≡ heading_of parts.rows + length (labels_lines found.0) =
+      text.2.heading ∙ ap (λ labels. heading_of parts.rows + lines_behind labels) found.1 in
+      let lines : length (network_lines net) ≡ length (network_lines parts.rows) =
+      ap (λ (rows : List NodeRow). length (network_lines rows)) (is_net Scheduled made) in
+      let behind : length (labels_lines (named (ids_of net) store))
+      ≡ length (labels_lines found.0) =
+      ap (λ (labels : List NamedLabel). length (labels_lines labels)) read.back in
+      let line : text.0.number + 1
+      ≡ first_event_line (record { rows = net; labels = store; events = list }) =
+      omega (arith, heading, lines, behind) in
+      ap first_line_of text.1 ∙ line
 
 -- the smallest node is a node
 smallest_in : (rows : List NodeRow) → IsNetwork rows → Contains (ids_of rows) (smallest_id rows)
@@ -206,35 +313,69 @@ one_apart rows id other one two = by (nat_lt id other) (nat_lt other id) refl re
         let down : id ≤ other = grind (arith, nat_tests) in
         omega (arith, up, down)
 
--- the bytes of an input fix its parts
-pub one_input : (bytes : List ℕ) (rows other_rows : List NodeRow)
-    (labels other_labels : List (List Bool)) → IsInput bytes rows labels
-    → IsInput bytes other_rows other_labels
-    → (rows ≡ other_rows) × (labels ≡ other_labels)
-one_input bytes rows other_rows labels other_labels one other =
-    let parts : List NamedLabel = named (ids_of rows) labels in
-    let other_parts : List NamedLabel = named (ids_of other_rows) other_labels in
-    let first =
-    one_network rows other_rows (labels_text parts) (labels_text other_parts)
-    one.readable.ranges other.readable.ranges (sym one.is ∙ other.is) in
-    let ends : labels_text parts ++ [] ≡ labels_text other_parts ++ [] =
-    ap (λ (text : List ℕ). text ++ []) first.1 in
+-- the same labels stand behind the same rows
+same_labels : (rows others : List NodeRow) (one other : List (List Bool)) (x y : List ℕ)
+    → rows ≡ others → AreRows rows → AreRows others → AreLabels rows one → AreLabels others other
+    → net_labels_text rows one ++ x ≡ net_labels_text others other ++ y
+    → (one ≡ other) × (x ≡ y)
+same_labels rows others one other x y same ranges range mine theirs is =
+    let parts : List NamedLabel = named (ids_of rows) one in
+    let other_parts : List NamedLabel = named (ids_of others) other in
     let second =
-    one_labels parts other_parts [] [] (parts_fit rows labels one.readable one.labelled)
-    (parts_fit other_rows other_labels other.readable other.labelled) ends in
+    one_labels parts other_parts x y (net_labels_fit rows one ranges mine.few)
+    (net_labels_fit others other range theirs.few) is in
     let bits : List NamedLabel → List (List Bool) = map (λ label. label.bits) in
-    let mine : bits parts ≡ labels =
-    bare-named (ids_of rows) labels
-    (one.labelled.each ∙ sym (length-map rows (λ (row : NodeRow). row.id))) in
-    let others : bits other_parts ≡ other_labels =
-    bare-named (ids_of other_rows) other_labels
-    (other.labelled.each ∙ sym (length-map other_rows (λ (row : NodeRow). row.id))) in
-    (first.0, sym mine ∙ ap bits second.0 ∙ others)
+    let back : bits parts ≡ one =
+    bare-named (ids_of rows) one
+    (mine.each ∙ sym (length-map rows (λ (row : NodeRow). row.id))) in
+    let other_back : bits other_parts ≡ other =
+    bare-named (ids_of others) other
+    (theirs.each ∙ sym (length-map others (λ (row : NodeRow). row.id))) in
+    (sym back ∙ ap bits second.0 ∙ other_back, second.1)
 
--- the bytes of a network fix it
-pub one_network_input : (bytes : List ℕ) (rows other_rows : List NodeRow)
-    → IsNetworkInput bytes rows → IsNetworkInput bytes other_rows → rows ≡ other_rows
-one_network_input bytes rows other_rows one other =
-    let ends : network_text rows ++ [] ≡ network_text other_rows ++ [] =
-    ap (λ (text : List ℕ). text ++ []) (sym one.is ∙ other.is) in
-    (one_network rows other_rows [] [] one.readable.ranges other.readable.ranges ends).0
+-- inputs with the same parts are one
+same_parts : (one other : Input) → one.rows ≡ other.rows → one.labels ≡ other.labels
+    → one.events ≡ other.events → one ≡ other
+same_parts one other rows labels events =
+    ap (λ (rows : List NodeRow). record {
+      rows = rows;
+      labels = one.labels;
+      events = one.events;
+    }) rows
+    ∙ ap (λ (labels : List (List Bool)). record {
+      rows = other.rows;
+      labels = labels;
+      events = one.events;
+    }) labels
+    ∙ ap (λ (events : List Event). record {
+      rows = other.rows;
+      labels = other.labels;
+      events = events;
+    }) events
+
+-- the bytes of an input fix it
+pub one_input : (shape : Shape) (bytes : List ℕ) (one other : Input) → IsInput shape bytes one
+    → IsInput shape bytes other → one ≡ other
+one_input Network bytes one other mine theirs =
+    let ends : network_text one.rows ++ [] ≡ network_text other.rows ++ [] =
+    ap (λ (text : List ℕ). text ++ []) (sym mine.is ∙ theirs.is) in
+    let rows = one_network one.rows other.rows [] [] mine.readable.ranges theirs.readable.ranges
+    ends in
+    same_parts one other rows.0 (mine.filled.0 ∙ sym theirs.filled.0)
+    (mine.filled.1 ∙ sym theirs.filled.1)
+one_input Labelled bytes one other mine theirs =
+    let rows = one_network one.rows other.rows _ _ mine.readable.ranges theirs.readable.ranges
+    (sym mine.is ∙ theirs.is) in
+    let labels = same_labels one.rows other.rows one.labels other.labels [] [] rows.0
+    mine.readable.ranges theirs.readable.ranges mine.filled.0 theirs.filled.0
+    (ap (λ (text : List ℕ). text ++ []) rows.1) in
+    same_parts one other rows.0 labels.0 (mine.filled.1 ∙ sym theirs.filled.1)
+one_input Scheduled bytes one other mine theirs =
+    let rows = one_network one.rows other.rows _ _ mine.readable.ranges theirs.readable.ranges
+    (sym mine.is ∙ theirs.is) in
+    let labels = same_labels one.rows other.rows one.labels other.labels _ _ rows.0
+    mine.readable.ranges theirs.readable.ranges mine.filled.0 theirs.filled.0 rows.1 in
+    let events = one_told (schedule_text one.events) one.events other.events
+    (record { fits = mine.filled.1.ranges; is = refl })
+    (record { fits = theirs.filled.1.ranges; is = labels.1 }) in
+    same_parts one other rows.0 labels.0 events

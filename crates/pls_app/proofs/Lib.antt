@@ -3,10 +3,11 @@ mod Certified
 mod Consumed
 mod Inputs
 mod OneAnswer
+mod Played
 mod Proved
 mod Refused
-mod Reports
 mod Rounds
+mod Schedules
 mod TextLengths
 mod Told
 mod Whole

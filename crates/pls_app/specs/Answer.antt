@@ -1,5 +1,5 @@
 -- What a run answers: a status and a text, from its words and its input.
-use Rattle.std.specs.Prelude.{◌≡◌, ℕ, Bool, List, [], ◌∷◌, codes, decimal, Option, Some, None, if◌then◌else◌, ◌==◌, ◌⊎◌}
+use Rattle.std.specs.Prelude.{◌≡◌, ℕ, Bool, true, false, List, [], ◌∷◌, map, codes, decimal, Option, Some, None, if◌then◌else◌, ◌⊎◌}
 use Rattle.pls_base.specs.declared.text_error.TextError.{TextError}
 use Rattle.pls_base.specs.declared.text_error.TextError.TheVariants.{Form, Limit, Sense, NoMemory}
 use Rattle.pls_base.specs.Quantity.{quantity_text}
@@ -10,15 +10,19 @@ use Rattle.pls_model.specs.declared.verdict.Verdict.{Verdict}
 use Rattle.pls_model.specs.Configuration.{ids_of}
 use Rattle.pls_lines.specs.Text.{line_of, text_of}
 use Rattle.pls_labelfile.specs.LabelsText.{labels_text, named}
-use Rattle.pls_scheme.specs.Judging.{round_by}
+use Rattle.pls_view.specs.Seen.{Seen, views}
+use Rattle.pls_sim.specs.declared.event.Event.{Event}
+use Rattle.pls_sim.specs.declared.outcome.Outcome.{Outcome}
+use Rattle.pls_sim.specs.declared.outcome.Outcome.TheVariants.{Decided}
+use Rattle.pls_sim.specs.Schedule.{outcome_of}
+use Rattle.pls_report.specs.Report.{all_accept, report_text}
 use Rattle.pls_app.specs.declared.command.Command.{Command}
-use Rattle.pls_app.specs.declared.command.Command.TheVariants.{Mark, Verify}
+use Rattle.pls_app.specs.declared.command.Command.TheVariants.{Mark, Verify, Simulate}
 use Rattle.pls_combine.specs.declared.scheme_name.SchemeName.{SchemeName}
-use Rattle.pls_app.specs.Command.{command_of}
+use Rattle.pls_app.specs.Command.{command_of, shape_of}
 use Rattle.pls_combine.specs.Named.{HasProperty, IsMarked, judge_of}
-use Rattle.pls_app.specs.Report.{rejecting, report_text}
-use Rattle.pls_app.specs.Input.{IsInput, IsNetworkInput}
-use Rattle.pls_app.specs.Order.{IsRefused}
+use Rattle.pls_app.specs.Input.{Input, IsInput}
+use Rattle.pls_app.specs.Order.{IsRefused, work_refusal}
 
 -- how a run ends, and the text that it writes
 pub record Answer : Type 0 where
@@ -48,9 +52,29 @@ refusal_line NoMemory = []
 abbrev pub refusal : TextError → Answer
 refusal error = record { status = refusal_status error; text = text_of (refusal_line error ∷ []) }
 
--- the answer to a round: its report, and whether all accept
-abbrev pub report : List (ℕ × Verdict) → Answer
-report rows = record { status = if rejecting rows == 0 then Done else No; text = report_text rows }
+-- the answer with a report: its text, and whether all accept
+abbrev pub report : Bool → List (ℕ × Outcome) → Answer
+report simulated rows = record {
+  status = if all_accept rows then Done else No;
+  text = report_text simulated rows;
+}
+
+-- what becomes of the nodes in a round in which each sees all of its neighbours
+abbrev pub decided_by : (Seen → Verdict) → List NodeRow → List (List Bool) → List (ℕ × Outcome)
+decided_by judge rows labels = map (λ view. (view.id, Decided (judge view))) (views rows labels)
+
+-- what becomes of the nodes in a round that is played from a schedule
+abbrev pub played_by : (Seen → Verdict) → List NodeRow → List (List Bool) → List Event
+    → List (ℕ × Outcome)
+played_by judge rows labels events =
+    map (λ row. (row.id, outcome_of judge rows labels events row)) rows
+
+-- the outcomes that a command reports
+abbrev pub outcomes_in : Command → Input → List (ℕ × Outcome)
+outcomes_in (Mark scheme) input = []
+outcomes_in (Verify scheme) input = decided_by (judge_of scheme) input.rows input.labels
+outcomes_in (Simulate scheme) input =
+    played_by (judge_of scheme) input.rows input.labels input.events
 
 -- the answer to a network that lacks the property
 abbrev pub no : Answer
@@ -67,13 +91,18 @@ Marks scheme rows answer =
     × (answer ≡ labelled rows labels))
     ⊎ ((HasProperty scheme rows → ⊥) × (answer ≡ no))
 
--- the answer to a command on the input that it reads
-abbrev pub Works : Command → List ℕ → Answer → Type 0
-Works (Mark scheme) bytes answer =
-    (rows : List NodeRow) × IsNetworkInput bytes rows × Marks scheme rows answer
-Works (Verify scheme) bytes answer =
-    (rows : List NodeRow) × (labels : List (List Bool)) × IsInput bytes rows labels
-    × (answer ≡ report (round_by (judge_of scheme) rows labels))
+-- the answer to a command on an input that it does not refuse
+abbrev pub Yields : Command → Input → Answer → Type 0
+Yields (Mark scheme) input answer = Marks scheme input.rows answer
+Yields (Verify scheme) input answer = answer ≡ report false (outcomes_in (Verify scheme) input)
+Yields (Simulate scheme) input answer = answer ≡ report true (outcomes_in (Simulate scheme) input)
+
+-- the bytes are an input of the command, and this is its answer to it
+pub record Works (command : Command) (bytes : List ℕ) (answer : Answer) : Type 0 where
+  pub input : Input
+  pub is : IsInput (shape_of command) bytes input
+  pub accepted : work_refusal command input ≡ None
+  pub yields : Yields command input answer
 
 -- the answer to a command on bytes
 abbrev pub Answers : Command → List ℕ → Answer → Type 0

@@ -5,9 +5,10 @@ ghost use Rattle.pls_base.specs.Streams.{LosesAtMost};
 ghost use Rattle.pls_app.specs.Answer.{Answers};
 ghost use Rattle.pls_app.specs.Run.{Certifies, HasRead, IsAnswered, IsCause};
 
-use crate::answer::{Answer, answer_to, refuse};
+use crate::answer::{Answer, refuse};
 use crate::command::{Command, SchemeName};
 use crate::limits::MAX_INPUT;
+use crate::work::answer_to;
 use pls_base::{NoMemory, Quantity, ReadError, Source, Status, TextError, read_all};
 use std::alloc::Global;
 
@@ -15,13 +16,13 @@ use std::alloc::Global;
 // none: a fault of the source, or want of memory.
 pub(crate) fn answer_from<S: Source>(
     alloc: Global,
-    command: Command,
+    command: &Command,
     source: &mut S,
 ) -> Result<Answer, Status>
     ensures answer { IfOk result (λ answer. (bytes : List ℕ) → S.left source.old ≡ Some bytes
-        → Answers command bytes answer) }
+        → Answers command.now bytes answer) }
     ensures certified { IfOk result (λ answer. (scheme : SchemeName) (bytes : List ℕ)
-        → S.left source.old ≡ Some bytes → command ≡ Command.Mark scheme
+        → S.left source.old ≡ Some bytes → command.now ≡ Command.Mark scheme
         → answer.status ≡ Status.Done → Certifies scheme bytes answer.text) }
     ensures answered { IfOk result (λ answer. IsAnswered answer.status) }
     ensures read { OnOk result (HasRead (S.left source.old) (S.left source.new)) }

@@ -14,11 +14,16 @@ mod laws;
 mod limits;
 mod mark;
 mod program;
-mod report;
+mod refusal_number;
+mod shape;
+mod simulate;
 mod verify;
+mod work;
 
 pub use command::{Command, SchemeName};
 pub use laws::{one_answer, one_input};
 pub use limits::MAX_INPUT;
 pub use pls_base::Status;
 pub use program::run;
+pub use refusal_number::UNAPPLIED;
+pub use shape::Shape;

@@ -6,7 +6,7 @@ ghost use Rattle.pls_model.specs.declared.status.Status.TheVariants.{Done};
 ghost use Rattle.pls_app.specs.Answer.{Marks};
 ghost use Rattle.pls_app.specs.Run.{IsAnswered, ShowsIn};
 
-use crate::answer::Answer;
+use crate::answer::{Answer, Content, no};
 use crate::command::SchemeName;
 use pls_base::{NoMemory, Status};
 use pls_graph::Network;
@@ -25,11 +25,8 @@ pub(crate) fn mark(alloc: Global, scheme: SchemeName, net: &Network) -> Result<A
     match scheme.mark(alloc, net)? {
         Some(labels) => Ok(Answer {
             status: Status::Done,
-            text: write_labels(alloc, net, &labels)?,
+            content: Content::Written(write_labels(alloc, net, &labels)?),
         }),
-        None => Ok(Answer {
-            status: Status::No,
-            text: b"no\n".to_vec(alloc)?,
-        }),
+        None => Ok(no()),
     }
 }

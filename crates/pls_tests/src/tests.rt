@@ -12,6 +12,7 @@ mod netfile;
 mod pointers;
 mod refusals;
 mod schemes;
+mod simulate;
 mod small;
 mod streams;
 mod trees;

@@ -28,11 +28,11 @@ returns-in-Err-TooLong-clause-answer g c =
     let new = g.S.Source.left c.read_all.new.source in
     let lost = c.in-Err-TooLong.ensures.too_long (rw c.in-Err-TooLong.field-0-is refl) in
     ok_again c.refuse.result c.or_no_memory-in-Err-TooLong.result _
-    (λ answer. (bytes : List ℕ) → old ≡ Some bytes → Answers c.args.command bytes answer)
+    (λ answer. (bytes : List ℕ) → old ≡ Some bytes → Answers c.args.command.now bytes answer)
     (IfOk-weaker c.refuse.result (λ answer. answer ≡ refusal (Limit Input))
-    (λ answer. (bytes : List ℕ) → old ≡ Some bytes → Answers c.args.command bytes answer)
-    (λ answer same bytes told. refused_answer c.args.command bytes (Limit Input) answer
-    (too_long c.args.command old new bytes lost told) same) c.refuse.ensures.says)
+    (λ answer. (bytes : List ℕ) → old ≡ Some bytes → Answers c.args.command.now bytes answer)
+    (λ answer same bytes told. refused_answer c.args.command.now bytes (Limit Input) answer
+    (too_long c.args.command.now old new bytes lost told) same) c.refuse.ensures.says)
     c.or_no_memory-in-Err-TooLong.ensures
 
 pub returns-in-Err-TooLong-clause-lost : goal.returns-in-Err-TooLong-clause-lost
@@ -41,7 +41,7 @@ returns-in-Err-TooLong-clause-lost g c =
 
 pub returns-in-Ok-clause-answer : goal.returns-in-Ok-clause-answer
 returns-in-Ok-clause-answer g c =
-    let command = c.args.command in
+    let command = c.args.command.now in
     let old = g.S.Source.left c.args.source.now in
     let read = c.deref.result.now in
     ok_again c.answer_to.result c.or_no_memory.result _
@@ -55,7 +55,7 @@ returns-in-Ok-clause-answer g c =
 
 pub returns-in-Ok-clause-certified : goal.returns-in-Ok-clause-certified
 returns-in-Ok-clause-certified g c =
-    let command = c.args.command in
+    let command = c.args.command.now in
     let old = g.S.Source.left c.args.source.now in
     let read = c.deref.result.now in
     ok_again c.answer_to.result c.or_no_memory.result _
@@ -75,7 +75,7 @@ returns-in-Ok-clause-certified g c =
 
 pub returns-in-Err-TooLong-clause-certified : goal.returns-in-Err-TooLong-clause-certified
 returns-in-Err-TooLong-clause-certified g c =
-    let command = c.args.command in
+    let command = c.args.command.now in
     let old = g.S.Source.left c.args.source.now in
     ok_again c.refuse.result c.or_no_memory-in-Err-TooLong.result _
     (λ answer. (scheme : SchemeName) (bytes : List ℕ) → old ≡ Some bytes → command ≡ Mark scheme
