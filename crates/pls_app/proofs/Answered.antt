@@ -9,12 +9,17 @@ use Rattle.pls_model.specs.declared.status.Status.{Status}
 use Rattle.pls_model.specs.declared.status.Status.TheVariants.{Done, No, Refused, Limit as OverLimit}
 use Rattle.pls_report.specs.Report.{all_accept}
 use Rattle.pls_app.specs.declared.command.Command.{Command}
-use Rattle.pls_app.specs.declared.command.Command.TheVariants.{Mark, Verify, Simulate}
+use Rattle.pls_app.specs.declared.command.Command.TheVariants.{With}
+use Rattle.pls_app.specs.declared.command.Task.{Task}
+use Rattle.pls_app.specs.declared.command.Task.TheVariants.{Mark, Verify, Simulate, Bound}
+use Rattle.pls_combine.specs.Expression.{Expression}
 use Rattle.pls_app.specs.declared.limits.TheConstants.{MAX_INPUT}
-use Rattle.pls_app.specs.Command.{command_of, shape_of}
+use Rattle.pls_app.specs.Command.{IsCommand, IsNoCommand, parts_of, shape_of}
 use Rattle.pls_app.specs.Input.{Input, IsInput}
 use Rattle.pls_app.specs.Order.{IsRefused, work_refusal}
-use Rattle.pls_app.specs.Answer.{Answer, Answers, IsAnswer, Yields, outcomes_in, refusal, usage}
+use Rattle.pls_app.specs.Answer.{Answer, Answers, IsAnswer, TaskYields, Yields, refusal, task_outcomes, usage}
+use Rattle.pls_app.specs.inner.Tasks.{Does}
+use Rattle.pls_app.proofs.Commands.{one_command}
 use Rattle.pls_app.specs.inner.Scanned.{Refuses}
 use Rattle.pls_app.specs.Run.{IsAnswered, IsRefusalStatus, Tells, TellsRefusal}
 use Rattle.pls_app.proofs.OneAnswer.{one_answer}
@@ -47,22 +52,22 @@ pub refused_answer : (command : Command) (bytes : List ℕ) (error : TextError) 
 refused_answer command bytes error answer refused same = inl (error, refused, same)
 
 -- words that are no command are answered so
-pub usage_answer : (words : List (List ℕ)) (bytes : List ℕ) → command_of words ≡ None
+pub usage_answer : (words : List (List ℕ)) (bytes : List ℕ) → IsNoCommand words
     → IsAnswer words bytes usage
-usage_answer words bytes none = rw none refl
+usage_answer words bytes none = inl (none, refl)
 
 -- the answer to a command is the answer to its words
 pub command_answer : (words : List (List ℕ)) (bytes : List ℕ) (command : Command) (answer : Answer)
-    → command_of words ≡ Some command → Answers command bytes answer → IsAnswer words bytes answer
-command_answer words bytes command answer is answers = rw is answers
+    → IsCommand words command → Answers command bytes answer → IsAnswer words bytes answer
+command_answer words bytes command answer is answers = inr (command, is, answers)
 
 -- the command of the words is one
 pub same_command : (words : List (List ℕ)) (command other : Command) (bytes : List ℕ)
-    (answer : Answer) → Some command ≡ command_of words → command_of words ≡ Some other
+    (answer : Answer) → IsCommand words command → IsCommand words other
     → Answers command bytes answer → Answers other bytes answer
 same_command words command other bytes answer is is_other answers =
-    let same : command ≡ other = cc in
-    subst (λ (command : Command). Answers command bytes answer) same answers
+    subst (λ (command : Command). Answers command bytes answer)
+    (one_command words command other is is_other) answers
 
 -- what is refused is answered so
 pub answered_by_refusal : {E : Type 0} (command : Command) (bytes : List ℕ) (error : TextError)
@@ -74,14 +79,9 @@ answered_by_refusal command bytes error (Ok answer) short refused says some =
     refused_answer command bytes error answer (inr (inl (short, refused some))) says
 answered_by_refusal command bytes error (Err e) short refused says some = tt
 
--- the command that was read is the command of the words
-pub the_command : (words : List (List ℕ)) (command other : Command)
-    → Some command ≡ command_of words → command_of words ≡ Some other → command ≡ other
-the_command words command other read is = cc
-
 -- the answer to a refusal is told
 pub tells_refusal : (words : List (List ℕ)) (command : Command) (bytes : List ℕ) (error : TextError)
-    (status : Status) (old new : Option (List ℕ)) → command_of words ≡ Some command
+    (status : Status) (old new : Option (List ℕ)) → IsCommand words command
     → IsRefused command bytes error → Tells words bytes status old new
     → TellsRefusal error status old new
 tells_refusal words command bytes error status old new is refused told =
@@ -96,8 +96,21 @@ tells_refusal words command bytes error status old new is refused told =
 
 -- the answer to the words is the answer to their command
 answer_of_command : (words : List (List ℕ)) (bytes : List ℕ) (command : Command) (answer : Answer)
-    → command_of words ≡ Some command → IsAnswer words bytes answer → Answers command bytes answer
-answer_of_command words bytes command answer is answers = rw is at answers
+    → IsCommand words command → IsAnswer words bytes answer → Answers command bytes answer
+answer_of_command words bytes command answer is answers = elim answers [
+  | inl none ↦ absurd (none.0 command is)
+  | inr found ↦ same_command words found.0 command bytes answer found.1 is found.2
+]
+
+-- a task answers what its refusal or its work says
+pub does_answer : (task : Task) (scheme : Expression) (bytes : List ℕ) (input : Input)
+    (answer : Answer) → IsInput (parts_of task) bytes input → Does task scheme input answer
+    → Answers (With task scheme) bytes answer
+does_answer task scheme bytes input answer is does = elim does [
+  | inl refused ↦
+      work_refused (With task scheme) bytes input refused.0 answer is refused.1 refused.2
+  | inr done ↦ worked_answer (With task scheme) bytes input answer is done.0 done.1
+]
 
 -- a report is `Done` or `No`
 report_ends : (all : Bool)
@@ -113,16 +126,22 @@ ends_so answer other same ends =
     (sym (ap (λ (answer : Answer). answer.status) same)) ends
 
 -- what a command answers to an input is `Done` or `No`
-yields_end : (command : Command) (input : Input) (answer : Answer) → Yields command input answer
-    → (answer.status ≡ Done) ⊎ (answer.status ≡ No)
-yields_end (Mark scheme) input answer yields = elim yields [
+task_ends : (task : Task) (scheme : Expression) (input : Input) (answer : Answer)
+    → TaskYields task scheme input answer → (answer.status ≡ Done) ⊎ (answer.status ≡ No)
+task_ends Mark scheme input answer yields = elim yields [
   | inl marked ↦ inl (ap (λ (answer : Answer). answer.status) marked.3)
   | inr lacks ↦ inr (ap (λ (answer : Answer). answer.status) lacks.1)
 ]
-yields_end (Verify scheme) input answer yields =
-    ends_so answer _ yields (report_ends (all_accept (outcomes_in (Verify scheme) input)))
-yields_end (Simulate scheme) input answer yields =
-    ends_so answer _ yields (report_ends (all_accept (outcomes_in (Simulate scheme) input)))
+task_ends (Verify json) scheme input answer yields =
+    ends_so answer _ yields (report_ends (all_accept (task_outcomes (Verify json) scheme input)))
+task_ends (Simulate json) scheme input answer yields =
+    ends_so answer _ yields (report_ends (all_accept (task_outcomes (Simulate json) scheme input)))
+task_ends Bound scheme input answer yields =
+    inl (ap (λ (answer : Answer). answer.status) yields)
+
+yields_end : (command : Command) (input : Input) (answer : Answer) → Yields command input answer
+    → (answer.status ≡ Done) ⊎ (answer.status ≡ No)
+yields_end (With task scheme) input answer yields = task_ends task scheme input answer yields
 
 -- `Done` and `No` are no refusals
 no_refusal : (status : Status) → (status ≡ Done) ⊎ (status ≡ No) → IsRefusalStatus status → ⊥
@@ -146,7 +165,7 @@ refusal_answered status refusal = elim refusal [
 
 -- a run that ends in a refusal has refused
 pub refusal_has_cause : (words : List (List ℕ)) (command : Command) (bytes : List ℕ)
-    (status : Status) (old new : Option (List ℕ)) → command_of words ≡ Some command
+    (status : Status) (old new : Option (List ℕ)) → IsCommand words command
     → Tells words bytes status old new → IsRefusalStatus status
     → (error : TextError) × IsRefused command bytes error
 refusal_has_cause words command bytes status old new is told refusal =

@@ -34,7 +34,7 @@ beyond quantity most count many =
     rw more refl
 
 -- a count that is no refusal is within its limit
-few_of : (quantity : Quantity) (most count : ℕ) → over quantity most count ≡ None → count ≤ most
+pub few_of : (quantity : Quantity) (most count : ℕ) → over quantity most count ≡ None → count ≤ most
 few_of quantity most count none = by (nat_lt most count) refl none
   where
     by : (b : Bool) → nat_lt most count ≡ b → (if b then Some (Limit quantity) else None) ≡ None

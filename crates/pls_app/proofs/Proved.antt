@@ -18,13 +18,17 @@ use Rattle.pls_sim.specs.declared.outcome.Outcome.TheVariants.{Decided}
 use Rattle.pls_sim.specs.Schedule.{outcome_after, outcome_of, unheard}
 use Rattle.pls_report.specs.Report.{all_accept, is_accepting}
 use Rattle.pls_app.specs.declared.command.Command.{Command}
-use Rattle.pls_app.specs.declared.command.Command.TheVariants.{Mark, Verify, Simulate}
-use Rattle.pls_combine.specs.declared.scheme_name.SchemeName.{SchemeName}
-use Rattle.pls_app.specs.Command.{Checks, shape_of}
+use Rattle.pls_app.specs.declared.command.Command.TheVariants.{With}
+use Rattle.pls_app.specs.declared.command.Task.{Task}
+use Rattle.pls_app.specs.declared.command.Task.TheVariants.{Mark, Verify, Simulate, Bound}
+use Rattle.pls_bits.specs.Gamma.{gamma_code, gamma_takes}
+use Rattle.pls_bits.specs.NumberCode.{TakesOnly}
+use Rattle.pls_bits.specs.laws.GammaLaws.{gamma_takes-only}
+use Rattle.pls_combine.specs.Expression.{Expression, HasProperty, judge_of}
+use Rattle.pls_combine.specs.laws.ExpressionLaws.{expression_sound}
+use Rattle.pls_app.specs.Command.{Checks, IsCheck, parts_of}
 use Rattle.pls_app.specs.Input.{Input, IsInput}
-use Rattle.pls_app.specs.Answer.{Answer, Answers, Yields, decided_by, outcomes_in, played_by, refusal_status, report}
-use Rattle.pls_combine.specs.Named.{judge_of}
-use Rattle.pls_combine.specs.laws.NamedLaws.{named_sound}
+use Rattle.pls_app.specs.Answer.{Answer, Answers, TaskYields, decided_by, played_by, refusal_status, report, task_outcomes}
 use Rattle.pls_app.specs.Run.{Lacks, Proves, SomeRejects}
 
 -- a verdict that is decided and accepting accepts
@@ -63,33 +67,35 @@ played_accept judge rows labels events all =
     accepts_after (unheard rows events row) (judge (view row))
     (each_accepts (λ row. (row.id, outcome_of judge rows labels events row)) rows all k d within))
 
--- the outcomes that a command reports all accept only where all nodes do
-all_judged : (scheme : SchemeName) (command : Command) (input : Input) → Checks scheme command
-    → all_accept (outcomes_in command input) ≡ true
-    → AllAccept (judge_of scheme) input.rows input.labels
-all_judged scheme (Mark other) input checks all = absurd checks
-all_judged scheme (Verify other) input checks all =
-    rw checks (decided_accept (judge_of other) input.rows input.labels all)
-all_judged scheme (Simulate other) input checks all =
-    rw checks (played_accept (judge_of other) input.rows input.labels input.events all)
+-- the outcomes that a task reports all accept only where all nodes do
+all_judged : (task : Task) (scheme : Expression) (input : Input) → IsCheck task
+    → all_accept (task_outcomes task scheme input) ≡ true
+    → AllAccept (judge_of gamma_takes scheme) input.rows input.labels
+all_judged Mark scheme input checks all = absurd checks
+all_judged (Verify json) scheme input checks all =
+    decided_accept (judge_of gamma_takes scheme) input.rows input.labels all
+all_judged (Simulate json) scheme input checks all =
+    played_accept (judge_of gamma_takes scheme) input.rows input.labels input.events all
+all_judged Bound scheme input checks all = absurd checks
 
--- a command that checks labels reads one for each node
-each_label : (scheme : SchemeName) (command : Command) (bytes : List ℕ) (input : Input)
-    → Checks scheme command → IsInput (shape_of command) bytes input
-    → length input.labels ≡ length input.rows
-each_label scheme (Mark other) bytes input checks is = absurd checks
-each_label scheme (Verify other) bytes input checks is = is.filled.0.each
-each_label scheme (Simulate other) bytes input checks is = is.filled.0.each
+-- a task that checks labels reads one for each node
+each_label : (task : Task) (bytes : List ℕ) (input : Input) → IsCheck task
+    → IsInput (parts_of task) bytes input → length input.labels ≡ length input.rows
+each_label Mark bytes input checks is = absurd checks
+each_label (Verify json) bytes input checks is = is.filled.0.each
+each_label (Simulate json) bytes input checks is = is.filled.0.each
+each_label Bound bytes input checks is = absurd checks
 
 -- and its status says whether all outcomes accept
-ends_by : (scheme : SchemeName) (command : Command) (input : Input) (answer : Answer)
-    → Checks scheme command → Yields command input answer
-    → answer.status ≡ (if all_accept (outcomes_in command input) then Done else No)
-ends_by scheme (Mark other) input answer checks yields = absurd checks
-ends_by scheme (Verify other) input answer checks yields =
+ends_by : (task : Task) (scheme : Expression) (input : Input) (answer : Answer) → IsCheck task
+    → TaskYields task scheme input answer
+    → answer.status ≡ (if all_accept (task_outcomes task scheme input) then Done else No)
+ends_by Mark scheme input answer checks yields = absurd checks
+ends_by (Verify json) scheme input answer checks yields =
     ap (λ (answer : Answer). answer.status) yields
-ends_by scheme (Simulate other) input answer checks yields =
+ends_by (Simulate json) scheme input answer checks yields =
     ap (λ (answer : Answer). answer.status) yields
+ends_by Bound scheme input answer checks yields = absurd checks
 
 -- `Done` says that all do, and `No` that some does not
 done_all : (all : Bool) → (if all then Done else No) ≡ Done → all ≡ true
@@ -113,25 +119,31 @@ refused_not_no (Limit quantity) ends = cc
 refused_not_no (Sense number place) ends = cc
 refused_not_no NoMemory ends = cc
 
+-- the gamma code is taken from the front of its own codes alone
+gamma_only : TakesOnly gamma_code gamma_takes
+gamma_only = λ bits number rest taken. gamma_takes-only bits number rest taken
+
 -- `Done` says that the network of the input has the property
-pub done_proves : (scheme : SchemeName) (command : Command) (bytes : List ℕ) (answer : Answer)
+pub done_proves : (scheme : Expression) (command : Command) (bytes : List ℕ) (answer : Answer)
     → Checks scheme command → Answers command bytes answer → answer.status ≡ Done
     → Proves scheme command bytes
-done_proves scheme command bytes answer checks answers done = elim answers [
+done_proves scheme (With task other) bytes answer checks answers done = elim answers [
   | inl refused ↦
       absurd (refused_not_done refused.0
       (sym (ap (λ (answer : Answer). answer.status) refused.2) ∙ done))
   | inr works ↦
       let input : Input = works.input in
-      let all = done_all (all_accept (outcomes_in command input))
-      (sym (ends_by scheme command input answer checks works.yields) ∙ done) in
-      let accepted = all_judged scheme command input checks all in
+      let all = done_all (all_accept (task_outcomes task other input))
+      (sym (ends_by task other input answer checks.0 works.yields) ∙ done) in
+      let accepted = all_judged task other input checks.0 all in
+      let holds : HasProperty other input.rows =
+      expression_sound gamma_code gamma_takes gamma_only other input.rows input.labels
+      works.is.readable.network works.is.readable.connected
+      (each_label task bytes input checks.0 works.is) accepted in
       record {
         input = input;
         is = works.is;
-        holds = named_sound scheme input.rows input.labels works.is.readable.network
-            works.is.readable.connected (each_label scheme command bytes input checks works.is)
-            accepted;
+        holds = subst (λ (scheme : Expression). HasProperty scheme input.rows) (sym checks.1) holds;
       }
 ]
 
@@ -153,18 +165,18 @@ some_fails (row ∷ rows) all = by (is_accepting row.1) refl (λ e. some_fails r
     by false is later all = (row, Contains-first row rows, is)
 
 -- `No` says that some node rejects what it sees, or still waits
-pub no_rejects : (scheme : SchemeName) (command : Command) (bytes : List ℕ) (answer : Answer)
+pub no_rejects : (scheme : Expression) (command : Command) (bytes : List ℕ) (answer : Answer)
     → Checks scheme command → Answers command bytes answer → answer.status ≡ No
     → SomeRejects command bytes
-no_rejects scheme command bytes answer checks answers ends = elim answers [
+no_rejects scheme (With task other) bytes answer checks answers ends = elim answers [
   | inl refused ↦
       absurd (refused_not_no refused.0
       (sym (ap (λ (answer : Answer). answer.status) refused.2) ∙ ends))
   | inr works ↦
       let input : Input = works.input in
-      let some = no_some (all_accept (outcomes_in command input))
-      (sym (ends_by scheme command input answer checks works.yields) ∙ ends) in
-      let found = some_fails (outcomes_in command input) some in
+      let some = no_some (all_accept (task_outcomes task other input))
+      (sym (ends_by task other input answer checks.0 works.yields) ∙ ends) in
+      let found = some_fails (task_outcomes task other input) some in
       record {
         input = input;
         is = works.is;
@@ -175,8 +187,8 @@ no_rejects scheme command bytes answer checks answers ends = elim answers [
 ]
 
 -- `No` after `mark` says that the network lacks the property
-pub no_lacks : (scheme : SchemeName) (bytes : List ℕ) (answer : Answer)
-    → Answers (Mark scheme) bytes answer → answer.status ≡ No → Lacks scheme bytes
+pub no_lacks : (scheme : Expression) (bytes : List ℕ) (answer : Answer)
+    → Answers (With Mark scheme) bytes answer → answer.status ≡ No → Lacks scheme bytes
 no_lacks scheme bytes answer answers ends = elim answers [
   | inl refused ↦
       absurd (refused_not_no refused.0
@@ -190,11 +202,12 @@ no_lacks scheme bytes answer answers ends = elim answers [
 ]
 
 -- labels that all accept make a round `Done`
-pub accepted_report : (scheme : SchemeName) (rows : List NodeRow) (labels : List (List Bool))
-    → AllAccept (judge_of scheme) rows labels
-    → (report false (decided_by (judge_of scheme) rows labels)).status ≡ Done
+pub accepted_report : (scheme : Expression) (rows : List NodeRow) (labels : List (List Bool))
+    → AllAccept (judge_of gamma_takes scheme) rows labels
+    → (report false false (decided_by (judge_of gamma_takes scheme) rows labels)).status ≡ Done
 accepted_report scheme rows labels accepted =
-    let row : Seen → ℕ × Outcome = λ view. (view.id, Decided (judge_of scheme view)) in
+    let judge : Seen → Verdict = judge_of gamma_takes scheme in
+    let row : Seen → ℕ × Outcome = λ view. (view.id, Decided (judge view)) in
     let all : all_accept (map row (views rows labels)) ≡ true =
     list_all-map (λ row. is_accepting row.1) row (views rows labels)
     ∙ list_all-from_AllPass (λ view. is_accepting (row view).1) (views rows labels)

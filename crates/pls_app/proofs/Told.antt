@@ -4,8 +4,8 @@ use Rattle.pls_base.specs.Streams.{Rose}
 use Rattle.pls_model.specs.declared.status.Status.{Status}
 use Rattle.pls_model.specs.declared.status.Status.TheVariants.{Done, No, WriteFault}
 use Rattle.pls_app.specs.declared.command.Command.{Command}
-use Rattle.pls_combine.specs.declared.scheme_name.SchemeName.{SchemeName}
-use Rattle.pls_app.specs.Command.{command_of}
+use Rattle.pls_combine.specs.Expression.{Expression}
+use Rattle.pls_app.specs.Command.{IsCommand}
 use Rattle.pls_app.specs.Answer.{Answer, Answers, IsAnswer}
 use Rattle.pls_app.proofs.Answered.{command_answer}
 use Rattle.pls_app.specs.Run.{Certifies, IsAnswered, Tells, TellsPart, Told, TookCertificate}
@@ -40,7 +40,7 @@ told_done due status before after old new text told done = elim told [
 ]
 
 -- the sink of a run that ends in `Done` took the whole text
-pub took_certificate : (scheme : SchemeName) (bytes text : List ℕ) (due status : Status)
+pub took_certificate : (scheme : Expression) (bytes text : List ℕ) (due status : Status)
     (before after : ℕ) (old new : Option (List ℕ)) → Certifies scheme bytes text
     → Told due status before after old new text → status ≡ Done
     → TookCertificate scheme bytes old new
@@ -60,31 +60,31 @@ told_no due status before after old new text told ends = elim told [
 -- the answer to a command is told in the end
 pub tells_command : (words : List (List ℕ)) (bytes : List ℕ) (command : Command) (answer : Answer)
     (status : Status) (before after : ℕ) (old new : Option (List ℕ))
-    → Some command ≡ command_of words → Answers command bytes answer
+    → IsCommand words command → Answers command bytes answer
     → Told answer.status status before after old new answer.text → IsAnswered status
     → Tells words bytes status old new
 tells_command words bytes command answer status before after old new read answers told answered =
     tells words bytes answer status before after old new
-    (command_answer words bytes command answer (sym read) answers) told answered
+    (command_answer words bytes command answer read answers) told answered
 
 -- the answer to a command is told in part
 pub tells_part_of : (words : List (List ℕ)) (bytes : List ℕ) (command : Command) (answer : Answer)
     (status : Status) (before after : ℕ) (old new : Option (List ℕ))
-    → Some command ≡ command_of words → Answers command bytes answer → IsAnswered answer.status
+    → IsCommand words command → Answers command bytes answer → IsAnswered answer.status
     → Told answer.status status before after old new answer.text → status ≡ WriteFault
     → TellsPart words bytes old new
 tells_part_of words bytes command answer status before after old new read answers ended told fault =
     tells_part words bytes answer status before after old new
-    (command_answer words bytes command answer (sym read) answers) ended told fault
+    (command_answer words bytes command answer read answers) ended told fault
 
 -- a run whose sink was sure of its text ends as was due
 pub told_sure : (words : List (List ℕ)) (bytes : List ℕ) (answer : Answer) (status : Status)
-    (sure : ℕ → Type 0) (command : Command) → Some command ≡ command_of words
+    (sure : ℕ → Type 0) (command : Command) → IsCommand words command
     → Answers command bytes answer
     → ((answer : Answer) → IsAnswer words bytes answer → sure (length answer.text))
     → (sure (length answer.text) → status ≡ answer.status) → status ≡ answer.status
 told_sure words bytes answer status sure command read answers each ends =
-    ends (each answer (command_answer words bytes command answer (sym read) answers))
+    ends (each answer (command_answer words bytes command answer read answers))
 
 -- a run that wrote no answer, although one was due, met a write that failed
 pub told_answered : (due status : Status) (before after : ℕ) (old new : Option (List ℕ))

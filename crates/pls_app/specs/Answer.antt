@@ -17,10 +17,14 @@ use Rattle.pls_sim.specs.declared.outcome.Outcome.TheVariants.{Decided}
 use Rattle.pls_sim.specs.Schedule.{outcome_of}
 use Rattle.pls_report.specs.Report.{all_accept, report_text}
 use Rattle.pls_app.specs.declared.command.Command.{Command}
-use Rattle.pls_app.specs.declared.command.Command.TheVariants.{Mark, Verify, Simulate}
-use Rattle.pls_combine.specs.declared.scheme_name.SchemeName.{SchemeName}
-use Rattle.pls_app.specs.Command.{command_of, shape_of}
-use Rattle.pls_combine.specs.Named.{HasProperty, IsMarked, judge_of}
+use Rattle.pls_app.specs.declared.command.Command.TheVariants.{With}
+use Rattle.pls_app.specs.declared.command.Task.{Task}
+use Rattle.pls_app.specs.declared.command.Task.TheVariants.{Mark, Verify, Simulate, Bound}
+use Rattle.pls_bits.specs.Gamma.{gamma_code, gamma_takes}
+use Rattle.pls_graph.specs.Size.{size_of}
+use Rattle.pls_combine.specs.Expression.{Expression, HasProperty, IsMarked, judge_of, longest_of}
+use Rattle.pls_json.specs.Json.{json_text}
+use Rattle.pls_app.specs.Command.{IsCommand, IsNoCommand, shape_of}
 use Rattle.pls_app.specs.Input.{Input, IsInput}
 use Rattle.pls_app.specs.Order.{IsRefused, work_refusal}
 
@@ -52,11 +56,22 @@ refusal_line NoMemory = []
 abbrev pub refusal : TextError → Answer
 refusal error = record { status = refusal_status error; text = text_of (refusal_line error ∷ []) }
 
+-- the text of a report, in JSON or in lines
+abbrev pub report_in : Bool → Bool → List (ℕ × Outcome) → List ℕ
+report_in json simulated rows = if json then json_text rows else report_text simulated rows
+
 -- the answer with a report: its text, and whether all accept
-abbrev pub report : Bool → List (ℕ × Outcome) → Answer
-report simulated rows = record {
+abbrev pub report : Bool → Bool → List (ℕ × Outcome) → Answer
+report json simulated rows = record {
   status = if all_accept rows then Done else No;
-  text = report_text simulated rows;
+  text = report_in json simulated rows;
+}
+
+-- the answer with the number of bits that a label has at most
+abbrev pub bounded : ℕ → Answer
+bounded number = record {
+  status = Done;
+  text = text_of (line_of (codes "bound" ∷ decimal number ∷ []) ∷ []);
 }
 
 -- what becomes of the nodes in a round in which each sees all of its neighbours
@@ -69,12 +84,17 @@ abbrev pub played_by : (Seen → Verdict) → List NodeRow → List (List Bool) 
 played_by judge rows labels events =
     map (λ row. (row.id, outcome_of judge rows labels events row)) rows
 
--- the outcomes that a command reports
+-- the outcomes that a task with a scheme reports, and so a command
+abbrev pub task_outcomes : Task → Expression → Input → List (ℕ × Outcome)
+task_outcomes Mark scheme input = []
+task_outcomes (Verify json) scheme input =
+    decided_by (judge_of gamma_takes scheme) input.rows input.labels
+task_outcomes (Simulate json) scheme input =
+    played_by (judge_of gamma_takes scheme) input.rows input.labels input.events
+task_outcomes Bound scheme input = []
+
 abbrev pub outcomes_in : Command → Input → List (ℕ × Outcome)
-outcomes_in (Mark scheme) input = []
-outcomes_in (Verify scheme) input = decided_by (judge_of scheme) input.rows input.labels
-outcomes_in (Simulate scheme) input =
-    played_by (judge_of scheme) input.rows input.labels input.events
+outcomes_in (With task scheme) input = task_outcomes task scheme input
 
 -- the answer to a network that lacks the property
 abbrev pub no : Answer
@@ -85,17 +105,25 @@ abbrev pub labelled : List NodeRow → List (List Bool) → Answer
 labelled rows labels = record { status = Done; text = labels_text (named (ids_of rows) labels) }
 
 -- the answer to `mark` on a network: its labels, where it has the property, else `no`
-abbrev pub Marks : SchemeName → List NodeRow → Answer → Type 0
+abbrev pub Marks : Expression → List NodeRow → Answer → Type 0
 Marks scheme rows answer =
-    ((labels : List (List Bool)) × HasProperty scheme rows × IsMarked scheme rows labels
+    ((labels : List (List Bool)) × HasProperty scheme rows × IsMarked gamma_code scheme rows labels
     × (answer ≡ labelled rows labels))
     ⊎ ((HasProperty scheme rows → ⊥) × (answer ≡ no))
 
--- the answer to a command on an input that it does not refuse
+-- the answer to a task with a scheme on an input that it does not refuse
+abbrev pub TaskYields : Task → Expression → Input → Answer → Type 0
+TaskYields Mark scheme input answer = Marks scheme input.rows answer
+TaskYields (Verify json) scheme input answer =
+    answer ≡ report json false (task_outcomes (Verify json) scheme input)
+TaskYields (Simulate json) scheme input answer =
+    answer ≡ report json true (task_outcomes (Simulate json) scheme input)
+TaskYields Bound scheme input answer =
+    answer ≡ bounded (longest_of gamma_code scheme (size_of input.rows))
+
+-- and so to a command
 abbrev pub Yields : Command → Input → Answer → Type 0
-Yields (Mark scheme) input answer = Marks scheme input.rows answer
-Yields (Verify scheme) input answer = answer ≡ report false (outcomes_in (Verify scheme) input)
-Yields (Simulate scheme) input answer = answer ≡ report true (outcomes_in (Simulate scheme) input)
+Yields (With task scheme) input answer = TaskYields task scheme input answer
 
 -- the bytes are an input of the command, and this is its answer to it
 pub record Works (command : Command) (bytes : List ℕ) (answer : Answer) : Type 0 where
@@ -110,11 +138,8 @@ Answers command bytes answer =
     ((error : TextError) × IsRefused command bytes error × (answer ≡ refusal error))
     ⊎ Works command bytes answer
 
--- the answer to words on bytes
-abbrev pub AnswersWords : Option Command → List ℕ → Answer → Type 0
-AnswersWords None bytes answer = answer ≡ usage
-AnswersWords (Some command) bytes answer = Answers command bytes answer
-
--- the answer of a run
+-- the answer of a run: that of the command that its words are, or `usage` where they are none
 abbrev pub IsAnswer : List (List ℕ) → List ℕ → Answer → Type 0
-IsAnswer words bytes answer = AnswersWords (command_of words) bytes answer
+IsAnswer words bytes answer =
+    (IsNoCommand words × (answer ≡ usage))
+    ⊎ ((command : Command) × IsCommand words command × Answers command bytes answer)

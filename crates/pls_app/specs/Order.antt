@@ -1,10 +1,10 @@
 -- Why an input is refused: the refusals in their order, of which the first that occurs is answered.
-use Rattle.std.specs.Prelude.{◌≡◌, ℕ, ◌+◌, ◌≤◌, ◌<◌, nat_lt, if◌then◌else◌, List, [], ◌∷◌, ◌++◌, length, All, Option, Some, None, IfSome, IsSome, option_map, option_and_then, ◌⊎◌}
+use Rattle.std.specs.Prelude.{◌≡◌, ℕ, ◌+◌, ◌*◌, ◌≤◌, ◌<◌, nat_lt, if◌then◌else◌, List, [], ◌∷◌, ◌++◌, length, All, Option, Some, None, IfSome, IsSome, option_map, option_and_then, ◌⊎◌}
 use Rattle.pls_base.specs.declared.refusal_number.TheConstants.{APART}
 use Rattle.pls_base.specs.declared.text_error.TextError.{TextError}
 use Rattle.pls_base.specs.declared.text_error.TextError.TheVariants.{Limit, Sense}
 use Rattle.pls_base.specs.declared.text_error.Quantity.{Quantity}
-use Rattle.pls_base.specs.declared.text_error.Quantity.TheVariants.{Input as InputBytes, Nodes, Ports, Bits, Events}
+use Rattle.pls_base.specs.declared.text_error.Quantity.TheVariants.{Input as InputBytes, Nodes, Ports, Bits, Events, Labels}
 use Rattle.pls_model.specs.declared.row.NodeRow.{NodeRow}
 use Rattle.pls_model.specs.declared.limits.TheConstants.{MAX_NODES, MAX_PORTS}
 use Rattle.pls_model.specs.Configuration.{first_of, ids_of, ports_in, refusal_of}
@@ -20,8 +20,13 @@ use Rattle.pls_labelfile.specs.declared.limits.TheConstants.{MAX_BITS}
 use Rattle.pls_sim.specs.declared.event.Event.{Event}
 use Rattle.pls_sim.specs.declared.limits.TheConstants.{MAX_EVENTS}
 use Rattle.pls_sim.specs.ScheduleText.{FitsEvent, IsSchedulePart, schedule_text}
+use Rattle.pls_bits.specs.Gamma.{gamma_code}
+use Rattle.pls_graph.specs.Size.{size_of}
+use Rattle.pls_combine.specs.Expression.{Expression, longest_of}
 use Rattle.pls_app.specs.declared.command.Command.{Command}
-use Rattle.pls_app.specs.declared.command.Command.TheVariants.{Mark, Verify, Simulate}
+use Rattle.pls_app.specs.declared.command.Command.TheVariants.{With}
+use Rattle.pls_app.specs.declared.command.Task.{Task}
+use Rattle.pls_app.specs.declared.command.Task.TheVariants.{Mark, Verify, Simulate, Bound}
 use Rattle.pls_app.specs.declared.shape.Shape.{Shape}
 use Rattle.pls_app.specs.declared.shape.Shape.TheVariants.{Network, Labelled, Scheduled}
 use Rattle.pls_app.specs.declared.limits.TheConstants.{MAX_INPUT}
@@ -118,11 +123,23 @@ abbrev pub IsRefusedText : Shape → List ℕ → TextError → Type 0
 IsRefusedText shape bytes error =
     NamesFirstFault (HasForm shape) bytes error ⊎ RefusesParts shape bytes error
 
+-- the limit on the labels that `mark` writes: the bits of as many labels as there are nodes, each of
+-- which has as many bits as the longest can have
+abbrev pub labels_over : Expression → List NodeRow → Option TextError
+labels_over scheme rows =
+    over Labels MAX_BITS (length rows * longest_of gamma_code scheme (size_of rows))
+
+-- why a task with a scheme refuses an input that was read, if it does
+abbrev pub task_refusal : Task → Expression → Input → Option TextError
+task_refusal Mark scheme input = labels_over scheme input.rows
+task_refusal (Verify json) scheme input = None
+task_refusal (Simulate json) scheme input =
+    unapplied input.rows (first_event_line input) input.events
+task_refusal Bound scheme input = None
+
 -- why a command refuses an input that was read, if it does
 abbrev pub work_refusal : Command → Input → Option TextError
-work_refusal (Mark scheme) input = None
-work_refusal (Verify scheme) input = None
-work_refusal (Simulate scheme) input = unapplied input.rows (first_event_line input) input.events
+work_refusal (With task scheme) input = task_refusal task scheme input
 
 -- the bytes are an input of the command, and this is why it refuses it
 pub record RefusesWork (command : Command) (bytes : List ℕ) (error : TextError) : Type 0 where

@@ -13,12 +13,12 @@ use Rattle.pls_scheme.specs.Judging.{AllAccept}
 use Rattle.pls_scheme.specs.Marked.{answered}
 use Rattle.pls_app.specs.declared.limits.TheConstants.{MAX_INPUT}
 use Rattle.pls_app.specs.declared.command.Command.{Command}
-use Rattle.pls_combine.specs.declared.scheme_name.SchemeName.{SchemeName}
+use Rattle.pls_bits.specs.Gamma.{gamma_code, gamma_takes}
 use Rattle.pls_sim.specs.declared.outcome.Outcome.{Outcome}
 use Rattle.pls_report.specs.Report.{is_accepting}
 use Rattle.pls_app.specs.declared.shape.Shape.TheVariants.{Network}
-use Rattle.pls_app.specs.Command.{command_of, shape_of, verify_words}
-use Rattle.pls_combine.specs.Named.{HasProperty, judge_of, longest_of}
+use Rattle.pls_app.specs.Command.{IsCommand, shape_of, verify_words}
+use Rattle.pls_combine.specs.Expression.{Expression, HasProperty, judge_of, longest_of}
 use Rattle.pls_app.specs.Input.{Input, IsInput}
 use Rattle.pls_app.specs.Order.{IsRefused}
 use Rattle.pls_app.specs.Answer.{Answer, IsAnswer, outcomes_in, refusal, refusal_status}
@@ -26,7 +26,7 @@ use Rattle.pls_app.specs.Answer.{Answer, IsAnswer, outcomes_in, refusal, refusal
 -- the words are this command, and the source tells these bytes
 pub record Asks (words : List (List ℕ)) (left : Option (List ℕ)) (command : Command)
     (bytes : List ℕ) : Type 0 where
-  pub asked : command_of words ≡ Some command
+  pub asked : IsCommand words command
   pub told : left ≡ Some bytes
 
 -- the run came to its answer: no fault, and no want of memory
@@ -92,11 +92,15 @@ HasRead (Some bytes) new =
     (length bytes ≤ MAX_INPUT → new ≡ Some [])
     × (MAX_INPUT < length bytes → new ≡ Some (drop (MAX_INPUT + 1) bytes))
 
+-- how a run ends whose words are no command
+abbrev pub IsUsageEnd : Status → Type 0
+IsUsageEnd status = (status ≡ Usage) ⊎ ((status ≡ WriteFault) ⊎ (status ≡ NoMemory))
+
 -- what a run takes from its source: one that answers a command has read it to its end, or up to the
 -- first byte past the limit, and none takes more
 pub record Consumes (words : List (List ℕ)) (status : Status)
     (old new : Option (List ℕ)) : Type 0 where
-  pub read : (command : Command) → command_of words ≡ Some command → IsAnswered status
+  pub read : (command : Command) → IsCommand words command → IsAnswered status
       → HasRead old new
   pub no_more : LosesAtMost old new (MAX_INPUT + 1)
 
@@ -118,7 +122,7 @@ pub record RefusesExactly (command : Command) (bytes : List ℕ) (status : Statu
   pub caused : IsRefusalStatus status → (error : TextError) × IsRefused command bytes error
 
 -- the bytes are an input of the command, whose network is connected and has the property
-pub record Proves (scheme : SchemeName) (command : Command) (bytes : List ℕ) : Type 0 where
+pub record Proves (scheme : Expression) (command : Command) (bytes : List ℕ) : Type 0 where
   pub input : Input
   pub is : IsInput (shape_of command) bytes input
   pub holds : HasProperty scheme input.rows
@@ -133,15 +137,15 @@ pub record SomeRejects (command : Command) (bytes : List ℕ) : Type 0 where
 
 -- labels that show the property of a network: there is one for each node, all nodes accept them,
 -- and each is within the bound
-pub record Shows (scheme : SchemeName) (rows : List NodeRow)
+pub record Shows (scheme : Expression) (rows : List NodeRow)
     (labels : List (List Bool)) : Type 0 where
   pub holds : HasProperty scheme rows
   pub each : length labels ≡ length rows
-  pub accepted : AllAccept (judge_of scheme) rows labels
-  pub short : All (λ label. length label ≤ answered (longest_of scheme (size_of rows))) labels
+  pub accepted : AllAccept (judge_of gamma_takes scheme) rows labels
+  pub short : All (λ label. length label ≤ answered (longest_of gamma_code scheme (size_of rows))) labels
 
 -- the text has labels that show the property of a network
-pub record ShowsIn (scheme : SchemeName) (rows : List NodeRow) (text : List ℕ) : Type 0 where
+pub record ShowsIn (scheme : Expression) (rows : List NodeRow) (text : List ℕ) : Type 0 where
   pub labels : List (List Bool)
   pub shows : Shows scheme rows labels
   pub is : text ≡ labels_text (named (ids_of rows) labels)
@@ -154,7 +158,7 @@ pub record IsDone (words : List (List ℕ)) (bytes : List ℕ) : Type 0 where
 
 -- the text has labels that show the property of the network of the bytes, and `verify` on the bytes
 -- followed by the text is done
-pub record Certifies (scheme : SchemeName) (bytes text : List ℕ) : Type 0 where
+pub record Certifies (scheme : Expression) (bytes text : List ℕ) : Type 0 where
   pub input : Input
   pub labels : List (List Bool)
   pub is : IsInput Network bytes input
@@ -163,14 +167,14 @@ pub record Certifies (scheme : SchemeName) (bytes text : List ℕ) : Type 0 wher
   pub verified : IsDone (verify_words scheme) (bytes ++ text)
 
 -- the sink took such a text
-pub record TookCertificate (scheme : SchemeName) (bytes : List ℕ)
+pub record TookCertificate (scheme : Expression) (bytes : List ℕ)
     (old new : Option (List ℕ)) : Type 0 where
   pub text : List ℕ
   pub took : Appends old new text
   pub certifies : Certifies scheme bytes text
 
 -- the network of the bytes lacks the property
-pub record Lacks (scheme : SchemeName) (bytes : List ℕ) : Type 0 where
+pub record Lacks (scheme : Expression) (bytes : List ℕ) : Type 0 where
   pub input : Input
   pub is : IsInput Network bytes input
   pub lacks : HasProperty scheme input.rows → ⊥

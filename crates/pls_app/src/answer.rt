@@ -6,6 +6,7 @@ ghost use Rattle.pls_app.specs.Answer.{no, refusal, refusal_status, report, usag
 ghost use Rattle.pls_app.specs.Run.{IsAnswered};
 
 use pls_base::{NoMemory, Status, TextError};
+use pls_json::json_report;
 use pls_report::all_accept;
 use pls_sim::Outcome;
 use std::alloc::Global;
@@ -61,15 +62,24 @@ pub(crate) fn no() -> Answer
     }
 }
 
-// The answer with a report of outcomes, each with the identity of its node.
-pub(crate) fn report(simulated: bool, rows: Vec<(u32, Outcome)>) -> Answer
-    ensures report { result ≡ report simulated rows.items }
-    ensures answered { IsAnswered result.status }
+// The answer with a report of outcomes, each with the identity of its node. The one error is want of
+// memory.
+pub(crate) fn report(
+    alloc: Global,
+    json: bool,
+    simulated: bool,
+    rows: Vec<(u32, Outcome)>,
+) -> Result<Answer, NoMemory>
+    ensures report { IfOk result (λ answer. answer ≡ report json simulated rows.items) }
+    ensures answered { IfOk result (λ answer. IsAnswered answer.status) }
 {
-    Answer {
-        status: round_status(&rows),
-        content: Content::Report { simulated, rows },
-    }
+    let status = round_status(&rows);
+    let content = if json {
+        Content::Written(json_report(alloc, &rows)?.into_bytes())
+    } else {
+        Content::Report { simulated, rows }
+    };
+    Ok(Answer { status, content })
 }
 
 // The status of a round: whether all nodes accept.

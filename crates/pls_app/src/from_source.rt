@@ -2,11 +2,13 @@
 
 ghost use Rattle.std.specs.Prelude.{◌≡◌, ◌+◌, ℕ, List, Some, Ok, Err, IfOk, IfErr, MatchResult, OnOk};
 ghost use Rattle.pls_base.specs.Streams.{LosesAtMost};
+ghost use Rattle.pls_combine.specs.Expression.{Expression};
 ghost use Rattle.pls_app.specs.Answer.{Answers};
 ghost use Rattle.pls_app.specs.Run.{Certifies, HasRead, IsAnswered, IsCause};
+ghost use Rattle.pls_app.specs.inner.Tasks.{IsSmallCommand};
 
 use crate::answer::{Answer, refuse};
-use crate::command::{Command, SchemeName};
+use crate::command::{Command, Task};
 use crate::limits::MAX_INPUT;
 use crate::work::answer_to;
 use pls_base::{NoMemory, Quantity, ReadError, Source, Status, TextError, read_all};
@@ -19,10 +21,11 @@ pub(crate) fn answer_from<S: Source>(
     command: &Command,
     source: &mut S,
 ) -> Result<Answer, Status>
+    requires { IsSmallCommand command.now }
     ensures answer { IfOk result (λ answer. (bytes : List ℕ) → S.left source.old ≡ Some bytes
         → Answers command.now bytes answer) }
-    ensures certified { IfOk result (λ answer. (scheme : SchemeName) (bytes : List ℕ)
-        → S.left source.old ≡ Some bytes → command.now ≡ Command.Mark scheme
+    ensures certified { IfOk result (λ answer. (scheme : Expression) (bytes : List ℕ)
+        → S.left source.old ≡ Some bytes → command.now ≡ Command.With Task.Mark scheme
         → answer.status ≡ Status.Done → Certifies scheme bytes answer.text) }
     ensures answered { IfOk result (λ answer. IsAnswered answer.status) }
     ensures read { OnOk result (HasRead (S.left source.old) (S.left source.new)) }

@@ -7,6 +7,7 @@
 #![tactic(auto)]
 
 mod answer;
+mod bound;
 mod command;
 mod from_source;
 mod input;
@@ -20,7 +21,7 @@ mod simulate;
 mod verify;
 mod work;
 
-pub use command::{Command, SchemeName};
+pub use command::{Command, Task};
 pub use laws::{one_answer, one_input};
 pub use limits::MAX_INPUT;
 pub use pls_base::Status;

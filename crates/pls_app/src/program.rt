@@ -1,16 +1,18 @@
 //! The one call that does all that the program does.
 
-ghost use Rattle.std.specs.Prelude.{◌≡◌, ◌⊎◌, ℕ, List, Some, None, IsOk, OnErr, OnOk, length};
+ghost use Rattle.std.specs.Prelude.{◌≡◌, ◌⊎◌, ℕ, List, Some, IsOk, OnErr, OnOk, length};
 ghost use Rattle.std.specs.Io.KnownBytes.{Appends};
 ghost use Rattle.pls_base.specs.Streams.{AppendsPart, Rose};
-ghost use Rattle.pls_app.specs.Command.{Checks, command_of, words_in};
-ghost use Rattle.pls_app.specs.Run.{Asks, Consumes, HasItsCause, IsAnswered, IsSureOfAnswer, Lacks, Proves, RefusesExactly, SomeRejects, Tells, TellsPart, Told, TookCertificate};
+ghost use Rattle.pls_words.specs.Words.{words_in};
+ghost use Rattle.pls_combine.specs.Expression.{Expression};
+ghost use Rattle.pls_app.specs.Command.{Checks, IsNoCommand};
+ghost use Rattle.pls_app.specs.Run.{Asks, Consumes, HasItsCause, IsAnswered, IsSureOfAnswer, IsUsageEnd, Lacks, Proves, RefusesExactly, SomeRejects, Tells, TellsPart, Told, TookCertificate};
 ghost use Rattle.pls_app.specs.inner.Written.{text_in};
 
 use crate::answer::{Answer, Content, usage};
-use crate::command::{Command, SchemeName, read_words};
+use crate::command::{Command, Task, read_command};
 use crate::from_source::answer_from;
-use pls_base::{Fault, Sink, Source, Status, write_all};
+use pls_base::{Fault, NoMemory, Sink, Source, Status, write_all};
 use pls_report::write_report;
 use std::alloc::Global;
 
@@ -25,18 +27,18 @@ pub fn run<'w, S: Source, K: Sink>(
     sink: &mut K,
 ) -> Status
     // What `Done` and `No` say of the network.
-    ensures check { (scheme : SchemeName) (command : Command) (bytes : List ℕ)
+    ensures check { (scheme : Expression) (command : Command) (bytes : List ℕ)
         → Asks (words_in words.now) (S.left source.old) command bytes → Checks scheme command
         → result ≡ Status.Done → Proves scheme command bytes }
-    ensures rejects { (scheme : SchemeName) (command : Command) (bytes : List ℕ)
+    ensures rejects { (scheme : Expression) (command : Command) (bytes : List ℕ)
         → Asks (words_in words.now) (S.left source.old) command bytes → Checks scheme command
         → result ≡ Status.No → SomeRejects command bytes }
-    ensures mark { (scheme : SchemeName) (bytes : List ℕ)
-        → Asks (words_in words.now) (S.left source.old) (Command.Mark scheme) bytes
+    ensures mark { (scheme : Expression) (bytes : List ℕ)
+        → Asks (words_in words.now) (S.left source.old) (Command.With Task.Mark scheme) bytes
         → result ≡ Status.Done
         → TookCertificate scheme bytes (K.taken sink.old) (K.taken sink.new) }
-    ensures mark_no { (scheme : SchemeName) (bytes : List ℕ)
-        → Asks (words_in words.now) (S.left source.old) (Command.Mark scheme) bytes
+    ensures mark_no { (scheme : Expression) (bytes : List ℕ)
+        → Asks (words_in words.now) (S.left source.old) (Command.With Task.Mark scheme) bytes
         → result ≡ Status.No → Lacks scheme bytes }
 
     // The status and the text are those of the answer to the words and the bytes. It comes, or want
@@ -61,13 +63,14 @@ pub fn run<'w, S: Source, K: Sink>(
         → TellsPart (words_in words.now) bytes (K.taken sink.old) (K.taken sink.new) }
 
     // What the source has lost: nothing where the words are no command.
-    ensures usage { command_of (words_in words.now) ≡ None
-        → ((result ≡ Status.Usage) ⊎ (result ≡ Status.WriteFault)) × (source.new ≡ source.old) }
+    ensures usage { IsNoCommand (words_in words.now)
+        → IsUsageEnd result × (source.new ≡ source.old) }
     ensures read { Consumes (words_in words.now) result (S.left source.old) (S.left source.new) }
 {
-    match read_words(words) {
-        None => tell(sink, &usage()),
-        Some(command) => match answer_from(alloc, &command, source) {
+    match read_command(alloc, words) {
+        Err(NoMemory) => Status::NoMemory,
+        Ok(None) => tell(sink, &usage()),
+        Ok(Some(command)) => match answer_from(alloc, &command, source) {
             Ok(answer) => tell(sink, &answer),
             Err(status) => status,
         },

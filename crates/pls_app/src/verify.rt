@@ -1,36 +1,40 @@
 //! The answer to `verify`.
 
-ghost use Rattle.std.specs.Prelude.{◌≡◌, false, length, map, zip, IfOk};
+ghost use Rattle.std.specs.Prelude.{◌≡◌, length, map, zip, IfOk};
 ghost use Rattle.pls_sim.specs.declared.outcome.Outcome.TheVariants.{Decided};
-ghost use Rattle.pls_combine.specs.Named.{judge_of};
-ghost use Rattle.pls_app.specs.Answer.{decided_by, report};
 ghost use Rattle.pls_app.specs.Run.{IsAnswered};
+ghost use Rattle.pls_app.specs.inner.Scanned.{said};
+ghost use Rattle.pls_app.specs.inner.Tasks.{Does, IsReadOf};
 
 use crate::answer::{Answer, report};
-use crate::command::SchemeName;
+use crate::command::Task;
+use crate::input::Input;
+use crate::shape::Shape;
 use pls_base::{NoMemory, Steps};
+use pls_bits::Gamma;
+use pls_combine::AnyScheme;
 use pls_graph::Network;
 use pls_model::Verdict;
 use pls_scheme::Checker;
 use pls_sim::Outcome;
-use pls_view::LabelStore;
 use std::alloc::Global;
 
-// The report of the round of a scheme under these labels.
+// The report of the round of a scheme under the labels of an input.
 pub(crate) fn verify(
     alloc: Global,
-    scheme: SchemeName,
-    net: &Network,
-    labels: &LabelStore,
+    scheme: &AnyScheme<Gamma>,
+    json: bool,
+    input: &Input,
 ) -> Result<Answer, NoMemory>
-    requires { length labels.now ≡ length net.now }
-    ensures reports { IfOk result
-        (λ answer. answer ≡ report false (decided_by (judge_of scheme) net.now labels.now)) }
+    requires { IsReadOf Shape.Labelled input.now }
+    ensures does { IfOk result
+        (λ answer. Does (Task.Verify json) scheme.now (said input.now) answer) }
     ensures answered { IfOk result (λ answer. IsAnswered answer.status) }
 {
-    let verdicts = scheme.round(alloc, net, labels, &mut Steps::new())?;
+    let net = &input.net;
+    let verdicts = scheme.round(alloc, net, &input.labels, &mut Steps::new())?;
     let rows = with_ids(alloc, net, &verdicts)?;
-    Ok(report(false, rows))
+    report(alloc, json, false, rows)
 }
 
 // Each verdict with the identity of its node, as an outcome.

@@ -1,5 +1,5 @@
 -- How long marked labels are at most.
-use Rattle.std.proofs.Common.{◌≡◌, ℕ, ◌-◌, ◌*◌, ◌^◌, ◌≤◌, nat_le, le-leb, if◌then◌else◌, Bool, true, false, length, arith}
+use Rattle.std.proofs.Common.{◌≡◌, ℕ, ◌+◌, ◌-◌, ◌*◌, ◌^◌, ◌≤◌, nat_le, le-leb, if◌then◌else◌, Bool, true, false, length, arith}
 use Rattle.std.proofs.Math.Nat.{mul-le-mul_right}
 use Rattle.pls_bits.specs.Gamma.{gamma_code}
 use Rattle.pls_bits.specs.laws.GammaLaws.{gamma_short}
@@ -10,6 +10,8 @@ use Rattle.pls_scheme.specs.Theorem.{AreWords}
 use Rattle.pls_scheme.specs.Length.{code_length}
 use Rattle.pls_combine.specs.declared.scheme_name.SchemeName.{SchemeName}
 use Rattle.pls_combine.specs.declared.scheme_name.SchemeName.TheVariants.{Acyclic, Bipartite, Count, Forest, Leader, ShortestPathTree, Tree}
+use Rattle.pls_combine.specs.Expression as expressions
+use Rattle.pls_combine.specs.Expression.{And, Basic, Expression, IsSmall, Or, leaves_of}
 use Rattle.pls_combine.specs.Named.{longest_of}
 
 -- the code of a number that has one has at most 125 bits
@@ -46,3 +48,38 @@ short_bound scheme size few words = by scheme
     by Leader = omega (arith, nodes, ids)
     by Count = omega (arith, nodes, ids)
     by ShortestPathTree = omega (arith, nodes, ids, far)
+
+abbrev longest_expression : Expression → Size → ℕ
+longest_expression scheme size = expressions.longest_of gamma_code scheme size
+
+leaf_some : (scheme : Expression) → 1 ≤ leaves_of scheme
+leaf_some (Basic name) = omega arith
+leaf_some (And first second) = omega (arith, leaf_some first)
+leaf_some (Or first second) = omega (arith, leaf_some first)
+
+-- an expression has at most 8,320 bits for each of its names
+expression_bound : (scheme : Expression) (size : Size) → leaves_of scheme ≤ 8
+    → size.nodes ≤ MAX_NODES → AreWords size
+    → longest_expression scheme size + 128 ≤ 8320 * leaves_of scheme
+expression_bound (Basic name) size few nodes words =
+    let one = short_bound name size nodes words in
+    omega (arith, one)
+expression_bound (And first second) size few nodes words =
+    let some = leaf_some second in
+    let one = expression_bound first size (omega (arith, few)) nodes words in
+    let two = expression_bound second size (omega (arith, few)) nodes words in
+    let code = short_code (longest_expression first size) (omega (arith, few, one)) in
+    omega (arith, code, one, two)
+expression_bound (Or first second) size few nodes words =
+    let one = expression_bound first size (omega (arith, few)) nodes words in
+    let two = expression_bound second size (omega (arith, few)) nodes words in
+    let a = leaf_some first in
+    let b = leaf_some second in
+    omega (arith, one, two, a, b)
+
+-- no small expression's bound is above 2^17 bits, in a network within the limits
+pub short_expression : (scheme : Expression) (size : Size) → IsSmall scheme → size.nodes ≤ MAX_NODES
+    → AreWords size → longest_expression scheme size ≤ 2 ^ 17
+short_expression scheme size small nodes words =
+    let whole = expression_bound scheme size small.few nodes words in
+    omega (arith, whole, small.few)

@@ -1,2 +1,11 @@
+pub mod Depths
+pub mod Found
 pub mod Bounds
 pub mod Words
+pub mod Fits
+pub mod Leaves
+pub mod Verdicts
+pub mod Marking
+pub mod Joining
+pub mod Refusals
+pub mod Letters

@@ -1,3 +1,10 @@
 pub mod SchemeWord
 pub mod Named
+pub mod Parts
+pub mod Combined
+pub mod Joined
+pub mod Tagged
+pub mod Expression
+pub mod ExpressionText
+pub mod inner
 pub mod laws

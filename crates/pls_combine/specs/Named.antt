@@ -1,5 +1,6 @@
--- What the schemes mean, by their names. Numbers are written in the gamma code.
-use Rattle.std.specs.Prelude.{◌≡◌, ℕ, Bool, List}
+-- What the basic schemes mean, by their names, over any code of numbers: `code` writes a number, and
+-- `takes` takes a code off the front of bits.
+use Rattle.std.specs.Prelude.{◌≡◌, ℕ, Bool, List, Option}
 use Rattle.pls_model.specs.declared.row.NodeRow.{NodeRow}
 use Rattle.pls_model.specs.declared.verdict.Verdict.{Verdict}
 use Rattle.pls_bits.specs.Gamma.{gamma_code, gamma_takes}
@@ -29,55 +30,69 @@ use Rattle.pls_combine.specs.declared.scheme_name.SchemeName.{SchemeName}
 use Rattle.pls_combine.specs.declared.scheme_name.SchemeName.TheVariants.{Acyclic, Bipartite, Count, Forest, Leader, ShortestPathTree, Tree}
 
 -- the property of a scheme
-abbrev pub HasProperty : SchemeName → List NodeRow → Type 0
-HasProperty Tree rows = IsTree rows
-HasProperty Forest rows = IsForest rows
-HasProperty Bipartite rows = IsBipartite rows
-HasProperty Acyclic rows = IsAcyclic rows
-HasProperty Leader rows = HasOneLeader rows
-HasProperty Count rows = AreCounted rows
-HasProperty ShortestPathTree rows = IsShortestPathTree rows
+abbrev pub HasNamed : SchemeName → List NodeRow → Type 0
+HasNamed Tree rows = IsTree rows
+HasNamed Forest rows = IsForest rows
+HasNamed Bipartite rows = IsBipartite rows
+HasNamed Acyclic rows = IsAcyclic rows
+HasNamed Leader rows = HasOneLeader rows
+HasNamed Count rows = AreCounted rows
+HasNamed ShortestPathTree rows = IsShortestPathTree rows
 
 -- the verdict of a scheme on a view
-abbrev pub judge_of : SchemeName → Seen → Verdict
-judge_of Tree view = judge_tree gamma_takes view
-judge_of Forest view = judge_forest gamma_takes view
-judge_of Bipartite view = judge_bipartite view
-judge_of Acyclic view = judge_acyclic gamma_takes view
-judge_of Leader view = judge_leader gamma_takes view
-judge_of Count view = judge_count gamma_takes view
-judge_of ShortestPathTree view = judge_spt gamma_takes view
+abbrev pub judge_named : (List Bool → Option (ℕ × List Bool)) → SchemeName → Seen → Verdict
+judge_named takes Tree view = judge_tree takes view
+judge_named takes Forest view = judge_forest takes view
+judge_named takes Bipartite view = judge_bipartite view
+judge_named takes Acyclic view = judge_acyclic takes view
+judge_named takes Leader view = judge_leader takes view
+judge_named takes Count view = judge_count takes view
+judge_named takes ShortestPathTree view = judge_spt takes view
 
 -- the labels are those of a connected network with the property
-abbrev pub IsMarked : SchemeName → List NodeRow → List (List Bool) → Type 0
-IsMarked Tree rows labels = IsTreeMarked gamma_code rows labels
-IsMarked Forest rows labels = IsForestMarked gamma_code rows labels
-IsMarked Bipartite rows labels = IsBipartiteMarked rows labels
-IsMarked Acyclic rows labels = IsAcyclicMarked gamma_code rows labels
-IsMarked Leader rows labels = IsLeaderMarked gamma_code rows labels
-IsMarked Count rows labels = IsCountMarked gamma_code rows labels
-IsMarked ShortestPathTree rows labels = IsSptMarked gamma_code rows labels
+abbrev pub IsNamedMarked : (ℕ → List Bool) → SchemeName → List NodeRow
+    → List (List Bool) → Type 0
+IsNamedMarked code Tree rows labels = IsTreeMarked code rows labels
+IsNamedMarked code Forest rows labels = IsForestMarked code rows labels
+IsNamedMarked code Bipartite rows labels = IsBipartiteMarked rows labels
+IsNamedMarked code Acyclic rows labels = IsAcyclicMarked code rows labels
+IsNamedMarked code Leader rows labels = IsLeaderMarked code rows labels
+IsNamedMarked code Count rows labels = IsCountMarked code rows labels
+IsNamedMarked code ShortestPathTree rows labels = IsSptMarked code rows labels
 
 -- how many bits a marked label has at most, in a network of this size
-abbrev pub longest_of : SchemeName → Size → ℕ
-longest_of Tree size = longest_tree gamma_code size
-longest_of Forest size = longest_forest gamma_code size
-longest_of Bipartite size = longest_bipartite size
-longest_of Acyclic size = longest_acyclic gamma_code size
-longest_of Leader size = longest_leader gamma_code size
-longest_of Count size = longest_count gamma_code size
-longest_of ShortestPathTree size = longest_spt gamma_code size
+abbrev pub longest_named : (ℕ → List Bool) → SchemeName → Size → ℕ
+longest_named code Tree size = longest_tree code size
+longest_named code Forest size = longest_forest code size
+longest_named code Bipartite size = longest_bipartite size
+longest_named code Acyclic size = longest_acyclic code size
+longest_named code Leader size = longest_leader code size
+longest_named code Count size = longest_count code size
+longest_named code ShortestPathTree size = longest_spt code size
 
 -- the bits are some label of the scheme
-abbrev pub IsLabelOf : SchemeName → List Bool → Type 0
-IsLabelOf Tree bits = (label : TreeLabel) × IsTreeLabel gamma_code bits label
-IsLabelOf Forest bits = (label : DepthLabel) × IsDepthLabel gamma_code bits label
-IsLabelOf Bipartite bits = (label : ColourLabel) × IsColourLabel bits label
-IsLabelOf Acyclic bits = (label : CycleLabel) × IsCycleLabel gamma_code bits label
-IsLabelOf Leader bits = (label : LeaderLabel) × IsLeaderLabel gamma_code bits label
-IsLabelOf Count bits = (label : CountLabel) × IsCountLabel gamma_code bits label
-IsLabelOf ShortestPathTree bits = (label : SptLabel) × IsSptLabel gamma_code bits label
+abbrev pub IsNamedLabel : (ℕ → List Bool) → SchemeName → List Bool → Type 0
+IsNamedLabel code Tree bits = (label : TreeLabel) × IsTreeLabel code bits label
+IsNamedLabel code Forest bits = (label : DepthLabel) × IsDepthLabel code bits label
+IsNamedLabel code Bipartite bits = (label : ColourLabel) × IsColourLabel bits label
+IsNamedLabel code Acyclic bits = (label : CycleLabel) × IsCycleLabel code bits label
+IsNamedLabel code Leader bits = (label : LeaderLabel) × IsLeaderLabel code bits label
+IsNamedLabel code Count bits = (label : CountLabel) × IsCountLabel code bits label
+IsNamedLabel code ShortestPathTree bits = (label : SptLabel) × IsSptLabel code bits label
 
 -- the bits are this label of the scheme, which is its bits
-abbrev pub IsLabelled : SchemeName → List Bool → List Bool → Type 0
-IsLabelled scheme bits label = (bits ≡ label) × IsLabelOf scheme bits
+abbrev pub IsNamedSpelling : (ℕ → List Bool) → SchemeName → List Bool → List Bool → Type 0
+IsNamedSpelling code scheme bits label = (bits ≡ label) × IsNamedLabel code scheme bits
+
+-- the same in the gamma code
+abbrev pub HasProperty : SchemeName → List NodeRow → Type 0
+HasProperty scheme rows = HasNamed scheme rows
+
+abbrev pub judge_of : SchemeName → Seen → Verdict
+judge_of scheme view = judge_named gamma_takes scheme view
+
+abbrev pub IsMarked : SchemeName → List NodeRow → List (List Bool) → Type 0
+IsMarked scheme rows labels = IsNamedMarked gamma_code scheme rows labels
+
+abbrev pub longest_of : SchemeName → Size → ℕ
+longest_of scheme size = longest_named gamma_code scheme size

@@ -1,1 +1,12 @@
+pub mod BothLaws
+pub mod DepthLaws
+pub mod ExpressionLaws
+pub mod FrontLaws
+pub mod LeafLaws
 pub mod NamedLaws
+pub mod OneOfLaws
+pub mod PairLaws
+pub mod PartsAccepted
+pub mod PutLaws
+pub mod TaggedLaws
+pub mod TextLaws

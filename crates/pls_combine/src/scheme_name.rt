@@ -1,9 +1,9 @@
 //! The names of schemes.
 
 ghost use Rattle.std.specs.Prelude.{◌≡◌, bytes_eq, codes};
-ghost use Rattle.pls_combine.specs.SchemeWord.{scheme_of};
+ghost use Rattle.pls_combine.specs.SchemeWord.{name_of, scheme_of};
 
-/// A scheme by its name. Numbers of its labels are written in the gamma code.
+/// The name of a basic scheme.
 #[derive(Clone, Copy, Debug, PartialEq, Eq)]
 pub enum SchemeName {
     /// `tree`: one node has no pointer, and the pointers of the others make a spanning tree.
@@ -23,7 +23,7 @@ pub enum SchemeName {
 }
 
 /// The scheme that a word names, or `None` where it names none.
-pub fn read_scheme(word: &str) -> Option<SchemeName>
+pub fn named_scheme(word: &str) -> Option<SchemeName>
     ensures { result ≡ scheme_of word.now }
 {
     if is_word(word, "tree") {
@@ -42,6 +42,21 @@ pub fn read_scheme(word: &str) -> Option<SchemeName>
         Some(SchemeName::ShortestPathTree)
     } else {
         None
+    }
+}
+
+// The word that names a scheme.
+pub(crate) fn name_of(name: SchemeName) -> &'static str
+    ensures { result.now ≡ name_of name }
+{
+    match name {
+        SchemeName::Tree => "tree",
+        SchemeName::Forest => "forest",
+        SchemeName::Bipartite => "bipartite",
+        SchemeName::Acyclic => "acyclic",
+        SchemeName::Leader => "leader",
+        SchemeName::Count => "count",
+        SchemeName::ShortestPathTree => "spt",
     }
 }
 

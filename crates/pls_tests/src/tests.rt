@@ -3,6 +3,7 @@
 mod base;
 mod bits;
 mod colours;
+mod combinations;
 mod distances;
 mod graph;
 mod labelfile;

@@ -1,6 +1,5 @@
 -- The laws of schemes, for the named ones: those of each by its name.
-use Rattle.std.proofs.Common.{◌≡◌, ◌∙◌, sym, refl}
-use Rattle.pls_bits.specs.Gamma.{gamma_code, gamma_takes}
+use Rattle.std.proofs.Common.{◌∙◌, ℕ, Bool, List, Option, sym, refl}
 use Rattle.pls_scheme.specs.SchemeLaws.{AreOneLabel, HasSpellings, HaveOneSpelling, IsMarkedOnce, IsSound, LeavesWithin}
 use Rattle.pls_scheme.specs.laws.LeafLaws.{judge_by-leaf}
 use Rattle.pls_scheme.specs.Numbers.{label_in}
@@ -20,44 +19,50 @@ use Rattle.pls_distance.specs.Spt.{spt_label, spt_rules}
 use Rattle.pls_distance.specs.laws.SptLaws.{spt_marked_once, spt_sound}
 use Rattle.pls_combine.specs.declared.scheme_name.SchemeName.{SchemeName}
 use Rattle.pls_combine.specs.declared.scheme_name.SchemeName.TheVariants.{Acyclic, Bipartite, Count, Forest, Leader, ShortestPathTree, Tree}
-use Rattle.pls_combine.specs.Named.{HasProperty, IsLabelOf, IsLabelled, IsMarked, judge_of}
+use Rattle.pls_combine.specs.Named.{HasNamed, IsNamedLabel, IsNamedMarked, IsNamedSpelling, judge_named}
 
 -- a rejection names the one leaf
-pub one_leaf : (scheme : SchemeName) → LeavesWithin 1 (judge_of scheme)
-one_leaf Tree = judge_by-leaf (label_in tree_label gamma_takes 2) tree_rules
-one_leaf Forest = judge_by-leaf (label_in depth_label gamma_takes 1) forest_rules
-one_leaf Bipartite = judge_by-leaf colour_label bipartite_rules
-one_leaf Acyclic = judge_by-leaf (label_in cycle_label gamma_takes 1) acyclic_rules
-one_leaf Leader = judge_by-leaf (label_in leader_label gamma_takes 2) leader_rules
-one_leaf Count = judge_by-leaf (label_in count_label gamma_takes 6) count_rules
-one_leaf ShortestPathTree = judge_by-leaf (label_in spt_label gamma_takes 3) spt_rules
+pub one_leaf : (takes : List Bool → Option (ℕ × List Bool)) (scheme : SchemeName)
+    → LeavesWithin 1 (judge_named takes scheme)
+one_leaf takes Tree = judge_by-leaf (label_in tree_label takes 2) tree_rules
+one_leaf takes Forest = judge_by-leaf (label_in depth_label takes 1) forest_rules
+one_leaf takes Bipartite = judge_by-leaf colour_label bipartite_rules
+one_leaf takes Acyclic = judge_by-leaf (label_in cycle_label takes 1) acyclic_rules
+one_leaf takes Leader = judge_by-leaf (label_in leader_label takes 2) leader_rules
+one_leaf takes Count = judge_by-leaf (label_in count_label takes 6) count_rules
+one_leaf takes ShortestPathTree = judge_by-leaf (label_in spt_label takes 3) spt_rules
 
 -- a connected network whose nodes all accept some labels has the property
-pub named_sound : (scheme : SchemeName) → IsSound (judge_of scheme) (HasProperty scheme)
-named_sound Tree = tree_sound gamma_takes
-named_sound Forest = forest_sound gamma_takes
-named_sound Bipartite = bipartite_sound
-named_sound Acyclic = acyclic_sound gamma_takes
-named_sound Leader = leader_sound gamma_takes
-named_sound Count = count_sound gamma_takes
-named_sound ShortestPathTree = spt_sound gamma_takes
+pub named_sound : (takes : List Bool → Option (ℕ × List Bool)) (scheme : SchemeName)
+    → IsSound (judge_named takes scheme) (HasNamed scheme)
+named_sound takes Tree = tree_sound takes
+named_sound takes Forest = forest_sound takes
+named_sound takes Bipartite = bipartite_sound
+named_sound takes Acyclic = acyclic_sound takes
+named_sound takes Leader = leader_sound takes
+named_sound takes Count = count_sound takes
+named_sound takes ShortestPathTree = spt_sound takes
 
 -- a connected network with the property is marked in one way
-pub named_marked_once : (scheme : SchemeName) → IsMarkedOnce (HasProperty scheme) (IsMarked scheme)
-named_marked_once Tree = tree_marked_once gamma_code
-named_marked_once Forest = forest_marked_once gamma_code
-named_marked_once Bipartite = bipartite_marked_once
-named_marked_once Acyclic = acyclic_marked_once gamma_code
-named_marked_once Leader = leader_marked_once gamma_code
-named_marked_once Count = count_marked_once gamma_code
-named_marked_once ShortestPathTree = spt_marked_once gamma_code
+pub named_marked_once : (code : ℕ → List Bool) (scheme : SchemeName)
+    → IsMarkedOnce (HasNamed scheme) (IsNamedMarked code scheme)
+named_marked_once code Tree = tree_marked_once code
+named_marked_once code Forest = forest_marked_once code
+named_marked_once code Bipartite = bipartite_marked_once
+named_marked_once code Acyclic = acyclic_marked_once code
+named_marked_once code Leader = leader_marked_once code
+named_marked_once code Count = count_marked_once code
+named_marked_once code ShortestPathTree = spt_marked_once code
 
 -- a label is its own spelling, and the only one
-pub has_spellings : (scheme : SchemeName) → HasSpellings (IsLabelOf scheme) (IsLabelled scheme)
-has_spellings scheme label is = (label, (refl, is))
+pub has_spellings : (code : ℕ → List Bool) (scheme : SchemeName)
+    → HasSpellings (IsNamedLabel code scheme) (IsNamedSpelling code scheme)
+has_spellings code scheme label is = (label, (refl, is))
 
-pub have_one_spelling : (scheme : SchemeName) → HaveOneSpelling (IsLabelled scheme)
-have_one_spelling scheme label a b one two = one.0 ∙ sym two.0
+pub have_one_spelling : (code : ℕ → List Bool) (scheme : SchemeName)
+    → HaveOneSpelling (IsNamedSpelling code scheme)
+have_one_spelling code scheme label a b one two = one.0 ∙ sym two.0
 
-pub are_one_label : (scheme : SchemeName) → AreOneLabel (IsLabelled scheme)
-are_one_label scheme bits a b one two = sym one.0 ∙ two.0
+pub are_one_label : (code : ℕ → List Bool) (scheme : SchemeName)
+    → AreOneLabel (IsNamedSpelling code scheme)
+are_one_label code scheme bits a b one two = sym one.0 ∙ two.0

@@ -3,8 +3,9 @@ use Rattle.std.proofs.lemmas.Result.{IfOk-weaker}
 use Rattle.pls_base.specs.declared.text_error.TextError.TheVariants.{Limit}
 use Rattle.pls_base.specs.declared.text_error.Quantity.TheVariants.{Input}
 use Rattle.pls_model.specs.declared.status.Status.TheVariants.{Done}
-use Rattle.pls_app.specs.declared.command.Command.TheVariants.{Mark}
-use Rattle.pls_combine.specs.declared.scheme_name.SchemeName.{SchemeName}
+use Rattle.pls_app.specs.declared.command.Command.TheVariants.{With}
+use Rattle.pls_app.specs.declared.command.Task.TheVariants.{Mark}
+use Rattle.pls_combine.specs.Expression.{Expression}
 use Rattle.pls_app.specs.Answer.{Answer, Answers, refusal}
 use Rattle.pls_app.specs.Run.{Certifies}
 use Rattle.pls_app.proofs.Answered.{refused_answer, too_long}
@@ -59,12 +60,12 @@ returns-in-Ok-clause-certified g c =
     let old = g.S.Source.left c.args.source.now in
     let read = c.deref.result.now in
     ok_again c.answer_to.result c.or_no_memory.result _
-    (λ answer. (scheme : SchemeName) (bytes : List ℕ) → old ≡ Some bytes → command ≡ Mark scheme
+    (λ answer. (scheme : Expression) (bytes : List ℕ) → old ≡ Some bytes → command ≡ With Mark scheme
     → answer.status ≡ Done → Certifies scheme bytes answer.text)
     (IfOk-weaker c.answer_to.result
-    (λ answer. (scheme : SchemeName) → command ≡ Mark scheme → answer.status ≡ Done
+    (λ answer. (scheme : Expression) → command ≡ With Mark scheme → answer.status ≡ Done
     → Certifies scheme read answer.text)
-    (λ answer. (scheme : SchemeName) (bytes : List ℕ) → old ≡ Some bytes → command ≡ Mark scheme
+    (λ answer. (scheme : Expression) (bytes : List ℕ) → old ≡ Some bytes → command ≡ With Mark scheme
     → answer.status ≡ Done → Certifies scheme bytes answer.text)
     (λ answer is scheme bytes told mark done.
     subst (λ (bytes : List ℕ). Certifies scheme bytes answer.text)
@@ -78,10 +79,10 @@ returns-in-Err-TooLong-clause-certified g c =
     let command = c.args.command.now in
     let old = g.S.Source.left c.args.source.now in
     ok_again c.refuse.result c.or_no_memory-in-Err-TooLong.result _
-    (λ answer. (scheme : SchemeName) (bytes : List ℕ) → old ≡ Some bytes → command ≡ Mark scheme
+    (λ answer. (scheme : Expression) (bytes : List ℕ) → old ≡ Some bytes → command ≡ With Mark scheme
     → answer.status ≡ Done → Certifies scheme bytes answer.text)
     (IfOk-weaker c.refuse.result (λ answer. answer ≡ refusal (Limit Input))
-    (λ answer. (scheme : SchemeName) (bytes : List ℕ) → old ≡ Some bytes → command ≡ Mark scheme
+    (λ answer. (scheme : Expression) (bytes : List ℕ) → old ≡ Some bytes → command ≡ With Mark scheme
     → answer.status ≡ Done → Certifies scheme bytes answer.text)
     (λ answer same scheme bytes told mark done.
     absurd (refused_not_done (Limit Input)

@@ -8,8 +8,9 @@ use Rattle.pls_app.specs.Answer.{decided_by, report}
 use Rattle.pls_app.proofs.Rounds.{zip-round}
 use Rattle.pls_app.proofs.verify.verify.Goals as goal
 
-pub returns-clause-reports : goal.returns-clause-reports
-returns-clause-reports c =
+pub returns-clause-does : goal.returns-clause-does
+returns-clause-does c = ?
+old c =
     let judge = judge_of c.args.scheme in
     let net = c.args.net.now in
     let labels = c.args.labels.now in

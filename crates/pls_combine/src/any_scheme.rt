@@ -1,0 +1,156 @@
+//! An expression of schemes as a scheme.
+
+ghost use Rattle.std.specs.Prelude.{◌≡◌};
+ghost use Rattle.pls_combine.specs.Expression.{IsSmall};
+ghost use Rattle.pls_combine.specs.inner.Trees.{expression_of};
+
+use crate::scheme_tree::{
+    SchemeTree, bound_of, decide_tree, leaves_of, lends_of, mark_tree, verify_tree,
+};
+use pls_base::{NoMemory, Steps};
+use pls_bits::{BitBuf, Bits, NumCode};
+use pls_graph::{Network, Size};
+use pls_model::Verdict;
+use pls_scheme::{Checker, Property, Scheme};
+use pls_view::{LabelStore, View};
+use std::alloc::Global;
+use std::marker::{Model, PhantomData};
+
+/// An expression of at most 8 basic schemes and a depth of at most 8, whose labels are written in
+/// the number code `C`, seen as the expression. It is made by [`read_scheme`](crate::read_scheme).
+#[derive(Drop)]
+pub struct AnyScheme<C> {
+    tree: SchemeTree,
+    code: PhantomData<C>,
+}
+
+impl<C> Model for AnyScheme<C> {
+    ghost use Rattle.pls_combine.specs.Expression.{Expression, IsSmall};
+    ghost use Rattle.pls_combine.specs.inner.Trees.{expression_of};
+    ghost use Rattle.pls_combine.specs.inner.Codes.{coded_expression};
+
+    ghost Value = { Expression };
+
+    ghost coded = { coded_expression };
+
+    ghost view = { λ scheme. expression_of scheme.tree };
+
+    ghost invariant = { λ scheme. IsSmall (expression_of scheme.tree) };
+}
+
+impl<C> AnyScheme<C> {
+    // The expression as a scheme. It takes no memory.
+    pub(crate) fn of_tree(tree: SchemeTree) -> Self
+        requires { IsSmall (expression_of tree) }
+        ensures { result ≡ expression_of tree }
+    {
+        AnyScheme {
+            tree,
+            code: PhantomData,
+        }
+    }
+
+    // The expression.
+    pub(crate) fn tree(&self) -> &SchemeTree
+        ensures same { expression_of result.now ≡ self.now }
+        ensures small { IsSmall self.now }
+    {
+        &self.tree
+    }
+}
+
+impl<C: NumCode> Checker for AnyScheme<C> {
+    ghost use Rattle.std.specs.Prelude.{true};
+    ghost use Rattle.pls_combine.specs.Expression.{judge_of, leaves_of, lends_of};
+    ghost use Rattle.pls_combine.specs.laws.ExpressionLaws.{expression_leaf};
+
+    ghost judge = { λ s view. judge_of C.takes s view };
+
+    ghost leaves = { λ s. leaves_of s };
+
+    ghost lends = { λ s. lends_of s };
+
+    ghost TAKES_MEMORY = { true };
+
+    const TAKES_MEMORY: bool = true;
+
+    fn leaves(&self) -> u8 {
+        leaves_of(self.tree())
+    }
+
+    fn lends(&self) -> bool {
+        lends_of(self.tree())
+    }
+
+    fn verify(
+        &self,
+        alloc: Global,
+        view: &View<'_>,
+        steps: &mut Steps,
+    ) -> Result<Verdict, NoMemory> {
+        steps.tick();
+        verify_tree::<C>(alloc, self.tree(), view)
+    }
+
+    ghost leaf_law = { λ s. expression_leaf C.takes s };
+
+    ghost lends_law = { λ s no. absurd (cc) };
+}
+
+impl<C: NumCode> Property for AnyScheme<C> {
+    ghost use Rattle.pls_combine.specs.Expression.{HasProperty};
+
+    ghost holds = { λ s rows. HasProperty s rows };
+
+    fn decide(&self, alloc: Global, net: &Network) -> Result<bool, NoMemory> {
+        decide_tree::<C>(alloc, self.tree(), net)
+    }
+}
+
+/// A label is its bits, which may be any.
+impl<C: NumCode> Scheme for AnyScheme<C> {
+    ghost use Rattle.std.specs.Prelude.{◌≡◌, ⊤, refl};
+    ghost use Rattle.std.proofs.Common.{◌∙◌, sym};
+    ghost use Rattle.pls_combine.specs.Expression.{IsMarked, longest_of};
+    ghost use Rattle.pls_combine.specs.laws.ExpressionLaws.{expression_marked_once, expression_sound};
+
+    type Label = BitBuf;
+
+    ghost layout = { λ _ bits label. bits ≡ label };
+
+    ghost writable = { λ _ _. ⊤ };
+
+    ghost marked = { λ s rows labels. IsMarked C.code s rows labels };
+
+    ghost longest = { λ s size. longest_of C.code s size };
+
+    fn read_label(&self, alloc: Global, bits: Bits<'_>) -> Result<Option<BitBuf>, NoMemory> {
+        let mut label = BitBuf::new(alloc);
+        label.append(bits)?;
+        Ok(Some(label))
+    }
+
+    fn write_label(&self, alloc: Global, label: &BitBuf) -> Result<BitBuf, NoMemory> {
+        let mut copy = BitBuf::new(alloc);
+        copy.append(label.bits())?;
+        Ok(copy)
+    }
+
+    fn bound(&self, size: &Size) -> u64 {
+        bound_of::<C>(self.tree(), size)
+    }
+
+    fn mark(&self, alloc: Global, net: &Network) -> Result<Option<LabelStore>, NoMemory> {
+        mark_tree::<C>(alloc, self.tree(), net)
+    }
+
+    ghost reads_back_law = { λ _ label _. (label, refl) };
+
+    ghost one_spelling_law = { λ _ label a b one two. one ∙ sym two };
+
+    ghost one_label_law = { λ _ bits a b one two. sym one ∙ two };
+
+    ghost sound_law = { λ s. expression_sound C.code C.takes C.takes_only s };
+
+    ghost one_marking_law = { λ s. expression_marked_once C.code s };
+}

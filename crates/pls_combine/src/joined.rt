@@ -1,0 +1,106 @@
+//! Labels of combinations, put together from those of the parts.
+
+ghost use Rattle.std.specs.Prelude.{◌≡◌, ℕ, ◌≤◌, ◌∷◌, length, IfOk};
+ghost use Rattle.pls_bits.specs.declared.num_code.TheConstants.{MAX_CODED};
+ghost use Rattle.pls_scheme.specs.Marked.{answered};
+ghost use Rattle.pls_combine.specs.Joined.{EachJoined, joined_at, joined_bits, longest_both};
+ghost use Rattle.pls_combine.specs.Tagged.{EachTagged, longest_one_of, tagged_at};
+ghost use Rattle.pls_combine.specs.inner.Fits.{AllFit, HasCodes, IsWord};
+
+use pls_base::NoMemory;
+use pls_bits::{BitBuf, Bits, MAX_CODED, NumCode};
+use pls_scheme::code_length;
+use pls_view::LabelStore;
+use std::alloc::Global;
+
+// The label of a conjunction whose parts are these. The one error is want of memory, by which a
+// first part too long for a code goes too.
+pub(crate) fn joined_bits<C: NumCode>(
+    alloc: Global,
+    front: Bits<'_>,
+    back: Bits<'_>,
+) -> Result<BitBuf, NoMemory>
+    ensures bits { IfOk result (λ bits. bits ≡ joined_bits C.code front.entry back.entry) }
+    ensures coded { IfOk result (λ bits. length front.entry ≤ MAX_CODED) }
+    ensures fits { IfOk result (λ bits. IsWord (length bits)) }
+{
+    let len = front.len() as u64;
+    if len > MAX_CODED {
+        return Err(NoMemory);
+    }
+    let mut bits = BitBuf::new(alloc);
+    C::write(&mut bits, len)?;
+    bits.append(front)?;
+    bits.append(back)?;
+    // How many bits there are fits into a word.
+    bits.len();
+    Ok(bits)
+}
+
+// The labels of a conjunction whose parts are these. The one error is want of memory.
+pub(crate) fn joined_labels<C: NumCode>(
+    alloc: Global,
+    fronts: &LabelStore,
+    backs: &LabelStore,
+) -> Result<LabelStore, NoMemory>
+    requires { length fronts.now ≡ length backs.now }
+    ensures joined { IfOk result (EachJoined C.code fronts.now backs.now) }
+    ensures coded { IfOk result (λ labels. HasCodes fronts.now) }
+    ensures fit { IfOk result
+        (λ labels. AllFit (joined_at C.code fronts.now backs.now) (length fronts.now)) }
+{
+    let mut labels = LabelStore::blank(alloc, fronts.len())?;
+    for i in 0..fronts.len() {
+        let label = joined_bits::<C>(alloc, fronts.bits(i), backs.bits(i))?;
+        labels.replace(i, &label)?;
+    }
+    Ok(labels)
+}
+
+// The bound of a conjunction, from those of its parts.
+pub(crate) fn joined_bound<C: NumCode>(first: u64, second: u64) -> u64
+    ensures { (one two : ℕ) → first ≡ answered one → second ≡ answered two
+        → result ≡ answered (longest_both C.code one two) }
+{
+    code_length::<C>(first)
+        .saturating_add(first)
+        .saturating_add(second)
+}
+
+// The labels of a disjunction, each with this tag. The one error is want of memory.
+pub(crate) fn tagged_labels(
+    alloc: Global,
+    tag: bool,
+    rests: &LabelStore,
+) -> Result<LabelStore, NoMemory>
+    ensures tagged { IfOk result (EachTagged tag rests.now) }
+    ensures fit { IfOk result (λ labels. AllFit (tagged_at tag rests.now) (length rests.now)) }
+{
+    let mut labels = LabelStore::blank(alloc, rests.len())?;
+    for i in 0..rests.len() {
+        let label = tagged_bits(alloc, tag, rests.bits(i))?;
+        labels.replace(i, &label)?;
+    }
+    Ok(labels)
+}
+
+// A label behind a tag. The one error is want of memory.
+pub(crate) fn tagged_bits(alloc: Global, tag: bool, rest: Bits<'_>) -> Result<BitBuf, NoMemory>
+    ensures bits { IfOk result (λ bits. bits ≡ tag ∷ rest.entry) }
+    ensures fits { IfOk result (λ bits. IsWord (length bits)) }
+{
+    let mut bits = BitBuf::new(alloc);
+    bits.push(tag)?;
+    bits.append(rest)?;
+    // How many bits there are fits into a word.
+    bits.len();
+    Ok(bits)
+}
+
+// The bound of a disjunction, from those of its parts.
+pub(crate) fn tagged_bound(first: u64, second: u64) -> u64
+    ensures { (one two : ℕ) → first ≡ answered one → second ≡ answered two
+        → result ≡ answered (longest_one_of one two) }
+{
+    first.max(second).saturating_add(1)
+}

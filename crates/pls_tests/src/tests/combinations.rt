@@ -1,0 +1,180 @@
+//! Schemes joined by `and` and `or`, and expressions of them as texts.
+
+ghost use Rattle.std.specs.Prelude.{IfOk};
+ghost use Rattle.pls_model.specs.Walk.{IsConnected};
+
+use pls_base::Steps;
+use pls_bits::Gamma;
+use pls_colour::{Acyclic, Bipartite};
+use pls_combine::{Both, OneOf, SchemeError, print_scheme, read_scheme};
+use pls_graph::{Network, connected};
+use pls_netfile::read_network;
+use pls_pointer::Tree;
+use pls_scheme::{Checker, Scheme, Verdict, are_accepted};
+use pls_view::{LabelStore, View};
+use std::alloc::Global;
+use std::test::Fail;
+
+// Two nodes with an edge.
+const PAIR: &str = "network\nnode 1 - 0 0\nport 2 1\nnode 2 - 0 0\nport 1 1\nend\n";
+
+// Three nodes, each joined to the others, without pointers.
+const TRIANGLE: &str = "network\nnode 1 - 0 0\nport 2 7\nport 3 7\nnode 2 - 0 0\nport 1 7\n\
+                        port 3 7\nnode 3 - 0 0\nport 1 7\nport 2 7\nend\n";
+
+// A connected network of this text.
+fn network(alloc: Global, text: &str) -> Result<Network, Fail>
+    ensures { IfOk result (λ net. IsConnected net) }
+{
+    match read_network(alloc, text.as_bytes()) {
+        Ok(net) if connected(alloc, &net)?.is_none() => Ok(net),
+        _ => Err(Fail::from("refused")),
+    }
+}
+
+// The labels of a scheme on two nodes, in hex, its bound there, and whether all accept them.
+fn marks_as<S: Scheme>(
+    alloc: Global,
+    scheme: &S,
+    texts: [&str; 2],
+    bound: u64,
+) -> Result<bool, Fail> {
+    let net = network(alloc, PAIR)?;
+    let Some(labels) = scheme.mark(alloc, &net)? else {
+        return Err(Fail::from("not marked"));
+    };
+    if labels.len() != 2 {
+        return Err(Fail::from("not two labels"));
+    }
+    let first = labels.bits(0).to_hex(alloc)?;
+    let second = labels.bits(1).to_hex(alloc)?;
+    let bits = first.as_bytes() == texts[0].as_bytes() && second.as_bytes() == texts[1].as_bytes();
+    let accepted = are_accepted(alloc, scheme, &net, &labels, &mut Steps::new())?;
+    Ok(bits && accepted && scheme.bound(&net.size()) == bound)
+}
+
+#[test]
+fn a_conjunction_is_marked(rt: HostRuntime) -> Result<(), Fail> {
+    let both = Both::<Bipartite, Acyclic<Gamma>, Gamma>::new(Bipartite::new(), Acyclic::new());
+    assert!(rt;
+        marks_as(rt.alloc(), &both, ["48", "54"], 7)?,
+        "as by hand"
+    );
+    Ok(())
+}
+
+#[test]
+fn a_disjunction_of_a_conjunction_is_marked(rt: HostRuntime) -> Result<(), Fail> {
+    let both = Both::<Bipartite, Acyclic<Gamma>, Gamma>::new(Bipartite::new(), Acyclic::new());
+    let one_of = OneOf::new(both, Tree::<Gamma>::new());
+    assert!(rt;
+        marks_as(rt.alloc(), &one_of, ["24", "2a"], 8)?,
+        "behind the tag 0"
+    );
+    Ok(())
+}
+
+// Whether the expression marks two nodes with these labels, within this bound.
+fn text_marks_as(
+    alloc: Global,
+    text: &str,
+    texts: [&str; 2],
+    bound: u64,
+) -> Result<bool, Fail> {
+    match read_scheme::<Gamma>(alloc, text) {
+        Ok(scheme) => marks_as(alloc, &scheme, texts, bound),
+        Err(_) => Err(Fail::from("not read")),
+    }
+}
+
+#[test]
+fn expressions_mark_as_what_they_say(rt: HostRuntime) -> Result<(), Fail> {
+    let cases = [
+        ("and(bipartite,acyclic)", ["48", "54"], 7),
+        ("or(and(bipartite,acyclic),tree)", ["24", "2a"], 8),
+        ("or(tree,bipartite)", ["80", "c0"], 7),
+    ];
+    for (text, labels, bound) in cases {
+        assert!(rt; text_marks_as(rt.alloc(), text, labels, bound)?, "{text}");
+    }
+    Ok(())
+}
+
+// The refusal of a text, or `None` where it is read and printed as it was.
+fn refusal(alloc: Global, text: &str) -> Result<Option<SchemeError>, Fail> {
+    match read_scheme::<Gamma>(alloc, text) {
+        Ok(scheme) => {
+            let printed = print_scheme(alloc, &scheme)?;
+            if printed.as_bytes() != text.as_bytes() {
+                return Err(Fail::from("printed in another way"));
+            }
+            Ok(None)
+        }
+        Err(error) => Ok(Some(error)),
+    }
+}
+
+#[test]
+fn texts_are_read_and_printed_or_refused(rt: HostRuntime) -> Result<(), Fail> {
+    let deep = "and(tree,or(tree,and(tree,or(tree,and(tree,or(tree,and(tree,spt)))))))";
+    let cases = [
+        ("leader", None),
+        ("spt", None),
+        (deep, None),
+        ("and(and(and(tree,tree),and(tree,tree)),and(and(tree,tree),and(tree,tree)))", None),
+        ("", Some(SchemeError::NotAScheme)),
+        ("trees", Some(SchemeError::NotAScheme)),
+        ("and(tree,)", Some(SchemeError::NotAScheme)),
+        ("and(tree,tree", Some(SchemeError::NotAScheme)),
+        ("and(tree, tree)", Some(SchemeError::NotAScheme)),
+        ("map(tree)", Some(SchemeError::NotAScheme)),
+        ("and(and(and(and(and(and(and(and(", Some(SchemeError::TooDeep)),
+        ("))))))))((((((((", Some(SchemeError::TooDeep)),
+        ("()()()()()()()()", Some(SchemeError::NotAScheme)),
+        (
+            "and(and(and(tree,tree),and(tree,tree)),and(and(tree,tree),and(tree,and(tree,tree))))",
+            Some(SchemeError::TooMany),
+        ),
+    ];
+    for (text, wanted) in cases {
+        assert!(rt; refusal(rt.alloc(), text)? == wanted, "{text}");
+    }
+    Ok(())
+}
+
+// The verdict of the first of three nodes under these labels.
+fn first_verdict(alloc: Global, text: &str, labels: [&[bool]; 3]) -> Result<Verdict, Fail> {
+    let net = network(alloc, TRIANGLE)?;
+    let Ok(scheme) = read_scheme::<Gamma>(alloc, text) else {
+        return Err(Fail::from("not read"));
+    };
+    let mut store = LabelStore::blank(alloc, 3)?;
+    for (i, bits) in labels.iter().enumerate() {
+        let mut label = pls_bits::BitBuf::new(alloc);
+        for bit in *bits {
+            label.push(*bit)?;
+        }
+        store.replace(i, &label)?;
+    }
+    let view = View::of(alloc, &net, &store, 0)?;
+    Ok(scheme.verify(alloc, &view, &mut Steps::new())?)
+}
+
+#[test]
+fn rejections_name_the_leaf(rt: HostRuntime) -> Result<(), Fail> {
+    let text = "or(bipartite,or(acyclic,bipartite))";
+    let (no, yes) = (false, true);
+    let cases: [([&[bool]; 3], u8, u8); 6] = [
+        ([&[], &[no], &[no]], 0, 1),
+        ([&[no, no], &[], &[no]], 0, 2),
+        ([&[no, no], &[no], &[yes]], 0, 3),
+        ([&[no, no], &[no, no], &[no, yes]], 1, 3),
+        ([&[yes, yes, no], &[yes, no, no], &[yes, yes, no]], 0, 3),
+        ([&[yes, yes, no], &[yes, yes, no], &[yes, yes, yes]], 3, 3),
+    ];
+    for (labels, leaf, rule) in cases {
+        let verdict = first_verdict(rt.alloc(), text, labels)?;
+        assert!(rt; verdict == Verdict::Reject { leaf, rule }, "leaf {leaf}, rule {rule}");
+    }
+    Ok(())
+}
