@@ -1,5 +1,5 @@
 -- Labels that `mark` wrote are accepted by `verify`.
-use Rattle.std.proofs.Common.{◌≡◌, ℕ, ◌*◌, ◌^◌, ◌≤◌, ◌<◌, Bool, false, List, [], ◌∷◌, ◌++◌, length, map, All, Contains, Some, option_map, ap, subst, refl, sym, arith}
+use Rattle.std.proofs.Common.{◌≡◌, ◌∙◌, ℕ, ◌*◌, ◌≤◌, ◌<◌, inl, inr, Bool, false, List, [], ◌∷◌, ◌++◌, length, map, All, None, ap, subst, refl, sym, arith}
 use Rattle.std.specs.Prelude.{flat_map, nat_lt}
 use Rattle.std.proofs.Math.Nat.{le-mul_of_pos_right, mul_comm, suc-mul}
 use Rattle.std.proofs.lemmas.Bool.Decides.{nat_tests}
@@ -15,7 +15,9 @@ use Rattle.pls_netfile.specs.NetworkText.{FitsPort, FitsRow, network_text}
 use Rattle.pls_view.specs.Labels.{bits_together}
 use Rattle.pls_scheme.specs.Marked.{answered}
 use Rattle.pls_scheme.specs.Theorem.{AreWords}
-use Rattle.pls_app.specs.Command.{verify_words}
+use Rattle.pls_model.specs.declared.status.Status.TheVariants.{Done}
+use Rattle.pls_app.specs.Command.{parts_of, verify_words}
+use Rattle.pls_app.specs.inner.Tasks.{Does}
 use Rattle.pls_labelfile.specs.declared.limits.TheConstants.{MAX_BITS}
 use Rattle.pls_app.specs.declared.shape.Shape.TheVariants.{Network, Labelled}
 use Rattle.pls_base.specs.declared.text_error.Quantity.TheVariants.{Labels}
@@ -23,7 +25,8 @@ use Rattle.pls_bits.specs.Gamma.{gamma_code, gamma_takes}
 use Rattle.pls_combine.specs.Expression.{Expression, IsSmall, judge_of, longest_of}
 use Rattle.pls_combine.proofs.Bounds.{short_expression}
 use Rattle.pls_app.specs.declared.command.Command.TheVariants.{With}
-use Rattle.pls_app.specs.declared.command.Task.TheVariants.{Verify}
+use Rattle.pls_app.specs.declared.command.Task.{Task}
+use Rattle.pls_app.specs.declared.command.Task.TheVariants.{Mark, Verify, Simulate, Bound}
 use Rattle.pls_app.specs.Order.{labels_over}
 use Rattle.pls_app.specs.Input.{Input, IsInput, IsReadable, net_labels_text}
 use Rattle.pls_app.specs.Answer.{Answer, Answers, decided_by, report}
@@ -31,7 +34,7 @@ use Rattle.pls_app.specs.Run.{Certifies, IsDone, Shows, ShowsIn}
 use Rattle.pls_app.proofs.Commands.{verify_is}
 use Rattle.pls_app.proofs.LimitsPassed.{few_of}
 use Rattle.pls_app.proofs.Answered.{command_answer, worked_answer}
-use Rattle.pls_app.proofs.Proved.{accepted_report}
+use Rattle.pls_app.proofs.Proved.{accepted_report, refused_not_done}
 use Rattle.pls_app.proofs.TextLengths.{text_fits}
 
 -- labels of at most so many bits each have at most so many times as many bits as there are labels
@@ -109,3 +112,27 @@ certified scheme bytes input text small is accepted shown =
           subst (λ (text : List ℕ). IsDone (verify_words scheme) (bytes ++ text)) (sym shown.is)
           verified;
     }
+
+-- what `mark` answered certifies the text of the network
+pub certified_mark : (task : Task) (scheme : Expression) (bytes : List ℕ) (input : Input)
+    (answer : Answer) → IsSmall scheme → IsInput (parts_of task) bytes input
+    → Does task scheme input answer
+    → (task ≡ Mark → answer.status ≡ Done → ShowsIn scheme input.rows answer.text)
+    → (other : Expression) → With task scheme ≡ With Mark other → answer.status ≡ Done
+    → Certifies other bytes answer.text
+certified_mark Mark scheme bytes input answer small is does shows other same done =
+    let schemes : scheme ≡ other = cc in
+    let accepted : labels_over scheme input.rows ≡ None = elim does [
+      | inl refused ↦
+          absurd (refused_not_done refused.0
+          (sym (ap (λ (answer : Answer). answer.status) refused.2) ∙ done))
+      | inr yields ↦ yields.0
+    ] in
+    subst (λ (scheme : Expression). Certifies scheme bytes answer.text) schemes
+    (certified scheme bytes input answer.text small is accepted (shows refl done))
+certified_mark (Verify json) scheme bytes input answer small is does shows other same done =
+    absurd (cc)
+certified_mark (Simulate json) scheme bytes input answer small is does shows other same done =
+    absurd (cc)
+certified_mark Bound scheme bytes input answer small is does shows other same done =
+    absurd (cc)

@@ -17,7 +17,7 @@ one_said : (said : Said) (one other : Command) → IsSaid said one → IsSaid sa
 one_said said (With task scheme) (With other_task other_scheme) is is_other =
     let tasks : task ≡ other_task = same_Some task other_task (sym is.0 ∙ is_other.0) in
     let texts : expression_text scheme ≡ expression_text other_scheme =
-    same_Some (expression_text scheme) (expression_text other_scheme) (sym is.1.0 ∙ is_other.1.0) in
+    same_Some (expression_text scheme) (expression_text other_scheme) (sym is.1 ∙ is_other.1) in
     let schemes : scheme ≡ other_scheme = one_expression scheme other_scheme texts in
     ap (λ (task : Task). With task scheme) tasks
     ∙ ap (λ (scheme : Expression). With other_task scheme) schemes
@@ -45,6 +45,11 @@ verify_is scheme small =
       said = record { command = codes "verify"; argument = Some text; json = false };
       says = subst (λ (text : List ℕ). said_by (codes "verify" ∷ text ∷ [])
           ≡ Some (record { command = codes "verify"; argument = Some text; json = false }))
-          (sym letter.2.0) (behind_verify letter.0 letter.1 letter.2.1);
+          (sym letter.2) (behind_verify letter.0 letter.1 letter.3);
       is = (refl, refl, small);
     }
+
+-- a command is a task with a scheme
+pub whole_command : (command : Command)
+    → (task : Task) × (scheme : Expression) × (command ≡ With task scheme)
+whole_command (With task scheme) = (task, scheme, refl)

@@ -5,15 +5,9 @@ use Rattle.pls_netfile.specs.NetworkText.{network_lines, network_text}
 use Rattle.pls_labelfile.specs.LabelsText.{labels_lines, named}
 use Rattle.pls_model.specs.Configuration.{ids_of}
 use Rattle.pls_sim.specs.ScheduleText.{event_line, schedule_lines, schedule_text}
-use Rattle.pls_combine.specs.declared.scheme_name.SchemeName.{SchemeName}
-use Rattle.pls_combine.specs.Named.{judge_of}
-use Rattle.pls_app.specs.declared.command.Command.TheVariants.{Simulate}
 use Rattle.pls_app.specs.declared.shape.Shape.TheVariants.{Scheduled}
 use Rattle.pls_app.specs.declared.limits.TheConstants.{MAX_INPUT}
 use Rattle.pls_app.specs.Input.{Input, IsInput, first_event_line, net_labels_text}
-use Rattle.pls_app.specs.Answer.{Answer, Answers}
-use Rattle.pls_app.specs.inner.Played.{Plays}
-use Rattle.pls_app.proofs.Answered.{work_refused, worked_answer}
 
 -- a text has at most as many lines as bytes
 lines_fit : (lines : List (List ℕ)) → length lines ≤ length (text_of lines)

@@ -1,5 +1,5 @@
 -- What `Done` and `No` say of a network.
-use Rattle.std.proofs.Common.{◌≡◌, ◌∙◌, ℕ, Contains, [], ◌∷◌, Bool, true, false, List, map, length, All, if◌then◌else◌, inl, inr, get_or, refl, sym, ap}
+use Rattle.std.proofs.Common.{◌≡◌, ◌∙◌, ℕ, Contains, [], ◌∷◌, Bool, true, false, List, map, length, All, if◌then◌else◌, inl, inr, get_or, refl, subst, sym, ap}
 use Rattle.std.proofs.lemmas.List.Folds.{list_all-map}
 use Rattle.std.proofs.lemmas.List.Sums.{AllPass-from_list_all, list_all-from_AllPass}
 use Rattle.std.proofs.lemmas.List.Elements.{All-map}

@@ -1,5 +1,5 @@
 -- The greatest numbers of a network that can stand in a text.
-use Rattle.std.proofs.Common.{◌≡◌, ℕ, ◌*◌, ◌^◌, ◌≤◌, ◌<◌, Bool, false, List, [], ◌∷◌, ◌++◌, length, map, All, Contains, Some, option_map, ap, subst, refl, sym, arith}
+use Rattle.std.proofs.Common.{◌≡◌, ◌∙◌, ℕ, ◌*◌, ◌-◌, ◌^◌, ◌≤◌, ◌<◌, Bool, true, false, List, [], ◌∷◌, ◌++◌, length, map, All, Contains, Some, option_map, ap, subst, refl, sym, arith}
 use Rattle.std.specs.Prelude.{flat_map, nat_lt}
 use Rattle.std.proofs.Math.Nat.{le-mul_of_pos_right, mul_comm, suc-mul}
 use Rattle.std.proofs.lemmas.Bool.Decides.{nat_tests}
@@ -96,6 +96,12 @@ pub bound_answered : (scheme : Expression) (rows : List NodeRow) → IsSmall sch
 bound_answered scheme rows small readable =
     omega (arith, bound_small scheme rows small readable)
 
+-- at least one times a number is at least the number
+greater : (count bits : ℕ) → 1 ≤ count → bits ≤ count * bits
+greater count bits some =
+    subst (λ (product : ℕ). bits ≤ product) (mul_comm bits count)
+    (le-mul_of_pos_right bits (omega (arith, some)))
+
 -- as many labels as nodes pass the limit where they do with the bound that is answered
 pub over_answered : (count most longest : ℕ) → 1 ≤ count → most < 2 ^ 64 - 1
     → nat_lt most (count * answered longest) ≡ nat_lt most (count * longest)
@@ -113,8 +119,3 @@ over_answered count most longest some small = by (nat_lt longest (2 ^ 64 - 1)) r
         omega (arith, small, capped, greater count (answered longest) some) in
         let two : most < count * longest = omega (arith, small, many, greater count longest some) in
         lt-ltb most (count * answered longest) one ∙ sym (lt-ltb most (count * longest) two)
-
-    greater : (count bits : ℕ) → 1 ≤ count → bits ≤ count * bits
-    greater count bits some =
-        subst (λ (product : ℕ). bits ≤ product) (mul_comm bits count)
-        (le-mul_of_pos_right bits (omega (arith, some)))

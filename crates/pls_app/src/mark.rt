@@ -53,11 +53,7 @@ fn test_labels(scheme: &AnyScheme<Gamma>, net: &Network) -> Result<(), TextError
 }
 
 // The labels of a network, where it has the property of the scheme, else `no`.
-fn mark_within(
-    alloc: Global,
-    scheme: &AnyScheme<Gamma>,
-    net: &Network,
-) -> Result<Answer, NoMemory>
+fn mark_within(alloc: Global, scheme: &AnyScheme<Gamma>, net: &Network) -> Result<Answer, NoMemory>
     requires { IsConnected net.now }
     ensures marks { IfOk result (λ answer. Marks scheme.now net.now answer) }
     ensures answered { IfOk result (λ answer. IsAnswered answer.status) }

@@ -41,12 +41,7 @@ pub(crate) fn answer_to(alloc: Global, command: &Command, bytes: &[u8]) -> Resul
 }
 
 // The answer to a command on what its input says. The one error is want of memory.
-fn work(
-    alloc: Global,
-    command: &Command,
-    bytes: &[u8],
-    input: &Input,
-) -> Result<Answer, NoMemory>
+fn work(alloc: Global, command: &Command, bytes: &[u8], input: &Input) -> Result<Answer, NoMemory>
     requires input { IsInput (shape_of command.now) bytes.now (said input.now) }
     requires line { shape_of command.now ≡ Shape.Scheduled
         → input.now.first_line ≡ first_event_line (said input.now) }

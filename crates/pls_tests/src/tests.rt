@@ -5,6 +5,7 @@ mod bits;
 mod colours;
 mod combinations;
 mod distances;
+mod expressions;
 mod graph;
 mod labelfile;
 mod leaders;
