@@ -1,41 +1,50 @@
 -- Which answers belong to which words and bytes.
-use Rattle.std.proofs.Common.{◌≡◌, ◌≢◌, ℕ, ◌+◌, ◌≤◌, Bool, true, false, List, length, Option, Some, None, IfOk, inl, inr, Result, Ok, Err, OnOk, ap, subst, refl, arith, ◌∙◌, ◌⊎◌, ◌==◌, if◌then◌else◌, sym}
+use Rattle.std.proofs.Common.{◌≡◌, ◌≢◌, ℕ, ◌+◌, ◌≤◌, Bool, true, false, List, length, Option, Some, None, IfOk, inl, inr, Result, Ok, Err, OnOk, ap, subst, refl, arith, ◌∙◌, ◌⊎◌, if◌then◌else◌, sym}
 use Rattle.std.specs.Io.KnownBytes.{Appends}
 use Rattle.pls_base.specs.declared.text_error.TextError.{TextError}
 use Rattle.pls_base.specs.declared.text_error.TextError.TheVariants.{Limit, NoMemory}
-use Rattle.pls_base.specs.declared.text_error.Quantity.TheVariants.{Input}
+use Rattle.pls_base.specs.declared.text_error.Quantity.TheVariants.{Input as InputBytes}
 use Rattle.pls_base.specs.Streams.{LosesFirst}
-use Rattle.pls_model.specs.declared.row.NodeRow.{NodeRow}
 use Rattle.pls_model.specs.declared.status.Status.{Status}
 use Rattle.pls_model.specs.declared.status.Status.TheVariants.{Done, No, Refused, Limit as OverLimit}
-use Rattle.pls_scheme.specs.Judging.{round_by}
+use Rattle.pls_report.specs.Report.{all_accept}
 use Rattle.pls_app.specs.declared.command.Command.{Command}
-use Rattle.pls_app.specs.declared.command.Command.TheVariants.{Mark, Verify}
-use Rattle.pls_combine.specs.declared.scheme_name.SchemeName.{SchemeName}
+use Rattle.pls_app.specs.declared.command.Command.TheVariants.{With}
+use Rattle.pls_app.specs.declared.command.Task.{Task}
+use Rattle.pls_app.specs.declared.command.Task.TheVariants.{Mark, Verify, Simulate, Bound}
+use Rattle.pls_combine.specs.Expression.{Expression}
 use Rattle.pls_app.specs.declared.limits.TheConstants.{MAX_INPUT}
-use Rattle.pls_app.specs.Command.{command_of}
-use Rattle.pls_app.specs.Input.{IsInput}
-use Rattle.pls_app.specs.Order.{IsRefused}
-use Rattle.pls_app.specs.Answer.{Answer, Answers, IsAnswer, Works, refusal, report, usage}
-use Rattle.pls_combine.specs.Named.{judge_of}
+use Rattle.pls_app.specs.Command.{IsCommand, IsNoCommand, parts_of, shape_of}
+use Rattle.pls_app.specs.Input.{Input, IsInput}
+use Rattle.pls_app.specs.Order.{IsRefused, work_refusal}
+use Rattle.pls_app.specs.Answer.{Answer, Answers, IsAnswer, TaskYields, Yields, refusal, task_outcomes, usage}
+use Rattle.pls_app.specs.inner.Tasks.{Does}
+use Rattle.pls_app.proofs.Commands.{one_command}
 use Rattle.pls_app.specs.inner.Scanned.{Refuses}
 use Rattle.pls_app.specs.Run.{IsAnswered, IsRefusalStatus, Tells, TellsRefusal}
-use Rattle.pls_app.specs.Report.{rejecting}
 use Rattle.pls_app.proofs.OneAnswer.{one_answer}
 
 -- more bytes than the limit are refused
 pub too_long : (command : Command) (old new : Option (List ℕ)) (bytes : List ℕ)
-    → LosesFirst old new (MAX_INPUT + 1) → old ≡ Some bytes → IsRefused command bytes (Limit Input)
+    → LosesFirst old new (MAX_INPUT + 1) → old ≡ Some bytes → IsRefused command bytes (Limit InputBytes)
 too_long command old new bytes lost told =
     let here : LosesFirst (Some bytes) new (MAX_INPUT + 1) = rw told at lost in
     inl (refl, omega (arith, here.0))
 
--- a network and labels that were read are judged
-pub judged_answer : (scheme : SchemeName) (bytes : List ℕ) (rows : List NodeRow)
-    (labels : List (List Bool)) (answer : Answer) → IsInput bytes rows labels
-    → answer ≡ report (round_by (judge_of scheme) rows labels)
-    → Answers (Verify scheme) bytes answer
-judged_answer scheme bytes rows labels answer input same = inr (rows, labels, input, same)
+-- a command answers an input that it does not refuse
+pub worked_answer : (command : Command) (bytes : List ℕ) (input : Input) (answer : Answer)
+    → IsInput (shape_of command) bytes input → work_refusal command input ≡ None
+    → Yields command input answer → Answers command bytes answer
+worked_answer command bytes input answer is accepted yields =
+    inr (record { input = input; is = is; accepted = accepted; yields = yields })
+
+-- and one that it refuses
+pub work_refused : (command : Command) (bytes : List ℕ) (input : Input) (error : TextError)
+    (answer : Answer) → IsInput (shape_of command) bytes input
+    → work_refusal command input ≡ Some error → answer ≡ refusal error
+    → Answers command bytes answer
+work_refused command bytes input error answer is refused same =
+    inl (error, inr (inr (record { input = input; is = is; refused = refused })), same)
 
 -- an input that is refused is answered so
 pub refused_answer : (command : Command) (bytes : List ℕ) (error : TextError) (answer : Answer)
@@ -43,40 +52,36 @@ pub refused_answer : (command : Command) (bytes : List ℕ) (error : TextError) 
 refused_answer command bytes error answer refused same = inl (error, refused, same)
 
 -- words that are no command are answered so
-pub usage_answer : (words : List (List ℕ)) (bytes : List ℕ) → command_of words ≡ None
+pub usage_answer : (words : List (List ℕ)) (bytes : List ℕ) → IsNoCommand words
     → IsAnswer words bytes usage
-usage_answer words bytes none = rw none refl
+usage_answer words bytes none = inl (none, refl)
 
 -- the answer to a command is the answer to its words
 pub command_answer : (words : List (List ℕ)) (bytes : List ℕ) (command : Command) (answer : Answer)
-    → command_of words ≡ Some command → Answers command bytes answer → IsAnswer words bytes answer
-command_answer words bytes command answer is answers = rw is answers
+    → IsCommand words command → Answers command bytes answer → IsAnswer words bytes answer
+command_answer words bytes command answer is answers = inr (command, is, answers)
 
 -- the command of the words is one
 pub same_command : (words : List (List ℕ)) (command other : Command) (bytes : List ℕ)
-    (answer : Answer) → Some command ≡ command_of words → command_of words ≡ Some other
+    (answer : Answer) → IsCommand words command → IsCommand words other
     → Answers command bytes answer → Answers other bytes answer
 same_command words command other bytes answer is is_other answers =
-    let same : command ≡ other = cc in
-    subst (λ (command : Command). Answers command bytes answer) same answers
+    subst (λ (command : Command). Answers command bytes answer)
+    (one_command words command other is is_other) answers
 
 -- what is refused is answered so
 pub answered_by_refusal : {E : Type 0} (command : Command) (bytes : List ℕ) (error : TextError)
-    (r : Result Answer E) → length bytes ≤ MAX_INPUT → Refuses command bytes error
+    (r : Result Answer E) → length bytes ≤ MAX_INPUT
+    → Refuses (shape_of command) bytes error
     → IfOk r (λ answer. answer ≡ refusal error) → OnOk r (error ≢ NoMemory)
     → IfOk r (λ answer. Answers command bytes answer)
 answered_by_refusal command bytes error (Ok answer) short refused says some =
-    refused_answer command bytes error answer (inr (short, refused some)) says
+    refused_answer command bytes error answer (inr (inl (short, refused some))) says
 answered_by_refusal command bytes error (Err e) short refused says some = tt
-
--- the command that was read is the command of the words
-pub the_command : (words : List (List ℕ)) (command other : Command)
-    → Some command ≡ command_of words → command_of words ≡ Some other → command ≡ other
-the_command words command other read is = cc
 
 -- the answer to a refusal is told
 pub tells_refusal : (words : List (List ℕ)) (command : Command) (bytes : List ℕ) (error : TextError)
-    (status : Status) (old new : Option (List ℕ)) → command_of words ≡ Some command
+    (status : Status) (old new : Option (List ℕ)) → IsCommand words command
     → IsRefused command bytes error → Tells words bytes status old new
     → TellsRefusal error status old new
 tells_refusal words command bytes error status old new is refused told =
@@ -91,29 +96,52 @@ tells_refusal words command bytes error status old new is refused told =
 
 -- the answer to the words is the answer to their command
 answer_of_command : (words : List (List ℕ)) (bytes : List ℕ) (command : Command) (answer : Answer)
-    → command_of words ≡ Some command → IsAnswer words bytes answer → Answers command bytes answer
-answer_of_command words bytes command answer is answers = rw is at answers
+    → IsCommand words command → IsAnswer words bytes answer → Answers command bytes answer
+answer_of_command words bytes command answer is answers = elim answers [
+  | inl none ↦ absurd (none.0 command is)
+  | inr found ↦ same_command words found.0 command bytes answer found.1 is found.2
+]
+
+-- a task answers what its refusal or its work says
+pub does_answer : (task : Task) (scheme : Expression) (bytes : List ℕ) (input : Input)
+    (answer : Answer) → IsInput (parts_of task) bytes input → Does task scheme input answer
+    → Answers (With task scheme) bytes answer
+does_answer task scheme bytes input answer is does = elim does [
+  | inl refused ↦
+      work_refused (With task scheme) bytes input refused.0 answer is refused.1 refused.2
+  | inr done ↦ worked_answer (With task scheme) bytes input answer is done.0 done.1
+]
 
 -- a report is `Done` or `No`
-report_ends : (count : ℕ)
-    → ((if count == 0 then Done else No) ≡ Done) ⊎ ((if count == 0 then Done else No) ≡ No)
-report_ends count = by (count == 0)
-  where
-    by : (b : Bool) → ((if b then Done else No) ≡ Done) ⊎ ((if b then Done else No) ≡ No)
-    by true = inl refl
-    by false = inr refl
+report_ends : (all : Bool)
+    → ((if all then Done else No) ≡ Done) ⊎ ((if all then Done else No) ≡ No)
+report_ends true = inl refl
+report_ends false = inr refl
 
--- what a command works out is `Done` or `No`
-works_end : (command : Command) (bytes : List ℕ) (answer : Answer) → Works command bytes answer
-    → (answer.status ≡ Done) ⊎ (answer.status ≡ No)
-works_end (Mark scheme) bytes answer works = elim works.2 [
+-- the status of an answer is that of another that is the same
+ends_so : (answer other : Answer) → answer ≡ other
+    → (other.status ≡ Done) ⊎ (other.status ≡ No) → (answer.status ≡ Done) ⊎ (answer.status ≡ No)
+ends_so answer other same ends =
+    subst (λ (status : Status). (status ≡ Done) ⊎ (status ≡ No))
+    (sym (ap (λ (answer : Answer). answer.status) same)) ends
+
+-- what a command answers to an input is `Done` or `No`
+task_ends : (task : Task) (scheme : Expression) (input : Input) (answer : Answer)
+    → TaskYields task scheme input answer → (answer.status ≡ Done) ⊎ (answer.status ≡ No)
+task_ends Mark scheme input answer yields = elim yields [
   | inl marked ↦ inl (ap (λ (answer : Answer). answer.status) marked.3)
   | inr lacks ↦ inr (ap (λ (answer : Answer). answer.status) lacks.1)
 ]
-works_end (Verify scheme) bytes answer works =
-    subst (λ (status : Status). (status ≡ Done) ⊎ (status ≡ No))
-    (sym (ap (λ (answer : Answer). answer.status) works.3))
-    (report_ends (rejecting (round_by (judge_of scheme) works.0 works.1)))
+task_ends (Verify json) scheme input answer yields =
+    ends_so answer _ yields (report_ends (all_accept (task_outcomes (Verify json) scheme input)))
+task_ends (Simulate json) scheme input answer yields =
+    ends_so answer _ yields (report_ends (all_accept (task_outcomes (Simulate json) scheme input)))
+task_ends Bound scheme input answer yields =
+    inl (ap (λ (answer : Answer). answer.status) yields)
+
+yields_end : (command : Command) (input : Input) (answer : Answer) → Yields command input answer
+    → (answer.status ≡ Done) ⊎ (answer.status ≡ No)
+yields_end (With task scheme) input answer yields = task_ends task scheme input answer yields
 
 -- `Done` and `No` are no refusals
 no_refusal : (status : Status) → (status ≡ Done) ⊎ (status ≡ No) → IsRefusalStatus status → ⊥
@@ -137,13 +165,13 @@ refusal_answered status refusal = elim refusal [
 
 -- a run that ends in a refusal has refused
 pub refusal_has_cause : (words : List (List ℕ)) (command : Command) (bytes : List ℕ)
-    (status : Status) (old new : Option (List ℕ)) → command_of words ≡ Some command
+    (status : Status) (old new : Option (List ℕ)) → IsCommand words command
     → Tells words bytes status old new → IsRefusalStatus status
     → (error : TextError) × IsRefused command bytes error
 refusal_has_cause words command bytes status old new is told refusal =
     elim (answer_of_command words bytes command told.answer is told.is) [
       | inl refused ↦ (refused.0, refused.1)
       | inr works ↦
-          absurd (no_refusal told.answer.status (works_end command bytes told.answer works)
+          absurd (no_refusal told.answer.status (yields_end command works.input told.answer works.yields)
           (subst IsRefusalStatus told.ends refusal))
     ]

@@ -1,6 +1,9 @@
 -- Labels that `mark` wrote are accepted by `verify`.
-use Rattle.std.proofs.Common.{◌≡◌, ℕ, ◌*◌, ◌^◌, ◌≤◌, ◌<◌, Bool, List, [], ◌∷◌, ◌++◌, length, map, All, Contains, Some, option_map, ap, subst, refl, sym, arith}
-use Rattle.std.specs.Prelude.{flat_map}
+use Rattle.std.proofs.Common.{◌≡◌, ◌∙◌, ℕ, ◌*◌, ◌≤◌, ◌<◌, inl, inr, Bool, false, List, [], ◌∷◌, ◌++◌, length, map, All, None, ap, subst, refl, sym, arith}
+use Rattle.std.specs.Prelude.{flat_map, nat_lt}
+use Rattle.std.proofs.Math.Nat.{le-mul_of_pos_right, mul_comm, suc-mul}
+use Rattle.std.proofs.lemmas.Bool.Decides.{nat_tests}
+use Rattle.std.proofs.lemmas.Bool.{lt-ltb}
 use Rattle.std.proofs.lemmas.List.Elements.{All-cons, All-contains, All-head, All-map, All-nil, All-tail}
 use Rattle.std.proofs.lemmas.List.Sums.{sum_by-cons}
 use Rattle.pls_model.specs.declared.row.Port.{Port}
@@ -10,148 +13,126 @@ use Rattle.pls_graph.specs.Size.{greatest, size_of, weights_of}
 use Rattle.pls_graph.proofs.Members.{Contains-first, Contains-from_flat_map, Contains-later}
 use Rattle.pls_netfile.specs.NetworkText.{FitsPort, FitsRow, network_text}
 use Rattle.pls_view.specs.Labels.{bits_together}
-use Rattle.pls_labelfile.specs.LabelsText.{labels_text, named}
-use Rattle.pls_scheme.specs.Judging.{round_by}
 use Rattle.pls_scheme.specs.Marked.{answered}
 use Rattle.pls_scheme.specs.Theorem.{AreWords}
-use Rattle.pls_combine.proofs.Bounds.{short_bound}
-use Rattle.pls_combine.proofs.Words.{scheme_of-name_of}
-use Rattle.pls_app.specs.declared.command.Command.TheVariants.{Verify}
-use Rattle.pls_combine.specs.declared.scheme_name.SchemeName.{SchemeName}
-use Rattle.pls_app.specs.Command.{command_of, verify_words}
-use Rattle.pls_combine.specs.Named.{judge_of, longest_of}
-use Rattle.pls_app.specs.Input.{IsInput, IsNetworkInput, IsReadable}
-use Rattle.pls_app.specs.Answer.{Answers, report}
+use Rattle.pls_model.specs.declared.status.Status.TheVariants.{Done}
+use Rattle.pls_app.specs.Command.{parts_of, verify_words}
+use Rattle.pls_app.specs.inner.Tasks.{Does}
+use Rattle.pls_labelfile.specs.declared.limits.TheConstants.{MAX_BITS}
+use Rattle.pls_app.specs.declared.shape.Shape.TheVariants.{Network, Labelled}
+use Rattle.pls_base.specs.declared.text_error.Quantity.TheVariants.{Labels}
+use Rattle.pls_bits.specs.Gamma.{gamma_code, gamma_takes}
+use Rattle.pls_combine.specs.Expression.{Expression, IsSmall, judge_of, longest_of}
+use Rattle.pls_combine.proofs.Bounds.{short_expression}
+use Rattle.pls_app.specs.declared.command.Command.TheVariants.{With}
+use Rattle.pls_app.specs.declared.command.Task.{Task}
+use Rattle.pls_app.specs.declared.command.Task.TheVariants.{Mark, Verify, Simulate, Bound}
+use Rattle.pls_app.specs.Order.{labels_over}
+use Rattle.pls_app.specs.Input.{Input, IsInput, IsReadable, net_labels_text}
+use Rattle.pls_app.specs.Answer.{Answer, Answers, decided_by, report}
 use Rattle.pls_app.specs.Run.{Certifies, IsDone, Shows, ShowsIn}
-use Rattle.pls_app.proofs.Answered.{command_answer, judged_answer}
-use Rattle.pls_app.proofs.Proved.{accepted_report}
+use Rattle.pls_app.proofs.Commands.{verify_is}
+use Rattle.pls_app.proofs.LimitsPassed.{few_of}
+use Rattle.pls_app.proofs.Answered.{command_answer, worked_answer}
+use Rattle.pls_app.proofs.Proved.{accepted_report, refused_not_done}
 use Rattle.pls_app.proofs.TextLengths.{text_fits}
 
--- labels of at most 8,192 bits each have at most so many times as many bits as there are labels
-few_in_short : (labels : List (List Bool)) → All (λ label. length label ≤ 8192) labels
-    → bits_together labels ≤ 8192 * length labels
-few_in_short [] short = omega arith
-few_in_short (label ∷ labels) short =
-    let Short : List Bool → Type 0 = λ label. length label ≤ 8192 in
-    let sum = sum_by-cons (length {A = Bool}) label labels in
+-- labels of at most so many bits each have at most so many times as many bits as there are labels
+together_short : (most : ℕ) (labels : List (List Bool)) → All (λ label. length label ≤ most) labels
+    → bits_together labels ≤ length labels * most
+together_short most [] short = omega arith
+together_short most (label ∷ labels) short =
+    let Short : List Bool → Type 0 = λ label. length label ≤ most in
     omega (
       arith,
-      sum,
+      sum_by-cons (length {A = Bool}) label labels,
+      suc-mul (length labels) most,
       All-head Short label labels short,
-      few_in_short labels
-          (All-tail Short label labels short),
+      together_short most labels (All-tail Short label labels short),
     )
 
--- where each number is below a bound, so is the greatest
-small_greatest : (bound : ℕ) (numbers : List ℕ) → 1 ≤ bound → All (λ number. number < bound) numbers
-    → greatest numbers < bound
-small_greatest bound [] some small = some
-small_greatest bound (number ∷ numbers) some small =
-    let Small : ℕ → Type 0 = λ number. number < bound in
-    omega (
-      arith,
-      All-head Small number numbers small,
-      small_greatest bound numbers some
-          (All-tail Small number numbers small),
-    )
-
--- the weights of the ports of rows that can stand in a text have 32 bits
-small_weights : (rows : List NodeRow) → All FitsRow rows
-    → All (λ weight. weight < 2 ^ 32) (weights_of rows)
-small_weights rows fits = each (flat_map (λ row. row.ports) rows) (λ port among.
-    let found = Contains-from_flat_map (λ (row : NodeRow). row.ports) rows port among in
-    let row = All-contains FitsRow rows found.0 fits found.1 in
-    (All-contains FitsPort found.0.ports port row.ports found.2).weight)
-  where
-    each : (ports : List Port)
-        → ((port : Port) → Contains ports port → port.weight < 2 ^ 32)
-        → All (λ weight. weight < 2 ^ 32) (map (λ port. port.weight) ports)
-    each [] small = All-nil (λ weight. weight < 2 ^ 32)
-    each (port ∷ ports) small =
-        All-cons (λ weight. weight < 2 ^ 32) port.weight (map (λ port. port.weight) ports)
-        (small port (Contains-first port ports))
-        (each ports (λ other among. small other (Contains-later port ports other among)))
-
--- the greatest numbers of a network that can stand in a text have 32 bits
-words_of : (rows : List NodeRow) → IsReadable rows → AreWords (size_of rows)
-words_of rows readable =
-    let ids = small_greatest (2 ^ 32) (ids_of rows) (omega arith)
-    (All-map (λ id. id < 2 ^ 32) (λ (row : NodeRow). row.id) rows
-    (λ k d within. (readable.ranges.each k d within).id)) in
-    let marks = small_greatest (2 ^ 32) (map (λ (row : NodeRow). row.state.mark) rows) (omega arith)
-    (All-map (λ mark. mark < 2 ^ 32) (λ (row : NodeRow). row.state.mark) rows
-    (λ k d within. (readable.ranges.each k d within).state.mark)) in
-    let weights = small_greatest (2 ^ 32) (weights_of rows) (omega arith)
-    (small_weights rows readable.ranges.each) in
-    record {
-      max_id = omega (arith, ids);
-      max_weight = omega (arith, weights);
-      max_mark = omega (arith, marks);
-    }
-
--- marked labels have at most 8,192 bits each
-short_labels : (scheme : SchemeName) (rows : List NodeRow) (labels : List (List Bool))
-    → IsReadable rows
-    → All (λ label. length label ≤ answered (longest_of scheme (size_of rows))) labels
-    → All (λ label. length label ≤ 8192) labels
-short_labels scheme rows labels readable short =
-    let bound = short_bound scheme (size_of rows) readable.network.limits.few_nodes
-    (words_of rows readable) in
-    λ place other within. omega (arith, short place other within, bound)
-
--- the words of a scheme's `verify` are that command
-verify_is : (scheme : SchemeName) → command_of (verify_words scheme) ≡ Some (Verify scheme)
-verify_is scheme = ap (option_map Verify) (scheme_of-name_of scheme)
+-- marked labels that are not refused have few bits together
+marked_few : (scheme : Expression) (rows : List NodeRow) (labels : List (List Bool))
+    → labels_over scheme rows ≡ None → Shows scheme rows labels → bits_together labels ≤ MAX_BITS
+marked_few scheme rows labels accepted shows =
+    let longest : ℕ = longest_of gamma_code scheme (size_of rows) in
+    let each : All (λ label. length label ≤ longest) labels =
+    λ place other within. omega (arith, shows.short place other within) in
+    let few = few_of Labels MAX_BITS (length rows * longest) accepted in
+    let many : length labels * longest ≡ length rows * longest =
+    ap (λ (count : ℕ). count * longest) shows.each in
+    omega (arith, together_short longest labels each, few, many)
 
 -- the text of a network and the labels that show its property are an input
-marked_input : (scheme : SchemeName) (bytes : List ℕ) (rows : List NodeRow)
-    (labels : List (List Bool)) → IsNetworkInput bytes rows → Shows scheme rows labels
-    → IsInput (bytes ++ labels_text (named (ids_of rows) labels)) rows labels
-marked_input scheme bytes rows labels input shows =
-    let text : List ℕ = labels_text (named (ids_of rows) labels) in
-    let short = short_labels scheme rows labels input.readable shows.short in
+marked_input : (scheme : Expression) (bytes : List ℕ) (input : Input) (labels : List (List Bool))
+    → IsInput Network bytes input → labels_over scheme input.rows ≡ None
+    → Shows scheme input.rows labels
+    → IsInput Labelled (bytes ++ net_labels_text input.rows labels)
+    (record { rows = input.rows; labels = labels; events = [] })
+marked_input scheme bytes input labels is accepted shows =
+    let rows : List NodeRow = input.rows in
+    let text : List ℕ = net_labels_text rows labels in
+    let few = marked_few scheme rows labels accepted shows in
     let same : bytes ++ text ≡ network_text rows ++ text =
-    ap (λ (front : List ℕ). front ++ text) input.is in
-    let fits = text_fits rows labels input.readable.network input.readable.ranges short in
+    ap (λ (front : List ℕ). front ++ text) is.is in
+    let fits = text_fits rows labels is.readable.network is.readable.ranges few in
     record {
       short = omega (arith, ap (length {A = ℕ}) same, fits);
-      readable = input.readable;
-      labelled =
-          record {
-            each = shows.each;
-            few = omega (
-              arith,
-              few_in_short labels short,
-              shows.each,
-              input.readable.network.limits.few_nodes,
-            );
-          };
+      readable = is.readable;
+      filled = (record { each = shows.each; few = few }, refl);
       is = same;
     }
 
 -- labels that show the property of a network certify its text
-pub certified : (scheme : SchemeName) (bytes : List ℕ) (rows : List NodeRow) (text : List ℕ)
-    → IsNetworkInput bytes rows → ShowsIn scheme rows text → Certifies scheme bytes text
-certified scheme bytes rows text input shown =
+pub certified : (scheme : Expression) (bytes : List ℕ) (input : Input) (text : List ℕ)
+    → IsSmall scheme → IsInput Network bytes input → labels_over scheme input.rows ≡ None
+    → ShowsIn scheme input.rows text → Certifies scheme bytes text
+certified scheme bytes input text small is accepted shown =
+    let rows : List NodeRow = input.rows in
     let labels = shown.labels in
-    let mine : List ℕ = labels_text (named (ids_of rows) labels) in
-    let answers : Answers (Verify scheme) (bytes ++ mine)
-    (report (round_by (judge_of scheme) rows labels)) =
-    judged_answer scheme (bytes ++ mine) rows labels _
-    (marked_input scheme bytes rows labels input shown.shows) refl in
+    let mine : List ℕ = net_labels_text rows labels in
+    let read : Input = record { rows = rows; labels = labels; events = [] } in
+    let answer : Answer = report false false (decided_by (judge_of gamma_takes scheme) rows labels) in
+    let answers : Answers (With (Verify false) scheme) (bytes ++ mine) answer =
+    worked_answer (With (Verify false) scheme) (bytes ++ mine) read answer
+    (marked_input scheme bytes input labels is accepted shown.shows) refl refl in
     let verified : IsDone (verify_words scheme) (bytes ++ mine) = record {
-      answer = report (round_by (judge_of scheme) rows labels);
-      is = command_answer (verify_words scheme) (bytes ++ mine) (Verify scheme) _ (verify_is scheme)
-          answers;
+      answer = answer;
+      is = command_answer (verify_words scheme) (bytes ++ mine) (With (Verify false) scheme) answer
+          (verify_is scheme small) answers;
       done = accepted_report scheme rows labels shown.shows.accepted;
     } in
     record {
-      rows = rows;
-      labels = labels;
       input = input;
+      labels = labels;
+      is = is;
       shows = shown.shows;
-      is = shown.is;
+      text_is = shown.is;
       verified =
           subst (λ (text : List ℕ). IsDone (verify_words scheme) (bytes ++ text)) (sym shown.is)
           verified;
     }
+
+-- what `mark` answered certifies the text of the network
+pub certified_mark : (task : Task) (scheme : Expression) (bytes : List ℕ) (input : Input)
+    (answer : Answer) → IsSmall scheme → IsInput (parts_of task) bytes input
+    → Does task scheme input answer
+    → (task ≡ Mark → answer.status ≡ Done → ShowsIn scheme input.rows answer.text)
+    → (other : Expression) → With task scheme ≡ With Mark other → answer.status ≡ Done
+    → Certifies other bytes answer.text
+certified_mark Mark scheme bytes input answer small is does shows other same done =
+    let schemes : scheme ≡ other = cc in
+    let accepted : labels_over scheme input.rows ≡ None = elim does [
+      | inl refused ↦
+          absurd (refused_not_done refused.0
+          (sym (ap (λ (answer : Answer). answer.status) refused.2) ∙ done))
+      | inr yields ↦ yields.0
+    ] in
+    subst (λ (scheme : Expression). Certifies scheme bytes answer.text) schemes
+    (certified scheme bytes input answer.text small is accepted (shows refl done))
+certified_mark (Verify json) scheme bytes input answer small is does shows other same done =
+    absurd (cc)
+certified_mark (Simulate json) scheme bytes input answer small is does shows other same done =
+    absurd (cc)
+certified_mark Bound scheme bytes input answer small is does shows other same done =
+    absurd (cc)

@@ -1,5 +1,5 @@
 -- What a run has read of its source.
-use Rattle.std.proofs.Common.{◌≡◌, ℕ, ◌+◌, ◌≤◌, List, [], length, drop, Option, Some, None, IfSome, IfOk, MatchResult, Result, Ok, Err, OnOk, ap, arith}
+use Rattle.std.proofs.Common.{◌≡◌, ℕ, ◌+◌, ◌≤◌, List, [], length, drop, Option, Some, None, IfSome, IfOk, MatchResult, Result, Ok, Err, OnOk, ap, arith, refl}
 use Rattle.std.proofs.lemmas.List.{drop_all}
 use Rattle.pls_base.specs.Streams.{LosesAtMost, LosesFirst}
 use Rattle.pls_app.specs.declared.limits.TheConstants.{MAX_INPUT}
@@ -9,6 +9,12 @@ use Rattle.pls_app.specs.Run.{HasRead}
 pub on_ok : {T E : Type 0} (r : Result T E) (P : Type 0) → P → OnOk r P
 on_ok (Ok x) P p = p
 on_ok (Err e) P p = tt
+
+-- what holds of an `Ok` holds with what else does
+pub both_ok : {T E : Type 0} (r : Result T E) (P Q : T → Type 0) → IfOk r P → IfOk r Q
+    → IfOk r (λ x. P x × Q x)
+both_ok (Ok x) P Q p q = (p, q)
+both_ok (Err e) P Q p q = tt
 
 -- a source whose bytes were all read
 pub read_all_of : (old new : Option (List ℕ)) (read : List ℕ) → IfSome old (λ bytes. read ≡ bytes)
@@ -42,3 +48,8 @@ pub read_them : (old : Option (List ℕ)) (read bytes : List ℕ) → IfSome old
 read_them old read bytes all told =
     let here : IfSome (Some bytes) (λ found. read ≡ found) = rw told at all in
     here
+
+-- a source that was not read has lost nothing
+pub lost_nothing : (old : Option (List ℕ)) → LosesAtMost old old (MAX_INPUT + 1)
+lost_nothing None = (0, omega arith, tt)
+lost_nothing (Some bytes) = (0, omega arith, (omega arith, refl))

@@ -1,5 +1,5 @@
--- What is scanned of an input, and what an input is.
-use Rattle.std.proofs.Common.{◌≡◌, ◌≢◌, ◌∙◌, ℕ, ◌≤◌, ◌<◌, Bool, true, false, List, [], ◌∷◌, ◌++◌, map, length, nat_lt, All, Contains, Option, Some, None, IsSome, if◌then◌else◌, option_map, ap, subst, refl, sym, arith}
+-- What the parts of an input are.
+use Rattle.std.proofs.Common.{◌≡◌, ◌≢◌, ◌∙◌, ℕ, ◌≤◌, ◌<◌, Bool, true, false, List, [], ◌∷◌, ◌++◌, map, nat_lt, All, Contains, Option, Some, None, IsSome, if◌then◌else◌, option_map, ap, subst, refl, sym, arith}
 use Rattle.std.proofs.lemmas.Bool.Decides.{nat_tests}
 use Rattle.std.proofs.lemmas.List.{append-nil, length-map}
 use Rattle.pls_base.specs.declared.text_error.TextError.{TextError}
@@ -8,27 +8,25 @@ use Rattle.pls_base.specs.declared.text_error.Quantity.TheVariants.{Bits}
 use Rattle.pls_model.specs.declared.row.NodeRow.{NodeRow}
 use Rattle.pls_model.specs.Configuration.{IsNetwork, ids_of}
 use Rattle.pls_model.specs.Walk.{IsConnected}
-use Rattle.pls_view.specs.Labels.{bits_together}
 use Rattle.pls_netfile.specs.NetworkText.{AreRows, network_text}
-use Rattle.pls_netfile.specs.NetworkScan.{WrittenNetwork, TellsNetwork}
 use Rattle.pls_netfile.specs.laws.NetworkRows.{one_network}
 use Rattle.pls_labelfile.specs.LabelsText.{FitsLabel, NamedLabel, labels_text, named}
-use Rattle.pls_labelfile.specs.LabelsScan.{total_bits, WrittenLabels}
+use Rattle.pls_labelfile.specs.LabelsScan.{total_bits}
 use Rattle.pls_labelfile.specs.Misfit.{misfit}
 use Rattle.pls_labelfile.specs.Refusal.{IsLabelsRefusal, misfit_error, labels_refusal}
 use Rattle.pls_labelfile.specs.declared.limits.TheConstants.{MAX_BITS}
-use Rattle.pls_labelfile.proofs.Named.{bare-named, named-parts, net_labels_fit, total_bits-named}
+use Rattle.pls_labelfile.proofs.Named.{bare-named, net_labels_fit}
 use Rattle.pls_labelfile.proofs.LabelsPart.{one_labels}
+use Rattle.pls_sim.specs.declared.event.Event.{Event}
+use Rattle.pls_sim.specs.ScheduleText.{schedule_text}
+use Rattle.pls_sim.proofs.Told.{one_told}
 use Rattle.pls_graph.specs.Connected.{IsFirstApart, smallest_id}
 use Rattle.pls_graph.proofs.Members.{Contains-first}
 use Rattle.pls_graph.proofs.Placed.{smallest_first}
-use Rattle.pls_combine.specs.declared.scheme_name.SchemeName.{SchemeName}
-use Rattle.pls_app.specs.declared.command.Command.{Command}
-use Rattle.pls_app.specs.declared.command.Command.TheVariants.{Mark, Verify}
-use Rattle.pls_app.specs.declared.limits.TheConstants.{MAX_INPUT}
-use Rattle.pls_app.specs.Input.{AreLabels, IsInput, IsInputOf, IsNetworkInput, IsReadable}
-use Rattle.pls_app.specs.Order.{Parts, parts_text, text_behind}
-use Rattle.pls_app.specs.inner.Scanned.{AreBuilt, IsBuilt, IsScanned, TellsBehind, TellsSome}
+use Rattle.pls_app.specs.declared.shape.Shape.{Shape}
+use Rattle.pls_app.specs.declared.shape.Shape.TheVariants.{Network, Labelled, Scheduled}
+use Rattle.pls_app.specs.Input.{AreLabels, Input, IsInput, IsReadable, net_labels_text}
+use Rattle.pls_app.specs.Order.{Parts, events_behind, labels_behind, parts_text}
 
 -- the labels of an input fit
 pub parts_fit : (rows : List NodeRow) (labels : List (List Bool)) → IsReadable rows
@@ -45,7 +43,7 @@ refusal_is ids heading labels (Sense number place) some refused = refused
 refusal_is ids heading labels NoMemory some refused = absurd (some refl)
 
 -- labels that are not refused have few bits
-few_bits : (ids : List ℕ) (heading : ℕ) (labels : List NamedLabel)
+pub few_bits : (ids : List ℕ) (heading : ℕ) (labels : List NamedLabel)
     → labels_refusal ids heading labels ≡ None → total_bits labels ≤ MAX_BITS
 few_bits ids heading labels accepted = by (nat_lt (MAX_BITS) (total_bits labels)) refl accepted
   where
@@ -60,120 +58,29 @@ pub some_of : {X : Type 0} (found : Option X) → IsSome found → (x : X) × (f
 some_of None some = absurd (cc)
 some_of (Some x) some = (x, refl)
 
--- what was scanned and built of a network alone is an input
-network_input : (bytes : List ℕ) (network : WrittenNetwork) (parts : Parts) (net : List NodeRow)
-    → length bytes ≤ MAX_INPUT → TellsNetwork network parts.rows → bytes ≡ parts_text parts
-    → parts.labels ≡ None → net ≡ parts.rows → IsNetwork net → IsConnected net
-    → IsNetworkInput bytes net
-network_input bytes network parts net short tells is none is_net valid connected =
-    record {
-      short = short;
-      readable =
-          record {
-            network = valid;
-            connected = connected;
-            ranges = subst AreRows (sym is_net) tells.fits;
-          };
-      is = is ∙ ap (λ labels. network_text parts.rows ++ text_behind labels) none
-          ∙ append-nil (network_text parts.rows) ∙ ap network_text (sym is_net);
-    }
+-- the text of the parts, where some are not there
+pub alone_parts : (parts : Parts) → parts.labels ≡ None → parts.events ≡ None
+    → parts_text parts ≡ network_text parts.rows
+alone_parts parts none no_more =
+    ap (λ labels. network_text parts.rows ++ (labels_behind labels ++ events_behind parts.events))
+    none ∙ ap (λ events. network_text parts.rows ++ events_behind events) no_more
+    ∙ append-nil (network_text parts.rows)
 
--- what was scanned and built of a network and its labels is an input
-labelled_input : (bytes : List ℕ) (network : WrittenNetwork) (parts : Parts)
-    (written : WrittenLabels) (labels : List NamedLabel) (net : List NodeRow)
-    (store : List (List Bool)) → length bytes ≤ MAX_INPUT → TellsNetwork network parts.rows
-    → bytes ≡ parts_text parts → parts.labels ≡ Some labels → TellsBehind parts.rows written labels
-    → net ≡ parts.rows → IsNetwork net → IsConnected net → IsBuilt net written store
-    → IsInput bytes net store
-labelled_input bytes network parts written labels net store short tells is some behind is_net valid
-    connected built =
-    let is_store = built.bits labels behind.tells in
-    let is_named = built.ids labels behind.tells in
-    let back : named (ids_of net) store ≡ labels =
-    rw (← is_named, is_store) (named-parts labels) in
-    let each : length store ≡ length net =
-    ap length is_store ∙ length-map labels (λ (label : NamedLabel). label.bits)
-    ∙ sym (length-map labels (λ (label : NamedLabel). label.id)) ∙ ap length is_named
-    ∙ length-map net (λ (row : NodeRow). row.id) in
-    let many : length store ≡ length (ids_of net) =
-    each ∙ sym (length-map net (λ (row : NodeRow). row.id)) in
-    let sum : total_bits labels ≡ bits_together store =
-    ap total_bits (sym back) ∙ total_bits-named (ids_of net) store many in
-    let few = few_bits (ids_of net) written.number labels (built.accepted labels behind.tells) in
-    record {
-      short = short;
-      readable =
-          record {
-            network = valid;
-            connected = connected;
-            ranges = subst AreRows (sym is_net) tells.fits;
-          };
-      labelled = record { each = each; few = omega (arith, sum, few) };
-      is = is ∙ ap (λ found. network_text parts.rows ++ text_behind found) some
-          ∙ ap (λ (rows : List NodeRow). network_text rows ++ labels_text labels) (sym is_net)
-          ∙ ap (λ (parts : List NamedLabel). network_text net ++ labels_text parts) (sym back);
-    }
+pub labelled_parts : (parts : Parts) (labels : List NamedLabel) → parts.labels ≡ Some labels
+    → parts.events ≡ None → parts_text parts ≡ network_text parts.rows ++ labels_text labels
+labelled_parts parts labels some no_more =
+    ap (λ labels. network_text parts.rows ++ (labels_behind labels ++ events_behind parts.events))
+    some
+    ∙ ap (λ events. network_text parts.rows ++ (labels_text labels ++ events_behind events)) no_more
+    ∙ ap (λ (behind : List ℕ). network_text parts.rows ++ behind) (append-nil (labels_text labels))
 
--- what was scanned and built is an input of the command
-pub input_of : (command : Command) (bytes : List ℕ) (network : WrittenNetwork)
-    (texts : Option WrittenLabels) (net : List NodeRow) (store : Option (List (List Bool)))
-    → length bytes ≤ MAX_INPUT → IsScanned command bytes network texts
-    → ((rows : List NodeRow) → TellsNetwork network rows → net ≡ rows) → IsNetwork net
-    → IsConnected net → AreBuilt net texts store → IsInputOf command bytes net store
-input_of (Mark scheme) bytes network None net None short scanned same valid connected built =
-    network_input bytes network scanned.parts net short scanned.tells_rows scanned.is scanned.reads
-    (same scanned.parts.rows scanned.tells_rows) valid connected
-input_of (Mark scheme) bytes network None net (Some store) short scanned same valid connected built =
-    absurd built
-input_of (Mark scheme) bytes network (Some written) net store short scanned same valid connected
-    built =
-    let no_labels : TellsSome scanned.parts.rows (Some written) None =
-    subst (TellsSome scanned.parts.rows (Some written)) scanned.reads scanned.tells_labels in
-    absurd no_labels
-input_of (Verify scheme) bytes network None net store short scanned same valid connected built =
-    let found = some_of scanned.parts.labels scanned.reads in
-    let no_text : TellsSome scanned.parts.rows None (Some found.0) =
-    subst (TellsSome scanned.parts.rows None) found.1 scanned.tells_labels in
-    absurd no_text
-input_of (Verify scheme) bytes network (Some written) net None short scanned same valid connected
-    built = absurd built
-input_of (Verify scheme) bytes network (Some written) net (Some store) short scanned same valid
-    connected built =
-    let found = some_of scanned.parts.labels scanned.reads in
-    let behind : TellsSome scanned.parts.rows (Some written) (Some found.0) =
-    subst (TellsSome scanned.parts.rows (Some written)) found.1 scanned.tells_labels in
-    labelled_input bytes network scanned.parts written found.0 net store short scanned.tells_rows
-    scanned.is found.1 behind (same scanned.parts.rows scanned.tells_rows) valid connected built
-
--- the network of an input is connected, and the input is within the limit
-pub input_readable : (command : Command) (bytes : List ℕ) (rows : List NodeRow)
-    (labels : Option (List (List Bool))) → IsInputOf command bytes rows labels → IsReadable rows
-input_readable (Mark scheme) bytes rows None input = input.readable
-input_readable (Mark scheme) bytes rows (Some labels) input = absurd input
-input_readable (Verify scheme) bytes rows None input = absurd input
-input_readable (Verify scheme) bytes rows (Some labels) input = input.readable
-
-pub input_short : (command : Command) (bytes : List ℕ) (rows : List NodeRow)
-    (labels : Option (List (List Bool))) → IsInputOf command bytes rows labels
-    → length bytes ≤ MAX_INPUT
-input_short (Mark scheme) bytes rows None input = input.short
-input_short (Mark scheme) bytes rows (Some labels) input = absurd input
-input_short (Verify scheme) bytes rows None input = absurd input
-input_short (Verify scheme) bytes rows (Some labels) input = input.short
-
--- an input of `mark` is a network
-pub input_to_mark : (scheme : SchemeName) (bytes : List ℕ) (rows : List NodeRow)
-    (labels : Option (List (List Bool))) → IsInputOf (Mark scheme) bytes rows labels
-    → IsNetworkInput bytes rows
-input_to_mark scheme bytes rows None input = input
-input_to_mark scheme bytes rows (Some labels) input = absurd input
-
--- an input of `verify` has labels
-pub input_to_verify : (scheme : SchemeName) (bytes : List ℕ) (rows : List NodeRow)
-    (labels : Option (List (List Bool))) → IsInputOf (Verify scheme) bytes rows labels
-    → (found : List (List Bool)) × (labels ≡ Some found) × IsInput bytes rows found
-input_to_verify scheme bytes rows None input = absurd input
-input_to_verify scheme bytes rows (Some labels) input = (labels, refl, input)
+pub scheduled_parts : (parts : Parts) (labels : List NamedLabel) (events : List Event)
+    → parts.labels ≡ Some labels → parts.events ≡ Some events
+    → parts_text parts ≡ network_text parts.rows ++ (labels_text labels ++ schedule_text events)
+scheduled_parts parts labels events some more =
+    ap (λ labels. network_text parts.rows ++ (labels_behind labels ++ events_behind parts.events))
+    some
+    ∙ ap (λ events. network_text parts.rows ++ (labels_text labels ++ events_behind events)) more
 
 -- the smallest node is a node
 smallest_in : (rows : List NodeRow) → IsNetwork rows → Contains (ids_of rows) (smallest_id rows)
@@ -206,35 +113,69 @@ one_apart rows id other one two = by (nat_lt id other) (nat_lt other id) refl re
         let down : id ≤ other = grind (arith, nat_tests) in
         omega (arith, up, down)
 
--- the bytes of an input fix its parts
-pub one_input : (bytes : List ℕ) (rows other_rows : List NodeRow)
-    (labels other_labels : List (List Bool)) → IsInput bytes rows labels
-    → IsInput bytes other_rows other_labels
-    → (rows ≡ other_rows) × (labels ≡ other_labels)
-one_input bytes rows other_rows labels other_labels one other =
-    let parts : List NamedLabel = named (ids_of rows) labels in
-    let other_parts : List NamedLabel = named (ids_of other_rows) other_labels in
-    let first =
-    one_network rows other_rows (labels_text parts) (labels_text other_parts)
-    one.readable.ranges other.readable.ranges (sym one.is ∙ other.is) in
-    let ends : labels_text parts ++ [] ≡ labels_text other_parts ++ [] =
-    ap (λ (text : List ℕ). text ++ []) first.1 in
+-- the same labels stand behind the same rows
+same_labels : (rows others : List NodeRow) (one other : List (List Bool)) (x y : List ℕ)
+    → rows ≡ others → AreRows rows → AreRows others → AreLabels rows one → AreLabels others other
+    → net_labels_text rows one ++ x ≡ net_labels_text others other ++ y
+    → (one ≡ other) × (x ≡ y)
+same_labels rows others one other x y same ranges range mine theirs is =
+    let parts : List NamedLabel = named (ids_of rows) one in
+    let other_parts : List NamedLabel = named (ids_of others) other in
     let second =
-    one_labels parts other_parts [] [] (parts_fit rows labels one.readable one.labelled)
-    (parts_fit other_rows other_labels other.readable other.labelled) ends in
+    one_labels parts other_parts x y (net_labels_fit rows one ranges mine.few)
+    (net_labels_fit others other range theirs.few) is in
     let bits : List NamedLabel → List (List Bool) = map (λ label. label.bits) in
-    let mine : bits parts ≡ labels =
-    bare-named (ids_of rows) labels
-    (one.labelled.each ∙ sym (length-map rows (λ (row : NodeRow). row.id))) in
-    let others : bits other_parts ≡ other_labels =
-    bare-named (ids_of other_rows) other_labels
-    (other.labelled.each ∙ sym (length-map other_rows (λ (row : NodeRow). row.id))) in
-    (first.0, sym mine ∙ ap bits second.0 ∙ others)
+    let back : bits parts ≡ one =
+    bare-named (ids_of rows) one
+    (mine.each ∙ sym (length-map rows (λ (row : NodeRow). row.id))) in
+    let other_back : bits other_parts ≡ other =
+    bare-named (ids_of others) other
+    (theirs.each ∙ sym (length-map others (λ (row : NodeRow). row.id))) in
+    (sym back ∙ ap bits second.0 ∙ other_back, second.1)
 
--- the bytes of a network fix it
-pub one_network_input : (bytes : List ℕ) (rows other_rows : List NodeRow)
-    → IsNetworkInput bytes rows → IsNetworkInput bytes other_rows → rows ≡ other_rows
-one_network_input bytes rows other_rows one other =
-    let ends : network_text rows ++ [] ≡ network_text other_rows ++ [] =
-    ap (λ (text : List ℕ). text ++ []) (sym one.is ∙ other.is) in
-    (one_network rows other_rows [] [] one.readable.ranges other.readable.ranges ends).0
+-- inputs with the same parts are one
+same_parts : (one other : Input) → one.rows ≡ other.rows → one.labels ≡ other.labels
+    → one.events ≡ other.events → one ≡ other
+same_parts one other rows labels events =
+    ap (λ (rows : List NodeRow). record {
+      rows = rows;
+      labels = one.labels;
+      events = one.events;
+    }) rows
+    ∙ ap (λ (labels : List (List Bool)). record {
+      rows = other.rows;
+      labels = labels;
+      events = one.events;
+    }) labels
+    ∙ ap (λ (events : List Event). record {
+      rows = other.rows;
+      labels = other.labels;
+      events = events;
+    }) events
+
+-- the bytes of an input fix it
+pub one_input : (shape : Shape) (bytes : List ℕ) (one other : Input) → IsInput shape bytes one
+    → IsInput shape bytes other → one ≡ other
+one_input Network bytes one other mine theirs =
+    let ends : network_text one.rows ++ [] ≡ network_text other.rows ++ [] =
+    ap (λ (text : List ℕ). text ++ []) (sym mine.is ∙ theirs.is) in
+    let rows = one_network one.rows other.rows [] [] mine.readable.ranges theirs.readable.ranges
+    ends in
+    same_parts one other rows.0 (mine.filled.0 ∙ sym theirs.filled.0)
+    (mine.filled.1 ∙ sym theirs.filled.1)
+one_input Labelled bytes one other mine theirs =
+    let rows = one_network one.rows other.rows _ _ mine.readable.ranges theirs.readable.ranges
+    (sym mine.is ∙ theirs.is) in
+    let labels = same_labels one.rows other.rows one.labels other.labels [] [] rows.0
+    mine.readable.ranges theirs.readable.ranges mine.filled.0 theirs.filled.0
+    (ap (λ (text : List ℕ). text ++ []) rows.1) in
+    same_parts one other rows.0 labels.0 (mine.filled.1 ∙ sym theirs.filled.1)
+one_input Scheduled bytes one other mine theirs =
+    let rows = one_network one.rows other.rows _ _ mine.readable.ranges theirs.readable.ranges
+    (sym mine.is ∙ theirs.is) in
+    let labels = same_labels one.rows other.rows one.labels other.labels _ _ rows.0
+    mine.readable.ranges theirs.readable.ranges mine.filled.0 theirs.filled.0 rows.1 in
+    let events = one_told (schedule_text one.events) one.events other.events
+    (record { fits = mine.filled.1.ranges; is = refl })
+    (record { fits = theirs.filled.1.ranges; is = labels.1 }) in
+    same_parts one other rows.0 labels.0 events

@@ -1,10 +1,8 @@
--- What `Done` says of a network.
-use Rattle.std.proofs.Common.{◌≡◌, ℕ, Contains, [], ◌∷◌, Bool, true, false, cond, eqb, List, map, All, if◌then◌else◌, ◌==◌, inl, inr, get_or, refl, sym, ap, ◌∙◌}
-use Rattle.std.specs.List.{list_all, sum_by}
-use Rattle.std.proofs.lemmas.Bool.{eqb-true, eq-eqb}
-use Rattle.std.proofs.lemmas.List.Folds.{sum_by-zero, list_all-map}
+-- What `Done` and `No` say of a network.
+use Rattle.std.proofs.Common.{◌≡◌, ◌∙◌, ℕ, Contains, [], ◌∷◌, Bool, true, false, List, map, length, All, if◌then◌else◌, inl, inr, get_or, refl, subst, sym, ap}
+use Rattle.std.proofs.lemmas.List.Folds.{list_all-map}
 use Rattle.std.proofs.lemmas.List.Sums.{AllPass-from_list_all, list_all-from_AllPass}
-use Rattle.std.proofs.lemmas.List.Elements.{All-cons, All-nil}
+use Rattle.std.proofs.lemmas.List.Elements.{All-map}
 use Rattle.pls_graph.proofs.Members.{Contains-first, Contains-later}
 use Rattle.pls_base.specs.declared.text_error.TextError.{TextError}
 use Rattle.pls_base.specs.declared.text_error.TextError.TheVariants.{Form, Limit, Sense, NoMemory}
@@ -12,164 +10,207 @@ use Rattle.pls_model.specs.declared.row.NodeRow.{NodeRow}
 use Rattle.pls_model.specs.declared.status.Status.TheVariants.{Done, No}
 use Rattle.pls_model.specs.declared.verdict.Verdict.{Verdict}
 use Rattle.pls_model.specs.declared.verdict.Verdict.TheVariants.{Accept, Reject}
-use Rattle.pls_view.specs.Seen.{Seen, views}
-use Rattle.pls_scheme.specs.Judging.{AllAccept, round_by}
-use Rattle.pls_app.specs.declared.command.Command.TheVariants.{Mark, Verify}
-use Rattle.pls_combine.specs.declared.scheme_name.SchemeName.{SchemeName}
-use Rattle.pls_app.specs.Report.{rejects, rejecting}
-use Rattle.pls_app.specs.Answer.{Answer, Answers, refusal_status, report}
-use Rattle.pls_combine.specs.Named.{judge_of}
-use Rattle.pls_bits.specs.Gamma.{gamma_takes}
-use Rattle.pls_combine.specs.laws.NamedLaws.{named_sound}
+use Rattle.pls_view.specs.Seen.{Seen, label_of, seen, views}
+use Rattle.pls_scheme.specs.Judging.{AllAccept}
+use Rattle.pls_sim.specs.declared.event.Event.{Event}
+use Rattle.pls_sim.specs.declared.outcome.Outcome.{Outcome}
+use Rattle.pls_sim.specs.declared.outcome.Outcome.TheVariants.{Decided}
+use Rattle.pls_sim.specs.Schedule.{outcome_after, outcome_of, unheard}
+use Rattle.pls_report.specs.Report.{all_accept, is_accepting}
+use Rattle.pls_app.specs.declared.command.Command.{Command}
+use Rattle.pls_app.specs.declared.command.Command.TheVariants.{With}
+use Rattle.pls_app.specs.declared.command.Task.{Task}
+use Rattle.pls_app.specs.declared.command.Task.TheVariants.{Mark, Verify, Simulate, Bound}
+use Rattle.pls_bits.specs.Gamma.{gamma_code, gamma_takes}
+use Rattle.pls_bits.specs.NumberCode.{TakesOnly}
+use Rattle.pls_bits.specs.laws.GammaLaws.{gamma_takes-only}
+use Rattle.pls_combine.specs.Expression.{Expression, HasProperty, judge_of}
+use Rattle.pls_combine.specs.laws.ExpressionLaws.{expression_sound}
+use Rattle.pls_app.specs.Command.{Checks, IsCheck, parts_of}
+use Rattle.pls_app.specs.Input.{Input, IsInput}
+use Rattle.pls_app.specs.Answer.{Answer, Answers, TaskYields, decided_by, played_by, refusal_status, report, task_outcomes}
 use Rattle.pls_app.specs.Run.{Lacks, Proves, SomeRejects}
 
--- a verdict that counts for nothing accepts
-accepts : (verdict : Verdict) → eqb (cond (rejects verdict) 1 0) 0 ≡ true → verdict ≡ Accept
-accepts Accept none = refl
-accepts (Reject leaf rule) none = absurd (cc)
+-- a verdict that is decided and accepting accepts
+accepts : (verdict : Verdict) → is_accepting (Decided verdict) ≡ true → verdict ≡ Accept
+accepts Accept all = refl
+accepts (Reject leaf rule) all = absurd (cc)
 
--- where no node rejects, all accept
-none_reject : (judge : Seen → Verdict) (seen : List Seen)
-    → rejecting (map (λ view. (view.id, judge view)) seen) ≡ 0
-    → All (λ view. judge view ≡ Accept) seen
-none_reject judge seen none =
-    let row : Seen → ℕ × Verdict = λ view. (view.id, judge view) in
-    let weight : ℕ × Verdict → ℕ = λ row. cond (rejects row.1) 1 0 in
-    let counted : list_all (λ r. eqb (weight r) 0) (map row seen) ≡ true =
-    sym (sum_by-zero weight (map row seen)) ∙ eq-eqb (sum_by weight (map row seen)) 0 none in
-    let each : list_all (λ view. eqb (weight (row view)) 0) seen ≡ true =
-    sym (list_all-map (λ r. eqb (weight r) 0) row seen) ∙ counted in
-    λ k d within. accepts (judge (get_or seen k d))
-    (AllPass-from_list_all (λ view. eqb (weight (row view)) 0) seen each k d within)
+-- so does that of a node that has heard what it can and accepts
+accepts_after : (ports : List ℕ) (verdict : Verdict)
+    → is_accepting (outcome_after ports verdict) ≡ true → verdict ≡ Accept
+accepts_after [] verdict all = accepts verdict all
+accepts_after (port ∷ ports) verdict all = absurd (cc)
 
--- a refusal is not `Done`
+-- where all outcomes of some things accept, each does
+each_accepts : {X : Type 0} (outcome : X → ℕ × Outcome) (xs : List X)
+    → all_accept (map outcome xs) ≡ true → All (λ x. is_accepting (outcome x).1 ≡ true) xs
+each_accepts outcome xs all = λ k d within.
+    AllPass-from_list_all (λ x. is_accepting (outcome x).1) xs
+    (sym (list_all-map (λ row. is_accepting row.1) outcome xs) ∙ all) k d within
+
+-- a round in which all accept
+pub decided_accept : (judge : Seen → Verdict) (rows : List NodeRow) (labels : List (List Bool))
+    → all_accept (decided_by judge rows labels) ≡ true → AllAccept judge rows labels
+decided_accept judge rows labels all = λ k d within.
+    accepts (judge (get_or (views rows labels) k d))
+    (each_accepts (λ view. (view.id, Decided (judge view))) (views rows labels) all k d within)
+
+-- a round that is played, in which all accept
+played_accept : (judge : Seen → Verdict) (rows : List NodeRow) (labels : List (List Bool))
+    (events : List Event) → all_accept (played_by judge rows labels events) ≡ true
+    → AllAccept judge rows labels
+played_accept judge rows labels events all =
+    let view : NodeRow → Seen = seen (label_of rows labels) in
+    All-map (λ (view : Seen). judge view ≡ Accept) view rows (λ k d within.
+    let row = get_or rows k d in
+    accepts_after (unheard rows events row) (judge (view row))
+    (each_accepts (λ row. (row.id, outcome_of judge rows labels events row)) rows all k d within))
+
+-- the outcomes that a task reports all accept only where all nodes do
+all_judged : (task : Task) (scheme : Expression) (input : Input) → IsCheck task
+    → all_accept (task_outcomes task scheme input) ≡ true
+    → AllAccept (judge_of gamma_takes scheme) input.rows input.labels
+all_judged Mark scheme input checks all = absurd checks
+all_judged (Verify json) scheme input checks all =
+    decided_accept (judge_of gamma_takes scheme) input.rows input.labels all
+all_judged (Simulate json) scheme input checks all =
+    played_accept (judge_of gamma_takes scheme) input.rows input.labels input.events all
+all_judged Bound scheme input checks all = absurd checks
+
+-- a task that checks labels reads one for each node
+each_label : (task : Task) (bytes : List ℕ) (input : Input) → IsCheck task
+    → IsInput (parts_of task) bytes input → length input.labels ≡ length input.rows
+each_label Mark bytes input checks is = absurd checks
+each_label (Verify json) bytes input checks is = is.filled.0.each
+each_label (Simulate json) bytes input checks is = is.filled.0.each
+each_label Bound bytes input checks is = absurd checks
+
+-- and its status says whether all outcomes accept
+ends_by : (task : Task) (scheme : Expression) (input : Input) (answer : Answer) → IsCheck task
+    → TaskYields task scheme input answer
+    → answer.status ≡ (if all_accept (task_outcomes task scheme input) then Done else No)
+ends_by Mark scheme input answer checks yields = absurd checks
+ends_by (Verify json) scheme input answer checks yields =
+    ap (λ (answer : Answer). answer.status) yields
+ends_by (Simulate json) scheme input answer checks yields =
+    ap (λ (answer : Answer). answer.status) yields
+ends_by Bound scheme input answer checks yields = absurd checks
+
+-- `Done` says that all do, and `No` that some does not
+done_all : (all : Bool) → (if all then Done else No) ≡ Done → all ≡ true
+done_all true done = refl
+done_all false done = absurd (cc)
+
+no_some : (all : Bool) → (if all then Done else No) ≡ No → all ≡ false
+no_some true ends = absurd (cc)
+no_some false ends = refl
+
+-- a refusal is neither
 pub refused_not_done : (error : TextError) → refusal_status error ≡ Done → ⊥
 refused_not_done (Form line) done = cc
 refused_not_done (Limit quantity) done = cc
 refused_not_done (Sense number place) done = cc
 refused_not_done NoMemory done = cc
 
--- a report is `Done` where no node rejects
-report_done : (count : ℕ) → (if count == 0 then Done else No) ≡ Done → count ≡ 0
-report_done count done = by (count == 0) refl done
-  where
-    by : (b : Bool) → (count == 0) ≡ b → (if b then Done else No) ≡ Done → count ≡ 0
-    by true is done = eqb-true count 0 is
-    by false is done = absurd (cc)
-
--- `Done` after `verify` says that the network of the input has the property
-pub done_proves : (scheme : SchemeName) (bytes : List ℕ) (answer : Answer)
-    → Answers (Verify scheme) bytes answer → answer.status ≡ Done → Proves scheme bytes
-done_proves scheme bytes answer answers done = elim answers [
-  | inl refused ↦
-      absurd (refused_not_done refused.0
-      (sym (ap (λ (answer : Answer). answer.status) refused.2) ∙ done))
-  | inr judged ↦
-      let rows : List NodeRow = judged.0 in
-      let labels : List (List Bool) = judged.1 in
-      let count : ℕ = rejecting (round_by (judge_of scheme) rows labels) in
-      let none : count ≡ 0 =
-      report_done count (sym (ap (λ (answer : Answer). answer.status) judged.3) ∙ done) in
-      let accepted : AllAccept (judge_of scheme) rows labels =
-      none_reject (judge_of scheme) (views rows labels) none in
-      record {
-        rows = rows;
-        labels = labels;
-        input = judged.2;
-        holds = named_sound gamma_takes scheme rows labels judged.2.readable.network
-            judged.2.readable.connected judged.2.labelled.each accepted;
-      }
-]
-
--- where not all accept, some node rejects
-some_rejects : (judge : Seen → Verdict) (seen : List Seen)
-    → (All (λ view. judge view ≡ Accept) seen → ⊥)
-    → (view : Seen) × Contains seen view × (rejects (judge view) ≡ true)
-some_rejects judge [] none = absurd (none (All-nil (λ view. judge view ≡ Accept)))
-some_rejects judge (view ∷ seen) none =
-    by (judge view) refl (λ accepts. some_rejects judge seen
-    (λ all. none (All-cons (λ view. judge view ≡ Accept) view seen accepts all)))
-  where
-    Found : List Seen → Type 0
-    Found among = (found : Seen) × Contains among found × (rejects (judge found) ≡ true)
-
-    by : (verdict : Verdict) → judge view ≡ verdict → (judge view ≡ Accept → Found seen)
-        → Found (view ∷ seen)
-    by Accept is later =
-        let found = later is in
-        (found.0, Contains-later view seen found.0 found.1, found.2)
-    by (Reject leaf rule) is later = (view, Contains-first view seen, ap rejects is)
-
--- a report is `No` where some node rejects
-report_no : (count : ℕ) → (if count == 0 then Done else No) ≡ No → count ≡ 0 → ⊥
-report_no count ends none =
-    let done : Done ≡ No = rw none at ends in cc
-
--- a refusal is not `No`
 refused_not_no : (error : TextError) → refusal_status error ≡ No → ⊥
 refused_not_no (Form line) ends = cc
 refused_not_no (Limit quantity) ends = cc
 refused_not_no (Sense number place) ends = cc
 refused_not_no NoMemory ends = cc
 
--- `No` after `mark` says that the network lacks the property
-pub no_lacks : (scheme : SchemeName) (bytes : List ℕ) (answer : Answer)
-    → Answers (Mark scheme) bytes answer → answer.status ≡ No → Lacks scheme bytes
-no_lacks scheme bytes answer answers ends = elim answers [
+-- the gamma code is taken from the front of its own codes alone
+gamma_only : TakesOnly gamma_code gamma_takes
+gamma_only = λ bits number rest taken. gamma_takes-only bits number rest taken
+
+-- `Done` says that the network of the input has the property
+pub done_proves : (scheme : Expression) (command : Command) (bytes : List ℕ) (answer : Answer)
+    → Checks scheme command → Answers command bytes answer → answer.status ≡ Done
+    → Proves scheme command bytes
+done_proves scheme (With task other) bytes answer checks answers done = elim answers [
   | inl refused ↦
-      absurd (refused_not_no refused.0
-      (sym (ap (λ (answer : Answer). answer.status) refused.2) ∙ ends))
-  | inr marked ↦ elim marked.2 [
-    | inl labels ↦
-        absurd (let other : Done ≡ No = sym (ap (λ (answer : Answer). answer.status) labels.3)
-        ∙ ends in cc)
-    | inr lacks ↦ record { rows = marked.0; input = marked.1; lacks = lacks.0 }
-  ]
+      absurd (refused_not_done refused.0
+      (sym (ap (λ (answer : Answer). answer.status) refused.2) ∙ done))
+  | inr works ↦
+      let input : Input = works.input in
+      let all = done_all (all_accept (task_outcomes task other input))
+      (sym (ends_by task other input answer checks.0 works.yields) ∙ done) in
+      let accepted = all_judged task other input checks.0 all in
+      let holds : HasProperty other input.rows =
+      expression_sound gamma_code gamma_takes gamma_only other input.rows input.labels
+      works.is.readable.network works.is.readable.connected
+      (each_label task bytes input checks.0 works.is) accepted in
+      record {
+        input = input;
+        is = works.is;
+        holds = subst (λ (scheme : Expression). HasProperty scheme input.rows) (sym checks.1) holds;
+      }
 ]
 
--- where all accept, no node rejects
-all_accept_none : (judge : Seen → Verdict) (seen : List Seen)
-    → All (λ view. judge view ≡ Accept) seen → rejecting (map (λ view. (view.id, judge view)) seen)
-    ≡ 0
-all_accept_none judge seen accepted =
-    let row : Seen → ℕ × Verdict = λ view. (view.id, judge view) in
-    let weight : ℕ × Verdict → ℕ = λ row. cond (rejects row.1) 1 0 in
-    let each : list_all (λ view. eqb (weight (row view)) 0) seen ≡ true =
-    list_all-from_AllPass (λ view. eqb (weight (row view)) 0) seen
-    (λ k d within. ap (λ (verdict : Verdict). eqb (cond (rejects verdict) 1 0) 0)
-    (accepted k d within)) in
-    eqb-true (sum_by weight (map row seen)) 0
-    (sum_by-zero weight (map row seen) ∙ list_all-map (λ r. eqb (weight r) 0) row seen ∙ each)
+-- where not all outcomes accept, some does not
+some_fails : (rows : List (ℕ × Outcome)) → all_accept rows ≡ false
+    → (node : ℕ × Outcome) × Contains rows node × (is_accepting node.1 ≡ false)
+some_fails [] all = absurd (cc)
+some_fails (row ∷ rows) all = by (is_accepting row.1) refl (λ e. some_fails rows e) all
+  where
+    Found : List (ℕ × Outcome) → Type 0
+    Found among = (node : ℕ × Outcome) × Contains among node × (is_accepting node.1 ≡ false)
 
--- `No` after `verify` says that some node rejects what it sees
-pub no_rejects : (scheme : SchemeName) (bytes : List ℕ) (answer : Answer)
-    → Answers (Verify scheme) bytes answer → answer.status ≡ No → SomeRejects scheme bytes
-no_rejects scheme bytes answer answers ends = elim answers [
+    by : (test : Bool) → is_accepting row.1 ≡ test → (all_accept rows ≡ false → Found rows)
+        → all_accept (row ∷ rows) ≡ false → Found (row ∷ rows)
+    by true is later all =
+        let rest : all_accept rows ≡ false = rw is at all in
+        let found = later rest in
+        (found.0, Contains-later row rows found.0 found.1, found.2)
+    by false is later all = (row, Contains-first row rows, is)
+
+-- `No` says that some node rejects what it sees, or still waits
+pub no_rejects : (scheme : Expression) (command : Command) (bytes : List ℕ) (answer : Answer)
+    → Checks scheme command → Answers command bytes answer → answer.status ≡ No
+    → SomeRejects command bytes
+no_rejects scheme (With task other) bytes answer checks answers ends = elim answers [
   | inl refused ↦
       absurd (refused_not_no refused.0
       (sym (ap (λ (answer : Answer). answer.status) refused.2) ∙ ends))
-  | inr judged ↦
-      let rows : List NodeRow = judged.0 in
-      let labels : List (List Bool) = judged.1 in
-      let count : ℕ = rejecting (round_by (judge_of scheme) rows labels) in
-      let some = report_no count (sym (ap (λ (answer : Answer). answer.status) judged.3) ∙ ends) in
-      let found = some_rejects (judge_of scheme) (views rows labels)
-      (λ all. some (all_accept_none (judge_of scheme) (views rows labels) all)) in
+  | inr works ↦
+      let input : Input = works.input in
+      let some = no_some (all_accept (task_outcomes task other input))
+      (sym (ends_by task other input answer checks.0 works.yields) ∙ ends) in
+      let found = some_fails (task_outcomes task other input) some in
       record {
-        rows = rows;
-        labels = labels;
-        input = judged.2;
-        view = found.0;
-        seen = found.1;
+        input = input;
+        is = works.is;
+        node = found.0;
+        among = found.1;
         rejected = found.2;
       }
 ]
 
+-- `No` after `mark` says that the network lacks the property
+pub no_lacks : (scheme : Expression) (bytes : List ℕ) (answer : Answer)
+    → Answers (With Mark scheme) bytes answer → answer.status ≡ No → Lacks scheme bytes
+no_lacks scheme bytes answer answers ends = elim answers [
+  | inl refused ↦
+      absurd (refused_not_no refused.0
+      (sym (ap (λ (answer : Answer). answer.status) refused.2) ∙ ends))
+  | inr works ↦ elim works.yields [
+    | inl labels ↦
+        absurd (let other : Done ≡ No = sym (ap (λ (answer : Answer). answer.status) labels.3)
+        ∙ ends in cc)
+    | inr lacks ↦ record { input = works.input; is = works.is; lacks = lacks.0 }
+  ]
+]
+
 -- labels that all accept make a round `Done`
-pub accepted_report : (scheme : SchemeName) (rows : List NodeRow) (labels : List (List Bool))
-    → AllAccept (judge_of scheme) rows labels
-    → (report (round_by (judge_of scheme) rows labels)).status ≡ Done
+pub accepted_report : (scheme : Expression) (rows : List NodeRow) (labels : List (List Bool))
+    → AllAccept (judge_of gamma_takes scheme) rows labels
+    → (report false false (decided_by (judge_of gamma_takes scheme) rows labels)).status ≡ Done
 accepted_report scheme rows labels accepted =
-    let none : rejecting (round_by (judge_of scheme) rows labels) ≡ 0 =
-    all_accept_none (judge_of scheme) (views rows labels) accepted in
-    rw none refl
+    let judge : Seen → Verdict = judge_of gamma_takes scheme in
+    let row : Seen → ℕ × Outcome = λ view. (view.id, Decided (judge view)) in
+    let all : all_accept (map row (views rows labels)) ≡ true =
+    list_all-map (λ row. is_accepting row.1) row (views rows labels)
+    ∙ list_all-from_AllPass (λ view. is_accepting (row view).1) (views rows labels)
+    (λ k d within. ap (λ (verdict : Verdict). is_accepting (Decided verdict))
+    (accepted k d within)) in
+    rw all refl

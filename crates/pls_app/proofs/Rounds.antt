@@ -6,6 +6,8 @@ use Rattle.std.proofs.lemmas.Option.{slice_get_within, get_or_from_slice_get}
 use Rattle.pls_model.specs.declared.row.NodeRow.{NodeRow}
 use Rattle.pls_model.specs.declared.verdict.Verdict.{Verdict}
 use Rattle.pls_view.specs.Seen.{Seen, seen}
+use Rattle.pls_sim.specs.declared.outcome.Outcome.{Outcome}
+use Rattle.pls_sim.specs.declared.outcome.Outcome.TheVariants.{Decided}
 
 -- the pair at a place
 slice_get-zip : {X Y : Type 0} (xs : List X) (ys : List Y) (i : ℕ) (x : X) (y : Y)
@@ -31,10 +33,18 @@ zip_more {X} {Y} xs ys i x y done left right so_far =
           at,
     ) refl
 
--- the verdicts of a round beside the identities
+-- the verdicts of a round beside the identities, as outcomes
 pub zip-round : (judge : Seen → Verdict) (label : ℕ → List Bool) (rows : List NodeRow)
-    → zip (map (λ row. row.id) rows) (map judge (map (seen label) rows))
-    ≡ map (λ view. (view.id, judge view)) (map (seen label) rows)
+    → zip (map (λ row. row.id) rows)
+    (map (λ verdict. Decided verdict) (map judge (map (seen label) rows)))
+    ≡ map (λ view. (view.id, Decided (judge view))) (map (seen label) rows)
 zip-round judge label [] = refl
 zip-round judge label (row ∷ rows) =
-    ap (λ rest. (row.id, judge (seen label row)) ∷ rest) (zip-round judge label rows)
+    ap (λ rest. (row.id, Decided (judge (seen label row))) ∷ rest) (zip-round judge label rows)
+
+-- the outcomes of a round that was played beside the identities
+pub zip-played : (outcome : NodeRow → Outcome) (rows : List NodeRow)
+    → zip (map (λ row. row.id) rows) (map outcome rows) ≡ map (λ row. (row.id, outcome row)) rows
+zip-played outcome [] = refl
+zip-played outcome (row ∷ rows) =
+    ap (λ rest. (row.id, outcome row) ∷ rest) (zip-played outcome rows)

@@ -1,11 +1,11 @@
 -- From what a run was due to tell, what it told.
-use Rattle.std.proofs.Common.{◌≡◌, ℕ, List, Option, Some, inl, inr, length, subst, sym}
+use Rattle.std.proofs.Common.{◌≡◌, ℕ, List, Option, Some, Result, Ok, Err, IsOk, MatchResult, inl, inr, length, refl, subst, sym}
 use Rattle.pls_base.specs.Streams.{Rose}
 use Rattle.pls_model.specs.declared.status.Status.{Status}
 use Rattle.pls_model.specs.declared.status.Status.TheVariants.{Done, No, WriteFault}
 use Rattle.pls_app.specs.declared.command.Command.{Command}
-use Rattle.pls_combine.specs.declared.scheme_name.SchemeName.{SchemeName}
-use Rattle.pls_app.specs.Command.{command_of}
+use Rattle.pls_combine.specs.Expression.{Expression}
+use Rattle.pls_app.specs.Command.{IsCommand}
 use Rattle.pls_app.specs.Answer.{Answer, Answers, IsAnswer}
 use Rattle.pls_app.proofs.Answered.{command_answer}
 use Rattle.pls_app.specs.Run.{Certifies, IsAnswered, Tells, TellsPart, Told, TookCertificate}
@@ -40,7 +40,7 @@ told_done due status before after old new text told done = elim told [
 ]
 
 -- the sink of a run that ends in `Done` took the whole text
-pub took_certificate : (scheme : SchemeName) (bytes text : List ℕ) (due status : Status)
+pub took_certificate : (scheme : Expression) (bytes text : List ℕ) (due status : Status)
     (before after : ℕ) (old new : Option (List ℕ)) → Certifies scheme bytes text
     → Told due status before after old new text → status ≡ Done
     → TookCertificate scheme bytes old new
@@ -57,48 +57,34 @@ told_no due status before after old new text told ends = elim told [
   | inr part ↦ absurd (let other : WriteFault ≡ No = cc in cc)
 ]
 
--- the answer that is handed on is told in the end
-pub tells_viewed : (words : List (List ℕ)) (bytes : List ℕ) (command : Command)
-    (answer shown : Answer) (status : Status) (before after : ℕ) (old new : Option (List ℕ))
-    (text : List ℕ)
-    → Some command ≡ command_of words → Answers command bytes answer → shown ≡ answer
-    → text ≡ shown.text → Told shown.status status before after old new text → IsAnswered status
+-- the answer to a command is told in the end
+pub tells_command : (words : List (List ℕ)) (bytes : List ℕ) (command : Command) (answer : Answer)
+    (status : Status) (before after : ℕ) (old new : Option (List ℕ))
+    → IsCommand words command → Answers command bytes answer
+    → Told answer.status status before after old new answer.text → IsAnswered status
     → Tells words bytes status old new
-tells_viewed words bytes command answer shown status before after old new text read answers viewed
-    same told answered =
-    tells words bytes shown status before after old new
-    (command_answer words bytes command shown (sym read)
-    (subst (λ (answer : Answer). Answers command bytes answer) (sym viewed) answers))
-    (subst (λ (text : List ℕ). Told shown.status status before after old new text) same told)
-    answered
+tells_command words bytes command answer status before after old new read answers told answered =
+    tells words bytes answer status before after old new
+    (command_answer words bytes command answer read answers) told answered
 
--- the answer that is handed on is told in part
-pub tells_part_viewed : (words : List (List ℕ)) (bytes : List ℕ) (command : Command)
-    (answer shown : Answer) (status : Status) (before after : ℕ) (old new : Option (List ℕ))
-    (text : List ℕ)
-    → Some command ≡ command_of words → Answers command bytes answer → IsAnswered answer.status
-    → shown ≡ answer → text ≡ shown.text → Told shown.status status before after old new text
-    → status ≡ WriteFault → TellsPart words bytes old new
-tells_part_viewed words bytes command answer shown status before after old new text read answers
-    ended viewed same told fault =
-    tells_part words bytes shown status before after old new
-    (command_answer words bytes command shown (sym read)
-    (subst (λ (answer : Answer). Answers command bytes answer) (sym viewed) answers))
-    (subst (λ (answer : Answer). IsAnswered answer.status) (sym viewed) ended)
-    (subst (λ (text : List ℕ). Told shown.status status before after old new text) same told)
-    fault
+-- the answer to a command is told in part
+pub tells_part_of : (words : List (List ℕ)) (bytes : List ℕ) (command : Command) (answer : Answer)
+    (status : Status) (before after : ℕ) (old new : Option (List ℕ))
+    → IsCommand words command → Answers command bytes answer → IsAnswered answer.status
+    → Told answer.status status before after old new answer.text → status ≡ WriteFault
+    → TellsPart words bytes old new
+tells_part_of words bytes command answer status before after old new read answers ended told fault =
+    tells_part words bytes answer status before after old new
+    (command_answer words bytes command answer read answers) ended told fault
 
 -- a run whose sink was sure of its text ends as was due
-pub told_sure : (words : List (List ℕ)) (bytes : List ℕ) (answer shown : Answer) (status : Status)
-    (sure : ℕ → Type 0) (text : List ℕ) (command : Command) → Some command ≡ command_of words
-    → Answers command bytes answer → shown ≡ answer → text ≡ shown.text
+pub told_sure : (words : List (List ℕ)) (bytes : List ℕ) (answer : Answer) (status : Status)
+    (sure : ℕ → Type 0) (command : Command) → IsCommand words command
+    → Answers command bytes answer
     → ((answer : Answer) → IsAnswer words bytes answer → sure (length answer.text))
-    → (sure (length text) → status ≡ shown.status) → status ≡ shown.status
-told_sure words bytes answer shown status sure text command read answers viewed same each ends =
-    let is : IsAnswer words bytes shown =
-    command_answer words bytes command shown (sym read)
-    (subst (λ (answer : Answer). Answers command bytes answer) (sym viewed) answers) in
-    ends (subst (λ (text : List ℕ). sure (length text)) (sym same) (each shown is))
+    → (sure (length answer.text) → status ≡ answer.status) → status ≡ answer.status
+told_sure words bytes answer status sure command read answers each ends =
+    ends (each answer (command_answer words bytes command answer read answers))
 
 -- a run that wrote no answer, although one was due, met a write that failed
 pub told_answered : (due status : Status) (before after : ℕ) (old new : Option (List ℕ))
@@ -108,3 +94,9 @@ told_answered due status before after old new text told answered kept = elim tol
   | inl whole ↦ subst IsAnswered (sym whole.0) answered
   | inr part ↦ absurd (kept part.1)
 ]
+
+-- a result that is no error is `Ok`
+pub sure_ok : {T E : Type 0} (result : Result T E) (P : T → Type 0)
+    → MatchResult result P (λ _. ⊥) → IsOk result
+sure_ok (Ok value) P sure = refl
+sure_ok (Err error) P sure = absurd sure

@@ -4,17 +4,10 @@ use Rattle.std.specs.Fmt.{digits}
 use Rattle.pls_base.specs.declared.text_error.TextError.TheVariants.{Form, Limit, Sense}
 use Rattle.pls_base.specs.declared.text_error.Quantity.TheVariants.{Nodes}
 use Rattle.pls_model.specs.declared.row.NodeRow.{NodeRow}
-use Rattle.pls_model.specs.declared.verdict.Verdict.TheVariants.{Accept, Reject}
 use Rattle.pls_model.specs.Configuration.{first_of}
 use Rattle.pls_labelfile.specs.LabelsText.{named}
 use Rattle.pls_app.specs.Answer.{refusal}
 use Rattle.pls_app.specs.Order.{Parts, refusals_in}
-use Rattle.pls_app.specs.Report.{report_text}
-
-two : report_text ((1, Accept) ∷ (20, Reject 1 3) ∷ [])
-    ≡ codes "node 1 accept\nnode 20 reject 1 3\nrejecting 1\n"
-unfolding digits
-two = refl
 
 form : (refusal (Form 6)).text ≡ codes "refused form at 6\n"
 unfolding digits
@@ -43,13 +36,14 @@ pair here there =
 
 -- they alone
 abbrev alone : ℕ → ℕ → Parts
-alone here there = record { rows = pair here there; labels = None }
+alone here there = record { rows = pair here there; labels = None; events = None }
 
 -- they, and a label for each, but in the other order
 abbrev with_labels : ℕ → ℕ → Parts
 with_labels here there = record {
   rows = pair here there;
   labels = Some (named (2 ∷ 1 ∷ []) ((false ∷ []) ∷ (true ∷ []) ∷ []));
+  events = None;
 }
 
 weights : first_of (refusals_in (alone 1 2)) ≡ Some (Sense 15 1)

@@ -1,5 +1,5 @@
 -- What a run answers: a status and a text, from its words and its input.
-use Rattle.std.specs.Prelude.{◌≡◌, ℕ, Bool, List, [], ◌∷◌, codes, decimal, Option, Some, None, if◌then◌else◌, ◌==◌, ◌⊎◌}
+use Rattle.std.specs.Prelude.{◌≡◌, ℕ, Bool, true, false, List, [], ◌∷◌, map, codes, decimal, Option, Some, None, if◌then◌else◌, ◌⊎◌}
 use Rattle.pls_base.specs.declared.text_error.TextError.{TextError}
 use Rattle.pls_base.specs.declared.text_error.TextError.TheVariants.{Form, Limit, Sense, NoMemory}
 use Rattle.pls_base.specs.Quantity.{quantity_text}
@@ -10,15 +10,23 @@ use Rattle.pls_model.specs.declared.verdict.Verdict.{Verdict}
 use Rattle.pls_model.specs.Configuration.{ids_of}
 use Rattle.pls_lines.specs.Text.{line_of, text_of}
 use Rattle.pls_labelfile.specs.LabelsText.{labels_text, named}
-use Rattle.pls_scheme.specs.Judging.{round_by}
+use Rattle.pls_view.specs.Seen.{Seen, views}
+use Rattle.pls_sim.specs.declared.event.Event.{Event}
+use Rattle.pls_sim.specs.declared.outcome.Outcome.{Outcome}
+use Rattle.pls_sim.specs.declared.outcome.Outcome.TheVariants.{Decided}
+use Rattle.pls_sim.specs.Schedule.{outcome_of}
+use Rattle.pls_report.specs.Report.{all_accept, report_text}
 use Rattle.pls_app.specs.declared.command.Command.{Command}
-use Rattle.pls_app.specs.declared.command.Command.TheVariants.{Mark, Verify}
-use Rattle.pls_combine.specs.declared.scheme_name.SchemeName.{SchemeName}
-use Rattle.pls_app.specs.Command.{command_of}
-use Rattle.pls_combine.specs.Named.{HasProperty, IsMarked, judge_of}
-use Rattle.pls_app.specs.Report.{rejecting, report_text}
-use Rattle.pls_app.specs.Input.{IsInput, IsNetworkInput}
-use Rattle.pls_app.specs.Order.{IsRefused}
+use Rattle.pls_app.specs.declared.command.Command.TheVariants.{With}
+use Rattle.pls_app.specs.declared.command.Task.{Task}
+use Rattle.pls_app.specs.declared.command.Task.TheVariants.{Mark, Verify, Simulate, Bound}
+use Rattle.pls_bits.specs.Gamma.{gamma_code, gamma_takes}
+use Rattle.pls_graph.specs.Size.{size_of}
+use Rattle.pls_combine.specs.Expression.{Expression, HasProperty, IsMarked, judge_of, longest_of}
+use Rattle.pls_json.specs.Json.{json_text}
+use Rattle.pls_app.specs.Command.{IsCommand, IsNoCommand, shape_of}
+use Rattle.pls_app.specs.Input.{Input, IsInput}
+use Rattle.pls_app.specs.Order.{IsRefused, work_refusal}
 
 -- how a run ends, and the text that it writes
 pub record Answer : Type 0 where
@@ -48,9 +56,45 @@ refusal_line NoMemory = []
 abbrev pub refusal : TextError → Answer
 refusal error = record { status = refusal_status error; text = text_of (refusal_line error ∷ []) }
 
--- the answer to a round: its report, and whether all accept
-abbrev pub report : List (ℕ × Verdict) → Answer
-report rows = record { status = if rejecting rows == 0 then Done else No; text = report_text rows }
+-- the text of a report, in JSON or in lines
+abbrev pub report_in : Bool → Bool → List (ℕ × Outcome) → List ℕ
+report_in json simulated rows = if json then json_text rows else report_text simulated rows
+
+-- the answer with a report: its text, and whether all accept
+abbrev pub report : Bool → Bool → List (ℕ × Outcome) → Answer
+report json simulated rows = record {
+  status = if all_accept rows then Done else No;
+  text = report_in json simulated rows;
+}
+
+-- the answer with the number of bits that a label has at most
+abbrev pub bounded : ℕ → Answer
+bounded number = record {
+  status = Done;
+  text = text_of (line_of (codes "bound" ∷ decimal number ∷ []) ∷ []);
+}
+
+-- what becomes of the nodes in a round in which each sees all of its neighbours
+abbrev pub decided_by : (Seen → Verdict) → List NodeRow → List (List Bool) → List (ℕ × Outcome)
+decided_by judge rows labels = map (λ view. (view.id, Decided (judge view))) (views rows labels)
+
+-- what becomes of the nodes in a round that is played from a schedule
+abbrev pub played_by : (Seen → Verdict) → List NodeRow → List (List Bool) → List Event
+    → List (ℕ × Outcome)
+played_by judge rows labels events =
+    map (λ row. (row.id, outcome_of judge rows labels events row)) rows
+
+-- the outcomes that a task with a scheme reports, and so a command
+abbrev pub task_outcomes : Task → Expression → Input → List (ℕ × Outcome)
+task_outcomes Mark scheme input = []
+task_outcomes (Verify json) scheme input =
+    decided_by (judge_of gamma_takes scheme) input.rows input.labels
+task_outcomes (Simulate json) scheme input =
+    played_by (judge_of gamma_takes scheme) input.rows input.labels input.events
+task_outcomes Bound scheme input = []
+
+abbrev pub outcomes_in : Command → Input → List (ℕ × Outcome)
+outcomes_in (With task scheme) input = task_outcomes task scheme input
 
 -- the answer to a network that lacks the property
 abbrev pub no : Answer
@@ -61,19 +105,32 @@ abbrev pub labelled : List NodeRow → List (List Bool) → Answer
 labelled rows labels = record { status = Done; text = labels_text (named (ids_of rows) labels) }
 
 -- the answer to `mark` on a network: its labels, where it has the property, else `no`
-abbrev pub Marks : SchemeName → List NodeRow → Answer → Type 0
+abbrev pub Marks : Expression → List NodeRow → Answer → Type 0
 Marks scheme rows answer =
-    ((labels : List (List Bool)) × HasProperty scheme rows × IsMarked scheme rows labels
+    ((labels : List (List Bool)) × HasProperty scheme rows × IsMarked gamma_code scheme rows labels
     × (answer ≡ labelled rows labels))
     ⊎ ((HasProperty scheme rows → ⊥) × (answer ≡ no))
 
--- the answer to a command on the input that it reads
-abbrev pub Works : Command → List ℕ → Answer → Type 0
-Works (Mark scheme) bytes answer =
-    (rows : List NodeRow) × IsNetworkInput bytes rows × Marks scheme rows answer
-Works (Verify scheme) bytes answer =
-    (rows : List NodeRow) × (labels : List (List Bool)) × IsInput bytes rows labels
-    × (answer ≡ report (round_by (judge_of scheme) rows labels))
+-- the answer to a task with a scheme on an input that it does not refuse
+abbrev pub TaskYields : Task → Expression → Input → Answer → Type 0
+TaskYields Mark scheme input answer = Marks scheme input.rows answer
+TaskYields (Verify json) scheme input answer =
+    answer ≡ report json false (task_outcomes (Verify json) scheme input)
+TaskYields (Simulate json) scheme input answer =
+    answer ≡ report json true (task_outcomes (Simulate json) scheme input)
+TaskYields Bound scheme input answer =
+    answer ≡ bounded (longest_of gamma_code scheme (size_of input.rows))
+
+-- and so to a command
+abbrev pub Yields : Command → Input → Answer → Type 0
+Yields (With task scheme) input answer = TaskYields task scheme input answer
+
+-- the bytes are an input of the command, and this is its answer to it
+pub record Works (command : Command) (bytes : List ℕ) (answer : Answer) : Type 0 where
+  pub input : Input
+  pub is : IsInput (shape_of command) bytes input
+  pub accepted : work_refusal command input ≡ None
+  pub yields : Yields command input answer
 
 -- the answer to a command on bytes
 abbrev pub Answers : Command → List ℕ → Answer → Type 0
@@ -81,11 +138,8 @@ Answers command bytes answer =
     ((error : TextError) × IsRefused command bytes error × (answer ≡ refusal error))
     ⊎ Works command bytes answer
 
--- the answer to words on bytes
-abbrev pub AnswersWords : Option Command → List ℕ → Answer → Type 0
-AnswersWords None bytes answer = answer ≡ usage
-AnswersWords (Some command) bytes answer = Answers command bytes answer
-
--- the answer of a run
+-- the answer of a run: that of the command that its words are, or `usage` where they are none
 abbrev pub IsAnswer : List (List ℕ) → List ℕ → Answer → Type 0
-IsAnswer words bytes answer = AnswersWords (command_of words) bytes answer
+IsAnswer words bytes answer =
+    (IsNoCommand words × (answer ≡ usage))
+    ⊎ ((command : Command) × IsCommand words command × Answers command bytes answer)

@@ -1,15 +1,24 @@
--- What the commands read: a connected network, and for `verify` a label for each of its nodes.
-use Rattle.std.specs.Prelude.{◌≡◌, ℕ, ◌≤◌, Bool, List, ◌++◌, length, Option, Some, None}
+-- What the commands read: a connected network, and what they need besides.
+use Rattle.std.specs.Prelude.{◌≡◌, ℕ, ◌+◌, ◌≤◌, Bool, List, [], ◌++◌, length, All}
 use Rattle.pls_model.specs.declared.row.NodeRow.{NodeRow}
 use Rattle.pls_model.specs.Configuration.{IsNetwork, ids_of}
 use Rattle.pls_model.specs.Walk.{IsConnected}
-use Rattle.pls_netfile.specs.NetworkText.{AreRows, network_text}
+use Rattle.pls_netfile.specs.NetworkText.{AreRows, network_lines, network_text}
 use Rattle.pls_view.specs.Labels.{bits_together}
-use Rattle.pls_labelfile.specs.LabelsText.{labels_text, named}
+use Rattle.pls_labelfile.specs.LabelsText.{labels_lines, labels_text, named}
 use Rattle.pls_labelfile.specs.declared.limits.TheConstants.{MAX_BITS}
-use Rattle.pls_app.specs.declared.command.Command.{Command}
-use Rattle.pls_app.specs.declared.command.Command.TheVariants.{Mark, Verify}
+use Rattle.pls_sim.specs.declared.event.Event.{Event}
+use Rattle.pls_sim.specs.declared.limits.TheConstants.{MAX_EVENTS}
+use Rattle.pls_sim.specs.ScheduleText.{FitsEvent, schedule_text}
+use Rattle.pls_app.specs.declared.shape.Shape.{Shape}
+use Rattle.pls_app.specs.declared.shape.Shape.TheVariants.{Network, Labelled, Scheduled}
 use Rattle.pls_app.specs.declared.limits.TheConstants.{MAX_INPUT}
+
+-- what an input says: a network, labels and events, which are none where it has no part for them
+pub record Input : Type 0 where
+  pub rows : List NodeRow
+  pub labels : List (List Bool)
+  pub events : List Event
 
 -- the rows are a connected network, and its numbers can stand in a text
 pub record IsReadable (rows : List NodeRow) : Type 0 where
@@ -22,26 +31,37 @@ pub record AreLabels (rows : List NodeRow) (labels : List (List Bool)) : Type 0 
   pub each : length labels ≡ length rows
   pub few : bits_together labels ≤ MAX_BITS
 
--- the bytes are the text of a network, within the limit
-pub record IsNetworkInput (bytes : List ℕ) (rows : List NodeRow) : Type 0 where
+-- the numbers of the events can stand in a text, and there are not too many of them
+pub record AreEvents (events : List Event) : Type 0 where
+  pub ranges : All FitsEvent events
+  pub few : length events ≤ MAX_EVENTS
+
+-- the labels and events are those of an input with these parts
+abbrev pub IsFilled : Shape → Input → Type 0
+IsFilled Network input = (input.labels ≡ []) × (input.events ≡ [])
+IsFilled Labelled input = AreLabels input.rows input.labels × (input.events ≡ [])
+IsFilled Scheduled input = AreLabels input.rows input.labels × AreEvents input.events
+
+-- the text of the labels of a network
+abbrev pub net_labels_text : List NodeRow → List (List Bool) → List ℕ
+net_labels_text rows labels = labels_text (named (ids_of rows) labels)
+
+-- the text of an input with these parts, one behind the other
+abbrev pub input_text : Shape → Input → List ℕ
+input_text Network input = network_text input.rows
+input_text Labelled input = network_text input.rows ++ net_labels_text input.rows input.labels
+input_text Scheduled input = network_text input.rows
+    ++ (net_labels_text input.rows input.labels ++ schedule_text input.events)
+
+-- the bytes are the text of an input with these parts, within the limit
+pub record IsInput (shape : Shape) (bytes : List ℕ) (input : Input) : Type 0 where
   pub short : length bytes ≤ MAX_INPUT
-  pub readable : IsReadable rows
-  pub is : bytes ≡ network_text rows
+  pub readable : IsReadable input.rows
+  pub filled : IsFilled shape input
+  pub is : bytes ≡ input_text shape input
 
--- the text of a network and of its labels
-abbrev pub input_text : List NodeRow → List (List Bool) → List ℕ
-input_text rows labels = network_text rows ++ labels_text (named (ids_of rows) labels)
-
--- the bytes are the text of a network and of its labels, within the limit
-pub record IsInput (bytes : List ℕ) (rows : List NodeRow) (labels : List (List Bool)) : Type 0 where
-  pub short : length bytes ≤ MAX_INPUT
-  pub readable : IsReadable rows
-  pub labelled : AreLabels rows labels
-  pub is : bytes ≡ input_text rows labels
-
--- the bytes are an input of the command: a network, and labels where it reads them
-abbrev pub IsInputOf : Command → List ℕ → List NodeRow → Option (List (List Bool)) → Type 0
-IsInputOf (Mark scheme) bytes rows None = IsNetworkInput bytes rows
-IsInputOf (Mark scheme) bytes rows (Some labels) = ⊥
-IsInputOf (Verify scheme) bytes rows None = ⊥
-IsInputOf (Verify scheme) bytes rows (Some labels) = IsInput bytes rows labels
+-- the line of the first event: the first but one behind the network and its labels
+abbrev pub first_event_line : Input → ℕ
+first_event_line input =
+    length (network_lines input.rows)
+    + length (labels_lines (named (ids_of input.rows) input.labels)) + 2

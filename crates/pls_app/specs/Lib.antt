@@ -1,6 +1,6 @@
 pub mod Command
-pub mod Report
 pub mod Input
+pub mod Unapplied
 pub mod Order
 pub mod Answer
 pub mod Run

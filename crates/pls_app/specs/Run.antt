@@ -1,5 +1,5 @@
 -- What the public call says of its source and its sink.
-use Rattle.std.specs.Prelude.{◌≡◌, ℕ, ◌+◌, ◌≤◌, ◌<◌, List, [], length, drop, ◌++◌, All, Bool, true, Contains, Option, Some, None, ⊤, ◌⊎◌}
+use Rattle.std.specs.Prelude.{◌≡◌, ℕ, ◌+◌, ◌≤◌, ◌<◌, List, [], length, drop, ◌++◌, All, Bool, false, Contains, Option, Some, None, ⊤, ◌⊎◌}
 use Rattle.std.specs.Io.KnownBytes.{Appends}
 use Rattle.pls_base.specs.declared.text_error.TextError.{TextError}
 use Rattle.pls_base.specs.Streams.{AppendsPart, LosesAtMost, Rose}
@@ -9,23 +9,24 @@ use Rattle.pls_model.specs.declared.row.NodeRow.{NodeRow}
 use Rattle.pls_model.specs.Configuration.{ids_of}
 use Rattle.pls_graph.specs.Size.{size_of}
 use Rattle.pls_labelfile.specs.LabelsText.{labels_text, named}
-use Rattle.pls_view.specs.Seen.{Seen, views}
 use Rattle.pls_scheme.specs.Judging.{AllAccept}
 use Rattle.pls_scheme.specs.Marked.{answered}
 use Rattle.pls_app.specs.declared.limits.TheConstants.{MAX_INPUT}
 use Rattle.pls_app.specs.declared.command.Command.{Command}
-use Rattle.pls_combine.specs.declared.scheme_name.SchemeName.{SchemeName}
-use Rattle.pls_app.specs.Command.{command_of, verify_words}
-use Rattle.pls_combine.specs.Named.{HasProperty, judge_of, longest_of}
-use Rattle.pls_app.specs.Input.{IsInput, IsNetworkInput}
+use Rattle.pls_bits.specs.Gamma.{gamma_code, gamma_takes}
+use Rattle.pls_sim.specs.declared.outcome.Outcome.{Outcome}
+use Rattle.pls_report.specs.Report.{is_accepting}
+use Rattle.pls_app.specs.declared.shape.Shape.TheVariants.{Network}
+use Rattle.pls_app.specs.Command.{IsCommand, shape_of, verify_words}
+use Rattle.pls_combine.specs.Expression.{Expression, HasProperty, judge_of, longest_of}
+use Rattle.pls_app.specs.Input.{Input, IsInput}
 use Rattle.pls_app.specs.Order.{IsRefused}
-use Rattle.pls_app.specs.Report.{rejects}
-use Rattle.pls_app.specs.Answer.{Answer, IsAnswer, refusal, refusal_status}
+use Rattle.pls_app.specs.Answer.{Answer, IsAnswer, outcomes_in, refusal, refusal_status}
 
 -- the words are this command, and the source tells these bytes
 pub record Asks (words : List (List ℕ)) (left : Option (List ℕ)) (command : Command)
     (bytes : List ℕ) : Type 0 where
-  pub asked : command_of words ≡ Some command
+  pub asked : IsCommand words command
   pub told : left ≡ Some bytes
 
 -- the run came to its answer: no fault, and no want of memory
@@ -91,11 +92,15 @@ HasRead (Some bytes) new =
     (length bytes ≤ MAX_INPUT → new ≡ Some [])
     × (MAX_INPUT < length bytes → new ≡ Some (drop (MAX_INPUT + 1) bytes))
 
+-- how a run ends whose words are no command
+abbrev pub IsUsageEnd : Status → Type 0
+IsUsageEnd status = (status ≡ Usage) ⊎ ((status ≡ WriteFault) ⊎ (status ≡ NoMemory))
+
 -- what a run takes from its source: one that answers a command has read it to its end, or up to the
 -- first byte past the limit, and none takes more
 pub record Consumes (words : List (List ℕ)) (status : Status)
     (old new : Option (List ℕ)) : Type 0 where
-  pub read : (command : Command) → command_of words ≡ Some command → IsAnswered status
+  pub read : (command : Command) → IsCommand words command → IsAnswered status
       → HasRead old new
   pub no_more : LosesAtMost old new (MAX_INPUT + 1)
 
@@ -116,33 +121,31 @@ pub record RefusesExactly (command : Command) (bytes : List ℕ) (status : Statu
       → TellsRefusal error status old new
   pub caused : IsRefusalStatus status → (error : TextError) × IsRefused command bytes error
 
--- the bytes are the text of a connected network with the property, and of its labels
-pub record Proves (scheme : SchemeName) (bytes : List ℕ) : Type 0 where
-  pub rows : List NodeRow
-  pub labels : List (List Bool)
-  pub input : IsInput bytes rows labels
-  pub holds : HasProperty scheme rows
+-- the bytes are an input of the command, whose network is connected and has the property
+pub record Proves (scheme : Expression) (command : Command) (bytes : List ℕ) : Type 0 where
+  pub input : Input
+  pub is : IsInput (shape_of command) bytes input
+  pub holds : HasProperty scheme input.rows
 
--- the bytes are the text of a connected network and of its labels, and some node rejects what it sees
-pub record SomeRejects (scheme : SchemeName) (bytes : List ℕ) : Type 0 where
-  pub rows : List NodeRow
-  pub labels : List (List Bool)
-  pub input : IsInput bytes rows labels
-  pub view : Seen
-  pub seen : Contains (views rows labels) view
-  pub rejected : rejects (judge_of scheme view) ≡ true
+-- the bytes are an input of the command, and some node rejects what it sees, or still waits
+pub record SomeRejects (command : Command) (bytes : List ℕ) : Type 0 where
+  pub input : Input
+  pub is : IsInput (shape_of command) bytes input
+  pub node : ℕ × Outcome
+  pub among : Contains (outcomes_in command input) node
+  pub rejected : is_accepting node.1 ≡ false
 
 -- labels that show the property of a network: there is one for each node, all nodes accept them,
 -- and each is within the bound
-pub record Shows (scheme : SchemeName) (rows : List NodeRow)
+pub record Shows (scheme : Expression) (rows : List NodeRow)
     (labels : List (List Bool)) : Type 0 where
   pub holds : HasProperty scheme rows
   pub each : length labels ≡ length rows
-  pub accepted : AllAccept (judge_of scheme) rows labels
-  pub short : All (λ label. length label ≤ answered (longest_of scheme (size_of rows))) labels
+  pub accepted : AllAccept (judge_of gamma_takes scheme) rows labels
+  pub short : All (λ label. length label ≤ answered (longest_of gamma_code scheme (size_of rows))) labels
 
 -- the text has labels that show the property of a network
-pub record ShowsIn (scheme : SchemeName) (rows : List NodeRow) (text : List ℕ) : Type 0 where
+pub record ShowsIn (scheme : Expression) (rows : List NodeRow) (text : List ℕ) : Type 0 where
   pub labels : List (List Bool)
   pub shows : Shows scheme rows labels
   pub is : text ≡ labels_text (named (ids_of rows) labels)
@@ -155,26 +158,26 @@ pub record IsDone (words : List (List ℕ)) (bytes : List ℕ) : Type 0 where
 
 -- the text has labels that show the property of the network of the bytes, and `verify` on the bytes
 -- followed by the text is done
-pub record Certifies (scheme : SchemeName) (bytes text : List ℕ) : Type 0 where
-  pub rows : List NodeRow
+pub record Certifies (scheme : Expression) (bytes text : List ℕ) : Type 0 where
+  pub input : Input
   pub labels : List (List Bool)
-  pub input : IsNetworkInput bytes rows
-  pub shows : Shows scheme rows labels
-  pub is : text ≡ labels_text (named (ids_of rows) labels)
+  pub is : IsInput Network bytes input
+  pub shows : Shows scheme input.rows labels
+  pub text_is : text ≡ labels_text (named (ids_of input.rows) labels)
   pub verified : IsDone (verify_words scheme) (bytes ++ text)
 
 -- the sink took such a text
-pub record TookCertificate (scheme : SchemeName) (bytes : List ℕ)
+pub record TookCertificate (scheme : Expression) (bytes : List ℕ)
     (old new : Option (List ℕ)) : Type 0 where
   pub text : List ℕ
   pub took : Appends old new text
   pub certifies : Certifies scheme bytes text
 
 -- the network of the bytes lacks the property
-pub record Lacks (scheme : SchemeName) (bytes : List ℕ) : Type 0 where
-  pub rows : List NodeRow
-  pub input : IsNetworkInput bytes rows
-  pub lacks : HasProperty scheme rows → ⊥
+pub record Lacks (scheme : Expression) (bytes : List ℕ) : Type 0 where
+  pub input : Input
+  pub is : IsInput Network bytes input
+  pub lacks : HasProperty scheme input.rows → ⊥
 
 -- a text was written whole and the status is its own, or a write failed behind a front of it
 abbrev pub Told : Status → Status → ℕ → ℕ → Option (List ℕ) → Option (List ℕ) → List ℕ → Type 0

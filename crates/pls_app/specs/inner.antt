@@ -1,2 +1,4 @@
 -- What private functions say to each other.
 pub mod Scanned
+pub mod Written
+pub mod Tasks

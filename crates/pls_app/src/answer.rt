@@ -1,73 +1,96 @@
 //! How a run ends, and the text that it writes.
 
-ghost use Rattle.std.specs.Prelude.{◌≡◌, ◌≢◌, ◌≤◌, length, IfOk, OnOk};
-ghost use Rattle.pls_model.specs.declared.status.Status.TheVariants.{Done};
-ghost use Rattle.pls_app.specs.Answer.{Answers, Works, refusal, refusal_status};
-ghost use Rattle.pls_app.specs.Input.{IsInputOf};
-ghost use Rattle.pls_app.specs.Run.{Certifies, IsAnswered};
+ghost use Rattle.std.specs.Prelude.{◌≡◌, ◌≢◌, if◌then◌else◌, IfOk, OnOk};
+ghost use Rattle.pls_report.specs.Report.{all_accept};
+ghost use Rattle.pls_app.specs.Answer.{no, refusal, refusal_status, report, usage};
+ghost use Rattle.pls_app.specs.Run.{IsAnswered};
 
-use crate::command::{Command, SchemeName};
-use crate::input::read_input;
-use crate::limits::MAX_INPUT;
-use crate::mark::mark;
-use crate::verify::verify;
 use pls_base::{NoMemory, Status, TextError};
-use pls_graph::Network;
-use pls_view::LabelStore;
+use pls_json::json_report;
+use pls_report::all_accept;
+use pls_sim::Outcome;
 use std::alloc::Global;
 use std::marker::Model;
 
 /// How a run ends, and the text that it writes.
 #[derive(Drop)]
-pub struct Answer {
-    /// How the run ends.
-    pub status: Status,
-    /// All that it writes.
-    pub text: Vec<u8>,
+pub(crate) struct Answer {
+    pub(crate) status: Status,
+    pub(crate) content: Content,
+}
+
+/// What the text is made of.
+#[derive(Drop)]
+pub(crate) enum Content {
+    /// A text that is always the same.
+    Known(&'static [u8]),
+    /// A text that was made.
+    Written(Vec<u8>),
+    /// A report, which becomes text as it is written.
+    Report {
+        simulated: bool,
+        rows: Vec<(u32, Outcome)>,
+    },
 }
 
 impl Model for Answer {
     ghost use Rattle.pls_app.specs.Answer.{Answer as Said};
+    ghost use Rattle.pls_app.specs.inner.Written.{text_in};
 
     ghost Value = { Said };
 
-    ghost view = { λ answer. record { status = answer.status; text = answer.text.items } };
+    ghost view = { λ answer. record { status = answer.status; text = text_in answer.content } };
 }
 
-// The answer to a command on an input within the limit. The one error is want of memory.
-pub(crate) fn answer_to(alloc: Global, command: Command, bytes: &[u8]) -> Result<Answer, NoMemory>
-    requires { length bytes.now ≤ MAX_INPUT }
-    ensures answer { IfOk result (λ answer. Answers command bytes.now answer) }
-    ensures answered { IfOk result (λ answer. IsAnswered answer.status) }
-    ensures certified { IfOk result (λ answer. (scheme : SchemeName) → command ≡ Command.Mark scheme
-        → answer.status ≡ Done → Certifies scheme bytes.now answer.text) }
+// The answer to words that are no command.
+pub(crate) fn usage() -> Answer
+    ensures { result ≡ usage }
 {
-    match read_input(alloc, command, bytes) {
-        Ok((net, labels)) => work(alloc, command, bytes, &net, labels),
-        Err(error) => refuse(alloc, error),
+    Answer {
+        status: Status::Usage,
+        content: Content::Known(b"usage\n"),
     }
 }
 
-// The answer to a command on the parts of its input. The one error is want of memory.
-fn work(
-    alloc: Global,
-    command: Command,
-    bytes: &[u8],
-    net: &Network,
-    labels: Option<LabelStore>,
-) -> Result<Answer, NoMemory>
-    requires { IsInputOf command bytes.now net.now labels }
-    ensures works { IfOk result (λ answer. Works command bytes.now answer) }
-    ensures answered { IfOk result (λ answer. IsAnswered answer.status) }
-    ensures certified { IfOk result (λ answer. (scheme : SchemeName) → command ≡ Command.Mark scheme
-        → answer.status ≡ Done → Certifies scheme bytes.now answer.text) }
+// The answer to a network that lacks the property.
+pub(crate) fn no() -> Answer
+    ensures { result ≡ no }
 {
-    match command {
-        Command::Mark(scheme) => mark(alloc, scheme, net),
-        Command::Verify(scheme) => {
-            let labels = labels.unwrap();
-            verify(alloc, scheme, net, &labels)
-        }
+    Answer {
+        status: Status::No,
+        content: Content::Known(b"no\n"),
+    }
+}
+
+// The answer with a report of outcomes, each with the identity of its node. The one error is want of
+// memory.
+pub(crate) fn report(
+    alloc: Global,
+    json: bool,
+    simulated: bool,
+    rows: Vec<(u32, Outcome)>,
+) -> Result<Answer, NoMemory>
+    ensures report { IfOk result (λ answer. answer ≡ report json simulated rows.items) }
+    ensures answered { IfOk result (λ answer. IsAnswered answer.status) }
+{
+    let status = round_status(&rows);
+    let content = if json {
+        Content::Written(json_report(alloc, &rows)?.into_bytes())
+    } else {
+        Content::Report { simulated, rows }
+    };
+    Ok(Answer { status, content })
+}
+
+// The status of a round: whether all nodes accept.
+fn round_status(rows: &[(u32, Outcome)]) -> Status
+    ensures status { result ≡ (if all_accept rows.now then Status.Done else Status.No) }
+    ensures answered { IsAnswered result }
+{
+    if all_accept(rows) {
+        Status::Done
+    } else {
+        Status::No
     }
 }
 
@@ -85,7 +108,7 @@ pub(crate) fn refuse(alloc: Global, error: TextError) -> Result<Answer, NoMemory
     }?;
     Ok(Answer {
         status: refusal_status(error),
-        text: text.into_bytes(),
+        content: Content::Written(text.into_bytes()),
     })
 }
 

@@ -2,12 +2,15 @@
 
 ghost use Rattle.std.specs.Prelude.{◌≡◌, ◌+◌, ℕ, List, Some, Ok, Err, IfOk, IfErr, MatchResult, OnOk};
 ghost use Rattle.pls_base.specs.Streams.{LosesAtMost};
+ghost use Rattle.pls_combine.specs.Expression.{Expression};
 ghost use Rattle.pls_app.specs.Answer.{Answers};
 ghost use Rattle.pls_app.specs.Run.{Certifies, HasRead, IsAnswered, IsCause};
+ghost use Rattle.pls_app.specs.inner.Tasks.{IsSmallCommand};
 
-use crate::answer::{Answer, answer_to, refuse};
-use crate::command::{Command, SchemeName};
+use crate::answer::{Answer, refuse};
+use crate::command::{Command, Task};
 use crate::limits::MAX_INPUT;
+use crate::work::answer_to;
 use pls_base::{NoMemory, Quantity, ReadError, Source, Status, TextError, read_all};
 use std::alloc::Global;
 
@@ -15,13 +18,14 @@ use std::alloc::Global;
 // none: a fault of the source, or want of memory.
 pub(crate) fn answer_from<S: Source>(
     alloc: Global,
-    command: Command,
+    command: &Command,
     source: &mut S,
 ) -> Result<Answer, Status>
+    requires { IsSmallCommand command.now }
     ensures answer { IfOk result (λ answer. (bytes : List ℕ) → S.left source.old ≡ Some bytes
-        → Answers command bytes answer) }
-    ensures certified { IfOk result (λ answer. (scheme : SchemeName) (bytes : List ℕ)
-        → S.left source.old ≡ Some bytes → command ≡ Command.Mark scheme
+        → Answers command.now bytes answer) }
+    ensures certified { IfOk result (λ answer. (scheme : Expression) (bytes : List ℕ)
+        → S.left source.old ≡ Some bytes → command.now ≡ Command.With Task.Mark scheme
         → answer.status ≡ Status.Done → Certifies scheme bytes answer.text) }
     ensures answered { IfOk result (λ answer. IsAnswered answer.status) }
     ensures read { OnOk result (HasRead (S.left source.old) (S.left source.new)) }

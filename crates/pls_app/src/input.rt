@@ -1,15 +1,15 @@
 //! The parts of an input, as a command reads them.
 
-ghost use Rattle.std.specs.Prelude.{◌≡◌, ◌≢◌, ◌≤◌, IfErr, IfOk, OnOk, None, Some, length, option_map};
+ghost use Rattle.std.specs.Prelude.{◌≡◌, ◌≢◌, ◌≤◌, IfErr, IfOk, OnOk, None, Some, length};
 ghost use Rattle.pls_model.specs.Configuration.{IsNetwork, first_of};
 ghost use Rattle.pls_model.specs.Walk.{IsConnected};
 ghost use Rattle.pls_lines.specs.Fault.{NamesFirstFault};
-ghost use Rattle.pls_app.specs.Input.{IsInputOf};
-ghost use Rattle.pls_app.specs.Order.{HasForm, IsApart, limits_of};
-ghost use Rattle.pls_app.specs.inner.Scanned.{AreBuilt, AreRefused, IsScanned, Refuses};
+ghost use Rattle.pls_app.specs.Input.{IsInput, first_event_line};
+ghost use Rattle.pls_app.specs.Order.{HasForm, IsApart, over};
+ghost use Rattle.pls_app.specs.inner.Scanned.{AreBuilt, AreListed, AreRefused, AreUnlisted, IsScanned, Refuses, bits_over, events_over, first_line_of, limits_in, said};
 
-use crate::command::Command;
 use crate::limits::MAX_INPUT;
+use crate::shape::Shape;
 use pls_base::refusal_number::APART;
 use pls_base::{Quantity, TextError};
 use pls_graph::{Network, connected};
@@ -17,65 +17,130 @@ use pls_labelfile::{LabelsText, MAX_BITS};
 use pls_lines::{Both, read_whole};
 use pls_model::{MAX_NODES, MAX_PORTS};
 use pls_netfile::NetworkText;
+use pls_sim::{Event, MAX_EVENTS, ScheduleText};
 use pls_view::LabelStore;
 use std::alloc::Global;
 
-// The connected network that an input has, and the labels where the command reads them, or why it
-// is refused.
-pub(crate) fn read_input(
-    alloc: Global,
-    command: Command,
-    bytes: &[u8],
-) -> Result<(Network, Option<LabelStore>), TextError>
+/// What an input says. There are no labels and no events where it has no part for them.
+#[derive(Drop)]
+pub(crate) struct Input {
+    pub(crate) net: Network,
+    pub(crate) labels: LabelStore,
+    pub(crate) events: Vec<Event>,
+    // The number of the line of the first event.
+    pub(crate) first_line: u64,
+}
+
+/// The texts of the parts of an input.
+#[derive(Drop)]
+pub(crate) struct Texts<'a> {
+    pub(crate) network: NetworkText<'a>,
+    pub(crate) labels: Option<LabelsText<'a>>,
+    pub(crate) schedule: Option<ScheduleText<'a>>,
+}
+
+// What an input of these parts says, or why it is refused.
+pub(crate) fn read_input(alloc: Global, shape: Shape, bytes: &[u8]) -> Result<Input, TextError>
     requires { length bytes.now ≤ MAX_INPUT }
-    ensures parts { IfOk result (λ parts. IsInputOf command bytes.now parts.0 parts.1) }
-    ensures refused { IfErr result (λ error. Refuses command bytes.now error) }
+    ensures input { IfOk result (λ input. IsInput shape bytes.now (said input)) }
+    ensures line { IfOk result (λ input. shape ≡ Shape.Scheduled
+        → input.first_line ≡ first_event_line (said input)) }
+    ensures refused { IfErr result (λ error. Refuses shape bytes.now error) }
 {
-    let (network, labels) = scan_parts(command, bytes)?;
-    test_limits(&network, &labels)?;
-    let net = network.build(alloc)?;
-    let store = build_labels(alloc, &labels, &net)?;
+    let texts = scan_parts(shape, bytes)?;
+    test_limits(&texts)?;
+    let net = texts.network.build(alloc)?;
+    let labels = build_labels(alloc, &texts.labels, &net)?;
+    let events = list_events(alloc, &texts.schedule)?;
     test_connected(alloc, &net)?;
-    Ok((net, store))
+    let first_line = first_line(&texts.schedule);
+    Ok(Input {
+        net,
+        labels,
+        events,
+        first_line,
+    })
 }
 
-// The texts of the parts that a command reads, or the number of the first faulty line. It takes no
-// memory.
-fn scan_parts<'a>(
-    command: Command,
-    bytes: &'a [u8],
-) -> Result<(NetworkText<'a>, Option<LabelsText<'a>>), TextError>
-    ensures scanned { IfOk result (λ parts. IsScanned command bytes.now parts.0 parts.1) }
-    ensures form { IfErr result (λ error. NamesFirstFault (HasForm command) bytes.now error) }
+// The texts of the parts, or the number of the first faulty line. It takes no memory.
+fn scan_parts<'a>(shape: Shape, bytes: &'a [u8]) -> Result<Texts<'a>, TextError>
+    ensures scanned { IfOk result (λ texts. IsScanned shape bytes.now texts) }
+    ensures form { IfErr result (λ error. NamesFirstFault (HasForm shape) bytes.now error) }
 {
-    match command {
-        Command::Mark(_) => {
+    match shape {
+        Shape::Network => {
             let network = read_whole::<NetworkText<'a>>(bytes)?;
-            Ok((network, None))
+            Ok(Texts {
+                network,
+                labels: None,
+                schedule: None,
+            })
         }
-        Command::Verify(_) => {
+        Shape::Labelled => {
             let parts = read_whole::<Both<NetworkText<'a>, LabelsText<'a>>>(bytes)?;
-            Ok((parts.first, Some(parts.second)))
+            let labels = Some(parts.second);
+            Ok(Texts {
+                network: parts.first,
+                labels,
+                schedule: None,
+            })
+        }
+        Shape::Scheduled => {
+            let parts = read_whole::<Both<NetworkText<'a>, Both<LabelsText<'a>, ScheduleText<'a>>>>(
+                bytes,
+            )?;
+            let labels = Some(parts.second.first);
+            let schedule = Some(parts.second.second);
+            Ok(Texts {
+                network: parts.first,
+                labels,
+                schedule,
+            })
         }
     }
 }
 
-// Refuses parts with too many nodes, ports or bits, in this order. It takes no memory.
-fn test_limits(network: &NetworkText<'_>, labels: &Option<LabelsText<'_>>) -> Result<(), TextError>
-    ensures within { OnOk result (first_of (limits_of network.now.nodes network.now.ports
-        (option_map (λ labels. labels.bits) labels.now)) ≡ None) }
-    ensures refused { IfErr result (λ error. first_of (limits_of network.now.nodes network.now.ports
-        (option_map (λ labels. labels.bits) labels.now)) ≡ Some error) }
+// Refuses parts with too many nodes, ports, bits or events, in this order. It takes no memory.
+fn test_limits(texts: &Texts<'_>) -> Result<(), TextError>
+    ensures within { OnOk result (first_of (limits_in texts.now) ≡ None) }
+    ensures refused { IfErr result (λ error. first_of (limits_in texts.now) ≡ Some error) }
 {
-    if network.nodes() > MAX_NODES as u64 {
-        return Err(TextError::Limit(Quantity::Nodes));
+    test_count(Quantity::Nodes, MAX_NODES as u64, texts.network.nodes())?;
+    test_count(Quantity::Ports, MAX_PORTS as u64, texts.network.ports())?;
+    test_bits(&texts.labels)?;
+    test_events(&texts.schedule)
+}
+
+// Refuses a quantity that passes its limit.
+fn test_count(quantity: Quantity, most: u64, count: u64) -> Result<(), TextError>
+    ensures within { OnOk result (over quantity most count ≡ None) }
+    ensures refused { IfErr result (λ error. over quantity most count ≡ Some error) }
+{
+    if count > most {
+        return Err(TextError::Limit(quantity));
     }
-    if network.ports() > MAX_PORTS as u64 {
-        return Err(TextError::Limit(Quantity::Ports));
-    }
+    Ok(())
+}
+
+// Refuses labels with too many bits, where there are labels.
+fn test_bits(labels: &Option<LabelsText<'_>>) -> Result<(), TextError>
+    ensures within { OnOk result (bits_over labels.now ≡ None) }
+    ensures refused { IfErr result (λ error. bits_over labels.now ≡ Some error) }
+{
     match labels {
-        Some(labels) if labels.bits() > MAX_BITS => Err(TextError::Limit(Quantity::Bits)),
-        _ => Ok(()),
+        Some(labels) => test_count(Quantity::Bits, MAX_BITS, labels.bits()),
+        None => Ok(()),
+    }
+}
+
+// Refuses too many events, where there is a schedule.
+fn test_events(schedule: &Option<ScheduleText<'_>>) -> Result<(), TextError>
+    ensures within { OnOk result (events_over schedule.now ≡ None) }
+    ensures refused { IfErr result (λ error. events_over schedule.now ≡ Some error) }
+{
+    match schedule {
+        Some(schedule) => test_count(Quantity::Events, MAX_EVENTS as u64, schedule.events()),
+        None => Ok(()),
     }
 }
 
@@ -84,13 +149,34 @@ fn build_labels(
     alloc: Global,
     labels: &Option<LabelsText<'_>>,
     net: &Network,
-) -> Result<Option<LabelStore>, TextError>
+) -> Result<LabelStore, TextError>
     ensures built { IfOk result (λ store. AreBuilt net.now labels.now store) }
     ensures refused { IfErr result (λ error. AreRefused net.now labels.now error) }
 {
     match labels {
-        Some(labels) => Ok(Some(labels.build(alloc, net)?)),
-        None => Ok(None),
+        Some(labels) => labels.build(alloc, net),
+        None => Ok(LabelStore::blank(alloc, 0)?),
+    }
+}
+
+// The events that a text says, where there is one, or why they are refused.
+fn list_events(alloc: Global, schedule: &Option<ScheduleText<'_>>) -> Result<Vec<Event>, TextError>
+    ensures listed { IfOk result (λ list. AreListed schedule.now list.items) }
+    ensures refused { IfErr result (λ error. AreUnlisted schedule.now error) }
+{
+    match schedule {
+        Some(schedule) => schedule.list(alloc),
+        None => Ok(Vec::new(alloc)),
+    }
+}
+
+// The number of the line of the first event, 0 where there is no schedule.
+fn first_line(schedule: &Option<ScheduleText<'_>>) -> u64
+    ensures { result ≡ first_line_of schedule.now }
+{
+    match schedule {
+        Some(schedule) => schedule.number_of(0),
+        None => 0,
     }
 }
 

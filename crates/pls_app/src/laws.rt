@@ -1,16 +1,15 @@
 //! Laws of answers. The functions change nothing: their contracts are the laws.
 
-ghost use Rattle.std.specs.Prelude.{◌≡◌, ℕ, Bool, List};
-ghost use Rattle.pls_model.specs.declared.row.NodeRow.{NodeRow};
-ghost use Rattle.pls_app.specs.Input.{IsInput};
+ghost use Rattle.std.specs.Prelude.{◌≡◌, ℕ, List};
+ghost use Rattle.pls_app.specs.Input.{Input, IsInput};
 ghost use Rattle.pls_app.specs.Answer.{Answer, IsAnswer};
 
-/// The bytes of an input fix its network and its labels.
+use crate::shape::Shape;
+
+/// The bytes of an input fix what it says.
 pub fn one_input()
-    ensures { (bytes : List ℕ) (rows other_rows : List NodeRow)
-        (labels other_labels : List (List Bool))
-        → IsInput bytes rows labels → IsInput bytes other_rows other_labels
-        → (rows ≡ other_rows) × (labels ≡ other_labels) }
+    ensures { (shape : Shape) (bytes : List ℕ) (input other : Input)
+        → IsInput shape bytes input → IsInput shape bytes other → input ≡ other }
 {}
 
 /// Words and bytes have one answer.

@@ -7,6 +7,7 @@
 #![tactic(auto)]
 
 mod answer;
+mod bound;
 mod command;
 mod from_source;
 mod input;
@@ -14,11 +15,16 @@ mod laws;
 mod limits;
 mod mark;
 mod program;
-mod report;
+mod refusal_number;
+mod shape;
+mod simulate;
 mod verify;
+mod work;
 
-pub use command::{Command, SchemeName};
+pub use command::{Command, Task};
 pub use laws::{one_answer, one_input};
 pub use limits::MAX_INPUT;
 pub use pls_base::Status;
 pub use program::run;
+pub use refusal_number::UNAPPLIED;
+pub use shape::Shape;

@@ -1,13 +1,19 @@
 //! The one call that does all that the program does.
 
-ghost use Rattle.std.specs.Prelude.{◌≡◌, ◌⊎◌, ℕ, List, Some, None, length};
-ghost use Rattle.pls_base.specs.Streams.{Rose};
-ghost use Rattle.pls_app.specs.Command.{command_of, words_in};
-ghost use Rattle.pls_app.specs.Run.{Asks, Consumes, HasItsCause, IsAnswered, IsSureOfAnswer, Lacks, Proves, RefusesExactly, SomeRejects, Tells, TellsPart, Told, TookCertificate};
+ghost use Rattle.std.specs.Prelude.{◌≡◌, ◌⊎◌, ℕ, List, Some, IsOk, OnErr, OnOk, length};
+ghost use Rattle.std.specs.Io.KnownBytes.{Appends};
+ghost use Rattle.pls_base.specs.Streams.{AppendsPart, Rose};
+ghost use Rattle.pls_words.specs.Words.{words_in};
+ghost use Rattle.pls_combine.specs.Expression.{Expression};
+ghost use Rattle.pls_app.specs.Command.{Checks, IsNoCommand};
+ghost use Rattle.pls_app.specs.Run.{Asks, Consumes, HasItsCause, IsAnswered, IsSureOfAnswer, IsUsageEnd, Lacks, Proves, RefusesExactly, SomeRejects, Tells, TellsPart, Told, TookCertificate};
+ghost use Rattle.pls_app.specs.inner.Written.{text_in};
 
-use crate::command::{Command, SchemeName, read_words};
+use crate::answer::{Answer, Content, usage};
+use crate::command::{Command, Task, read_command};
 use crate::from_source::answer_from;
-use pls_base::{Fault, Sink, Source, Status, write_all};
+use pls_base::{Fault, NoMemory, Sink, Source, Status, write_all};
+use pls_report::write_report;
 use std::alloc::Global;
 
 /// Runs the program: `words` are the words after its name, `source` gives its input, and `sink`
@@ -21,18 +27,18 @@ pub fn run<'w, S: Source, K: Sink>(
     sink: &mut K,
 ) -> Status
     // What `Done` and `No` say of the network.
-    ensures check { (scheme : SchemeName) (bytes : List ℕ)
-        → Asks (words_in words.now) (S.left source.old) (Command.Verify scheme) bytes
-        → result ≡ Status.Done → Proves scheme bytes }
-    ensures rejects { (scheme : SchemeName) (bytes : List ℕ)
-        → Asks (words_in words.now) (S.left source.old) (Command.Verify scheme) bytes
-        → result ≡ Status.No → SomeRejects scheme bytes }
-    ensures mark { (scheme : SchemeName) (bytes : List ℕ)
-        → Asks (words_in words.now) (S.left source.old) (Command.Mark scheme) bytes
+    ensures check { (scheme : Expression) (command : Command) (bytes : List ℕ)
+        → Asks (words_in words.now) (S.left source.old) command bytes → Checks scheme command
+        → result ≡ Status.Done → Proves scheme command bytes }
+    ensures rejects { (scheme : Expression) (command : Command) (bytes : List ℕ)
+        → Asks (words_in words.now) (S.left source.old) command bytes → Checks scheme command
+        → result ≡ Status.No → SomeRejects command bytes }
+    ensures mark { (scheme : Expression) (bytes : List ℕ)
+        → Asks (words_in words.now) (S.left source.old) (Command.With Task.Mark scheme) bytes
         → result ≡ Status.Done
         → TookCertificate scheme bytes (K.taken sink.old) (K.taken sink.new) }
-    ensures mark_no { (scheme : SchemeName) (bytes : List ℕ)
-        → Asks (words_in words.now) (S.left source.old) (Command.Mark scheme) bytes
+    ensures mark_no { (scheme : Expression) (bytes : List ℕ)
+        → Asks (words_in words.now) (S.left source.old) (Command.With Task.Mark scheme) bytes
         → result ≡ Status.No → Lacks scheme bytes }
 
     // The status and the text are those of the answer to the words and the bytes. It comes, or want
@@ -57,27 +63,44 @@ pub fn run<'w, S: Source, K: Sink>(
         → TellsPart (words_in words.now) bytes (K.taken sink.old) (K.taken sink.new) }
 
     // What the source has lost: nothing where the words are no command.
-    ensures usage { command_of (words_in words.now) ≡ None
-        → ((result ≡ Status.Usage) ⊎ (result ≡ Status.WriteFault)) × (source.new ≡ source.old) }
+    ensures usage { IsNoCommand (words_in words.now)
+        → IsUsageEnd result × (source.new ≡ source.old) }
     ensures read { Consumes (words_in words.now) result (S.left source.old) (S.left source.new) }
 {
-    match read_words(words) {
-        None => tell(sink, Status::Usage, b"usage\n"),
-        Some(command) => match answer_from(alloc, command, source) {
-            Ok(answer) => tell(sink, answer.status, &answer.text),
+    match read_command(alloc, words) {
+        Err(NoMemory) => Status::NoMemory,
+        Ok(None) => tell(sink, &usage()),
+        Ok(Some(command)) => match answer_from(alloc, &command, source) {
+            Ok(answer) => tell(sink, &answer),
             Err(status) => status,
         },
     }
 }
 
-// Writes a text, and answers the status that goes with it, or that a write failed.
-fn tell<K: Sink>(sink: &mut K, status: Status, text: &[u8]) -> Status
-    ensures told { Told status result (K.faults sink.old) (K.faults sink.new)
-        (K.taken sink.old) (K.taken sink.new) text.now }
-    ensures sure { K.IsSureOf sink.old (length text.now) → result ≡ status }
+// Writes the text of an answer, and gives its status, or says that a write failed.
+fn tell<K: Sink>(sink: &mut K, answer: &Answer) -> Status
+    ensures told { Told answer.now.status result (K.faults sink.old) (K.faults sink.new)
+        (K.taken sink.old) (K.taken sink.new) answer.now.text }
+    ensures sure { K.IsSureOf sink.old (length answer.now.text) → result ≡ answer.now.status }
 {
-    match write_all(sink, text) {
-        Ok(()) => status,
+    match write_content(sink, &answer.content) {
+        Ok(()) => answer.status,
         Err(Fault) => Status::WriteFault,
+    }
+}
+
+// Writes what a text is made of. It takes no memory.
+fn write_content<K: Sink>(sink: &mut K, content: &Content) -> Result<(), Fault>
+    ensures all { OnOk result (Appends (K.taken sink.old) (K.taken sink.new)
+        (text_in content.now)) }
+    ensures part { OnErr result (AppendsPart (K.taken sink.old) (K.taken sink.new)
+        (text_in content.now)) }
+    ensures fault { OnErr result (Rose (K.faults sink.old) (K.faults sink.new)) }
+    ensures sure { K.IsSureOf sink.old (length (text_in content.now)) → IsOk result }
+{
+    match content {
+        Content::Known(text) => write_all(sink, text),
+        Content::Written(text) => write_all(sink, text),
+        Content::Report { simulated, rows } => write_report(rows, *simulated, sink),
     }
 }

@@ -1,68 +1,55 @@
 //! The answer to `verify`.
 
-ghost use Rattle.std.specs.Prelude.{◌≡◌, ◌==◌, if◌then◌else◌, length, map, zip, IfOk};
-ghost use Rattle.pls_scheme.specs.Judging.{round_by};
-ghost use Rattle.pls_combine.specs.Named.{judge_of};
-ghost use Rattle.pls_app.specs.Report.{rejecting};
-ghost use Rattle.pls_app.specs.Answer.{report};
+ghost use Rattle.std.specs.Prelude.{◌≡◌, length, map, zip, IfOk};
+ghost use Rattle.pls_sim.specs.declared.outcome.Outcome.TheVariants.{Decided};
 ghost use Rattle.pls_app.specs.Run.{IsAnswered};
+ghost use Rattle.pls_app.specs.inner.Scanned.{said};
+ghost use Rattle.pls_app.specs.inner.Tasks.{Does, IsReadOf};
 
-use crate::answer::Answer;
-use crate::command::SchemeName;
-use crate::report::{rejecting, report_text};
-use pls_base::{NoMemory, Status, Steps};
+use crate::answer::{Answer, report};
+use crate::command::Task;
+use crate::input::Input;
+use crate::shape::Shape;
+use pls_base::{NoMemory, Steps};
 use pls_bits::Gamma;
-use pls_combine::Named;
+use pls_combine::AnyScheme;
 use pls_graph::Network;
 use pls_model::Verdict;
 use pls_scheme::Checker;
-use pls_view::LabelStore;
+use pls_sim::Outcome;
 use std::alloc::Global;
 
-// The report of the round of a scheme under these labels.
+// The report of the round of a scheme under the labels of an input.
 pub(crate) fn verify(
     alloc: Global,
-    scheme: SchemeName,
-    net: &Network,
-    labels: &LabelStore,
+    scheme: &AnyScheme<Gamma>,
+    json: bool,
+    input: &Input,
 ) -> Result<Answer, NoMemory>
-    requires { length labels.now ≡ length net.now }
-    ensures reports { IfOk result
-        (λ answer. answer ≡ report (round_by (judge_of scheme) net.now labels.now)) }
+    requires { IsReadOf Shape.Labelled input.now }
+    ensures does { IfOk result
+        (λ answer. Does (Task.Verify json) scheme.now (said input.now) answer) }
     ensures answered { IfOk result (λ answer. IsAnswered answer.status) }
 {
-    let verdicts = Named::<Gamma>::new(scheme).round(alloc, net, labels, &mut Steps::new())?;
+    let net = &input.net;
+    let verdicts = scheme.round(alloc, net, &input.labels, &mut Steps::new())?;
     let rows = with_ids(alloc, net, &verdicts)?;
-    Ok(Answer {
-        status: round_status(&rows),
-        text: report_text(alloc, &rows)?.into_bytes(),
-    })
+    report(alloc, json, false, rows)
 }
 
-// The status of a round: whether all nodes accept.
-fn round_status(rows: &[(u32, Verdict)]) -> Status
-    ensures status { result ≡ (if rejecting rows.now == 0 then Status.Done else Status.No) }
-    ensures answered { IsAnswered result }
-{
-    if rejecting(rows) == 0 {
-        Status::Done
-    } else {
-        Status::No
-    }
-}
-
-// Each verdict with the identity of its node.
+// Each verdict with the identity of its node, as an outcome.
 fn with_ids(
     alloc: Global,
     net: &Network,
     verdicts: &[Verdict],
-) -> Result<Vec<(u32, Verdict)>, NoMemory>
+) -> Result<Vec<(u32, Outcome)>, NoMemory>
     requires { length verdicts.now ≡ length net.now }
-    ensures { IfOk result (λ rows. rows.items ≡ zip (map (λ row. row.id) net.now) verdicts.now) }
+    ensures { IfOk result (λ rows. rows.items ≡ zip (map (λ row. row.id) net.now)
+        (map (λ verdict. Decided verdict) verdicts.now)) }
 {
     let mut rows = Vec::with_capacity(alloc, verdicts.len())?;
     for (i, verdict) in verdicts.iter().enumerate() {
-        rows.push((net.node(i).0, *verdict))?;
+        rows.push((net.node(i).0, Outcome::Decided(*verdict)))?;
     }
     Ok(rows)
 }

@@ -7,3 +7,4 @@ pub mod Verdicts
 pub mod Marking
 pub mod Joining
 pub mod Refusals
+pub mod Letters

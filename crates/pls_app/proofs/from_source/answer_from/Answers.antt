@@ -3,8 +3,9 @@ use Rattle.std.proofs.lemmas.Result.{IfOk-weaker}
 use Rattle.pls_base.specs.declared.text_error.TextError.TheVariants.{Limit}
 use Rattle.pls_base.specs.declared.text_error.Quantity.TheVariants.{Input}
 use Rattle.pls_model.specs.declared.status.Status.TheVariants.{Done}
-use Rattle.pls_app.specs.declared.command.Command.TheVariants.{Mark}
-use Rattle.pls_combine.specs.declared.scheme_name.SchemeName.{SchemeName}
+use Rattle.pls_app.specs.declared.command.Command.TheVariants.{With}
+use Rattle.pls_app.specs.declared.command.Task.TheVariants.{Mark}
+use Rattle.pls_combine.specs.Expression.{Expression}
 use Rattle.pls_app.specs.Answer.{Answer, Answers, refusal}
 use Rattle.pls_app.specs.Run.{Certifies}
 use Rattle.pls_app.proofs.Answered.{refused_answer, too_long}
@@ -28,11 +29,11 @@ returns-in-Err-TooLong-clause-answer g c =
     let new = g.S.Source.left c.read_all.new.source in
     let lost = c.in-Err-TooLong.ensures.too_long (rw c.in-Err-TooLong.field-0-is refl) in
     ok_again c.refuse.result c.or_no_memory-in-Err-TooLong.result _
-    (λ answer. (bytes : List ℕ) → old ≡ Some bytes → Answers c.args.command bytes answer)
+    (λ answer. (bytes : List ℕ) → old ≡ Some bytes → Answers c.args.command.now bytes answer)
     (IfOk-weaker c.refuse.result (λ answer. answer ≡ refusal (Limit Input))
-    (λ answer. (bytes : List ℕ) → old ≡ Some bytes → Answers c.args.command bytes answer)
-    (λ answer same bytes told. refused_answer c.args.command bytes (Limit Input) answer
-    (too_long c.args.command old new bytes lost told) same) c.refuse.ensures.says)
+    (λ answer. (bytes : List ℕ) → old ≡ Some bytes → Answers c.args.command.now bytes answer)
+    (λ answer same bytes told. refused_answer c.args.command.now bytes (Limit Input) answer
+    (too_long c.args.command.now old new bytes lost told) same) c.refuse.ensures.says)
     c.or_no_memory-in-Err-TooLong.ensures
 
 pub returns-in-Err-TooLong-clause-lost : goal.returns-in-Err-TooLong-clause-lost
@@ -41,7 +42,7 @@ returns-in-Err-TooLong-clause-lost g c =
 
 pub returns-in-Ok-clause-answer : goal.returns-in-Ok-clause-answer
 returns-in-Ok-clause-answer g c =
-    let command = c.args.command in
+    let command = c.args.command.now in
     let old = g.S.Source.left c.args.source.now in
     let read = c.deref.result.now in
     ok_again c.answer_to.result c.or_no_memory.result _
@@ -55,16 +56,16 @@ returns-in-Ok-clause-answer g c =
 
 pub returns-in-Ok-clause-certified : goal.returns-in-Ok-clause-certified
 returns-in-Ok-clause-certified g c =
-    let command = c.args.command in
+    let command = c.args.command.now in
     let old = g.S.Source.left c.args.source.now in
     let read = c.deref.result.now in
     ok_again c.answer_to.result c.or_no_memory.result _
-    (λ answer. (scheme : SchemeName) (bytes : List ℕ) → old ≡ Some bytes → command ≡ Mark scheme
+    (λ answer. (scheme : Expression) (bytes : List ℕ) → old ≡ Some bytes → command ≡ With Mark scheme
     → answer.status ≡ Done → Certifies scheme bytes answer.text)
     (IfOk-weaker c.answer_to.result
-    (λ answer. (scheme : SchemeName) → command ≡ Mark scheme → answer.status ≡ Done
+    (λ answer. (scheme : Expression) → command ≡ With Mark scheme → answer.status ≡ Done
     → Certifies scheme read answer.text)
-    (λ answer. (scheme : SchemeName) (bytes : List ℕ) → old ≡ Some bytes → command ≡ Mark scheme
+    (λ answer. (scheme : Expression) (bytes : List ℕ) → old ≡ Some bytes → command ≡ With Mark scheme
     → answer.status ≡ Done → Certifies scheme bytes answer.text)
     (λ answer is scheme bytes told mark done.
     subst (λ (bytes : List ℕ). Certifies scheme bytes answer.text)
@@ -75,13 +76,13 @@ returns-in-Ok-clause-certified g c =
 
 pub returns-in-Err-TooLong-clause-certified : goal.returns-in-Err-TooLong-clause-certified
 returns-in-Err-TooLong-clause-certified g c =
-    let command = c.args.command in
+    let command = c.args.command.now in
     let old = g.S.Source.left c.args.source.now in
     ok_again c.refuse.result c.or_no_memory-in-Err-TooLong.result _
-    (λ answer. (scheme : SchemeName) (bytes : List ℕ) → old ≡ Some bytes → command ≡ Mark scheme
+    (λ answer. (scheme : Expression) (bytes : List ℕ) → old ≡ Some bytes → command ≡ With Mark scheme
     → answer.status ≡ Done → Certifies scheme bytes answer.text)
     (IfOk-weaker c.refuse.result (λ answer. answer ≡ refusal (Limit Input))
-    (λ answer. (scheme : SchemeName) (bytes : List ℕ) → old ≡ Some bytes → command ≡ Mark scheme
+    (λ answer. (scheme : Expression) (bytes : List ℕ) → old ≡ Some bytes → command ≡ With Mark scheme
     → answer.status ≡ Done → Certifies scheme bytes answer.text)
     (λ answer same scheme bytes told mark done.
     absurd (refused_not_done (Limit Input)

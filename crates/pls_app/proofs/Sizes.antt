@@ -1,0 +1,121 @@
+-- The greatest numbers of a network that can stand in a text.
+use Rattle.std.proofs.Common.{◌≡◌, ◌∙◌, ℕ, ◌*◌, ◌-◌, ◌^◌, ◌≤◌, ◌<◌, Bool, true, false, List, [], ◌∷◌, ◌++◌, length, map, All, Contains, Some, option_map, ap, subst, refl, sym, arith}
+use Rattle.std.specs.Prelude.{flat_map, nat_lt}
+use Rattle.std.proofs.Math.Nat.{le-mul_of_pos_right, mul_comm, suc-mul}
+use Rattle.std.proofs.lemmas.Bool.Decides.{nat_tests}
+use Rattle.std.proofs.lemmas.Bool.{lt-ltb}
+use Rattle.std.proofs.lemmas.List.Elements.{All-cons, All-contains, All-head, All-map, All-nil, All-tail}
+use Rattle.std.proofs.lemmas.List.Sums.{sum_by-cons}
+use Rattle.pls_model.specs.declared.row.Port.{Port}
+use Rattle.pls_model.specs.declared.row.NodeRow.{NodeRow}
+use Rattle.pls_model.specs.Configuration.{ids_of}
+use Rattle.pls_graph.specs.Size.{greatest, size_of, weights_of}
+use Rattle.pls_graph.proofs.Members.{Contains-first, Contains-from_flat_map, Contains-later}
+use Rattle.pls_netfile.specs.NetworkText.{FitsPort, FitsRow, network_text}
+use Rattle.pls_view.specs.Labels.{bits_together}
+use Rattle.pls_scheme.specs.Marked.{answered}
+use Rattle.pls_scheme.specs.Theorem.{AreWords}
+use Rattle.pls_app.specs.Command.{verify_words}
+use Rattle.pls_labelfile.specs.declared.limits.TheConstants.{MAX_BITS}
+use Rattle.pls_app.specs.declared.shape.Shape.TheVariants.{Network, Labelled}
+use Rattle.pls_base.specs.declared.text_error.Quantity.TheVariants.{Labels}
+use Rattle.pls_bits.specs.Gamma.{gamma_code, gamma_takes}
+use Rattle.pls_combine.specs.Expression.{Expression, IsSmall, judge_of, longest_of}
+use Rattle.pls_combine.proofs.Bounds.{short_expression}
+use Rattle.pls_app.specs.declared.command.Command.TheVariants.{With}
+use Rattle.pls_app.specs.declared.command.Task.TheVariants.{Verify}
+use Rattle.pls_app.specs.Order.{labels_over}
+use Rattle.pls_app.specs.Input.{Input, IsInput, IsReadable, net_labels_text}
+use Rattle.pls_app.specs.Answer.{Answer, Answers, decided_by, report}
+use Rattle.pls_app.specs.Run.{Certifies, IsDone, Shows, ShowsIn}
+use Rattle.pls_app.proofs.Commands.{verify_is}
+use Rattle.pls_app.proofs.LimitsPassed.{few_of}
+use Rattle.pls_app.proofs.Answered.{command_answer, worked_answer}
+use Rattle.pls_app.proofs.Proved.{accepted_report}
+use Rattle.pls_app.proofs.TextLengths.{text_fits}
+
+-- where each number is below a bound, so is the greatest
+small_greatest : (bound : ℕ) (numbers : List ℕ) → 1 ≤ bound → All (λ number. number < bound) numbers
+    → greatest numbers < bound
+small_greatest bound [] some small = some
+small_greatest bound (number ∷ numbers) some small =
+    let Small : ℕ → Type 0 = λ number. number < bound in
+    omega (
+      arith,
+      All-head Small number numbers small,
+      small_greatest bound numbers some
+          (All-tail Small number numbers small),
+    )
+
+-- the weights of the ports of rows that can stand in a text have 32 bits
+small_weights : (rows : List NodeRow) → All FitsRow rows
+    → All (λ weight. weight < 2 ^ 32) (weights_of rows)
+small_weights rows fits = each (flat_map (λ row. row.ports) rows) (λ port among.
+    let found = Contains-from_flat_map (λ (row : NodeRow). row.ports) rows port among in
+    let row = All-contains FitsRow rows found.0 fits found.1 in
+    (All-contains FitsPort found.0.ports port row.ports found.2).weight)
+  where
+    each : (ports : List Port)
+        → ((port : Port) → Contains ports port → port.weight < 2 ^ 32)
+        → All (λ weight. weight < 2 ^ 32) (map (λ port. port.weight) ports)
+    each [] small = All-nil (λ weight. weight < 2 ^ 32)
+    each (port ∷ ports) small =
+        All-cons (λ weight. weight < 2 ^ 32) port.weight (map (λ port. port.weight) ports)
+        (small port (Contains-first port ports))
+        (each ports (λ other among. small other (Contains-later port ports other among)))
+
+-- the greatest numbers of a network that can stand in a text have 32 bits
+pub words_of : (rows : List NodeRow) → IsReadable rows → AreWords (size_of rows)
+words_of rows readable =
+    let ids = small_greatest (2 ^ 32) (ids_of rows) (omega arith)
+    (All-map (λ id. id < 2 ^ 32) (λ (row : NodeRow). row.id) rows
+    (λ k d within. (readable.ranges.each k d within).id)) in
+    let marks = small_greatest (2 ^ 32) (map (λ (row : NodeRow). row.state.mark) rows) (omega arith)
+    (All-map (λ mark. mark < 2 ^ 32) (λ (row : NodeRow). row.state.mark) rows
+    (λ k d within. (readable.ranges.each k d within).state.mark)) in
+    let weights = small_greatest (2 ^ 32) (weights_of rows) (omega arith)
+    (small_weights rows readable.ranges.each) in
+    record {
+      max_id = omega (arith, ids);
+      max_weight = omega (arith, weights);
+      max_mark = omega (arith, marks);
+    }
+
+-- the bound of a small expression on a network that was read
+pub bound_small : (scheme : Expression) (rows : List NodeRow) → IsSmall scheme → IsReadable rows
+    → longest_of gamma_code scheme (size_of rows) ≤ 2 ^ 17
+bound_small scheme rows small readable =
+    short_expression scheme (size_of rows) small readable.network.limits.few_nodes
+    (words_of rows readable)
+
+-- so it is answered as it is
+pub bound_answered : (scheme : Expression) (rows : List NodeRow) → IsSmall scheme
+    → IsReadable rows
+    → answered (longest_of gamma_code scheme (size_of rows))
+    ≡ longest_of gamma_code scheme (size_of rows)
+bound_answered scheme rows small readable =
+    omega (arith, bound_small scheme rows small readable)
+
+-- at least one times a number is at least the number
+greater : (count bits : ℕ) → 1 ≤ count → bits ≤ count * bits
+greater count bits some =
+    subst (λ (product : ℕ). bits ≤ product) (mul_comm bits count)
+    (le-mul_of_pos_right bits (omega (arith, some)))
+
+-- as many labels as nodes pass the limit where they do with the bound that is answered
+pub over_answered : (count most longest : ℕ) → 1 ≤ count → most < 2 ^ 64 - 1
+    → nat_lt most (count * answered longest) ≡ nat_lt most (count * longest)
+over_answered count most longest some small = by (nat_lt longest (2 ^ 64 - 1)) refl
+  where
+    by : (b : Bool) → nat_lt longest (2 ^ 64 - 1) ≡ b
+        → nat_lt most (count * answered longest) ≡ nat_lt most (count * longest)
+    by true less =
+        let same : answered longest ≡ longest = grind (arith, nat_tests) in
+        ap (λ (bits : ℕ). nat_lt most (count * bits)) same
+    by false less =
+        let many : 2 ^ 64 - 1 ≤ longest = grind (arith, nat_tests) in
+        let capped : 2 ^ 64 - 1 ≤ answered longest = omega (arith, many) in
+        let one : most < count * answered longest =
+        omega (arith, small, capped, greater count (answered longest) some) in
+        let two : most < count * longest = omega (arith, small, many, greater count longest some) in
+        lt-ltb most (count * answered longest) one ∙ sym (lt-ltb most (count * longest) two)

@@ -1,0 +1,37 @@
+-- The text of a report in JSON: one line, with no space, and the keys of each object in the order of
+-- the alphabet.
+use Rattle.std.specs.Prelude.{ℕ, List, [], ◌∷◌, ◌++◌, codes, decimal, map}
+use Rattle.pls_model.specs.declared.verdict.Verdict.TheVariants.{Accept, Reject}
+use Rattle.pls_sim.specs.declared.outcome.Outcome.{Outcome}
+use Rattle.pls_sim.specs.declared.outcome.Outcome.TheVariants.{Decided, Waiting}
+use Rattle.pls_report.specs.Report.{rejecting, waiting}
+
+-- texts, each behind a comma, which is 44
+abbrev pub behind_commas : List (List ℕ) → List ℕ
+behind_commas [] = []
+behind_commas (text ∷ texts) = 44 ∷ (text ++ behind_commas texts)
+
+-- texts with a comma between each two
+abbrev pub with_commas : List (List ℕ) → List ℕ
+with_commas [] = []
+with_commas (text ∷ texts) = text ++ behind_commas texts
+
+-- what stands in the object of a node behind its identity
+abbrev pub outcome_text : Outcome → List ℕ
+outcome_text (Decided Accept) = codes "\"verdict\":\"accept\"}"
+outcome_text (Decided (Reject leaf rule)) =
+    codes "\"leaf\":" ++ (decimal leaf ++ (codes ",\"rule\":" ++ (decimal rule
+    ++ codes ",\"verdict\":\"reject\"}")))
+outcome_text (Waiting ports) =
+    codes "\"ports\":[" ++ (with_commas (map decimal ports) ++ codes "],\"verdict\":\"waiting\"}")
+
+-- the object of a node
+abbrev pub node_text : ℕ × Outcome → List ℕ
+node_text row = codes "{\"id\":" ++ (decimal row.0 ++ (44 ∷ outcome_text row.1))
+
+-- the whole text, with its line feed: } is 125, and a line feed 10
+abbrev pub json_text : List (ℕ × Outcome) → List ℕ
+json_text rows =
+    codes "{\"nodes\":[" ++ (with_commas (map node_text rows) ++ (codes "],\"rejecting\":"
+    ++ (decimal (rejecting rows) ++ (codes ",\"waiting\":"
+    ++ (decimal (waiting rows) ++ (125 ∷ 10 ∷ []))))))

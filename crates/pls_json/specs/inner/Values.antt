@@ -1,0 +1,37 @@
+-- The JSON value of a report.
+use Rattle.std.specs.Prelude.{ℕ, List, codes, map}
+use Rattle.serde_json.specs.Data.{Data, Members, number, unsigned, string, array, object, member, no_members}
+use Rattle.serde_json.specs.View.{items_of}
+use Rattle.pls_model.specs.declared.verdict.Verdict.TheVariants.{Accept, Reject}
+use Rattle.pls_sim.specs.declared.outcome.Outcome.{Outcome}
+use Rattle.pls_sim.specs.declared.outcome.Outcome.TheVariants.{Decided, Waiting}
+use Rattle.pls_report.specs.Report.{rejecting, waiting}
+
+-- a number
+abbrev pub number_data : ℕ → Data
+number_data n = number (unsigned n)
+
+-- the last member of a node's object
+abbrev pub with_verdict : List ℕ → Members
+with_verdict verdict = member (codes "verdict") (string verdict) no_members
+
+-- the members of a node's object behind its identity
+abbrev pub outcome_members : Outcome → Members
+outcome_members (Decided Accept) = with_verdict (codes "accept")
+outcome_members (Decided (Reject leaf rule)) =
+    member (codes "leaf") (number_data leaf)
+    (member (codes "rule") (number_data rule) (with_verdict (codes "reject")))
+outcome_members (Waiting ports) =
+    member (codes "ports") (array (items_of (map number_data ports)))
+    (with_verdict (codes "waiting"))
+
+-- the object of a node
+abbrev pub node_data : ℕ × Outcome → Data
+node_data row = object (member (codes "id") (number_data row.0) (outcome_members row.1))
+
+-- the object of a report
+abbrev pub report_data : List (ℕ × Outcome) → Data
+report_data rows =
+    object (member (codes "nodes") (array (items_of (map node_data rows)))
+    (member (codes "rejecting") (number_data (rejecting rows))
+    (member (codes "waiting") (number_data (waiting rows)) no_members)))

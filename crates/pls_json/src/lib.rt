@@ -1,0 +1,9 @@
+//! Reports as JSON, made with `serde_json`.
+//!
+//! [`json_report`] gives the text of a report as one compact line; `specs/Json` says which, key by
+//! key. No other crate reads `serde_json`.
+#![tactic(auto)]
+
+mod json;
+
+pub use json::json_report;

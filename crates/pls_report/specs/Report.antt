@@ -1,0 +1,60 @@
+-- The text of a report: a line for each node, and then how many reject.
+use Rattle.std.specs.Prelude.{ℕ, Bool, true, false, if◌then◌else◌, List, [], ◌∷◌, ◌++◌, map, count_by, codes, decimal}
+use Rattle.std.specs.List.{list_all}
+use Rattle.pls_model.specs.declared.verdict.Verdict.TheVariants.{Accept, Reject}
+use Rattle.pls_lines.specs.Text.{line_of, text_of}
+use Rattle.pls_sim.specs.declared.outcome.Outcome.{Outcome}
+use Rattle.pls_sim.specs.declared.outcome.Outcome.TheVariants.{Decided, Waiting}
+
+-- the node accepts: it has decided, and not rejected
+abbrev pub is_accepting : Outcome → Bool
+is_accepting (Decided Accept) = true
+is_accepting (Decided (Reject leaf rule)) = false
+is_accepting (Waiting ports) = false
+
+-- all nodes accept
+abbrev pub all_accept : List (ℕ × Outcome) → Bool
+all_accept rows = list_all (λ row. is_accepting row.1) rows
+
+-- the node rejects
+abbrev pub is_rejecting : Outcome → Bool
+is_rejecting (Decided Accept) = false
+is_rejecting (Decided (Reject leaf rule)) = true
+is_rejecting (Waiting ports) = false
+
+-- the node waits
+abbrev pub is_waiting : Outcome → Bool
+is_waiting (Decided verdict) = false
+is_waiting (Waiting ports) = true
+
+-- how many of the nodes reject
+abbrev pub rejecting : List (ℕ × Outcome) → ℕ
+rejecting rows = count_by (λ row. is_rejecting row.1) rows
+
+-- how many of the nodes wait
+abbrev pub waiting : List (ℕ × Outcome) → ℕ
+waiting rows = count_by (λ row. is_waiting row.1) rows
+
+-- the words that say an outcome
+abbrev pub outcome_words : Outcome → List (List ℕ)
+outcome_words (Decided Accept) = codes "accept" ∷ []
+outcome_words (Decided (Reject leaf rule)) = codes "reject" ∷ decimal leaf ∷ decimal rule ∷ []
+outcome_words (Waiting ports) = codes "waiting" ∷ map decimal ports
+
+-- `node ID accept`, `node ID reject LEAF RULE`, or `node ID waiting P1 P2` with the ports not heard
+abbrev pub node_line : ℕ × Outcome → List ℕ
+node_line row = line_of (codes "node" ∷ decimal row.0 ∷ outcome_words row.1)
+
+-- `waiting W`, where the round was played from a schedule
+abbrev pub waiting_words : Bool → List (ℕ × Outcome) → List (List ℕ)
+waiting_words simulated rows =
+    if simulated then codes "waiting" ∷ decimal (waiting rows) ∷ [] else []
+
+-- `rejecting R`, or `rejecting R waiting W`
+abbrev pub closing_line : Bool → List (ℕ × Outcome) → List ℕ
+closing_line simulated rows =
+    line_of (codes "rejecting" ∷ decimal (rejecting rows) ∷ waiting_words simulated rows)
+
+-- the text of a report
+abbrev pub report_text : Bool → List (ℕ × Outcome) → List ℕ
+report_text simulated rows = text_of (map node_line rows ++ closing_line simulated rows ∷ [])

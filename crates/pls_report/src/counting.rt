@@ -1,0 +1,58 @@
+//! How many nodes reject, how many wait, and whether all accept.
+
+ghost use Rattle.std.specs.Prelude.{◌≡◌};
+ghost use Rattle.pls_report.specs.Report.{all_accept, is_accepting, is_rejecting, is_waiting, rejecting, waiting};
+
+use pls_model::Verdict;
+use pls_sim::Outcome;
+
+/// How many of the nodes reject.
+pub fn rejecting(rows: &[(u32, Outcome)]) -> usize
+    ensures { result ≡ rejecting rows.now }
+{
+    rows.iter().filter(|row| rejects(&row.1)).count()
+}
+
+/// How many of the nodes wait.
+pub fn waiting(rows: &[(u32, Outcome)]) -> usize
+    ensures { result ≡ waiting rows.now }
+{
+    rows.iter().filter(|row| waits(&row.1)).count()
+}
+
+/// Whether all nodes accept: each has decided, and none has rejected.
+pub fn all_accept(rows: &[(u32, Outcome)]) -> bool
+    ensures { result ≡ all_accept rows.now }
+{
+    rows.iter().all(|row| accepts(&row.1))
+}
+
+// Whether a node accepts.
+fn accepts(outcome: &Outcome) -> bool
+    ensures { result ≡ is_accepting outcome.now }
+{
+    match outcome {
+        Outcome::Decided(Verdict::Accept) => true,
+        _ => false,
+    }
+}
+
+// Whether a node rejects.
+fn rejects(outcome: &Outcome) -> bool
+    ensures { result ≡ is_rejecting outcome.now }
+{
+    match outcome {
+        Outcome::Decided(Verdict::Reject { .. }) => true,
+        _ => false,
+    }
+}
+
+// Whether a node waits.
+fn waits(outcome: &Outcome) -> bool
+    ensures { result ≡ is_waiting outcome.now }
+{
+    match outcome {
+        Outcome::Waiting(_) => true,
+        Outcome::Decided(_) => false,
+    }
+}

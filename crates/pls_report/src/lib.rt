@@ -1,0 +1,14 @@
+//! Reports: a line for each node with its outcome, and then how many nodes reject.
+//!
+//! [`write_report`] writes the text of a report (`specs/Report`) into a sink, in pieces of a
+//! few KiB and without memory. [`rejecting`] and [`waiting`] count the nodes that it closes with,
+//! and [`all_accept`] tells whether there is none.
+#![tactic(auto)]
+
+mod counting;
+mod gathered;
+mod pieces;
+mod report;
+
+pub use counting::{all_accept, rejecting, waiting};
+pub use report::write_report;

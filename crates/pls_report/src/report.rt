@@ -1,0 +1,155 @@
+//! The text of a report, line by line.
+
+ghost use Rattle.std.specs.Prelude.{ℕ, ◌≤◌, ◌-◌, ◌++◌, ◌∷◌, [], length, MatchResult, OnErr, OnOk};
+ghost use Rattle.std.specs.Io.KnownBytes.{Appends};
+ghost use Rattle.pls_base.specs.Streams.{AppendsPart, Rose, StaysSure};
+ghost use Rattle.pls_report.specs.Report.{closing_line, node_line, report_text, waiting};
+ghost use Rattle.pls_report.specs.inner.Pieces.{Writes, outcome_tail, waiting_tail};
+
+use crate::counting;
+use crate::gathered::Gathered;
+use crate::pieces::{put_both, put_spaced};
+use pls_base::{Fault, Sink};
+use pls_model::Verdict;
+use pls_sim::Outcome;
+
+/// Writes the report of nodes, each with its identity and its outcome: a line for each, in their
+/// order, and then how many reject; of a round that was played (`simulated`), also how many wait.
+/// It takes no memory.
+///
+/// `Fault` comes only where the sink's count of faults rose in this call; the sink has then taken a
+/// front of the text, but not all. A sink that is sure of so many bytes takes all.
+pub fn write_report<K: Sink>(
+    rows: &[(u32, Outcome)],
+    simulated: bool,
+    sink: &mut K,
+) -> Result<(), Fault>
+    ensures all { OnOk result (Appends (K.taken sink.old) (K.taken sink.new)
+        (report_text simulated rows.now)) }
+    ensures part { OnErr result (AppendsPart (K.taken sink.old) (K.taken sink.new)
+        (report_text simulated rows.now)) }
+    ensures fault { OnErr result (Rose (K.faults sink.old) (K.faults sink.new)) }
+    ensures never_falls { K.faults sink.old ≤ K.faults sink.new }
+    ensures sure { (most : ℕ) → K.IsSureOf sink.old most
+        → length (report_text simulated rows.now) ≤ most
+        → MatchResult result (λ _. StaysSure (K.IsSureOf sink.new)
+        (most - length (report_text simulated rows.now)) (K.faults sink.old) (K.faults sink.new))
+        (λ _. ⊥) }
+{
+    let mut gathered = Gathered::new();
+    write_lines(rows, simulated, sink, &mut gathered)?;
+    gathered.flush(sink)
+}
+
+// Writes the lines of a report.
+fn write_lines<K: Sink>(
+    rows: &[(u32, Outcome)],
+    simulated: bool,
+    sink: &mut K,
+    gathered: &mut Gathered,
+) -> Result<(), Fault>
+    ensures { Writes gathered.old gathered.new (K.taken sink.old) (K.taken sink.new)
+        (K.faults sink.old) (K.faults sink.new) (K.IsSureOf sink.old) (K.IsSureOf sink.new)
+        result (report_text simulated rows.now) }
+{
+    for (id, outcome) in rows {
+        write_node(sink, gathered, *id, outcome)?;
+    }
+    write_closing(rows, simulated, sink, gathered)
+}
+
+// Writes the line of a node.
+fn write_node<K: Sink>(
+    sink: &mut K,
+    gathered: &mut Gathered,
+    id: u32,
+    outcome: &Outcome,
+) -> Result<(), Fault>
+    ensures { Writes gathered.old gathered.new (K.taken sink.old) (K.taken sink.new)
+        (K.faults sink.old) (K.faults sink.new) (K.IsSureOf sink.old) (K.IsSureOf sink.new)
+        result
+        (node_line (id, outcome.now) ++ 10 ∷ []) }
+{
+    put_both(sink, gathered, b"node ", id as u64)?;
+    write_outcome(sink, gathered, outcome)?;
+    gathered.put(sink, b"\n")
+}
+
+// Writes what a node's line says behind its identity.
+fn write_outcome<K: Sink>(
+    sink: &mut K,
+    gathered: &mut Gathered,
+    outcome: &Outcome,
+) -> Result<(), Fault>
+    ensures { Writes gathered.old gathered.new (K.taken sink.old) (K.taken sink.new)
+        (K.faults sink.old) (K.faults sink.new) (K.IsSureOf sink.old) (K.IsSureOf sink.new)
+        result (outcome_tail outcome.now) }
+{
+    match outcome {
+        Outcome::Decided(verdict) => write_verdict(sink, gathered, *verdict),
+        Outcome::Waiting(ports) => {
+            gathered.put(sink, b" waiting")?;
+            put_spaced(sink, gathered, ports.as_slice())
+        }
+    }
+}
+
+// Writes what a node's line says that has decided.
+fn write_verdict<K: Sink>(
+    sink: &mut K,
+    gathered: &mut Gathered,
+    verdict: Verdict,
+) -> Result<(), Fault>
+    ensures { Writes gathered.old gathered.new (K.taken sink.old) (K.taken sink.new)
+        (K.faults sink.old) (K.faults sink.new) (K.IsSureOf sink.old) (K.IsSureOf sink.new)
+        result
+        (outcome_tail (Outcome.Decided verdict)) }
+{
+    match verdict {
+        Verdict::Accept => gathered.put(sink, b" accept"),
+        Verdict::Reject { leaf, rule } => {
+            put_both(sink, gathered, b" reject ", leaf as u64)?;
+            put_both(sink, gathered, b" ", rule as u64)
+        }
+    }
+}
+
+// Writes the line that closes a report.
+fn write_closing<K: Sink>(
+    rows: &[(u32, Outcome)],
+    simulated: bool,
+    sink: &mut K,
+    gathered: &mut Gathered,
+) -> Result<(), Fault>
+    ensures { Writes gathered.old gathered.new (K.taken sink.old) (K.taken sink.new)
+        (K.faults sink.old) (K.faults sink.new) (K.IsSureOf sink.old) (K.IsSureOf sink.new)
+        result
+        (closing_line simulated rows.now ++ 10 ∷ []) }
+{
+    put_both(
+        sink,
+        gathered,
+        b"rejecting ",
+        counting::rejecting(rows) as u64,
+    )?;
+    write_waiting(rows, simulated, sink, gathered)?;
+    gathered.put(sink, b"\n")
+}
+
+// Writes how many nodes wait, where that is asked.
+fn write_waiting<K: Sink>(
+    rows: &[(u32, Outcome)],
+    simulated: bool,
+    sink: &mut K,
+    gathered: &mut Gathered,
+) -> Result<(), Fault>
+    ensures { Writes gathered.old gathered.new (K.taken sink.old) (K.taken sink.new)
+        (K.faults sink.old) (K.faults sink.new) (K.IsSureOf sink.old) (K.IsSureOf sink.new)
+        result
+        (waiting_tail simulated (waiting rows.now)) }
+{
+    if !simulated {
+        return Ok(());
+    }
+    put_both(sink, gathered, b" waiting ", counting::waiting(rows) as u64)
+}

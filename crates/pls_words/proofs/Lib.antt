@@ -1,0 +1,3 @@
+mod Shapes
+mod Forms
+mod Said
