@@ -21,9 +21,8 @@ use Rattle.pls_facts.specs.SpanningTree.{pointed_edges}
 use Rattle.pls_facts.proofs.Bounded.{IsChainOf-short}
 use Rattle.pls_facts.proofs.ChainDepths.{chain_of_root, chains_fall}
 use Rattle.pls_facts.proofs.Chains.{IsChainOf-one}
-use Rattle.pls_facts.proofs.EdgeKeys.{ComesBefore-order}
 use Rattle.pls_facts.proofs.Neighbours.{id_within, neighbour_row}
-use Rattle.pls_facts.proofs.Pointed.{id_of_row, row_from_id}
+use Rattle.pls_facts.proofs.Pointed.{id_of_row}
 use Rattle.pls_facts.proofs.PortEdges.{IsGraph-network}
 use Rattle.pls_facts.proofs.Roots.{a_root, one_root_of}
 use Rattle.pls_boruvka.specs.Boruvka.{AreChainLengths, AreLevelLists, AreLevels}
