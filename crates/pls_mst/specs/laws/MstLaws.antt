@@ -39,15 +39,15 @@ use Rattle.pls_mst.specs.laws.Kept.{kept_rules}
 use Rattle.pls_mst.specs.laws.LabelLaws.{one_mst_spelling}
 use Rattle.pls_mst.specs.laws.LevelRules.{AreSaid, KeepsRules-levels}
 use Rattle.pls_mst.specs.laws.Passed.{rules_pass}
-use Rattle.pls_mst.specs.laws.Sound.{IsLightest-fragments, IsTree-fragments}
+use Rattle.pls_mst.specs.laws.Sound.{no_tree_is_lighter, pointers_make_a_tree}
 use Rattle.pls_mst.specs.laws.TreeEdges.{pointed_has}
 
 -- where the rules hold everywhere in a connected network, the pointers make a spanning tree, and
 -- none weighs less
 pub mst_show : RulesShow mst_rules IsMinimumSpanningTree
 mst_show rows net joined say hold = record {
-  tree = IsTree-fragments rows net joined say keeps;
-  lightest = IsLightest-fragments rows net joined say keeps;
+  tree = pointers_make_a_tree rows net joined say keeps;
+  lightest = no_tree_is_lighter rows net joined say keeps;
 }
   where
     keeps : (row : NodeRow) → Contains rows row → KeepsRules say row
