@@ -15,7 +15,7 @@ use Rattle.pls_facts.proofs.Decided.{cases_Edge}
 use Rattle.pls_facts.proofs.Distinct.{decide_Contains}
 use Rattle.pls_facts.proofs.EdgeKeys.{ComesBefore-order, before_outside}
 use Rattle.pls_facts.proofs.PortEdges.{IsGraph-network}
-use Rattle.pls_boruvka.specs.Boruvka.{AreLevelsFrom, IsLevelOf, chosen_edge, chosen_edges}
+use Rattle.pls_boruvka.specs.Boruvka.{AreLevelsFrom, IsLevelOf, chosen_edge}
 use Rattle.pls_boruvka.specs.declared.level.Level.{Level}
 use Rattle.pls_mst.specs.laws.Fragments.{no_level}
 

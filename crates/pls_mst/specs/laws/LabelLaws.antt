@@ -1,5 +1,5 @@
 -- Labels of the scheme `mst`: what bits say is what they spell, and in one spelling.
-use Rattle.std.proofs.Common.{◌≡◌, ◌∙◌, ◌↔◌, ℕ, zero, suc, ◌≤◌, ◌<◌, nat_lt, ◌++◌, Bool, true, false, if◌then◌else◌, List, [], ◌∷◌, length, get_or, Option, Some, None, option_map, refl, sym, ap, subst, arith, append_assoc}
+use Rattle.std.proofs.Common.{◌≡◌, ◌∙◌, ◌↔◌, ℕ, zero, suc, ◌≤◌, ◌<◌, nat_lt, ◌++◌, Bool, true, false, if◌then◌else◌, List, [], ◌∷◌, length, get_or, Option, Some, None, option_map, refl, sym, ap, subst, append_assoc}
 use Rattle.std.specs.List.{flat_map}
 use Rattle.std.specs.Option.{option_and_then}
 use Rattle.std.proofs.lemmas.Bool.{lt-ltb, ltb-true}
@@ -8,12 +8,12 @@ use Rattle.std.proofs.lemmas.List.Concat.{flat_map-cons}
 use Rattle.std.proofs.lemmas.List.Elements.{All-append, All-cons, All-head, All-nil, All-tail}
 use Rattle.pls_bits.specs.declared.num_code.TheConstants.{MAX_CODED}
 use Rattle.pls_bits.specs.NumberCode.{TakesCodes, TakesOnly}
-use Rattle.pls_scheme.specs.Numbers.{AreCoded, AreCodesOf, codes_of}
+use Rattle.pls_scheme.specs.Numbers.{AreCoded, codes_of}
 use Rattle.pls_scheme.specs.laws.CodeLaws.{at_places-all}
 use Rattle.pls_boruvka.specs.declared.level.Level.{Level}
 use Rattle.pls_mst.specs.declared.label.MstHead.{MstHead}
 use Rattle.pls_mst.specs.declared.label.MstLabel.{MstLabel}
-use Rattle.pls_mst.specs.Labels.{AreOrdered, IsMstLabel, IsMstWritable, head_of, head_off, label_with, level_of, level_off, levels_in, mst_label, ordered_level, with_number, numbers_of_level, numbers_of_mst, numbers_off}
+use Rattle.pls_mst.specs.Labels.{AreOrdered, IsMstLabel, IsMstWritable, head_of, label_with, level_of, level_off, levels_in, mst_label, ordered_level, with_number, numbers_of_level, numbers_of_mst, numbers_off}
 
 -- a label that can be written has a spelling
 pub mst_spelled : (code : ℕ → List Bool) (label : MstLabel) → IsMstWritable label

@@ -12,7 +12,7 @@ use Rattle.pls_facts.specs.Pointer.{pointed_port, Falls}
 use Rattle.pls_facts.specs.SpanningTree.{IsTree, edge_at, pointed_edges}
 use Rattle.pls_facts.specs.Lightest.{IsLightest, Leaves}
 use Rattle.pls_facts.specs.Precedes.{IsAtMost}
-use Rattle.pls_facts.specs.EdgeOrder.{ComesBefore, edge_key}
+use Rattle.pls_facts.specs.EdgeOrder.{edge_key}
 use Rattle.pls_facts.proofs.Decided.{cases_Edge}
 use Rattle.pls_facts.proofs.EdgeKeys.{key_by_before}
 use Rattle.pls_facts.proofs.Neighbours.{neighbour_row}

@@ -1,4 +1,4 @@
-use Rattle.std.proofs.Common.{◌≡◌, ◌∙◌, ◌∷◌, ◌++◌, ◌+◌, [], Bool, List, ℕ, get_or, length, subst, sym, take, ap}
+use Rattle.std.proofs.Common.{◌∙◌, ◌∷◌, ◌++◌, ◌+◌, [], Bool, List, ℕ, get_or, length, subst, sym, take, ap}
 use Rattle.std.specs.List.{flat_map}
 use Rattle.pls_scheme.specs.Numbers.{AreCoded, codes_of}
 use Rattle.pls_boruvka.specs.declared.level.Level.{Level}
