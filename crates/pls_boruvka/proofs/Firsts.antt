@@ -1,5 +1,5 @@
 -- The first of some edges: of one, of those of two kinds, and over all that leave a fragment.
-use Rattle.std.proofs.Common.{◌≡◌, ◌≢◌, ◌∙◌, ℕ, ◌+◌, ◌<◌, ◌≤◌, ◌⊎◌, inl, inr, if◌then◌else◌, List, [], ◌∷◌, length, get_or, set, replicate, Contains, Option, Some, None, is_some, refl, sym, ap, subst, arith, slice_get, get_or-set_same, get_or-set_other}
+use Rattle.std.proofs.Common.{◌≡◌, ◌≢◌, ◌∙◌, ℕ, ◌+◌, ◌<◌, ◌⊎◌, inl, inr, if◌then◌else◌, List, length, get_or, set, replicate, Option, Some, None, is_some, refl, sym, ap, subst, arith, slice_get, get_or-set_same, get_or-set_other}
 use Rattle.std.proofs.lemmas.Bool.{cases_eq, cases_lt}
 use Rattle.std.proofs.lemmas.List.{get_or-replicate, length-replicate, length-set}
 use Rattle.std.proofs.lemmas.Option.{same_Some, slice_get_within}
@@ -7,7 +7,6 @@ use Rattle.pls_model.specs.declared.row.Port.{Port}
 use Rattle.pls_model.specs.declared.row.NodeRow.{NodeRow}
 use Rattle.pls_model.specs.Walk.{Edge}
 use Rattle.pls_graph.specs.Places.{place_in}
-use Rattle.pls_graph.proofs.Finds.{None-replicate}
 use Rattle.pls_graph.proofs.Members.{Contains-from_place}
 use Rattle.pls_facts.specs.EdgeOrder.{edge_key, outside}
 use Rattle.pls_facts.specs.Precedes.{IsAtMost, Precedes}
@@ -16,7 +15,7 @@ use Rattle.pls_facts.proofs.Dictionary.{Precedes-transitive}
 use Rattle.pls_facts.proofs.EdgeKeys.{outside-in, outside-out}
 use Rattle.pls_facts.proofs.Filtered.{Contains-filter_map}
 use Rattle.pls_boruvka.specs.declared.choice.Choice.{Choice}
-use Rattle.pls_boruvka.specs.inner.Choices.{AreChoices, IsChildOf, IsChoice, IsEarlier, IsFirstOf, LeavesAt, LeavesPlace, LeavesTop, edge_of, key_of, top_at}
+use Rattle.pls_boruvka.specs.inner.Choices.{AreChoices, IsChildOf, IsChoice, IsEarlier, IsFirstOf, LeavesAt, LeavesPlace, LeavesTop, key_of, top_at}
 
 pub IsAtMost-through : (one other third : List ℕ) → IsAtMost one other → IsAtMost other third
     → IsAtMost one third
@@ -49,30 +48,39 @@ IsFirstOf-either Such Others None other result is also earlier =
       | inl one ↦ is choice one
       | inr theirs ↦ also choice theirs
     ]
-    by (Some first) also = (inr also.0, λ choice such. elim such [
-      | inl one ↦ absurd (is choice one)
-      | inr other ↦ also.1 choice other
-    ])
+    by (Some first) also = (
+      inr also.0,
+      λ choice such. elim such [
+        | inl one ↦ absurd (is choice one)
+        | inr other ↦ also.1 choice other
+      ],
+    )
 IsFirstOf-either Such Others (Some one) None result is also earlier =
-    subst (IsFirstOf (λ choice. Such choice ⊎ Others choice)) (sym earlier)
-    (inl is.0, λ choice such. elim such [
-      | inl mine ↦ is.1 choice mine
-      | inr theirs ↦ absurd (also choice theirs)
-    ])
+    subst (IsFirstOf (λ choice. Such choice ⊎ Others choice)) (sym earlier) (
+      inl is.0,
+      λ choice such. elim such [
+        | inl mine ↦ is.1 choice mine
+        | inr theirs ↦ absurd (also choice theirs)
+      ],
+    )
 IsFirstOf-either Such Others (Some one) (Some other) result is also (inl (same, most)) =
-    subst (IsFirstOf (λ choice. Such choice ⊎ Others choice)) (sym same)
-    (inl is.0, λ choice such. elim such [
-      | inl mine ↦ is.1 choice mine
-      | inr theirs ↦ IsAtMost-through (key_of one) (key_of other) (key_of choice) most
-          (also.1 choice theirs)
-    ])
+    subst (IsFirstOf (λ choice. Such choice ⊎ Others choice)) (sym same) (
+      inl is.0,
+      λ choice such. elim such [
+        | inl mine ↦ is.1 choice mine
+        | inr theirs ↦ IsAtMost-through (key_of one) (key_of other) (key_of choice) most
+            (also.1 choice theirs)
+      ],
+    )
 IsFirstOf-either Such Others (Some one) (Some other) result is also (inr (same, most)) =
-    subst (IsFirstOf (λ choice. Such choice ⊎ Others choice)) (sym same)
-    (inr also.0, λ choice such. elim such [
-      | inl mine ↦ IsAtMost-through (key_of other) (key_of one) (key_of choice) most
-          (is.1 choice mine)
-      | inr theirs ↦ also.1 choice theirs
-    ])
+    subst (IsFirstOf (λ choice. Such choice ⊎ Others choice)) (sym same) (
+      inr also.0,
+      λ choice such. elim such [
+        | inl mine ↦ IsAtMost-through (key_of other) (key_of one) (key_of choice) most
+            (is.1 choice mine)
+        | inr theirs ↦ also.1 choice theirs
+      ],
+    )
 
 module _ (rows : List NodeRow) where
   -- whether a pointer lies on an edge
@@ -92,9 +100,11 @@ module _ (rows : List NodeRow) where
   -- what is kept of one edge is its first
   pub IsFirstOf-edge : (edge : Edge) (choice : Choice) → IsChoice rows edge choice
       → IsFirstOf (IsChoice rows edge) (Some choice)
-  IsFirstOf-edge edge choice right =
-      (right, λ other also. inl (key_of-edge edge choice right
-      ∙ sym (key_of-edge edge other also)))
+  IsFirstOf-edge edge choice right = (
+    right,
+    λ other also. inl (key_of-edge edge choice right
+        ∙ sym (key_of-edge edge other also)),
+  )
 
   module _ (tops : List ℕ) (place : ℕ) where
     pub LeavesAt-none : IsFirstOf (LeavesAt rows tops place 0) None
@@ -128,15 +138,15 @@ module _ (rows : List NodeRow) where
           × IsChoice rows (edge_at row port) choice)
       later choice leaves = elim (cases_lt leaves.number count) [
         | inl before ↦ inl record {
-            row = leaves.row;
-            port = leaves.port;
-            number = leaves.number;
-            at = leaves.at;
-            has = leaves.has;
-            early = before;
-            apart = leaves.apart;
-            right = leaves.right;
-          }
+          row = leaves.row;
+          port = leaves.port;
+          number = leaves.number;
+          at = leaves.at;
+          has = leaves.has;
+          early = before;
+          apart = leaves.apart;
+          right = leaves.right;
+        }
         | inr past ↦
             let early = leaves.early in
             let last : leaves.number ≡ count = omega (arith, past, early) in
@@ -189,15 +199,15 @@ module _ (rows : List NodeRow) where
           (λ choice such. elim such [
             | inl before ↦ still choice before
             | inr now ↦ record {
-                row = row;
-                port = port;
-                number = count;
-                at = at;
-                has = has;
-                early = omega arith;
-                apart = apart;
-                right = now;
-              }
+              row = row;
+              port = port;
+              number = count;
+              at = at;
+              has = has;
+              early = omega arith;
+              apart = apart;
+              right = now;
+            }
           ])
           (λ choice leaves. elim (later choice leaves) [
             | inl before ↦ inl before

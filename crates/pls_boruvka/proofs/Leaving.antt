@@ -1,10 +1,10 @@
 -- The edge that is found for a fragment is the first that leaves it.
-use Rattle.std.proofs.Common.{◌≡◌, ◌≢◌, ◌∙◌, ℕ, ◌+◌, ◌<◌, ◌==◌, ◌⊎◌, inl, inr, Bool, List, [], ◌∷◌, length, get_or, All, Contains, Option, Some, None, refl, sym, ap, subst, arith, slice_get}
-use Rattle.std.proofs.lemmas.Bool.{cases_eq, eq-eqb, eqb-true, ne_eqb, true≢false}
-use Rattle.std.proofs.lemmas.Option.{same_Some, slice_get_within}
+use Rattle.std.proofs.Common.{◌≡◌, ◌≢◌, ◌∙◌, ℕ, ◌+◌, ◌<◌, ◌==◌, ◌⊎◌, inl, inr, Bool, List, length, All, Contains, Option, Some, None, refl, sym, ap, subst, arith, slice_get}
+use Rattle.std.proofs.lemmas.Bool.{cases_eq, eq-eqb, ne_eqb, true≢false}
+use Rattle.std.proofs.lemmas.Option.{slice_get_within}
 use Rattle.pls_model.specs.declared.row.NodeRow.{NodeRow}
 use Rattle.pls_model.specs.Configuration.{IsNetwork, ids_of}
-use Rattle.pls_model.specs.Walk.{Edge, AreJoined, Joins, Walk, edges_of}
+use Rattle.pls_model.specs.Walk.{Edge, Joins, Walk, edges_of}
 use Rattle.pls_graph.specs.Places.{place_in}
 use Rattle.pls_graph.proofs.Beside.{one_place}
 use Rattle.pls_graph.proofs.Finds.{item_at}
@@ -191,10 +191,10 @@ module _ (rows : List NodeRow) (net : IsNetwork rows) where
             × (other.id ≡ leaves.port.nbr) =
             neighbour_row rows net leaves.row leaves.port row_in has in
             let away : fragment_of leaves.port.nbr ≢ fragment_of u = λ same.
-                leaves.apart (one_top leaves.port.nbr leaves.row.id
-                (subst (Contains (ids_of rows)) far_named (id_of_row rows far far_in))
-                (id_of_row rows leaves.row row_in) (same ∙ sym home)
-                ∙ ap (top_at tops) (place_named rows net place leaves.row leaves.at)) in (
+            leaves.apart (one_top leaves.port.nbr leaves.row.id
+            (subst (Contains (ids_of rows)) far_named (id_of_row rows far far_in))
+            (id_of_row rows leaves.row row_in) (same ∙ sym home)
+            ∙ ap (top_at tops) (place_named rows net place leaves.row leaves.at)) in (
               subst (Contains (edges_of rows)) is
                   (edge_at_listed rows net leaves.row leaves.port row_in has),
               Leaves-joins inside (edge_of first) leaves.row.id leaves.port.nbr

@@ -11,4 +11,5 @@ pub mod Leaving
 pub mod NextLevel
 pub mod Unjoined
 pub mod Begun
-pub mod OneAnswer
+pub mod OneLevels
+pub mod NamedFragments

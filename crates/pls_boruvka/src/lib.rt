@@ -13,8 +13,10 @@ mod choosing;
 mod fragment_names;
 mod joining;
 mod level;
+mod level_laws;
 mod tops;
 
 pub use boruvka::boruvka_levels;
 pub use fragment_names::fragments;
 pub use level::{Level, LevelList};
+pub use level_laws::fragments_and_levels;
