@@ -88,7 +88,8 @@ module _ (rows : List NodeRow) where
       → (if is_some child then 0 else 1) ≡ outside (pointed_edges rows) edge
   child_tells edge None out = sym (outside-out (pointed_edges rows) edge out)
   child_tells edge (Some place) (row, at, points) = sym (outside-in (pointed_edges rows) edge
-      (Contains-filter_map pointed_edge rows row edge (Contains-from_place rows place row at) points))
+      (Contains-filter_map pointed_edge rows row edge (Contains-from_place rows place row at)
+      points))
 
   -- what orders a choice is what orders its edge
   pub key_of-edge : (edge : Edge) (choice : Choice) → IsChoice rows edge choice
@@ -123,7 +124,12 @@ module _ (rows : List NodeRow) where
           has = leaves.has;
           early = let same = ap (λ (row : NodeRow). length row.ports)
               (same_Some leaves.row row (sym leaves.at ∙ at)) in
-              omega (arith, same, slice_get_within leaves.row.ports leaves.number leaves.port leaves.has);
+              omega (
+                arith,
+                same,
+                slice_get_within leaves.row.ports leaves.number leaves.port
+                    leaves.has,
+              );
           apart = leaves.apart;
           right = leaves.right;
         })
@@ -155,7 +161,8 @@ module _ (rows : List NodeRow) where
             (sym leaves.has ∙ ap (λ (row : NodeRow). slice_get row.ports leaves.number) one
             ∙ ap (slice_get row.ports) last ∙ has) in
             inr (
-              λ e. leaves.apart (ap (λ (port : Port). top_at tops (place_in rows port.nbr)) same ∙ e),
+              λ e. leaves.apart (ap (λ (port : Port). top_at tops (place_in rows port.nbr)) same ∙
+                  e),
               subst (λ (port : Port). IsChoice rows (edge_at row port) choice) same
                   (subst (λ (row : NodeRow). IsChoice rows (edge_at row leaves.port) choice) one
                   leaves.right),
@@ -194,7 +201,8 @@ module _ (rows : List NodeRow) where
           → IsChoice rows (edge_at row port) choice → IsEarlier first (Some choice) result
           → IsFirstOf (LeavesAt rows tops place (count + 1)) result
       LeavesAt-more apart first result choice is right earlier = IsFirstOf-same
-          (λ choice. LeavesAt rows tops place count choice ⊎ IsChoice rows (edge_at row port) choice)
+          (λ choice. LeavesAt rows tops place count choice ⊎ IsChoice rows (edge_at row port)
+          choice)
           (LeavesAt rows tops place (count + 1)) result
           (λ choice such. elim such [
             | inl before ↦ still choice before
@@ -213,7 +221,8 @@ module _ (rows : List NodeRow) where
             | inl before ↦ inl before
             | inr now ↦ inr now.1
           ])
-          (IsFirstOf-either (LeavesAt rows tops place count) (IsChoice rows (edge_at row port)) first
+          (IsFirstOf-either (LeavesAt rows tops place count) (IsChoice rows (edge_at row port))
+          first
           (Some choice) result is (IsFirstOf-edge (edge_at row port) choice right) earlier)
 
   module _ (tops : List ℕ) where
@@ -227,7 +236,8 @@ module _ (rows : List NodeRow) where
     }
 
     -- the first edge that leaves the fragment of one place more
-    pub AreChoices-more : (count : ℕ) (choices : List (Option Choice)) (found result : Option Choice)
+    pub AreChoices-more : (count : ℕ) (choices : List (Option Choice)) (found result : Option
+        Choice)
         → top_at tops count < length rows → AreChoices rows tops count choices
         → IsFirstOf (LeavesPlace rows tops count) found
         → IsEarlier (get_or choices (top_at tops count) None) found result
@@ -243,7 +253,8 @@ module _ (rows : List NodeRow) where
             (λ choice (place, before, named, leaves). elim (cases_lt place count) [
               | inl early ↦ (place, early, named, leaves)
               | inr past ↦ absurd (apart (sym named
-                  ∙ ap (top_at tops) (let last : place ≡ count = omega (arith, past, before) in last)))
+                  ∙ ap (top_at tops) (let last : place ≡ count = omega (arith, past, before) in
+                  last)))
             ])
             (old.first top within))
         | inl same ↦ subst (λ (top : ℕ).
@@ -253,7 +264,8 @@ module _ (rows : List NodeRow) where
             (sym (get_or-set_same choices (top_at tops count) result None
             (omega (arith, inside, old.each))))
             (IsFirstOf-same (λ choice. LeavesTop rows tops count (top_at tops count) choice
-            ⊎ LeavesPlace rows tops count choice) (LeavesTop rows tops (count + 1) (top_at tops count))
+            ⊎ LeavesPlace rows tops count choice) (LeavesTop rows tops (count + 1) (top_at tops
+            count))
             result
             (λ choice such. elim such [
               | inl (place, before, named, leaves) ↦ (place, omega (arith, before), named, leaves)

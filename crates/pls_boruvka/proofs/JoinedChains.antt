@@ -176,7 +176,8 @@ module _ (rows : List NodeRow) (net : IsNetwork rows) (depth : ℕ → ℕ) (fal
       AreFragments-ends = record {
         one = λ u v u_in v_in joins. along joined (λ (w : ℕ). name u ≡ name w)
             (λ w x same adjacent. same ∙ (beside w x adjacent).1) u v joins refl;
-        known = λ u in'. along joined Known (λ w x here adjacent. (beside w x adjacent).0) u (name u)
+        known = λ u in'. along joined Known (λ w x here adjacent. (beside w x adjacent).0) u (name
+            u)
             (reaches u (name u) (named u in').nodes (named u in').chain) in';
         holds = λ u in'. reaches u (name u) (named u in').nodes (named u in').chain;
         least = λ u in'. lower u (name u) (named u in').nodes (named u in').chain;

@@ -13,7 +13,8 @@ module _ {X : Type 0} (Right : ℕ → X → Type 0) where
   -- what stands at a place within the list
   pub Each-at : (xs : List X) (place : ℕ) (d : X) → Each Right xs → place < length xs
       → Right place (get_or xs place d)
-  Each-at xs place d each within = each place (get_or xs place d) (slice_get-get_or xs place d within)
+  Each-at xs place d each within = each place (get_or xs place d) (slice_get-get_or xs place d
+      within)
 
   -- one item more
   pub Each-push : (xs : List X) (size : ℕ) (x : X) → length xs ≡ size → Each Right xs

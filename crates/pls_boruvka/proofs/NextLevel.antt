@@ -194,7 +194,8 @@ module _ (rows : List NodeRow) (net : IsNetwork rows) (is_tree : IsTree rows) (d
           id_of_row rows from (Contains-from_place rows place from stands) in
           let same : get_or all (place_in rows from.id) blank ≡ one =
           ap (λ (place : ℕ). get_or all place blank) (place_named rows net place from stands)
-          ∙ same_Some (get_or all place blank) one (sym (slice_get-get_or all place blank before) ∙ at) in
+          ∙ same_Some (get_or all place blank) one (sym (slice_get-get_or all place blank before)
+          ∙ at) in
           let (child, there, along) : (child : NodeRow)
           × (slice_get rows (child_of from.id) ≡ Some child)
           × (pointed_edge child ≡ Some (chosen_edge (level_of from.id))) =
@@ -268,7 +269,8 @@ module _ (rows : List NodeRow) (net : IsNetwork rows) (is_tree : IsTree rows) (d
             let (child, there, along) : (child : NodeRow)
             × (slice_get rows (child_of u) ≡ Some child)
             × (pointed_edge child ≡ Some (chosen_edge (level_of u))) = (right u in').child in
-            let child_in : Contains rows child = Contains-from_place rows (child_of u) child there in
+            let child_in : Contains rows child = Contains-from_place rows (child_of u) child there
+            in
             let spot : place_in rows child.id ≡ child_of u =
             place_named rows net (child_of u) child there in
             let sides = (IsGraph-network rows net).ends edge (right u in').among in (

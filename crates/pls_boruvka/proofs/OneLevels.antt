@@ -30,7 +30,8 @@ map-agree f g (x ∷ xs) agree = rw (
 same_Level : (one other : Level) → one.fragment ≡ other.fragment
     → chosen_edge one ≡ chosen_edge other → one ≡ other
 same_Level one other name edge = by one.fragment one.weight one.a one.b other.fragment other.weight
-    other.a other.b name (ap (λ (edge : Edge). edge.weight) edge) (ap (λ (edge : Edge). edge.a) edge)
+    other.a other.b name (ap (λ (edge : Edge). edge.weight) edge) (ap (λ (edge : Edge). edge.a)
+    edge)
     (ap (λ (edge : Edge). edge.b) edge)
   where
     of_parts : ℕ → ℕ → ℕ → ℕ → Level

@@ -42,7 +42,8 @@ module _ (rows : List NodeRow) (net : IsNetwork rows) (parents : List (Option �
 
   pub points_nowhere : (place : ℕ) (row : NodeRow) → slice_get rows place ≡ Some row
       → parent_at parents place ≡ None → next rows row.id ≡ None
-  points_nowhere place row at none = subst (PointsTo rows place) none (points_by place row at) row at
+  points_nowhere place row at none = subst (PointsTo rows place) none (points_by place row at) row
+      at
 
   -- depths of the nodes are depths of their places
   pub HasDepths-rows : (depth : ℕ → ℕ) → Falls rows depth

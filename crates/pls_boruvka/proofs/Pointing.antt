@@ -110,7 +110,8 @@ module _ (rows : List NodeRow) (net : IsNetwork rows) (parents : List (Option �
         far_row in
         elim (points_either_way rows net row.id port.nbr
         (edge_at row port, in', Joins-edge_at row port)) [
-          | inl on ↦ apart (parent_of_next i other_place row far at there (on ∙ ap Some (sym named)))
+          | inl on ↦ apart (parent_of_next i other_place row far at there (on ∙ ap Some (sym
+              named)))
           | inr back ↦ away (parent_of_next other_place i far row there at
               (ap (next rows) named ∙ back))
         ]

@@ -1,5 +1,5 @@
 -- Fragments of a tree of pointers: what its joined edges bring together, and the name of each
--- (Boruvka 1926, as told by Nesetril, Milkova and Nesetrilova 2001).
+-- (Borůvka 1926, as told by Nešetřil, Milková and Nešetřilová 2001).
 use Rattle.std.specs.Prelude.{◌≡◌, ℕ, ◌<◌, ◌⊎◌, Bool, false, if◌then◌else◌, List, length, filter, get_or, Contains, Option, Some, None, slice_get}
 use Rattle.std.specs.List.{filter_map}
 use Rattle.pls_model.specs.declared.row.NodeRow.{NodeRow}
@@ -9,7 +9,8 @@ use Rattle.pls_facts.specs.Parents.{ParentChain}
 use Rattle.pls_facts.specs.Pointer.{next}
 use Rattle.pls_facts.specs.SpanningTree.{pointed_edge}
 
--- nodes that these edges join are of one fragment, which has the name of its one node of least depth
+-- nodes that these edges join are of one fragment, which has the name of its one node of least
+-- depth
 pub record AreFragments (joined : List Edge) (nodes : List ℕ) (depth fragment : ℕ → ℕ)
     : Type 0 where
   pub one : (u v : ℕ) → Contains nodes u → Contains nodes v → AreJoined joined u v

@@ -140,7 +140,8 @@ loop-joined-smaller c =
     (subst (AreTops parents flags) (sym c.as_slice-tops.ensures.value) c.in_ok-tops.ensures)
     (c.if-are_one.ensures.apart refl) choices
     (subst (AreChoices rows tops (length rows)) (sym c.as_slice.ensures.value)
-    c.in_ok-choices.ensures) c.loop-joined.lists.items c.loop-joined.invariant all chosen c.join.new.joined
+    c.in_ok-choices.ensures) c.loop-joined.lists.items c.loop-joined.invariant all chosen
+    c.join.new.joined
     c.join.ensures
 
 pub loop-joined-preserved : goal.loop-joined-preserved
@@ -167,5 +168,6 @@ loop-joined-preserved c =
     (subst (AreTops parents flags) (sym c.as_slice-tops.ensures.value) c.in_ok-tops.ensures)
     (c.if-are_one.ensures.apart refl) choices
     (subst (AreChoices rows tops (length rows)) (sym c.as_slice.ensures.value)
-    c.in_ok-choices.ensures) c.loop-joined.lists.items c.loop-joined.invariant all chosen c.join.new.joined
+    c.in_ok-choices.ensures) c.loop-joined.lists.items c.loop-joined.invariant all chosen
+    c.join.new.joined
     c.join.ensures new added)
