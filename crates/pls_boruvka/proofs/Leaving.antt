@@ -19,10 +19,11 @@ use Rattle.pls_facts.proofs.Distinct.{decide_Contains}
 use Rattle.pls_facts.proofs.EdgeKeys.{edge_key-same}
 use Rattle.pls_facts.proofs.Filtered.{Contains-from_filter_map}
 use Rattle.pls_facts.proofs.NamedPlaces.{place_named, row_named}
+use Rattle.pls_facts.proofs.Neighbours.{neighbour_row}
 use Rattle.pls_facts.proofs.Paths.{crossing}
 use Rattle.pls_facts.proofs.Pointed.{id_of_row, row_from_id}
 use Rattle.pls_facts.proofs.PointedEdges.{Joins-edge_at, edge_at_listed}
-use Rattle.pls_facts.proofs.PortEdges.{IsAtPort, neighbour_row, ports_of_edge}
+use Rattle.pls_facts.proofs.PortEdges.{IsAtPort, ports_of_edge}
 use Rattle.pls_boruvka.specs.declared.choice.Choice.{Choice}
 use Rattle.pls_boruvka.specs.inner.Choices.{AreChoices, IsChildOf, IsChoice, IsFirstOf, LeavesTop, edge_of, key_of, top_at}
 use Rattle.pls_boruvka.specs.inner.Chosen.{SomeApart, found_at}
@@ -194,7 +195,7 @@ module _ (rows : List NodeRow) (net : IsNetwork rows) where
               fragment_at place leaves.row leaves.at ∙ ap (id_at rows) named in
               let (far, far_in, far_named) : (other : NodeRow) × Contains rows other
               × (other.id ≡ leaves.port.nbr) =
-              neighbour_row rows net leaves.row leaves.port row_in has in
+              neighbour_row rows net leaves.row row_in leaves.port has in
               let away : fragment_of leaves.port.nbr ≢ fragment_of u = λ same.
               leaves.apart (one_top leaves.port.nbr leaves.row.id
               (subst (Contains (ids_of rows)) far_named (id_of_row rows far far_in))

@@ -11,5 +11,5 @@ pub mod Leaving
 pub mod NextLevel
 pub mod Unjoined
 pub mod Begun
-pub mod OneLevels
+pub mod OneAnswer
 pub mod NamedFragments

@@ -5,11 +5,11 @@ use Rattle.std.proofs.lemmas.Bool.{eqb-true, ltb-true}
 use Rattle.std.proofs.lemmas.List.{get_or-map, length-map}
 use Rattle.pls_model.specs.declared.row.Port.{Port}
 use Rattle.pls_model.specs.declared.row.NodeRow.{NodeRow}
-use Rattle.pls_model.specs.Configuration.{IsNetwork, ids_of, row_of}
+use Rattle.pls_model.specs.Configuration.{IsNetwork, ids_of}
 use Rattle.pls_model.specs.Walk.{Edge, edges_from, edges_of}
 use Rattle.pls_graph.proofs.Finds.{found_place, item_at}
 use Rattle.pls_graph.proofs.Members.{Contains-from_filter, Contains-from_flat_map, Contains-from_map, Contains-from_place, place_from_Contains}
-use Rattle.pls_graph.proofs.Placed.{neighbour_found, row_place, way_back, WayBack}
+use Rattle.pls_graph.proofs.Placed.{row_place, way_back, WayBack}
 use Rattle.pls_facts.specs.Lightest.{IsGraph}
 use Rattle.pls_facts.specs.SpanningTree.{edge_at}
 use Rattle.pls_facts.proofs.Decided.{same_Edge}
@@ -29,19 +29,6 @@ pub record IsAtPort (rows : List NodeRow) (edge : Edge) (u v : ℕ) : Type 0 whe
   pub is : edge_at row port ≡ edge
 
 module _ (rows : List NodeRow) (net : IsNetwork rows) where
-  -- the row that a port names
-  pub neighbour_row : (row : NodeRow) (port : Port) → Contains rows row
-      → Contains row.ports port → (other : NodeRow) × Contains rows other × (other.id ≡ port.nbr)
-  neighbour_row row port in' has =
-      let (i, at) : (i : ℕ) × (slice_get rows i ≡ Some row) = place_from_Contains rows row in' in
-      let (p, there) : (p : ℕ) × (slice_get row.ports p ≡ Some port) =
-      place_from_Contains row.ports port has in
-      let (other, found) : (other : NodeRow) × (row_of rows port.nbr ≡ Some other) =
-      neighbour_found rows net i row at p port there in
-      let (j, stands, named) : (j : ℕ) × (slice_get rows j ≡ Some other)
-      × (port.nbr ≡ other.id) = row_place rows net port.nbr other found in
-      (other, Contains-from_place rows j other stands, sym named)
-
   -- an edge is at a port of each of its ends
   pub ports_of_edge : (edge : Edge) → Contains (edges_of rows) edge
       → IsAtPort rows edge edge.a edge.b × IsAtPort rows edge edge.b edge.a

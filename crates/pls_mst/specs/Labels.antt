@@ -31,13 +31,17 @@ pub record IsMstWritable (label : MstLabel) : Type 0 where
   pub coded : AreCoded (numbers_of_mst label)
   pub ordered : AreOrdered label.levels
 
+-- one number more in front of those that were taken off
+abbrev pub with_number : ℕ → List ℕ × List Bool → List ℕ × List Bool
+with_number number taken = (number ∷ taken.0, taken.1)
+
 -- so many numbers that stand in front of the bits, and the bits behind them
 abbrev pub numbers_off : (List Bool → Option (ℕ × List Bool)) → ℕ → List Bool
     → Option (List ℕ × List Bool)
 numbers_off takes zero bits = Some ([], bits)
 numbers_off takes (suc count) bits =
-    option_and_then (λ (first : ℕ × List Bool). option_map (λ (more : List ℕ × List Bool).
-    (first.0 ∷ more.0, more.1)) (numbers_off takes count first.1)) (takes bits)
+    option_and_then (λ (first : ℕ × List Bool).
+    option_map (with_number first.0) (numbers_off takes count first.1)) (takes bits)
 
 -- the level of four numbers
 abbrev pub level_of : List ℕ → Level
@@ -58,12 +62,16 @@ head_of list = record {
   count = get_or list 4 0;
 }
 
+-- the level of four numbers, where its edge is in order
+abbrev pub ordered_level : List ℕ × List Bool → Option (Level × List Bool)
+ordered_level taken =
+    if nat_lt (get_or taken.0 2 0) (get_or taken.0 3 0) then Some (level_of taken.0, taken.1)
+    else None
+
 -- the level that stands in front of the bits, with its edge in order, and the bits behind it
 abbrev pub level_off : (List Bool → Option (ℕ × List Bool)) → List Bool
     → Option (Level × List Bool)
-level_off takes bits = option_and_then (λ (taken : List ℕ × List Bool).
-    if nat_lt (get_or taken.0 2 0) (get_or taken.0 3 0) then Some (level_of taken.0, taken.1)
-    else None) (numbers_off takes 4 bits)
+level_off takes bits = option_and_then ordered_level (numbers_off takes 4 bits)
 
 -- the levels that the bits are, so many and nothing more
 abbrev pub levels_in : (List Bool → Option (ℕ × List Bool)) → ℕ → List Bool → Option (List Level)

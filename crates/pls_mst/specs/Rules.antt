@@ -2,7 +2,7 @@
 -- verification of minimum spanning trees", with the levels of Borůvka's method): on each level it
 -- belongs to a fragment that lies together, and its fragment has chosen the least edge that leaves
 -- it. Each edge that a node points along was chosen by the fragment of one of its ends.
-use Rattle.std.specs.Prelude.{ℕ, ◌+◌, ◌==◌, nat_lt, min, max, Bool, true, false, not, ◌&&◌, ◌||◌, if◌then◌else◌, List, [], ◌∷◌, length, Option}
+use Rattle.std.specs.Prelude.{ℕ, ◌+◌, ◌==◌, nat_lt, min, max, Bool, true, false, not, ◌&&◌, ◌||◌, if◌then◌else◌, List, [], ◌∷◌, length, Option, Some, None}
 use Rattle.std.specs.List.{enumerate_from, list_all, list_any, zip}
 use Rattle.std.specs.Option.{option_map_or}
 use Rattle.pls_model.specs.Walk.{Edge}
@@ -82,10 +82,15 @@ edge_to own port = record {
   weight = port.weight;
 }
 
+-- the pointer is the port of this number
+abbrev pub is_pointer : Option ℕ → ℕ → Bool
+is_pointer None number = false
+is_pointer (Some up) number = up == number
+
 -- 0 where the port of this number is the pointer or the neighbour's parent is the node, else 1
 abbrev pub outside_tree : Option ℕ → MstLabel → ℕ → ReadPort MstLabel → ℕ
 outside_tree up own number port =
-    if option_map_or (λ up. number == up) up false || port.label.parent == own.own then 0 else 1
+    if is_pointer up number || port.label.parent == own.own then 0 else 1
 
 -- the list is the other, or comes before it as a word in a dictionary
 abbrev pub is_at_most : List ℕ → List ℕ → Bool

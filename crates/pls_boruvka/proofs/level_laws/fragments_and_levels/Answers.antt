@@ -1,5 +1,5 @@
 use Rattle.pls_boruvka.proofs.NamedFragments.{AreFragments-names}
-use Rattle.pls_boruvka.proofs.OneLevels.{one_answer}
+use Rattle.pls_boruvka.proofs.OneAnswer.{one_answer}
 use Rattle.pls_boruvka.proofs.level_laws.fragments_and_levels.Goals as goal
 
 pub returns-clause-names : goal.returns-clause-names

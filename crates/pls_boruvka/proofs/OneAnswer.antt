@@ -109,7 +109,7 @@ module _ (edges : List Edge) (nodes : List ℕ) (graph : IsGraph edges nodes)
       (all (level u).a (level u).b sides.0 sides.1)))
 
   -- what levels say of a node is one
-  pub one_levels : (joined : List Edge) (levels others : List (ℕ → Level))
+  one_levels : (joined : List Edge) (levels others : List (ℕ → Level))
       → AreLevelsFrom edges Before nodes depth joined levels
       → AreLevelsFrom edges Before nodes other_depth joined others
       → (u : ℕ) → Contains nodes u → map (λ level. level u) levels ≡ map (λ level. level u) others
