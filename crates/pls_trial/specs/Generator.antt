@@ -1,18 +1,20 @@
 -- Networks made from a number: a tree by random links to earlier nodes, and random links besides that
 -- are no lighter than its edges. The draws are those of Park and Miller, "Random number generators:
 -- good ones are hard to find", Communications of the ACM 31 (1988), with the multiplier 48271.
-use Rattle.std.specs.Prelude.{ℕ, zero, suc, ◌+◌, ◌-◌, ◌*◌, ◌%◌, ◌==◌, ◌||◌, List, [], ◌++◌, map, fold, range_with_len, Option, Some, None, if◌then◌else◌}
+use Rattle.std.specs.Prelude.{ℕ, zero, suc, ◌+◌, ◌-◌, ◌*◌, ◌%◌, ◌==◌, ◌||◌, List, [], ◌∷◌, ◌++◌, map, fold, Option, Some, None, if◌then◌else◌}
+use Rattle.std.specs.List.{range_with_len}
+use Rattle.pls_model.specs.declared.row.State.{State}
 use Rattle.pls_model.specs.declared.row.NodeRow.{NodeRow}
 use Rattle.pls_graph.specs.Edits.{alone, are_linked, in_state, linked}
 
 -- the number behind another
 abbrev pub next : ℕ → ℕ
-next number = (number * 48271) % 2147483647
+next number = number * 48271 % 2147483647
 
--- the number that so many draws from a seed end with
+-- the number that so many draws from one on end with
 abbrev pub draw : ℕ → ℕ → ℕ
-draw seed zero = seed
-draw seed (suc count) = next (draw seed count)
+draw number zero = number
+draw number (suc count) = next (draw number count)
 
 -- an edge that is to be
 pub record Link : Type 0 where
@@ -20,29 +22,36 @@ pub record Link : Type 0 where
   pub b : ℕ
   pub weight : ℕ
 
--- node i + 2 is linked to a node before it, by the draws 2 i + 1 and 2 i + 2
+-- node i + 2 is linked to a node before it, by two draws from a number on
 abbrev pub tree_link : ℕ → ℕ → Link
-tree_link seed i = record {
+tree_link i number = record {
   a = i + 2;
-  b = draw seed (2 * i + 1) % (i + 1) + 1;
-  weight = draw seed (2 * i + 2) % 1000;
+  b = draw number 1 % (i + 1) + 1;
+  weight = draw number 2 % 1000;
 }
 
--- the k-th link besides, of so many nodes, by three draws each behind those of the tree
-abbrev pub other_link : ℕ → ℕ → ℕ → Link
-other_link nodes seed k =
-    let behind = 2 * (nodes - 1) + 3 * k in
-    record {
-      a = draw seed (behind + 1) % nodes + 1;
-      b = draw seed (behind + 2) % nodes + 1;
-      weight = 999 + draw seed (behind + 3) % 1000;
-    }
+-- two of so many nodes are linked, by three draws from a number on
+abbrev pub other_link : ℕ → ℕ → Link
+other_link nodes number = record {
+  a = draw number 1 % nodes + 1;
+  b = draw number 2 % nodes + 1;
+  weight = 999 + draw number 3 % 1000;
+}
+
+-- the links of the tree, for so many nodes behind the first, each by the next two draws
+abbrev pub tree_links : ℕ → ℕ → List Link
+tree_links count seed =
+    map (λ i. tree_link i (draw seed (2 * i))) (range_with_len 0 count)
+
+-- so many links besides, each by the next three draws
+abbrev pub other_links : ℕ → ℕ → ℕ → List Link
+other_links nodes count number =
+    map (λ k. other_link nodes (draw number (3 * k))) (range_with_len 0 count)
 
 -- all links, in the order in which they are put
 abbrev pub links_of : ℕ → ℕ → List Link
 links_of nodes seed =
-    map (tree_link seed) (range_with_len 0 (nodes - 1))
-    ++ map (other_link nodes seed) (range_with_len 0 nodes)
+    tree_links (nodes - 1) seed ++ other_links nodes nodes (draw seed (2 * (nodes - 1)))
 
 -- the rows with a new last port at both ends of a link, if these differ and are not linked yet
 abbrev pub with_link : List NodeRow → Link → List NodeRow
@@ -54,10 +63,13 @@ with_link rows link =
 abbrev pub nodes_alone : ℕ → List NodeRow
 nodes_alone nodes = map (λ id. alone id 0 0) (range_with_len 1 nodes)
 
+-- the state of a node that points at its port 0
+abbrev pub at_port_0 : State
+at_port_0 = record { up = Some 0; mark = 0; num = 0 }
+
 -- each node but the first points at its port 0
 abbrev pub pointing : NodeRow → NodeRow
-pointing row =
-    if row.id == 1 then row else in_state (record { up = Some 0; mark = 0; num = 0 }) row
+pointing row = if row.id == 1 then row else in_state at_port_0 row
 
 -- the network of so many nodes that is made from a seed
 abbrev pub trial_of : ℕ → ℕ → List NodeRow

@@ -1,5 +1,5 @@
 //! Networks made from a number, for runs of any size: [`trial_network`] gives the one of
-//! `specs/Generator`, whose pointers make a minimum spanning tree.
+//! `specs/Generator`, which is connected and whose pointers make a minimum spanning tree.
 #![tactic(auto)]
 
 mod draws;

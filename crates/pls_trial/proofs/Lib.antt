@@ -1,0 +1,4 @@
+pub mod Linking
+pub mod Numbered
+pub mod Alone
+pub mod Grown
