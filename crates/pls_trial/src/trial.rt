@@ -6,7 +6,7 @@ ghost use Rattle.pls_model.specs.Configuration.{ids_of, ports_in};
 ghost use Rattle.pls_model.specs.declared.limits.TheConstants.{MAX_PORTS};
 ghost use Rattle.pls_model.specs.Walk.{IsConnected};
 ghost use Rattle.pls_facts.specs.MinimumSpanningTree.{IsMinimumSpanningTree};
-ghost use Rattle.pls_trial.specs.Generator.{Link, draw, nodes_alone, other_links, pointing, tree_links, trial_of, with_link};
+ghost use Rattle.pls_trial.specs.Generator.{draw, nodes_alone, other_links, pointing, tree_links, trial_of, with_link};
 ghost use Rattle.pls_trial.specs.inner.Building.{AreReady, has_port};
 
 use crate::draws::Draws;
@@ -92,8 +92,8 @@ fn put_link(net: &mut Network, a: u32, b: u32, weight: u32) -> Result<(), NoMemo
     requires a { Contains (ids_of net.old) a }
     requires b { Contains (ids_of net.old) b }
     requires room { ports_in net.old + 2 ≤ MAX_PORTS }
-    ensures { (link : Link) → link ≡ record { a = a; b = b; weight = weight }
-        → OnOk result (net.new ≡ with_link net.old link) }
+    ensures { OnOk result (net.new
+        ≡ with_link net.old (record { a = a; b = b; weight = weight })) }
 {
     match net.link(a, b, weight) {
         Ok(()) => Ok(()),
