@@ -1,5 +1,5 @@
 -- The nodes from 1 on, without ports, are a network.
-use Rattle.std.proofs.Common.{◌≡◌, ◌∙◌, ℕ, zero, suc, ◌+◌, ◌≤◌, Bool, true, false, cond, nat_le, zip, drop, List, [], ◌∷◌, map, length, get_or, refl, sym, ap, subst, arith, Contains, Some, None, option_map}
+use Rattle.std.proofs.Common.{◌≡◌, ◌∙◌, ℕ, zero, suc, ◌+◌, ◌≤◌, Bool, true, false, cond, nat_le, zip, drop, List, [], ◌∷◌, map, length, get_or, Option, refl, sym, ap, subst, arith, Contains, Some, None, option_map}
 use Rattle.std.specs.List.{find, list_any, range_with_len}
 use Rattle.std.proofs.Math.Dec.{leb}
 use Rattle.std.proofs.lemmas.Bool.{lt-leb}
@@ -10,6 +10,9 @@ use Rattle.std.proofs.lemmas.List.Sums.{sum_by-cons}
 use Rattle.pls_model.specs.declared.limits.TheConstants.{MAX_NUM}
 use Rattle.pls_model.specs.declared.row.NodeRow.{NodeRow}
 use Rattle.pls_model.specs.Configuration.{AreWithinLimits, differs_in_weight, ids_of, lacks_way_back, links_itself, names_twice, names_unknown, out_of_order, points_nowhere, ports_in, refusal_of}
+use Rattle.pls_model.specs.declared.refusal.BuildError.{BuildError}
+use Rattle.pls_model.specs.declared.refusal.BuildError.TheVariants.{NoMemory, OneWay, Order, Pointer, SelfLink, Twice, Unknown, Weights}
+use Rattle.pls_graph.specs.Build.{IsRefusal, SaysRefusal}
 use Rattle.pls_graph.specs.Edits.{alone}
 use Rattle.pls_graph.proofs.Members.{Contains-from_map}
 use Rattle.pls_trial.specs.Generator.{nodes_alone}
@@ -96,3 +99,18 @@ nodes_alone_within nodes some few =
           (λ id. omega arith) (get_or (nodes_alone nodes) i d)
           (Contains-get_or (nodes_alone nodes) i d within);
     }
+
+-- so a network of them fails for want of memory alone
+pub memory_lacks : (nodes : ℕ) (error : BuildError) → IsRefusal (nodes_alone nodes) error
+    → error ≡ NoMemory
+memory_lacks nodes error says = by error (subst (λ refusal. SaysRefusal refusal error) (nodes_alone_valid nodes) says)
+  where
+    by : (error : BuildError) → SaysRefusal None error → error ≡ NoMemory
+    by NoMemory says = refl
+    by (Order id) says = absurd (cc)
+    by (SelfLink id) says = absurd (cc)
+    by (Twice id) says = absurd (cc)
+    by (Unknown id) says = absurd (cc)
+    by (OneWay id) says = absurd (cc)
+    by (Weights id) says = absurd (cc)
+    by (Pointer id) says = absurd (cc)

@@ -3,6 +3,7 @@ pub mod Numbered
 pub mod Alone
 pub mod Refused
 pub mod Pointing
+pub mod Putting
 pub mod Grown
 pub mod Smaller
 pub mod Spanning

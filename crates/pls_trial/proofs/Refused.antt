@@ -102,3 +102,15 @@ pointer_allowed rows id has = by (row_of rows id) has
         ≡ None
     by None has = absurd (cc)
     by (Some row) has = rw has refl
+
+-- an edit that does not lack memory is refused for its cause
+pub causes_left : (found : Option EditError) (error : EditError) → SaysEdit found error
+    → (error ≡ NoMemory → ⊥) → found ≡ Some error
+causes_left _ NoMemory says apart = absurd (apart refl)
+causes_left _ Absent says apart = says
+causes_left _ Present says apart = says
+causes_left _ Pointer says apart = says
+causes_left _ SelfLink says apart = says
+causes_left _ HasPorts says apart = says
+causes_left _ Last says apart = says
+causes_left _ Full says apart = says

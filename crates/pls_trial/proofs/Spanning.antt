@@ -252,10 +252,14 @@ module _ (tree : ℕ → Link) (others : List Link)
               let inside = (range-within 0 (nodes - 1) i i_in).1 in
               let below : i < nodes - 1 = omega arith in
               absurd (apart (pointed_link i below edge
-              (elim linked.ends [ | inl e ↦ let one = e.0 in let two = e.1 in omega arith
-                | inr e ↦ let one = e.0 in let two = e.1 in omega arith ])
-              (elim linked.ends [ | inl e ↦ let one = e.0 in let two = e.1 in omega arith
-                | inr e ↦ let one = e.0 in let two = e.1 in omega arith ])
+              (elim linked.ends [
+                | inl e ↦ let one = e.0 in let two = e.1 in omega arith
+                | inr e ↦ let one = e.0 in let two = e.1 in omega arith
+              ])
+              (elim linked.ends [
+                | inl e ↦ let one = e.0 in let two = e.1 in omega arith
+                | inr e ↦ let one = e.0 in let two = e.1 in omega arith
+              ])
               (omega arith)))
         ]
 

@@ -52,8 +52,11 @@ fn nodes_alone(alloc: Global, nodes: u32) -> Result<Network, NoMemory>
     }
     match builder.build(alloc) {
         Ok(net) => Ok(net),
-        Err(BuildError::NoMemory) => Err(NoMemory),
-        Err(_) => unreachable!(),
+        Err(error) => match error {
+            BuildError::NoMemory => Err(NoMemory),
+            // Such nodes are a network.
+            _ => unreachable!(),
+        },
     }
 }
 
@@ -97,9 +100,12 @@ fn put_link(net: &mut Network, a: u32, b: u32, weight: u32) -> Result<(), NoMemo
 {
     match net.link(a, b, weight) {
         Ok(()) => Ok(()),
-        Err(EditError::SelfLink | EditError::Present) => Ok(()),
-        Err(EditError::NoMemory) => Err(NoMemory),
-        Err(_) => unreachable!(),
+        Err(error) => match error {
+            EditError::NoMemory => Err(NoMemory),
+            EditError::SelfLink | EditError::Present => Ok(()),
+            // Both nodes are there, and there is room.
+            _ => unreachable!(),
+        },
     }
 }
 
