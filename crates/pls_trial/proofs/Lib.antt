@@ -8,3 +8,4 @@ pub mod Grown
 pub mod Smaller
 pub mod Spanning
 pub mod Made
+mod Worked

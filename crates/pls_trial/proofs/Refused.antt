@@ -1,8 +1,7 @@
 -- Two nodes that are there, with room for their ports, are not linked only where they are one or are
 -- linked already; and a pointer to port 0 is allowed where there is one.
 use Rattle.std.proofs.Common.{◌≡◌, ◌∙◌, ℕ, ◌+◌, ◌≤◌, ◌-◌, ◌⊎◌, inl, inr, Bool, true, false, not, cond, ◌==◌, ◌||◌, nat_lt, List, [], ◌∷◌, length, map, Contains, Option, Some, None, refl, sym, ap, subst, arith}
-use Rattle.std.specs.List.{find}
-use Rattle.std.specs.Option.{is_none, is_some, option_map_or}
+use Rattle.std.specs.Option.{is_none, option_map_or}
 use Rattle.std.proofs.lemmas.Bool.{eqb-false, le-ltb}
 use Rattle.std.proofs.lemmas.Option.{same_Some}
 use Rattle.pls_model.specs.declared.limits.TheConstants.{MAX_PORTS}
@@ -10,9 +9,9 @@ use Rattle.pls_model.specs.declared.row.NodeRow.{NodeRow}
 use Rattle.pls_model.specs.Configuration.{first_of, ids_of, ports_in, row_of}
 use Rattle.pls_graph.specs.declared.edits.EditError.{EditError}
 use Rattle.pls_graph.specs.declared.edits.EditError.TheVariants.{Absent, Full, HasPorts, Last, NoMemory, Pointer, Present, SelfLink}
-use Rattle.pls_graph.specs.Edits.{SaysEdit, are_linked, cause, fits_state, is_absent, link_refusal, linked, state_refusal}
+use Rattle.pls_graph.specs.Edits.{SaysEdit, are_linked, cause, fits_state, is_absent, link_refusal, state_refusal}
 use Rattle.pls_graph.proofs.Members.{Contains-cons_cases}
-use Rattle.pls_trial.specs.Generator.{Link, at_port_0, with_link}
+use Rattle.pls_trial.specs.Generator.{at_port_0}
 use Rattle.pls_trial.specs.inner.Building.{has_port}
 
 -- a node with this identity is there
@@ -57,29 +56,7 @@ module _ (rows : List NodeRow) (a b : ℕ) (a_in : Contains (ids_of rows) a)
       by false true = refl
       by false false = refl
 
-  -- where no cause holds, they are linked
-  pub linked-allowed : (weight : ℕ) → link_refusal rows a b ≡ None
-      → linked rows a b weight ≡ with_link rows (record { a = a; b = b; weight = weight })
-  linked-allowed weight none = by (a == b) (are_linked rows a b) (sym refusal ∙ none)
-    where
-      by : (same linked' : Bool) → causes same linked' ≡ None
-          → linked rows a b weight ≡ cond (same || linked') rows (linked rows a b weight)
-      by true linked' e = absurd (cc)
-      by false true e = absurd (cc)
-      by false false e = refl
-
-  -- else nothing is put
-  pub unchanged-refused : (weight : ℕ) (error : EditError) → link_refusal rows a b ≡ Some error
-      → rows ≡ with_link rows (record { a = a; b = b; weight = weight })
-  unchanged-refused weight error some = by (a == b) (are_linked rows a b) (sym refusal ∙ some)
-    where
-      by : (same linked' : Bool) → causes same linked' ≡ Some error
-          → rows ≡ cond (same || linked') rows (linked rows a b weight)
-      by true linked' e = refl
-      by false true e = refl
-      by false false e = absurd (cc)
-
-  -- for one of two causes
+  -- a refusal has one of two causes
   pub two_causes : (error : EditError) → link_refusal rows a b ≡ Some error
       → (error ≡ SelfLink) ⊎ (error ≡ Present)
   two_causes error some = by (a == b) (are_linked rows a b) (sym refusal ∙ some)
