@@ -1,7 +1,7 @@
 -- What stands before each level, and what there is when one fragment holds all nodes.
-use Rattle.std.proofs.Common.{◌≡◌, ◌≢◌, ◌∙◌, ℕ, ◌+◌, ◌<◌, ◌≤◌, ◌^◌, inl, inr, Bool, true, false, List, [], ◌∷◌, ◌++◌, map, length, replicate, get_or, All, Contains, Option, Some, None, refl, sym, ap, subst, arith, slice_get}
+use Rattle.std.proofs.Common.{◌≡◌, ◌∙◌, ℕ, ◌<◌, ◌≤◌, ◌^◌, inl, inr, Bool, true, false, List, [], ◌∷◌, ◌++◌, map, length, replicate, get_or, All, Contains, Option, Some, refl, sym, ap, subst, arith, slice_get}
 use Rattle.std.proofs.lemmas.List.{append_assoc, append-nil, ext_get_or, get_or-map, get_or-replicate, length-map, length-replicate, map-append}
-use Rattle.std.proofs.lemmas.List.Elements.{All-contains, Contains-append_cases}
+use Rattle.std.proofs.lemmas.List.Elements.{Contains-append_cases}
 use Rattle.std.proofs.lemmas.Option.{slice_get-get_or, slice_get_within}
 use Rattle.pls_model.specs.declared.row.NodeRow.{NodeRow}
 use Rattle.pls_model.specs.Configuration.{IsNetwork, ids_of}
@@ -133,7 +133,8 @@ module _ (rows : List NodeRow) (net : IsNetwork rows) where
       all_joined : JoinAll begun.joined (ids_of rows)
       all_joined = JoinAll-one begun.joined (ids_of rows) begun.depth
           (fragment_of rows net tops tops_each tops_within)
-          (AreFragments-ends rows net begun.depth (Falls-chains rows net begun.depth begun.deep) flags
+          (AreFragments-ends rows net begun.depth (Falls-chains rows net begun.depth begun.deep)
+          flags
           begun.joined begun.marked (fragment_of rows net tops tops_each tops_within) ends_at_name)
           (λ u v u_in v_in. ap (id_at rows) (one (place_in rows u) (place_before u u_in)
           ∙ sym (one (place_in rows v) (place_before v v_in))))
@@ -166,7 +167,8 @@ module _ (rows : List NodeRow) (net : IsNetwork rows) where
           let is : get_or lists place d ≡ said_of begun.levels (get_or rows place row) =
           ap (λ (lists : List (List Level)). get_or lists place d) begun.said
           ∙ get_or-map (said_of begun.levels) rows place row d within in
-          let many = ap length is ∙ length-map begun.levels (λ level. level (get_or rows place row).id) in
+          let many = ap length is ∙ length-map begun.levels (λ level. level (get_or rows place
+          row).id) in
           let few = few_levels (edges_of rows) (ids_of rows) (IsGraph-network rows net)
           (ComesBefore (pointed_edges rows)) begun.depth [] begun.levels row.id
           (id_of_row rows row (Contains-from_place rows 0 row at)) all_levels in
@@ -193,7 +195,8 @@ module _ (rows : List NodeRow) (net : IsNetwork rows) where
     pub lighter_begun : SomeUnpointed tops choices → (other : List Edge)
         × IsSpanningTree (edges_of rows) other (ids_of rows)
         × (weight_of other < weight_of (pointed_edges rows))
-    lighter_begun = lighter_where rows net is_tree begun.depth falls tops each within choices are some
+    lighter_begun = lighter_where rows net is_tree begun.depth falls tops each within choices are
+        some
 
     module _ (all : List Chosen) (chosen : AreChosen rows tops choices all) where
       pub children_begun : AreChildrenWithin (length flags) all
@@ -202,7 +205,8 @@ module _ (rows : List NodeRow) (net : IsNetwork rows) where
           chosen)
 
       abbrev level : ℕ → Level
-      level = level_of rows net is_tree begun.depth falls tops each within choices are some all chosen
+      level = level_of rows net is_tree begun.depth falls tops each within choices are some all
+          chosen
 
       -- each list has what the level says behind it
       said_more : (new : List (List Level)) → AddLevel all (length all) lists new
@@ -252,14 +256,16 @@ module _ (rows : List NodeRow) (net : IsNetwork rows) where
           deep = begun.deep;
           joined = begun.joined ++ chosen_edges level (ids_of rows);
           sized = joins.each ∙ begun.sized;
-          marked = AreFlags-more rows net is_tree begun.depth falls tops each within choices are some
+          marked = AreFlags-more rows net is_tree begun.depth falls tops each within choices are
+              some
               all chosen flags begun.joined begun.marked
               (ends_at_name parents flags tops linked topped) newer joins;
           levels = begun.levels ++ level ∷ [];
           onward = λ rest follow. subst (AreLevels rows begun.depth)
               (sym (append_assoc begun.levels (level ∷ []) rest))
               (begun.onward (level ∷ rest) (
-                IsLevelOf-chosen rows net is_tree begun.depth falls tops each within choices are some
+                IsLevelOf-chosen rows net is_tree begun.depth falls tops each within choices are
+                    some
                     all chosen flags begun.joined begun.marked
                     (ends_at_name parents flags tops linked topped),
                 follow,
@@ -270,7 +276,8 @@ module _ (rows : List NodeRow) (net : IsNetwork rows) where
                 | inr now ↦ elim (Contains-cons_cases level [] one now) [
                   | inl same ↦ subst (λ (one : ℕ → Level).
                       Contains (pointed_edges rows) (chosen_edge (one u))) same
-                      (chosen_in_tree rows net is_tree begun.depth falls tops each within choices are
+                      (chosen_in_tree rows net is_tree begun.depth falls tops each within choices
+                      are
                       some all chosen u u_in)
                   | inr none ↦ absurd (omega (arith, none.1))
                 ]
@@ -288,5 +295,6 @@ module _ (rows : List NodeRow) (net : IsNetwork rows) where
             (ends_at_name parents flags tops linked topped) newer joins begun.sized row.id
             (id_of_row rows row (Contains-from_place rows 0 row at)) in
             unjoined-fewer flags newer
-            (child_of rows net is_tree begun.depth falls tops each within choices are some all chosen
+            (child_of rows net is_tree begun.depth falls tops each within choices are some all
+            chosen
             row.id) joins.each (λ place true'. (joins.joined place).1 (inl true')) before was is

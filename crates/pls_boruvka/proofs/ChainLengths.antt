@@ -26,10 +26,10 @@ module _ (rows : List NodeRow) where
       by None e rest = inl (u, 0, IsChainOf-end rows u e)
       by (Some x) e rest = elim (rest x) [
         | inl (last, count, whole) ↦ inl (
-            last,
-            1 + count,
-            IsChainOf-before rows u x last count (x ∷ []) (e, refl) whole,
-          )
+          last,
+          1 + count,
+          IsChainOf-before rows u x last count (x ∷ []) (e, refl) whole,
+        )
         | inr (v, nodes, chain, size) ↦ inr (v, x ∷ nodes, (e, chain), ap suc size)
       ]
 

@@ -1,7 +1,7 @@
 -- Chains of joined parents, the places where they end, and that following them comes to an end.
-use Rattle.std.proofs.Common.{◌≡◌, ◌≢◌, ◌∙◌, ℕ, zero, suc, ◌+◌, ◌<◌, ◌≤◌, inl, inr, Bool, true, false, List, [], ◌∷◌, ◌++◌, length, get_or, set, replicate, Option, Some, None, refl, sym, ap, subst, arith, slice_get, get_or-set_same, get_or-set_other}
+use Rattle.std.proofs.Common.{◌≡◌, ◌∙◌, ℕ, zero, suc, ◌+◌, ◌<◌, ◌≤◌, inl, inr, Bool, true, false, List, [], ◌∷◌, ◌++◌, length, get_or, set, replicate, Option, Some, None, refl, sym, ap, subst, arith, get_or-set_same, get_or-set_other}
 use Rattle.std.specs.Option.{option_map_or}
-use Rattle.std.proofs.lemmas.Bool.{cases_Bool, cases_eq, cond-false, cond-true}
+use Rattle.std.proofs.lemmas.Bool.{cases_eq, cond-false, cond-true}
 use Rattle.std.proofs.lemmas.List.{length-set, length-replicate}
 use Rattle.std.proofs.lemmas.Option.{get_or_from_slice_get, same_Some, slice_get-get_or, slice_get_within}
 use Rattle.pls_graph.proofs.Finds.{None-replicate}
@@ -27,7 +27,11 @@ module _ (parents : List (Option ℕ)) (deep : HasDepths parents) where
       by : (o : Option ℕ) → parent_at parents place ≡ o
           → 0 ≡ option_map_or (λ to. 0 + 1) o 0
       by None e = refl
-      by (Some to) e = let falls = deep.falls place to within e in absurd (omega (arith, few, falls.1))
+      by (Some to) e = let falls = deep.falls place to within e in absurd (omega (
+        arith,
+        few,
+        falls.1,
+      ))
   steps_by-more (suc most) place within few = by (parent_at parents place) refl (steps_by-more most)
     where
       by : (o : Option ℕ) → parent_at parents place ≡ o
@@ -82,7 +86,8 @@ module _ (parents : List (Option ℕ)) (joined : List Bool) where
           sym (cond-false (get_or joined place false) (parent_at parents place) None e) ∙ points in
           absurd (cc)
 
-  chain-append : (start place last : ℕ) (nodes more : List ℕ) → ParentChain Follows start nodes place
+  chain-append : (start place last : ℕ) (nodes more : List ℕ) → ParentChain Follows start nodes
+      place
       → ParentChain Follows place more last → ParentChain Follows start (nodes ++ more) last
   chain-append start place last [] more same rest =
       subst (λ (u : ℕ). ParentChain Follows u more last) (sym same) rest
@@ -141,7 +146,12 @@ module _ (parents : List (Option ℕ)) (joined : List Bool) where
     top = λ other found at.
         let newer : List (Option ℕ) = set noted place (Some top) in
         let within : other < length newer = slice_get_within newer other (Some found) at in
-        let inside : other < length noted = omega (arith, within, length-set noted place (Some top)) in
+        let inside : other < length noted = omega (
+          arith,
+          within,
+          length-set noted place (Some
+              top),
+        ) in
         let here : get_or newer other None ≡ Some found =
         get_or_from_slice_get newer other (Some found) None at in
         elim (cases_eq other place) [

@@ -1,5 +1,5 @@
 -- The first of some edges: of one, of those of two kinds, and over all that leave a fragment.
-use Rattle.std.proofs.Common.{◌≡◌, ◌≢◌, ◌∙◌, ℕ, ◌+◌, ◌<◌, ◌≤◌, ◌⊎◌, inl, inr, if◌then◌else◌, List, [], ◌∷◌, length, get_or, set, replicate, Contains, Option, Some, None, is_some, refl, sym, ap, subst, arith, slice_get, get_or-set_same, get_or-set_other}
+use Rattle.std.proofs.Common.{◌≡◌, ◌≢◌, ◌∙◌, ℕ, ◌+◌, ◌<◌, ◌⊎◌, inl, inr, if◌then◌else◌, List, length, get_or, set, replicate, Option, Some, None, is_some, refl, sym, ap, subst, arith, slice_get, get_or-set_same, get_or-set_other}
 use Rattle.std.proofs.lemmas.Bool.{cases_eq, cases_lt}
 use Rattle.std.proofs.lemmas.List.{get_or-replicate, length-replicate, length-set}
 use Rattle.std.proofs.lemmas.Option.{same_Some, slice_get_within}
@@ -7,7 +7,6 @@ use Rattle.pls_model.specs.declared.row.Port.{Port}
 use Rattle.pls_model.specs.declared.row.NodeRow.{NodeRow}
 use Rattle.pls_model.specs.Walk.{Edge}
 use Rattle.pls_graph.specs.Places.{place_in}
-use Rattle.pls_graph.proofs.Finds.{None-replicate}
 use Rattle.pls_graph.proofs.Members.{Contains-from_place}
 use Rattle.pls_facts.specs.EdgeOrder.{edge_key, outside}
 use Rattle.pls_facts.specs.Precedes.{IsAtMost, Precedes}
@@ -16,7 +15,7 @@ use Rattle.pls_facts.proofs.Dictionary.{Precedes-transitive}
 use Rattle.pls_facts.proofs.EdgeKeys.{outside-in, outside-out}
 use Rattle.pls_facts.proofs.Filtered.{Contains-filter_map}
 use Rattle.pls_boruvka.specs.declared.choice.Choice.{Choice}
-use Rattle.pls_boruvka.specs.inner.Choices.{AreChoices, IsChildOf, IsChoice, IsEarlier, IsFirstOf, LeavesAt, LeavesPlace, LeavesTop, edge_of, key_of, top_at}
+use Rattle.pls_boruvka.specs.inner.Choices.{AreChoices, IsChildOf, IsChoice, IsEarlier, IsFirstOf, LeavesAt, LeavesPlace, LeavesTop, key_of, top_at}
 
 pub IsAtMost-through : (one other third : List ℕ) → IsAtMost one other → IsAtMost other third
     → IsAtMost one third
@@ -49,30 +48,39 @@ IsFirstOf-either Such Others None other result is also earlier =
       | inl one ↦ is choice one
       | inr theirs ↦ also choice theirs
     ]
-    by (Some first) also = (inr also.0, λ choice such. elim such [
-      | inl one ↦ absurd (is choice one)
-      | inr other ↦ also.1 choice other
-    ])
+    by (Some first) also = (
+      inr also.0,
+      λ choice such. elim such [
+        | inl one ↦ absurd (is choice one)
+        | inr other ↦ also.1 choice other
+      ],
+    )
 IsFirstOf-either Such Others (Some one) None result is also earlier =
-    subst (IsFirstOf (λ choice. Such choice ⊎ Others choice)) (sym earlier)
-    (inl is.0, λ choice such. elim such [
-      | inl mine ↦ is.1 choice mine
-      | inr theirs ↦ absurd (also choice theirs)
-    ])
+    subst (IsFirstOf (λ choice. Such choice ⊎ Others choice)) (sym earlier) (
+      inl is.0,
+      λ choice such. elim such [
+        | inl mine ↦ is.1 choice mine
+        | inr theirs ↦ absurd (also choice theirs)
+      ],
+    )
 IsFirstOf-either Such Others (Some one) (Some other) result is also (inl (same, most)) =
-    subst (IsFirstOf (λ choice. Such choice ⊎ Others choice)) (sym same)
-    (inl is.0, λ choice such. elim such [
-      | inl mine ↦ is.1 choice mine
-      | inr theirs ↦ IsAtMost-through (key_of one) (key_of other) (key_of choice) most
-          (also.1 choice theirs)
-    ])
+    subst (IsFirstOf (λ choice. Such choice ⊎ Others choice)) (sym same) (
+      inl is.0,
+      λ choice such. elim such [
+        | inl mine ↦ is.1 choice mine
+        | inr theirs ↦ IsAtMost-through (key_of one) (key_of other) (key_of choice) most
+            (also.1 choice theirs)
+      ],
+    )
 IsFirstOf-either Such Others (Some one) (Some other) result is also (inr (same, most)) =
-    subst (IsFirstOf (λ choice. Such choice ⊎ Others choice)) (sym same)
-    (inr also.0, λ choice such. elim such [
-      | inl mine ↦ IsAtMost-through (key_of other) (key_of one) (key_of choice) most
-          (is.1 choice mine)
-      | inr theirs ↦ also.1 choice theirs
-    ])
+    subst (IsFirstOf (λ choice. Such choice ⊎ Others choice)) (sym same) (
+      inr also.0,
+      λ choice such. elim such [
+        | inl mine ↦ IsAtMost-through (key_of other) (key_of one) (key_of choice) most
+            (is.1 choice mine)
+        | inr theirs ↦ also.1 choice theirs
+      ],
+    )
 
 module _ (rows : List NodeRow) where
   -- whether a pointer lies on an edge
@@ -80,7 +88,8 @@ module _ (rows : List NodeRow) where
       → (if is_some child then 0 else 1) ≡ outside (pointed_edges rows) edge
   child_tells edge None out = sym (outside-out (pointed_edges rows) edge out)
   child_tells edge (Some place) (row, at, points) = sym (outside-in (pointed_edges rows) edge
-      (Contains-filter_map pointed_edge rows row edge (Contains-from_place rows place row at) points))
+      (Contains-filter_map pointed_edge rows row edge (Contains-from_place rows place row at)
+      points))
 
   -- what orders a choice is what orders its edge
   pub key_of-edge : (edge : Edge) (choice : Choice) → IsChoice rows edge choice
@@ -92,9 +101,11 @@ module _ (rows : List NodeRow) where
   -- what is kept of one edge is its first
   pub IsFirstOf-edge : (edge : Edge) (choice : Choice) → IsChoice rows edge choice
       → IsFirstOf (IsChoice rows edge) (Some choice)
-  IsFirstOf-edge edge choice right =
-      (right, λ other also. inl (key_of-edge edge choice right
-      ∙ sym (key_of-edge edge other also)))
+  IsFirstOf-edge edge choice right = (
+    right,
+    λ other also. inl (key_of-edge edge choice right
+        ∙ sym (key_of-edge edge other also)),
+  )
 
   module _ (tops : List ℕ) (place : ℕ) where
     pub LeavesAt-none : IsFirstOf (LeavesAt rows tops place 0) None
@@ -113,7 +124,12 @@ module _ (rows : List NodeRow) where
           has = leaves.has;
           early = let same = ap (λ (row : NodeRow). length row.ports)
               (same_Some leaves.row row (sym leaves.at ∙ at)) in
-              omega (arith, same, slice_get_within leaves.row.ports leaves.number leaves.port leaves.has);
+              omega (
+                arith,
+                same,
+                slice_get_within leaves.row.ports leaves.number leaves.port
+                    leaves.has,
+              );
           apart = leaves.apart;
           right = leaves.right;
         })
@@ -128,15 +144,15 @@ module _ (rows : List NodeRow) where
           × IsChoice rows (edge_at row port) choice)
       later choice leaves = elim (cases_lt leaves.number count) [
         | inl before ↦ inl record {
-            row = leaves.row;
-            port = leaves.port;
-            number = leaves.number;
-            at = leaves.at;
-            has = leaves.has;
-            early = before;
-            apart = leaves.apart;
-            right = leaves.right;
-          }
+          row = leaves.row;
+          port = leaves.port;
+          number = leaves.number;
+          at = leaves.at;
+          has = leaves.has;
+          early = before;
+          apart = leaves.apart;
+          right = leaves.right;
+        }
         | inr past ↦
             let early = leaves.early in
             let last : leaves.number ≡ count = omega (arith, past, early) in
@@ -145,7 +161,8 @@ module _ (rows : List NodeRow) where
             (sym leaves.has ∙ ap (λ (row : NodeRow). slice_get row.ports leaves.number) one
             ∙ ap (slice_get row.ports) last ∙ has) in
             inr (
-              λ e. leaves.apart (ap (λ (port : Port). top_at tops (place_in rows port.nbr)) same ∙ e),
+              λ e. leaves.apart (ap (λ (port : Port). top_at tops (place_in rows port.nbr)) same ∙
+                  e),
               subst (λ (port : Port). IsChoice rows (edge_at row port) choice) same
                   (subst (λ (row : NodeRow). IsChoice rows (edge_at row leaves.port) choice) one
                   leaves.right),
@@ -184,26 +201,28 @@ module _ (rows : List NodeRow) where
           → IsChoice rows (edge_at row port) choice → IsEarlier first (Some choice) result
           → IsFirstOf (LeavesAt rows tops place (count + 1)) result
       LeavesAt-more apart first result choice is right earlier = IsFirstOf-same
-          (λ choice. LeavesAt rows tops place count choice ⊎ IsChoice rows (edge_at row port) choice)
+          (λ choice. LeavesAt rows tops place count choice ⊎ IsChoice rows (edge_at row port)
+          choice)
           (LeavesAt rows tops place (count + 1)) result
           (λ choice such. elim such [
             | inl before ↦ still choice before
             | inr now ↦ record {
-                row = row;
-                port = port;
-                number = count;
-                at = at;
-                has = has;
-                early = omega arith;
-                apart = apart;
-                right = now;
-              }
+              row = row;
+              port = port;
+              number = count;
+              at = at;
+              has = has;
+              early = omega arith;
+              apart = apart;
+              right = now;
+            }
           ])
           (λ choice leaves. elim (later choice leaves) [
             | inl before ↦ inl before
             | inr now ↦ inr now.1
           ])
-          (IsFirstOf-either (LeavesAt rows tops place count) (IsChoice rows (edge_at row port)) first
+          (IsFirstOf-either (LeavesAt rows tops place count) (IsChoice rows (edge_at row port))
+          first
           (Some choice) result is (IsFirstOf-edge (edge_at row port) choice right) earlier)
 
   module _ (tops : List ℕ) where
@@ -217,7 +236,8 @@ module _ (rows : List NodeRow) where
     }
 
     -- the first edge that leaves the fragment of one place more
-    pub AreChoices-more : (count : ℕ) (choices : List (Option Choice)) (found result : Option Choice)
+    pub AreChoices-more : (count : ℕ) (choices : List (Option Choice)) (found result : Option
+        Choice)
         → top_at tops count < length rows → AreChoices rows tops count choices
         → IsFirstOf (LeavesPlace rows tops count) found
         → IsEarlier (get_or choices (top_at tops count) None) found result
@@ -233,7 +253,8 @@ module _ (rows : List NodeRow) where
             (λ choice (place, before, named, leaves). elim (cases_lt place count) [
               | inl early ↦ (place, early, named, leaves)
               | inr past ↦ absurd (apart (sym named
-                  ∙ ap (top_at tops) (let last : place ≡ count = omega (arith, past, before) in last)))
+                  ∙ ap (top_at tops) (let last : place ≡ count = omega (arith, past, before) in
+                  last)))
             ])
             (old.first top within))
         | inl same ↦ subst (λ (top : ℕ).
@@ -243,7 +264,8 @@ module _ (rows : List NodeRow) where
             (sym (get_or-set_same choices (top_at tops count) result None
             (omega (arith, inside, old.each))))
             (IsFirstOf-same (λ choice. LeavesTop rows tops count (top_at tops count) choice
-            ⊎ LeavesPlace rows tops count choice) (LeavesTop rows tops (count + 1) (top_at tops count))
+            ⊎ LeavesPlace rows tops count choice) (LeavesTop rows tops (count + 1) (top_at tops
+            count))
             result
             (λ choice such. elim such [
               | inl (place, before, named, leaves) ↦ (place, omega (arith, before), named, leaves)

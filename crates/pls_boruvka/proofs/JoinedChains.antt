@@ -1,9 +1,8 @@
 -- The ends of chains of joined pointers are the names of the fragments that their edges join.
-use Rattle.std.proofs.Common.{◌≡◌, ◌∙◌, ℕ, ◌+◌, ◌<◌, ◌≤◌, ◌⊎◌, inl, inr, Bool, true, false, if◌then◌else◌, List, [], ◌∷◌, length, get_or, Contains, Option, Some, None, refl, sym, ap, subst, arith, option_map, option_and_then, slice_get}
+use Rattle.std.proofs.Common.{◌≡◌, ◌∙◌, ℕ, ◌+◌, ◌<◌, ◌⊎◌, inl, inr, Bool, true, false, List, [], ◌∷◌, length, get_or, Contains, Some, None, refl, sym, ap, subst, arith, option_map, option_and_then, slice_get}
 use Rattle.std.proofs.lemmas.Bool.{cond-false, cond-true}
 use Rattle.std.proofs.lemmas.Option.{same_Some}
 use Rattle.pls_model.specs.declared.row.NodeRow.{NodeRow}
-use Rattle.pls_model.specs.declared.row.Port.{Port}
 use Rattle.pls_model.specs.Configuration.{IsNetwork, ids_of}
 use Rattle.pls_model.specs.Walk.{Edge, Adjacent, AreJoined, JoinAll, Joins}
 use Rattle.pls_graph.specs.Places.{place_in}
@@ -24,6 +23,25 @@ pub record AreFlags (rows : List NodeRow) (flags : List Bool) (joined : List Edg
       → get_or flags (place_in rows row.id) false ≡ true → Contains joined edge
   pub from : (row : NodeRow) (edge : Edge) → Contains rows row → pointed_edge row ≡ Some edge
       → Contains joined edge → get_or flags (place_in rows row.id) false ≡ true
+
+module _ (rows : List NodeRow) (net : IsNetwork rows) (depth : ℕ → ℕ) (falls : Falls rows depth)
+  where
+    -- a row that points along an edge is the only one
+    pub one_child : (row other : NodeRow) (edge : Edge) → Contains rows row → Contains rows other
+        → pointed_edge row ≡ Some edge → pointed_edge other ≡ Some edge → row.id ≡ other.id
+    one_child row other edge row_in other_in points also =
+        let one : PointsAlong rows row edge = PointsAlong-row rows net row edge row_in points in
+        let two : PointsAlong rows other edge = PointsAlong-row rows net other edge other_in also in
+        let down = falls row.id one.port.nbr one.points in
+        let lower = falls other.id two.port.nbr two.points in
+        elim (ends_of_pair other.id two.port.nbr row.id one.port.nbr
+        (subst (λ (edge : Edge). Joins edge row.id one.port.nbr) (one.is ∙ sym two.is)
+        (Joins-edge_at row one.port))) [
+          | inl same ↦ sym same.0
+          | inr turned ↦
+              let first = ap depth turned.0 in
+              let second = ap depth turned.1 in absurd (omega (arith, down, lower, first, second))
+        ]
 
 module _ (rows : List NodeRow) (net : IsNetwork rows) (depth : ℕ → ℕ) (falls : Falls rows depth)
     (flags : List Bool) where
@@ -158,7 +176,8 @@ module _ (rows : List NodeRow) (net : IsNetwork rows) (depth : ℕ → ℕ) (fal
       AreFragments-ends = record {
         one = λ u v u_in v_in joins. along joined (λ (w : ℕ). name u ≡ name w)
             (λ w x same adjacent. same ∙ (beside w x adjacent).1) u v joins refl;
-        known = λ u in'. along joined Known (λ w x here adjacent. (beside w x adjacent).0) u (name u)
+        known = λ u in'. along joined Known (λ w x here adjacent. (beside w x adjacent).0) u (name
+            u)
             (reaches u (name u) (named u in').nodes (named u in').chain) in';
         holds = λ u in'. reaches u (name u) (named u in').nodes (named u in').chain;
         least = λ u in'. lower u (name u) (named u in').nodes (named u in').chain;

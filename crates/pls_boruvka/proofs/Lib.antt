@@ -12,3 +12,4 @@ pub mod NextLevel
 pub mod Unjoined
 pub mod Begun
 pub mod OneAnswer
+pub mod NamedFragments

@@ -1,5 +1,5 @@
--- Where all edges that Boruvka's levels choose are edges of a spanning tree, none is lighter.
-use Rattle.std.proofs.Common.{◌≡◌, ℕ, ◌==◌, ◌⊎◌, inl, inr, Bool, List, [], ◌∷◌, ◌++◌, map, subst, arith, Contains}
+-- Where all edges that Borůvka's levels choose are edges of a spanning tree, none is lighter.
+use Rattle.std.proofs.Common.{◌≡◌, ℕ, ◌==◌, ◌⊎◌, inl, inr, Bool, List, [], ◌∷◌, ◌++◌, subst, arith, Contains}
 use Rattle.std.proofs.lemmas.List.Elements.{Contains-append_cases}
 use Rattle.pls_model.specs.Walk.{Edge}
 use Rattle.pls_graph.proofs.Members.{Contains-first, Contains-from_map, Contains-later}

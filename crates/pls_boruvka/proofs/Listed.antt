@@ -1,5 +1,5 @@
 -- Lists that are filled from the front, of which each item is right for its place.
-use Rattle.std.proofs.Common.{◌≡◌, ◌∙◌, ℕ, ◌+◌, ◌<◌, inl, inr, List, [], ◌∷◌, ◌++◌, take, drop, length, get_or, Some, slice_get, sym, ap, subst, arith, length-append}
+use Rattle.std.proofs.Common.{◌≡◌, ◌∙◌, ℕ, ◌<◌, inl, inr, List, [], ◌∷◌, ◌++◌, take, drop, length, get_or, sym, ap, subst, arith, length-append}
 use Rattle.std.proofs.Math.Seq.{get_or-append_seam, take-append_seam}
 use Rattle.std.proofs.lemmas.Bool.{cases_lt}
 use Rattle.std.proofs.lemmas.List.{get_or_append_left}
@@ -13,7 +13,8 @@ module _ {X : Type 0} (Right : ℕ → X → Type 0) where
   -- what stands at a place within the list
   pub Each-at : (xs : List X) (place : ℕ) (d : X) → Each Right xs → place < length xs
       → Right place (get_or xs place d)
-  Each-at xs place d each within = each place (get_or xs place d) (slice_get-get_or xs place d within)
+  Each-at xs place d each within = each place (get_or xs place d) (slice_get-get_or xs place d
+      within)
 
   -- one item more
   pub Each-push : (xs : List X) (size : ℕ) (x : X) → length xs ≡ size → Each Right xs

@@ -1,24 +1,23 @@
 -- One level more: what it says of each node, and the pointers that are joined after it.
-use Rattle.std.proofs.Common.{◌≡◌, ◌≢◌, ◌∙◌, ℕ, ◌+◌, ◌<◌, ◌==◌, ◌⊎◌, inl, inr, Bool, true, false, List, [], ◌∷◌, ◌++◌, length, get_or, All, Contains, Option, Some, None, refl, sym, ap, subst, arith, slice_get}
+use Rattle.std.proofs.Common.{◌≡◌, ◌∙◌, ℕ, ◌<◌, ◌==◌, inl, inr, Bool, true, false, List, ◌++◌, length, get_or, All, Contains, Option, Some, None, refl, sym, ap, subst, arith, slice_get}
 use Rattle.std.proofs.lemmas.List.Elements.{Contains-append_cases, Contains-append_left, Contains-append_right}
 use Rattle.std.proofs.lemmas.Option.{same_Some, slice_get-get_or, slice_get_within}
 use Rattle.pls_model.specs.declared.row.NodeRow.{NodeRow}
 use Rattle.pls_model.specs.Configuration.{IsNetwork, ids_of}
-use Rattle.pls_model.specs.Walk.{Edge, Joins, edges_of}
+use Rattle.pls_model.specs.Walk.{Edge, edges_of}
 use Rattle.pls_graph.specs.Places.{place_in}
 use Rattle.pls_graph.proofs.Finds.{item_at}
 use Rattle.pls_graph.proofs.Joined.{AreJoined-adjacent}
 use Rattle.pls_graph.proofs.Members.{Contains-from_map, Contains-from_place, Contains-map, place_from_Contains}
 use Rattle.pls_facts.specs.EdgeOrder.{ComesBefore}
-use Rattle.pls_facts.specs.Lightest.{IsFirstLeaving, IsGraph, Leaves, weight_of}
-use Rattle.pls_facts.specs.Pointer.{Falls, next}
+use Rattle.pls_facts.specs.Lightest.{IsFirstLeaving, IsGraph, weight_of}
+use Rattle.pls_facts.specs.Pointer.{Falls}
 use Rattle.pls_facts.specs.SpanningTree.{IsSpanningTree, IsTree, pointed_edge, pointed_edges}
 use Rattle.pls_facts.proofs.Chosen.{lighter_tree}
 use Rattle.pls_facts.proofs.EdgeKeys.{ComesBefore-order, before_outside}
 use Rattle.pls_facts.proofs.Filtered.{Contains-filter_map}
 use Rattle.pls_facts.proofs.NamedPlaces.{place_named}
 use Rattle.pls_facts.proofs.Pointed.{id_of_row}
-use Rattle.pls_facts.proofs.PointedEdges.{Joins-edge_at, PointsAlong, PointsAlong-row, ends_of_pair}
 use Rattle.pls_facts.proofs.PortEdges.{IsGraph-network}
 use Rattle.pls_boruvka.specs.declared.choice.Choice.{Choice}
 use Rattle.pls_boruvka.specs.declared.joining.Chosen.{Chosen}
@@ -27,9 +26,9 @@ use Rattle.pls_boruvka.specs.Boruvka.{IsLevelOf, chosen_edge, chosen_edges}
 use Rattle.pls_boruvka.specs.Fragments.{JoinedChainEnds}
 use Rattle.pls_boruvka.specs.inner.Choices.{AreChoices, IsChildOf, edge_of, top_at}
 use Rattle.pls_boruvka.specs.inner.Chosen.{AreChildrenWithin, AreChosen, IsChild, IsChosen, IsUnpointed, JoinChildren, SomeApart, SomeUnpointed, found_at}
-use Rattle.pls_boruvka.proofs.JoinedChains.{AreFlags, AreFragments-ends}
+use Rattle.pls_boruvka.proofs.JoinedChains.{AreFlags, AreFragments-ends, one_child}
 use Rattle.pls_boruvka.proofs.Leaving.{IsFound, found_for, fragment_of, row_at}
-use Rattle.pls_boruvka.proofs.Placing.{id_at, id_at-row}
+use Rattle.pls_boruvka.proofs.Placing.{id_at-row}
 
 -- an edge that is the first to leave a set is the first to leave one with the same nodes
 pub IsFirstLeaving-same : (edges : List Edge) (nodes : List ℕ) → IsGraph edges nodes
@@ -184,23 +183,6 @@ module _ (rows : List NodeRow) (net : IsNetwork rows) (is_tree : IsTree rows) (d
       abbrev more : List Edge
       more = joined ++ chosen_edges level_of (ids_of rows)
 
-      -- a row that points along an edge is the only one
-      one_child : (row other : NodeRow) (edge : Edge) → Contains rows row → Contains rows other
-          → pointed_edge row ≡ Some edge → pointed_edge other ≡ Some edge → row.id ≡ other.id
-      one_child row other edge row_in other_in points also =
-          let one : PointsAlong rows row edge = PointsAlong-row rows net row edge row_in points in
-          let two : PointsAlong rows other edge = PointsAlong-row rows net other edge other_in also in
-          let down = falls row.id one.port.nbr one.points in
-          let lower = falls other.id two.port.nbr two.points in
-          elim (ends_of_pair other.id two.port.nbr row.id one.port.nbr
-          (subst (λ (edge : Edge). Joins edge row.id one.port.nbr) (one.is ∙ sym two.is)
-          (Joins-edge_at row one.port))) [
-            | inl same ↦ sym same.0
-            | inr turned ↦
-                let first = ap depth turned.0 in
-                let second = ap depth turned.1 in absurd (omega (arith, down, lower, first, second))
-          ]
-
       -- the edge of a child is chosen
       chosen_at_child : (row : NodeRow) (edge : Edge) → Contains rows row
           → pointed_edge row ≡ Some edge → IsChild all (length all) (place_in rows row.id)
@@ -212,7 +194,8 @@ module _ (rows : List NodeRow) (net : IsNetwork rows) (is_tree : IsTree rows) (d
           id_of_row rows from (Contains-from_place rows place from stands) in
           let same : get_or all (place_in rows from.id) blank ≡ one =
           ap (λ (place : ℕ). get_or all place blank) (place_named rows net place from stands)
-          ∙ same_Some (get_or all place blank) one (sym (slice_get-get_or all place blank before) ∙ at) in
+          ∙ same_Some (get_or all place blank) one (sym (slice_get-get_or all place blank before)
+          ∙ at) in
           let (child, there, along) : (child : NodeRow)
           × (slice_get rows (child_of from.id) ≡ Some child)
           × (pointed_edge child ≡ Some (chosen_edge (level_of from.id))) =
@@ -239,7 +222,7 @@ module _ (rows : List NodeRow) (net : IsNetwork rows) (is_tree : IsTree rows) (d
           let (child, there, along) : (child : NodeRow)
           × (slice_get rows (child_of u) ≡ Some child)
           × (pointed_edge child ≡ Some (chosen_edge (level_of u))) = (right u u_in).child in
-          let same : row.id ≡ child.id = one_child row child edge row_in
+          let same : row.id ≡ child.id = one_child rows net depth falls row child edge row_in
           (Contains-from_place rows (child_of u) child there) points (along ∙ ap Some chose) in
           let (from, at, named) : (row : NodeRow) × (slice_get rows (place_in rows u) ≡ Some row)
           × (row.id ≡ u) = row_at rows net u u_in in
@@ -286,7 +269,8 @@ module _ (rows : List NodeRow) (net : IsNetwork rows) (is_tree : IsTree rows) (d
             let (child, there, along) : (child : NodeRow)
             × (slice_get rows (child_of u) ≡ Some child)
             × (pointed_edge child ≡ Some (chosen_edge (level_of u))) = (right u in').child in
-            let child_in : Contains rows child = Contains-from_place rows (child_of u) child there in
+            let child_in : Contains rows child = Contains-from_place rows (child_of u) child there
+            in
             let spot : place_in rows child.id ≡ child_of u =
             place_named rows net (child_of u) child there in
             let sides = (IsGraph-network rows net).ends edge (right u in').among in (

@@ -1,11 +1,11 @@
 -- There is one answer for the levels of a network: two lists of levels that are right are equal.
-use Rattle.std.proofs.Common.{◌≡◌, ◌≢◌, ◌∙◌, ℕ, ◌+◌, ◌<◌, ◌==◌, ◌⊎◌, inl, inr, Bool, List, [], ◌∷◌, ◌++◌, map, length, Contains, refl, sym, ap, subst, arith}
+use Rattle.std.proofs.Common.{◌≡◌, ◌∙◌, ℕ, ◌==◌, inl, inr, Bool, List, [], ◌∷◌, ◌++◌, map, Contains, refl, sym, ap, subst, arith}
 use Rattle.pls_model.specs.declared.row.NodeRow.{NodeRow}
 use Rattle.pls_model.specs.Configuration.{IsNetwork, ids_of}
-use Rattle.pls_model.specs.Walk.{Edge, AreJoined, JoinAll, edges_of}
+use Rattle.pls_model.specs.Walk.{Edge, JoinAll, edges_of}
 use Rattle.pls_graph.proofs.Members.{Contains-first, Contains-later}
 use Rattle.pls_facts.specs.EdgeOrder.{ComesBefore}
-use Rattle.pls_facts.specs.Lightest.{IsEdgeOrder, IsFirstLeaving, IsGraph, Leaves}
+use Rattle.pls_facts.specs.Lightest.{IsEdgeOrder, IsFirstLeaving, IsGraph}
 use Rattle.pls_facts.specs.SpanningTree.{pointed_edges}
 use Rattle.pls_facts.proofs.Chains.{IsChainOf-one}
 use Rattle.pls_facts.proofs.Decided.{cases_Edge}
@@ -13,7 +13,7 @@ use Rattle.pls_facts.proofs.EdgeKeys.{ComesBefore-order}
 use Rattle.pls_facts.proofs.Pointed.{id_of_row, row_from_id}
 use Rattle.pls_facts.proofs.PortEdges.{IsGraph-network}
 use Rattle.pls_boruvka.specs.declared.level.Level.{Level}
-use Rattle.pls_boruvka.specs.Boruvka.{AreLevelLists, AreLevels, AreLevelsFrom, IsLevelOf, chosen_edge, chosen_edges}
+use Rattle.pls_boruvka.specs.Boruvka.{AreLevelLists, AreLevelsFrom, IsLevelOf, chosen_edge, chosen_edges}
 use Rattle.pls_boruvka.specs.Fragments.{AreFragments}
 use Rattle.pls_boruvka.proofs.NextLevel.{IsFirstLeaving-same}
 
@@ -30,7 +30,8 @@ map-agree f g (x ∷ xs) agree = rw (
 same_Level : (one other : Level) → one.fragment ≡ other.fragment
     → chosen_edge one ≡ chosen_edge other → one ≡ other
 same_Level one other name edge = by one.fragment one.weight one.a one.b other.fragment other.weight
-    other.a other.b name (ap (λ (edge : Edge). edge.weight) edge) (ap (λ (edge : Edge). edge.a) edge)
+    other.a other.b name (ap (λ (edge : Edge). edge.weight) edge) (ap (λ (edge : Edge). edge.a)
+    edge)
     (ap (λ (edge : Edge). edge.b) edge)
   where
     of_parts : ℕ → ℕ → ℕ → ℕ → Level
@@ -108,20 +109,20 @@ module _ (edges : List Edge) (nodes : List ℕ) (graph : IsGraph edges nodes)
       (all (level u).a (level u).b sides.0 sides.1)))
 
   -- what levels say of a node is one
-  one_list : (joined : List Edge) (levels others : List (ℕ → Level))
+  one_levels : (joined : List Edge) (levels others : List (ℕ → Level))
       → AreLevelsFrom edges Before nodes depth joined levels
       → AreLevelsFrom edges Before nodes other_depth joined others
       → (u : ℕ) → Contains nodes u → map (λ level. level u) levels ≡ map (λ level. level u) others
-  one_list joined [] [] one two u in' = refl
-  one_list joined [] (other ∷ others) one two u in' =
+  one_levels joined [] [] one two u in' = refl
+  one_levels joined [] (other ∷ others) one two u in' =
       absurd (no_level_after joined other other_depth one two.0 u in')
-  one_list joined (level ∷ levels) [] one two u in' =
+  one_levels joined (level ∷ levels) [] one two u in' =
       absurd (no_level_after joined level depth two one.0 u in')
-  one_list joined (level ∷ levels) (other ∷ others) one two u in' =
+  one_levels joined (level ∷ levels) (other ∷ others) one two u in' =
       let next : chosen_edges other nodes ≡ chosen_edges level nodes =
       map-agree (λ u. chosen_edge (other u)) (λ u. chosen_edge (level u)) nodes
       (λ v v_in. ap chosen_edge (sym (one_level joined level other one.0 two.0 v v_in))) in
-      let rest = one_list (joined ++ chosen_edges level nodes) levels others one.1
+      let rest = one_levels (joined ++ chosen_edges level nodes) levels others one.1
       (subst (λ (chosen : List Edge).
       AreLevelsFrom edges Before nodes other_depth (joined ++ chosen) others) next two.1) u in' in
       rw (one_level joined level other one.0 two.0 u in', rest) refl
@@ -133,7 +134,7 @@ one_answer rows net one other first second =
     first.said
     ∙ map-agree (λ row. map (λ level. level row.id) first.levels)
     (λ row. map (λ level. level row.id) second.levels) rows
-    (λ row row_in. one_list (edges_of rows) (ids_of rows) (IsGraph-network rows net)
+    (λ row row_in. one_levels (edges_of rows) (ids_of rows) (IsGraph-network rows net)
     (ComesBefore (pointed_edges rows)) (ComesBefore-order (pointed_edges rows)) first.depth
     second.depth deep [] first.levels second.levels first.are second.are row.id
     (id_of_row rows row row_in))

@@ -1,11 +1,10 @@
 -- Joined parents by places are joined pointers by identities.
-use Rattle.std.proofs.Common.{◌≡◌, ◌∙◌, ℕ, ◌+◌, ◌<◌, ◌≤◌, Bool, true, false, if◌then◌else◌, List, [], ◌∷◌, length, get_or, Contains, Option, Some, None, refl, sym, ap, subst, arith, slice_get}
+use Rattle.std.proofs.Common.{◌≡◌, ◌∙◌, ℕ, ◌+◌, ◌<◌, Bool, true, false, if◌then◌else◌, List, [], ◌∷◌, length, get_or, Contains, Option, Some, None, refl, sym, ap, subst, arith, slice_get}
 use Rattle.std.specs.Option.{option_map_or}
 use Rattle.std.proofs.lemmas.Bool.{cond-false, cond-true}
 use Rattle.std.proofs.lemmas.Option.{same_Some, slice_get_within}
 use Rattle.pls_model.specs.declared.row.NodeRow.{NodeRow}
 use Rattle.pls_model.specs.Configuration.{IsNetwork}
-use Rattle.pls_graph.specs.Places.{place_in}
 use Rattle.pls_graph.proofs.Finds.{item_at}
 use Rattle.pls_graph.proofs.Members.{Contains-from_place}
 use Rattle.pls_facts.specs.Parents.{ParentChain}
@@ -43,7 +42,8 @@ module _ (rows : List NodeRow) (net : IsNetwork rows) (parents : List (Option �
 
   pub points_nowhere : (place : ℕ) (row : NodeRow) → slice_get rows place ≡ Some row
       → parent_at parents place ≡ None → next rows row.id ≡ None
-  points_nowhere place row at none = subst (PointsTo rows place) none (points_by place row at) row at
+  points_nowhere place row at none = subst (PointsTo rows place) none (points_by place row at) row
+      at
 
   -- depths of the nodes are depths of their places
   pub HasDepths-rows : (depth : ℕ → ℕ) → Falls rows depth

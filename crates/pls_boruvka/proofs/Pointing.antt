@@ -1,7 +1,7 @@
 -- Which end of an edge points at the other.
-use Rattle.std.proofs.Common.{◌≡◌, ◌≢◌, ◌∙◌, ℕ, ◌<◌, ◌==◌, true, inl, inr, List, Contains, Option, Some, None, refl, sym, ap, subst, arith, slice_get, option_map, option_and_then}
+use Rattle.std.proofs.Common.{◌≡◌, ◌∙◌, ℕ, ◌==◌, true, inl, inr, List, Contains, Option, Some, None, refl, sym, ap, arith, slice_get, option_map}
 use Rattle.std.proofs.lemmas.Bool.{eqb-true}
-use Rattle.std.proofs.lemmas.Option.{option_and_then_some, same_Some, slice_get_within}
+use Rattle.std.proofs.lemmas.Option.{option_and_then_some, same_Some}
 use Rattle.pls_model.specs.declared.row.Port.{Port}
 use Rattle.pls_model.specs.declared.row.NodeRow.{NodeRow}
 use Rattle.pls_model.specs.Configuration.{IsNetwork, port_to, row_of}
@@ -11,12 +11,11 @@ use Rattle.pls_graph.proofs.Finds.{found_place, from_option_map}
 use Rattle.pls_graph.proofs.Members.{Contains-from_place, place_from_Contains}
 use Rattle.pls_graph.proofs.Placed.{WayBack, port_of_place, row_of_place, row_place, way_back}
 use Rattle.pls_facts.specs.Pointer.{next, pointed_port}
-use Rattle.pls_facts.specs.SpanningTree.{edge_at, pointed_edge, pointed_edges}
+use Rattle.pls_facts.specs.SpanningTree.{edge_at, pointed_edge}
 use Rattle.pls_facts.proofs.Decided.{same_Edge}
-use Rattle.pls_facts.proofs.NamedPlaces.{place_named, port_named}
+use Rattle.pls_facts.proofs.NamedPlaces.{port_named}
 use Rattle.pls_facts.proofs.Pointed.{next-row}
 use Rattle.pls_facts.proofs.PointedEdges.{Joins-edge_at, points_either_way}
-use Rattle.pls_search.specs.PointedPlace.{PointsTo}
 use Rattle.pls_boruvka.specs.inner.Choices.{ChildOf, IsChildOf, IsChoice, choice_at}
 use Rattle.pls_boruvka.specs.inner.Tops.{AreParents, parent_at}
 use Rattle.pls_boruvka.proofs.Placing.{points_nowhere, points_to_row}
@@ -111,7 +110,8 @@ module _ (rows : List NodeRow) (net : IsNetwork rows) (parents : List (Option �
         far_row in
         elim (points_either_way rows net row.id port.nbr
         (edge_at row port, in', Joins-edge_at row port)) [
-          | inl on ↦ apart (parent_of_next i other_place row far at there (on ∙ ap Some (sym named)))
+          | inl on ↦ apart (parent_of_next i other_place row far at there (on ∙ ap Some (sym
+              named)))
           | inr back ↦ away (parent_of_next other_place i far row there at
               (ap (next rows) named ∙ back))
         ]

@@ -1,5 +1,5 @@
--- The levels of Boruvka's method: on each, the fragments that earlier chosen edges join, and the
--- edge that each of them chooses (Boruvka 1926, as told by Nesetril, Milkova and Nesetrilova 2001).
+-- The levels of Borůvka's method: on each, the fragments that earlier chosen edges join, and the
+-- edge that each of them chooses (Borůvka 1926, as told by Nešetřil, Milková and Nešetřilová 2001).
 use Rattle.std.specs.Prelude.{◌≡◌, ℕ, ◌==◌, List, [], ◌∷◌, ◌++◌, map, Contains}
 use Rattle.pls_model.specs.declared.row.NodeRow.{NodeRow}
 use Rattle.pls_model.specs.Configuration.{ids_of}

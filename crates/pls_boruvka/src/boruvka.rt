@@ -16,9 +16,9 @@ use pls_base::NoMemory;
 use pls_graph::Network;
 use std::alloc::Global;
 
-/// The levels of each node, in the order of the nodes, or `None` where some spanning tree is lighter
-/// than the pointed edges. There are at most log2 n levels for n nodes. The one error is want of
-/// memory.
+/// The levels of each node, in the order of the nodes, or `None` where some spanning tree is
+/// lighter than the pointed edges. There are at most log2 n levels of n nodes, and each takes one
+/// pass over nodes and ports. The one error is want of memory.
 pub fn boruvka_levels(alloc: Global, net: &Network) -> Result<Option<Vec<LevelList>>, NoMemory>
     requires tree { IsTree net.now }
     ensures levels { IfOk result (λ found. IfSome found (λ lists.

@@ -9,7 +9,8 @@ use pls_base::NoMemory;
 use pls_graph::Network;
 use std::alloc::Global;
 
-// What a level says of a node, and the place of the end of its chosen edge that points at the other.
+// What a level says of a node, and the place of the end of its chosen edge that points at the
+// other.
 #[derive(Clone, Copy)]
 pub(crate) struct Chosen {
     pub(crate) level: Level,

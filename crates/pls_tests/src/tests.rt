@@ -2,6 +2,7 @@
 
 mod base;
 mod bits;
+mod boruvka;
 mod colours;
 mod distances;
 mod graph;

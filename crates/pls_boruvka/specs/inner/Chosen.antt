@@ -19,7 +19,8 @@ pub record IsChosen (rows : List NodeRow) (top : ℕ) (choice : Option Choice) (
 
 -- no edge was found, or one that no pointer lies on
 abbrev pub IsUnpointed : Option Choice → Type 0
-IsUnpointed choice = (choice ≡ None) ⊎ ((first : Choice) × (choice ≡ Some first) × (first.child ≡ None))
+IsUnpointed choice =
+    (choice ≡ None) ⊎ ((first : Choice) × (choice ≡ Some first) × (first.child ≡ None))
 
 -- what was found for the fragment of a place
 abbrev pub found_at : List ℕ → List (Option Choice) → ℕ → Option Choice

@@ -1,14 +1,8 @@
-use Rattle.std.proofs.Common.{◌≡◌, ◌∙◌, ◌<◌, ◌≤◌, ◌^◌, ℕ, Bool, false, List, [], Vec, Global, Option, Some, None, IfSome, IfNone, All, length, replicate, drop, take, refl, sym, ap, subst, arith}
-use Rattle.pls_model.specs.Configuration.{ids_of}
-use Rattle.pls_model.specs.Walk.{Edge, edges_of}
-use Rattle.pls_facts.specs.Lightest.{weight_of}
-use Rattle.pls_facts.specs.SpanningTree.{IsSpanningTree, pointed_edges}
-use Rattle.pls_facts.proofs.Trees.{NoneReturns-IsTree}
-use Rattle.pls_boruvka.specs.declared.choice.Choice.{Choice}
+use Rattle.std.proofs.Common.{◌≡◌, ◌∙◌, ℕ, Bool, false, List, [], Vec, Global, Option, IfSome, IfNone, length, replicate, refl, sym, ap, subst, arith}
 use Rattle.pls_boruvka.specs.declared.joining.Chosen.{Chosen}
 use Rattle.pls_boruvka.specs.declared.level.Level.{Level}
 use Rattle.pls_boruvka.specs.inner.Choices.{AreChoices}
-use Rattle.pls_boruvka.specs.inner.Chosen.{AddLevel, AreChildrenWithin, AreChosen, JoinChildren, SomeApart, SomeUnpointed}
+use Rattle.pls_boruvka.specs.inner.Chosen.{AddLevel, AreChosen, SomeUnpointed}
 use Rattle.pls_boruvka.specs.inner.Tops.{AreParents, AreTops, HasDepths}
 use Rattle.pls_boruvka.proofs.Begun.{AreLevelLists-begun, IsBegun, IsBegun-more, IsBegun-none, IsLightest-begun, children_begun, few_begun, fewer_unjoined, lighter_begun, tops_within}
 use Rattle.pls_boruvka.proofs.ChainLengths.{Falls-chains, depth_few}
@@ -120,12 +114,14 @@ join-requires c =
     (sym c.as_slice-all.ensures.value)
     (subst (λ (found : Option (Vec Chosen Global)). IfSome found
     (λ all. AreChosen rows tops choices all.items)) c.in-Some.is c.in_ok-all.ensures.chosen) in
-    record { within = children_begun rows c.len.ensures.valid c.requires.tree parents flags tops
-    (subst (AreParents rows) (sym c.as_slice-parents.ensures.value) c.in_ok-parents.ensures)
-    (subst (AreTops parents flags) (sym c.as_slice-tops.ensures.value) c.in_ok-tops.ensures)
-    (c.if-are_one.ensures.apart refl) choices
-    (subst (AreChoices rows tops (length rows)) (sym c.as_slice.ensures.value)
-    c.in_ok-choices.ensures) c.loop-joined.lists.items c.loop-joined.invariant all chosen }
+    record {
+      within = children_begun rows c.len.ensures.valid c.requires.tree parents flags tops
+          (subst (AreParents rows) (sym c.as_slice-parents.ensures.value) c.in_ok-parents.ensures)
+          (subst (AreTops parents flags) (sym c.as_slice-tops.ensures.value) c.in_ok-tops.ensures)
+          (c.if-are_one.ensures.apart refl) choices
+          (subst (AreChoices rows tops (length rows)) (sym c.as_slice.ensures.value)
+          c.in_ok-choices.ensures) c.loop-joined.lists.items c.loop-joined.invariant all chosen;
+    }
 
 pub loop-joined-smaller : goal.loop-joined-smaller
 loop-joined-smaller c =
@@ -144,7 +140,8 @@ loop-joined-smaller c =
     (subst (AreTops parents flags) (sym c.as_slice-tops.ensures.value) c.in_ok-tops.ensures)
     (c.if-are_one.ensures.apart refl) choices
     (subst (AreChoices rows tops (length rows)) (sym c.as_slice.ensures.value)
-    c.in_ok-choices.ensures) c.loop-joined.lists.items c.loop-joined.invariant all chosen c.join.new.joined
+    c.in_ok-choices.ensures) c.loop-joined.lists.items c.loop-joined.invariant all chosen
+    c.join.new.joined
     c.join.ensures
 
 pub loop-joined-preserved : goal.loop-joined-preserved
@@ -171,5 +168,6 @@ loop-joined-preserved c =
     (subst (AreTops parents flags) (sym c.as_slice-tops.ensures.value) c.in_ok-tops.ensures)
     (c.if-are_one.ensures.apart refl) choices
     (subst (AreChoices rows tops (length rows)) (sym c.as_slice.ensures.value)
-    c.in_ok-choices.ensures) c.loop-joined.lists.items c.loop-joined.invariant all chosen c.join.new.joined
+    c.in_ok-choices.ensures) c.loop-joined.lists.items c.loop-joined.invariant all chosen
+    c.join.new.joined
     c.join.ensures new added)

@@ -1,7 +1,6 @@
-use Rattle.std.proofs.Common.{◌≡◌, ◌∙◌, ◌<◌, ◌+◌, ◌∷◌, ◌++◌, [], ℕ, List, Option, Some, get_or, length, slice_get, sym, ap, subst, arith, length-append}
-use Rattle.std.proofs.lemmas.Option.{same_Some}
+use Rattle.std.proofs.Common.{◌≡◌, ◌∙◌, ◌∷◌, [], ℕ, List, Option, Some, get_or, length, slice_get, sym, ap, subst, arith, length-append}
 use Rattle.pls_model.specs.declared.row.NodeRow.{NodeRow}
-use Rattle.pls_graph.proofs.Finds.{from_option_map, item_at}
+use Rattle.pls_graph.proofs.Finds.{from_option_map}
 use Rattle.pls_boruvka.specs.Fragments.{JoinedChainEnds}
 use Rattle.pls_boruvka.specs.inner.Tops.{Each, HasDepths, IsTop}
 use Rattle.pls_boruvka.proofs.ChainLengths.{AreChainLengths-chain_length, Falls-chains, chain_length, depth_few}
@@ -51,7 +50,7 @@ loop-top-preserved c =
     let (many, right) = c.loop-top.invariant in
     let all = c.in_ok-push.ensures.items in
     let Names : ℕ → ℕ → Type 0 = λ place name. (row : NodeRow) → slice_get rows place ≡ Some row
-        → JoinedChainEnds rows joined row.id name in
+    → JoinedChainEnds rows joined row.id name in
     let (last, there, named) : (last : NodeRow)
     × (slice_get rows (get_or c.deref-top-items.result.now place 0) ≡ Some last)
     × (last.id ≡ name) =

@@ -1,4 +1,4 @@
-use Rattle.std.proofs.Common.{◌≡◌, ℕ, List, Some, length, slice_get}
+use Rattle.std.proofs.Common.{◌≡◌, Some, length, slice_get}
 use Rattle.pls_model.specs.declared.row.NodeRow.{NodeRow}
 use Rattle.pls_boruvka.specs.Fragments.{JoinedChainEnds}
 use Rattle.pls_boruvka.specs.inner.Tops.{Each}

@@ -1,4 +1,4 @@
-use Rattle.std.proofs.Common.{◌≡◌, ◌+◌, ◌∷◌, ◌++◌, [], ◌<◌, ℕ, List, Option, Some, length, arith, subst, sym, ap, length-append}
+use Rattle.std.proofs.Common.{◌∷◌, [], length, arith, subst, sym, ap, length-append}
 use Rattle.pls_boruvka.specs.inner.Tops.{Each, IsParent}
 use Rattle.pls_boruvka.proofs.Listed.{Each-push}
 use Rattle.pls_boruvka.proofs.tops.parents_of.Goals as goal

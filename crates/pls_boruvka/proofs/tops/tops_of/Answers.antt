@@ -1,4 +1,4 @@
-use Rattle.std.proofs.Common.{◌≡◌, ◌+◌, ◌∷◌, ◌++◌, [], ℕ, List, Option, length, drop, take, arith, subst, sym, ap, length-append}
+use Rattle.std.proofs.Common.{◌≡◌, ◌∷◌, [], ℕ, List, Option, length, arith, subst, sym, ap, length-append}
 use Rattle.pls_boruvka.specs.inner.Tops.{AreNotedTops, Each, IsTop}
 use Rattle.pls_boruvka.proofs.Listed.{Each-push, written_back}
 use Rattle.pls_boruvka.proofs.tops.tops_of.Goals as goal
