@@ -1,8 +1,8 @@
 -- Levels that are read off of bits, one behind the other.
-use Rattle.std.proofs.Common.{◌≡◌, ◌∙◌, ℕ, zero, suc, ◌+◌, ◌≤◌, ◌==◌, ◌&&◌, take, Bool, true, false, List, [], ◌∷◌, length, Option, Some, None, option_map, is_some, IfSome, IfNone, refl, sym, ap, arith}
+use Rattle.std.proofs.Common.{◌≡◌, ◌∙◌, ℕ, zero, suc, ◌≤◌, ◌==◌, ◌&&◌, take, Bool, true, false, List, [], ◌∷◌, length, Option, Some, None, option_map, is_some, IfSome, IfNone, refl, sym, ap, arith}
 use Rattle.std.proofs.lemmas.Option.{same_Some}
 use Rattle.std.specs.List.{list_all}
-use Rattle.std.specs.Option.{option_and_then, option_map_or}
+use Rattle.std.specs.Option.{option_and_then}
 use Rattle.std.proofs.lemmas.Bool.{eq-eqb}
 use Rattle.std.proofs.lemmas.List.{take_all}
 use Rattle.pls_boruvka.specs.declared.level.Level.{Level}

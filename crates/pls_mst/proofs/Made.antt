@@ -1,5 +1,5 @@
 -- Labels that are made of the root, the depths and the levels are right.
-use Rattle.std.proofs.Common.{◌≡◌, ◌≢◌, ◌∙◌, ℕ, ◌+◌, ◌<◌, ◌++◌, List, [], ◌∷◌, length, map, get_or, slice_get, Contains, Option, Some, None, option_map, refl, sym, ap, subst, arith, length-append}
+use Rattle.std.proofs.Common.{◌≡◌, ◌∙◌, ℕ, ◌+◌, ◌++◌, List, [], ◌∷◌, length, map, get_or, slice_get, Option, Some, option_map, refl, sym, ap, subst, arith, length-append}
 use Rattle.std.specs.Option.{option_map_or}
 use Rattle.std.proofs.lemmas.List.{get_or-map, length-map}
 use Rattle.std.proofs.lemmas.Option.{get_or_from_slice_get, slice_get-get_or, slice_get-map, slice_get_within}
@@ -10,7 +10,6 @@ use Rattle.pls_model.specs.Configuration.{IsNetwork}
 use Rattle.pls_search.specs.Depths.{AreDepths}
 use Rattle.pls_scheme.specs.Marked.{AreRight}
 use Rattle.pls_facts.specs.OnlyNode.{IsOnly, points_at_none}
-use Rattle.pls_facts.specs.Pointer.{IsChainOf, pointed_port}
 use Rattle.pls_pointer.specs.Tree.{root_says, tree_says}
 use Rattle.pls_pointer.proofs.Right.{tree_right}
 use Rattle.pls_boruvka.specs.Boruvka.{AreLevelLists}
@@ -18,7 +17,7 @@ use Rattle.pls_boruvka.specs.declared.level.Level.{Level}
 use Rattle.pls_boruvka.proofs.Listed.{Each-push}
 use Rattle.pls_mst.specs.declared.label.MstLabel.{MstLabel}
 use Rattle.pls_mst.specs.Mst.{MstSays}
-use Rattle.pls_mst.specs.inner.Making.{AreMade, IsMadeAt, label_from, parent_of}
+use Rattle.pls_mst.specs.inner.Making.{AreMade, IsMadeAt, label_from}
 
 module _ (rows : List NodeRow) (root : ℕ) (depths : List ℕ) (lists : List (List Level)) where
   -- one label more

@@ -12,7 +12,7 @@ use Rattle.pls_mst.specs.declared.comparing.Compared.{Compared}
 use Rattle.pls_mst.specs.declared.gathering.Gathered.{Gathered}
 use Rattle.pls_mst.specs.declared.label.MstHead.{MstHead}
 use Rattle.pls_mst.specs.declared.label.MstLabel.{MstLabel}
-use Rattle.pls_mst.specs.Rules.{agrees_on_root_and_levels, agrees_with, chose_least, chose_least_at, chosen_edges_are_least, edge_to, follows_target, is_chosen_between, is_named_or_shared, is_pointer, on_each_level, on_some_level, pointed_edge_is_chosen, shares_with_target}
+use Rattle.pls_mst.specs.Rules.{agrees_on_root_and_levels, agrees_with, chose_least, chose_least_at, chosen_edges_are_least, edge_to, is_chosen_between, is_named_or_shared, is_pointer, on_each_level, on_some_level}
 use Rattle.pls_mst.specs.Labels.{levels_in}
 use Rattle.pls_mst.specs.inner.Comparing.{compared, edge_between}
 use Rattle.pls_mst.specs.inner.Gathering.{between, gathered, gathered_more}

@@ -121,11 +121,8 @@ fn comes_no_later(mine: &Level, between: &Between) -> bool
         (edge_key (edge_between between.now) between.now.outside) }
 {
     let ends = is_less_or(mine.a, between.a, is_less_or(mine.b, between.b, true));
-    is_less_or(
-        mine.weight,
-        between.weight,
-        is_less_or(0, between.outside, ends),
-    )
+    let tie = is_less_or(0, between.outside, ends);
+    is_less_or(mine.weight, between.weight, tie)
 }
 
 // Whether one number is less than another, or the same and what follows holds.

@@ -1,6 +1,6 @@
 -- What a node gathers of its ports.
 use Rattle.std.specs.Prelude.{ℕ, ◌+◌, ◌==◌, min, max, Bool, ◌&&◌, ◌||◌, if◌then◌else◌}
-use Rattle.pls_scheme.specs.Reading.{Read, ReadPort}
+use Rattle.pls_scheme.specs.Reading.{Read}
 use Rattle.pls_mst.specs.declared.comparing.Between.{Between}
 use Rattle.pls_mst.specs.declared.comparing.Compared.{Compared}
 use Rattle.pls_mst.specs.declared.gathering.Gathered.{Gathered}

@@ -1,5 +1,5 @@
 -- Labels that are made of what was found.
-use Rattle.std.specs.Prelude.{◌≡◌, ℕ, ◌<◌, List, [], length, get_or, slice_get, Some, IfSome}
+use Rattle.std.specs.Prelude.{◌≡◌, ℕ, List, [], length, get_or, slice_get, Some}
 use Rattle.std.specs.Option.{option_map_or}
 use Rattle.pls_model.specs.declared.row.NodeRow.{NodeRow}
 use Rattle.pls_facts.specs.Pointer.{pointed_port}

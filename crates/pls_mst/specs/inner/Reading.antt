@@ -1,5 +1,5 @@
 -- Levels that are read off of bits, one behind the other.
-use Rattle.std.specs.Prelude.{ℕ, zero, suc, Bool, List, [], ◌∷◌, length, Option, option_map}
+use Rattle.std.specs.Prelude.{ℕ, zero, suc, Bool, List, [], ◌∷◌, length, Option}
 use Rattle.std.specs.Option.{option_map_or}
 use Rattle.pls_boruvka.specs.declared.level.Level.{Level}
 use Rattle.pls_mst.specs.declared.label.MstHead.{MstHead}

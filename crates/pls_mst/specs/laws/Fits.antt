@@ -1,9 +1,8 @@
 -- Marked labels of `mst` can be written, and are short.
-use Rattle.std.proofs.Common.{◌≡◌, ◌∙◌, ℕ, zero, suc, ◌+◌, ◌-◌, ◌*◌, ◌^◌, ◌<◌, ◌≤◌, inl, inr, nat_lt, Bool, true, List, [], ◌∷◌, ◌++◌, length, map, Contains, refl, sym, ap, subst, arith, mul-le-mul_right}
+use Rattle.std.proofs.Common.{◌≡◌, ℕ, zero, suc, ◌+◌, ◌-◌, ◌*◌, ◌^◌, ◌<◌, ◌≤◌, inl, inr, nat_lt, Bool, true, List, [], ◌∷◌, ◌++◌, length, map, Contains, refl, sym, ap, subst, arith, mul-le-mul_right}
 use Rattle.std.specs.List.{filter, flat_map}
 use Rattle.std.proofs.Math.Pow.{pow_mono}
 use Rattle.std.proofs.lemmas.Bool.{cases_lt, ltb-true}
-use Rattle.std.proofs.lemmas.List.{length-map}
 use Rattle.std.proofs.lemmas.List.Concat.{flat_map-cons}
 use Rattle.std.proofs.lemmas.List.Elements.{All-cons, All-nil}
 use Rattle.pls_bits.specs.Gamma.{floor_log}
@@ -21,9 +20,8 @@ use Rattle.pls_scheme.specs.Marked.{Fits, answered}
 use Rattle.pls_scheme.specs.Numbers.{AreCoded, AreCodesOf}
 use Rattle.pls_scheme.specs.Theorem.{AreWords}
 use Rattle.pls_scheme.proofs.Fitting.{AreWithin, within_fits}
-use Rattle.pls_facts.specs.Lightest.{IsGraph}
 use Rattle.pls_facts.proofs.PortEdges.{IsGraph-network}
-use Rattle.pls_boruvka.specs.Boruvka.{AreLevelsFrom, IsLevelOf, chosen_edge, chosen_edges}
+use Rattle.pls_boruvka.specs.Boruvka.{AreLevelsFrom, chosen_edge, chosen_edges}
 use Rattle.pls_boruvka.specs.declared.level.Level.{Level}
 use Rattle.pls_mst.specs.declared.label.MstLabel.{MstLabel}
 use Rattle.pls_mst.specs.Labels.{AreOrdered, IsMstLabel, IsMstWritable, numbers_of_level, numbers_of_mst}

@@ -1,24 +1,20 @@
 -- The rules of `mst` as tests, and what they say level by level.
-use Rattle.std.proofs.Common.{◌≡◌, ◌≢◌, ◌∙◌, ℕ, ◌+◌, ◌<◌, ◌==◌, ◌⊎◌, inl, inr, Bool, true, false, not, ◌&&◌, ◌||◌, if◌then◌else◌, List, length, get_or, map, slice_get, Contains, Option, Some, None, is_some, refl, sym, ap, subst, arith}
-use Rattle.std.specs.List.{enumerate_from, list_all}
+use Rattle.std.proofs.Common.{◌≡◌, ◌∙◌, ℕ, ◌+◌, ◌<◌, ◌==◌, ◌⊎◌, inl, inr, Bool, true, not, ◌&&◌, ◌||◌, List, length, map, slice_get, Contains, Option, Some, None, is_some, refl, sym, ap}
 use Rattle.std.specs.Option.{option_and_then, option_map, option_map_or}
 use Rattle.std.proofs.lemmas.Bool.{and_parts, cond-false, cond-true, eq-eqb, eqb-true, eqb-false, ne_eqb, not-true, or_cases}
 use Rattle.std.proofs.lemmas.List.Sums.{AllPass-from_list_all}
-use Rattle.std.proofs.lemmas.Option.{option_and_then_some, slice_get-map}
+use Rattle.std.proofs.lemmas.Option.{slice_get-map}
 use Rattle.pls_model.specs.declared.row.Port.{Port}
 use Rattle.pls_model.specs.declared.row.NodeRow.{NodeRow}
 use Rattle.pls_model.specs.Configuration.{IsNetwork}
-use Rattle.pls_model.specs.Walk.{Edge}
 use Rattle.pls_graph.proofs.Members.{Contains-from_place, place_from_Contains}
 use Rattle.pls_scheme.specs.Judging.{AllHold}
 use Rattle.pls_scheme.specs.Reading.{ReadPort, port_where, read_where, target}
 use Rattle.pls_scheme.proofs.SaidPorts.{passes_port}
 use Rattle.pls_facts.specs.EdgeOrder.{edge_key, is_same_edge}
 use Rattle.pls_facts.specs.Pointer.{next, pointed_port}
-use Rattle.pls_facts.specs.Precedes.{IsAtMost}
 use Rattle.pls_facts.proofs.EdgeKeys.{same-is_same_edge}
 use Rattle.pls_facts.proofs.Pointed.{pointed_port_of}
-use Rattle.pls_boruvka.specs.Boruvka.{chosen_edge}
 use Rattle.pls_boruvka.specs.declared.level.Level.{Level}
 use Rattle.pls_mst.specs.declared.label.MstLabel.{MstLabel}
 use Rattle.pls_mst.specs.Rules.{agrees_with, chose_least, chose_least_at, edge_to, follows_target, is_at_most, is_chosen_between, is_named_or_shared, is_one_fragment, is_root_of_tree, mst_rules, names_all_fragments, on_each_level, on_some_level, shares_with_target}

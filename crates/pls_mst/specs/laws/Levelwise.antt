@@ -1,8 +1,8 @@
 -- Tests of two lists side by side, of numbered items, and of lists in the order of words.
-use Rattle.std.proofs.Common.{◌≡◌, ◌∙◌, ℕ, zero, suc, ◌+◌, ◌<◌, ◌==◌, nat_lt, ◌⊎◌, inl, inr, Bool, true, false, ◌&&◌, ◌||◌, List, [], ◌∷◌, length, get_or, slice_get, Some, refl, sym, ap, subst, arith}
+use Rattle.std.proofs.Common.{◌≡◌, ℕ, zero, suc, ◌+◌, ◌<◌, ◌==◌, nat_lt, inl, inr, Bool, true, ◌&&◌, List, [], ◌∷◌, length, get_or, slice_get, Some, refl, subst, arith}
 use Rattle.std.specs.List.{enumerate_from, list_all, list_any, zip}
 use Rattle.std.proofs.lemmas.Bool.{and_from, and_parts, eq-eqb, eqb-true, lt-ltb, ltb-true, or_cases, or_left, or_right}
-use Rattle.pls_facts.specs.Precedes.{IsAtMost, Precedes}
+use Rattle.pls_facts.specs.Precedes.{IsAtMost}
 use Rattle.pls_mst.specs.Rules.{is_at_most}
 
 module _ {X : Type 0} (test : X → X → Bool) where

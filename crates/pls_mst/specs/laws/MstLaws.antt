@@ -21,9 +21,8 @@ use Rattle.pls_facts.specs.SpanningTree.{pointed_edges}
 use Rattle.pls_facts.proofs.Bounded.{IsChainOf-short}
 use Rattle.pls_facts.proofs.ChainDepths.{chain_of_root, chains_fall}
 use Rattle.pls_facts.proofs.Chains.{IsChainOf-one}
-use Rattle.pls_facts.proofs.EdgeKeys.{ComesBefore-order}
 use Rattle.pls_facts.proofs.Neighbours.{id_within, neighbour_row}
-use Rattle.pls_facts.proofs.Pointed.{id_of_row, row_from_id}
+use Rattle.pls_facts.proofs.Pointed.{id_of_row}
 use Rattle.pls_facts.proofs.PortEdges.{IsGraph-network}
 use Rattle.pls_facts.proofs.Roots.{a_root, one_root_of}
 use Rattle.pls_boruvka.specs.Boruvka.{AreChainLengths, AreLevelLists, AreLevels}
@@ -40,15 +39,15 @@ use Rattle.pls_mst.specs.laws.Kept.{kept_rules}
 use Rattle.pls_mst.specs.laws.LabelLaws.{one_mst_spelling}
 use Rattle.pls_mst.specs.laws.LevelRules.{AreSaid, KeepsRules-levels}
 use Rattle.pls_mst.specs.laws.Passed.{rules_pass}
-use Rattle.pls_mst.specs.laws.Sound.{IsLightest-fragments, IsTree-fragments}
+use Rattle.pls_mst.specs.laws.Sound.{no_tree_is_lighter, pointers_make_a_tree}
 use Rattle.pls_mst.specs.laws.TreeEdges.{pointed_has}
 
 -- where the rules hold everywhere in a connected network, the pointers make a spanning tree, and
 -- none weighs less
 pub mst_show : RulesShow mst_rules IsMinimumSpanningTree
 mst_show rows net joined say hold = record {
-  tree = IsTree-fragments rows net joined say keeps;
-  lightest = IsLightest-fragments rows net joined say keeps;
+  tree = pointers_make_a_tree rows net joined say keeps;
+  lightest = no_tree_is_lighter rows net joined say keeps;
 }
   where
     keeps : (row : NodeRow) → Contains rows row → KeepsRules say row

@@ -1,6 +1,6 @@
 -- Whether the edge at a port is one that nodes point along, as the node tells it by its own pointer
 -- and by what the neighbour says of its parent.
-use Rattle.std.proofs.Common.{◌≡◌, ◌∙◌, ℕ, ◌==◌, inl, inr, Bool, true, false, ◌||◌, List, Option, Some, None, position, refl, sym, ap, subst, arith, slice_get, option_map, Contains}
+use Rattle.std.proofs.Common.{◌≡◌, ◌∙◌, ℕ, ◌==◌, inl, inr, Bool, true, ◌||◌, List, Option, Some, None, position, refl, sym, ap, subst, arith, slice_get, option_map, Contains}
 use Rattle.std.specs.Option.{option_and_then}
 use Rattle.std.proofs.lemmas.Bool.{cases_Bool, cond-true, cond-false, eq-eqb, eqb-true, or_cases, or_left, or_right}
 use Rattle.std.proofs.lemmas.Option.{option_and_then_some, same_Some}

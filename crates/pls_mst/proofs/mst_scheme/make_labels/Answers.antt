@@ -1,7 +1,6 @@
 use Rattle.std.proofs.Common.{◌≡◌, ◌∙◌, ◌∷◌, ◌+◌, ◌++◌, [], List, length, sym, ap, subst, arith, append_assoc, length-append}
 use Rattle.std.specs.Vec.Iter.{into_iter_items}
 use Rattle.pls_boruvka.specs.declared.level.Level.{Level}
-use Rattle.pls_mst.specs.declared.label.MstLabel.{MstLabel}
 use Rattle.pls_mst.specs.inner.Making.{AreMade}
 use Rattle.pls_mst.proofs.Made.{made_more}
 use Rattle.pls_mst.proofs.mst_scheme.make_labels.Goals as goal

@@ -1,4 +1,4 @@
-use Rattle.std.proofs.Common.{◌≡◌, ◌∙◌, ◌+◌, ◌-◌, ℕ, suc, is_some, not, sym, ap, arith}
+use Rattle.std.proofs.Common.{◌≡◌, ◌∙◌, ◌+◌, ◌-◌, ℕ, suc, is_some, not, ap, arith}
 use Rattle.pls_mst.specs.Labels.{levels_in}
 use Rattle.pls_mst.proofs.Levels.{left_by_level}
 use Rattle.pls_mst.proofs.reading.are_levels.Goals as goal

@@ -1,5 +1,5 @@
-use Rattle.std.proofs.Common.{◌≡◌, ◌∙◌, sym, ap, Some, is_some, true}
-use Rattle.pls_mst.specs.Labels.{head_off, levels_in}
+use Rattle.std.proofs.Common.{◌∙◌, sym, ap}
+use Rattle.pls_mst.specs.Labels.{head_off}
 use Rattle.pls_mst.proofs.Levels.{head_there}
 use Rattle.pls_mst.proofs.reading.head_in.Goals as goal
 

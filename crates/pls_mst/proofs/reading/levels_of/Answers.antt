@@ -1,4 +1,4 @@
-use Rattle.std.proofs.Common.{◌≡◌, ◌∙◌, sym, ap, subst, length, List, Bool, Some}
+use Rattle.std.proofs.Common.{◌≡◌, ◌∙◌, ap, subst, length, List, Bool, Some}
 use Rattle.pls_mst.specs.Labels.{head_off, levels_in}
 use Rattle.pls_mst.proofs.Levels.{left_by_head, levels_of_label}
 use Rattle.pls_mst.proofs.reading.levels_of.Goals as goal

@@ -1,4 +1,4 @@
-use Rattle.std.proofs.Common.{◌≡◌, ◌∙◌, ◌==◌, ℕ, List, sym, ap}
+use Rattle.std.proofs.Common.{◌∙◌, ◌==◌, ℕ, sym, ap}
 use Rattle.std.specs.List.{list_all}
 use Rattle.pls_boruvka.specs.declared.level.Level.{Level}
 use Rattle.pls_mst.proofs.Levels.{levels_off-all}

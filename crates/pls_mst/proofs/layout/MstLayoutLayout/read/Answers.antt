@@ -1,4 +1,4 @@
-use Rattle.std.proofs.Common.{◌≡◌, ◌∙◌, Some, length, ap, sym, ℕ, List}
+use Rattle.std.proofs.Common.{◌≡◌, ◌∙◌, Some, length, ap, sym, List}
 use Rattle.pls_boruvka.specs.declared.level.Level.{Level}
 use Rattle.pls_mst.specs.declared.label.MstHead.{MstHead}
 use Rattle.pls_mst.specs.Labels.{label_with}

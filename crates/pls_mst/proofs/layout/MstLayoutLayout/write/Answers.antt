@@ -1,10 +1,11 @@
-use Rattle.std.proofs.Common.{◌≡◌, ◌∙◌, ◌∷◌, ◌++◌, ◌+◌, [], Bool, List, ℕ, get_or, length, subst, sym, take, ap}
+use Rattle.std.proofs.Common.{◌∙◌, ◌∷◌, ◌++◌, ◌+◌, [], Bool, List, ℕ, get_or, length, subst, sym, take, ap}
 use Rattle.std.specs.List.{flat_map}
 use Rattle.pls_scheme.specs.Numbers.{AreCoded, codes_of}
 use Rattle.pls_boruvka.specs.declared.level.Level.{Level}
 use Rattle.pls_mst.specs.declared.label.MstLabel.{MstLabel}
 use Rattle.pls_mst.specs.Labels.{numbers_of_level}
-use Rattle.pls_mst.proofs.Written.{codes_of-level, coded_front, coded_level}
+use Rattle.pls_mst.specs.laws.NumberLaws.{coded_front}
+use Rattle.pls_mst.proofs.Written.{codes_of-level, coded_level}
 use Rattle.pls_mst.proofs.layout.MstLayoutLayout.write.Goals as goal
 
 -- the numbers in front of the levels

@@ -1,4 +1,4 @@
-use Rattle.std.proofs.Common.{◌≡◌, ◌∙◌, Some, option_map, ap, sym}
+use Rattle.std.proofs.Common.{◌≡◌, ◌∙◌, Some, option_map, ap}
 use Rattle.pls_view.specs.Seen.{Seen}
 use Rattle.pls_mst.specs.Labels.{mst_label}
 use Rattle.pls_mst.specs.inner.Reading.{head_said}
