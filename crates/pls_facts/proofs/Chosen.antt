@@ -1,5 +1,5 @@
--- A spanning tree of least weight has heavy edges outside alone, and contains each edge that is
--- first to leave a set of nodes where tree edges come before others that are no lighter.
+-- What holds of each spanning tree of least weight: the two rules are met, and an edge that is first
+-- to leave a set of nodes is one of its edges, where of equal weights tree edges come first.
 use Rattle.std.proofs.Common.{ℕ, ◌<◌, ◌≤◌, inl, inr, Bool, List, set, ap, subst, arith, Contains, remove}
 use Rattle.std.proofs.lemmas.List.Sums.{sum_by-set}
 use Rattle.std.proofs.lemmas.Bool.{cases_lt}
@@ -15,7 +15,7 @@ use Rattle.pls_facts.proofs.Exchanges.{AreJoined-removed, IsSpanningTree-set}
 use Rattle.pls_facts.proofs.Paths.{AreJoined-each, crossing}
 
 module _ (edges tree : List Edge) (nodes : List ℕ) (spans : IsSpanningTree edges tree nodes) where
-  -- where no spanning tree is lighter, each edge outside is heavy on its path
+  -- the condition of the cycle rule is met: else an exchange would make a lighter tree
   pub OthersAreHeavy-lightest : IsLightest edges tree nodes → OthersAreHeavy edges tree
   OthersAreHeavy-lightest lightest edge along path in' outside is_path at on =
       let new : List Edge = set tree at.0 edge in
@@ -30,7 +30,7 @@ module _ (edges tree : List Edge) (nodes : List ℕ) (spans : IsSpanningTree edg
       )
 
   module _ (graph : IsGraph edges nodes) where
-    -- edges of the tree that join all nodes are all of its edges
+    -- a tree has no edge to spare: some of its edges that join all nodes are all
     pub Contains-joining : (part : List Edge)
         → ((edge : Edge) → Contains part edge → Contains tree edge) → JoinAll part nodes
         → (edge : Edge) → Contains tree edge → Contains part edge
@@ -53,11 +53,11 @@ module _ (edges tree : List Edge) (nodes : List ℕ) (spans : IsSpanningTree edg
               | inr stays ↦ stays
             ]
 
-    -- an order in which tree edges come before others that are no lighter
+    -- in an order that puts a tree edge before each other edge that is no lighter
     module _ (Before : Edge → Edge → Type 0) (order : IsEdgeOrder Before)
         (tree_first : (one other : Edge) → Contains tree one → (Contains tree other → ⊥)
         → one.weight ≤ other.weight → Before one other) where
-      -- where the first edge that leaves a set is outside the tree, a spanning tree is lighter
+      -- an edge outside the tree that is first to leave a set gives a lighter spanning tree
       pub lighter_tree : (inside : ℕ → Bool) (edge : Edge) → Contains edges edge
           → IsFirstLeaving edges Before inside edge → (Contains tree edge → ⊥)
           → (other : List Edge) × IsSpanningTree edges other nodes
@@ -86,7 +86,7 @@ module _ (edges tree : List Edge) (nodes : List ℕ) (spans : IsSpanningTree edg
             ],
           )
 
-      -- so in a tree of least weight it is one of the edges
+      -- so where none is lighter, that edge is in the tree
       pub Contains-first_leaving : IsLightest edges tree nodes → (inside : ℕ → Bool) (edge : Edge)
           → Contains edges edge → IsFirstLeaving edges Before inside edge → Contains tree edge
       Contains-first_leaving lightest inside edge in' leaving =

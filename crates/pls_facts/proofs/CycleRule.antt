@@ -1,5 +1,5 @@
--- Where each edge outside a spanning tree is at least as heavy as every edge on its path in the
--- tree, no spanning tree is lighter.
+-- The cycle rule: a spanning tree is of least weight where the tree edges on the path between the ends
+-- of each other edge are no heavier than that edge.
 use Rattle.std.proofs.Common.{◌≡◌, ◌≢◌, ℕ, ◌<◌, ◌≤◌, ◌⊎◌, inl, inr, true, nat_le, List, [], ◌∷◌, set, refl, ap, subst, arith, Contains, remove}
 use Rattle.std.specs.List.{filter}
 use Rattle.std.proofs.lemmas.Bool.{cases_eq, cases_lt, leb-true, le-leb}
@@ -15,7 +15,7 @@ use Rattle.pls_facts.proofs.Distinct.{AreDistinct-first, AreDistinct-rest, Conta
 use Rattle.pls_facts.proofs.Exchanges.{IsSpanningTree-set, class-removed}
 use Rattle.pls_facts.proofs.Paths.{Walk-among, crossing, path_of}
 
--- distinct edges weigh at most as much as a list that contains them
+-- some of the edges weigh no more than all of them
 weight_of-part : (part edges : List Edge) → AreDistinct part
     → ((edge : Edge) → Contains part edge → Contains edges edge) → weight_of part ≤ weight_of edges
 weight_of-part [] edges distinct among = omega arith
@@ -32,11 +32,11 @@ weight_of-part (edge ∷ part) edges distinct among =
     let stands = ap weigh at.2 in
     omega (arith, rest, sum_by-cons weigh edge part, sum_by-remove weigh edges at.0 edge at.1)
 
--- the edges that weigh so much at most
+-- those of some edges that are no heavier
 abbrev pub no_heavier : ℕ → List Edge → List Edge
 no_heavier most edges = filter (λ edge. nat_le edge.weight most) edges
 
--- tree edges that are no heavier than an edge outside join its ends
+-- the rule without paths: each edge outside has its ends joined by tree edges that are no heavier
 abbrev pub JoinsLightly : List Edge → List Edge → Type 0
 JoinsLightly edges tree =
     (edge : Edge) → Contains edges edge → (Contains tree edge → ⊥)
@@ -44,7 +44,7 @@ JoinsLightly edges tree =
 
 module _ (edges tree : List Edge) (nodes : List ℕ) (graph : IsGraph edges nodes)
     (spans : IsSpanningTree edges tree nodes) where
-  -- two ends of an edge are the ends of a path in the tree
+  -- the path in the tree between the ends of an edge
   pub path_between : (edge : Edge) → Contains edges edge
       → (path : List ℕ) × IsPath tree edge.a path edge.b
   path_between edge in' =
@@ -63,11 +63,11 @@ module _ (edges tree : List Edge) (nodes : List ℕ) (graph : IsGraph edges node
             (le-leb along.weight edge.weight (heavy edge along path in' outside is along_in on))),
       )
 
-  -- another tree, and an edge that it lacks
+  -- an edge of the tree that another spanning tree lacks
   module _ (light : JoinsLightly edges tree) (other : List Edge)
       (also : IsSpanningTree edges other nodes) (edge : Edge) (in' : Contains tree edge)
       (lacks : Contains other edge → ⊥) where
-    -- an edge of the other can be exchanged for it, which is no lighter and not in the tree
+    -- it can take the place of an edge of the other that is no lighter and that the tree lacks
     record IsExchanged : Type 0 where
       old : Edge
       at : Contains other old
@@ -135,7 +135,7 @@ module _ (edges tree : List Edge) (nodes : List ℕ) (graph : IsGraph edges node
                   | inr stays ↦ stays
                 ]
 
-  -- edge by edge another tree is made this one, and never heavier
+  -- so the other becomes the tree edge by edge, and grows no heavier
   module _ (light : JoinsLightly edges tree) where
     lightest_from : (rest other : List Edge) → IsSpanningTree edges other nodes
         → ((edge : Edge) → Contains rest edge → Contains tree edge)
@@ -197,6 +197,6 @@ module _ (edges tree : List Edge) (nodes : List ℕ) (graph : IsGraph edges node
     IsLightest-lightly other also =
         lightest_from tree other also (λ edge in'. in') (λ edge in'. inl in')
 
-  -- the cycle rule
+  -- the rule in its usual form
   pub IsLightest-heavy : OthersAreHeavy edges tree → IsLightest edges tree nodes
   IsLightest-heavy heavy = IsLightest-lightly (JoinsLightly-heavy heavy)

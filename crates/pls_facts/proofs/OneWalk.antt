@@ -1,4 +1,4 @@
--- In a spanning tree any two nodes are the ends of exactly one path.
+-- Two nodes of a spanning tree are the ends of one path and no other.
 use Rattle.std.proofs.Common.{◌≡◌, ◌≢◌, ◌∙◌, ℕ, inl, inr, List, [], ◌∷◌, refl, sym, subst, Contains, remove}
 use Rattle.std.proofs.lemmas.Bool.{cases_eq}
 use Rattle.pls_model.specs.Walk.{Edge, Adjacent, AreJoined, Joins, Walk}
@@ -10,7 +10,7 @@ use Rattle.pls_facts.proofs.Distinct.{AreDistinct-first, Contains-remove}
 use Rattle.pls_facts.proofs.Exchanges.{AreJoined-removed, Walk-others}
 use Rattle.pls_facts.proofs.Paths.{IsAlong-ends, IsPath-rest, path_of}
 
--- the end of a walk of an edge or more is one of its nodes
+-- a walk of one edge or more ends at one of its listed nodes
 Walk-ends : (edges : List Edge) (u v x : ℕ) (nodes : List ℕ) → Walk edges u (x ∷ nodes) v
     → Contains (x ∷ nodes) v
 Walk-ends edges u v x [] walk = subst (Contains (x ∷ [])) walk.1 (Contains-first x [])
@@ -19,7 +19,8 @@ Walk-ends edges u v x (y ∷ nodes) walk =
 
 module _ (edges tree : List Edge) (nodes : List ℕ) (spans : IsSpanningTree edges tree nodes)
     (distinct : AreDistinct nodes) where
-  -- paths that part at once do not end at one node
+  -- paths between the same nodes take the same first step: else the two would join the ends of an
+  -- edge without it
   first_step : (u x y v : ℕ) (one other : List ℕ) → IsPath tree u (x ∷ one) v
       → IsPath tree u (y ∷ other) v → x ≡ y
   first_step u x y v one other path also = elim (cases_eq x y) [
@@ -65,7 +66,7 @@ module _ (edges tree : List Edge) (nodes : List ℕ) (spans : IsSpanningTree edg
               sym one.0 ∙ other.0 ∙ sym one.1 ∙ other.1
           second (inr one) (inr other) = sym one.0 ∙ other.0
 
-  -- two paths between two nodes are the same
+  -- and so all steps
   pub IsPath-one : (u v : ℕ) (one other : List ℕ) → IsPath tree u one v → IsPath tree u other v
       → one ≡ other
   IsPath-one u v [] [] path also = refl
@@ -79,7 +80,7 @@ module _ (edges tree : List Edge) (nodes : List ℕ) (spans : IsSpanningTree edg
       (subst (λ (y : ℕ). IsPath tree y other v) (sym same) (IsPath-rest tree u y v other also)) in
       rw (same, rest) refl
 
-  -- so there is exactly one
+  -- one path, and no other
   pub one_walk : (u v : ℕ) → Contains nodes u → Contains nodes v
       → (path : List ℕ) × IsPath tree u path v
       × ((other : List ℕ) → IsPath tree u other v → path ≡ other)

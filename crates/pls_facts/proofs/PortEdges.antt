@@ -1,4 +1,4 @@
--- An edge of a network stands at a port of each of its ends.
+-- Each edge of a network stands at two ports, one of each of its ends.
 use Rattle.std.proofs.Common.{◌≡◌, ◌∙◌, ℕ, ◌<◌, ◌==◌, true, nat_lt, List, Some, sym, ap, subst, arith, slice_get, length, Contains}
 use Rattle.std.specs.List.{filter}
 use Rattle.std.proofs.lemmas.Bool.{eqb-true, ltb-true}
@@ -16,7 +16,7 @@ use Rattle.pls_facts.proofs.Decided.{same_Edge}
 use Rattle.pls_facts.proofs.Pointed.{id_of_row}
 use Rattle.pls_facts.proofs.OnlyNode.{ids_ascend}
 
--- the edge is that of a port of the row of u, which names v
+-- the edge at a port of the row of u that names v
 pub record IsAtPort (rows : List NodeRow) (edge : Edge) (u v : ℕ) : Type 0 where
   pub row : NodeRow
   pub port : Port
@@ -29,7 +29,7 @@ pub record IsAtPort (rows : List NodeRow) (edge : Edge) (u v : ℕ) : Type 0 whe
   pub is : edge_at row port ≡ edge
 
 module _ (rows : List NodeRow) (net : IsNetwork rows) where
-  -- an edge is at a port of each of its ends
+  -- the two ports of an edge
   pub ports_of_edge : (edge : Edge) → Contains (edges_of rows) edge
       → IsAtPort rows edge edge.a edge.b × IsAtPort rows edge edge.b edge.a
   ports_of_edge edge in' =
@@ -92,7 +92,7 @@ module _ (rows : List NodeRow) (net : IsNetwork rows) where
                 (omega (arith, up, named, other, returns)) (sym way.weight ∙ weighs);
           }
 
-  -- a network's edges join its nodes, which differ
+  -- the identities of a network are distinct, and its edges join them
   pub IsGraph-network : IsGraph (edges_of rows) (ids_of rows)
   IsGraph-network = record {
     distinct = λ i j d before within same.

@@ -9,21 +9,10 @@ use Rattle.pls_graph.proofs.Members.{Contains-flat_map}
 use Rattle.pls_scheme.specs.Numbers.{AreCoded, codes_of}
 use Rattle.pls_boruvka.specs.declared.level.Level.{Level}
 use Rattle.pls_mst.specs.Labels.{numbers_of_level}
+use Rattle.pls_mst.specs.laws.NumberLaws.{codes_of-append, coded_rest}
 
 abbrev Small : ℕ → Type 0
 Small number = number ≤ MAX_CODED
-
--- of coded numbers the first are coded, and the last
-pub coded_front : (front others : List ℕ) → AreCoded (front ++ others) → AreCoded front
-coded_front [] others coded = All-nil Small
-coded_front (number ∷ front) others coded =
-    All-cons Small number front (All-head Small number (front ++ others) coded)
-    (coded_front front others (All-tail Small number (front ++ others) coded))
-
-coded_rest : (front others : List ℕ) → AreCoded (front ++ others) → AreCoded others
-coded_rest [] others coded = coded
-coded_rest (number ∷ front) others coded =
-    coded_rest front others (All-tail Small number (front ++ others) coded)
 
 -- the numbers of the level at a place are coded
 pub coded_level : (front : List ℕ) (levels : List Level) (i : ℕ) (d : Level) → i < length levels
@@ -38,14 +27,6 @@ coded_level front levels i d within coded =
     (Contains-flat_map numbers_of_level levels level number (Contains-get_or levels i d within)
     (Contains-get_or (numbers_of_level level) k none inside))
 
--- the codes of numbers behind others
-pub codes_of-behind : (code : ℕ → List Bool) (front others : List ℕ)
-    → codes_of code front ++ codes_of code others ≡ codes_of code (front ++ others)
-codes_of-behind code [] others = refl
-codes_of-behind code (number ∷ front) others =
-    append_assoc (code number) (codes_of code front) (codes_of code others)
-    ∙ ap (λ (bits : List Bool). code number ++ bits) (codes_of-behind code front others)
-
 -- the codes of one level more
 pub codes_of-level : (code : ℕ → List Bool) (front : List ℕ) (levels : List Level) (i : ℕ)
     (d : Level) → i < length levels
@@ -53,8 +34,8 @@ pub codes_of-level : (code : ℕ → List Bool) (front : List ℕ) (levels : Lis
     ++ codes_of code (numbers_of_level (get_or levels i d))
     ≡ codes_of code (front ++ flat_map numbers_of_level (take (i + 1) levels))
 codes_of-level code front levels i d within =
-    codes_of-behind code (front ++ flat_map numbers_of_level (take i levels))
-    (numbers_of_level (get_or levels i d))
+    sym (codes_of-append code (front ++ flat_map numbers_of_level (take i levels))
+    (numbers_of_level (get_or levels i d)))
     ∙ ap (codes_of code) (flat_map_more numbers_of_level front (take i levels) (get_or levels i d))
     ∙ ap (λ (levels : List Level). codes_of code (front ++ flat_map numbers_of_level levels))
     (sym (take_more levels i d within))

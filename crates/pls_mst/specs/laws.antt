@@ -1,3 +1,4 @@
+pub mod NumberLaws
 pub mod LabelLaws
 pub mod Fragments
 pub mod Levelwise

@@ -14,6 +14,7 @@ use Rattle.pls_boruvka.specs.declared.level.Level.{Level}
 use Rattle.pls_mst.specs.declared.label.MstHead.{MstHead}
 use Rattle.pls_mst.specs.declared.label.MstLabel.{MstLabel}
 use Rattle.pls_mst.specs.Labels.{AreOrdered, IsMstLabel, IsMstWritable, head_of, label_with, level_of, level_off, levels_in, mst_label, ordered_level, with_number, numbers_of_level, numbers_of_mst, numbers_off}
+use Rattle.pls_mst.specs.laws.NumberLaws.{codes-numbers_off, codes_of-append, coded_rest, numbers_off-codes, same_parts}
 
 -- a label that can be written has a spelling
 pub mst_spelled : (code : ℕ → List Bool) (label : MstLabel) → IsMstWritable label
@@ -64,87 +65,11 @@ module _ (takes : List Bool → Option (ℕ × List Bool)) where
       let parts = split_levels levels count bits is in
       ap length (sym parts.5) ∙ ap suc (levels_in-many count parts.1 parts.2 parts.4)
 
--- pairs that are the same have the same parts
-same_parts : {A B : Type 0} (one other : A × B) → Some one ≡ Some other
-    → (one.0 ≡ other.0) × (one.1 ≡ other.1)
-same_parts {A} {B} one other is =
-    let same : one ≡ other = same_Some one other is in
-    (ap (λ (pair : A × B). pair.0) same, ap (λ (pair : A × B). pair.1) same)
-
 -- a level and the bits behind it, where its edge is in order
 abbrev in_order : Bool → Level → List Bool → Option (Level × List Bool)
 in_order less level rest = if less then Some (level, rest) else None
 
 module _ (code : ℕ → List Bool) (takes : List Bool → Option (ℕ × List Bool)) where
-  -- the first of some codes are read to their numbers, and the others are left
-  numbers_off-codes : TakesCodes code takes → (front others : List ℕ) → AreCoded (front ++ others)
-      → numbers_off takes (length front) (codes_of code (front ++ others))
-      ≡ Some (front, codes_of code others)
-  numbers_off-codes taken [] others coded = refl
-  numbers_off-codes taken (number ∷ front) others coded =
-      let Small : ℕ → Type 0 = λ number. number ≤ MAX_CODED in
-      rw (
-        taken number (codes_of code (front ++ others))
-            (All-head Small number (front ++ others) coded),
-        numbers_off-codes taken front others (All-tail Small number (front ++ others) coded),
-      ) refl
-
-  -- what is read are numbers whose codes stand in front
-  codes-numbers_off : TakesOnly code takes → (count : ℕ) (bits : List Bool) (numbers : List ℕ)
-      (rest : List Bool) → numbers_off takes count bits ≡ Some (numbers, rest)
-      → (length numbers ≡ count) × AreCoded numbers × (bits ≡ codes_of code numbers ++ rest)
-  codes-numbers_off only zero bits numbers rest is =
-      let (none, all) : ([] ≡ numbers) × (bits ≡ rest) =
-      same_parts ([], bits) (numbers, rest) is in
-      rw (sym none, all) (refl, All-nil (λ number. number ≤ MAX_CODED), refl)
-  codes-numbers_off only (suc count) bits numbers rest is =
-      by (takes bits) refl is (codes-numbers_off only count)
-    where
-      onward : (number : ℕ) (behind : List Bool) → takes bits ≡ Some (number, behind)
-          → (more : Option (List ℕ × List Bool)) → numbers_off takes count behind ≡ more
-          → option_map (with_number number) more ≡ Some (numbers, rest)
-          → ((bits : List Bool) (numbers : List ℕ) (rest : List Bool)
-          → numbers_off takes count bits ≡ Some (numbers, rest)
-          → (length numbers ≡ count) × AreCoded numbers × (bits ≡ codes_of code numbers ++ rest))
-          → (length numbers ≡ suc count) × AreCoded numbers × (bits ≡ codes_of code numbers ++ rest)
-      onward number behind first None read is shorter = absurd (cc)
-      onward number behind first (Some more) read is shorter =
-          let (all, left) : (number ∷ more.0 ≡ numbers) × (more.1 ≡ rest) =
-          same_parts (with_number number more) (numbers, rest) is in
-          let here = only bits number behind first in
-          let others = shorter behind more.0 more.1 read in
-          rw (sym all, sym left) (
-            ap suc others.0,
-            All-cons (λ number. number ≤ MAX_CODED) number more.0 here.0 others.1,
-            here.1 ∙ ap (λ (tail : List Bool). code number ++ tail) others.2
-                ∙ sym (append_assoc (code number) (codes_of code more.0) more.1),
-          )
-
-      by : (first : Option (ℕ × List Bool)) → takes bits ≡ first
-          → option_and_then (λ (first : ℕ × List Bool). option_map (with_number first.0)
-          (numbers_off takes count first.1)) first ≡ Some (numbers, rest)
-          → ((bits : List Bool) (numbers : List ℕ) (rest : List Bool)
-          → numbers_off takes count bits ≡ Some (numbers, rest)
-          → (length numbers ≡ count) × AreCoded numbers × (bits ≡ codes_of code numbers ++ rest))
-          → (length numbers ≡ suc count) × AreCoded numbers × (bits ≡ codes_of code numbers ++ rest)
-      by None first is shorter = absurd (cc)
-      by (Some found) first is shorter =
-          onward found.0 found.1 first (numbers_off takes count found.1) refl is shorter
-
-  -- the codes of two lists, one behind the other
-  codes_of-append : (one other : List ℕ)
-      → codes_of code (one ++ other) ≡ codes_of code one ++ codes_of code other
-  codes_of-append [] other = refl
-  codes_of-append (number ∷ one) other =
-      ap (λ (bits : List Bool). code number ++ bits) (codes_of-append one other)
-      ∙ sym (append_assoc (code number) (codes_of code one) (codes_of code other))
-
-  -- of coded numbers the last are coded
-  coded_rest : (front others : List ℕ) → AreCoded (front ++ others) → AreCoded others
-  coded_rest [] others coded = coded
-  coded_rest (number ∷ front) others coded = coded_rest front others
-      (All-tail (λ number. number ≤ MAX_CODED) number (front ++ others) coded)
-
   -- the levels of a list are read off their codes
   levels_in-codes : TakesCodes code takes → (levels : List Level)
       → AreCoded (flat_map numbers_of_level levels) → AreOrdered levels
@@ -158,7 +83,7 @@ module _ (code : ℕ → List Bool) (takes : List Bool → Option (ℕ × List B
       let first : level_off takes (codes_of code (numbers_of_level level ++ more))
       ≡ Some (level, codes_of code more) =
       ap (option_and_then ordered_level)
-      (numbers_off-codes taken (numbers_of_level level) more both)
+      (numbers_off-codes code takes taken (numbers_of_level level) more both)
       ∙ ap (λ (less : Bool). in_order less level (codes_of code more))
       (lt-ltb level.a level.b (All-head (λ (level : Level). level.a < level.b) level levels ordered)) in
       let rest = levels_in-codes taken levels (coded_rest (numbers_of_level level) more both)
@@ -189,7 +114,7 @@ module _ (code : ℕ → List Bool) (takes : List Bool → Option (ℕ × List B
       onward numbers behind read true less is =
           let (same, left) : (level_of numbers ≡ level) × (behind ≡ rest) =
           same_parts (level_of numbers, behind) (level, rest) is in
-          let codes = codes-numbers_off only 4 bits numbers behind read in
+          let codes = codes-numbers_off code takes only 4 bits numbers behind read in
           let four : numbers_of_level (level_of numbers) ≡ numbers =
           at_places-all numbers 4 codes.0 in
           subst (IsInFront bits level) left
@@ -233,7 +158,7 @@ module _ (code : ℕ → List Bool) (takes : List Bool → Option (ℕ × List B
         subst AreCoded (sym all) (All-append (λ number. number ≤ MAX_CODED)
             (numbers_of_level parts.0) more here.1 rest.1),
         here.2 ∙ ap (λ (bits : List Bool). codes_of code (numbers_of_level parts.0) ++ bits) rest.2
-            ∙ sym (codes_of-append (numbers_of_level parts.0) more)
+            ∙ sym (codes_of-append code (numbers_of_level parts.0) more)
             ∙ ap (codes_of code) (sym all),
       )
 
@@ -246,7 +171,7 @@ module _ (code : ℕ → List Bool) (takes : List Bool → Option (ℕ × List B
       let front : List ℕ = label.root ∷ label.own ∷ label.parent ∷ label.depth ∷ length levels ∷ [] in
       let coded : AreCoded (front ++ more) = spelled.codes.coded in
       let head : numbers_off takes 5 (codes_of code (front ++ more))
-      ≡ Some (front, codes_of code more) = numbers_off-codes taken front more coded in
+      ≡ Some (front, codes_of code more) = numbers_off-codes code takes taken front more coded in
       let rest : levels_in takes (length levels) (codes_of code more) ≡ Some levels =
       levels_in-codes taken levels (coded_rest front more coded) spelled.ordered in
       ap (mst_label takes) spelled.codes.written
@@ -273,7 +198,7 @@ module _ (code : ℕ → List Bool) (takes : List Bool → Option (ℕ × List B
       onward numbers behind read None rest is = absurd (cc)
       onward numbers behind read (Some levels) rest is =
           let same : label_with (head_of numbers) levels ≡ label = cc in
-          let codes = codes-numbers_off only 5 bits numbers behind read in
+          let codes = codes-numbers_off code takes only 5 bits numbers behind read in
           let more = codes-levels_in only (get_or numbers 4 0) behind levels rest in
           let five : get_or numbers 0 0 ∷ get_or numbers 1 0 ∷ get_or numbers 2 0
           ∷ get_or numbers 3 0 ∷ get_or numbers 4 0 ∷ [] ≡ numbers =
@@ -290,7 +215,7 @@ module _ (code : ℕ → List Bool) (takes : List Bool → Option (ℕ × List B
               coded = subst AreCoded (sym all) (All-append (λ number. number ≤ MAX_CODED) numbers
                   (flat_map numbers_of_level levels) codes.1 more.1);
               written = codes.2 ∙ ap (λ (bits : List Bool). codes_of code numbers ++ bits) more.2
-                  ∙ sym (codes_of-append numbers (flat_map numbers_of_level levels))
+                  ∙ sym (codes_of-append code numbers (flat_map numbers_of_level levels))
                   ∙ ap (codes_of code) (sym all);
             };
             ordered = more.0;

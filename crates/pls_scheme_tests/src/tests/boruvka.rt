@@ -52,6 +52,14 @@ fn levels_of(alloc: Global, net: &Network) -> Result<String, Fail> {
     }
 }
 
+// The names of the fragments of a network whose pointers do not return.
+fn names_of(alloc: Global, net: &Network, joined: &[bool]) -> Result<Vec<u32>, Fail> {
+    if pointer_depths(alloc, net)?.is_none() || joined.len() != net.len() {
+        return Err(Fail::from("a circle, or other nodes"));
+    }
+    Ok(fragments(alloc, net, joined)?)
+}
+
 #[test]
 fn levels_of_small_trees(rt: HostRuntime) -> Result<(), Fail> {
     let cases = [
@@ -81,12 +89,8 @@ fn fragments_are_named_by_the_ends_of_chains(rt: HostRuntime) -> Result<(), Fail
         ("the last", [false, false, true, true], [1, 2, 2, 2]),
     ];
     for (name, joined, due) in cases {
-        if pointer_depths(rt.alloc(), &net)?.is_some() && net.len() == joined.len() {
-            let names = fragments(rt.alloc(), &net, joined.as_slice())?;
-            assert_eq!(rt; names.as_slice(), due.as_slice(), "{name}");
-        } else {
-            return Err(Fail::from("other"));
-        }
+        let names = names_of(rt.alloc(), &net, &joined)?;
+        assert_eq!(rt; names.as_slice(), due.as_slice(), "{name}");
     }
     Ok(())
 }

@@ -4,7 +4,8 @@ use Rattle.pls_scheme.specs.Numbers.{AreCoded, codes_of}
 use Rattle.pls_boruvka.specs.declared.level.Level.{Level}
 use Rattle.pls_mst.specs.declared.label.MstLabel.{MstLabel}
 use Rattle.pls_mst.specs.Labels.{numbers_of_level}
-use Rattle.pls_mst.proofs.Written.{codes_of-level, coded_front, coded_level}
+use Rattle.pls_mst.specs.laws.NumberLaws.{coded_front}
+use Rattle.pls_mst.proofs.Written.{codes_of-level, coded_level}
 use Rattle.pls_mst.proofs.layout.MstLayoutLayout.write.Goals as goal
 
 -- the numbers in front of the levels
