@@ -56,10 +56,7 @@ fn marks_as<S: Scheme>(
 #[test]
 fn a_conjunction_is_marked(rt: HostRuntime) -> Result<(), Fail> {
     let both = Both::<Bipartite, Acyclic<Gamma>, Gamma>::new(Bipartite::new(), Acyclic::new());
-    assert!(rt;
-        marks_as(rt.alloc(), &both, ["48", "54"], 7)?,
-        "as by hand"
-    );
+    assert!(rt; marks_as(rt.alloc(), &both, ["48", "54"], 7)?, "as by hand");
     Ok(())
 }
 
@@ -75,12 +72,7 @@ fn a_disjunction_of_a_conjunction_is_marked(rt: HostRuntime) -> Result<(), Fail>
 }
 
 // Whether the expression marks two nodes with these labels, within this bound.
-fn text_marks_as(
-    alloc: Global,
-    text: &str,
-    texts: [&str; 2],
-    bound: u64,
-) -> Result<bool, Fail> {
+fn text_marks_as(alloc: Global, text: &str, texts: [&str; 2], bound: u64) -> Result<bool, Fail> {
     match read_scheme::<Gamma>(alloc, text) {
         Ok(scheme) => marks_as(alloc, &scheme, texts, bound),
         Err(_) => Err(Fail::from("not read")),
@@ -121,14 +113,20 @@ fn texts_are_read_and_printed_or_refused(rt: HostRuntime) -> Result<(), Fail> {
         ("leader", None),
         ("spt", None),
         (deep, None),
-        ("and(and(and(tree,tree),and(tree,tree)),and(and(tree,tree),and(tree,tree)))", None),
+        (
+            "and(and(and(tree,tree),and(tree,tree)),and(and(tree,tree),and(tree,tree)))",
+            None,
+        ),
         ("", Some(SchemeError::NotAScheme)),
         ("trees", Some(SchemeError::NotAScheme)),
         ("and(tree,)", Some(SchemeError::NotAScheme)),
         ("and(tree,tree", Some(SchemeError::NotAScheme)),
         ("and(tree, tree)", Some(SchemeError::NotAScheme)),
         ("map(tree)", Some(SchemeError::NotAScheme)),
-        ("and(and(and(and(and(and(and(and(", Some(SchemeError::TooDeep)),
+        (
+            "and(and(and(and(and(and(and(and(",
+            Some(SchemeError::TooDeep),
+        ),
         ("))))))))((((((((", Some(SchemeError::TooDeep)),
         ("()()()()()()()()", Some(SchemeError::NotAScheme)),
         (
@@ -174,7 +172,10 @@ fn rejections_name_the_leaf(rt: HostRuntime) -> Result<(), Fail> {
     ];
     for (labels, leaf, rule) in cases {
         let verdict = first_verdict(rt.alloc(), text, labels)?;
-        assert!(rt; verdict == Verdict::Reject { leaf, rule }, "leaf {leaf}, rule {rule}");
+        assert!(rt;
+            verdict == Verdict::Reject { leaf, rule },
+            "leaf {leaf}, rule {rule}"
+        );
     }
     Ok(())
 }
