@@ -1,6 +1,6 @@
 -- The nodes from 1 on, without ports, are a network.
-use Rattle.std.proofs.Common.{◌≡◌, ◌∙◌, ℕ, zero, suc, ◌+◌, ◌≤◌, Bool, true, false, cond, nat_le, zip, drop, List, [], ◌∷◌, map, length, get_or, Option, refl, sym, ap, subst, arith, Contains, Some, None, option_map}
-use Rattle.std.specs.List.{find, list_any, range_with_len}
+use Rattle.std.proofs.Common.{◌≡◌, ℕ, zero, suc, ◌+◌, ◌≤◌, Bool, false, List, ◌∷◌, map, length, get_or, refl, ap, subst, arith, Contains, None}
+use Rattle.std.specs.List.{find, range_with_len}
 use Rattle.std.proofs.Math.Dec.{leb}
 use Rattle.std.proofs.lemmas.Bool.{lt-leb}
 use Rattle.std.proofs.lemmas.List.{length-map}

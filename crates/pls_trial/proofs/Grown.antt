@@ -1,22 +1,22 @@
 -- What stands in the rows after the links of a tree and others were put between nodes without ports:
 -- each port is that of a link, and the first port of each node of the tree is that of its link.
-use Rattle.std.proofs.Common.{◌≡◌, ◌≢◌, ◌∙◌, ℕ, zero, suc, ◌+◌, ◌-◌, ◌<◌, ◌≤◌, ◌⊎◌, inl, inr, Bool, true, false, cond, ◌==◌, ◌||◌, is_some, List, [], ◌∷◌, ◌++◌, map, fold, Contains, Option, Some, None, option_and_then, refl, sym, ap, subst, arith, slice_get}
+use Rattle.std.proofs.Common.{◌≡◌, ◌≢◌, ◌∙◌, ℕ, zero, suc, ◌+◌, ◌-◌, ◌<◌, inl, inr, Bool, true, false, cond, ◌==◌, is_some, List, [], ◌∷◌, ◌++◌, map, fold, Contains, Option, Some, None, option_and_then, refl, sym, ap, subst, arith, slice_get}
 use Rattle.std.specs.List.{range_with_len}
 use Rattle.std.proofs.lemmas.Bool.{eqb-false, eqb-true, ne_eqb}
-use Rattle.std.proofs.lemmas.List.Elements.{Contains-append_cases, Contains-append_left}
+use Rattle.std.proofs.lemmas.List.Elements.{Contains-append_cases}
 use Rattle.std.proofs.lemmas.List.FromFn.{map-range_with_len_more}
 use Rattle.std.proofs.lemmas.List.Sums.{fold-append, fold_push}
 use Rattle.pls_model.specs.declared.row.Port.{Port}
 use Rattle.pls_model.specs.declared.row.State.{State}
 use Rattle.pls_model.specs.declared.row.NodeRow.{NodeRow}
 use Rattle.pls_model.specs.Configuration.{port_to, row_of}
-use Rattle.pls_graph.specs.Edits.{alone, are_linked, change_row, changed, linked, linking}
+use Rattle.pls_graph.specs.Edits.{are_linked, changed, linked, linking}
 use Rattle.pls_graph.proofs.Finds.{found_place}
-use Rattle.pls_graph.proofs.Members.{Contains-cons_cases, Contains-from_map, Contains-from_place, Contains-map}
+use Rattle.pls_graph.proofs.Members.{Contains-cons_cases, Contains-from_map, Contains-from_place}
 use Rattle.pls_trial.specs.Generator.{Link, nodes_alone, with_link}
 use Rattle.pls_trial.proofs.Alone.{Each-nodes_alone}
 use Rattle.pls_trial.proofs.Linking.{Each, Each-fold, Each-map, Each-with_link, HasEnds, IsKept, changed-by}
-use Rattle.pls_trial.proofs.Numbered.{Contains-range, range-within}
+use Rattle.pls_trial.proofs.Numbered.{range-within}
 
 -- the port of a link at its first end
 abbrev pub port_of : Link → Port

@@ -1,13 +1,11 @@
 -- What links keep of the rows that they are put into, and what they add to them.
-use Rattle.std.proofs.Common.{◌≡◌, ◌∙◌, ℕ, ◌+◌, ◌*◌, ◌≤◌, ◌⊎◌, inl, inr, Bool, true, false, cond, ◌==◌, ◌||◌, List, [], ◌∷◌, ◌++◌, map, length, fold, refl, sym, ap, subst, arith, Contains, Some, slice_get, length-append}
+use Rattle.std.proofs.Common.{◌≡◌, ◌∙◌, ℕ, ◌+◌, ◌*◌, ◌≤◌, ◌⊎◌, inl, inr, Bool, true, false, cond, ◌==◌, ◌||◌, List, [], ◌∷◌, map, length, fold, refl, ap, subst, arith, Contains, length-append}
 use Rattle.std.proofs.lemmas.Bool.{eqb-true}
-use Rattle.std.proofs.lemmas.List.Elements.{Contains-append_cases}
 use Rattle.std.proofs.lemmas.List.Sums.{sum_by-cons}
-use Rattle.pls_model.specs.declared.row.Port.{Port}
 use Rattle.pls_model.specs.declared.row.NodeRow.{NodeRow}
 use Rattle.pls_model.specs.Configuration.{ids_of, ports_in}
 use Rattle.pls_graph.specs.Edits.{are_linked, change_row, changed, linked, linking}
-use Rattle.pls_graph.proofs.Members.{Contains-cons_cases, Contains-first, Contains-from_map, Contains-later}
+use Rattle.pls_graph.proofs.Members.{Contains-first, Contains-from_map, Contains-later}
 use Rattle.pls_trial.specs.Generator.{Link, with_link}
 
 -- each row has the property

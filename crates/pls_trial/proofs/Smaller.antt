@@ -1,5 +1,5 @@
 -- Where pointers lead to smaller identities, a depth falls by one along each.
-use Rattle.std.proofs.Common.{◌≡◌, ◌∙◌, ℕ, zero, suc, ◌+◌, ◌<◌, ◌≤◌, Option, Some, None, refl, sym, ap, arith}
+use Rattle.std.proofs.Common.{◌≡◌, ◌∙◌, ℕ, zero, suc, ◌+◌, ◌<◌, ◌≤◌, Option, Some, None, refl, ap, arith}
 use Rattle.std.specs.Option.{option_map_or}
 
 -- how many pointers there are to the end, or this many if there are more

@@ -1,6 +1,6 @@
 -- The pointers of a network from a number make a tree, which joins all nodes, and no spanning tree
 -- weighs less than its edges.
-use Rattle.std.proofs.Common.{◌≡◌, ◌∙◌, ℕ, zero, suc, ◌+◌, ◌-◌, ◌<◌, ◌≤◌, ◌⊎◌, inl, inr, Bool, true, false, cond, ◌==◌, nat_lt, List, [], ◌∷◌, ◌++◌, length, map, fold, Contains, Option, Some, None, option_map, option_and_then, refl, sym, ap, subst, arith, slice_get}
+use Rattle.std.proofs.Common.{◌≡◌, ◌∙◌, ℕ, ◌+◌, ◌-◌, ◌<◌, ◌≤◌, ◌⊎◌, inl, inr, Bool, true, false, cond, ◌==◌, nat_lt, List, [], ◌∷◌, ◌++◌, length, map, fold, Contains, Option, Some, None, option_map, option_and_then, refl, sym, ap, subst, arith, slice_get}
 use Rattle.std.specs.List.{range_with_len}
 use Rattle.std.specs.Option.{option_map_or}
 use Rattle.std.proofs.lemmas.Bool.{eqb-false, eqb-true, lt-ltb}
@@ -11,11 +11,10 @@ use Rattle.pls_model.specs.declared.row.State.{State}
 use Rattle.pls_model.specs.declared.row.NodeRow.{NodeRow}
 use Rattle.pls_model.specs.Configuration.{IsNetwork, ids_of, row_of}
 use Rattle.pls_model.specs.Walk.{Edge, IsConnected, edges_of}
-use Rattle.pls_graph.specs.Edits.{alone, in_state}
+use Rattle.pls_graph.specs.Edits.{in_state}
 use Rattle.pls_graph.proofs.Finds.{found_place, from_option_map}
 use Rattle.pls_graph.proofs.Joined.{AreJoined-adjacent}
-use Rattle.pls_graph.proofs.Members.{Contains-from_map, Contains-from_place, Contains-map}
-use Rattle.pls_facts.specs.Lightest.{IsLightest, OthersAreHeavy}
+use Rattle.pls_graph.proofs.Members.{Contains-from_map, Contains-from_place}
 use Rattle.pls_facts.specs.MinimumSpanningTree.{IsMinimumSpanningTree}
 use Rattle.pls_facts.specs.Pointer.{next, pointed_port}
 use Rattle.pls_facts.specs.SpanningTree.{IsTree, edge_at, pointed_edge, pointed_edges}
@@ -24,14 +23,13 @@ use Rattle.pls_facts.proofs.Decided.{same_Edge}
 use Rattle.pls_facts.proofs.Filtered.{Contains-filter_map, Contains-from_filter_map}
 use Rattle.pls_facts.proofs.Paths.{AreJoined-each}
 use Rattle.pls_facts.proofs.Pointed.{IsPointer, IsPointer-next, id_of_row, row_from_id}
-use Rattle.pls_facts.proofs.PointedEdges.{pointed_among}
 use Rattle.pls_facts.proofs.PortEdges.{IsAtPort, IsGraph-network, ports_of_edge}
 use Rattle.pls_facts.proofs.Trees.{IsTree-falling}
 use Rattle.pls_trial.specs.Generator.{Link, at_port_0, nodes_alone, pointing, with_link}
 use Rattle.pls_trial.specs.inner.Building.{has_port}
 use Rattle.pls_trial.proofs.Alone.{Each-nodes_alone, ids_of-nodes_alone}
-use Rattle.pls_trial.proofs.Grown.{BeginsWith, IsLinked, OfLinks, begun, port_of, ports_of_links, states_kept}
-use Rattle.pls_trial.proofs.Linking.{Each, Each-map, HasEnds, ids_of-fold, ids_of-map}
+use Rattle.pls_trial.proofs.Grown.{IsLinked, OfLinks, begun, port_of, ports_of_links, states_kept}
+use Rattle.pls_trial.proofs.Linking.{Each, Each-map, ids_of-fold, ids_of-map}
 use Rattle.pls_trial.proofs.Numbered.{Contains-range, range-within}
 use Rattle.pls_trial.proofs.Refused.{row_there}
 use Rattle.pls_trial.proofs.Smaller.{depth, depth-falls}

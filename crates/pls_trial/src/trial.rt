@@ -15,9 +15,10 @@ use pls_graph::{EditError, Network, NetworkBuilder};
 use pls_model::{BuildError, State};
 use std::alloc::Global;
 
-/// The network of so many nodes that is made from a seed: its nodes are 1 and so on, node 1 is the
-/// root of a tree of pointers with random weights below 1000, and all other edges weigh 999 or
-/// more. The one error is want of memory.
+/// The network of so many nodes, 1 to 32768, that is made from a seed, 1 to 2147483646. Its nodes
+/// are 1 and so on; node 1 is the root of a tree of pointers whose edges have random weights below
+/// 1000, and all other edges, at most as many as there are nodes, weigh 999 or more. Each
+/// edge costs about the degrees of its ends. The one error is want of memory.
 pub fn trial_network(alloc: Global, nodes: u32, seed: u32) -> Result<Network, NoMemory>
     requires nodes { (1 ≤ nodes) × (nodes ≤ 32768) }
     requires seed { (1 ≤ seed) × (seed ≤ 2147483646) }

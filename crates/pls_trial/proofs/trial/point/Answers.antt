@@ -1,8 +1,8 @@
-use Rattle.std.proofs.Common.{◌≡◌, ◌∙◌, ◌+◌, ◌-◌, suc, sym, ap, arith, None, Some}
-use Rattle.pls_graph.specs.Edits.{state_refusal, with_state}
+use Rattle.std.proofs.Common.{◌≡◌, ◌∙◌, ◌+◌, sym, ap, arith, None, Some}
+use Rattle.pls_graph.specs.Edits.{state_refusal}
 use Rattle.pls_trial.specs.Generator.{at_port_0}
 use Rattle.pls_trial.specs.inner.Building.{has_port}
-use Rattle.pls_trial.proofs.Pointing.{all_pointed, has_port-pointed_to, pointed_to}
+use Rattle.pls_trial.proofs.Pointing.{all_pointed, has_port-pointed_to}
 use Rattle.pls_trial.proofs.Refused.{pointer_allowed}
 use Rattle.pls_trial.proofs.trial.point.Goals as goal
 
