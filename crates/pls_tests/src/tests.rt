@@ -1,22 +1,10 @@
 //! The worked examples, as tables of schemes, inputs, texts and statuses.
 
-mod base;
-mod bits;
 mod colours;
-mod distances;
-mod graph;
-mod labelfile;
-mod leaders;
-mod lines;
-mod netfile;
-mod pointers;
 mod refusals;
-mod schemes;
 mod simulate;
-mod small;
 mod streams;
 mod trees;
-mod views;
 
 use crate::run_in_memory;
 use pls_base::Status;

@@ -5,8 +5,7 @@ ghost use Rattle.pls_model.specs.Walk.{IsConnected};
 ghost use Rattle.std.specs.Prelude.{IfOk};
 
 use super::small::{Small, are_joined, has, is_tree, marks, pair};
-use super::trees::{CHAIN, CIRCLE};
-use super::{APART, RING};
+use super::{APART, CHAIN, CIRCLE, RING};
 use pls_bits::Gamma;
 use pls_distance::{Spt, SptLabel};
 use pls_graph::{Network, connected};

@@ -8,7 +8,7 @@ use Rattle.pls_model.specs.Walk.{Adjacent, edges_of}
 use Rattle.pls_graph.specs.declared.size.Size.{Size}
 use Rattle.pls_scheme.specs.Length.{codes_length}
 use Rattle.pls_scheme.specs.Reading.{Read, ReadPort}
-use Rattle.pls_tests.specs.declared.independent_set.MarkLabel.{MarkLabel}
+use Rattle.pls_scheme_tests.specs.declared.independent_set.MarkLabel.{MarkLabel}
 
 -- the node of this identity is in the set: it has mark 1
 abbrev pub IsInside : List NodeRow → ℕ → Type 0

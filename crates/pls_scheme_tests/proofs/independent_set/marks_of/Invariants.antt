@@ -1,6 +1,6 @@
 use Rattle.std.proofs.Common.{◌≡◌, map, take}
-use Rattle.pls_tests.specs.IndependentSet.{mark_of}
-use Rattle.pls_tests.proofs.independent_set.marks_of.Given as goal
+use Rattle.pls_scheme_tests.specs.IndependentSet.{mark_of}
+use Rattle.pls_scheme_tests.proofs.independent_set.marks_of.Given as goal
 
 -- the labels of the nodes so far
 abbrev pub invariant-loop-i : goal.invariant-loop-i

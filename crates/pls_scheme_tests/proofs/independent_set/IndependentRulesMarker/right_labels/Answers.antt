@@ -3,9 +3,9 @@ use Rattle.std.proofs.lemmas.Bool.{false≢true}
 use Rattle.pls_scheme.specs.Marked.{AreRight}
 use Rattle.pls_scheme.proofs.Deciding.{decided_by_rules}
 use Rattle.pls_scheme.proofs.Markings.{right_rows}
-use Rattle.pls_tests.specs.IndependentSet.{IsMaximalIndependent, independent_rules, independent_says, mark_of}
-use Rattle.pls_tests.specs.laws.IndependentSetLaws.{independent_met, independent_show}
-use Rattle.pls_tests.proofs.independent_set.IndependentRulesMarker.right_labels.Goals as goal
+use Rattle.pls_scheme_tests.specs.IndependentSet.{IsMaximalIndependent, independent_rules, independent_says, mark_of}
+use Rattle.pls_scheme_tests.specs.laws.IndependentSetLaws.{independent_met, independent_show}
+use Rattle.pls_scheme_tests.proofs.independent_set.IndependentRulesMarker.right_labels.Goals as goal
 
 pub returns-then-hold_everywhere-clause-right : goal.returns-then-hold_everywhere-clause-right
 returns-then-hold_everywhere-clause-right g c =

@@ -1,12 +1,12 @@
 //! Lines of numbers, and an input in two parts with the first faulty line of the whole.
 
-use crate::schedule::{Event, ScheduleText, ScheduleWord};
 use pls_base::TextError;
 use pls_labelfile::LabelsText;
 use pls_lines::{
     Both, Count, bytes_before, number_before, one_number, read_list, read_whole, two_numbers,
 };
 use pls_netfile::NetworkText;
+use pls_sim::{Event, ScheduleText, ScheduleWord};
 use std::alloc::Global;
 use std::test::Fail;
 
@@ -104,7 +104,7 @@ fn three(alloc: Global, parts: [&str; 3]) -> Result<u64, TextError> {
         text.push_str(part)?;
     }
     let whole = read_whole::<Three<'_>>(text.as_str().as_bytes())?;
-    Ok(whole.second.second.kept.items)
+    Ok(whole.second.second.events())
 }
 
 #[test]
@@ -113,7 +113,7 @@ fn the_events_of_a_schedule(rt: HostRuntime) -> Result<(), Fail> {
     let part = read_list::<Count<ScheduleWord, Event>>(text)?;
     assert_eq!(rt; part.kept.items, 3);
     let events = [
-        Event::Emit { id: 7, port: 1 },
+        Event::Emit { node: 7, port: 1 },
         Event::Arrive(0),
         Event::Restart(4294967295),
     ];

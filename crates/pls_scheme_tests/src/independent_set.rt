@@ -3,7 +3,7 @@
 //! node sees its neighbours' labels and not their states.
 
 ghost use Rattle.std.specs.Prelude.{◌≡◌, ◌==◌, ◌&&◌, ◌||◌, map, not, IfOk};
-ghost use Rattle.pls_tests.specs.IndependentSet.{mark_of};
+ghost use Rattle.pls_scheme_tests.specs.IndependentSet.{mark_of};
 
 use pls_base::NoMemory;
 use pls_bits::NumCode;
@@ -27,7 +27,7 @@ pub struct MarkLabel {
 impl OfNumbers<1> for MarkLabel {
     ghost use Rattle.std.specs.Prelude.{refl};
     ghost use Rattle.pls_scheme.specs.laws.CodeLaws.{are_numbers};
-    ghost use Rattle.pls_tests.specs.IndependentSet.{mark_label, numbers_of_mark};
+    ghost use Rattle.pls_scheme_tests.specs.IndependentSet.{mark_label, numbers_of_mark};
 
     ghost numbers = { numbers_of_mark };
 
@@ -62,7 +62,7 @@ impl<C> Default for IndependentRules<C> {
 }
 
 impl<C: NumCode> Judgement for IndependentRules<C> {
-    ghost use Rattle.pls_tests.specs.IndependentSet.{independent_rules};
+    ghost use Rattle.pls_scheme_tests.specs.IndependentSet.{independent_rules};
 
     type Layout = Coded<MarkLabel, C, 1>;
 
@@ -71,7 +71,7 @@ impl<C: NumCode> Judgement for IndependentRules<C> {
 
 impl<C: NumCode> Rules for IndependentRules<C> {
     ghost use Rattle.std.specs.List.{list_any};
-    ghost use Rattle.pls_tests.specs.IndependentSet.{is_inside};
+    ghost use Rattle.pls_scheme_tests.specs.IndependentSet.{is_inside};
 
     // Whether one of the neighbours so far is in the set.
     type Tally = bool;
@@ -106,8 +106,8 @@ impl<C: NumCode> Rules for IndependentRules<C> {
 }
 
 impl<C: NumCode> Marker for IndependentRules<C> {
-    ghost use Rattle.pls_tests.specs.IndependentSet.{IsMaximalIndependent, independent_says, longest_independent};
-    ghost use Rattle.pls_tests.specs.laws.IndependentSetLaws.{independent_fits, independent_met, independent_one_right, independent_show};
+    ghost use Rattle.pls_scheme_tests.specs.IndependentSet.{IsMaximalIndependent, independent_says, longest_independent};
+    ghost use Rattle.pls_scheme_tests.specs.laws.IndependentSetLaws.{independent_fits, independent_met, independent_one_right, independent_show};
 
     ghost holds = { λ _ rows. IsMaximalIndependent rows };
 

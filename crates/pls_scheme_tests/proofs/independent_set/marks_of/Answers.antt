@@ -2,9 +2,9 @@ use Rattle.std.proofs.Common.{◌≡◌, ◌∙◌, ℕ, ap, map, Some, slice_ge
 use Rattle.pls_model.specs.declared.row.State.{State}
 use Rattle.pls_model.specs.declared.row.NodeRow.{NodeRow}
 use Rattle.pls_facts.proofs.Lists.{given_at, item_at, map-take_more}
-use Rattle.pls_tests.specs.declared.independent_set.MarkLabel.{MarkLabel}
-use Rattle.pls_tests.specs.IndependentSet.{mark_of}
-use Rattle.pls_tests.proofs.independent_set.marks_of.Goals as goal
+use Rattle.pls_scheme_tests.specs.declared.independent_set.MarkLabel.{MarkLabel}
+use Rattle.pls_scheme_tests.specs.IndependentSet.{mark_of}
+use Rattle.pls_scheme_tests.proofs.independent_set.marks_of.Goals as goal
 
 -- the label of a mark
 abbrev the_label : ℕ → MarkLabel

@@ -14,8 +14,8 @@ use Rattle.pls_scheme.specs.Theorem.{HoldEverywhere, OneIsRight, RightFits, Rule
 use Rattle.pls_scheme.proofs.Fitting.{within_fits}
 use Rattle.pls_scheme.proofs.SaidPorts.{passes_at_some, some_port_passes}
 use Rattle.pls_facts.proofs.Neighbours.{neighbour_row, port_adjacent, port_leads, within_greatest}
-use Rattle.pls_tests.specs.declared.independent_set.MarkLabel.{MarkLabel}
-use Rattle.pls_tests.specs.IndependentSet.{IsInside, IsMaximalIndependent, independent_rules, independent_says, is_apart, is_inside, longest_independent, mark_of, numbers_of_mark}
+use Rattle.pls_scheme_tests.specs.declared.independent_set.MarkLabel.{MarkLabel}
+use Rattle.pls_scheme_tests.specs.IndependentSet.{IsInside, IsMaximalIndependent, independent_rules, independent_says, is_apart, is_inside, longest_independent, mark_of, numbers_of_mark}
 
 -- tests of which not both pass, and of which one does
 not_both : (a b : Bool) → (a ≡ true → b ≡ true → ⊥) → not (a && b) ≡ true

@@ -24,7 +24,7 @@ struct Pair<A: Checker, B: Checker> {
 
 impl<A: Checker, B: Checker> Checker for Pair<A, B> {
     ghost use Rattle.std.specs.Prelude.{◌+◌, true, false};
-    ghost use Rattle.pls_tests.specs.Pair.{both_accept, leaf_of_both};
+    ghost use Rattle.pls_scheme_tests.specs.Pair.{both_accept, leaf_of_both};
 
     ghost judge = { λ s view. both_accept (A.judge s.first view) (B.judge s.second view) };
 
