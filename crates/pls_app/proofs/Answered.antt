@@ -1,5 +1,5 @@
 -- Which answers belong to which words and bytes.
-use Rattle.std.proofs.Common.{◌≡◌, ◌≢◌, ℕ, ◌+◌, ◌≤◌, Bool, true, false, List, length, Option, Some, None, IfOk, inl, inr, Result, Ok, Err, OnOk, ap, subst, refl, arith, ◌∙◌, ◌⊎◌, ◌==◌, if◌then◌else◌, sym}
+use Rattle.std.proofs.Common.{◌≡◌, ◌≢◌, ℕ, ◌+◌, ◌≤◌, Bool, true, false, List, length, Option, Some, None, IfOk, inl, inr, Result, Ok, Err, OnOk, ap, subst, refl, arith, ◌∙◌, ◌⊎◌, if◌then◌else◌, sym}
 use Rattle.std.specs.Io.KnownBytes.{Appends}
 use Rattle.pls_base.specs.declared.text_error.TextError.{TextError}
 use Rattle.pls_base.specs.declared.text_error.TextError.TheVariants.{Limit, NoMemory}

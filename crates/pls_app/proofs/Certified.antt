@@ -10,7 +10,6 @@ use Rattle.pls_graph.specs.Size.{greatest, size_of, weights_of}
 use Rattle.pls_graph.proofs.Members.{Contains-first, Contains-from_flat_map, Contains-later}
 use Rattle.pls_netfile.specs.NetworkText.{FitsPort, FitsRow, network_text}
 use Rattle.pls_view.specs.Labels.{bits_together}
-use Rattle.pls_labelfile.specs.LabelsText.{labels_text}
 use Rattle.pls_scheme.specs.Marked.{answered}
 use Rattle.pls_scheme.specs.Theorem.{AreWords}
 use Rattle.pls_combine.proofs.Bounds.{short_bound}

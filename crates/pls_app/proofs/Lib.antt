@@ -2,7 +2,10 @@ mod Answered
 mod Certified
 mod Consumed
 mod Inputs
+mod LimitsPassed
+mod Made
 mod OneAnswer
+mod OneRefusal
 mod Played
 mod Proved
 mod Refused

@@ -1,7 +1,5 @@
 -- The answer to `simulate` by what was played, and the lines of a text.
-use Rattle.std.proofs.Common.{◌≡◌, ◌∙◌, ℕ, ◌+◌, ◌≤◌, List, [], ◌∷◌, ◌++◌, map, codes, length, Some, None, Option, option_map, inl, inr, ap, subst, refl, sym, arith, length-append}
-use Rattle.pls_base.specs.declared.text_error.TextError.{TextError}
-use Rattle.pls_base.specs.declared.text_error.TextError.TheVariants.{Sense}
+use Rattle.std.proofs.Common.{◌≡◌, ℕ, ◌≤◌, List, [], ◌∷◌, ◌++◌, map, codes, length, inl, inr, ap, subst, arith, length-append}
 use Rattle.pls_lines.specs.Text.{text_of}
 use Rattle.pls_netfile.specs.NetworkText.{network_lines, network_text}
 use Rattle.pls_labelfile.specs.LabelsText.{labels_lines, named}
@@ -14,7 +12,6 @@ use Rattle.pls_app.specs.declared.shape.Shape.TheVariants.{Scheduled}
 use Rattle.pls_app.specs.declared.limits.TheConstants.{MAX_INPUT}
 use Rattle.pls_app.specs.Input.{Input, IsInput, first_event_line, net_labels_text}
 use Rattle.pls_app.specs.Answer.{Answer, Answers}
-use Rattle.pls_app.specs.Unapplied.{unapplied}
 use Rattle.pls_app.specs.inner.Played.{Plays}
 use Rattle.pls_app.proofs.Answered.{work_refused, worked_answer}
 

@@ -1,6 +1,5 @@
 -- What `Done` and `No` say of a network.
-use Rattle.std.proofs.Common.{◌≡◌, ◌∙◌, ℕ, Contains, [], ◌∷◌, Bool, true, false, List, map, length, All, if◌then◌else◌, inl, inr, get_or, refl, sym, ap, subst}
-use Rattle.std.specs.List.{list_all}
+use Rattle.std.proofs.Common.{◌≡◌, ◌∙◌, ℕ, Contains, [], ◌∷◌, Bool, true, false, List, map, length, All, if◌then◌else◌, inl, inr, get_or, refl, sym, ap}
 use Rattle.std.proofs.lemmas.List.Folds.{list_all-map}
 use Rattle.std.proofs.lemmas.List.Sums.{AllPass-from_list_all, list_all-from_AllPass}
 use Rattle.std.proofs.lemmas.List.Elements.{All-map}
@@ -15,16 +14,16 @@ use Rattle.pls_view.specs.Seen.{Seen, label_of, seen, views}
 use Rattle.pls_scheme.specs.Judging.{AllAccept}
 use Rattle.pls_sim.specs.declared.event.Event.{Event}
 use Rattle.pls_sim.specs.declared.outcome.Outcome.{Outcome}
-use Rattle.pls_sim.specs.declared.outcome.Outcome.TheVariants.{Decided, Waiting}
+use Rattle.pls_sim.specs.declared.outcome.Outcome.TheVariants.{Decided}
 use Rattle.pls_sim.specs.Schedule.{outcome_after, outcome_of, unheard}
 use Rattle.pls_report.specs.Report.{all_accept, is_accepting}
 use Rattle.pls_app.specs.declared.command.Command.{Command}
 use Rattle.pls_app.specs.declared.command.Command.TheVariants.{Mark, Verify, Simulate}
 use Rattle.pls_combine.specs.declared.scheme_name.SchemeName.{SchemeName}
 use Rattle.pls_app.specs.Command.{Checks, shape_of}
-use Rattle.pls_app.specs.Input.{Input, IsInput, IsReadable}
+use Rattle.pls_app.specs.Input.{Input, IsInput}
 use Rattle.pls_app.specs.Answer.{Answer, Answers, Yields, decided_by, outcomes_in, played_by, refusal_status, report}
-use Rattle.pls_combine.specs.Named.{HasProperty, judge_of}
+use Rattle.pls_combine.specs.Named.{judge_of}
 use Rattle.pls_combine.specs.laws.NamedLaws.{named_sound}
 use Rattle.pls_app.specs.Run.{Lacks, Proves, SomeRejects}
 

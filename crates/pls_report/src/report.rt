@@ -126,7 +126,12 @@ fn write_closing<K: Sink>(
         result
         (closing_line simulated rows.now ++ 10 ∷ []) }
 {
-    put_both(sink, gathered, b"rejecting ", counting::rejecting(rows) as u64)?;
+    put_both(
+        sink,
+        gathered,
+        b"rejecting ",
+        counting::rejecting(rows) as u64,
+    )?;
     write_waiting(rows, simulated, sink, gathered)?;
     gathered.put(sink, b"\n")
 }

@@ -19,7 +19,11 @@ fn assert_plays<'t>(
     for (events, text, status) in cases {
         let input = format!(in alloc; "{network}{labels}schedule\n{events}end\n")?;
         let (end, sink) = run_in_memory(alloc, &["simulate", "bipartite"], input.into_bytes())?;
-        assert_eq!(rt; sink.bytes(), text.as_bytes(), "{events} behind {network}{labels}");
+        assert_eq!(rt;
+            sink.bytes(),
+            text.as_bytes(),
+            "{events} behind {network}{labels}"
+        );
         assert_eq!(rt; end, *status, "{events} behind {network}{labels}");
     }
     Ok(())
@@ -65,7 +69,11 @@ fn the_first_event_that_does_not_apply_is_refused(rt: HostRuntime) -> Result<(),
         ("emit 3 0\n", "refused 40 at 12\n", refused),
         ("emit 1 1\n", "refused 40 at 12\n", refused),
         ("restart 9\n", "refused 40 at 12\n", refused),
-        ("emit 1 0\narrive 2\nemit 9 9\n", "refused 40 at 13\n", refused),
+        (
+            "emit 1 0\narrive 2\nemit 9 9\n",
+            "refused 40 at 13\n",
+            refused,
+        ),
         ("emit 1\n", "refused form at 12\n", refused),
         ("emit 1 0\nend\n", "refused form at 14\n", refused),
     ];

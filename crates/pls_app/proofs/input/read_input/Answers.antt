@@ -1,7 +1,8 @@
 use Rattle.std.proofs.Common.{◌∙◌, inl, inr}
 use Rattle.std.proofs.lemmas.Result.{err_from_is_err_and}
-use Rattle.pls_app.proofs.Inputs.{input_of, line_of}
-use Rattle.pls_app.proofs.Refused.{events_unlisted, few_scanned, labels_refused, limits_refused, parts_apart, rows_refused}
+use Rattle.pls_app.proofs.LimitsPassed.{few_scanned}
+use Rattle.pls_app.proofs.Made.{input_of, line_of}
+use Rattle.pls_app.proofs.Refused.{events_unlisted, labels_refused, limits_refused, parts_apart, rows_refused}
 use Rattle.pls_app.proofs.input.read_input.Goals as goal
 
 pub returns-in_err-texts-clause-refused : goal.returns-in_err-texts-clause-refused

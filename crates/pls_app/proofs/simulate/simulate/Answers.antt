@@ -1,4 +1,4 @@
-use Rattle.std.proofs.Common.{◌≡◌, ◌∙◌, true, Some, None, inr, option_map, ap, refl}
+use Rattle.std.proofs.Common.{◌≡◌, ◌∙◌, true, None, inr, option_map, ap, refl}
 use Rattle.pls_base.specs.declared.text_error.TextError.TheVariants.{Sense}
 use Rattle.pls_combine.specs.Named.{judge_of}
 use Rattle.pls_app.specs.declared.refusal_number.TheConstants.{UNAPPLIED}

@@ -4,10 +4,10 @@ use Rattle.pls_model.specs.declared.status.Status.TheVariants.{Done}
 use Rattle.pls_combine.specs.declared.scheme_name.SchemeName.{SchemeName}
 use Rattle.pls_combine.specs.Named.{judge_of}
 use Rattle.pls_app.specs.declared.command.Command.{Command}
-use Rattle.pls_app.specs.declared.command.Command.TheVariants.{Mark, Simulate}
+use Rattle.pls_app.specs.declared.command.Command.TheVariants.{Mark}
 use Rattle.pls_app.specs.declared.shape.Shape.TheVariants.{Network, Scheduled}
 use Rattle.pls_app.specs.Command.{shape_of}
-use Rattle.pls_app.specs.Input.{IsInput, first_event_line}
+use Rattle.pls_app.specs.Input.{IsInput}
 use Rattle.pls_app.specs.Answer.{Answers}
 use Rattle.pls_app.specs.Run.{Certifies, ShowsIn}
 use Rattle.pls_app.specs.inner.Played.{Plays}

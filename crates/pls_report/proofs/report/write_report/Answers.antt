@@ -1,6 +1,4 @@
-use Rattle.std.proofs.Common.{subst}
 use Rattle.pls_report.specs.Report.{report_text}
-use Rattle.pls_report.specs.inner.Pieces.{Wrote}
 use Rattle.pls_report.proofs.Written.{part_of}
 use Rattle.pls_report.proofs.report.write_report.Goals as goal
 

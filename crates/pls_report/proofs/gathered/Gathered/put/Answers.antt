@@ -1,4 +1,4 @@
-use Rattle.std.proofs.Common.{◌∙◌, [], ℕ, List}
+use Rattle.std.proofs.Common.{◌∙◌, []}
 use Rattle.pls_report.proofs.Written.{alone, both}
 use Rattle.pls_report.proofs.gathered.Gathered.put.Goals as goal
 
