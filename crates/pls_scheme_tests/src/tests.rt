@@ -7,6 +7,7 @@ mod leaders;
 mod pointers;
 mod schemes;
 mod small;
+mod weighed;
 
 // Two nodes without an edge.
 const APART: &str = "network\nnode 1 - 0 0\nnode 2 - 0 0\nend\n";
