@@ -1,7 +1,6 @@
 pub mod Depths
 pub mod Found
 pub mod Bounds
-pub mod Words
 pub mod Fits
 pub mod Leaves
 pub mod Verdicts

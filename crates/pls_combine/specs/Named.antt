@@ -3,7 +3,6 @@
 use Rattle.std.specs.Prelude.{◌≡◌, ℕ, Bool, List, Option}
 use Rattle.pls_model.specs.declared.row.NodeRow.{NodeRow}
 use Rattle.pls_model.specs.declared.verdict.Verdict.{Verdict}
-use Rattle.pls_bits.specs.Gamma.{gamma_code, gamma_takes}
 use Rattle.pls_graph.specs.declared.size.Size.{Size}
 use Rattle.pls_view.specs.Seen.{Seen}
 use Rattle.pls_facts.specs.Bipartite.{IsBipartite}
@@ -26,8 +25,13 @@ use Rattle.pls_leader.specs.declared.count.CountLabel.{CountLabel}
 use Rattle.pls_facts.specs.ShortestPath.{IsShortestPathTree}
 use Rattle.pls_distance.specs.Spt.{IsSptLabel, IsSptMarked, judge_spt, longest_spt}
 use Rattle.pls_distance.specs.declared.spt.SptLabel.{SptLabel}
+use Rattle.pls_facts.specs.MinimumSpanningTree.{IsMinimumSpanningTree}
+use Rattle.pls_mst.specs.Labels.{IsMstLabel}
+use Rattle.pls_mst.specs.Rules.{judge_mst}
+use Rattle.pls_mst.specs.Mst.{IsMstMarked, longest_mst}
+use Rattle.pls_mst.specs.declared.label.MstLabel.{MstLabel}
 use Rattle.pls_combine.specs.declared.scheme_name.SchemeName.{SchemeName}
-use Rattle.pls_combine.specs.declared.scheme_name.SchemeName.TheVariants.{Acyclic, Bipartite, Count, Forest, Leader, ShortestPathTree, Tree}
+use Rattle.pls_combine.specs.declared.scheme_name.SchemeName.TheVariants.{Acyclic, Bipartite, Count, Forest, Leader, MinimumSpanningTree, ShortestPathTree, Tree}
 
 -- the property of a scheme
 abbrev pub HasNamed : SchemeName → List NodeRow → Type 0
@@ -38,6 +42,7 @@ HasNamed Acyclic rows = IsAcyclic rows
 HasNamed Leader rows = HasOneLeader rows
 HasNamed Count rows = AreCounted rows
 HasNamed ShortestPathTree rows = IsShortestPathTree rows
+HasNamed MinimumSpanningTree rows = IsMinimumSpanningTree rows
 
 -- the verdict of a scheme on a view
 abbrev pub judge_named : (List Bool → Option (ℕ × List Bool)) → SchemeName → Seen → Verdict
@@ -48,6 +53,7 @@ judge_named takes Acyclic view = judge_acyclic takes view
 judge_named takes Leader view = judge_leader takes view
 judge_named takes Count view = judge_count takes view
 judge_named takes ShortestPathTree view = judge_spt takes view
+judge_named takes MinimumSpanningTree view = judge_mst takes view
 
 -- the labels are those of a connected network with the property
 abbrev pub IsNamedMarked : (ℕ → List Bool) → SchemeName → List NodeRow
@@ -59,6 +65,7 @@ IsNamedMarked code Acyclic rows labels = IsAcyclicMarked code rows labels
 IsNamedMarked code Leader rows labels = IsLeaderMarked code rows labels
 IsNamedMarked code Count rows labels = IsCountMarked code rows labels
 IsNamedMarked code ShortestPathTree rows labels = IsSptMarked code rows labels
+IsNamedMarked code MinimumSpanningTree rows labels = IsMstMarked code rows labels
 
 -- how many bits a marked label has at most, in a network of this size
 abbrev pub longest_named : (ℕ → List Bool) → SchemeName → Size → ℕ
@@ -69,6 +76,7 @@ longest_named code Acyclic size = longest_acyclic code size
 longest_named code Leader size = longest_leader code size
 longest_named code Count size = longest_count code size
 longest_named code ShortestPathTree size = longest_spt code size
+longest_named code MinimumSpanningTree size = longest_mst code size
 
 -- the bits are some label of the scheme
 abbrev pub IsNamedLabel : (ℕ → List Bool) → SchemeName → List Bool → Type 0
@@ -79,20 +87,8 @@ IsNamedLabel code Acyclic bits = (label : CycleLabel) × IsCycleLabel code bits 
 IsNamedLabel code Leader bits = (label : LeaderLabel) × IsLeaderLabel code bits label
 IsNamedLabel code Count bits = (label : CountLabel) × IsCountLabel code bits label
 IsNamedLabel code ShortestPathTree bits = (label : SptLabel) × IsSptLabel code bits label
+IsNamedLabel code MinimumSpanningTree bits = (label : MstLabel) × IsMstLabel code bits label
 
 -- the bits are this label of the scheme, which is its bits
 abbrev pub IsNamedSpelling : (ℕ → List Bool) → SchemeName → List Bool → List Bool → Type 0
 IsNamedSpelling code scheme bits label = (bits ≡ label) × IsNamedLabel code scheme bits
-
--- the same in the gamma code
-abbrev pub HasProperty : SchemeName → List NodeRow → Type 0
-HasProperty scheme rows = HasNamed scheme rows
-
-abbrev pub judge_of : SchemeName → Seen → Verdict
-judge_of scheme view = judge_named gamma_takes scheme view
-
-abbrev pub IsMarked : SchemeName → List NodeRow → List (List Bool) → Type 0
-IsMarked scheme rows labels = IsNamedMarked gamma_code scheme rows labels
-
-abbrev pub longest_of : SchemeName → Size → ℕ
-longest_of scheme size = longest_named gamma_code scheme size

@@ -1,7 +1,7 @@
--- The words that name schemes.
-use Rattle.std.specs.Prelude.{ℕ, List, codes, bytes_eq, Option, Some, None, if◌then◌else◌}
+-- The words that name basic schemes.
+use Rattle.std.specs.Prelude.{ℕ, List, codes}
 use Rattle.pls_combine.specs.declared.scheme_name.SchemeName.{SchemeName}
-use Rattle.pls_combine.specs.declared.scheme_name.SchemeName.TheVariants.{Acyclic, Bipartite, Count, Forest, Leader, ShortestPathTree, Tree}
+use Rattle.pls_combine.specs.declared.scheme_name.SchemeName.TheVariants.{Acyclic, Bipartite, Count, Forest, Leader, MinimumSpanningTree, ShortestPathTree, Tree}
 
 -- the name of a scheme
 abbrev pub name_of : SchemeName → List ℕ
@@ -12,14 +12,4 @@ name_of Acyclic = codes "acyclic"
 name_of Leader = codes "leader"
 name_of Count = codes "count"
 name_of ShortestPathTree = codes "spt"
-
--- the scheme of a name
-abbrev pub scheme_of : List ℕ → Option SchemeName
-scheme_of word =
-    if bytes_eq word (codes "tree") then Some Tree
-    else (if bytes_eq word (codes "forest") then Some Forest
-    else (if bytes_eq word (codes "bipartite") then Some Bipartite
-    else (if bytes_eq word (codes "acyclic") then Some Acyclic
-    else (if bytes_eq word (codes "leader") then Some Leader
-    else (if bytes_eq word (codes "count") then Some Count
-    else (if bytes_eq word (codes "spt") then Some ShortestPathTree else None))))))
+name_of MinimumSpanningTree = codes "mst"

@@ -4,8 +4,8 @@ ghost use Rattle.std.specs.Prelude.{◌≡◌, ◌+◌, ◌≤◌, ◌-◌, true
 ghost use Rattle.pls_scheme.specs.Judging.{LeafWithin};
 ghost use Rattle.pls_combine.specs.Combined.{else_second, raised};
 
+use crate::part_rules::lacks_parts;
 use crate::parts::{FirstPart, SecondPart};
-use crate::tests_of_views::lacks_parts;
 use pls_base::{NoMemory, Steps};
 use pls_bits::NumCode;
 use pls_model::Verdict;

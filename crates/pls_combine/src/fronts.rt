@@ -105,6 +105,8 @@ fn name_front(text: &[u8]) -> Option<(SchemeName, &[u8])>
         Some((SchemeName::Count, rest))
     } else if let Some(rest) = after(text, b"spt") {
         Some((SchemeName::ShortestPathTree, rest))
+    } else if let Some(rest) = after(text, b"mst") {
+        Some((SchemeName::MinimumSpanningTree, rest))
     } else {
         None
     }

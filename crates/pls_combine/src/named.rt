@@ -11,6 +11,7 @@ use pls_distance::Spt;
 use pls_graph::{Network, Size};
 use pls_leader::{Count, Leader};
 use pls_model::Verdict;
+use pls_mst::Mst;
 use pls_pointer::{Forest, Tree};
 use pls_scheme::{Checker, Property, Scheme};
 use pls_view::{LabelStore, View};
@@ -74,24 +75,7 @@ impl<C: NumCode> Checker for Named<C> {
             SchemeName::Leader => Leader::<C>::new().verify(alloc, view, steps),
             SchemeName::Count => Count::<C>::new().verify(alloc, view, steps),
             SchemeName::ShortestPathTree => Spt::<C>::new().verify(alloc, view, steps),
-        }
-    }
-
-    fn round(
-        &self,
-        alloc: Global,
-        net: &Network,
-        labels: &LabelStore,
-        steps: &mut Steps,
-    ) -> Result<Vec<Verdict>, NoMemory> {
-        match self.name {
-            SchemeName::Tree => Tree::<C>::new().round(alloc, net, labels, steps),
-            SchemeName::Forest => Forest::<C>::new().round(alloc, net, labels, steps),
-            SchemeName::Bipartite => Bipartite::new().round(alloc, net, labels, steps),
-            SchemeName::Acyclic => Acyclic::<C>::new().round(alloc, net, labels, steps),
-            SchemeName::Leader => Leader::<C>::new().round(alloc, net, labels, steps),
-            SchemeName::Count => Count::<C>::new().round(alloc, net, labels, steps),
-            SchemeName::ShortestPathTree => Spt::<C>::new().round(alloc, net, labels, steps),
+            SchemeName::MinimumSpanningTree => Mst::<C>::new().verify(alloc, view, steps),
         }
     }
 
@@ -114,6 +98,7 @@ impl<C: NumCode> Property for Named<C> {
             SchemeName::Leader => Leader::<C>::new().decide(alloc, net),
             SchemeName::Count => Count::<C>::new().decide(alloc, net),
             SchemeName::ShortestPathTree => Spt::<C>::new().decide(alloc, net),
+            SchemeName::MinimumSpanningTree => Mst::<C>::new().decide(alloc, net),
         }
     }
 }
@@ -157,6 +142,7 @@ impl<C: NumCode> Scheme for Named<C> {
             SchemeName::Leader => Leader::<C>::new().bound(size),
             SchemeName::Count => Count::<C>::new().bound(size),
             SchemeName::ShortestPathTree => Spt::<C>::new().bound(size),
+            SchemeName::MinimumSpanningTree => Mst::<C>::new().bound(size),
         }
     }
 
@@ -169,6 +155,7 @@ impl<C: NumCode> Scheme for Named<C> {
             SchemeName::Leader => Leader::<C>::new().mark(alloc, net),
             SchemeName::Count => Count::<C>::new().mark(alloc, net),
             SchemeName::ShortestPathTree => Spt::<C>::new().mark(alloc, net),
+            SchemeName::MinimumSpanningTree => Mst::<C>::new().mark(alloc, net),
         }
     }
 
@@ -200,5 +187,6 @@ fn is_label<C: NumCode>(
         SchemeName::Leader => Leader::<C>::new().read_label(alloc, bits)?.is_some(),
         SchemeName::Count => Count::<C>::new().read_label(alloc, bits)?.is_some(),
         SchemeName::ShortestPathTree => Spt::<C>::new().read_label(alloc, bits)?.is_some(),
+        SchemeName::MinimumSpanningTree => Mst::<C>::new().read_label(alloc, bits)?.is_some(),
     })
 }

@@ -4,8 +4,8 @@ ghost use Rattle.std.specs.Prelude.{◌≡◌, ◌+◌, ◌≤◌, true, false, 
 ghost use Rattle.pls_combine.specs.Combined.{raised};
 
 use crate::both::raised;
+use crate::part_rules::own_tag;
 use crate::parts::Rest;
-use crate::tests_of_views::own_tag;
 use pls_base::{NoMemory, Steps};
 use pls_model::Verdict;
 use pls_scheme::Checker;

@@ -1,7 +1,7 @@
-//! The names of schemes.
+//! The names of basic schemes.
 
-ghost use Rattle.std.specs.Prelude.{◌≡◌, bytes_eq, codes};
-ghost use Rattle.pls_combine.specs.SchemeWord.{name_of, scheme_of};
+ghost use Rattle.std.specs.Prelude.{◌≡◌};
+ghost use Rattle.pls_combine.specs.SchemeWord.{name_of};
 
 /// The name of a basic scheme.
 #[derive(Clone, Copy, Debug, PartialEq, Eq)]
@@ -20,29 +20,8 @@ pub enum SchemeName {
     Count,
     /// `spt`: the pointers make a tree, and no walk from the root is lighter than a chain.
     ShortestPathTree,
-}
-
-/// The scheme that a word names, or `None` where it names none.
-pub fn named_scheme(word: &str) -> Option<SchemeName>
-    ensures { result ≡ scheme_of word.now }
-{
-    if is_word(word, "tree") {
-        Some(SchemeName::Tree)
-    } else if is_word(word, "forest") {
-        Some(SchemeName::Forest)
-    } else if is_word(word, "bipartite") {
-        Some(SchemeName::Bipartite)
-    } else if is_word(word, "acyclic") {
-        Some(SchemeName::Acyclic)
-    } else if is_word(word, "leader") {
-        Some(SchemeName::Leader)
-    } else if is_word(word, "count") {
-        Some(SchemeName::Count)
-    } else if is_word(word, "spt") {
-        Some(SchemeName::ShortestPathTree)
-    } else {
-        None
-    }
+    /// `mst`: the pointers make a tree, and no spanning tree weighs less than its edges.
+    MinimumSpanningTree,
 }
 
 // The word that names a scheme.
@@ -57,12 +36,6 @@ pub(crate) fn name_of(name: SchemeName) -> &'static str
         SchemeName::Leader => "leader",
         SchemeName::Count => "count",
         SchemeName::ShortestPathTree => "spt",
+        SchemeName::MinimumSpanningTree => "mst",
     }
-}
-
-// Whether two words are the same.
-fn is_word(word: &str, known: &str) -> bool
-    ensures { result ≡ bytes_eq word.now known.now }
-{
-    word == known
 }

@@ -11,4 +11,9 @@ pub mod Parents
 pub mod TreeSums
 pub mod Weight
 pub mod ShortestPath
+pub mod Path
+pub mod Lightest
+pub mod Precedes
+pub mod EdgeOrder
+pub mod MinimumSpanningTree
 pub mod inner

@@ -1,4 +1,5 @@
 pub mod Depths
+pub mod PointedPlace
 pub mod SubtreeSizes
 pub mod Distances
 pub mod inner

@@ -1,24 +1,11 @@
 //! The worked examples, as tables of schemes, inputs, texts and statuses.
 
-mod base;
-mod bits;
 mod colours;
-mod combinations;
-mod distances;
 mod expressions;
-mod graph;
-mod labelfile;
-mod leaders;
-mod lines;
-mod netfile;
-mod pointers;
 mod refusals;
-mod schemes;
 mod simulate;
-mod small;
 mod streams;
 mod trees;
-mod views;
 
 use crate::run_in_memory;
 use pls_base::Status;

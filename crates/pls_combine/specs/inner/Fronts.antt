@@ -8,7 +8,7 @@ use Rattle.pls_combine.specs.declared.fronts.Join.TheVariants.{Both, Either}
 use Rattle.pls_combine.specs.declared.scheme_error.SchemeError.{SchemeError}
 use Rattle.pls_combine.specs.declared.scheme_error.SchemeError.TheVariants.{NotAScheme, TooDeep, TooMany}
 use Rattle.pls_combine.specs.declared.scheme_name.SchemeName.{SchemeName}
-use Rattle.pls_combine.specs.declared.scheme_name.SchemeName.TheVariants.{Acyclic, Bipartite, Count, Forest, Leader, ShortestPathTree, Tree}
+use Rattle.pls_combine.specs.declared.scheme_name.SchemeName.TheVariants.{Acyclic, Bipartite, Count, Forest, Leader, MinimumSpanningTree, ShortestPathTree, Tree}
 use Rattle.pls_combine.specs.declared.scheme_tree.SchemeTree.{SchemeTree}
 use Rattle.pls_combine.specs.Expression.{Expression, And, Basic, Or, leaves_of}
 use Rattle.pls_combine.specs.ExpressionText.{deepest}
@@ -40,7 +40,9 @@ name_front text =
     (option_or (worded Bipartite (codes "bipartite") text)
     (option_or (worded Acyclic (codes "acyclic") text)
     (option_or (worded Leader (codes "leader") text)
-    (option_or (worded Count (codes "count") text) (worded ShortestPathTree (codes "spt") text))))))
+    (option_or (worded Count (codes "count") text)
+    (option_or (worded ShortestPathTree (codes "spt") text)
+    (worded MinimumSpanningTree (codes "mst") text)))))))
 
 -- what opens an expression of two
 abbrev pub join_front : List ℕ → Option (Front Join)

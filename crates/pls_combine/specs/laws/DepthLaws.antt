@@ -4,7 +4,7 @@ use Rattle.std.specs.List.{list_all}
 use Rattle.std.proofs.lemmas.Bool.{and_parts}
 use Rattle.std.proofs.lemmas.List.{append-nil}
 use Rattle.pls_combine.specs.declared.scheme_name.SchemeName.{SchemeName}
-use Rattle.pls_combine.specs.declared.scheme_name.SchemeName.TheVariants.{Acyclic, Bipartite, Count, Forest, Leader, ShortestPathTree, Tree}
+use Rattle.pls_combine.specs.declared.scheme_name.SchemeName.TheVariants.{Acyclic, Bipartite, Count, Forest, Leader, MinimumSpanningTree, ShortestPathTree, Tree}
 use Rattle.pls_combine.specs.Expression.{Expression, And, Basic, Or, depth_of}
 use Rattle.pls_combine.specs.ExpressionText.{IsTooDeep, deepest, depth_after, expression_text}
 use Rattle.pls_combine.specs.SchemeWord.{name_of}
@@ -46,6 +46,7 @@ name_plain Acyclic = refl
 name_plain Leader = refl
 name_plain Count = refl
 name_plain ShortestPathTree = refl
+name_plain MinimumSpanningTree = refl
 
 -- the text makes parentheses so deep, but for the 1 of a name
 abbrev MakesDeep : List ℕ → ℕ → Type 0

@@ -7,7 +7,7 @@ use Rattle.std.proofs.lemmas.Option.{option_and_then_some, same_Some}
 use Rattle.pls_combine.specs.declared.fronts.Join.{Join}
 use Rattle.pls_combine.specs.declared.fronts.Join.TheVariants.{Both, Either}
 use Rattle.pls_combine.specs.declared.scheme_name.SchemeName.{SchemeName}
-use Rattle.pls_combine.specs.declared.scheme_name.SchemeName.TheVariants.{Acyclic, Bipartite, Count, Forest, Leader, ShortestPathTree, Tree}
+use Rattle.pls_combine.specs.declared.scheme_name.SchemeName.TheVariants.{Acyclic, Bipartite, Count, Forest, Leader, MinimumSpanningTree, ShortestPathTree, Tree}
 use Rattle.pls_combine.specs.Expression.{Expression, And, Basic, Or, depth_of}
 use Rattle.pls_combine.specs.ExpressionText.{expression_text}
 use Rattle.pls_combine.specs.SchemeWord.{name_of}
@@ -37,6 +37,7 @@ name_read Acyclic rest = refl
 name_read Leader rest = refl
 name_read Count rest = refl
 name_read ShortestPathTree rest = refl
+name_read MinimumSpanningTree rest = refl
 
 -- an expression is at least 1 deep
 pub deep_some : (scheme : Expression) → 1 ≤ depth_of scheme
@@ -142,7 +143,7 @@ name_found : (text : List ℕ) (found : Front SchemeName) → name_front text �
     → text ≡ name_of found.item ++ found.rest
 name_found text found is =
     at Tree _ (at Forest _ (at Bipartite _ (at Acyclic _ (at Leader _ (at Count _
-    (one ShortestPathTree)))))) is
+    (at ShortestPathTree _ (one MinimumSpanningTree))))))) is
   where
     one : (name : SchemeName) → worded name (name_of name) text ≡ Some found
         → text ≡ name_of found.item ++ found.rest

@@ -17,8 +17,11 @@ use Rattle.pls_leader.specs.Count.{count_label, count_rules}
 use Rattle.pls_leader.specs.laws.CountLaws.{count_marked_once, count_sound}
 use Rattle.pls_distance.specs.Spt.{spt_label, spt_rules}
 use Rattle.pls_distance.specs.laws.SptLaws.{spt_marked_once, spt_sound}
+use Rattle.pls_mst.specs.Labels.{mst_label}
+use Rattle.pls_mst.specs.Rules.{mst_rules}
+use Rattle.pls_mst.specs.laws.MstLaws.{mst_marked_once, mst_sound}
 use Rattle.pls_combine.specs.declared.scheme_name.SchemeName.{SchemeName}
-use Rattle.pls_combine.specs.declared.scheme_name.SchemeName.TheVariants.{Acyclic, Bipartite, Count, Forest, Leader, ShortestPathTree, Tree}
+use Rattle.pls_combine.specs.declared.scheme_name.SchemeName.TheVariants.{Acyclic, Bipartite, Count, Forest, Leader, MinimumSpanningTree, ShortestPathTree, Tree}
 use Rattle.pls_combine.specs.Named.{HasNamed, IsNamedLabel, IsNamedMarked, IsNamedSpelling, judge_named}
 
 -- a rejection names the one leaf
@@ -31,6 +34,7 @@ one_leaf takes Acyclic = judge_by-leaf (label_in cycle_label takes 1) acyclic_ru
 one_leaf takes Leader = judge_by-leaf (label_in leader_label takes 2) leader_rules
 one_leaf takes Count = judge_by-leaf (label_in count_label takes 6) count_rules
 one_leaf takes ShortestPathTree = judge_by-leaf (label_in spt_label takes 3) spt_rules
+one_leaf takes MinimumSpanningTree = judge_by-leaf (mst_label takes) mst_rules
 
 -- a connected network whose nodes all accept some labels has the property
 pub named_sound : (takes : List Bool → Option (ℕ × List Bool)) (scheme : SchemeName)
@@ -42,6 +46,7 @@ named_sound takes Acyclic = acyclic_sound takes
 named_sound takes Leader = leader_sound takes
 named_sound takes Count = count_sound takes
 named_sound takes ShortestPathTree = spt_sound takes
+named_sound takes MinimumSpanningTree = mst_sound takes
 
 -- a connected network with the property is marked in one way
 pub named_marked_once : (code : ℕ → List Bool) (scheme : SchemeName)
@@ -53,6 +58,7 @@ named_marked_once code Acyclic = acyclic_marked_once code
 named_marked_once code Leader = leader_marked_once code
 named_marked_once code Count = count_marked_once code
 named_marked_once code ShortestPathTree = spt_marked_once code
+named_marked_once code MinimumSpanningTree = mst_marked_once code
 
 -- a label is its own spelling, and the only one
 pub has_spellings : (code : ℕ → List Bool) (scheme : SchemeName)

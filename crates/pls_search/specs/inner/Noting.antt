@@ -1,15 +1,8 @@
 -- What a walk along chains of pointers has noted so far.
-use Rattle.std.specs.Prelude.{◌≡◌, ◌⊎◌, ℕ, List, length, slice_get, slice_index_or, Option, Some, None}
+use Rattle.std.specs.Prelude.{◌≡◌, ◌⊎◌, ℕ, List, length, slice_index_or, Option, Some, None}
 use Rattle.pls_model.specs.declared.row.NodeRow.{NodeRow}
-use Rattle.pls_facts.specs.Pointer.{next}
 use Rattle.pls_search.specs.Depths.{IsDepth}
-
--- the node at a place points at the node at that place, or at none
-abbrev pub PointsTo : List NodeRow → ℕ → Option ℕ → Type 0
-PointsTo rows place None = (row : NodeRow) → slice_get rows place ≡ Some row
-    → next rows row.id ≡ None
-PointsTo rows place (Some to) = (row : NodeRow) → slice_get rows place ≡ Some row
-    → (other : NodeRow) × (slice_get rows to ≡ Some other) × (next rows row.id ≡ Some other.id)
+use Rattle.pls_search.specs.PointedPlace.{PointsTo}
 
 -- so many pointers are noted for the chain of the node at a place
 abbrev pub IsNoted : List (Option ℕ) → ℕ → ℕ → Type 0

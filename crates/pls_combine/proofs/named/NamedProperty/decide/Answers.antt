@@ -20,3 +20,7 @@ returns-in-Count g c = rw c.in-Count.is c.decide-in-Count.ensures
 
 pub returns-in-ShortestPathTree : goal.returns-in-ShortestPathTree
 returns-in-ShortestPathTree g c = rw c.in-ShortestPathTree.is c.decide-in-ShortestPathTree.ensures
+
+pub returns-in-MinimumSpanningTree : goal.returns-in-MinimumSpanningTree
+returns-in-MinimumSpanningTree g c =
+    rw c.in-MinimumSpanningTree.is c.decide-in-MinimumSpanningTree.ensures

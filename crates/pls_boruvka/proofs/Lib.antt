@@ -1,0 +1,15 @@
+pub mod Listed
+pub mod Climbing
+pub mod ChainLengths
+pub mod Placing
+pub mod Pointing
+pub mod Firsts
+pub mod Halving
+pub mod LightestLevels
+pub mod JoinedChains
+pub mod Leaving
+pub mod NextLevel
+pub mod Unjoined
+pub mod Begun
+pub mod OneAnswer
+pub mod NamedFragments

@@ -1,0 +1,4 @@
+-- What private functions say to each other.
+pub mod Tops
+pub mod Choices
+pub mod Chosen

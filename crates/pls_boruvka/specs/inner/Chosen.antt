@@ -1,0 +1,69 @@
+-- What a level says of each node, and which pointers its edges join.
+use Rattle.std.specs.Prelude.{◌≡◌, ◌≢◌, ℕ, ◌<◌, ◌≤◌, ◌⊎◌, ◌↔◌, Bool, true, false, List, [], ◌∷◌, ◌++◌, length, Option, Some, None, slice_get, slice_index_or}
+use Rattle.pls_model.specs.declared.row.NodeRow.{NodeRow}
+use Rattle.pls_boruvka.specs.declared.choice.Choice.{Choice}
+use Rattle.pls_boruvka.specs.declared.joining.Chosen.{Chosen}
+use Rattle.pls_boruvka.specs.declared.level.Level.{Level}
+use Rattle.pls_boruvka.specs.Boruvka.{chosen_edge}
+use Rattle.pls_boruvka.specs.inner.Choices.{edge_of, top_at}
+use Rattle.pls_boruvka.specs.inner.Tops.{Each}
+
+-- what the level says of the nodes of a fragment, by its top and by the edge that was found for it
+pub record IsChosen (rows : List NodeRow) (top : ℕ) (choice : Option Choice) (chosen : Chosen)
+    : Type 0 where
+  pub first : Choice
+  pub is : choice ≡ Some first
+  pub child : first.child ≡ Some chosen.child
+  pub edge : chosen_edge chosen.level ≡ edge_of first
+  pub name : (row : NodeRow) → slice_get rows top ≡ Some row → chosen.level.fragment ≡ row.id
+
+-- no edge was found, or one that no pointer lies on
+abbrev pub IsUnpointed : Option Choice → Type 0
+IsUnpointed choice =
+    (choice ≡ None) ⊎ ((first : Choice) × (choice ≡ Some first) × (first.child ≡ None))
+
+-- what was found for the fragment of a place
+abbrev pub found_at : List ℕ → List (Option Choice) → ℕ → Option Choice
+found_at tops choices place = slice_index_or choices (top_at tops place) None
+
+-- what the level says of each node
+pub record AreChosen (rows : List NodeRow) (tops : List ℕ) (choices : List (Option Choice))
+    (all : List Chosen) : Type 0 where
+  pub each : length all ≡ length rows
+  pub chosen : Each (λ place. IsChosen rows (top_at tops place) (found_at tops choices place)) all
+
+-- for some place no pointed edge was found
+abbrev pub SomeUnpointed : List ℕ → List (Option Choice) → Type 0
+SomeUnpointed tops choices =
+    (place : ℕ) × (place < length tops) × IsUnpointed (found_at tops choices place)
+
+-- the children of chosen edges are places
+abbrev pub AreChildrenWithin : ℕ → List Chosen → Type 0
+AreChildrenWithin size all = Each (λ place one. one.child < size) all
+
+-- a place is the child of one of the first edges that were chosen
+abbrev pub IsChild : List Chosen → ℕ → ℕ → Type 0
+IsChild all count child = (place : ℕ) × (one : Chosen) × (place < count)
+    × (slice_get all place ≡ Some one) × (one.child ≡ child)
+
+-- those places are joined that were before, and the children of the first edges that were chosen
+pub record JoinChildren (all : List Chosen) (count : ℕ) (old new : List Bool) : Type 0 where
+  pub each : length new ≡ length old
+  pub joined : (place : ℕ) → (slice_index_or new place false ≡ true)
+      ↔ ((slice_index_or old place false ≡ true) ⊎ IsChild all count place)
+
+-- the first lists have what the level says behind what they had, and the others are as they were
+pub record AddLevel (all : List Chosen) (count : ℕ) (old new : List (List Level)) : Type 0 where
+  pub each : length new ≡ length old
+  pub added : (place : ℕ) (one : Chosen) → place < count → slice_get all place ≡ Some one
+      → slice_index_or new place [] ≡ slice_index_or old place [] ++ one.level ∷ []
+  pub kept : (place : ℕ) → count ≤ place
+      → slice_index_or new place [] ≡ slice_index_or old place []
+
+-- all tops are the same
+abbrev pub AreOne : List ℕ → Type 0
+AreOne tops = (place : ℕ) → place < length tops → top_at tops place ≡ top_at tops 0
+
+-- one is another than the first
+abbrev pub SomeApart : List ℕ → Type 0
+SomeApart tops = (place : ℕ) × (place < length tops) × (top_at tops place ≢ top_at tops 0)

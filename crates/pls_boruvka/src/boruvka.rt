@@ -1,0 +1,85 @@
+//! Levels upon levels, until one fragment holds all nodes.
+
+ghost use Rattle.std.specs.Prelude.{◌≡◌, ◌<◌, ◌≤◌, ◌^◌, List, [], replicate, length, All, IfOk, IfSome, IfNone, true, false};
+ghost use Rattle.pls_model.specs.Configuration.{ids_of};
+ghost use Rattle.pls_model.specs.Walk.{Edge, edges_of};
+ghost use Rattle.pls_facts.specs.Lightest.{IsLightest, weight_of};
+ghost use Rattle.pls_facts.specs.SpanningTree.{IsSpanningTree, IsTree, pointed_edges};
+ghost use Rattle.pls_boruvka.specs.Boruvka.{AreLevelLists};
+ghost use Rattle.pls_boruvka.specs.inner.Chosen.{AreOne, SomeApart};
+
+use crate::choosing::choices_of;
+use crate::joining::{add_level, chosen_of, join};
+use crate::level::LevelList;
+use crate::tops::{parents_of, tops_of};
+use pls_base::NoMemory;
+use pls_graph::Network;
+use std::alloc::Global;
+
+/// The levels of each node, in the order of the nodes, or `None` where some spanning tree is
+/// lighter than the pointed edges. There are at most log2 n levels of n nodes, and each takes one
+/// pass over nodes and ports. The one error is want of memory.
+pub fn boruvka_levels(alloc: Global, net: &Network) -> Result<Option<Vec<LevelList>>, NoMemory>
+    requires tree { IsTree net.now }
+    ensures levels { IfOk result (λ found. IfSome found (λ lists.
+        AreLevelLists net.now lists.items)) }
+    ensures few { IfOk result (λ found. IfSome found (λ lists.
+        All (λ list. 2 ^ length list ≤ length net.now) lists.items)) }
+    ensures lightest { IfOk result (λ found. IfSome found (λ lists.
+        IsLightest (edges_of net.now) (pointed_edges net.now) (ids_of net.now))) }
+    ensures lighter { IfOk result (λ found. IfNone found ((other : List Edge)
+        × IsSpanningTree (edges_of net.now) other (ids_of net.now)
+        × (weight_of other < weight_of (pointed_edges net.now)))) }
+{
+    let mut lists = no_levels(alloc, net.len())?;
+    let parents = parents_of(alloc, net)?;
+    let parents = parents.as_slice();
+    let mut joined = none_joined(alloc, net.len())?;
+    let joined = joined.as_mut_slice();
+    loop {
+        let tops = tops_of(alloc, parents, joined)?;
+        let tops = tops.as_slice();
+        if are_one(tops) {
+            return Ok(Some(lists));
+        }
+        let choices = choices_of(alloc, net, parents, tops)?;
+        let Some(all) = chosen_of(alloc, net, tops, choices.as_slice())? else {
+            return Ok(None);
+        };
+        let all = all.as_slice();
+        join(joined, all);
+        add_level(lists.as_mut_slice(), all)?;
+    }
+}
+
+// Whether all tops are the same.
+fn are_one(tops: &[usize]) -> bool
+    requires { 0 < length tops.now }
+    ensures one { result ≡ true → AreOne tops.now }
+    ensures apart { result ≡ false → SomeApart tops.now }
+{
+    for top in tops {
+        if *top != tops[0] {
+            return false;
+        }
+    }
+    true
+}
+
+// Lists without levels, so many.
+fn no_levels(alloc: Global, count: usize) -> Result<Vec<LevelList>, NoMemory>
+    ensures { IfOk result (λ lists. lists.items ≡ replicate count []) }
+{
+    let mut lists = Vec::with_capacity(alloc, count)?;
+    for _ in 0..count {
+        lists.push(LevelList::from_vec(Vec::new(alloc)))?;
+    }
+    Ok(lists)
+}
+
+// So many nodes whose pointers are not joined.
+fn none_joined(alloc: Global, count: usize) -> Result<Vec<bool>, NoMemory>
+    ensures { IfOk result (λ joined. joined.items ≡ replicate count false) }
+{
+    Ok(vec![in alloc; false; count]?)
+}

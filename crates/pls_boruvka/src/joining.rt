@@ -1,0 +1,80 @@
+//! What a level says of each node, and the pointers that its chosen edges join.
+
+ghost use Rattle.std.specs.Prelude.{◌≡◌, ◌<◌, All, length, IfOk, IfSome, IfNone, OnOk};
+ghost use Rattle.pls_boruvka.specs.inner.Chosen.{AreChildrenWithin, AreChosen, AddLevel, IsChosen, IsUnpointed, JoinChildren, SomeUnpointed};
+
+use crate::choice::Choice;
+use crate::level::{Level, LevelList};
+use pls_base::NoMemory;
+use pls_graph::Network;
+use std::alloc::Global;
+
+// What a level says of a node, and the place of the end of its chosen edge that points at the
+// other.
+#[derive(Clone, Copy)]
+pub(crate) struct Chosen {
+    pub(crate) level: Level,
+    pub(crate) child: usize,
+}
+
+// For each node what the level says of it; `None` where some chosen edge is not a pointed one.
+pub(crate) fn chosen_of(
+    alloc: Global,
+    net: &Network,
+    tops: &[usize],
+    choices: &[Option<Choice>],
+) -> Result<Option<Vec<Chosen>>, NoMemory>
+    requires each { length tops.now ≡ length net.now }
+    requires choices { length choices.now ≡ length net.now }
+    requires within { All (λ top. top < length net.now) tops.now }
+    ensures chosen { IfOk result (λ found. IfSome found (λ all.
+        AreChosen net.now tops.now choices.now all.items)) }
+    ensures unpointed { IfOk result (λ found. IfNone found (SomeUnpointed tops.now choices.now)) }
+{
+    let mut all = Vec::with_capacity(alloc, net.len())?;
+    for top in tops {
+        let Some(chosen) = chosen_at(net, *top, choices[*top]) else {
+            return Ok(None);
+        };
+        all.push(chosen)?;
+    }
+    Ok(Some(all))
+}
+
+// What the level says of the nodes of a fragment, by its top and its choice.
+fn chosen_at(net: &Network, top: usize, choice: Option<Choice>) -> Option<Chosen>
+    requires within { top < length net.now }
+    ensures chosen { IfSome result (λ chosen. IsChosen net.now top choice chosen) }
+    ensures unpointed { IfNone result (IsUnpointed choice) }
+{
+    let choice = choice?;
+    let child = choice.child?;
+    let level = Level {
+        fragment: u64::from(net.node(top).0),
+        weight: u64::from(choice.weight),
+        a: u64::from(choice.a),
+        b: u64::from(choice.b),
+    };
+    Some(Chosen { level, child })
+}
+
+// Joins the pointers that lie on chosen edges.
+pub(crate) fn join(joined: &mut [bool], all: &[Chosen])
+    requires within { AreChildrenWithin (length joined.old) all.now }
+    ensures { JoinChildren all.now (length all.now) joined.old joined.new }
+{
+    for chosen in all {
+        joined[chosen.child] = true;
+    }
+}
+
+// Adds to each list what the level says.
+pub(crate) fn add_level(lists: &mut [LevelList], all: &[Chosen]) -> Result<(), NoMemory>
+    requires each { length all.now ≡ length lists.old }
+    ensures { OnOk result (AddLevel all.now (length all.now) lists.old lists.new) }
+{
+    for place in 0..all.len() {
+        lists[place].push(all[place].level)?;
+    }
+    Ok(())
+}

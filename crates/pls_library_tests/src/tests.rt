@@ -1,0 +1,10 @@
+//! Tests of bits, networks, texts and views.
+
+mod base;
+mod bits;
+mod edits;
+mod graph;
+mod labelfile;
+mod lines;
+mod netfile;
+mod views;

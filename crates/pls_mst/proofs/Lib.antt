@@ -1,0 +1,7 @@
+pub mod Levels
+pub mod Comparisons
+pub mod MorePorts
+pub mod Written
+pub mod Logarithm
+pub mod Made
+pub mod Worked

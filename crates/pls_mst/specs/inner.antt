@@ -1,0 +1,5 @@
+-- What private functions say to each other.
+pub mod Reading
+pub mod Comparing
+pub mod Gathering
+pub mod Making

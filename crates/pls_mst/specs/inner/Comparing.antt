@@ -1,0 +1,27 @@
+-- What the levels of two neighbours say together.
+use Rattle.std.specs.Prelude.{ℕ, ◌&&◌, ◌||◌, List}
+use Rattle.pls_model.specs.Walk.{Edge}
+use Rattle.pls_boruvka.specs.declared.level.Level.{Level}
+use Rattle.pls_mst.specs.declared.comparing.Between.{Between}
+use Rattle.pls_mst.specs.declared.comparing.Compared.{Compared}
+use Rattle.pls_mst.specs.Rules.{chose_least, is_chosen_between, is_named_or_shared, on_each_level, on_some_level}
+
+-- the edge between two nodes
+abbrev pub edge_between : Between → Edge
+edge_between between = record { a = between.a; b = between.b; weight = between.weight }
+
+-- what the levels of the node of this name and those of a neighbour say together
+abbrev pub compared : Between → ℕ → List Level → List Level → Compared
+compared between own mine theirs = record {
+  shares = on_each_level (is_named_or_shared own) mine theirs;
+  least = on_each_level (chose_least (edge_between between) between.outside) mine theirs;
+  chosen = on_some_level (is_chosen_between (edge_between between)) mine theirs;
+}
+
+-- what some levels say and those behind them
+abbrev pub both_compared : Compared → Compared → Compared
+both_compared front behind = record {
+  shares = front.shares && behind.shares;
+  least = front.least && behind.least;
+  chosen = front.chosen || behind.chosen;
+}

@@ -1,0 +1,42 @@
+-- What a node gathers of its ports.
+use Rattle.std.specs.Prelude.{ℕ, ◌+◌, ◌==◌, min, max, Bool, ◌&&◌, ◌||◌, if◌then◌else◌}
+use Rattle.pls_scheme.specs.Reading.{Read}
+use Rattle.pls_mst.specs.declared.comparing.Between.{Between}
+use Rattle.pls_mst.specs.declared.comparing.Compared.{Compared}
+use Rattle.pls_mst.specs.declared.gathering.Gathered.{Gathered}
+use Rattle.pls_mst.specs.declared.label.MstHead.{MstHead}
+use Rattle.pls_mst.specs.declared.label.MstLabel.{MstLabel}
+use Rattle.pls_mst.specs.Rules.{agrees_on_root_and_levels, chosen_edges_are_least, follows_target, pointed_edge_is_chosen, shares_with_target}
+use Rattle.pls_mst.specs.inner.Reading.{head_said}
+
+-- what the own label says in front of its levels, and which rules on the ports hold
+abbrev pub gathered : Read MstLabel → Gathered
+gathered view = record {
+  own = head_said view.own;
+  follows = follows_target view;
+  agrees = agrees_on_root_and_levels view;
+  shares = shares_with_target view;
+  least = chosen_edges_are_least view;
+  chosen = pointed_edge_is_chosen view;
+}
+
+-- the edge to a neighbour, of which this is known, and whether it is outside the tree
+abbrev pub between : Bool → ℕ → MstHead → MstHead → Between
+between pointer weight mine theirs = record {
+  weight = weight;
+  outside = if pointer || theirs.parent == mine.own then 0 else 1;
+  a = min mine.own theirs.own;
+  b = max mine.own theirs.own;
+}
+
+-- what is gathered with one more port, which the pointer is or not
+abbrev pub gathered_more : Bool → MstHead → Compared → Gathered → Gathered
+gathered_more pointer theirs both before = record {
+  own = before.own;
+  follows = if pointer then (before.own.depth == theirs.depth + 1
+      && before.own.parent == theirs.own) else before.follows;
+  agrees = before.agrees && (theirs.root == before.own.root && theirs.count == before.own.count);
+  shares = if pointer then both.shares else before.shares;
+  least = before.least && both.least;
+  chosen = if pointer then both.chosen else before.chosen;
+}

@@ -1,0 +1,13 @@
+pub mod NumberLaws
+pub mod LabelLaws
+pub mod Fragments
+pub mod Levelwise
+pub mod Kept
+pub mod TreeEdges
+pub mod Passed
+pub mod Sound
+pub mod JoinedPointers
+pub mod ChosenLevels
+pub mod LevelRules
+pub mod Fits
+pub mod MstLaws

@@ -1,0 +1,147 @@
+//! The levels of a node and those of a neighbour, side by side.
+
+ghost use Rattle.std.specs.Prelude.{◌≡◌, ℕ, ◌==◌, nat_lt, ◌&&◌, ◌||◌};
+ghost use Rattle.pls_facts.specs.EdgeOrder.{edge_key, is_same_edge};
+ghost use Rattle.pls_boruvka.specs.Boruvka.{chosen_edge};
+ghost use Rattle.pls_mst.specs.Rules.{chose_least, is_at_most, is_chosen_between, is_named_or_shared};
+ghost use Rattle.pls_mst.specs.inner.Comparing.{both_compared, compared, edge_between};
+ghost use Rattle.pls_mst.specs.inner.Reading.{levels_off};
+
+use crate::reading::read_level;
+use pls_bits::{Cursor, NumCode};
+use pls_boruvka::Level;
+
+/// The edge between a node and a neighbour.
+#[derive(Clone, Copy, Debug, PartialEq, Eq)]
+pub struct Between {
+    pub(crate) weight: u64,
+    // 0 in the tree, else 1.
+    pub(crate) outside: u64,
+    // The smaller identity of its ends.
+    pub(crate) a: u64,
+    // The greater identity of its ends.
+    pub(crate) b: u64,
+}
+
+/// What the levels of a node and of a neighbour say together.
+#[derive(Clone, Copy, Debug, PartialEq, Eq)]
+pub struct Compared {
+    // Each fragment has the node's name, or the neighbour is in it too.
+    pub(crate) shares: bool,
+    // The chosen edges agree inside of fragments, and do not come behind the edge between two.
+    pub(crate) least: bool,
+    // The edge between them was chosen by the fragment of one of the two, which it leaves.
+    pub(crate) chosen: bool,
+}
+
+// What so many levels say together, the own ones and those of a neighbour, as far as there are both.
+pub(crate) fn compare_levels<C: NumCode>(
+    mine: &mut Cursor<'_>,
+    theirs: &mut Cursor<'_>,
+    count: u64,
+    between: &Between,
+    own: u64,
+) -> Compared
+    ensures { result ≡ compared between.now own (levels_off C.takes count mine.old)
+        (levels_off C.takes count theirs.old) }
+{
+    let mut found = Compared {
+        shares: true,
+        least: true,
+        chosen: false,
+    };
+    for _ in 0..count {
+        let Some(here) = read_level::<C>(mine) else {
+            return found;
+        };
+        let Some(there) = read_level::<C>(theirs) else {
+            return found;
+        };
+        found = with_level(found, between, own, &here, &there);
+    }
+    found
+}
+
+// What is known of the levels so far and of one more.
+fn with_level(
+    found: Compared,
+    between: &Between,
+    own: u64,
+    mine: &Level,
+    theirs: &Level,
+) -> Compared
+    ensures shares { result.shares ≡ (found.shares && is_named_or_shared own mine.now theirs.now) }
+    ensures least { result.least ≡ (found.least
+        && chose_least (edge_between between.now) between.now.outside mine.now theirs.now) }
+    ensures chosen { result.chosen ≡ (found.chosen
+        || is_chosen_between (edge_between between.now) mine.now theirs.now) }
+{
+    let Compared {
+        shares,
+        least,
+        chosen,
+    } = found;
+    Compared {
+        shares: shares && is_named_or_shared(own, mine, theirs),
+        least: least && chose_least(between, mine, theirs),
+        chosen: chosen || is_chosen_between(between, mine, theirs),
+    }
+}
+
+// Whether a fragment has the node's name, or the neighbour is in it too.
+fn is_named_or_shared(own: u64, mine: &Level, theirs: &Level) -> bool
+    ensures { result ≡ is_named_or_shared own mine.now theirs.now }
+{
+    mine.fragment == own || mine.fragment == theirs.fragment
+}
+
+// Whether two nodes of one fragment name one chosen edge, or the chosen edge does not come behind
+// the edge between the two.
+fn chose_least(between: &Between, mine: &Level, theirs: &Level) -> bool
+    ensures { result ≡ chose_least (edge_between between.now) between.now.outside mine.now
+        theirs.now }
+{
+    if mine.fragment == theirs.fragment {
+        chose_same(mine, theirs)
+    } else {
+        comes_no_later(mine, between)
+    }
+}
+
+// Whether two levels name one chosen edge.
+fn chose_same(mine: &Level, theirs: &Level) -> bool
+    ensures { result ≡ is_same_edge (chosen_edge mine.now) (chosen_edge theirs.now) }
+{
+    mine.a == theirs.a && (mine.b == theirs.b && mine.weight == theirs.weight)
+}
+
+// Whether the chosen edge does not come behind the edge between two fragments.
+fn comes_no_later(mine: &Level, between: &Between) -> bool
+    ensures { result ≡ is_at_most (edge_key (chosen_edge mine.now) 0)
+        (edge_key (edge_between between.now) between.now.outside) }
+{
+    let ends = is_less_or(mine.a, between.a, is_less_or(mine.b, between.b, true));
+    let tie = is_less_or(0, between.outside, ends);
+    is_less_or(mine.weight, between.weight, tie)
+}
+
+// Whether one number is less than another, or the same and what follows holds.
+fn is_less_or(one: u64, other: u64, follows: bool) -> bool
+    ensures { result ≡ (nat_lt one other || (one == other && follows)) }
+{
+    one < other || (one == other && follows)
+}
+
+// Whether two nodes are in two fragments, one of which chose the edge between them.
+fn is_chosen_between(between: &Between, mine: &Level, theirs: &Level) -> bool
+    ensures { result ≡ is_chosen_between (edge_between between.now) mine.now theirs.now }
+{
+    mine.fragment != theirs.fragment && (is_edge(mine, between) || is_edge(theirs, between))
+}
+
+// Whether the chosen edge of a level is the edge between two nodes.
+fn is_edge(level: &Level, between: &Between) -> bool
+    ensures { result ≡ is_same_edge (chosen_edge level.now) (edge_between between.now) }
+{
+    level.a == between.a && (level.b == between.b && level.weight == between.weight)
+}

@@ -1,0 +1,78 @@
+//! An example program over the library: a protocol keeps a tree and at each node a label of its own
+//! making, and the nodes check them, with no text formats. It tells which nodes reject, and by which
+//! rule; where none does, the pointers are a spanning tree, which [`watch::is_a_tree`] is proved to
+//! say.
+#![tactic(auto)]
+
+mod nodes;
+mod watch;
+
+use crate::nodes::{Node, labels_of, network_of};
+use crate::watch::{is_a_tree, verdict_at};
+use pls_base::NoMemory;
+use pls_model::Verdict;
+use std::io;
+use std::process::ExitCode;
+
+// Five routers in a row, each of which points at the one before it. The last one was moved: it takes
+// itself to be nearer to the root than it is.
+const ROUTERS: [Node; 5] = [
+    Node {
+        up: false,
+        root: 1,
+        depth: 0,
+    },
+    Node {
+        up: true,
+        root: 1,
+        depth: 1,
+    },
+    Node {
+        up: true,
+        root: 1,
+        depth: 2,
+    },
+    Node {
+        up: true,
+        root: 1,
+        depth: 3,
+    },
+    Node {
+        up: true,
+        root: 1,
+        depth: 3,
+    },
+];
+
+fn main(rt: HostRuntime) -> ExitCode {
+    match report(&rt) {
+        Ok(()) => ExitCode::SUCCESS,
+        Err(_) => ExitCode::FAILURE,
+    }
+}
+
+// Tells what the nodes find.
+fn report(rt: &HostRuntime) -> io::Result<()> {
+    let alloc = rt.alloc();
+    let Ok(Some(net)) = network_of(alloc, &ROUTERS) else {
+        return println!(rt; "this is no network");
+    };
+    let Ok(labels) = labels_of(alloc, &ROUTERS) else {
+        return println!(rt; "out of memory");
+    };
+    for i in 0..ROUTERS.len() {
+        match verdict_at(alloc, &net, &labels, i) {
+            Ok(Verdict::Accept) => println!(rt; "node {} accepts", i + 1)?,
+            Ok(Verdict::Reject { rule, .. }) => println!(rt;
+                "node {} rejects by rule {rule}",
+                i + 1
+            )?,
+            Err(NoMemory) => println!(rt; "out of memory")?,
+        }
+    }
+    match is_a_tree(alloc, &net, &labels) {
+        Ok(true) => println!(rt; "the pointers are a spanning tree"),
+        Ok(false) => println!(rt; "nothing is known of the pointers"),
+        Err(NoMemory) => println!(rt; "out of memory"),
+    }
+}

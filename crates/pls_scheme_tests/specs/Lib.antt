@@ -1,0 +1,3 @@
+pub mod laws
+pub mod IndependentSet
+pub mod Pair

@@ -1,0 +1,2 @@
+-- The laws of the example scheme.
+pub mod IndependentSetLaws

@@ -1,0 +1,96 @@
+//! Borůvka's levels of small trees, and the names of fragments.
+
+use super::{ALONE, RING, TRIANGLE};
+use pls_bits::Gamma;
+use pls_boruvka::{LevelList, boruvka_levels, fragments};
+use pls_graph::{Network, connected};
+use pls_netfile::read_network;
+use pls_pointer::Tree;
+use pls_scheme::Property;
+use pls_search::pointer_depths;
+use std::alloc::{AllocError, Global};
+use std::test::Fail;
+
+// Three nodes, each joined to the others, where the edge between the first and the third is lighter
+// than the two that are pointed along.
+const HEAVY: &str = "network\nnode 1 - 0 0\nport 2 2\nport 3 1\nnode 2 0 0 0\nport 1 2\nport 3 2\n\
+                     node 3 1 0 0\nport 1 1\nport 2 2\nend\n";
+
+// The network of a text.
+fn network(alloc: Global, text: &str) -> Result<Network, Fail> {
+    match read_network(alloc, text.as_bytes()) {
+        Ok(net) => Ok(net),
+        Err(_) => Err(Fail::from("refused")),
+    }
+}
+
+// Of each node its levels, a line each: fragment, weight and ends, and a bar behind each level.
+fn text_of(alloc: Global, lists: &[LevelList]) -> Result<String, AllocError> {
+    let mut text = String::new(alloc);
+    for list in lists {
+        for level in list.as_slice() {
+            let part = format!(in alloc;
+                "{} {} {} {}|",
+                level.fragment, level.weight, level.a, level.b
+            )?;
+            text.push_str(&part)?;
+        }
+        text.push_str("\n")?;
+    }
+    Ok(text)
+}
+
+// The levels of a tree, as text, or that some spanning tree is lighter.
+fn levels_of(alloc: Global, net: &Network) -> Result<String, Fail> {
+    let tree = Tree::<Gamma>::new();
+    if connected(alloc, net)?.is_some() || !tree.decide(alloc, net)? {
+        return Err(Fail::from("no tree"));
+    }
+    match boruvka_levels(alloc, net)? {
+        Some(lists) => Ok(text_of(alloc, lists.as_slice())?),
+        None => Ok(format!(in alloc; "lighter")?),
+    }
+}
+
+// The names of the fragments of a network whose pointers do not return.
+fn names_of(alloc: Global, net: &Network, joined: &[bool]) -> Result<Vec<u32>, Fail> {
+    if pointer_depths(alloc, net)?.is_none() || joined.len() != net.len() {
+        return Err(Fail::from("a circle, or other nodes"));
+    }
+    Ok(fragments(alloc, net, joined)?)
+}
+
+#[test]
+fn levels_of_small_trees(rt: HostRuntime) -> Result<(), Fail> {
+    let cases = [
+        ("alone", ALONE, "\n"),
+        ("a tie", TRIANGLE, "1 7 1 2|\n2 7 1 2|\n3 7 2 3|\n"),
+        ("lighter", HEAVY, "lighter"),
+        (
+            "two levels",
+            RING,
+            "1 1 1 2|1 5 2 3|\n2 1 1 2|1 5 2 3|\n3 1 3 4|3 5 2 3|\n4 1 3 4|3 5 2 3|\n",
+        ),
+    ];
+    for (name, text, due) in cases {
+        let net = network(rt.alloc(), text)?;
+        assert_eq!(rt; levels_of(rt.alloc(), &net)?.as_str(), due, "{name}");
+    }
+    Ok(())
+}
+
+#[test]
+fn fragments_are_named_by_the_ends_of_chains(rt: HostRuntime) -> Result<(), Fail> {
+    let net = network(rt.alloc(), RING)?;
+    let cases = [
+        ("none", [false, false, false, false], [1, 2, 3, 4]),
+        ("pairs", [false, true, false, true], [1, 1, 3, 3]),
+        ("the root too", [true, true, true, true], [1, 1, 1, 1]),
+        ("the last", [false, false, true, true], [1, 2, 2, 2]),
+    ];
+    for (name, joined, due) in cases {
+        let names = names_of(rt.alloc(), &net, &joined)?;
+        assert_eq!(rt; names.as_slice(), due.as_slice(), "{name}");
+    }
+    Ok(())
+}

@@ -1,3 +1,0 @@
--- The laws of the example part.
-pub mod ScheduleLaws
-pub mod IndependentSetLaws

@@ -1,0 +1,15 @@
+use Rattle.std.proofs.Common.{inl, inr}
+use Rattle.pls_graph.specs.Edits.{link_refusal}
+use Rattle.pls_trial.proofs.Refused.{causes_left, two_causes}
+use Rattle.pls_trial.proofs.trial.put_link.Goals as goal
+
+-- no other cause is left
+pub unreachable-requires : goal.unreachable-requires
+unreachable-requires c =
+    let rows = c.args.net.now in
+    elim (two_causes rows c.args.a c.args.b c.requires.a c.requires.b c.requires.room c.in-Err.error
+    (causes_left (link_refusal rows c.args.a c.args.b) c.in-Err.error c.in-Err.ensures.refused
+    c.in_default.not-NoMemory)) [
+      | inl e ↦ c.in_default.not-SelfLink e
+      | inr e ↦ c.in_default.not-Present e
+    ]
