@@ -1,20 +1,12 @@
 -- Labels that `mark` wrote are accepted by `verify`.
-use Rattle.std.proofs.Common.{◌≡◌, ◌∙◌, ℕ, ◌*◌, ◌≤◌, ◌<◌, inl, inr, Bool, false, List, [], ◌∷◌, ◌++◌, length, map, All, None, ap, subst, refl, sym, arith}
-use Rattle.std.specs.Prelude.{flat_map, nat_lt}
-use Rattle.std.proofs.Math.Nat.{le-mul_of_pos_right, mul_comm, suc-mul}
-use Rattle.std.proofs.lemmas.Bool.Decides.{nat_tests}
-use Rattle.std.proofs.lemmas.Bool.{lt-ltb}
-use Rattle.std.proofs.lemmas.List.Elements.{All-cons, All-contains, All-head, All-map, All-nil, All-tail}
+use Rattle.std.proofs.Common.{◌≡◌, ◌∙◌, ℕ, ◌*◌, ◌≤◌, inl, inr, Bool, false, List, [], ◌∷◌, ◌++◌, length, All, None, ap, subst, refl, sym, arith}
+use Rattle.std.proofs.Math.Nat.{suc-mul}
+use Rattle.std.proofs.lemmas.List.Elements.{All-head, All-tail}
 use Rattle.std.proofs.lemmas.List.Sums.{sum_by-cons}
-use Rattle.pls_model.specs.declared.row.Port.{Port}
 use Rattle.pls_model.specs.declared.row.NodeRow.{NodeRow}
-use Rattle.pls_model.specs.Configuration.{ids_of}
-use Rattle.pls_graph.specs.Size.{greatest, size_of, weights_of}
-use Rattle.pls_graph.proofs.Members.{Contains-first, Contains-from_flat_map, Contains-later}
-use Rattle.pls_netfile.specs.NetworkText.{FitsPort, FitsRow, network_text}
+use Rattle.pls_graph.specs.Size.{size_of}
+use Rattle.pls_netfile.specs.NetworkText.{network_text}
 use Rattle.pls_view.specs.Labels.{bits_together}
-use Rattle.pls_scheme.specs.Marked.{answered}
-use Rattle.pls_scheme.specs.Theorem.{AreWords}
 use Rattle.pls_model.specs.declared.status.Status.TheVariants.{Done}
 use Rattle.pls_app.specs.Command.{parts_of, verify_words}
 use Rattle.pls_app.specs.inner.Tasks.{Does}
@@ -23,12 +15,11 @@ use Rattle.pls_app.specs.declared.shape.Shape.TheVariants.{Network, Labelled}
 use Rattle.pls_base.specs.declared.text_error.Quantity.TheVariants.{Labels}
 use Rattle.pls_bits.specs.Gamma.{gamma_code, gamma_takes}
 use Rattle.pls_combine.specs.Expression.{Expression, IsSmall, judge_of, longest_of}
-use Rattle.pls_combine.proofs.Bounds.{short_expression}
 use Rattle.pls_app.specs.declared.command.Command.TheVariants.{With}
 use Rattle.pls_app.specs.declared.command.Task.{Task}
 use Rattle.pls_app.specs.declared.command.Task.TheVariants.{Mark, Verify, Simulate, Bound}
 use Rattle.pls_app.specs.Order.{labels_over}
-use Rattle.pls_app.specs.Input.{Input, IsInput, IsReadable, net_labels_text}
+use Rattle.pls_app.specs.Input.{Input, IsInput, net_labels_text}
 use Rattle.pls_app.specs.Answer.{Answer, Answers, decided_by, report}
 use Rattle.pls_app.specs.Run.{Certifies, IsDone, Shows, ShowsIn}
 use Rattle.pls_app.proofs.Commands.{verify_is}

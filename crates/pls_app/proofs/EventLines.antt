@@ -1,5 +1,5 @@
 -- The lines of a text, and so the line of the first event.
-use Rattle.std.proofs.Common.{◌≡◌, ℕ, ◌≤◌, List, [], ◌∷◌, ◌++◌, map, codes, length, inl, inr, ap, subst, arith, length-append}
+use Rattle.std.proofs.Common.{◌≡◌, ℕ, ◌≤◌, List, [], ◌∷◌, ◌++◌, map, codes, length, ap, arith, length-append}
 use Rattle.pls_lines.specs.Text.{text_of}
 use Rattle.pls_netfile.specs.NetworkText.{network_lines, network_text}
 use Rattle.pls_labelfile.specs.LabelsText.{labels_lines, named}

@@ -1,38 +1,22 @@
 -- The greatest numbers of a network that can stand in a text.
-use Rattle.std.proofs.Common.{◌≡◌, ◌∙◌, ℕ, ◌*◌, ◌-◌, ◌^◌, ◌≤◌, ◌<◌, Bool, true, false, List, [], ◌∷◌, ◌++◌, length, map, All, Contains, Some, option_map, ap, subst, refl, sym, arith}
+use Rattle.std.proofs.Common.{◌≡◌, ◌∙◌, ℕ, ◌*◌, ◌-◌, ◌^◌, ◌≤◌, ◌<◌, Bool, true, false, List, [], ◌∷◌, map, All, Contains, ap, subst, refl, sym, arith}
 use Rattle.std.specs.Prelude.{flat_map, nat_lt}
-use Rattle.std.proofs.Math.Nat.{le-mul_of_pos_right, mul_comm, suc-mul}
+use Rattle.std.proofs.Math.Nat.{le-mul_of_pos_right, mul_comm}
 use Rattle.std.proofs.lemmas.Bool.Decides.{nat_tests}
 use Rattle.std.proofs.lemmas.Bool.{lt-ltb}
 use Rattle.std.proofs.lemmas.List.Elements.{All-cons, All-contains, All-head, All-map, All-nil, All-tail}
-use Rattle.std.proofs.lemmas.List.Sums.{sum_by-cons}
 use Rattle.pls_model.specs.declared.row.Port.{Port}
 use Rattle.pls_model.specs.declared.row.NodeRow.{NodeRow}
 use Rattle.pls_model.specs.Configuration.{ids_of}
 use Rattle.pls_graph.specs.Size.{greatest, size_of, weights_of}
 use Rattle.pls_graph.proofs.Members.{Contains-first, Contains-from_flat_map, Contains-later}
-use Rattle.pls_netfile.specs.NetworkText.{FitsPort, FitsRow, network_text}
-use Rattle.pls_view.specs.Labels.{bits_together}
+use Rattle.pls_netfile.specs.NetworkText.{FitsPort, FitsRow}
 use Rattle.pls_scheme.specs.Marked.{answered}
 use Rattle.pls_scheme.specs.Theorem.{AreWords}
-use Rattle.pls_app.specs.Command.{verify_words}
-use Rattle.pls_labelfile.specs.declared.limits.TheConstants.{MAX_BITS}
-use Rattle.pls_app.specs.declared.shape.Shape.TheVariants.{Network, Labelled}
-use Rattle.pls_base.specs.declared.text_error.Quantity.TheVariants.{Labels}
-use Rattle.pls_bits.specs.Gamma.{gamma_code, gamma_takes}
-use Rattle.pls_combine.specs.Expression.{Expression, IsSmall, judge_of, longest_of}
+use Rattle.pls_bits.specs.Gamma.{gamma_code}
+use Rattle.pls_combine.specs.Expression.{Expression, IsSmall, longest_of}
 use Rattle.pls_combine.proofs.Bounds.{short_expression}
-use Rattle.pls_app.specs.declared.command.Command.TheVariants.{With}
-use Rattle.pls_app.specs.declared.command.Task.TheVariants.{Verify}
-use Rattle.pls_app.specs.Order.{labels_over}
-use Rattle.pls_app.specs.Input.{Input, IsInput, IsReadable, net_labels_text}
-use Rattle.pls_app.specs.Answer.{Answer, Answers, decided_by, report}
-use Rattle.pls_app.specs.Run.{Certifies, IsDone, Shows, ShowsIn}
-use Rattle.pls_app.proofs.Commands.{verify_is}
-use Rattle.pls_app.proofs.LimitsPassed.{few_of}
-use Rattle.pls_app.proofs.Answered.{command_answer, worked_answer}
-use Rattle.pls_app.proofs.Proved.{accepted_report}
-use Rattle.pls_app.proofs.TextLengths.{text_fits}
+use Rattle.pls_app.specs.Input.{IsReadable}
 
 -- where each number is below a bound, so is the greatest
 small_greatest : (bound : ℕ) (numbers : List ℕ) → 1 ≤ bound → All (λ number. number < bound) numbers

@@ -1,5 +1,5 @@
 -- What a run answers: a status and a text, from its words and its input.
-use Rattle.std.specs.Prelude.{◌≡◌, ℕ, Bool, true, false, List, [], ◌∷◌, map, codes, decimal, Option, Some, None, if◌then◌else◌, ◌⊎◌}
+use Rattle.std.specs.Prelude.{◌≡◌, ℕ, Bool, true, false, List, [], ◌∷◌, map, codes, decimal, None, if◌then◌else◌, ◌⊎◌}
 use Rattle.pls_base.specs.declared.text_error.TextError.{TextError}
 use Rattle.pls_base.specs.declared.text_error.TextError.TheVariants.{Form, Limit, Sense, NoMemory}
 use Rattle.pls_base.specs.Quantity.{quantity_text}

@@ -4,14 +4,13 @@ use Rattle.pls_model.specs.declared.status.Status.TheVariants.{Done}
 use Rattle.pls_combine.specs.Expression.{Expression, IsSmall}
 use Rattle.pls_app.specs.declared.command.Command.{Command}
 use Rattle.pls_app.specs.declared.command.Command.TheVariants.{With}
-use Rattle.pls_app.specs.declared.command.Task.{Task}
 use Rattle.pls_app.specs.declared.command.Task.TheVariants.{Mark}
-use Rattle.pls_app.specs.Command.{parts_of, shape_of}
+use Rattle.pls_app.specs.Command.{parts_of}
 use Rattle.pls_app.specs.Input.{IsInput}
 use Rattle.pls_app.specs.Answer.{Answers}
 use Rattle.pls_app.specs.Run.{Certifies, ShowsIn}
 use Rattle.pls_app.specs.inner.Scanned.{said}
-use Rattle.pls_app.specs.inner.Tasks.{Does, IsSmallCommand}
+use Rattle.pls_app.specs.inner.Tasks.{Does}
 use Rattle.pls_app.proofs.Answered.{does_answer}
 use Rattle.pls_app.proofs.Certified.{certified_mark}
 use Rattle.pls_app.proofs.Consumed.{both_ok}
