@@ -14,6 +14,7 @@ mod pointers;
 mod refusals;
 mod schemes;
 mod small;
+mod spanning;
 mod streams;
 mod trees;
 mod views;
@@ -43,6 +44,11 @@ const ROW: &str = "network\nnode 1 - 0 0\nport 2 1\nnode 2 - 0 0\nport 1 1\nport
 // Each of three nodes joined to the others; the last points at the second.
 const TRIANGLE: &str = "network\nnode 1 - 0 0\nport 2 7\nport 3 7\nnode 2 0 0 0\nport 1 7\n\
                         port 3 7\nnode 3 1 0 0\nport 1 7\nport 2 7\nend\n";
+
+// Three nodes, each joined to the others, where the edge between the first and the third is lighter
+// than the two that are pointed along.
+const HEAVY: &str = "network\nnode 1 - 0 0\nport 2 2\nport 3 1\nnode 2 0 0 0\nport 1 2\nport 3 2\n\
+                     node 3 1 0 0\nport 1 1\nport 2 2\nend\n";
 
 // Four nodes in a ring; each but the first points at the one before it.
 const RING: &str = "network\nnode 1 - 0 0\nport 2 1\nport 4 5\nnode 2 0 0 0\nport 1 1\nport 3 5\n\
