@@ -3,8 +3,9 @@
 #   make run    runs `verify bipartite` on examples/two-nodes.txt
 #   make pls    proves all that the program stands on, builds it, and leaves it as ./pls
 #   make test   the gate: every proof, every edit that must be refused, every test and the program
+#   make examples   runs each command that the documents show, and compares what it writes
 
-.PHONY: run test
+.PHONY: run test examples
 
 SOURCES := Makefile crates.txt $(shell find crates -path '*/out' -prune -o -type f \( -name '*.rt' -o -name '*.antt' \) -print)
 
@@ -29,3 +30,7 @@ pls: $(SOURCES)
 
 test:
 	.ci/run
+
+# Needs ./pls, a shell and awk.
+examples: pls
+	sh tools/examples.sh README.md docs/TUTORIAL.md examples/README.md

@@ -1,9 +1,8 @@
 -- The numbers of a label as they are written.
-use Rattle.std.proofs.Common.{◌≡◌, ◌∙◌, ℕ, ◌≤◌, ◌<◌, ◌+◌, ◌++◌, Bool, List, [], ◌∷◌, length, take, get_or, refl, sym, ap, append_assoc}
+use Rattle.std.proofs.Common.{◌≡◌, ◌∙◌, ℕ, ◌≤◌, ◌<◌, ◌+◌, ◌++◌, Bool, List, length, take, get_or, sym, ap}
 use Rattle.std.specs.List.{flat_map}
 use Rattle.std.proofs.lemmas.List.{flat_map_more, take_more}
-use Rattle.std.proofs.lemmas.List.Elements.{All-contains, All-head, All-tail, Contains-get_or}
-use Rattle.std.proofs.lemmas.List.Elements.{All-cons, All-nil}
+use Rattle.std.proofs.lemmas.List.Elements.{All-contains, Contains-get_or}
 use Rattle.pls_bits.specs.declared.num_code.TheConstants.{MAX_CODED}
 use Rattle.pls_graph.proofs.Members.{Contains-flat_map}
 use Rattle.pls_scheme.specs.Numbers.{AreCoded, codes_of}

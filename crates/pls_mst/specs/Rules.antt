@@ -123,8 +123,8 @@ abbrev pub is_chosen_between : Edge → Level → Level → Bool
 is_chosen_between between mine theirs = not (is_one_fragment mine theirs)
     && (is_same_edge (chosen_edge mine) between || is_same_edge (chosen_edge theirs) between)
 
--- rule 7: the node points at no port, or on some level the edge to the node that it points at leaves
--- the fragment of one of the two, which chose it
+-- rule 7: the node points at no port, or on some level the edge to the node that it points at
+-- leaves the fragment of one of the two, which chose it
 abbrev pub pointed_edge_is_chosen : Read MstLabel → Bool
 pointed_edge_is_chosen view = option_map_or (λ port.
     on_some_level (is_chosen_between (edge_to view.own port)) view.own.levels port.label.levels)

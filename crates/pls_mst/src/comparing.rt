@@ -34,7 +34,8 @@ pub struct Compared {
     pub(crate) chosen: bool,
 }
 
-// What so many levels say together, the own ones and those of a neighbour, as far as there are both.
+// What so many levels say together, the own ones and those of a neighbour, as far as there are
+// both.
 pub(crate) fn compare_levels<C: NumCode>(
     mine: &mut Cursor<'_>,
     theirs: &mut Cursor<'_>,

@@ -13,8 +13,8 @@ use std::alloc::Global;
 use std::marker::PhantomData;
 
 /// The layout: the codes of the root, the node, its parent, its depth and the number of levels, and
-/// then for each level those of the fragment, the weight, and the smaller and the greater end of the
-/// chosen edge.
+/// then for each level those of the fragment, the weight, and the smaller and the greater end of
+/// the chosen edge.
 pub struct MstLayout<C> {
     code: PhantomData<C>,
 }

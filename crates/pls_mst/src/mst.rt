@@ -1,6 +1,6 @@
-//! The rules of the scheme `mst`: a label says where the node stands in the tree, and for each level
-//! its fragment and the edge that the fragment chose. It is judged where it lies, in one pass over
-//! the ports: the levels of the node and of each neighbour are compared side by side.
+//! The rules of the scheme `mst`: a label says where the node stands in the tree, and for each
+//! level its fragment and the edge that the fragment chose. It is judged where it lies, in one pass
+//! over the ports: the levels of the node and of each neighbour are compared side by side.
 
 use crate::gathering::{Gathered, with_port};
 use crate::layout::MstLayout;

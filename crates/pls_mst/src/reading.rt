@@ -1,5 +1,5 @@
-//! Labels that are read where they lie: what stands in front of the levels, and the levels one after
-//! another.
+//! Labels that are read where they lie: what stands in front of the levels, and the levels one
+//! after another.
 
 ghost use Rattle.std.specs.Prelude.{◌≡◌, ◌==◌, length, Some, None, IfSome, IfNone, IfOk, option_map};
 ghost use Rattle.std.specs.List.{list_all};

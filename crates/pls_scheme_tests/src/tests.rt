@@ -7,6 +7,8 @@ mod leaders;
 mod pointers;
 mod schemes;
 mod small;
+mod spanning;
+mod weighed;
 
 // Two nodes without an edge.
 const APART: &str = "network\nnode 1 - 0 0\nnode 2 - 0 0\nend\n";
@@ -28,3 +30,8 @@ const ALONE: &str = "network\nnode 5 - 0 0\nend\n";
 // Each of three nodes joined to the others; the last points at the second.
 const TRIANGLE: &str = "network\nnode 1 - 0 0\nport 2 7\nport 3 7\nnode 2 0 0 0\nport 1 7\n\
                         port 3 7\nnode 3 1 0 0\nport 1 7\nport 2 7\nend\n";
+
+// Three nodes, each joined to the others, where the edge between the first and the third is lighter
+// than the two that are pointed along.
+const HEAVY: &str = "network\nnode 1 - 0 0\nport 2 2\nport 3 1\nnode 2 0 0 0\nport 1 2\nport 3 2\n\
+                     node 3 1 0 0\nport 1 1\nport 2 2\nend\n";

@@ -15,7 +15,7 @@ use Rattle.pls_trial.specs.inner.Building.{AreReady, has_port}
 use Rattle.pls_trial.proofs.Alone.{ids_of-nodes_alone, ports_in-nodes_alone}
 use Rattle.pls_trial.proofs.Linking.{ids_of-fold}
 use Rattle.pls_trial.proofs.Putting.{still_ready}
-use Rattle.pls_trial.proofs.Spanning.{has_ports, is_connected, is_minimum}
+use Rattle.pls_trial.proofs.Spanning.{AreTrialLinks, has_ports, is_connected, is_minimum}
 
 -- a node of the tree is linked to one before it
 earlier : (i number : ℕ) → (tree_link i number).b < i + 2
@@ -34,18 +34,27 @@ heavy nodes count number link in' =
     let same = ap (λ (link : Link). link.weight) is in
     omega arith
 
+-- the links from a seed
+abbrev tree_of : ℕ → ℕ → Link
+tree_of seed i = tree_link i (draw seed (2 * i))
+
+abbrev others_of : ℕ → ℕ → List Link
+others_of nodes seed = other_links nodes nodes (draw seed (2 * (nodes - 1)))
+
+links_given : (nodes seed : ℕ) → AreTrialLinks (tree_of seed) (others_of nodes seed)
+links_given nodes seed = record {
+  named = λ i. refl;
+  earlier = λ i. earlier i (draw seed (2 * i));
+  light = λ i. light i (draw seed (2 * i));
+  heavy = heavy nodes nodes (draw seed (2 * (nodes - 1)));
+}
+
 module _ (nodes seed : ℕ) (some : 1 ≤ nodes) (net : IsNetwork (trial_of nodes seed)) where
   pub trial_connected : IsConnected (trial_of nodes seed)
-  trial_connected = is_connected (λ i. tree_link i (draw seed (2 * i)))
-      (other_links nodes nodes (draw seed (2 * (nodes - 1)))) (λ i. refl)
-      (λ i. earlier i (draw seed (2 * i))) (λ i. light i (draw seed (2 * i)))
-      (heavy nodes nodes (draw seed (2 * (nodes - 1)))) nodes some net
+  trial_connected = is_connected (tree_of seed) (others_of nodes seed) (links_given nodes seed) nodes some net
 
   pub trial_minimum : IsMinimumSpanningTree (trial_of nodes seed)
-  trial_minimum = is_minimum (λ i. tree_link i (draw seed (2 * i)))
-      (other_links nodes nodes (draw seed (2 * (nodes - 1)))) (λ i. refl)
-      (λ i. earlier i (draw seed (2 * i))) (λ i. light i (draw seed (2 * i)))
-      (heavy nodes nodes (draw seed (2 * (nodes - 1)))) nodes some net
+  trial_minimum = is_minimum (tree_of seed) (others_of nodes seed) (links_given nodes seed) nodes some net
 
 -- nodes without ports, and room for some
 pub ready_alone : (nodes ports : ℕ) (rows : List NodeRow) → rows ≡ nodes_alone nodes
@@ -80,10 +89,7 @@ module _ (nodes seed start behind : ℕ) (first second third : List NodeRow)
   -- each node behind the first has a port
   pub ports_last : (id : ℕ) → 2 ≤ id → id ≤ nodes → has_port third id ≡ true
   ports_last id least most = ap (λ (rows : List NodeRow). has_port rows id) all_put
-      ∙ has_ports (λ i. tree_link i (draw seed (2 * i)))
-      (other_links nodes nodes (draw seed (2 * (nodes - 1)))) (λ i. refl)
-      (λ i. earlier i (draw seed (2 * i))) (λ i. light i (draw seed (2 * i)))
-      (heavy nodes nodes (draw seed (2 * (nodes - 1)))) nodes some id least most
+      ∙ has_ports (tree_of seed) (others_of nodes seed) (links_given nodes seed) nodes some id least most
 
   -- the rows with their pointers are the network of the definition
   module _ (last : List NodeRow) (pointed : last ≡ map pointing third) (net : IsNetwork last) where

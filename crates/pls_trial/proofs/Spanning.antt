@@ -55,11 +55,14 @@ abbrev IsRootOrInTree : (ℕ → Link) → ℕ → NodeRow → Type 0
 IsRootOrInTree tree count row =
     ((row.id ≡ 1) × (row.state.up ≡ None)) ⊎ IsInTree tree count row
 
-module _ (tree : ℕ → Link) (others : List Link)
-    (named : (i : ℕ) → (tree i).a ≡ i + 2)
-    (earlier : (i : ℕ) → (tree i).b < i + 2)
-    (light : (i : ℕ) → (tree i).weight ≤ 999)
-    (heavy : (link : Link) → Contains others link → 999 ≤ link.weight)
+-- links of a tree, each of a node to one before it, and others that are no lighter
+pub record AreTrialLinks (tree : ℕ → Link) (others : List Link) : Type 0 where
+  pub named : (i : ℕ) → (tree i).a ≡ i + 2
+  pub earlier : (i : ℕ) → (tree i).b < i + 2
+  pub light : (i : ℕ) → (tree i).weight ≤ 999
+  pub heavy : (link : Link) → Contains others link → 999 ≤ link.weight
+
+module _ (tree : ℕ → Link) (others : List Link) (given : AreTrialLinks tree others)
     (nodes : ℕ) (some : 1 ≤ nodes) where
   abbrev links : List Link
   links = map tree (range_with_len 0 (nodes - 1)) ++ others
@@ -107,7 +110,7 @@ module _ (tree : ℕ → Link) (others : List Link)
             within = inside;
             id = is;
             up = refl;
-            first = begun tree others named earlier nodes (nodes - 1) (row.id - 2) inside row in' is;
+            first = begun tree others given.named given.earlier nodes (nodes - 1) (row.id - 2) inside row in' is;
           }
 
   -- each port is that of a link
@@ -130,7 +133,7 @@ module _ (tree : ℕ → Link) (others : List Link)
       found_place (λ (row : NodeRow). id == row.id) unpointed row found in
       let owner = eqb-true id row.id test in
       let first : slice_get row.ports 0 ≡ Some (port_of (tree (id - 2))) =
-      begun tree others named earlier nodes (nodes - 1) (id - 2) (omega arith) row
+      begun tree others given.named given.earlier nodes (nodes - 1) (id - 2) (omega arith) row
       (Contains-from_place unpointed k row at) (omega arith) in
       ap (λ (found : Option NodeRow).
       option_map_or (λ row. nat_lt 0 (length row.ports)) found false) found ∙ some_port row.ports first
@@ -164,7 +167,7 @@ module _ (tree : ℕ → Link) (others : List Link)
         points step.row (Contains-from_place rows step.place step.row step.at) step.port
         (ap (option_and_then (slice_get step.row.ports)) step.up ∙ step.has) in
         let b = ap (λ (port : Port). port.nbr) is in
-        let less = earlier i in
+        let less = given.earlier i in
         let name = step.named in
         let owner = step.owner in
         omega arith
@@ -196,7 +199,7 @@ module _ (tree : ℕ → Link) (others : List Link)
         points row row_in port at in
         let one = ap (λ (port : Port). port.weight) same in
         let two = ap (λ (edge : Edge). edge.weight) is in
-        let most = light i in
+        let most = given.light i in
         omega arith
 
     -- the edge of a link of the tree is pointed along
@@ -212,7 +215,7 @@ module _ (tree : ℕ → Link) (others : List Link)
               let which : is.i ≡ i = let e = is.id in omega arith in
               let first : slice_get row.ports 0 ≡ Some (port_of (tree i)) =
               is.first ∙ ap (λ (i : ℕ). Some (port_of (tree i))) which in
-              let less = earlier i in
+              let less = given.earlier i in
               let same : edge_at row (port_of (tree i)) ≡ edge =
               same_Edge (edge_at row (port_of (tree i))) edge
               (omega (arith, low, id, less)) (omega (arith, high, id, less)) (sym weighs) in
@@ -233,7 +236,7 @@ module _ (tree : ℕ → Link) (others : List Link)
         let weight = linked.weight in
         elim (Contains-append_cases (map tree (range_with_len 0 (nodes - 1))) others linked.link
         linked.among) [
-          | inr other ↦ let most = heavy linked.link other in omega arith
+          | inr other ↦ let most = given.heavy linked.link other in omega arith
           | inl of_tree ↦
               let (i, i_in, is) : (i : ℕ) × Contains (range_with_len 0 (nodes - 1)) i
               × (tree i ≡ linked.link) =
@@ -241,8 +244,8 @@ module _ (tree : ℕ → Link) (others : List Link)
               let a = ap (λ (link : Link). link.a) is in
               let b = ap (λ (link : Link). link.b) is in
               let w = ap (λ (link : Link). link.weight) is in
-              let name = named i in
-              let less = earlier i in
+              let name = given.named i in
+              let less = given.earlier i in
               let low = ap (λ (edge : Edge). edge.a) at.is in
               let high = ap (λ (edge : Edge). edge.b) at.is in
               let near = at.owner in

@@ -1,5 +1,5 @@
--- Where the pointers are a spanning tree of least weight, the edges that Borůvka's levels choose are
--- its edges, and each of its edges is chosen on some level.
+-- Where the pointers are a spanning tree of least weight, the edges that Borůvka's levels choose
+-- are its edges, and each of its edges is chosen on some level.
 use Rattle.std.proofs.Common.{◌≡◌, ◌≢◌, ◌∙◌, ℕ, zero, suc, ◌<◌, ◌==◌, ◌⊎◌, inl, inr, Bool, List, [], ◌∷◌, ◌++◌, length, get_or, sym, ap, subst, arith, Contains}
 use Rattle.std.proofs.lemmas.Bool.{cases_eq, ne_eqb}
 use Rattle.std.proofs.lemmas.List.Elements.{Contains-append_cases}
@@ -79,7 +79,8 @@ module _ (rows : List NodeRow) (net : IsNetwork rows) (is_tree : IsTree rows)
             (order.transitive (chosen level u) (chosen level v) (chosen level u) on back))
       ]
 
-      -- an edge that a fragment chose leads to another, and the fragment of one of its ends chose it
+      -- an edge that a fragment chose leads to another, and the fragment of one of its ends chose
+      -- it
       pub chosen_by_end : (edge : Edge) (w u v : ℕ) → Known w → Known u → Known v
           → chosen_edge (level w) ≡ edge → Joins edge u v
           → ((level u).fragment ≢ (level v).fragment)

@@ -102,7 +102,8 @@ module _ (rows : List NodeRow) (net : IsNetwork rows) (words : AreWords (size_of
         subst (λ (edge : Edge). edge.weight ≤ size.max_weight) is light,
       )
 
-  module _ (Before : Edge → Edge → Type 0) (depth : ℕ → ℕ) (u : ℕ) (known : Contains (ids_of rows) u)
+  module _ (Before : Edge → Edge → Type 0) (depth : ℕ → ℕ) (u : ℕ)
+      (known : Contains (ids_of rows) u)
     where
       abbrev AreLevels : List Edge → List (ℕ → Level) → Type 0
       AreLevels joined levels =

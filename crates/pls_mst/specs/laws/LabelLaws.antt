@@ -1,9 +1,8 @@
 -- Labels of the scheme `mst`: what bits say is what they spell, and in one spelling.
-use Rattle.std.proofs.Common.{◌≡◌, ◌∙◌, ◌↔◌, ℕ, zero, suc, ◌≤◌, ◌<◌, nat_lt, ◌++◌, Bool, true, false, if◌then◌else◌, List, [], ◌∷◌, length, get_or, Option, Some, None, option_map, refl, sym, ap, subst, append_assoc}
+use Rattle.std.proofs.Common.{◌≡◌, ◌∙◌, ◌↔◌, ℕ, zero, suc, ◌≤◌, ◌<◌, nat_lt, ◌++◌, Bool, true, false, if◌then◌else◌, List, [], ◌∷◌, length, get_or, Option, Some, None, option_map, refl, sym, ap, subst}
 use Rattle.std.specs.List.{flat_map}
 use Rattle.std.specs.Option.{option_and_then}
 use Rattle.std.proofs.lemmas.Bool.{lt-ltb, ltb-true}
-use Rattle.std.proofs.lemmas.Option.{same_Some}
 use Rattle.std.proofs.lemmas.List.Concat.{flat_map-cons}
 use Rattle.std.proofs.lemmas.List.Elements.{All-append, All-cons, All-head, All-nil, All-tail}
 use Rattle.pls_bits.specs.declared.num_code.TheConstants.{MAX_CODED}
@@ -13,7 +12,7 @@ use Rattle.pls_scheme.specs.laws.CodeLaws.{at_places-all}
 use Rattle.pls_boruvka.specs.declared.level.Level.{Level}
 use Rattle.pls_mst.specs.declared.label.MstHead.{MstHead}
 use Rattle.pls_mst.specs.declared.label.MstLabel.{MstLabel}
-use Rattle.pls_mst.specs.Labels.{AreOrdered, IsMstLabel, IsMstWritable, head_of, label_with, level_of, level_off, levels_in, mst_label, ordered_level, with_number, numbers_of_level, numbers_of_mst, numbers_off}
+use Rattle.pls_mst.specs.Labels.{AreOrdered, IsMstLabel, IsMstWritable, head_of, label_with, level_of, level_off, levels_in, mst_label, ordered_level, numbers_of_level, numbers_of_mst, numbers_off}
 use Rattle.pls_mst.specs.laws.NumberLaws.{codes-numbers_off, codes_of-append, coded_rest, numbers_off-codes, same_parts}
 
 -- a label that can be written has a spelling
@@ -32,7 +31,8 @@ one_mst_spelling code label a b first second = first.codes.written ∙ sym secon
 module _ (takes : List Bool → Option (ℕ × List Bool)) where
   -- where levels are read, so are the first and the others
   module _ (levels : List Level) where
-    pub split_levels : (count : ℕ) (bits : List Bool) → levels_in takes (suc count) bits ≡ Some levels
+    pub split_levels : (count : ℕ) (bits : List Bool)
+        → levels_in takes (suc count) bits ≡ Some levels
         → (level : Level) × (rest : List Bool) × (more : List Level)
         × (level_off takes bits ≡ Some (level, rest))
         × (levels_in takes count rest ≡ Some more) × (level ∷ more ≡ levels)
@@ -49,7 +49,8 @@ module _ (takes : List Bool → Option (ℕ × List Bool)) where
 
         by : (next : Option (Level × List Bool)) → level_off takes bits ≡ next
             → option_and_then (λ (first : Level × List Bool).
-            option_map (λ levels. first.0 ∷ levels) (levels_in takes count first.1)) next ≡ Some levels
+            option_map (λ levels. first.0 ∷ levels) (levels_in takes count first.1)) next
+            ≡ Some levels
             → (level : Level) × (rest : List Bool) × (more : List Level)
             × (level_off takes bits ≡ Some (level, rest))
             × (levels_in takes count rest ≡ Some more) × (level ∷ more ≡ levels)
@@ -73,7 +74,8 @@ module _ (code : ℕ → List Bool) (takes : List Bool → Option (ℕ × List B
   -- the levels of a list are read off their codes
   levels_in-codes : TakesCodes code takes → (levels : List Level)
       → AreCoded (flat_map numbers_of_level levels) → AreOrdered levels
-      → levels_in takes (length levels) (codes_of code (flat_map numbers_of_level levels)) ≡ Some levels
+      → levels_in takes (length levels) (codes_of code (flat_map numbers_of_level levels))
+      ≡ Some levels
   levels_in-codes taken [] coded ordered = refl
   levels_in-codes taken (level ∷ levels) coded ordered =
       let more : List ℕ = flat_map numbers_of_level levels in

@@ -38,7 +38,8 @@ same_parts {A} {B} one other is =
 
 module _ (code : ℕ → List Bool) (takes : List Bool → Option (ℕ × List Bool)) where
   -- the first of some codes are read to their numbers, and the others are left
-  pub numbers_off-codes : TakesCodes code takes → (front others : List ℕ) → AreCoded (front ++ others)
+  pub numbers_off-codes : TakesCodes code takes → (front others : List ℕ)
+      → AreCoded (front ++ others)
       → numbers_off takes (length front) (codes_of code (front ++ others))
       ≡ Some (front, codes_of code others)
   numbers_off-codes taken [] others coded = refl

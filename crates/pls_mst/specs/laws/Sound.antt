@@ -1,7 +1,7 @@
--- Why accepted labels show a spanning tree of least weight, in five steps: the pointers make a tree;
--- all nodes of a fragment say that it chose one edge; each tree edge is the choice of a fragment that
--- it leaves; such a choice comes before all other edges that leave the fragment; so, by the cut rule,
--- no spanning tree is lighter.
+-- Why accepted labels show a spanning tree of least weight, in five steps: the pointers make a
+-- tree; all nodes of a fragment say that it chose one edge; each tree edge is the choice of a
+-- fragment that it leaves; such a choice comes before all other edges that leave the fragment; so,
+-- by the cut rule, no spanning tree is lighter.
 use Rattle.std.proofs.Common.{◌≡◌, ◌≢◌, ◌∙◌, ℕ, zero, suc, ◌+◌, ◌<◌, ◌==◌, ◌⊎◌, inl, inr, Bool, true, false, List, length, Some, refl, sym, ap, subst, arith, slice_get, Contains}
 use Rattle.std.proofs.lemmas.Bool.{eq-eqb, eqb-true, eqb-false, ne_eqb, true≢false}
 use Rattle.pls_model.specs.declared.row.Port.{Port}

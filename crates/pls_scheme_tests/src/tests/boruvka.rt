@@ -1,6 +1,6 @@
 //! Borůvka's levels of small trees, and the names of fragments.
 
-use super::{ALONE, RING, TRIANGLE};
+use super::{ALONE, HEAVY, RING, TRIANGLE};
 use pls_bits::Gamma;
 use pls_boruvka::{LevelList, boruvka_levels, fragments};
 use pls_graph::{Network, connected};
@@ -10,11 +10,6 @@ use pls_scheme::Property;
 use pls_search::pointer_depths;
 use std::alloc::{AllocError, Global};
 use std::test::Fail;
-
-// Three nodes, each joined to the others, where the edge between the first and the third is lighter
-// than the two that are pointed along.
-const HEAVY: &str = "network\nnode 1 - 0 0\nport 2 2\nport 3 1\nnode 2 0 0 0\nport 1 2\nport 3 2\n\
-                     node 3 1 0 0\nport 1 1\nport 2 2\nend\n";
 
 // The network of a text.
 fn network(alloc: Global, text: &str) -> Result<Network, Fail> {

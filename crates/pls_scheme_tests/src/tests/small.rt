@@ -92,20 +92,31 @@ pub(super) fn are_joined(edges: u32, nodes: u32) -> bool {
     (0..4).all(|node| node >= nodes || has(reached, node))
 }
 
+// The edges along which the nodes point.
+pub(super) fn pointed(net: Small) -> u32 {
+    let mut edges = 0_u32;
+    for node in 0..4 {
+        if let Some(target) = net.target(node) {
+            edges = with(edges, pair(node, target));
+        }
+    }
+    edges
+}
+
+// How many nodes have no pointer.
+fn roots(net: Small) -> usize {
+    (0..4)
+        .filter(|node| *node < net.nodes && net.target(*node).is_none())
+        .count()
+}
+
 // Exactly one node has no pointer, and the pointed edges are one fewer than the nodes and join
 // them.
 pub(super) fn is_tree(net: Small) -> bool {
-    let mut roots = 0_u32;
-    let mut pointed = 0_u32;
-    for node in 0..4 {
-        match net.target(node) {
-            Some(target) => pointed = with(pointed, pair(node, target)),
-            None => roots = roots.saturating_add(u32::from(node < net.nodes)),
-        }
-    }
-    roots == 1
-        && pointed.count_ones().saturating_add(1) == net.nodes
-        && are_joined(pointed, net.nodes)
+    let edges = pointed(net);
+    roots(net) == 1
+        && edges.count_ones().saturating_add(1) == net.nodes
+        && are_joined(edges, net.nodes)
 }
 
 // No chain of one to four pointers returns to its start.

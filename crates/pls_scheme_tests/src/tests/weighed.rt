@@ -1,0 +1,177 @@
+//! Shortest-path trees and spanning trees of least weight in small networks with weights of 0 and 1
+//! and all pointers, of four nodes all that make a tree, decided as plain programs do that try all
+//! walks and all sets of edges.
+
+ghost use Rattle.pls_model.specs.Walk.{IsConnected};
+
+use super::distances::joined;
+use super::small::{Small, are_joined, has, is_tree, marks, pair, pointed};
+use pls_bits::Gamma;
+use pls_distance::Spt;
+use pls_graph::Network;
+use pls_mst::Mst;
+use std::alloc::{AllocError, Global};
+use std::test::Fail;
+
+// A small network whose edges have one of two weights each: those with a bit have the second.
+#[derive(Clone, Copy)]
+struct Weighed {
+    net: Small,
+    second: u32,
+    weights: (u32, u32),
+}
+
+impl Weighed {
+    // The weight of the edge of two nodes.
+    fn weight(self, a: u32, b: u32) -> u32 {
+        if has(self.second, pair(a, b)) {
+            self.weights.1
+        } else {
+            self.weights.0
+        }
+    }
+
+    // What the chain of a node weighs, and the node where it ends, after four pointers at most.
+    fn chain(self, start: u32) -> (u32, u32) {
+        let mut node = start;
+        let mut weight = 0_u32;
+        for _ in 0..4 {
+            if let Some(target) = self.net.target(node) {
+                weight = weight.saturating_add(self.weight(node, target));
+                node = target;
+            }
+        }
+        (weight, node)
+    }
+
+    // Whether some walk of three edges or fewer weighs less than this from one node to another.
+    fn is_lighter(self, from: u32, to: u32, weight: u32) -> bool {
+        let walk = |a: u32, b: u32| -> u32 {
+            if a == b {
+                0
+            } else if Small::joins(self.net.edges, a, b) {
+                self.weight(a, b)
+            } else {
+                1_000
+            }
+        };
+        (0..4).any(|a| (0..4).any(|b| walk(from, a)
+            .saturating_add(walk(a, b))
+            .saturating_add(walk(b, to))
+            < weight))
+    }
+
+    // What a set of edges weighs.
+    fn sum(self, edges: u32) -> u32 {
+        let heavy = (edges & self.second).count_ones();
+        let light = (edges & !self.second).count_ones();
+        heavy
+            .saturating_mul(self.weights.1)
+            .saturating_add(light.saturating_mul(self.weights.0))
+    }
+
+    // Whether some spanning tree weighs less than this.
+    fn is_tree_lighter(self, weight: u32) -> bool {
+        (0..64).any(|tree: u32| tree & !self.net.edges == 0
+            && tree.count_ones().saturating_add(1) == self.net.nodes
+            && self.sum(tree) < weight
+            && are_joined(tree, self.net.nodes))
+    }
+
+    // The pointers make a tree, and no spanning tree weighs less than their edges.
+    fn is_lightest(self) -> bool {
+        is_tree(self.net) && !self.is_tree_lighter(self.sum(pointed(self.net)))
+    }
+
+    // The pointers make a tree, and no walk from the root to a node weighs less than its chain.
+    fn is_shortest(self) -> bool {
+        is_tree(self.net)
+            && (0..4).all(|node| {
+                let (weight, root) = self.chain(node);
+                node >= self.net.nodes || !self.is_lighter(root, node, weight)
+            })
+    }
+
+    // The text of the network.
+    fn text(self, alloc: Global) -> Result<Vec<u8>, AllocError> {
+        let mut text = b"network\n".to_vec(alloc)?;
+        for node in 0..self.net.nodes.min(4) {
+            let line = match self.net.pointer(node) {
+                0 => format!(in alloc; "node {node} - 0 0\n")?,
+                up => format!(in alloc; "node {node} {} 0 0\n", up - 1)?,
+            };
+            text.extend_from_slice(line.as_bytes())?;
+            for nbr in 0..self.net.nodes.min(4) {
+                if Small::joins(self.net.edges, node, nbr) {
+                    let weight = self.weight(node, nbr);
+                    let line = format!(in alloc; "port {nbr} {weight}\n")?;
+                    text.extend_from_slice(line.as_bytes())?;
+                }
+            }
+        }
+        text.extend_from_slice(b"end\n")?;
+        Ok(text)
+    }
+}
+
+// Which schemes mark a network: spt, mst.
+fn marked(alloc: Global, net: &Network) -> Result<[bool; 2], Fail>
+    requires { IsConnected net.now }
+{
+    Ok([
+        marks(alloc, &Spt::<Gamma>::new(), net)?,
+        marks(alloc, &Mst::<Gamma>::new(), net)?,
+    ])
+}
+
+// The networks of so many nodes with these edges, each choice of weights, and pointers: how many are
+// tried, and of how many the schemes decide other than the plain programs.
+fn compare(alloc: Global, nodes: u32, edges: u32) -> Result<(u32, u32), Fail> {
+    let mut tried = 0_u32;
+    let mut wrong = 0_u32;
+    for pointers in 0..256 {
+        let net = Small {
+            nodes,
+            edges,
+            pointers,
+        };
+        // Of four nodes those are tried whose pointers make a tree: no weights make one of others.
+        if net.is_proper() && (nodes < 4 || is_tree(net)) {
+            for second in 0..64 {
+                // Pairs without edge have no weight, so each network is tried once.
+                if second & !edges == 0 {
+                    let weighed = Weighed {
+                        net,
+                        second,
+                        weights: (0, 1),
+                    };
+                    let read = joined(alloc, &weighed.text(alloc)?)?;
+                    let plain = [weighed.is_shortest(), weighed.is_lightest()];
+                    tried = tried.saturating_add(1);
+                    wrong = wrong.saturating_add(u32::from(marked(alloc, &read)? != plain));
+                }
+            }
+        }
+    }
+    Ok((tried, wrong))
+}
+
+#[test]
+fn trees_of_all_small_weighed_networks(rt: HostRuntime) -> Result<(), Fail> {
+    let mut tried = 0_u32;
+    for (nodes, sets) in [(1, 1), (2, 2), (3, 8), (4, 64)] {
+        for edges in 0..sets {
+            if are_joined(edges, nodes) {
+                let (more, wrong) = compare(rt.alloc(), nodes, edges)?;
+                assert_eq!(rt; wrong, 0, "{nodes} nodes, edges {edges}");
+                tried = tried.saturating_add(more);
+            }
+        }
+    }
+    // Choices of weights and of pointers: a node alone; a pair; 3 rows and the triangle. Of four nodes
+    // a root and a spanning tree, in 16 trees, 3 rings, 12 with a triangle, 6 of five edges, one of six.
+    let small = 1 + 2 * 4 + 3 * 4 * 12 + 8 * 27;
+    let four = 8 * 16 * 4 + 16 * (3 * 16 + 12 * 12) + 32 * 6 * 32 + 64 * 64;
+    assert_eq!(rt; tried, small + four, "networks");
+    Ok(())
+}
