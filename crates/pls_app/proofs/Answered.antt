@@ -14,12 +14,16 @@ use Rattle.pls_app.specs.declared.command.Task.{Task}
 use Rattle.pls_app.specs.declared.command.Task.TheVariants.{Mark, Verify, Simulate, Bound}
 use Rattle.pls_combine.specs.Expression.{Expression}
 use Rattle.pls_app.specs.declared.limits.TheConstants.{MAX_INPUT}
-use Rattle.pls_app.specs.Command.{IsCommand, IsNoCommand, parts_of, shape_of}
+use Rattle.pls_app.specs.Command.{IsCommand, parts_of, shape_of}
 use Rattle.pls_app.specs.Input.{Input, IsInput}
 use Rattle.pls_app.specs.Order.{IsRefused, work_refusal}
-use Rattle.pls_app.specs.Answer.{Answer, Answers, IsAnswer, TaskYields, Yields, refusal, task_outcomes, usage}
+use Rattle.pls_app.specs.Answer.{Answer, Answers, TaskYields, Yields, refusal, task_outcomes, usage}
 use Rattle.pls_app.specs.inner.Tasks.{Does}
-use Rattle.pls_app.proofs.Commands.{one_command}
+use Rattle.pls_app.specs.declared.request.Request.{Request}
+use Rattle.pls_app.specs.declared.request.Request.TheVariants.{Reading, Trial}
+use Rattle.pls_app.specs.Trial.{IsTrial, IsTrialAnswer, IsUsage}
+use Rattle.pls_app.specs.Words.{AnswersRequest, IsAnswer, IsRequest}
+use Rattle.pls_app.proofs.Commands.{no_trial, one_command}
 use Rattle.pls_app.specs.inner.Scanned.{Refuses}
 use Rattle.pls_app.specs.Run.{IsAnswered, IsRefusalStatus, Tells, TellsRefusal}
 use Rattle.pls_app.proofs.OneAnswer.{one_answer}
@@ -51,15 +55,20 @@ pub refused_answer : (command : Command) (bytes : List ℕ) (error : TextError) 
     → IsRefused command bytes error → answer ≡ refusal error → Answers command bytes answer
 refused_answer command bytes error answer refused same = inl (error, refused, same)
 
--- words that are no command are answered so
-pub usage_answer : (words : List (List ℕ)) (bytes : List ℕ) → IsNoCommand words
+-- words that ask for nothing are answered so
+pub usage_answer : (words : List (List ℕ)) (bytes : List ℕ) → IsUsage words
     → IsAnswer words bytes usage
 usage_answer words bytes none = inl (none, refl)
 
 -- the answer to a command is the answer to its words
 pub command_answer : (words : List (List ℕ)) (bytes : List ℕ) (command : Command) (answer : Answer)
     → IsCommand words command → Answers command bytes answer → IsAnswer words bytes answer
-command_answer words bytes command answer is answers = inr (command, is, answers)
+command_answer words bytes command answer is answers = inr (Reading command, is, answers)
+
+-- so is the answer to a trial
+pub trial_answer : (words : List (List ℕ)) (bytes : List ℕ) (nodes seed : ℕ) (answer : Answer)
+    → IsTrial words nodes seed → IsTrialAnswer nodes seed answer → IsAnswer words bytes answer
+trial_answer words bytes nodes seed answer is answers = inr (Trial nodes seed, is, answers)
 
 -- the command of the words is one
 pub same_command : (words : List (List ℕ)) (command other : Command) (bytes : List ℕ)
@@ -98,9 +107,15 @@ tells_refusal words command bytes error status old new is refused told =
 answer_of_command : (words : List (List ℕ)) (bytes : List ℕ) (command : Command) (answer : Answer)
     → IsCommand words command → IsAnswer words bytes answer → Answers command bytes answer
 answer_of_command words bytes command answer is answers = elim answers [
-  | inl none ↦ absurd (none.0 command is)
-  | inr found ↦ same_command words found.0 command bytes answer found.1 is found.2
+  | inl none ↦ absurd (none.0.no_command command is)
+  | inr found ↦ by found.0 found.1 found.2
 ]
+  where
+    by : (request : Request) → IsRequest words request → AnswersRequest request bytes answer
+        → Answers command bytes answer
+    by (Reading other) is_other answers =
+        same_command words other command bytes answer is_other is answers
+    by (Trial nodes seed) is_trial answers = absurd (no_trial words command nodes seed is is_trial)
 
 -- a task answers what its refusal or its work says
 pub does_answer : (task : Task) (scheme : Expression) (bytes : List ℕ) (input : Input)

@@ -1,5 +1,6 @@
 mod Answered
 mod Certified
+mod Colons
 mod Commands
 mod Consumed
 mod EventLines
@@ -15,5 +16,6 @@ mod Schedules
 mod Sizes
 mod TextLengths
 mod Told
+mod Trials
 mod Whole
 mod Worked

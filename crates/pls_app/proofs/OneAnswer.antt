@@ -1,5 +1,5 @@
 -- Words and bytes have one answer.
-use Rattle.std.proofs.Common.{◌≡◌, ◌∙◌, ℕ, List, inl, inr, ap, subst, sym}
+use Rattle.std.proofs.Common.{◌≡◌, ◌∙◌, ℕ, Bool, List, [], ◌∷◌, inl, inr, ap, subst, sym}
 use Rattle.pls_model.specs.declared.row.NodeRow.{NodeRow}
 use Rattle.pls_combine.specs.laws.ExpressionLaws.{expression_marked_once}
 use Rattle.pls_app.specs.declared.command.Command.{Command}
@@ -8,10 +8,17 @@ use Rattle.pls_app.specs.declared.command.Task.{Task}
 use Rattle.pls_app.specs.declared.command.Task.TheVariants.{Mark, Verify, Simulate, Bound}
 use Rattle.pls_bits.specs.Gamma.{gamma_code}
 use Rattle.pls_combine.specs.Expression.{Expression}
-use Rattle.pls_app.proofs.Commands.{one_command}
+use Rattle.pls_app.proofs.Commands.{no_trial, one_command, one_trial}
 use Rattle.pls_app.specs.Command.{shape_of}
 use Rattle.pls_app.specs.Input.{Input, IsReadable}
-use Rattle.pls_app.specs.Answer.{Answer, Answers, IsAnswer, Marks, TaskYields, Works, Yields, labelled, refusal}
+use Rattle.pls_app.specs.Answer.{Answer, Answers, Marks, TaskYields, Works, Yields, labelled, refusal}
+use Rattle.pls_app.specs.declared.request.Request.{Request}
+use Rattle.pls_app.specs.declared.request.Request.TheVariants.{Reading, Trial}
+use Rattle.pls_app.specs.Trial.{IsTrialAnswer, IsUsage, trial_line, tried_scheme}
+use Rattle.pls_app.specs.Words.{AnswersRequest, IsAnswer, IsRequest}
+use Rattle.pls_model.specs.declared.status.Status.{Status}
+use Rattle.pls_lines.specs.Text.{text_of}
+use Rattle.pls_trial.specs.Generator.{trial_of}
 use Rattle.pls_app.proofs.Inputs.{one_input}
 use Rattle.pls_app.proofs.OneRefusal.{one_refusal, refused_unread}
 
@@ -76,19 +83,54 @@ one_of_command command bytes answer other one two = elim one [
   ]
 ]
 
+-- a trial has one answer
+one_tried : (nodes seed : ℕ) (answer other : Answer) → IsTrialAnswer nodes seed answer
+    → IsTrialAnswer nodes seed other → answer ≡ other
+one_tried nodes seed answer other one two =
+    let labels : one.labels ≡ two.labels =
+    expression_marked_once gamma_code tried_scheme (trial_of nodes seed) one.labels two.labels
+    one.valid one.connected one.holds one.marked two.marked in
+    let texts : answer.text ≡ other.text =
+    one.text ∙ ap (λ (labels : List (List Bool)). text_of (trial_line (trial_of nodes seed) labels ∷ []))
+    labels ∙ sym two.text in
+    ap (λ (status : Status). record { status = status; text = answer.text }) (one.ends ∙ sym two.ends)
+    ∙ ap (λ (text : List ℕ). record { status = other.status; text = text }) texts
+
+-- a request has one answer
+one_request : (words : List (List ℕ)) (bytes : List ℕ) (request other_request : Request)
+    (answer other : Answer) → IsRequest words request → IsRequest words other_request
+    → AnswersRequest request bytes answer → AnswersRequest other_request bytes other
+    → answer ≡ other
+one_request words bytes (Reading command) (Reading found) answer other is is_other one two =
+    let same = one_command words found command is_other is in
+    one_of_command command bytes answer other one
+    (subst (λ (command : Command). Answers command bytes other) same two)
+one_request words bytes (Reading command) (Trial nodes seed) answer other is is_other one two =
+    absurd (no_trial words command nodes seed is is_other)
+one_request words bytes (Trial nodes seed) (Reading command) answer other is is_other one two =
+    absurd (no_trial words command nodes seed is_other is)
+one_request words bytes (Trial nodes seed) (Trial many other_seed) answer other is is_other one two =
+    let same = one_trial words many other_seed nodes seed is_other is in
+    one_tried nodes seed answer other one
+    (subst (λ (nodes : ℕ). IsTrialAnswer nodes seed other) same.0
+    (subst (λ (seed : ℕ). IsTrialAnswer many seed other) same.1 two))
+
+-- words that ask for nothing are no request
+asks_nothing : (words : List (List ℕ)) (request : Request) → IsUsage words
+    → IsRequest words request → ⊥
+asks_nothing words (Reading command) none is = none.no_command command is
+asks_nothing words (Trial nodes seed) none is = none.no_trial nodes seed is
+
 -- words and bytes have one answer
 pub one_answer : (words : List (List ℕ)) (bytes : List ℕ) (answer other : Answer)
     → IsAnswer words bytes answer → IsAnswer words bytes other → answer ≡ other
 one_answer words bytes answer other one two = elim one [
   | inl none ↦ elim two [
     | inl too ↦ none.1 ∙ sym too.1
-    | inr found ↦ absurd (none.0 found.0 found.1)
+    | inr found ↦ absurd (asks_nothing words found.0 none.0 found.1)
   ]
   | inr found ↦ elim two [
-    | inl none ↦ absurd (none.0 found.0 found.1)
-    | inr too ↦
-        let same = one_command words too.0 found.0 too.1 found.1 in
-        one_of_command found.0 bytes answer other found.2
-        (subst (λ (command : Command). Answers command bytes other) same too.2)
+    | inl none ↦ absurd (asks_nothing words found.0 none.0 found.1)
+    | inr too ↦ one_request words bytes found.0 too.0 answer other found.1 too.1 found.2 too.2
   ]
 ]

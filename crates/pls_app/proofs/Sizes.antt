@@ -7,7 +7,7 @@ use Rattle.std.proofs.lemmas.Bool.{lt-ltb}
 use Rattle.std.proofs.lemmas.List.Elements.{All-cons, All-contains, All-head, All-map, All-nil, All-tail}
 use Rattle.pls_model.specs.declared.row.Port.{Port}
 use Rattle.pls_model.specs.declared.row.NodeRow.{NodeRow}
-use Rattle.pls_model.specs.Configuration.{ids_of}
+use Rattle.pls_model.specs.Configuration.{IsNetwork, ids_of}
 use Rattle.pls_graph.specs.Size.{greatest, size_of, weights_of}
 use Rattle.pls_graph.proofs.Members.{Contains-first, Contains-from_flat_map, Contains-later}
 use Rattle.pls_netfile.specs.NetworkText.{FitsPort, FitsRow}
@@ -16,6 +16,7 @@ use Rattle.pls_scheme.specs.Theorem.{AreWords}
 use Rattle.pls_bits.specs.Gamma.{gamma_code}
 use Rattle.pls_combine.specs.Expression.{Expression, IsSmall, longest_of}
 use Rattle.pls_combine.proofs.Bounds.{short_expression}
+use Rattle.pls_app.specs.Trial.{tried_scheme}
 use Rattle.pls_app.specs.Input.{IsReadable}
 
 -- where each number is below a bound, so is the greatest
@@ -79,6 +80,14 @@ pub bound_answered : (scheme : Expression) (rows : List NodeRow) → IsSmall sch
     ≡ longest_of gamma_code scheme (size_of rows)
 bound_answered scheme rows small readable =
     omega (arith, bound_small scheme rows small readable)
+
+-- so is that of a trial
+pub tried_answered : (rows : List NodeRow) → IsNetwork rows → AreWords (size_of rows)
+    → answered (longest_of gamma_code tried_scheme (size_of rows))
+    ≡ longest_of gamma_code tried_scheme (size_of rows)
+tried_answered rows net words =
+    let small : IsSmall tried_scheme = record { few = omega arith; shallow = omega arith } in
+    omega (arith, short_expression tried_scheme (size_of rows) small net.limits.few_nodes words)
 
 -- at least one times a number is at least the number
 greater : (count bits : ℕ) → 1 ≤ count → bits ≤ count * bits

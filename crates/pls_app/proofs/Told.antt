@@ -2,13 +2,15 @@
 use Rattle.std.proofs.Common.{◌≡◌, ℕ, List, Option, Result, Ok, Err, IsOk, MatchResult, inl, inr, length, refl, subst, sym}
 use Rattle.pls_base.specs.Streams.{Rose}
 use Rattle.pls_model.specs.declared.status.Status.{Status}
-use Rattle.pls_model.specs.declared.status.Status.TheVariants.{Done, No, WriteFault}
+use Rattle.pls_model.specs.declared.status.Status.TheVariants.{Done, No, Usage, Refused, ReadFault, WriteFault, NoMemory, Limit}
 use Rattle.pls_app.specs.declared.command.Command.{Command}
 use Rattle.pls_combine.specs.Expression.{Expression}
 use Rattle.pls_app.specs.Command.{IsCommand}
-use Rattle.pls_app.specs.Answer.{Answer, Answers, IsAnswer}
+use Rattle.pls_app.specs.Answer.{Answer, Answers}
+use Rattle.pls_app.specs.Words.{IsAnswer}
 use Rattle.pls_app.proofs.Answered.{command_answer}
-use Rattle.pls_app.specs.Run.{Certifies, IsAnswered, Tells, TellsPart, Told, TookCertificate}
+use Rattle.pls_app.specs.Run.{Certifies, EndsAs, IsAnswered, Tells, TellsPart, Told, TookCertificate}
+use Rattle.pls_app.specs.Trial.{IsUnread, IsUsage}
 
 -- an answer that was told in the end
 pub tells : (words : List (List ℕ)) (bytes : List ℕ) (answer : Answer) (status : Status)
@@ -100,3 +102,23 @@ pub sure_ok : {T E : Type 0} (result : Result T E) (P : T → Type 0)
     → MatchResult result P (λ _. ⊥) → IsOk result
 sure_ok (Ok value) P sure = refl
 sure_ok (Err error) P sure = absurd sure
+
+-- a run ends as was due, or a write failed
+pub told_ends : (due status : Status) (before after : ℕ) (old new : Option (List ℕ)) (text : List ℕ)
+    → Told due status before after old new text → EndsAs due status
+told_ends due status before after old new text told = elim told [
+  | inl whole ↦ inl whole.0
+  | inr part ↦ inr (inl part.0)
+]
+
+-- words that ask for nothing are answered `usage`
+pub unread_usage : (words : List (List ℕ)) (due : Status) → IsUsage words → IsUnread words due
+    → due ≡ Usage
+unread_usage words Usage none unread = refl
+unread_usage words Done none unread = absurd (none.no_trial unread.0 unread.1 unread.2)
+unread_usage words No none unread = absurd unread
+unread_usage words Refused none unread = absurd unread
+unread_usage words ReadFault none unread = absurd unread
+unread_usage words WriteFault none unread = absurd unread
+unread_usage words NoMemory none unread = absurd unread
+unread_usage words Limit none unread = absurd unread

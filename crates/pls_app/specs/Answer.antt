@@ -24,7 +24,7 @@ use Rattle.pls_bits.specs.Gamma.{gamma_code, gamma_takes}
 use Rattle.pls_graph.specs.Size.{size_of}
 use Rattle.pls_combine.specs.Expression.{Expression, HasProperty, IsMarked, judge_of, longest_of}
 use Rattle.pls_json.specs.Json.{json_text}
-use Rattle.pls_app.specs.Command.{IsCommand, IsNoCommand, shape_of}
+use Rattle.pls_app.specs.Command.{shape_of}
 use Rattle.pls_app.specs.Input.{Input, IsInput}
 use Rattle.pls_app.specs.Order.{IsRefused, work_refusal}
 
@@ -137,9 +137,3 @@ abbrev pub Answers : Command → List ℕ → Answer → Type 0
 Answers command bytes answer =
     ((error : TextError) × IsRefused command bytes error × (answer ≡ refusal error))
     ⊎ Works command bytes answer
-
--- the answer of a run: that of the command that its words are, or `usage` where they are none
-abbrev pub IsAnswer : List (List ℕ) → List ℕ → Answer → Type 0
-IsAnswer words bytes answer =
-    (IsNoCommand words × (answer ≡ usage))
-    ⊎ ((command : Command) × IsCommand words command × Answers command bytes answer)

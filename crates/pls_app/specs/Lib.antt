@@ -3,5 +3,7 @@ pub mod Input
 pub mod Unapplied
 pub mod Order
 pub mod Answer
+pub mod Trial
+pub mod Words
 pub mod Run
 pub mod inner

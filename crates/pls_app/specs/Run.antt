@@ -21,7 +21,8 @@ use Rattle.pls_app.specs.Command.{IsCommand, shape_of, verify_words}
 use Rattle.pls_combine.specs.Expression.{Expression, HasProperty, judge_of, longest_of}
 use Rattle.pls_app.specs.Input.{Input, IsInput}
 use Rattle.pls_app.specs.Order.{IsRefused}
-use Rattle.pls_app.specs.Answer.{Answer, IsAnswer, outcomes_in, refusal, refusal_status}
+use Rattle.pls_app.specs.Answer.{Answer, outcomes_in, refusal, refusal_status}
+use Rattle.pls_app.specs.Words.{IsAnswer}
 
 -- the words are this command, and the source tells these bytes
 pub record Asks (words : List (List ℕ)) (left : Option (List ℕ)) (command : Command)
@@ -92,9 +93,9 @@ HasRead (Some bytes) new =
     (length bytes ≤ MAX_INPUT → new ≡ Some [])
     × (MAX_INPUT < length bytes → new ≡ Some (drop (MAX_INPUT + 1) bytes))
 
--- how a run ends whose words are no command
-abbrev pub IsUsageEnd : Status → Type 0
-IsUsageEnd status = (status ≡ Usage) ⊎ ((status ≡ WriteFault) ⊎ (status ≡ NoMemory))
+-- a run ends as was due, or a write failed, or there was no memory
+abbrev pub EndsAs : Status → Status → Type 0
+EndsAs due status = (status ≡ due) ⊎ ((status ≡ WriteFault) ⊎ (status ≡ NoMemory))
 
 -- what a run takes from its source: one that answers a command has read it to its end, or up to the
 -- first byte past the limit, and none takes more

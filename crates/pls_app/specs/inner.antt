@@ -2,3 +2,5 @@
 pub mod Scanned
 pub mod Written
 pub mod Tasks
+pub mod Requests
+pub mod Trials

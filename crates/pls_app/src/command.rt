@@ -2,14 +2,13 @@
 
 ghost use Rattle.std.specs.Prelude.{◌≡◌, IfOk, IfSome, None, bytes_eq};
 ghost use Rattle.pls_combine.specs.ExpressionText.{IsNoScheme};
-ghost use Rattle.pls_words.specs.Words.{words_in};
-ghost use Rattle.pls_app.specs.Command.{IsCommand, IsNoCommand, IsNotSaid, IsSaid, IsTaskWith, parts_of, shape_of, task_named};
+ghost use Rattle.pls_app.specs.Command.{IsNotSaid, IsSaid, IsTaskWith, parts_of, shape_of, task_named};
 
 use crate::shape::Shape;
 use pls_base::NoMemory;
 use pls_bits::Gamma;
 use pls_combine::{AnyScheme, SchemeError, read_scheme};
-use pls_words::{Given, read_words};
+use pls_words::Given;
 use std::alloc::Global;
 
 /// What is done with a scheme.
@@ -68,23 +67,8 @@ impl Task {
     }
 }
 
-// The command that the words are, or `None` where they are none. The one error is want of memory.
-pub(crate) fn read_command<'w>(
-    alloc: Global,
-    words: &'w [&'w str],
-) -> Result<Option<Command>, NoMemory>
-    ensures some { IfOk result (λ found. IfSome found
-        (λ command. IsCommand (words_in words.entry.now) command)) }
-    ensures none { IfOk result (λ found. found ≡ None → IsNoCommand (words_in words.entry.now)) }
-{
-    match read_words(alloc, words)? {
-        Some(given) => read_given(alloc, &given),
-        None => Ok(None),
-    }
-}
-
 // The command that was given, or `None` where it is none.
-fn read_given(alloc: Global, given: &Given<'_>) -> Result<Option<Command>, NoMemory>
+pub(crate) fn read_given(alloc: Global, given: &Given<'_>) -> Result<Option<Command>, NoMemory>
     ensures some { IfOk result (λ found. IfSome found (λ command. IsSaid given.now command)) }
     ensures none { IfOk result (λ found. found ≡ None → IsNotSaid given.now) }
 {

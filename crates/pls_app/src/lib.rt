@@ -16,8 +16,11 @@ mod limits;
 mod mark;
 mod program;
 mod refusal_number;
+mod request;
 mod shape;
 mod simulate;
+mod trial;
+mod trial_words;
 mod verify;
 mod work;
 
@@ -27,4 +30,6 @@ pub use limits::MAX_INPUT;
 pub use pls_base::Status;
 pub use program::run;
 pub use refusal_number::UNAPPLIED;
+pub use request::Request;
 pub use shape::Shape;
+pub use trial_words::MAX_SEED;

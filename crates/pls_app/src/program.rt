@@ -5,13 +5,16 @@ ghost use Rattle.std.specs.Io.KnownBytes.{Appends};
 ghost use Rattle.pls_base.specs.Streams.{AppendsPart, Rose};
 ghost use Rattle.pls_words.specs.Words.{words_in};
 ghost use Rattle.pls_combine.specs.Expression.{Expression};
-ghost use Rattle.pls_app.specs.Command.{Checks, IsNoCommand};
-ghost use Rattle.pls_app.specs.Run.{Asks, Consumes, HasItsCause, IsAnswered, IsSureOfAnswer, IsUsageEnd, Lacks, Proves, RefusesExactly, SomeRejects, Tells, TellsPart, Told, TookCertificate};
+ghost use Rattle.pls_app.specs.Command.{Checks};
+ghost use Rattle.pls_app.specs.Trial.{IsUnread};
+ghost use Rattle.pls_app.specs.Run.{Asks, Consumes, EndsAs, HasItsCause, IsAnswered, IsSureOfAnswer, Lacks, Proves, RefusesExactly, SomeRejects, Tells, TellsPart, Told, TookCertificate};
 ghost use Rattle.pls_app.specs.inner.Written.{text_in};
 
 use crate::answer::{Answer, Content, usage};
-use crate::command::{Command, Task, read_command};
+use crate::command::{Command, Task};
 use crate::from_source::answer_from;
+use crate::request::{Request, read_request};
+use crate::trial::trial;
 use pls_base::{Fault, NoMemory, Sink, Source, Status, write_all};
 use pls_report::write_report;
 use std::alloc::Global;
@@ -62,15 +65,19 @@ pub fn run<'w, S: Source, K: Sink>(
         → result ≡ Status.WriteFault
         → TellsPart (words_in words.now) bytes (K.taken sink.old) (K.taken sink.new) }
 
-    // What the source has lost: nothing where the words are no command.
-    ensures usage { IsNoCommand (words_in words.now)
-        → IsUsageEnd result × (source.new ≡ source.old) }
+    // What the source has lost: nothing where the words ask for no input.
+    ensures unread { (due : Status) → IsUnread (words_in words.now) due
+        → EndsAs due result × (source.new ≡ source.old) }
     ensures read { Consumes (words_in words.now) result (S.left source.old) (S.left source.new) }
 {
-    match read_command(alloc, words) {
+    match read_request(alloc, words) {
         Err(NoMemory) => Status::NoMemory,
         Ok(None) => tell(sink, &usage()),
-        Ok(Some(command)) => match answer_from(alloc, &command, source) {
+        Ok(Some(Request::Trial { nodes, seed })) => match trial(alloc, nodes, seed) {
+            Ok(answer) => tell(sink, &answer),
+            Err(NoMemory) => Status::NoMemory,
+        },
+        Ok(Some(Request::Reading(command))) => match answer_from(alloc, &command, source) {
             Ok(answer) => tell(sink, &answer),
             Err(status) => status,
         },
