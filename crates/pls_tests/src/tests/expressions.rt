@@ -8,12 +8,12 @@ use std::process::Abort;
 use std::test::Fail;
 
 // Runs words on an input, and asserts the text and the status.
-fn assert_run<'t>(
+fn assert_run<'w, 'i, 'd>(
     rt: &impl Abort,
     alloc: Global,
-    words: &[&'t str],
-    input: &'t str,
-    due: (&'t str, Status),
+    words: &[&'w str],
+    input: &'i str,
+    due: (&'d str, Status),
 ) -> Result<(), Fail> {
     let (text, status) = due;
     let (end, sink) = run_in_memory(alloc, words, input.as_bytes().to_vec(alloc)?)?;
