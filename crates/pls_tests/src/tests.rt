@@ -6,6 +6,7 @@ mod refusals;
 mod simulate;
 mod streams;
 mod trees;
+mod trial;
 
 use crate::run_in_memory;
 use pls_base::Status;
