@@ -8,10 +8,10 @@ use pls_bits::Gamma;
 use pls_colour::{Acyclic, Bipartite};
 use pls_combine::{Both, OneOf, SchemeError, print_scheme, read_scheme};
 use pls_graph::{Network, connected};
+use pls_labelfile::read_labels;
 use pls_netfile::read_network;
 use pls_pointer::Tree;
 use pls_scheme::{Checker, Scheme, Verdict, are_accepted};
-use pls_view::{LabelStore, View};
 use std::alloc::Global;
 use std::test::Fail;
 
@@ -140,35 +140,36 @@ fn texts_are_read_and_printed_or_refused(rt: HostRuntime) -> Result<(), Fail> {
     Ok(())
 }
 
-// The verdict of the first of three nodes under these labels.
-fn first_verdict(alloc: Global, text: &str, labels: [&[bool]; 3]) -> Result<Verdict, Fail> {
+// The verdict of the first of three nodes under these labels, each its length and its digits.
+fn first_verdict(alloc: Global, text: &str, labels: [&str; 3]) -> Result<Verdict, Fail> {
     let net = network(alloc, TRIANGLE)?;
     let Ok(scheme) = read_scheme::<Gamma>(alloc, text) else {
         return Err(Fail::from("not read"));
     };
-    let mut store = LabelStore::blank(alloc, 3)?;
-    for (i, bits) in labels.iter().enumerate() {
-        let mut label = pls_bits::BitBuf::new(alloc);
-        for bit in *bits {
-            label.push(*bit)?;
-        }
-        store.replace(i, &label)?;
+    let [first, second, third] = labels;
+    let lines = format!(in alloc;
+        "labels\nlabel 1 {first}\nlabel 2 {second}\nlabel 3 {third}\nend\n"
+    )?;
+    let Ok(store) = read_labels(alloc, lines.as_bytes(), &net) else {
+        return Err(Fail::from("labels refused"));
+    };
+    let verdicts = scheme.round(alloc, &net, &store, &mut Steps::new())?;
+    match verdicts.first() {
+        Some(verdict) => Ok(*verdict),
+        None => Err(Fail::from("no node")),
     }
-    let view = View::of(alloc, &net, &store, 0)?;
-    Ok(scheme.verify(alloc, &view, &mut Steps::new())?)
 }
 
 #[test]
 fn rejections_name_the_leaf(rt: HostRuntime) -> Result<(), Fail> {
     let text = "or(bipartite,or(acyclic,bipartite))";
-    let (no, yes) = (false, true);
-    let cases: [([&[bool]; 3], u8, u8); 6] = [
-        ([&[], &[no], &[no]], 0, 1),
-        ([&[no, no], &[], &[no]], 0, 2),
-        ([&[no, no], &[no], &[yes]], 0, 3),
-        ([&[no, no], &[no, no], &[no, yes]], 1, 3),
-        ([&[yes, yes, no], &[yes, no, no], &[yes, yes, no]], 0, 3),
-        ([&[yes, yes, no], &[yes, yes, no], &[yes, yes, yes]], 3, 3),
+    let cases = [
+        (["0 -", "1 00", "1 00"], 0, 1),
+        (["2 00", "0 -", "1 00"], 0, 2),
+        (["2 00", "1 00", "1 80"], 0, 3),
+        (["2 00", "2 00", "2 40"], 1, 3),
+        (["3 c0", "3 80", "3 c0"], 0, 3),
+        (["3 c0", "3 c0", "3 e0"], 3, 3),
     ];
     for (labels, leaf, rule) in cases {
         let verdict = first_verdict(rt.alloc(), text, labels)?;
