@@ -1,0 +1,66 @@
+#!/bin/sh
+# Makes each allocation of some runs of ./pls fail, one at a time. Each run has to end as it does with
+# memory enough, or with status 6 and nothing written.
+#
+#     tools/refused.sh
+#
+# It takes a C compiler. The last line is `N runs, M wrong`; the status is 1 where one is wrong.
+
+top=$(cd "$(dirname "$0")/.." && pwd) || exit 1
+[ -x "$top/pls" ] || { echo 'refused.sh: there is no ./pls: make pls builds it' >&2; exit 1; }
+work=$(mktemp -d) || exit 1
+trap 'rm -rf "$work"' EXIT
+cc -shared -fPIC -O2 -o "$work/refuse.so" "$top/tools/refuse.c" -ldl || exit 1
+cd "$work" || exit 1
+runs=0
+wrong=0
+
+# each INPUT WORDS..: the run with memory enough, and then with each allocation refused in turn
+try() {
+    input=$1
+    shift
+    "$top/pls" "$@" < "$input" > whole
+    status=$?
+    COUNTED=$work/count LD_PRELOAD=$work/refuse.so "$top/pls" "$@" < "$input" > /dev/null
+    calls=$(cat count)
+    same=0
+    number=1
+    while [ "$number" -le "$calls" ]; do
+        REFUSE=$number LD_PRELOAD=$work/refuse.so "$top/pls" "$@" < "$input" > got
+        end=$?
+        runs=$((runs + 1))
+        if [ "$end" -eq "$status" ] && cmp -s whole got; then
+            same=$((same + 1))
+        elif [ "$end" -ne 6 ] || [ -s got ]; then
+            wrong=$((wrong + 1))
+            echo "$*: status $end where allocation $number is refused"
+        fi
+        number=$((number + 1))
+    done
+    echo "$*: status $status, $calls allocations, $same of which may fail without a change"
+}
+
+chain=$top/examples/chain.txt
+leader=$top/examples/leader.txt
+pair=$top/examples/two-nodes.txt
+head -n 6 "$pair" > net
+: > none
+for scheme in tree forest acyclic bipartite spt mst 'or(bipartite,mst)' 'and(tree,and(forest,bipartite))'; do
+    "$top/pls" mark "$scheme" < "$chain" | cat "$chain" - > marked
+    try "$chain" mark "$scheme"
+    try marked verify "$scheme"
+done
+for scheme in leader count; do
+    "$top/pls" mark "$scheme" < "$leader" | cat "$leader" - > marked
+    try "$leader" mark "$scheme"
+    try marked verify "$scheme"
+done
+printf 'schedule\nemit 1 0\nemit 2 0\narrive 1\narrive 2\nend\n' | cat "$pair" - > played
+try played simulate bipartite
+try played simulate bipartite --json
+try "$pair" verify bipartite --json
+try net bound 'and(bipartite,acyclic)'
+try none trial 5:7
+
+echo "$runs runs, $wrong wrong"
+[ "$wrong" -eq 0 ]
