@@ -1,5 +1,7 @@
--- The compact text of a report's value is the report's text.
-use Rattle.std.proofs.Common.{◌≡◌, ℕ, true, false, List, [], ◌∷◌, ◌++◌, refl, append_assoc, map, decimal}
+-- The compact text of the value of a node is its text; and texts with commas between them.
+use Rattle.std.proofs.Common.{◌≡◌, ℕ, true, false, List, [], ◌∷◌, ◌++◌, ◌==◌, length, refl, sym, ap, append-nil, append_assoc, map, decimal, take, get_or, ◌∙◌, ◌+◌, ◌<◌, arith}
+use Rattle.std.proofs.lemmas.Bool.{ne_eqb}
+use Rattle.std.proofs.lemmas.List.{length-map, length-take, map-append, take_more}
 use Rattle.serde_json.specs.Data.{Data}
 use Rattle.serde_json.specs.View.{items_of}
 use Rattle.serde_json.specs.Written.{compact_text, items_text, items_have_float, has_float}
@@ -7,8 +9,8 @@ use Rattle.serde_json.proofs.OnLiterals.{serde_json_on_literals}
 use Rattle.pls_model.specs.declared.verdict.Verdict.TheVariants.{Accept, Reject}
 use Rattle.pls_sim.specs.declared.outcome.Outcome.{Outcome}
 use Rattle.pls_sim.specs.declared.outcome.Outcome.TheVariants.{Decided, Waiting}
-use Rattle.pls_json.specs.Json.{behind_commas, with_commas, node_text, json_text}
-use Rattle.pls_json.specs.inner.Values.{number_data, node_data, report_data}
+use Rattle.pls_json.specs.Json.{behind_commas, with_commas, node_text}
+use Rattle.pls_json.specs.inner.Values.{after_others, node_data, number_data}
 
 module _ {X : Type 0} (value : X → Data) where
   -- where each item has its text, so have the items behind a first
@@ -40,12 +42,12 @@ module _ {X : Type 0} (value : X → Data) where
   no_fractions none [] = refl
   no_fractions none (x ∷ xs) = rw (none x) (no_fractions none xs)
 
-node_fractions : (row : ℕ × Outcome) → has_float (node_data row) ≡ false
+pub node_fractions : (row : ℕ × Outcome) → has_float (node_data row) ≡ false
 node_fractions (id, Decided Accept) = refl
 node_fractions (id, Decided (Reject leaf rule)) = refl
 node_fractions (id, Waiting ports) = rw (no_fractions number_data (λ n. refl) ports) refl
 
-node-text : (row : ℕ × Outcome) → compact_text (node_data row) ≡ node_text row
+pub node-text : (row : ℕ × Outcome) → compact_text (node_data row) ≡ node_text row
 unfolding serde_json_on_literals
 node-text (id, Decided Accept) = refl
 node-text (id, Decided (Reject leaf rule)) = refl
@@ -55,12 +57,45 @@ node-text (id, Waiting ports) =
       append_assoc (with_commas (map decimal ports)) (93 ∷ []),
     ) refl
 
--- a report has no fraction
-pub report_fractions : (rows : List (ℕ × Outcome)) → has_float (report_data rows) ≡ false
-report_fractions rows = rw (no_fractions node_data node_fractions rows) refl
+-- texts with one more behind them
+behind_commas-more : (texts : List (List ℕ)) (text : List ℕ)
+    → behind_commas (texts ++ text ∷ []) ≡ behind_commas texts ++ (44 ∷ text)
+behind_commas-more [] text = ap (λ (t : List ℕ). 44 ∷ t) (append-nil text)
+behind_commas-more (one ∷ texts) text =
+    rw (behind_commas-more texts text)
+    (ap (λ (t : List ℕ). 44 ∷ t) (sym (append_assoc one (behind_commas texts) (44 ∷ text))))
 
--- the compact text of its value, with a line feed, is its text
-pub report-text : (rows : List (ℕ × Outcome))
-    → compact_text (report_data rows) ++ 10 ∷ [] ≡ json_text rows
-unfolding serde_json_on_literals
-report-text rows = simp (items-text node_data node_text node-text rows, append_assoc)
+pub with_commas-more : (texts : List (List ℕ)) (text : List ℕ)
+    → with_commas (texts ++ text ∷ []) ≡ with_commas texts ++ after_others (length texts == 0) text
+with_commas-more [] text = append-nil text
+with_commas-more (one ∷ texts) text =
+    let some : (length (one ∷ texts) == 0) ≡ false =
+    ne_eqb (length (one ∷ texts)) 0 (λ none. omega (arith, none)) in
+    rw (some, behind_commas-more texts text)
+    (sym (append_assoc one (behind_commas texts) (44 ∷ text)))
+
+-- the texts of so many rows and of one more
+pub one_more : (rows : List (ℕ × Outcome)) (i : ℕ) (row : ℕ × Outcome) (before old new : List ℕ)
+    → i < length rows → row ≡ get_or rows i row
+    → old ≡ before ++ with_commas (map node_text (take i rows))
+    → new ≡ old ++ after_others (i == 0) (node_text row)
+    → new ≡ before ++ with_commas (map node_text (take (i + 1) rows))
+one_more rows i row before old new below is was now =
+    now ∙ ap (λ (t : List ℕ). t ++ after_others (i == 0) (node_text row)) was
+    ∙ append_assoc before (with_commas (map node_text (take i rows)))
+    (after_others (i == 0) (node_text row))
+    ∙ ap (λ (t : List ℕ). before ++ t) (sym joined)
+  where
+    more : take (i + 1) rows ≡ take i rows ++ row ∷ []
+    more = take_more rows i row below ∙ ap (λ (r : ℕ × Outcome). take i rows ++ r ∷ []) (sym is)
+
+    long : length (map node_text (take i rows)) ≡ i
+    long = length-map (take i rows) node_text ∙ length-take i rows ∙ omega (arith, below)
+
+    joined : with_commas (map node_text (take (i + 1) rows))
+        ≡ with_commas (map node_text (take i rows)) ++ after_others (i == 0) (node_text row)
+    joined = ap (λ (l : List (ℕ × Outcome)). with_commas (map node_text l)) more
+        ∙ ap with_commas (map-append node_text (take i rows) (row ∷ []))
+        ∙ with_commas-more (map node_text (take i rows)) (node_text row)
+        ∙ ap (λ (n : ℕ). with_commas (map node_text (take i rows))
+        ++ after_others (n == 0) (node_text row)) long

@@ -1,10 +1,10 @@
-//! The report of a round as a JSON value, and its text.
+//! The report of a round as JSON, node by node.
 
-ghost use Rattle.std.specs.Prelude.{◌≡◌, map, string_bytes, IfOk};
+ghost use Rattle.std.specs.Prelude.{◌≡◌, ◌++◌, map, string_bytes, IfOk, OnOk};
 ghost use Rattle.serde_json.specs.Data.{array};
 ghost use Rattle.serde_json.specs.View.{items_of, view};
-ghost use Rattle.pls_json.specs.Json.{json_text};
-ghost use Rattle.pls_json.specs.inner.Values.{node_data, number_data, report_data};
+ghost use Rattle.pls_json.specs.Json.{json_text, node_text, with_commas};
+ghost use Rattle.pls_json.specs.inner.Values.{after_others, node_data, number_data};
 
 use pls_base::NoMemory;
 use pls_model::Verdict;
@@ -12,37 +12,60 @@ use pls_report::{rejecting, waiting};
 use pls_sim::Outcome;
 use serde_json::{Value, json};
 use std::alloc::{AllocError, Global};
+use std::fmt::Write;
 
 /// The report of nodes, each with its identity and its outcome, as one compact line of JSON
 /// (RFC 8259) and a line feed: an object with the nodes in their order, how many reject and how
-/// many wait, its keys in the order of the alphabet. The one error is want of memory.
+/// many wait, its keys in the order of the alphabet. The value of a node goes as soon as its text is
+/// there. The one error is want of memory.
 pub fn json_report(alloc: Global, rows: &[(u32, Outcome)]) -> Result<String, NoMemory>
     ensures { IfOk result (λ text. string_bytes text ≡ json_text rows.now) }
 {
-    let mut text = report_value(alloc, rows)?.to_string(alloc)?;
-    text.push('\n')?;
+    let mut text = String::new(alloc);
+    text.push_str("{\"nodes\":[")?;
+    push_nodes(alloc, &mut text, rows)?;
+    let rejecting = rejecting(rows);
+    let waiting = waiting(rows);
+    write!(text, "],\"rejecting\":{rejecting},\"waiting\":{waiting}")?;
+    text.push_str("}\n")?;
     Ok(text)
 }
 
-// The value of a report.
-fn report_value(alloc: Global, rows: &[(u32, Outcome)]) -> Result<Value, AllocError>
-    ensures { IfOk result (λ value. view value ≡ report_data rows.now) }
+// Adds the objects of nodes, with a comma between each two.
+fn push_nodes(alloc: Global, text: &mut String, rows: &[(u32, Outcome)]) -> Result<(), NoMemory>
+    ensures { OnOk result (string_bytes text.new
+        ≡ string_bytes text.old ++ with_commas (map node_text rows.now)) }
 {
-    let nodes = nodes_value(alloc, rows)?;
-    let rejecting = rejecting(rows) as u64;
-    let waiting = waiting(rows) as u64;
-    json!(in alloc; {"nodes": nodes, "rejecting": rejecting, "waiting": waiting})
+    for (i, row) in rows.iter().enumerate() {
+        push_node(alloc, text, i == 0, row)?;
+    }
+    Ok(())
 }
 
-// The values of all nodes.
-fn nodes_value(alloc: Global, rows: &[(u32, Outcome)]) -> Result<Value, AllocError>
-    ensures { IfOk result (λ value. view value ≡ array (items_of (map node_data rows.now))) }
+// Adds the object of a node, behind a comma if it is not the first.
+fn push_node(
+    alloc: Global,
+    text: &mut String,
+    first: bool,
+    row: &(u32, Outcome),
+) -> Result<(), NoMemory>
+    ensures { OnOk result (string_bytes text.new
+        ≡ string_bytes text.old ++ after_others first (node_text row.now)) }
 {
-    let mut values = Vec::with_capacity(alloc, rows.len())?;
-    for row in rows {
-        values.push(node_value(alloc, row.0, &row.1)?)?;
+    let object = node_object(alloc, row)?;
+    if !first {
+        text.push_str(",")?;
     }
-    Ok(Value::Array(values))
+    text.push_str(&object)?;
+    Ok(())
+}
+
+// The object of a node as text.
+fn node_object(alloc: Global, row: &(u32, Outcome)) -> Result<String, NoMemory>
+    ensures { IfOk result (λ text. string_bytes text ≡ node_text row.now) }
+{
+    let text = node_value(alloc, row.0, &row.1)?.to_string(alloc)?;
+    Ok(text)
 }
 
 // The value of one node.

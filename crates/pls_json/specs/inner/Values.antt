@@ -1,11 +1,10 @@
--- The JSON value of a report.
-use Rattle.std.specs.Prelude.{ℕ, List, codes, map}
+-- The JSON value of a node, and where its text stands.
+use Rattle.std.specs.Prelude.{ℕ, Bool, if◌then◌else◌, List, ◌∷◌, codes, map}
 use Rattle.serde_json.specs.Data.{Data, Members, number, unsigned, string, array, object, member, no_members}
 use Rattle.serde_json.specs.View.{items_of}
 use Rattle.pls_model.specs.declared.verdict.Verdict.TheVariants.{Accept, Reject}
 use Rattle.pls_sim.specs.declared.outcome.Outcome.{Outcome}
 use Rattle.pls_sim.specs.declared.outcome.Outcome.TheVariants.{Decided, Waiting}
-use Rattle.pls_report.specs.Report.{rejecting, waiting}
 
 -- a number
 abbrev pub number_data : ℕ → Data
@@ -29,9 +28,6 @@ outcome_members (Waiting ports) =
 abbrev pub node_data : ℕ × Outcome → Data
 node_data row = object (member (codes "id") (number_data row.0) (outcome_members row.1))
 
--- the object of a report
-abbrev pub report_data : List (ℕ × Outcome) → Data
-report_data rows =
-    object (member (codes "nodes") (array (items_of (map node_data rows)))
-    (member (codes "rejecting") (number_data (rejecting rows))
-    (member (codes "waiting") (number_data (waiting rows)) no_members)))
+-- a text that stands behind others, with a comma in front, or first
+abbrev pub after_others : Bool → List ℕ → List ℕ
+after_others first text = if first then text else 44 ∷ text
