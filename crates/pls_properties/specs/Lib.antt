@@ -1,0 +1,3 @@
+pub mod Diameter
+pub mod Bridgeless
+pub mod inner

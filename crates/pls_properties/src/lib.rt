@@ -1,0 +1,5 @@
+//! x
+#![tactic(auto)]
+
+mod diameter;
+pub use diameter::Diameter;
