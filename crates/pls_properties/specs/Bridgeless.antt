@@ -8,7 +8,7 @@ use Rattle.pls_model.specs.Walk.{Edge, JoinAll, edges_of}
 
 -- the two edges are the same
 abbrev pub same_edge : Edge → Edge → Bool
-same_edge one other = one.a == other.a && one.b == other.b && one.weight == other.weight
+same_edge one other = one.a == other.a && (one.b == other.b && one.weight == other.weight)
 
 -- the edges but this one
 abbrev pub without : Edge → List Edge → List Edge

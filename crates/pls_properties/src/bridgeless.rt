@@ -1,0 +1,84 @@
+//! Whether the edges of a network join all nodes when any one of them is left out. An edge is a
+//! bridge exactly where it is the only one that leads from the nodes that are nearer to its one end
+//! to the others, so each edge is judged by the levels from its two ends.
+
+ghost use Rattle.std.specs.Prelude.{◌≡◌, ◌<◌, ◌↔◌, length, Contains, IfOk, IsTrue};
+ghost use Rattle.pls_model.specs.Walk.{IsConnected};
+ghost use Rattle.pls_graph.specs.Levels.{AreLevels};
+ghost use Rattle.pls_graph.specs.Places.{beside};
+ghost use Rattle.pls_properties.specs.Bridgeless.{IsBridgeless};
+ghost use Rattle.pls_properties.specs.inner.Crossing.{HasWayRound, HaveWaysRound};
+
+use crate::crossing::is_only_crossing;
+use pls_base::NoMemory;
+use pls_graph::Network;
+use pls_scheme::Property;
+use pls_search::levels;
+use std::alloc::Global;
+
+/// The property that for each edge the other edges join all nodes, so that no edge is a bridge.
+#[derive(Clone, Copy, Debug, PartialEq, Eq)]
+pub struct Bridgeless;
+
+impl Bridgeless {
+    /// The property that no edge is a bridge.
+    pub fn new() -> Bridgeless {
+        Bridgeless
+    }
+}
+
+impl Property for Bridgeless {
+    ghost holds = { λ _. IsBridgeless };
+
+    fn decide(&self, alloc: Global, net: &Network) -> Result<bool, NoMemory> {
+        is_bridgeless(alloc, net)
+    }
+}
+
+// Whether for each edge the other edges join all nodes.
+fn is_bridgeless(alloc: Global, net: &Network) -> Result<bool, NoMemory>
+    requires { IsConnected net.now }
+    ensures { IfOk result (λ yes. IsTrue yes ↔ IsBridgeless net.now) }
+{
+    for place in 0..net.len() {
+        if !have_ways_round(alloc, net, place)? {
+            return Ok(false);
+        }
+    }
+    Ok(true)
+}
+
+// Whether the ends of each edge of the node at a place are joined by the other edges.
+fn have_ways_round(alloc: Global, net: &Network, place: usize) -> Result<bool, NoMemory>
+    requires joined { IsConnected net.now }
+    requires within { place < length net.now }
+    ensures { IfOk result (λ yes. IsTrue yes ↔ HaveWaysRound net.now place) }
+{
+    let near = levels(alloc, net, place)?;
+    for other in net.places(place) {
+        let other = *other as usize;
+        let far = levels(alloc, net, other)?;
+        if !has_way_round(net, place, &near, other, &far) {
+            return Ok(false);
+        }
+    }
+    Ok(true)
+}
+
+// Whether the nodes at two places that are neighbours are joined by the other edges.
+fn has_way_round(
+    net: &Network,
+    place: usize,
+    near: &[Option<u32>],
+    other: usize,
+    far: &[Option<u32>],
+) -> bool
+    requires joined { IsConnected net.now }
+    requires within { place < length net.now }
+    requires beside { Contains (beside net.now place) other }
+    requires near { AreLevels net.now place near.now }
+    requires far { AreLevels net.now other far.now }
+    ensures { IsTrue result ↔ HasWayRound net.now place other }
+{
+    !is_only_crossing(net, place, near, other, far)
+}
