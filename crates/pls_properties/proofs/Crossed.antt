@@ -1,13 +1,12 @@
 -- An edge is a bridge exactly where it alone leads from the nodes nearer to its one end to the
 -- others.
-use Rattle.std.proofs.Common.{◌≡◌, ◌≢◌, ◌∙◌, ℕ, ◌+◌, ◌<◌, ◌≤◌, ◌⊎◌, inl, inr, Bool, true, false, not, ◌==◌, ◌&&◌, ◌||◌, nat_lt, List, [], ◌∷◌, map, length, All, Contains, Option, Some, slice_get, refl, sym, ap, subst, arith}
+use Rattle.std.proofs.Common.{◌≡◌, ◌≢◌, ◌∙◌, ℕ, ◌+◌, ◌<◌, ◌≤◌, inl, inr, Bool, true, false, not, ◌==◌, ◌&&◌, ◌||◌, List, [], ◌∷◌, length, Contains, Option, Some, slice_get, refl, sym, ap, subst, arith}
 use Rattle.std.specs.List.{list_all}
 use Rattle.std.proofs.lemmas.Bool.{and_cases, and_from, and_parts, cases_lt, eq-eqb, eqb-true, lt-ltb, ltb-false, ltb-true, not-false, not-true, or_cases, or_parts}
 use Rattle.std.proofs.lemmas.List.Elements.{All-contains}
 use Rattle.std.proofs.lemmas.Option.{same_Some, slice_get_within}
-use Rattle.pls_model.specs.declared.row.Port.{Port}
 use Rattle.pls_model.specs.declared.row.NodeRow.{NodeRow}
-use Rattle.pls_model.specs.Configuration.{IsNetwork, ids_of}
+use Rattle.pls_model.specs.Configuration.{IsNetwork}
 use Rattle.pls_model.specs.Walk.{Adjacent, AreJoined, Edge, IsConnected, Joins, Walk, edges_of}
 use Rattle.pls_graph.specs.Levels.{AreLevels, IsLevel}
 use Rattle.pls_graph.specs.Places.{beside}
@@ -133,12 +132,12 @@ module _ (rows : List NodeRow) (net : IsNetwork rows) (connected : IsConnected r
           (p == place && q == other) (only p q (slice_get_within rows p from at_p) in_q)) [
             | inl crossed ↦ elim (or_cases (not (is_nearer near far p)) (is_nearer near far q)
                 crossed) [
-              | inl farther ↦
-                  let yes = here p from at_p from_is in
-                  let no = not-true (is_nearer near far p) farther in
-                  absurd (cc)
-              | inr nearer ↦ nearer
-            ]
+                  | inl farther ↦
+                      let yes = here p from at_p from_is in
+                      let no = not-true (is_nearer near far p) farther in
+                      absurd (cc)
+                  | inr nearer ↦ nearer
+                ]
             | inr ends ↦
                 let both = and_parts (p == place) (q == other) ends in
                 let from_one : from ≡ one = same_Some from one (sym at_p

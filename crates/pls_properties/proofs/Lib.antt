@@ -1,3 +1,4 @@
 pub mod Reached
 pub mod Rest
 pub mod Crossed
+pub mod Worked

@@ -1,5 +1,5 @@
 -- The edges but one, and walks along them.
-use Rattle.std.proofs.Common.{◌≡◌, ◌≢◌, ◌∙◌, ℕ, ◌+◌, ◌≤◌, ◌⊎◌, inl, inr, ◌==◌, ◌&&◌, not, true, List, [], ◌∷◌, length, Contains, Some, refl, sym, ap, subst, arith}
+use Rattle.std.proofs.Common.{◌≡◌, ◌≢◌, ◌∙◌, ℕ, ◌≤◌, ◌⊎◌, inl, inr, ◌==◌, ◌&&◌, not, true, List, [], ◌∷◌, length, Contains, refl, sym, ap, subst, arith}
 use Rattle.std.proofs.lemmas.Bool.{and_from, and_parts, eq-eqb, eqb-true, false_from_ne_true, not-true, not_from_false}
 use Rattle.std.proofs.lemmas.Option.{same_Some}
 use Rattle.pls_model.specs.declared.row.NodeRow.{NodeRow}
@@ -89,12 +89,12 @@ module _ (edges : List Edge) (edge : Edge) where
     avoids c p (next ∷ nodes) walk away far =
         let beyond : next ≢ b =
         λ is.
-            let short = far nodes (subst (λ (next : ℕ). Walk edges next nodes p) is walk.1) in
-            omega (arith, short) in (
+        let short = far nodes (subst (λ (next : ℕ). Walk edges next nodes p) is walk.1) in
+        omega (arith, short) in (
           step_left c next walk.0 (λ between. elim (touches c next between) [
-                | inl is ↦ away is
-                | inr is ↦ beyond is
-              ]),
+            | inl is ↦ away is
+            | inr is ↦ beyond is
+          ]),
           avoids next p nodes walk.1 beyond (λ others there.
               let long = far others there in omega (arith, long)),
         )

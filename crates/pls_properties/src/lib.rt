@@ -3,10 +3,10 @@
 //! edge is left out.
 //!
 //! They have no scheme of their own here; any scheme over a [`Property`](pls_scheme::Property) can
-//! use them. Definitions stand in `specs/`, one file a property (`HasDiameter`, `IsBridgeless`);
+//! use them. Definitions stand in `specs/`, one file a property (`HasDiameter`, `IsBridgeless`).
 //! `Tests` there has each as a function from rows to a truth value (`diameter_test`,
-//! `bridgeless_test`), and `specs/laws/` that on a network it gives true exactly where the property
-//! holds.
+//! `bridgeless_test`); the laws in `specs/laws/`, and [`diameter_is_tested`] and
+//! [`bridgeless_is_tested`], say that it gives true exactly where the property holds.
 #![tactic(auto)]
 
 mod bridgeless;

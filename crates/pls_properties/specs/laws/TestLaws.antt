@@ -1,5 +1,5 @@
 -- The tests give true exactly where the properties hold.
-use Rattle.std.proofs.Common.{◌≡◌, ◌∙◌, ℕ, zero, suc, ◌+◌, ◌≤◌, ◌==◌, ◌&&◌, ◌||◌, ◌↔◌, inl, inr, Bool, true, false, cond, List, [], ◌∷◌, length, get_or, Contains, refl, sym, ap, subst, arith}
+use Rattle.std.proofs.Common.{◌≡◌, ◌∙◌, ℕ, zero, suc, ◌≤◌, ◌==◌, ◌&&◌, ◌||◌, ◌↔◌, inl, inr, Bool, true, false, cond, List, [], ◌∷◌, length, get_or, Contains, refl, ap, subst, arith}
 use Rattle.std.specs.List.{list_all}
 use Rattle.std.proofs.lemmas.Bool.{and_from, and_parts, eq-eqb, eqb-true, or_cases, or_left, or_right}
 use Rattle.std.proofs.lemmas.List.Elements.{All-contains, Contains-get_or}
@@ -60,14 +60,18 @@ module _ (edges : List Edge) (v : ℕ) where
           (edge.b == u && walks_within edges most v edge.a) passes) [
             | inl there ↦
                 let both = and_parts (edge.a == u) (walks_within edges most v edge.b) there in
-                let more = rest edge.b both.1 in
-                (edge.b ∷ more.0, ((edge, in', inl (eqb-true edge.a u both.0, refl)), more.1),
-                omega (arith, more.2))
+                let more = rest edge.b both.1 in (
+                  edge.b ∷ more.0,
+                  ((edge, in', inl (eqb-true edge.a u both.0, refl)), more.1),
+                  omega (arith, more.2),
+                )
             | inr back ↦
                 let both = and_parts (edge.b == u) (walks_within edges most v edge.a) back in
-                let more = rest edge.a both.1 in
-                (edge.a ∷ more.0, ((edge, in', inr (refl, eqb-true edge.b u both.0)), more.1),
-                omega (arith, more.2))
+                let more = rest edge.a both.1 in (
+                  edge.a ∷ more.0,
+                  ((edge, in', inr (refl, eqb-true edge.b u both.0)), more.1),
+                  omega (arith, more.2),
+                )
           ]
 
   -- and every walk is found

@@ -1,4 +1,4 @@
-use Rattle.std.proofs.Common.{◌∙◌, refl, sym, arith}
+use Rattle.std.proofs.Common.{refl, arith}
 use Rattle.pls_properties.proofs.Reached.{all_reach, reach_more, reaches_each}
 use Rattle.pls_properties.proofs.diameter.has_diameter.Goals as goal
 
