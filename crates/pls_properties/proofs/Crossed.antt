@@ -1,8 +1,8 @@
 -- An edge is a bridge exactly where it alone leads from the nodes nearer to its one end to the
 -- others.
-use Rattle.std.proofs.Common.{◌≡◌, ◌≢◌, ◌∙◌, ℕ, ◌+◌, ◌<◌, ◌≤◌, inl, inr, Bool, true, false, not, ◌==◌, ◌&&◌, ◌||◌, List, [], ◌∷◌, length, Contains, Option, Some, slice_get, refl, sym, ap, subst, arith}
+use Rattle.std.proofs.Common.{min, ◌≡◌, ◌≢◌, ◌∙◌, ℕ, ◌+◌, ◌<◌, ◌≤◌, inl, inr, Bool, true, false, not, ◌==◌, ◌&&◌, ◌||◌, List, [], ◌∷◌, length, Contains, Option, Some, slice_get, refl, sym, ap, subst, arith}
 use Rattle.std.specs.List.{list_all}
-use Rattle.std.proofs.lemmas.Bool.{and_cases, and_from, and_parts, cases_lt, eq-eqb, eqb-true, lt-ltb, ltb-false, ltb-true, not-false, not-true, or_cases, or_parts}
+use Rattle.std.proofs.lemmas.Bool.{and_cases, and_from, and_parts, cases_lt, cases_order, eq-eqb, eqb-true, lt-ltb, ltb-false, ltb-true, not-false, not-true, or_cases, or_parts}
 use Rattle.std.proofs.lemmas.List.Elements.{All-contains}
 use Rattle.std.proofs.lemmas.Option.{same_Some, slice_get_within}
 use Rattle.pls_model.specs.declared.row.NodeRow.{NodeRow}
@@ -13,6 +13,7 @@ use Rattle.pls_graph.specs.Places.{beside}
 use Rattle.pls_graph.proofs.Beside.{Adjacent-beside, beside-Adjacent, beside_within, one_place}
 use Rattle.pls_graph.proofs.Joined.{Adjacent-turned, AreJoined-adjacent, AreJoined-through, AreJoined-turned, along}
 use Rattle.pls_graph.proofs.Members.{Contains-first, Contains-from_map, Contains-from_place, Contains-later, Contains-map, place_from_Contains}
+use Rattle.pls_graph.proofs.Placed.{ids_rise}
 use Rattle.pls_facts.proofs.Decided.{cases_Edge}
 use Rattle.pls_facts.proofs.Levels.{known_level}
 use Rattle.pls_facts.proofs.Lists.{item_at}
@@ -234,7 +235,7 @@ module _ (rows : List NodeRow) (net : IsNetwork rows) (connected : IsConnected r
 module _ (rows : List NodeRow) where
   -- without a bridge, there is a way round each edge
   pub ways_round : IsBridgeless rows → (place : ℕ) → HaveWaysRound rows place
-  ways_round holds place other in' one two edge at_one at_two in_edge joins =
+  ways_round holds place other in' later one two edge at_one at_two in_edge joins =
       holds edge in_edge one.id two.id
       (Contains-map (λ (row : NodeRow). row.id) rows one (Contains-from_place rows place one at_one))
       (Contains-map (λ (row : NodeRow). row.id) rows two (Contains-from_place rows other two at_two))
@@ -270,9 +271,40 @@ module _ (rows : List NodeRow) where
       joins : Joins edge port.row.id there.1.id
       joins = inl (sym port.owner, sym there.3)
 
+      -- the smaller end stands first
+      later : port.place < there.0
+      later =
+          let apart = (port_adjacent rows net port.row port.port
+          (Contains-from_place rows port.place port.row port.at)
+          (Contains-from_place port.row.ports port.number port.port port.has)).1 in
+          let smaller : min port.row.id port.port.nbr ≡ edge.a =
+          ap (λ (edge : Edge). edge.a) port.is in
+          let less : port.row.id < there.1.id =
+          elim (cases_order port.row.id port.port.nbr) [
+            | inl same ↦ absurd (apart same)
+            | inr order ↦ elim order [
+              | inl up ↦ omega (arith, up, port.names, there.3)
+              | inr down ↦ absurd (omega (arith, down, smaller, port.owner))
+            ]
+          ] in
+          elim (cases_order port.place there.0) [
+            | inl same ↦
+                let one : port.row ≡ there.1 = same_Some port.row there.1 (sym port.at
+                ∙ ap (slice_get rows) same ∙ there.2) in
+                let ids = ap (λ (row : NodeRow). row.id) one in
+                absurd (omega (arith, ids, less))
+            | inr order ↦ elim order [
+              | inl before ↦ before
+              | inr after ↦
+                  let rise = ids_rise rows net there.0 port.place there.1 port.row after there.2
+                  port.at in
+                  absurd (omega (arith, rise, less))
+            ]
+          ]
+
       way : AreJoined (without edge (edges_of rows)) port.row.id there.1.id
       way = each port.place (omega (arith, long, slice_get_within rows port.place port.row port.at))
-          there.0 there.4 port.row there.1 edge port.at there.2 in' joins
+          there.0 there.4 later port.row there.1 edge port.at there.2 in' joins
 
       passes : (w x : ℕ) → AreJoined (without edge (edges_of rows)) u w
           → Adjacent (edges_of rows) w x → AreJoined (without edge (edges_of rows)) u x

@@ -48,7 +48,8 @@ fn is_bridgeless(alloc: Global, net: &Network) -> Result<bool, NoMemory>
     Ok(true)
 }
 
-// Whether the ends of each edge of the node at a place are joined by the other edges.
+// Whether the node at a place and each neighbour at a later place are joined by the edges but that
+// between them.
 fn have_ways_round(alloc: Global, net: &Network, place: usize) -> Result<bool, NoMemory>
     requires joined { IsConnected net.now }
     requires within { place < length net.now }
@@ -57,12 +58,34 @@ fn have_ways_round(alloc: Global, net: &Network, place: usize) -> Result<bool, N
     let near = levels(alloc, net, place)?;
     for other in net.places(place) {
         let other = *other as usize;
-        let far = levels(alloc, net, other)?;
-        if !has_way_round(net, place, &near, other, &far) {
+        if !later_has_way_round(alloc, net, place, &near, other)? {
             return Ok(false);
         }
     }
     Ok(true)
+}
+
+// The same of a neighbour at a later place; `true` of one at an earlier place, from which the edge
+// is judged.
+fn later_has_way_round(
+    alloc: Global,
+    net: &Network,
+    place: usize,
+    near: &[Option<u32>],
+    other: usize,
+) -> Result<bool, NoMemory>
+    requires joined { IsConnected net.now }
+    requires within { place < length net.now }
+    requires beside { Contains (beside net.now place) other }
+    requires inside { other < length net.now }
+    requires near { AreLevels net.now place near.now }
+    ensures { IfOk result (λ yes. IsTrue yes ↔ (place < other → HasWayRound net.now place other)) }
+{
+    if other <= place {
+        return Ok(true);
+    }
+    let far = levels(alloc, net, other)?;
+    Ok(has_way_round(net, place, near, other, &far))
 }
 
 // Whether the nodes at two places that are neighbours are joined by the other edges.

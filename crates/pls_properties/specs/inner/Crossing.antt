@@ -43,7 +43,8 @@ HasWayRound rows place other =
     → slice_get rows other ≡ Some two → Contains (edges_of rows) edge → Joins edge one.id two.id
     → AreJoined (without edge (edges_of rows)) one.id two.id
 
--- so are the node at a place and each neighbour
+-- so are the node at a place and each neighbour at a later place
 abbrev pub HaveWaysRound : List NodeRow → ℕ → Type 0
 HaveWaysRound rows place =
-    (other : ℕ) → Contains (beside rows place) other → HasWayRound rows place other
+    (other : ℕ) → Contains (beside rows place) other → place < other
+    → HasWayRound rows place other

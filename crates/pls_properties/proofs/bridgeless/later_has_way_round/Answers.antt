@@ -1,0 +1,14 @@
+use Rattle.std.proofs.Common.{refl, arith}
+use Rattle.pls_properties.proofs.bridgeless.later_has_way_round.Goals as goal
+
+pub returns-then-other-place : goal.returns-then-other-place
+returns-then-other-place c = (
+  λ yes later. let early = c.if-other-place.true in absurd (omega (arith, early, later)),
+  λ way. refl,
+)
+
+pub returns : goal.returns
+returns c = (
+  λ yes later. c.has_way_round.ensures.0 yes,
+  λ way. let late = c.if-other-place.false in c.has_way_round.ensures.1 (way (omega (arith, late))),
+)
