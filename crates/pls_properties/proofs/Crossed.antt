@@ -52,7 +52,7 @@ some_level edges u v count level apart = by level.nodes refl
         omega (arith, many, level.many)
 
 -- the level that is found is that of the node
-level_found : (rows : List NodeRow) → IsConnected rows → (root : ℕ) (found : List (Option ℕ))
+pub level_found : (rows : List NodeRow) → IsConnected rows → (root : ℕ) (found : List (Option ℕ))
     → AreLevels rows root found → (first row : NodeRow) (place : ℕ)
     → slice_get rows root ≡ Some first → slice_get rows place ≡ Some row
     → IsLevel (edges_of rows) first.id row.id (level_at found place)

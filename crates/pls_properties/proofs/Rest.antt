@@ -75,7 +75,7 @@ module _ (edges : List Edge) (edge : Edge) where
 
   module _ (a b : ℕ) (joins : Joins edge a b) where
     -- one of the two is b
-    touches : (u v : ℕ) → Joins edge u v → (u ≡ b) ⊎ (v ≡ b)
+    pub touches : (u v : ℕ) → Joins edge u v → (u ≡ b) ⊎ (v ≡ b)
     touches u v between = elim (same_ends a b u v joins between) [
       | inl same ↦ inr same.1
       | inr turned ↦ inl turned.0

@@ -9,8 +9,9 @@ ghost use Rattle.pls_graph.specs.Places.{beside};
 ghost use Rattle.pls_properties.specs.Bridgeless.{IsBridgeless};
 ghost use Rattle.pls_properties.specs.inner.Crossing.{HasWayRound, HaveWaysRound};
 
-use crate::crossing::is_only_crossing;
+use crate::crossing::{has_second_way, is_only_crossing};
 use pls_base::NoMemory;
+use pls_facts::is_valid;
 use pls_graph::Network;
 use pls_scheme::Property;
 use pls_search::levels;
@@ -40,8 +41,10 @@ fn is_bridgeless(alloc: Global, net: &Network) -> Result<bool, NoMemory>
     requires { IsConnected net.now }
     ensures { IfOk result (λ yes. IsTrue yes ↔ IsBridgeless net.now) }
 {
+    is_valid(net);
+    let found = levels(alloc, net, 0)?;
     for place in 0..net.len() {
-        if !have_ways_round(alloc, net, place)? {
+        if !have_ways_round(alloc, net, &found, place)? {
             return Ok(false);
         }
     }
@@ -50,15 +53,21 @@ fn is_bridgeless(alloc: Global, net: &Network) -> Result<bool, NoMemory>
 
 // Whether the node at a place and each neighbour at a later place are joined by the edges but that
 // between them.
-fn have_ways_round(alloc: Global, net: &Network, place: usize) -> Result<bool, NoMemory>
+fn have_ways_round(
+    alloc: Global,
+    net: &Network,
+    found: &[Option<u32>],
+    place: usize,
+) -> Result<bool, NoMemory>
     requires joined { IsConnected net.now }
+    requires found { AreLevels net.now 0 found.now }
     requires within { place < length net.now }
     ensures { IfOk result (λ yes. IsTrue yes ↔ HaveWaysRound net.now place) }
 {
     let near = levels(alloc, net, place)?;
     for other in net.places(place) {
         let other = *other as usize;
-        if !later_has_way_round(alloc, net, place, &near, other)? {
+        if !later_has_way_round(alloc, net, found, place, &near, other)? {
             return Ok(false);
         }
     }
@@ -70,11 +79,13 @@ fn have_ways_round(alloc: Global, net: &Network, place: usize) -> Result<bool, N
 fn later_has_way_round(
     alloc: Global,
     net: &Network,
+    found: &[Option<u32>],
     place: usize,
     near: &[Option<u32>],
     other: usize,
 ) -> Result<bool, NoMemory>
     requires joined { IsConnected net.now }
+    requires found { AreLevels net.now 0 found.now }
     requires within { place < length net.now }
     requires beside { Contains (beside net.now place) other }
     requires inside { other < length net.now }
@@ -82,6 +93,10 @@ fn later_has_way_round(
     ensures { IfOk result (λ yes. IsTrue yes ↔ (place < other → HasWayRound net.now place other)) }
 {
     if other <= place {
+        return Ok(true);
+    }
+    is_valid(net);
+    if has_second_way(net, found, place, other) {
         return Ok(true);
     }
     let far = levels(alloc, net, other)?;
