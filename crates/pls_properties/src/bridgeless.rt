@@ -1,6 +1,8 @@
-//! Whether the edges of a network join all nodes when any one of them is left out. An edge is a
-//! bridge exactly where it is the only one that leads from the nodes that are nearer to its one end
-//! to the others, so each edge is judged by the levels from its two ends.
+//! Whether the edges of a network join all nodes when any one of them is left out. An edge is no
+//! bridge where its deeper end, by the levels from the first node, has another neighbour that is no
+//! deeper. Of what is left, an edge is a bridge exactly where it alone leads from the nodes that are
+//! nearer to its one end to the others, by a search from each end; so the decider takes a time of
+//! nodes and ports, and that once more for each edge to a node with one way up.
 
 ghost use Rattle.std.specs.Prelude.{◌≡◌, ◌<◌, ◌↔◌, length, Contains, IfOk, IsTrue};
 ghost use Rattle.pls_model.specs.Walk.{IsConnected};
@@ -64,10 +66,9 @@ fn have_ways_round(
     requires within { place < length net.now }
     ensures { IfOk result (λ yes. IsTrue yes ↔ HaveWaysRound net.now place) }
 {
-    let near = levels(alloc, net, place)?;
     for other in net.places(place) {
         let other = *other as usize;
-        if !later_has_way_round(alloc, net, found, place, &near, other)? {
+        if !later_has_way_round(alloc, net, found, place, other)? {
             return Ok(false);
         }
     }
@@ -81,7 +82,6 @@ fn later_has_way_round(
     net: &Network,
     found: &[Option<u32>],
     place: usize,
-    near: &[Option<u32>],
     other: usize,
 ) -> Result<bool, NoMemory>
     requires joined { IsConnected net.now }
@@ -89,7 +89,6 @@ fn later_has_way_round(
     requires within { place < length net.now }
     requires beside { Contains (beside net.now place) other }
     requires inside { other < length net.now }
-    requires near { AreLevels net.now place near.now }
     ensures { IfOk result (λ yes. IsTrue yes ↔ (place < other → HasWayRound net.now place other)) }
 {
     if other <= place {
@@ -99,8 +98,9 @@ fn later_has_way_round(
     if has_second_way(net, found, place, other) {
         return Ok(true);
     }
+    let near = levels(alloc, net, place)?;
     let far = levels(alloc, net, other)?;
-    Ok(has_way_round(net, place, near, other, &far))
+    Ok(has_way_round(net, place, &near, other, &far))
 }
 
 // Whether the nodes at two places that are neighbours are joined by the other edges.
