@@ -90,7 +90,9 @@ fn has_another(net: &Network, found: &[Option<u32>], place: usize, other: usize)
     ensures { result ≡ list_any (is_another found.now place other) (beside net.now other) }
 {
     let places = net.places(other);
-    places.iter().any(|third| is_another(found, place, other, *third as usize))
+    places
+        .iter()
+        .any(|third| is_another(found, place, other, *third as usize))
 }
 
 // Whether a third place is not the first, and no deeper than the second.
