@@ -1,0 +1,183 @@
+-- The tests give true exactly where the properties hold.
+use Rattle.std.proofs.Common.{◌≡◌, ◌∙◌, ℕ, zero, suc, ◌≤◌, ◌==◌, ◌&&◌, ◌||◌, ◌↔◌, inl, inr, Bool, true, false, cond, List, [], ◌∷◌, length, get_or, Contains, refl, ap, subst, arith}
+use Rattle.std.specs.List.{list_all}
+use Rattle.std.proofs.lemmas.Bool.{and_from, and_parts, eq-eqb, eqb-true, or_cases, or_left, or_right}
+use Rattle.std.proofs.lemmas.List.Elements.{All-contains, Contains-get_or}
+use Rattle.std.proofs.lemmas.List.Sums.{AllPass-from_list_all, list_all-from_AllPass}
+use Rattle.pls_model.specs.declared.row.NodeRow.{NodeRow}
+use Rattle.pls_model.specs.Configuration.{ids_of}
+use Rattle.pls_model.specs.Walk.{Adjacent, AreJoined, Edge, JoinAll, Walk, edges_of}
+use Rattle.pls_graph.proofs.Joined.{AreJoined-adjacent, AreJoined-through, AreJoined-turned, along}
+use Rattle.pls_graph.proofs.Members.{Contains-first, Contains-later}
+use Rattle.pls_facts.proofs.Classes.{class-joined, class_of}
+use Rattle.pls_facts.proofs.Lists.{any_passes, passes_any}
+use Rattle.pls_properties.specs.Diameter.{AreWithin, HasDiameter}
+use Rattle.pls_properties.specs.Bridgeless.{IsBridgeless, without}
+use Rattle.pls_properties.specs.Tests.{any_two, are_classed, bridgeless_test, diameter_test, joins_without, leads_to, walks_within}
+
+-- what all items pass, each does, and the other way round
+module _ {X : Type 0} (test : X → Bool) (xs : List X) where
+  each_passes : list_all test xs ≡ true → (x : X) → Contains xs x → test x ≡ true
+  each_passes all x in' =
+      All-contains (λ x. test x ≡ true) xs x (AllPass-from_list_all test xs all) in'
+
+  all_pass : ((x : X) → Contains xs x → test x ≡ true) → list_all test xs ≡ true
+  all_pass each = list_all-from_AllPass test xs (λ k d within.
+      each (get_or xs k d) (Contains-get_or xs k d within))
+
+-- so for any two
+module _ (test : ℕ → ℕ → Bool) (nodes : List ℕ) where
+  two_pass : any_two test nodes ≡ true → (u v : ℕ) → Contains nodes u → Contains nodes v
+      → test u v ≡ true
+  two_pass all u v in_u in_v =
+      each_passes (test u) nodes (each_passes (λ u. list_all (test u) nodes) nodes all u in_u) v in_v
+
+  any_two_pass : ((u v : ℕ) → Contains nodes u → Contains nodes v → test u v ≡ true)
+      → any_two test nodes ≡ true
+  any_two_pass each = all_pass (λ u. list_all (test u) nodes) nodes (λ u in_u.
+      all_pass (test u) nodes (λ v in_v. each u v in_u in_v))
+
+module _ (edges : List Edge) (v : ℕ) where
+  -- the test of walks finds a walk
+  walk_found : (most u : ℕ) → walks_within edges most v u ≡ true → AreWithin edges most u v
+  unfolding walks_within
+  walk_found zero u found = ([], eqb-true u v found, omega arith)
+  walk_found (suc most) u found =
+      elim (or_cases (u == v) (leads_to edges (walks_within edges most v) u) found) [
+        | inl same ↦ ([], eqb-true u v same, omega arith)
+        | inr leads ↦ onward (passes_any
+            (λ edge. (edge.a == u && walks_within edges most v edge.b)
+            || (edge.b == u && walks_within edges most v edge.a)) edges leads) (walk_found most)
+      ]
+    where
+      onward : (edge : Edge) × Contains edges edge
+          × (((edge.a == u && walks_within edges most v edge.b)
+          || (edge.b == u && walks_within edges most v edge.a)) ≡ true)
+          → ((w : ℕ) → walks_within edges most v w ≡ true → AreWithin edges most w v)
+          → AreWithin edges (suc most) u v
+      onward (edge, in', passes) rest =
+          elim (or_cases (edge.a == u && walks_within edges most v edge.b)
+          (edge.b == u && walks_within edges most v edge.a) passes) [
+            | inl there ↦
+                let both = and_parts (edge.a == u) (walks_within edges most v edge.b) there in
+                let more = rest edge.b both.1 in (
+                  edge.b ∷ more.0,
+                  ((edge, in', inl (eqb-true edge.a u both.0, refl)), more.1),
+                  omega (arith, more.2),
+                )
+            | inr back ↦
+                let both = and_parts (edge.b == u) (walks_within edges most v edge.a) back in
+                let more = rest edge.a both.1 in (
+                  edge.a ∷ more.0,
+                  ((edge, in', inr (refl, eqb-true edge.b u both.0)), more.1),
+                  omega (arith, more.2),
+                )
+          ]
+
+  -- and every walk is found
+  finds_walk : (most u : ℕ) (nodes : List ℕ) → Walk edges u nodes v → length nodes ≤ most
+      → walks_within edges most v u ≡ true
+  unfolding walks_within
+  finds_walk zero u [] walk short = eq-eqb u v walk
+  finds_walk zero u (next ∷ nodes) walk short = absurd (omega (arith, short))
+  finds_walk (suc most) u [] walk short =
+      or_left (u == v) (leads_to edges (walks_within edges most v) u) (eq-eqb u v walk)
+  finds_walk (suc most) u (next ∷ nodes) walk short =
+      or_right (u == v) (leads_to edges (walks_within edges most v) u)
+      (leads walk.0 (finds_walk most next nodes walk.1 (omega (arith, short))))
+    where
+      leads : Adjacent edges u next → walks_within edges most v next ≡ true
+          → leads_to edges (walks_within edges most v) u ≡ true
+      leads (edge, in', joins) more =
+          any_passes (λ edge. (edge.a == u && walks_within edges most v edge.b)
+          || (edge.b == u && walks_within edges most v edge.a)) edges edge in'
+          (elim joins [
+            | inl ends ↦ or_left (edge.a == u && walks_within edges most v edge.b)
+                (edge.b == u && walks_within edges most v edge.a)
+                (and_from (edge.a == u) (walks_within edges most v edge.b)
+                (eq-eqb edge.a u ends.0)
+                (ap (walks_within edges most v) ends.1 ∙ more))
+            | inr ends ↦ or_right (edge.a == u && walks_within edges most v edge.b)
+                (edge.b == u && walks_within edges most v edge.a)
+                (and_from (edge.b == u) (walks_within edges most v edge.a)
+                (eq-eqb edge.b u ends.1)
+                (ap (walks_within edges most v) ends.0 ∙ more))
+          ])
+
+-- the test of the diameter is right
+pub diameter_tested : (most : ℕ) (rows : List NodeRow)
+    → (diameter_test most rows ≡ true) ↔ HasDiameter most rows
+diameter_tested most rows = (
+  λ passes u v in_u in_v. walk_found (edges_of rows) v most u
+      (two_pass (λ u v. walks_within (edges_of rows) most v u) (ids_of rows) passes u v in_u in_v),
+  λ holds. any_two_pass (λ u v. walks_within (edges_of rows) most v u) (ids_of rows)
+      (λ u v in_u in_v. let near = holds u v in_u in_v in
+      finds_walk (edges_of rows) v most u near.0 near.1 near.2),
+)
+
+-- with one more edge, what was joined is joined
+joined_more : (edge : Edge) (edges : List Edge) (u v : ℕ) → AreJoined edges u v
+    → AreJoined (edge ∷ edges) u v
+joined_more edge edges u v joined =
+    along edges (AreJoined (edge ∷ edges) u) (λ w x here (other, in', between).
+    AreJoined-through (edge ∷ edges) u w x here (AreJoined-adjacent (edge ∷ edges) w x
+    (other, Contains-later edge edges other in', between))) u v joined ([], refl)
+
+-- a node is joined with the one that stands for its class
+class_joins : (edges : List Edge) (u : ℕ) → AreJoined edges u (class_of edges u)
+class_joins [] u = ([], refl)
+class_joins (edge ∷ edges) u =
+    by (class_of edges u == class_of edges edge.a) refl (class_joins edges u)
+    (class_joins edges edge.a) (class_joins edges edge.b)
+  where
+    all : List Edge
+    all = edge ∷ edges
+
+    by : (b : Bool) → (class_of edges u == class_of edges edge.a) ≡ b
+        → AreJoined edges u (class_of edges u)
+        → AreJoined edges edge.a (class_of edges edge.a)
+        → AreJoined edges edge.b (class_of edges edge.b)
+        → AreJoined (edge ∷ edges) u (cond b (class_of edges edge.b) (class_of edges u))
+    by false other here first second = joined_more edge edges u (class_of edges u) here
+    by true same here first second =
+        let is : class_of edges u ≡ class_of edges edge.a =
+        eqb-true (class_of edges u) (class_of edges edge.a) same in
+        let to_a : AreJoined edges u edge.a =
+        AreJoined-through edges u (class_of edges edge.a) edge.a
+        (subst (AreJoined edges u) is here)
+        (AreJoined-turned edges edge.a (class_of edges edge.a) first) in
+        AreJoined-through (edge ∷ edges) u edge.a (class_of edges edge.b)
+        (joined_more edge edges u edge.a to_a)
+        (AreJoined-through (edge ∷ edges) edge.a edge.b (class_of edges edge.b)
+        (AreJoined-adjacent (edge ∷ edges) edge.a edge.b
+        (edge, Contains-first edge edges, inl (refl, refl)))
+        (joined_more edge edges edge.b (class_of edges edge.b) second))
+
+-- nodes of one class are joined
+pub joined-class : (edges : List Edge) (u v : ℕ) → class_of edges u ≡ class_of edges v
+    → AreJoined edges u v
+joined-class edges u v same =
+    AreJoined-through edges u (class_of edges v) v
+    (subst (AreJoined edges u) same (class_joins edges u))
+    (AreJoined-turned edges v (class_of edges v) (class_joins edges v))
+
+-- the test of what edges join is right
+join_tested : (edges : List Edge) (nodes : List ℕ)
+    → (any_two (are_classed edges) nodes ≡ true) ↔ JoinAll edges nodes
+join_tested edges nodes = (
+  λ passes u v in_u in_v. joined-class edges u v (eqb-true (class_of edges u) (class_of edges v)
+      (two_pass (are_classed edges) nodes passes u v in_u in_v)),
+  λ joined. any_two_pass (are_classed edges) nodes (λ u v in_u in_v.
+      eq-eqb (class_of edges u) (class_of edges v)
+      (class-joined edges u v (joined u v in_u in_v))),
+)
+
+-- the test for bridges is right
+pub bridgeless_tested : (rows : List NodeRow)
+    → (bridgeless_test rows ≡ true) ↔ IsBridgeless rows
+bridgeless_tested rows = (
+  λ passes edge in'. (join_tested (without edge (edges_of rows)) (ids_of rows)).0
+      (each_passes (joins_without rows) (edges_of rows) passes edge in'),
+  λ holds. all_pass (joins_without rows) (edges_of rows) (λ edge in'.
+      (join_tested (without edge (edges_of rows)) (ids_of rows)).1 (holds edge in')),
+)
