@@ -1,0 +1,3 @@
+pub mod Map
+pub mod inner
+pub mod laws
