@@ -1,3 +1,4 @@
 pub mod Map
+pub mod Rules
 pub mod inner
 pub mod laws

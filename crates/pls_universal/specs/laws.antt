@@ -1,2 +1,4 @@
 pub mod NumberLaws
 pub mod MapLaws
+pub mod RuleLaws
+pub mod MapShow

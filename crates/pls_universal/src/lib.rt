@@ -3,8 +3,10 @@
 
 mod map;
 mod reading;
+mod tested;
 mod writing;
 
 pub use map::{MapLabel, MapRow, PortList, RowList};
 pub use reading::read_map;
+pub use tested::Tested;
 pub use writing::write_map;

@@ -54,10 +54,7 @@ fn read_rows<C: NumCode>(
 }
 
 // The record that comes next, which the cursor moves past, or `None` where there is none.
-fn read_row<C: NumCode>(
-    alloc: Global,
-    cursor: &mut Cursor<'_>,
-) -> Result<Option<MapRow>, NoMemory>
+fn read_row<C: NumCode>(alloc: Global, cursor: &mut Cursor<'_>) -> Result<Option<MapRow>, NoMemory>
     ensures found { IfOk result (λ found. IfSome found
         (λ row. row_off C.takes cursor.old ≡ Some (row, cursor.new))) }
     ensures none { IfOk result (λ found. IfNone found (row_off C.takes cursor.old ≡ None)) }

@@ -21,13 +21,16 @@ port_off takes bits = option_map (λ (taken : List ℕ × List Bool).
 
 -- the record of the five numbers in front and these ports
 abbrev pub row_with : List ℕ → List (ℕ × ℕ) × List Bool → MapRow × List Bool
-row_with head taken = (record {
-  id = get_or head 0 0;
-  up = get_or head 1 0;
-  mark = get_or head 2 0;
-  num = get_or head 3 0;
-  ports = taken.0;
-}, taken.1)
+row_with head taken = (
+  record {
+    id = get_or head 0 0;
+    up = get_or head 1 0;
+    mark = get_or head 2 0;
+    num = get_or head 3 0;
+    ports = taken.0;
+  },
+  taken.1,
+)
 
 -- the record that stands in front, and the bits behind it
 abbrev pub row_off : (List Bool → Option (ℕ × List Bool)) → List Bool
