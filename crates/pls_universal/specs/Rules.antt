@@ -12,6 +12,7 @@ use Rattle.pls_facts.proofs.Classes.{class_of}
 use Rattle.pls_scheme.specs.Reading.{Read, ReadPort}
 use Rattle.pls_universal.specs.declared.map.MapLabel.{MapLabel}
 use Rattle.pls_universal.specs.declared.map.MapRow.{MapRow}
+use Rattle.pls_universal.specs.Map.{map_of}
 
 -- the pointer that a record states
 abbrev pub up_of : ℕ → Option ℕ
@@ -131,3 +132,7 @@ map_rules test view =
 abbrev pub IsTestOf : (List NodeRow → Bool) → (List NodeRow → Type 0) → Type 0
 IsTestOf test holds =
     (rows : List NodeRow) → IsNetwork rows → IsConnected rows → (test rows ≡ true) ↔ holds rows
+
+-- a label that is right for a node: its own is the identity, its map is that of the network
+abbrev pub map_says : List NodeRow → NodeRow → MapLabel → Type 0
+map_says rows row label = (label.own ≡ row.id) × (label.rows ≡ map_of rows)

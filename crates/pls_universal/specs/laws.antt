@@ -2,3 +2,4 @@ pub mod NumberLaws
 pub mod MapLaws
 pub mod RuleLaws
 pub mod MapShow
+pub mod MapMet

@@ -1,12 +1,11 @@
 //! Properties that are told by a test.
 
-ghost use Rattle.std.specs.Prelude.{◌≡◌, Bool, List, Contains};
+ghost use Rattle.std.specs.Prelude.{◌≡◌, ℕ, Bool, List, Contains};
 ghost use Rattle.pls_model.specs.declared.row.NodeRow.{NodeRow};
 ghost use Rattle.pls_model.specs.Walk.{IsConnected};
-ghost use Rattle.pls_scheme.specs.Theorem.{HoldEverywhere};
+ghost use Rattle.pls_scheme.specs.Theorem.{AreRightEverywhere, HoldEverywhere};
 ghost use Rattle.pls_universal.specs.declared.map.MapLabel.{MapLabel};
-ghost use Rattle.pls_universal.specs.Rules.{IsTestOf, map_rules, nodes_of};
-ghost use Rattle.std.specs.Prelude.{ℕ};
+ghost use Rattle.pls_universal.specs.Rules.{IsTestOf, map_rules, map_says, nodes_of};
 
 use pls_facts::is_valid;
 use pls_graph::Network;
@@ -30,6 +29,19 @@ pub trait Tested: Property {
             → Self.holds self.now net.now }
     {
         is_valid(net);
+    }
+
+    /// Where a connected network has the property, and each label says the identity of its node and
+    /// the map of the network, the rules hold at each node.
+    final fn right_maps_pass(&self, net: &Network)
+        requires connected { IsConnected net.now }
+        requires holds { Self.holds self.now net.now }
+        ensures { (say : ℕ → MapLabel) → AreRightEverywhere (map_says net.now) net.now say
+            → HoldEverywhere (map_rules (test self.now)) net.now say }
+    {
+        is_valid(net);
+        // So its identities, weights and marks are numbers of 32 bits.
+        net.size();
     }
 
     // The test tells the property.
