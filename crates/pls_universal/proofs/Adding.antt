@@ -1,10 +1,10 @@
 -- Numbers that are written one behind the other.
-use Rattle.std.proofs.Common.{◌≡◌, ◌∙◌, ℕ, ◌≤◌, ◌+◌, ◌<◌, ◌++◌, Bool, List, [], ◌∷◌, length, map, take, get_or, refl, sym, ap, subst, append_assoc}
+use Rattle.std.proofs.Common.{◌≡◌, ◌∙◌, ℕ, ◌≤◌, ◌+◌, ◌<◌, ◌++◌, Bool, List, [], ◌∷◌, length, take, get_or, sym, ap, subst, append_assoc}
 use Rattle.std.specs.List.{flat_map}
 use Rattle.std.proofs.lemmas.List.{append-nil, flat_map_more, take_more}
 use Rattle.std.proofs.lemmas.List.Elements.{All-append, All-cons, All-nil}
 use Rattle.pls_bits.specs.declared.num_code.TheConstants.{MAX_CODED}
-use Rattle.pls_scheme.specs.Numbers.{AreCoded, codes_of}
+use Rattle.pls_scheme.specs.Numbers.{codes_of}
 use Rattle.pls_universal.specs.laws.NumberLaws.{codes_of-append}
 use Rattle.pls_universal.specs.inner.Writing.{Adds}
 

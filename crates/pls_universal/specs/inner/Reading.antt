@@ -1,5 +1,5 @@
 -- What is read off the front of bits: numbers, ports, records and lists of them.
-use Rattle.std.specs.Prelude.{ℕ, zero, suc, Bool, List, [], ◌∷◌, get_or, Option, Some, None, option_map, option_and_then}
+use Rattle.std.specs.Prelude.{ℕ, zero, suc, Bool, List, [], ◌∷◌, get_or, Option, Some, option_map, option_and_then}
 use Rattle.pls_universal.specs.declared.map.MapRow.{MapRow}
 
 -- one item more in front of those that were taken off

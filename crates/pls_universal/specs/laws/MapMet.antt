@@ -1,6 +1,6 @@
 -- Where each label has its node's identity and the map of the network, the rules hold everywhere in
 -- a connected network with the property.
-use Rattle.std.proofs.Common.{◌≡◌, ◌∙◌, ℕ, zero, suc, ◌-◌, ◌^◌, ◌≤◌, ◌==◌, ◌&&◌, ◌+◌, max, inl, inr, Bool, true, false, nat_le, List, [], ◌∷◌, map, length, get_or, Contains, Option, Some, None, is_none, refl, sym, ap, subst, arith}
+use Rattle.std.proofs.Common.{◌≡◌, ◌∙◌, ℕ, suc, ◌-◌, ◌^◌, ◌≤◌, ◌==◌, ◌+◌, inl, inr, Bool, true, false, nat_le, List, [], ◌∷◌, map, length, get_or, Contains, Option, Some, None, is_none, refl, sym, ap, subst, arith}
 use Rattle.std.specs.List.{flat_map, list_all}
 use Rattle.std.specs.Option.{option_map_or}
 use Rattle.std.proofs.lemmas.Bool.{and_from, eq-eqb, le-leb}
@@ -19,7 +19,7 @@ use Rattle.pls_graph.proofs.Members.{Contains-cons_cases, Contains-first, Contai
 use Rattle.pls_facts.proofs.Classes.{class-joined, class_of}
 use Rattle.pls_facts.proofs.Neighbours.{neighbour_row, within_greatest}
 use Rattle.pls_facts.proofs.Pointed.{row_of_id}
-use Rattle.pls_scheme.specs.Reading.{Read, ReadPort, port_where, read_where}
+use Rattle.pls_scheme.specs.Reading.{port_where, read_where}
 use Rattle.pls_scheme.specs.Theorem.{AreRightEverywhere, AreWords, HoldEverywhere}
 use Rattle.pls_scheme.proofs.SaidPorts.{all_ports_pass}
 use Rattle.pls_universal.specs.declared.map.MapLabel.{MapLabel}

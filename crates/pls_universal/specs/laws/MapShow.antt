@@ -1,5 +1,5 @@
 -- Where the rules hold at all nodes of a connected network, each map is that of the network.
-use Rattle.std.proofs.Common.{◌≡◌, ◌∙◌, ℕ, zero, suc, ◌≤◌, ◌<◌, ◌==◌, ◌&&◌, inl, inr, Bool, true, false, List, [], ◌∷◌, map, length, Contains, Option, Some, None, slice_get, refl, sym, ap, subst, arith}
+use Rattle.std.proofs.Common.{◌≡◌, ◌∙◌, ℕ, suc, ◌<◌, ◌==◌, inl, inr, Bool, true, false, List, [], ◌∷◌, map, Contains, Option, Some, None, slice_get, refl, sym, ap, subst, arith}
 use Rattle.std.specs.Option.{option_map_or}
 use Rattle.std.proofs.lemmas.Bool.{eqb-true}
 use Rattle.std.proofs.lemmas.Option.{same_Some}
@@ -18,12 +18,11 @@ use Rattle.pls_facts.proofs.Agreed.{agree_everywhere}
 use Rattle.pls_facts.proofs.Lists.{some_item}
 use Rattle.pls_facts.proofs.Neighbours.{neighbour_row}
 use Rattle.pls_facts.proofs.Pointed.{id_of_row, row_from_id}
-use Rattle.pls_scheme.specs.Reading.{Read, ReadPort, port_where, read_where}
+use Rattle.pls_scheme.specs.Reading.{port_where, read_where}
 use Rattle.pls_scheme.specs.Theorem.{HoldEverywhere, RulesShow}
 use Rattle.pls_scheme.proofs.SaidPorts.{passes_port}
 use Rattle.pls_universal.specs.declared.map.MapLabel.{MapLabel}
 use Rattle.pls_universal.specs.declared.map.MapRow.{MapRow}
-use Rattle.pls_universal.specs.Map.{map_of}
 use Rattle.pls_universal.specs.Rules.{IsTestOf, has_map, is_node_right, is_port_right, map_rules, matched, nodes_of, same_state}
 use Rattle.pls_universal.specs.laws.RuleLaws.{both_pass, map-same, network-is, state-same}
 

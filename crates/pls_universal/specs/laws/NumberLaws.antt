@@ -6,7 +6,6 @@ use Rattle.std.proofs.lemmas.Option.{same_Some}
 use Rattle.std.proofs.lemmas.List.Concat.{flat_map-cons}
 use Rattle.std.proofs.lemmas.List.Elements.{All-append, All-cons, All-head, All-nil, All-tail}
 use Rattle.pls_bits.specs.declared.num_code.TheConstants.{MAX_CODED}
-use Rattle.pls_bits.specs.NumberCode.{TakesCodes, TakesOnly}
 use Rattle.pls_scheme.specs.Numbers.{AreCoded, codes_of}
 use Rattle.pls_universal.specs.inner.Reading.{many_off, with_item}
 

@@ -1,5 +1,5 @@
 -- What the single rules say.
-use Rattle.std.proofs.Common.{◌≡◌, ◌∙◌, ℕ, zero, suc, ◌≤◌, ◌==◌, ◌&&◌, inl, inr, Bool, true, false, cond, nat_le, List, [], ◌∷◌, map, length, Contains, Option, Some, None, is_none, refl, sym, ap, subst, arith, All, get_or}
+use Rattle.std.proofs.Common.{◌≡◌, ◌∙◌, ℕ, ◌≤◌, ◌==◌, ◌&&◌, inl, inr, Bool, true, false, cond, nat_le, List, [], ◌∷◌, map, length, Contains, Option, Some, None, is_none, refl, sym, ap, subst, arith, All, get_or}
 use Rattle.std.specs.List.{list_all}
 use Rattle.std.proofs.lemmas.Bool.{eqb-true, leb-true}
 use Rattle.std.proofs.lemmas.List.{length-map}
@@ -9,7 +9,7 @@ use Rattle.pls_model.specs.declared.row.State.{State}
 use Rattle.pls_model.specs.declared.row.NodeRow.{NodeRow}
 use Rattle.pls_model.specs.declared.refusal.BuildError.{BuildError}
 use Rattle.pls_model.specs.declared.limits.TheConstants.{MAX_NODES, MAX_NUM, MAX_PORTS}
-use Rattle.pls_model.specs.Configuration.{AreWithinLimits, IsNetwork, ids_of, ports_in, refusal_of}
+use Rattle.pls_model.specs.Configuration.{IsNetwork, ids_of, ports_in, refusal_of}
 use Rattle.pls_model.specs.Walk.{AreJoined, Edge, IsConnected, Walk, edges_of}
 use Rattle.pls_graph.proofs.Joined.{AreJoined-adjacent, AreJoined-through, AreJoined-turned}
 use Rattle.pls_graph.proofs.Members.{Contains-cons_cases, Contains-first, Contains-later, Contains-map}

@@ -1,5 +1,4 @@
-use Rattle.std.proofs.Common.{◌≡◌, ◌∙◌, ℕ, List, Bool, Option, None, Some, IfNone, IfSome, refl, sym, ap, subst, []}
-use Rattle.pls_universal.specs.declared.map.MapRow.{MapRow}
+use Rattle.std.proofs.Common.{◌≡◌, ◌∙◌, List, Bool, None, Some, IfNone, IfSome, sym, ap, subst, []}
 use Rattle.pls_universal.specs.Map.{IsMap}
 use Rattle.pls_universal.specs.inner.Reading.{many_off, map_off, row_off}
 use Rattle.pls_universal.specs.laws.NumberLaws.{same_parts}

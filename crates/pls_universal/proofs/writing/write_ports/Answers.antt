@@ -1,5 +1,4 @@
-use Rattle.std.proofs.Common.{◌≡◌, ◌∙◌, ℕ, ◌<◌, ◌+◌, ◌++◌, List, Bool, [], ◌∷◌, map, take, get_or, length, ap, subst, sym, arith}
-use Rattle.std.specs.List.{flat_map}
+use Rattle.std.proofs.Common.{◌≡◌, ℕ, ◌<◌, List, Bool, [], map, get_or, length, subst, sym, arith}
 use Rattle.std.proofs.lemmas.List.{length-map, get_or-map}
 use Rattle.pls_model.specs.declared.row.Port.{Port}
 use Rattle.pls_universal.specs.Map.{numbers_of_port, port_stated}

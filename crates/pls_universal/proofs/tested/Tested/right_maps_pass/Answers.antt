@@ -1,4 +1,4 @@
-use Rattle.std.proofs.Common.{◌≤◌, ap, arith}
+use Rattle.std.proofs.Common.{ap, arith}
 use Rattle.pls_graph.specs.declared.size.Size.{Size}
 use Rattle.pls_graph.specs.Size.{size_of}
 use Rattle.pls_scheme.specs.Theorem.{AreWords}
