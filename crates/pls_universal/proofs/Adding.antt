@@ -3,9 +3,12 @@ use Rattle.std.proofs.Common.{◌≡◌, ◌∙◌, ℕ, ◌≤◌, ◌+◌, ◌
 use Rattle.std.specs.List.{flat_map}
 use Rattle.std.proofs.lemmas.List.{append-nil, flat_map_more, take_more}
 use Rattle.std.proofs.lemmas.List.Elements.{All-append, All-cons, All-nil}
+use Rattle.std.proofs.lemmas.List.Elements.{All-contains, Contains-get_or}
+use Rattle.pls_graph.proofs.Members.{Contains-flat_map}
 use Rattle.pls_bits.specs.declared.num_code.TheConstants.{MAX_CODED}
 use Rattle.pls_scheme.specs.Numbers.{codes_of}
-use Rattle.pls_universal.specs.laws.NumberLaws.{codes_of-append}
+use Rattle.pls_scheme.specs.Numbers.{AreCoded}
+use Rattle.pls_universal.specs.laws.NumberLaws.{codes_of-append, coded_rest}
 use Rattle.pls_universal.specs.inner.Writing.{Adds}
 
 abbrev Small : ℕ → Type 0
@@ -48,3 +51,15 @@ module _ (code : ℕ → List Bool) where
       (flat_map_more numbers front (take i items) (get_or items i d)
       ∙ ap (λ (items : List X). front ++ flat_map numbers items)
       (sym (take_more items i d within))) both
+
+-- the numbers of an item of a list have codes
+pub coded_item : {X : Type 0} (numbers : X → List ℕ) (front : List ℕ) (items : List X) (i : ℕ)
+    (d : X) → i < length items → AreCoded (front ++ flat_map numbers items)
+    → AreCoded (numbers (get_or items i d))
+coded_item numbers front items i d within coded =
+    λ k none inside.
+    let number : ℕ = get_or (numbers (get_or items i d)) k none in
+    All-contains Small (flat_map numbers items) number
+    (coded_rest front (flat_map numbers items) coded)
+    (Contains-flat_map numbers items (get_or items i d) number (Contains-get_or items i d within)
+    (Contains-get_or (numbers (get_or items i d)) k none inside))

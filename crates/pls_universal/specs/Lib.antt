@@ -1,4 +1,5 @@
 pub mod Map
 pub mod Rules
+pub mod Reading
 pub mod inner
 pub mod laws

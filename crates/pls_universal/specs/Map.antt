@@ -7,6 +7,7 @@ use Rattle.std.specs.Option.{option_map_or}
 use Rattle.pls_model.specs.declared.row.Port.{Port}
 use Rattle.pls_model.specs.declared.row.NodeRow.{NodeRow}
 use Rattle.pls_scheme.specs.Numbers.{AreCodesOf}
+use Rattle.pls_universal.specs.declared.map.MapLabel.{MapLabel}
 use Rattle.pls_universal.specs.declared.map.MapRow.{MapRow}
 
 -- the numbers of a port
@@ -47,3 +48,7 @@ row_stated row = record {
 -- the map of a network
 abbrev pub map_of : List NodeRow → List MapRow
 map_of rows = map row_stated rows
+
+-- the numbers of a label: the node's identity, and those of the map
+abbrev pub numbers_of_label : MapLabel → List ℕ
+numbers_of_label label = label.own ∷ numbers_of_map label.rows

@@ -1,5 +1,6 @@
 pub mod NumberLaws
 pub mod MapLaws
+pub mod LabelLaws
 pub mod RuleLaws
 pub mod MapShow
 pub mod MapMet

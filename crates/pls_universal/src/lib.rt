@@ -13,11 +13,13 @@
 //! (`map_met`, `map_one_right`).
 #![tactic(auto)]
 
+mod layout;
 mod map;
 mod reading;
 mod tested;
 mod writing;
 
+pub use layout::MapLayout;
 pub use map::{MapLabel, MapRow, PortList, RowList};
 pub use reading::read_map;
 pub use tested::Tested;
