@@ -52,3 +52,7 @@ map_of rows = map row_stated rows
 -- the numbers of a label: the node's identity, and those of the map
 abbrev pub numbers_of_label : MapLabel → List ℕ
 numbers_of_label label = label.own ∷ numbers_of_map label.rows
+
+-- the bits are a label: the codes of its numbers, and nothing more
+abbrev pub IsMapLabel : (ℕ → List Bool) → List Bool → MapLabel → Type 0
+IsMapLabel code bits label = AreCodesOf code (numbers_of_label label) bits

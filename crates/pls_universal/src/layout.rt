@@ -20,15 +20,15 @@ pub struct MapLayout<C> {
 }
 
 impl<C: NumCode> Layout for MapLayout<C> {
-    ghost use Rattle.pls_scheme.specs.Numbers.{AreCoded, AreCodesOf};
+    ghost use Rattle.pls_scheme.specs.Numbers.{AreCoded};
     ghost use Rattle.pls_scheme.specs.laws.CodeLaws.{has_spelling, one_spelling};
-    ghost use Rattle.pls_universal.specs.Map.{numbers_of_label};
+    ghost use Rattle.pls_universal.specs.Map.{IsMapLabel, numbers_of_label};
     ghost use Rattle.pls_universal.specs.Reading.{map_label};
     ghost use Rattle.pls_universal.specs.laws.LabelLaws.{map_label-spells};
 
     type Label = MapLabel;
 
-    ghost spells = { λ bits label. AreCodesOf C.code (numbers_of_label label) bits };
+    ghost spells = { λ bits label. IsMapLabel C.code bits label };
 
     ghost said = { λ bits. map_label C.takes bits };
 

@@ -15,12 +15,14 @@
 
 mod layout;
 mod map;
+mod marking;
 mod reading;
 mod tested;
 mod writing;
 
 pub use layout::MapLayout;
 pub use map::{MapLabel, MapRow, PortList, RowList};
+pub use marking::map_labels;
 pub use reading::read_map;
 pub use tested::Tested;
 pub use writing::write_map;
