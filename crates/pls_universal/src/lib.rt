@@ -5,6 +5,9 @@
 //! their last bit; `specs/Map` says what is written (`numbers_of_map`, `IsMap`, `map_of`). A map may
 //! state any number of records: room is made as they come, never by a count that is stated.
 //!
+//! [`MapLayout`] is the layout of a label ([`MapLabel`]), [`map_labels`] labels a network, and
+//! [`map_bound`] says how long its labels may be (`specs/Bound`: `longest_map`).
+//!
 //! `specs/Rules` says what a node asks of the maps in its view (`map_rules`), by a test of the
 //! property ([`Tested`]). [`Tested::maps_are_right`] is the theorem: where the rules hold at all
 //! nodes of a connected network, each map states that network, and the network has the property;
@@ -13,6 +16,7 @@
 //! (`map_met`, `map_one_right`).
 #![tactic(auto)]
 
+mod bound;
 mod layout;
 mod map;
 mod marking;
@@ -20,6 +24,7 @@ mod reading;
 mod tested;
 mod writing;
 
+pub use bound::map_bound;
 pub use layout::MapLayout;
 pub use map::{MapLabel, MapRow, PortList, RowList};
 pub use marking::map_labels;
