@@ -1,5 +1,5 @@
 -- Labels are read exactly where their codes stand.
-use Rattle.std.proofs.Common.{◌≡◌, ◌∙◌, ◌↔◌, ℕ, ◌++◌, Bool, List, [], ◌∷◌, length, Option, Some, None, option_map, refl, sym, ap, subst}
+use Rattle.std.proofs.Common.{◌≡◌, ◌∙◌, ◌↔◌, ℕ, ◌++◌, Bool, List, [], ◌∷◌, Option, Some, None, option_map, refl, sym, ap, subst}
 use Rattle.std.specs.Option.{option_and_then}
 use Rattle.std.proofs.lemmas.List.Elements.{All-cons, All-head, All-tail}
 use Rattle.pls_bits.specs.NumberCode.{TakesCodes, TakesOnly}
@@ -8,7 +8,7 @@ use Rattle.pls_universal.specs.declared.map.MapLabel.{MapLabel}
 use Rattle.pls_universal.specs.declared.map.MapRow.{MapRow}
 use Rattle.pls_universal.specs.Map.{IsMap, numbers_of_label, numbers_of_map}
 use Rattle.pls_universal.specs.Reading.{label_with, map_in, map_label, to_the_end}
-use Rattle.pls_universal.specs.inner.Reading.{many_off, map_off, row_off}
+use Rattle.pls_universal.specs.inner.Reading.{many_off, row_off}
 use Rattle.pls_universal.specs.laws.MapLaws.{map_only, map_read}
 use Rattle.pls_universal.specs.laws.NumberLaws.{Small}
 

@@ -1,4 +1,4 @@
-use Rattle.std.proofs.Common.{[], ◌∷◌, ℕ, List, length, sym, subst}
+use Rattle.std.proofs.Common.{[], ◌∷◌, List, length, sym, subst}
 use Rattle.std.specs.List.{flat_map}
 use Rattle.pls_scheme.specs.Numbers.{AreCoded}
 use Rattle.pls_universal.specs.declared.map.MapRow.{MapRow}

@@ -1,4 +1,4 @@
-use Rattle.std.proofs.Common.{◌≡◌, ◌+◌, ◌++◌, ◌∷◌, [], ℕ, List, subst, sym, take, get_or}
+use Rattle.std.proofs.Common.{◌∷◌, [], ℕ, List, subst, sym, take, get_or}
 use Rattle.std.proofs.lemmas.List.{take_more}
 use Rattle.pls_universal.specs.inner.Writing.{Adds}
 use Rattle.pls_universal.proofs.Adding.{adds_both, adds_one}

@@ -1,4 +1,4 @@
-use Rattle.std.proofs.Common.{[], ◌∷◌, ℕ, List}
+use Rattle.std.proofs.Common.{[]}
 use Rattle.pls_universal.specs.Map.{numbers_of_port}
 use Rattle.pls_universal.proofs.Adding.{adds_item, coded_item}
 use Rattle.pls_universal.proofs.layout.append_ports.Goals as goal

@@ -1,4 +1,4 @@
-use Rattle.std.proofs.Common.{◌≡◌, [], ◌∷◌, ℕ, List, sym, subst, get_or}
+use Rattle.std.proofs.Common.{[], sym, subst}
 use Rattle.pls_scheme.specs.Numbers.{AreCoded}
 use Rattle.pls_universal.specs.declared.map.MapRow.{MapRow}
 use Rattle.pls_universal.specs.Map.{numbers_of_row}
