@@ -4,3 +4,4 @@ pub mod LabelLaws
 pub mod RuleLaws
 pub mod MapShow
 pub mod MapMet
+pub mod ShortMaps

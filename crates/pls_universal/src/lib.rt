@@ -24,7 +24,7 @@ mod reading;
 mod tested;
 mod writing;
 
-pub use bound::map_bound;
+pub use bound::{map_bound, maps_are_short};
 pub use layout::MapLayout;
 pub use map::{MapLabel, MapRow, PortList, RowList};
 pub use marking::map_labels;

@@ -93,7 +93,7 @@ connected-joined rows connected =
     sym is_a ∙ class-joined edges u v (connected u v u_in v_in) ∙ is_b)
 
 -- a number of a list is at most the greatest
-in_greatest : (numbers : List ℕ) (number : ℕ) → Contains numbers number → number ≤ greatest numbers
+pub in_greatest : (numbers : List ℕ) (number : ℕ) → Contains numbers number → number ≤ greatest numbers
 in_greatest [] number in' = absurd (omega (arith, in'.1))
 in_greatest (first ∷ numbers) number in' =
     elim (Contains-cons_cases first numbers number in') [
