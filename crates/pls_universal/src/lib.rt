@@ -13,7 +13,7 @@
 //! nodes of a connected network, each map states that network, and the network has the property;
 //! [`Tested::right_maps_pass`] is its other half. Proofs above may cite `specs/laws/MapLaws`
 //! (`map_read`, `one_map`), `specs/laws/MapShow` (`map_show`, `each_map`) and `specs/laws/MapMet`
-//! (`map_met`, `map_one_right`).
+//! (`map_met`, `map_one_right`); [`maps_are_short`] says that labels with maps are within the bound.
 #![tactic(auto)]
 
 mod bound;

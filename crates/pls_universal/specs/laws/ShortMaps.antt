@@ -1,5 +1,5 @@
 -- The label of a node with the map of its network is no longer than the bound.
-use Rattle.std.proofs.Common.{◌≡◌, ◌∙◌, ℕ, ◌≤◌, ◌<◌, ◌+◌, ◌*◌, ◌++◌, inl, inr, Bool, List, [], ◌∷◌, map, flat_map, length, Contains, Option, Some, None, All, sum_by, slice_get, max, refl, sym, ap, subst, arith, suc-mul, length-append}
+use Rattle.std.proofs.Common.{◌≡◌, ◌∙◌, ℕ, ◌≤◌, ◌+◌, ◌*◌, ◌++◌, Bool, List, [], ◌∷◌, map, flat_map, length, Contains, Option, Some, None, sum_by, refl, ap, subst, arith, suc-mul, length-append}
 use Rattle.std.proofs.Math.Nat.{add-mul}
 use Rattle.std.proofs.lemmas.List.{length-map}
 use Rattle.std.proofs.lemmas.List.Concat.{flat_map-cons}
@@ -7,12 +7,12 @@ use Rattle.std.proofs.lemmas.List.Elements.{All-contains}
 use Rattle.std.proofs.lemmas.List.Sums.{sum_by-cons}
 use Rattle.pls_bits.specs.declared.num_code.TheConstants.{MAX_CODED}
 use Rattle.pls_bits.specs.NumberCode.{Grows, IsShort}
-use Rattle.pls_model.specs.declared.limits.TheConstants.{MAX_NUM, MAX_PORTS}
+use Rattle.pls_model.specs.declared.limits.TheConstants.{MAX_NUM}
 use Rattle.pls_model.specs.declared.row.Port.{Port}
 use Rattle.pls_model.specs.declared.row.NodeRow.{NodeRow}
 use Rattle.pls_model.specs.Configuration.{IsNetwork, ids_of, ports_in}
 use Rattle.pls_graph.specs.Size.{degrees_of, greatest, size_of, weights_of}
-use Rattle.pls_graph.proofs.Members.{Contains-first, Contains-flat_map, Contains-from_map, Contains-later, Contains-map, place_from_Contains}
+use Rattle.pls_graph.proofs.Members.{Contains-first, Contains-flat_map, Contains-later, Contains-map, place_from_Contains}
 use Rattle.pls_graph.proofs.Placed.{pointer_within}
 use Rattle.pls_facts.proofs.Neighbours.{neighbour_row, within_greatest}
 use Rattle.pls_scheme.specs.Length.{codes_length}
@@ -151,8 +151,15 @@ module _ (code : ℕ → List Bool) (grows : Grows code) (short : IsShort code)
       ∷ greatest (map (λ (row : NodeRow). row.state.num) rows) ∷ greatest (degrees_of rows) ∷ []) (omega arith) (
         id_in row in',
         id_coded,
-        (omega (arith, up, degree), degree_coded, (mark, omega (arith, marks),
-        (num, num_coded, (omega (arith, many, degree), degree_coded, tt)))),
+        (
+          omega (arith, up, degree),
+          degree_coded,
+          (
+            mark,
+            omega (arith, marks),
+            (num, num_coded, (omega (arith, many, degree), degree_coded, tt)),
+          ),
+        ),
       )
 
   port_short : (row : NodeRow) → Contains rows row → (port : Port) → Contains row.ports port
