@@ -6,7 +6,7 @@
 //! state any number of records: room is made as they come, never by a count that is stated.
 //!
 //! [`MapLayout`] is the layout of a label ([`MapLabel`]), [`map_labels`] labels a network, and
-//! [`map_bound`] says how long its labels may be (`specs/Bound`: `longest_map`).
+//! [`map_bound`] tells the length of its longest label at most (`specs/Bound`: `longest_map`).
 //!
 //! `specs/Rules` says what a node asks of the maps in its view (`map_rules`), by a test of the
 //! property ([`Tested`]). [`Tested::maps_are_right`] is the theorem: where the rules hold at all
