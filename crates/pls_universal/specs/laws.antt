@@ -1,0 +1,7 @@
+pub mod NumberLaws
+pub mod MapLaws
+pub mod LabelLaws
+pub mod RuleLaws
+pub mod MapShow
+pub mod MapMet
+pub mod ShortMaps

@@ -1,0 +1,48 @@
+//! How long labels with maps are.
+
+ghost use Rattle.std.specs.Prelude.{◌≡◌, ℕ, ◌+◌, ◌*◌, ◌≤◌, Bool, List, length, Contains};
+ghost use Rattle.pls_model.specs.declared.row.NodeRow.{NodeRow};
+ghost use Rattle.pls_graph.specs.Size.{size_of};
+ghost use Rattle.pls_scheme.specs.Marked.{answered};
+ghost use Rattle.pls_universal.specs.Bound.{longest_map};
+ghost use Rattle.pls_universal.specs.Map.{IsMapLabel, map_of};
+ghost use Rattle.pls_universal.specs.Reading.{label_with};
+
+use pls_bits::NumCode;
+use pls_facts::is_valid;
+use pls_graph::{Network, Size};
+use pls_scheme::codes_length;
+
+/// The bits that a label with the map of a network of this size has at most, or `u64::MAX` where
+/// they are more. It takes no memory.
+pub fn map_bound<C: NumCode>(size: &Size) -> u64
+    ensures { result ≡ answered (longest_map C.code size.now) }
+{
+    let id = u64::from(size.max_id);
+    let degree = u64::from(size.max_degree);
+    let mark = u64::from(size.max_mark);
+    let head = [id, degree, mark, size.max_num, degree];
+    let port = [id, u64::from(size.max_weight)];
+    let front = codes_length::<C>(&[id, size.nodes]);
+    let heads = with_times(front, size.nodes, codes_length::<C>(&head));
+    with_times(heads, size.ports, codes_length::<C>(&port))
+}
+
+// So many bits in front, and so many times those of each.
+fn with_times(front: u64, count: u64, each: u64) -> u64
+    ensures { (a b : ℕ) → front ≡ answered a → each ≡ answered b
+        → result ≡ answered (a + count * b) }
+{
+    front.saturating_add(count.saturating_mul(each))
+}
+
+/// The label of each node with the map of its network has at most so many bits. It does nothing.
+pub fn maps_are_short<C: NumCode>(net: &Network)
+    ensures { (row : NodeRow) (bits : List Bool) → Contains net.now row
+        → IsMapLabel C.code bits (label_with row.id (map_of net.now))
+        → length bits ≤ longest_map C.code (size_of net.now) }
+{
+    is_valid(net);
+    // So its identities, weights and marks are numbers of 32 bits.
+    net.size();
+}
