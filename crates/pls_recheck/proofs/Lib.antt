@@ -1,3 +1,5 @@
 pub mod Marked
 pub mod Cleared
 pub mod Current
+pub mod Steady
+pub mod Touching

@@ -1,0 +1,67 @@
+-- What an edit makes, which nodes it touches, and why it is refused.
+use Rattle.std.specs.Prelude.{◌≡◌, ℕ, ◌≤◌, ◌==◌, ◌||◌, Bool, List, filter, Option, Some}
+use Rattle.pls_model.specs.declared.limits.TheConstants.{MAX_NUM}
+use Rattle.pls_model.specs.declared.row.NodeRow.{NodeRow}
+use Rattle.pls_model.specs.Configuration.{ids_of}
+use Rattle.pls_graph.specs.declared.edits.EditError.{EditError}
+use Rattle.pls_graph.specs.Edits.{SaysEdit, link_refusal, linked, state_refusal, unlink_refusal, unlinked, weight_refusal, with_state, with_weight}
+use Rattle.pls_recheck.specs.declared.edit.Edit.{Edit}
+use Rattle.pls_recheck.specs.declared.edit.Edit.TheVariants.{State, Weight, Link, Unlink}
+use Rattle.pls_recheck.specs.Watch.{Snapshot, is_among}
+
+-- the network after the edit
+abbrev pub edited : Edit → List NodeRow → List NodeRow
+edited (State id state) rows = with_state rows id state
+edited (Weight a b weight) rows = with_weight rows a b weight
+edited (Link a b weight) rows = linked rows a b weight
+edited (Unlink a b) rows = unlinked rows a b
+
+-- the labels after the edit
+abbrev pub relabelled : Edit → List NodeRow → List (List Bool) → List (List Bool)
+relabelled (State id state) rows labels = labels
+relabelled (Weight a b weight) rows labels = labels
+relabelled (Link a b weight) rows labels = labels
+relabelled (Unlink a b) rows labels = labels
+
+-- the nodes that the edit touches: the node, or both ends of the edge
+abbrev pub touches : Edit → List NodeRow → ℕ → Bool
+touches (State id state) rows node = id == node
+touches (Weight a b weight) rows node = (a == node) || (b == node)
+touches (Link a b weight) rows node = (a == node) || (b == node)
+touches (Unlink a b) rows node = (a == node) || (b == node)
+
+-- the nodes that were touched before or are touched by the edit, in their order
+abbrev pub touched_after : Edit → List NodeRow → List ℕ → List ℕ
+touched_after edit rows touched =
+    filter (λ node. is_among touched node || touches edit rows node) (ids_of (edited edit rows))
+
+-- what was watched, after the edit: all else stays
+abbrev pub after : Edit → Snapshot → Snapshot
+after edit before =
+    record {
+      network = edited edit before.network;
+      labels = relabelled edit before.network before.labels;
+      touched = touched_after edit before.network before.touched;
+      kept = before.kept;
+    }
+
+-- why the edit is refused: the first cause that holds
+abbrev pub edit_refusal : Edit → Snapshot → Option EditError
+edit_refusal (State id state) now = state_refusal now.network id state
+edit_refusal (Weight a b weight) now = weight_refusal now.network a b
+edit_refusal (Link a b weight) now = link_refusal now.network a b
+edit_refusal (Unlink a b) now = unlink_refusal now.network a b
+
+-- with this error the edit is refused: for this cause, or, where it is a link, also for want of memory
+abbrev pub RefusesWith : Edit → Option EditError → EditError → Type 0
+RefusesWith (State id state) refusal error = refusal ≡ Some error
+RefusesWith (Weight a b weight) refusal error = refusal ≡ Some error
+RefusesWith (Link a b weight) refusal error = SaysEdit refusal error
+RefusesWith (Unlink a b) refusal error = refusal ≡ Some error
+
+-- the number that the edit gives a state is at most 2^62
+abbrev pub FitsNum : Edit → Type 0
+FitsNum (State id state) = state.num ≤ MAX_NUM
+FitsNum (Weight a b weight) = Unit {0}
+FitsNum (Link a b weight) = Unit {0}
+FitsNum (Unlink a b) = Unit {0}
