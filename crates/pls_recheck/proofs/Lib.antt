@@ -3,3 +3,4 @@ pub mod Cleared
 pub mod Current
 pub mod Steady
 pub mod Touching
+pub mod Relabelled

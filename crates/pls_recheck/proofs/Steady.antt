@@ -69,7 +69,7 @@ Stays passes rows after =
     (k : ℕ) (row new : NodeRow) → slice_get rows k ≡ Some row → slice_get after k ≡ Some new
     → passes new.id ≡ false → row ≡ new
 
-either_fails : (x y : Bool) → (x || y) ≡ false → (x ≡ false) × (y ≡ false)
+pub either_fails : (x y : Bool) → (x || y) ≡ false → (x ≡ false) × (y ≡ false)
 either_fails true y fails = absurd (cc)
 either_fails false y fails = (refl, fails)
 

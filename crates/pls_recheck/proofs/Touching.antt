@@ -18,7 +18,7 @@ use Rattle.pls_recheck.proofs.Cleared.{current_by_flags, current_by_ids}
 use Rattle.pls_recheck.proofs.Marked.{marked_more}
 use Rattle.pls_recheck.proofs.Steady.{SeeAlike, current_after}
 
-or_false : (b : Bool) → b ≡ (b || false)
+pub or_false : (b : Bool) → b ≡ (b || false)
 or_false true = refl
 or_false false = refl
 

@@ -19,8 +19,8 @@ use pls_model::State;
 
 impl Watched {
     /// Makes an edit, and touches the nodes whose view it may change. An edit that is refused
-    /// changes and touches nothing; its error is the network's. Only a link may find no memory. It
-    /// costs what the network's edit costs.
+    /// changes and touches nothing; its error is the network's. Only a link and a label may find
+    /// no memory. It costs what the network's edit costs, or a search for each neighbour.
     pub fn apply(&mut self, edit: &Edit) -> Result<(), EditError>
         requires { FitsNum edit.now }
         ensures ok { OnOk result (self.new ≡ after edit.now self.old) }
@@ -36,6 +36,7 @@ impl Watched {
             Edit::Weight { a, b, weight } => self.set_weight(*a, *b, *weight),
             Edit::Link { a, b, weight } => self.link(*a, *b, *weight),
             Edit::Unlink { a, b } => self.unlink(*a, *b),
+            Edit::Label { id, bits } => self.set_label(*id, bits),
         }
     }
 
@@ -117,7 +118,7 @@ fn touch_ends(net: &Network, a: u32, b: u32, flags: &mut Vec<bool>)
 }
 
 // Touches a node.
-fn touch(net: &Network, id: u32, flags: &mut Vec<bool>)
+pub(crate) fn touch(net: &Network, id: u32, flags: &mut Vec<bool>)
     requires { length flags.old.items ≡ length net.now }
     ensures valid { IsNetwork net.now }
     ensures touched { MarksMore (λ node. id == node) net.now flags.old.items flags.new.items }

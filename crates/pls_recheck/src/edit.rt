@@ -1,9 +1,10 @@
-//! Edits of a network.
+//! Edits of a network and its labels.
 
+use pls_bits::BitBuf;
 use pls_model::State;
 
 /// One edit. Nodes are named by their identities.
-#[derive(Clone, Copy, Debug, PartialEq, Eq)]
+#[derive(Drop)]
 pub enum Edit {
     /// The node's state becomes this one.
     State {
@@ -36,5 +37,12 @@ pub enum Edit {
         a: u32,
         /// The other end.
         b: u32,
+    },
+    /// The node's label becomes this one.
+    Label {
+        /// The node.
+        id: u32,
+        /// Its new label.
+        bits: BitBuf,
     },
 }

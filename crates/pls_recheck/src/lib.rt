@@ -16,6 +16,7 @@ mod bench;
 mod counted;
 mod edit;
 mod judge;
+mod labelling;
 mod rounds;
 mod tally;
 mod watched;

@@ -1,8 +1,14 @@
 -- Touched nodes as flags by place.
-use Rattle.std.specs.Prelude.{◌≡◌, ℕ, zero, suc, ◌||◌, Bool, true, false, List, [], ◌∷◌, length, slice_get, Some}
+use Rattle.std.specs.Prelude.{◌≡◌, ℕ, zero, suc, ◌==◌, ◌||◌, Bool, true, false, List, [], ◌∷◌, length, slice_get, Some}
+use Rattle.std.specs.List.{list_any}
+use Rattle.pls_model.specs.declared.row.Port.{Port}
 use Rattle.pls_model.specs.declared.row.NodeRow.{NodeRow}
 use Rattle.pls_model.specs.declared.verdict.Verdict.{Verdict}
 use Rattle.pls_view.specs.Seen.{Seen, views}
+
+-- one of the ports names the node
+abbrev pub names : List Port → ℕ → Bool
+names ports node = list_any (λ port. node == port.nbr) ports
 
 -- the identities whose flag is set, in their order
 abbrev pub marked : List ℕ → List Bool → List ℕ
