@@ -1,6 +1,5 @@
 -- The identities whose flags are set.
-use Rattle.std.proofs.Common.{◌≡◌, ◌∙◌, ℕ, zero, suc, ◌≤◌, Bool, true, false, ◌==◌, ◌||◌, List, [], ◌∷◌, map, length, filter, slice_get, Option, Some, None, option_map, get_or, if◌then◌else◌, refl, sym, ap, arith, replicate}
-use Rattle.std.specs.List.{list_any}
+use Rattle.std.proofs.Common.{◌≡◌, ◌∙◌, ℕ, zero, suc, ◌≤◌, Bool, true, false, ◌==◌, ◌||◌, List, [], ◌∷◌, length, filter, slice_get, Option, Some, None, option_map, get_or, if◌then◌else◌, refl, sym, ap, arith, replicate}
 use Rattle.std.proofs.lemmas.Option.{same_Some, slice_get-map, slice_get-get_or, slice_get_within}
 use Rattle.std.proofs.lemmas.List.{length-map}
 use Rattle.std.proofs.lemmas.Bool.{eq-eqb}

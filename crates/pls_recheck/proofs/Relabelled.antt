@@ -1,6 +1,5 @@
 -- A label changes what its node and its neighbours see, and nobody else.
-use Rattle.std.proofs.Common.{◌≡◌, ◌≢◌, ◌∙◌, ℕ, zero, suc, ◌+◌, ◌<◌, ◌≤◌, Bool, true, false, cond, ◌==◌, ◌||◌, List, [], ◌∷◌, ◌++◌, map, take, length, set, slice_get, position, nat_lt, min, Option, Some, None, is_some, option_map, refl, sym, ap, subst, arith, get_or}
-use Rattle.std.specs.List.{list_any, position_or_len}
+use Rattle.std.proofs.Common.{◌≡◌, ◌≢◌, ◌∙◌, ℕ, zero, suc, ◌+◌, ◌<◌, ◌≤◌, Bool, true, false, cond, ◌==◌, ◌||◌, List, [], ◌∷◌, map, take, length, set, slice_get, position, nat_lt, min, Option, Some, None, is_some, option_map, refl, sym, ap, subst, arith, get_or}
 use Rattle.std.specs.Option.{option_and_then, unwrap_or}
 use Rattle.std.proofs.lemmas.Bool.{eq-eqb, eqb-true, ltb-false, ltb-true, lt-ltb}
 use Rattle.std.proofs.lemmas.List.{take_more}
@@ -17,7 +16,7 @@ use Rattle.pls_graph.specs.Places.{place_in}
 use Rattle.pls_graph.proofs.Finds.{eqb_comm, fails_where_no_position, found_place, from_option_map, item_at, list_any-find}
 use Rattle.pls_graph.proofs.Placed.{WayBack, row_of_place, way_back}
 use Rattle.pls_view.specs.Labels.{bits_together}
-use Rattle.pls_view.specs.Seen.{label_of, seen, seen_port}
+use Rattle.pls_view.specs.Seen.{label_of, seen_port}
 use Rattle.pls_recheck.specs.Edited.{label_refusal, most_bits}
 use Rattle.pls_recheck.specs.inner.Flags.{MarksMore, names}
 use Rattle.pls_recheck.proofs.Steady.{SeeAlike, either_fails}

@@ -1,5 +1,5 @@
 -- Flags that are set at places.
-use Rattle.std.proofs.Common.{◌≡◌, ◌≢◌, ◌∙◌, inl, inr, ℕ, ◌<◌, Bool, true, false, ◌==◌, ◌||◌, List, length, set, filter, slice_get, position, Option, Some, None, refl, sym, ap, subst, arith, get_or}
+use Rattle.std.proofs.Common.{◌≡◌, ◌≢◌, ◌∙◌, inl, inr, ℕ, Bool, true, false, ◌==◌, ◌||◌, List, length, set, filter, slice_get, position, Some, None, refl, sym, ap, arith, get_or}
 use Rattle.std.proofs.lemmas.Bool.{cases_order, ne_eqb}
 use Rattle.std.proofs.lemmas.List.{length-map, length-set, get_or-set_same, get_or-set_other}
 use Rattle.std.proofs.lemmas.List.Quantifiers.{position-Some}
@@ -9,7 +9,7 @@ use Rattle.pls_model.specs.declared.verdict.Verdict.{Verdict}
 use Rattle.pls_model.specs.Configuration.{IsNetwork, ids_of}
 use Rattle.pls_graph.proofs.Finds.{fails_where_no_position}
 use Rattle.pls_graph.proofs.Placed.{place_of_row}
-use Rattle.pls_view.specs.Seen.{Seen, views}
+use Rattle.pls_view.specs.Seen.{Seen}
 use Rattle.pls_recheck.specs.Edited.{after, edited, relabelled, touches}
 use Rattle.pls_recheck.specs.declared.edit.Edit.{Edit}
 use Rattle.pls_recheck.specs.Watch.{IsCurrent, Snapshot, is_among}

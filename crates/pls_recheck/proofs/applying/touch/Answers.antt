@@ -1,4 +1,4 @@
-use Rattle.std.proofs.Common.{◌≡◌, sym}
+use Rattle.std.proofs.Common.{sym}
 use Rattle.pls_recheck.proofs.Touching.{touch_none, touch_one}
 use Rattle.pls_recheck.proofs.applying.touch.Goals as goal
 

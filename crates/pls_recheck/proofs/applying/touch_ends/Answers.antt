@@ -1,4 +1,4 @@
-use Rattle.std.proofs.Common.{◌≡◌, ◌==◌}
+use Rattle.std.proofs.Common.{◌==◌}
 use Rattle.pls_recheck.proofs.Touching.{touch_twice}
 use Rattle.pls_recheck.proofs.applying.touch_ends.Goals as goal
 

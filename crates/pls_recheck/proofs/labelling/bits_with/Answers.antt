@@ -1,4 +1,4 @@
-use Rattle.std.proofs.Common.{◌≡◌, arith}
+use Rattle.std.proofs.Common.{arith}
 use Rattle.pls_recheck.proofs.Relabelled.{part_of_total, with_label}
 use Rattle.pls_recheck.proofs.labelling.bits_with.Goals as goal
 

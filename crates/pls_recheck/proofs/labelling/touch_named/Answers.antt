@@ -1,4 +1,4 @@
-use Rattle.std.proofs.Common.{◌≡◌, List, arith, subst}
+use Rattle.std.proofs.Common.{List, arith, subst}
 use Rattle.std.proofs.lemmas.List.{take_all}
 use Rattle.pls_model.specs.declared.row.Port.{Port}
 use Rattle.pls_recheck.specs.inner.Flags.{MarksMore, names}

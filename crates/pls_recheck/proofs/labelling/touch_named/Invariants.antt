@@ -1,4 +1,4 @@
-use Rattle.std.proofs.Common.{◌≡◌, ◌≤◌, length, take}
+use Rattle.std.proofs.Common.{◌≤◌, length, take}
 use Rattle.pls_recheck.specs.inner.Flags.{MarksMore, names}
 use Rattle.pls_recheck.proofs.labelling.touch_named.Given as goal
 

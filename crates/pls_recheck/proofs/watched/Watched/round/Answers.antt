@@ -1,4 +1,4 @@
-use Rattle.std.proofs.Common.{◌≡◌, sym, subst}
+use Rattle.std.proofs.Common.{sym, subst}
 use Rattle.pls_recheck.specs.Watch.{IsCurrent, Snapshot}
 use Rattle.pls_recheck.proofs.Cleared.{current_by_flags, current_by_ids}
 use Rattle.pls_recheck.proofs.watched.Watched.round.Goals as goal

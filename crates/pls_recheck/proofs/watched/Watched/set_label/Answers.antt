@@ -9,7 +9,7 @@ use Rattle.pls_recheck.specs.declared.edit.Edit.TheVariants.{Label}
 use Rattle.pls_recheck.specs.inner.Flags.{MarksMore, marked, names}
 use Rattle.pls_recheck.proofs.Relabelled.{label_absent, label_alike, label_by, marks_same, named_linked, place_is}
 use Rattle.pls_recheck.proofs.Steady.{SeeAlike}
-use Rattle.pls_recheck.proofs.Touching.{current_now, same_many, snapshot_after, touch_twice, touched_now}
+use Rattle.pls_recheck.proofs.Touching.{current_now, snapshot_after, touch_twice, touched_now}
 use Rattle.pls_recheck.proofs.watched.Watched.set_label.Goals as goal
 
 pub returns-in_default-clause-refused : goal.returns-in_default-clause-refused

@@ -1,10 +1,5 @@
-use Rattle.std.proofs.Common.{◌≡◌, ◌∙◌, ℕ, Bool, List, Some, true, false, replicate, length, map, ap, sym, slice_get}
-use Rattle.std.proofs.lemmas.List.{length-map}
-use Rattle.pls_model.specs.declared.row.NodeRow.{NodeRow}
+use Rattle.std.proofs.Common.{◌∙◌, ℕ, true, replicate, ap}
 use Rattle.pls_model.specs.Configuration.{ids_of}
-use Rattle.pls_view.specs.Seen.{views}
-use Rattle.pls_recheck.specs.Watch.{is_among}
-use Rattle.pls_recheck.specs.inner.Flags.{marked}
 use Rattle.pls_recheck.proofs.Marked.{among_itself, id_at_view, marked_all_rows}
 use Rattle.pls_recheck.proofs.watched.Watched.start.Goals as goal
 
