@@ -32,14 +32,6 @@ few_marked (id ∷ ids) [] = omega arith
 few_marked (id ∷ ids) (true ∷ flags) = let rest = few_marked ids flags in omega arith
 few_marked (id ∷ ids) (false ∷ flags) = let rest = few_marked ids flags in omega arith
 
-pub marked_count : (ids : List ℕ) (flags : List Bool) → length flags ≡ length ids
-    → length (marked ids flags) ≡ length (filter (λ flag. flag) flags)
-marked_count [] [] many = refl
-marked_count [] (flag ∷ flags) many = absurd (cc)
-marked_count (id ∷ ids) [] many = absurd (cc)
-marked_count (id ∷ ids) (true ∷ flags) many = ap suc (marked_count ids flags (omega (arith, many)))
-marked_count (id ∷ ids) (false ∷ flags) many = marked_count ids flags (omega (arith, many))
-
 -- flags that say a test of the identities
 pub flags_filter : (test : ℕ → Bool) (ids : List ℕ) (flags : List Bool) → length flags ≡ length ids
     → ((k id : ℕ) → slice_get ids k ≡ Some id → slice_get flags k ≡ Some (test id))

@@ -32,13 +32,6 @@ marks_same one other rows old new same more = record {
       ∙ ap (λ (b : Bool). Some (flag || b)) (same row.id);
 }
 
-pub touch_nothing : (rows : List NodeRow) (old : List Bool) (ports : List Port)
-    → MarksMore (λ node. names (take 0 ports) node) rows old old
-touch_nothing rows old ports = record {
-  as_many = refl;
-  each = λ k row flag at has. has ∙ ap (λ (b : Bool). Some b) (or_false flag);
-}
-
 -- one more port's node is touched
 pub touch_more : (rows : List NodeRow) (old mid new : List Bool) (ports : List Port) (p : ℕ) (d : Port)
     → p < length ports → MarksMore (λ node. names (take p ports) node) rows old mid
