@@ -1,0 +1,51 @@
+-- Touched nodes as flags by place.
+use Rattle.std.specs.Prelude.{◌≡◌, ℕ, zero, suc, ◌==◌, ◌||◌, Bool, true, false, List, [], ◌∷◌, length, slice_get, Some}
+use Rattle.std.specs.List.{list_any}
+use Rattle.pls_model.specs.declared.row.Port.{Port}
+use Rattle.pls_model.specs.declared.row.NodeRow.{NodeRow}
+use Rattle.pls_model.specs.declared.verdict.Verdict.{Verdict}
+use Rattle.pls_view.specs.Seen.{Seen, views}
+
+-- one of the ports names the node
+abbrev pub names : List Port → ℕ → Bool
+names ports node = list_any (λ port. node == port.nbr) ports
+
+-- the identities whose flag is set, in their order
+abbrev pub marked : List ℕ → List Bool → List ℕ
+marked [] flags = []
+marked (id ∷ ids) [] = []
+marked (id ∷ ids) (true ∷ flags) = id ∷ marked ids flags
+marked (id ∷ ids) (false ∷ flags) = marked ids flags
+
+-- the flags, of which the first so many are taken back
+abbrev pub cleared : ℕ → List Bool → List Bool
+cleared zero flags = flags
+cleared (suc i) [] = []
+cleared (suc i) (flag ∷ flags) = false ∷ cleared i flags
+
+-- how many of the first flags are set
+abbrev pub set_among : ℕ → List Bool → ℕ
+set_among zero flags = 0
+set_among (suc i) [] = 0
+set_among (suc i) (true ∷ flags) = suc (set_among i flags)
+set_among (suc i) (false ∷ flags) = set_among i flags
+
+-- for each node whose flag is not set its identity and its verdict on its view are kept
+abbrev pub AreCurrent : (Seen → Verdict) → List NodeRow → List (List Bool) → List Bool
+    → List (ℕ × Verdict) → Type 0
+AreCurrent judge rows labels flags kept =
+    (k : ℕ) (view : Seen) → slice_get (views rows labels) k ≡ Some view
+    → slice_get flags k ≡ Some false → slice_get kept k ≡ Some (view.id, judge view)
+
+-- the flags of the rows whose identities pass are set too, and no other
+pub record MarksMore (passes : ℕ → Bool) (rows : List NodeRow) (old new : List Bool) : Type 0 where
+  pub as_many : length new ≡ length old
+  pub each : (k : ℕ) (row : NodeRow) (flag : Bool) → slice_get rows k ≡ Some row
+      → slice_get old k ≡ Some flag → slice_get new k ≡ Some (flag || passes row.id)
+
+-- one label, one flag and one verdict a node
+pub record AreKept (rows : List NodeRow) (labels : List (List Bool)) (flags : List Bool)
+    (kept : List (ℕ × Verdict)) : Type 0 where
+  pub a_label : length labels ≡ length rows
+  pub a_flag : length flags ≡ length rows
+  pub a_verdict : length kept ≡ length rows

@@ -1,0 +1,131 @@
+//! Edits of what is watched.
+
+ghost use Rattle.std.specs.Prelude.{◌≡◌, ◌≤◌, ◌==◌, ◌||◌, length, None, OnErr, OnOk, IfErr, Some};
+ghost use Rattle.pls_model.specs.declared.limits.TheConstants.{MAX_NUM};
+ghost use Rattle.pls_model.specs.declared.verdict.Verdict.{Verdict};
+ghost use Rattle.pls_model.specs.Configuration.{IsNetwork, ids_of};
+ghost use Rattle.pls_graph.specs.Edits.{SaysEdit};
+ghost use Rattle.pls_view.specs.Seen.{Seen};
+ghost use Rattle.pls_recheck.specs.Edited.{FitsNum, RefusesWith, after, edit_refusal};
+ghost use Rattle.pls_recheck.specs.Watch.{IsCurrent};
+ghost use Rattle.pls_recheck.specs.inner.Flags.{MarksMore};
+ghost use Rattle.pls_recheck.specs.declared.edit.Edit.{Edit};
+ghost use Rattle.pls_recheck.specs.declared.edit.Edit.TheVariants.{State as StateEdit, Weight, Link, Unlink};
+
+use crate::edit::Edit;
+use crate::watched::Watched;
+use pls_graph::{EditError, Network};
+use pls_model::State;
+
+impl Watched {
+    /// Makes an edit, and touches the nodes whose view it may change. An edit that is refused
+    /// changes and touches nothing; its error is the network's. Only a link and a label may find
+    /// no memory. It costs what the network's edit costs, or a search for each neighbour.
+    pub fn apply(&mut self, edit: &Edit) -> Result<(), EditError>
+        requires { FitsNum edit.now }
+        ensures ok { OnOk result (self.new ≡ after edit.now self.old) }
+        ensures allowed { OnOk result (edit_refusal edit.now self.old ≡ None) }
+        ensures refused { IfErr result
+            (λ error. RefusesWith edit.now (edit_refusal edit.now self.old) error) }
+        ensures unchanged { OnErr result (self.new ≡ self.old) }
+        ensures current { OnOk result ((judge : Seen → Verdict)
+            → IsCurrent judge self.old → IsCurrent judge self.new) }
+    {
+        match edit {
+            Edit::State { id, state } => self.set_state(*id, *state),
+            Edit::Weight { a, b, weight } => self.set_weight(*a, *b, *weight),
+            Edit::Link { a, b, weight } => self.link(*a, *b, *weight),
+            Edit::Unlink { a, b } => self.unlink(*a, *b),
+            Edit::Label { id, bits } => self.set_label(*id, bits),
+        }
+    }
+
+    // Gives a node the state.
+    fn set_state(&mut self, id: u32, state: State) -> Result<(), EditError>
+        requires { state.num ≤ MAX_NUM }
+        ensures ok { OnOk result (self.new ≡ after (StateEdit id state) self.old) }
+        ensures allowed { OnOk result (edit_refusal (StateEdit id state) self.old ≡ None) }
+        ensures refused { IfErr result
+            (λ error. edit_refusal (StateEdit id state) self.old ≡ Some error) }
+        ensures unchanged { OnErr result (self.new ≡ self.old) }
+        ensures current { OnOk result ((judge : Seen → Verdict)
+            → IsCurrent judge self.old → IsCurrent judge self.new) }
+    {
+        self.net.len();
+        self.net.set_state(id, state)?;
+        touch(&self.net, id, &mut self.flags);
+        Ok(())
+    }
+
+    // Gives an edge the weight.
+    fn set_weight(&mut self, a: u32, b: u32, weight: u32) -> Result<(), EditError>
+        ensures ok { OnOk result (self.new ≡ after (Weight a b weight) self.old) }
+        ensures allowed { OnOk result (edit_refusal (Weight a b weight) self.old ≡ None) }
+        ensures refused { IfErr result
+            (λ error. edit_refusal (Weight a b weight) self.old ≡ Some error) }
+        ensures unchanged { OnErr result (self.new ≡ self.old) }
+        ensures current { OnOk result ((judge : Seen → Verdict)
+            → IsCurrent judge self.old → IsCurrent judge self.new) }
+    {
+        self.net.len();
+        self.net.set_weight(a, b, weight)?;
+        touch_ends(&self.net, a, b, &mut self.flags);
+        Ok(())
+    }
+
+    // Puts an edge in.
+    fn link(&mut self, a: u32, b: u32, weight: u32) -> Result<(), EditError>
+        ensures ok { OnOk result (self.new ≡ after (Link a b weight) self.old) }
+        ensures allowed { OnOk result (edit_refusal (Link a b weight) self.old ≡ None) }
+        ensures refused { IfErr result
+            (λ error. SaysEdit (edit_refusal (Link a b weight) self.old) error) }
+        ensures unchanged { OnErr result (self.new ≡ self.old) }
+        ensures current { OnOk result ((judge : Seen → Verdict)
+            → IsCurrent judge self.old → IsCurrent judge self.new) }
+    {
+        self.net.len();
+        self.net.link(a, b, weight)?;
+        touch_ends(&self.net, a, b, &mut self.flags);
+        Ok(())
+    }
+
+    // Takes an edge away.
+    fn unlink(&mut self, a: u32, b: u32) -> Result<(), EditError>
+        ensures ok { OnOk result (self.new ≡ after (Unlink a b) self.old) }
+        ensures allowed { OnOk result (edit_refusal (Unlink a b) self.old ≡ None) }
+        ensures refused { IfErr result
+            (λ error. edit_refusal (Unlink a b) self.old ≡ Some error) }
+        ensures unchanged { OnErr result (self.new ≡ self.old) }
+        ensures current { OnOk result ((judge : Seen → Verdict)
+            → IsCurrent judge self.old → IsCurrent judge self.new) }
+    {
+        self.net.len();
+        self.net.unlink(a, b)?;
+        touch_ends(&self.net, a, b, &mut self.flags);
+        Ok(())
+    }
+}
+
+// Touches both ends of an edge.
+fn touch_ends(net: &Network, a: u32, b: u32, flags: &mut Vec<bool>)
+    requires { length flags.old.items ≡ length net.now }
+    ensures valid { IsNetwork net.now }
+    ensures touched { MarksMore (λ node. (a == node) || (b == node)) net.now flags.old.items
+        flags.new.items }
+{
+    touch(net, a, flags);
+    touch(net, b, flags);
+}
+
+// Touches a node.
+pub(crate) fn touch(net: &Network, id: u32, flags: &mut Vec<bool>)
+    requires { length flags.old.items ≡ length net.now }
+    ensures valid { IsNetwork net.now }
+    ensures touched { MarksMore (λ node. id == node) net.now flags.old.items flags.new.items }
+{
+    // A network is valid.
+    net.len();
+    if let Some(i) = net.place_of(id) {
+        flags[i] = true;
+    }
+}

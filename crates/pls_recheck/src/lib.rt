@@ -1,0 +1,30 @@
+//! Edits of a network while it is watched with its labels, and rounds in which only the nodes that
+//! an edit touched are judged again.
+//!
+//! A [`Watched`] holds a network, its labels and the verdicts of the last rounds, and is seen as the
+//! record `Snapshot`. [`Watched::apply`] makes an [`Edit`] and touches the nodes whose view it may
+//! change; [`Watched::round`] asks a [`Judge`] once for each touched node and for no other. Where no
+//! node is touched, [`Watched::verdicts`] are those of a full round. A [`Judge`] is lent to each
+//! round: [`Counted`] judges as a checker does by asking a [`Bench`], which counts the questions.
+//!
+//! Definitions stand in `specs/`: `Watch` has the snapshot and what it means that its verdicts are
+//! current, `Edited` what an edit makes, which nodes it touches and why it is refused.
+#![tactic(auto)]
+
+mod applying;
+mod bench;
+mod counted;
+mod edit;
+mod judge;
+mod labelling;
+mod rounds;
+mod tally;
+mod watched;
+
+pub use bench::Bench;
+pub use counted::Counted;
+pub use edit::Edit;
+pub use judge::Judge;
+pub use pls_graph::EditError;
+pub use tally::Tally;
+pub use watched::Watched;

@@ -1,0 +1,150 @@
+//! Rounds in which the touched nodes are judged.
+
+ghost use Rattle.std.specs.Prelude.{◌≡◌, ◌<◌, ◌≤◌, [], ◌⊎◌, false, List, length, slice_set, slice_get, IfOk, IfNone, IfSome, OnErr, OnOk, Some};
+ghost use Rattle.pls_model.specs.declared.verdict.Verdict.{Verdict};
+ghost use Rattle.pls_model.specs.Configuration.{ids_of};
+ghost use Rattle.pls_base.specs.Steps.{up_by};
+ghost use Rattle.pls_view.specs.Seen.{Seen, views};
+ghost use Rattle.pls_scheme.specs.Judging.{round_by};
+ghost use Rattle.pls_recheck.specs.Watch.{EndsEarly, IsCurrent};
+ghost use Rattle.pls_recheck.specs.inner.Flags.{AreCurrent, marked};
+
+use crate::judge::Judge;
+use crate::watched::Watched;
+use pls_base::{NoMemory, Steps};
+use pls_graph::Network;
+use pls_model::Verdict;
+use pls_view::{LabelStore, View};
+use std::alloc::Global;
+
+impl Watched {
+    /// Asks the judge once for each touched node and for no other, in the order of the nodes, and
+    /// gives their number. None is touched afterwards. The verdicts that are kept must be those of
+    /// this judge, which they are from the start on, whatever the edits. The one error is want of
+    /// memory: the nodes that were not checked are touched still.
+    pub fn round<J: Judge>(
+        &mut self,
+        alloc: Global,
+        judge: &mut J,
+        steps: &mut Steps,
+    ) -> Result<u32, NoMemory>
+        requires { IsCurrent (J.judge judge.old) self.old }
+        ensures network { self.new.network ≡ self.old.network }
+        ensures labels { self.new.labels ≡ self.old.labels }
+        ensures current { IsCurrent (J.judge judge.old) self.new }
+        ensures judge { J.judge judge.new ≡ J.judge judge.old }
+        ensures over { J.over judge.new ≡ J.over judge.old }
+        ensures number { IfOk result (λ checked. checked ≡ length self.old.touched) }
+        ensures none { OnOk result (self.new.touched ≡ []) }
+        ensures spent { IfOk result
+            (λ checked. J.spent judge.new ≡ up_by checked (J.spent judge.old)) }
+        ensures steps { IfOk result (λ checked. steps.new ≡ up_by checked steps.old) }
+        ensures refused { OnErr result (EndsEarly self.old.touched self.new.touched
+            (J.spent judge.old) (J.spent judge.new) steps.old steps.new) }
+    {
+        // A network is valid.
+        self.net.len();
+        judge_flagged(
+            alloc,
+            &self.net,
+            &self.labels,
+            &mut self.flags,
+            &mut self.kept,
+            judge,
+            steps,
+        )
+    }
+
+    /// The identity and the verdict of each node, or `None` where a node is touched. It takes no
+    /// memory. Where the kept verdicts are those of a judge, they are its full round.
+    pub fn verdicts(&self) -> Option<&[(u32, Verdict)]>
+        ensures touched { IfNone result (1 ≤ length self.now.touched) }
+        ensures none { IfSome result (λ _. self.now.touched ≡ []) }
+        ensures all { IfSome result (λ found. (judge : Seen → Verdict) → IsCurrent judge self.now
+            → found.now ≡ round_by judge self.now.network self.now.labels) }
+    {
+        if self.touched() > 0 {
+            return None;
+        }
+        Some(self.kept.as_slice())
+    }
+}
+
+// Judges the nodes that are flagged, and takes their flags back.
+fn judge_flagged<J: Judge>(
+    alloc: Global,
+    net: &Network,
+    labels: &LabelStore,
+    flags: &mut Vec<bool>,
+    kept: &mut Vec<(u32, Verdict)>,
+    judge: &mut J,
+    steps: &mut Steps,
+) -> Result<u32, NoMemory>
+    requires a_label { length labels.now ≡ length net.now }
+    requires a_flag { length flags.old.items ≡ length net.now }
+    requires a_verdict { length kept.old.items ≡ length net.now }
+    requires current { AreCurrent (J.judge judge.old) net.now labels.now flags.old.items
+        kept.old.items }
+    ensures a_flag { length flags.new.items ≡ length net.now }
+    ensures a_verdict { length kept.new.items ≡ length net.now }
+    ensures current { AreCurrent (J.judge judge.old) net.now labels.now flags.new.items
+        kept.new.items }
+    ensures judge { J.judge judge.new ≡ J.judge judge.old }
+    ensures over { J.over judge.new ≡ J.over judge.old }
+    ensures number { IfOk result
+        (λ checked. checked ≡ length (marked (ids_of net.now) flags.old.items)) }
+    ensures none { OnOk result (marked (ids_of net.now) flags.new.items ≡ []) }
+    ensures spent { IfOk result
+        (λ checked. J.spent judge.new ≡ up_by checked (J.spent judge.old)) }
+    ensures steps { IfOk result (λ checked. steps.new ≡ up_by checked steps.old) }
+    ensures refused { OnErr result (EndsEarly (marked (ids_of net.now) flags.old.items)
+        (marked (ids_of net.now) flags.new.items) (J.spent judge.old) (J.spent judge.new)
+        steps.old steps.new) }
+{
+    let mut checked = 0;
+    for i in 0..net.len() {
+        if flags[i] {
+            let found = judge_at(alloc, net, labels, i, judge, steps)?;
+            answered(flags, kept, i, found);
+            checked += 1;
+        }
+    }
+    Ok(checked)
+}
+
+// Keeps what the node at place i answered, and takes its flag back.
+fn answered(flags: &mut Vec<bool>, kept: &mut Vec<(u32, Verdict)>, i: usize, found: (u32, Verdict))
+    requires flag { i < length flags.old.items }
+    requires verdict { i < length kept.old.items }
+    ensures flag { flags.new.items ≡ slice_set flags.old.items i false }
+    ensures verdict { kept.new.items ≡ slice_set kept.old.items i found }
+{
+    flags[i] = false;
+    kept[i] = found;
+}
+
+// The identity of the node at place i, and its verdict.
+fn judge_at<J: Judge>(
+    alloc: Global,
+    net: &Network,
+    labels: &LabelStore,
+    i: usize,
+    judge: &mut J,
+    steps: &mut Steps,
+) -> Result<(u32, Verdict), NoMemory>
+    requires a_label { length labels.now ≡ length net.now }
+    requires within { i < length net.now }
+    ensures judged { IfOk result (λ found. (view : Seen)
+        → slice_get (views net.now labels.now) i ≡ Some view
+        → found ≡ (view.id, J.judge judge.old view)) }
+    ensures judge { J.judge judge.new ≡ J.judge judge.old }
+    ensures over { J.over judge.new ≡ J.over judge.old }
+    ensures spent { OnOk result (J.spent judge.new ≡ up_by 1 (J.spent judge.old)) }
+    ensures steps { OnOk result (steps.new ≡ up_by 1 steps.old) }
+    ensures early { OnErr result (((J.spent judge.new ≡ J.spent judge.old) × (steps.new ≡ steps.old))
+        ⊎ ((J.spent judge.new ≡ up_by 1 (J.spent judge.old)) × (steps.new ≡ up_by 1 steps.old))) }
+{
+    let view = View::of(alloc, net, labels, i)?;
+    let verdict = judge.verify(alloc, &view, steps)?;
+    Ok((view.id, verdict))
+}

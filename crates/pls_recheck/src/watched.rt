@@ -1,0 +1,112 @@
+//! A network and its labels while they are edited.
+
+ghost use Rattle.std.specs.Prelude.{◌≡◌, ℕ, length, replicate, IfOk};
+ghost use Rattle.pls_model.specs.declared.verdict.Verdict.{Verdict};
+ghost use Rattle.pls_model.specs.Configuration.{ids_of};
+ghost use Rattle.pls_view.specs.Seen.{Seen};
+ghost use Rattle.pls_recheck.specs.Watch.{IsCurrent};
+ghost use Rattle.pls_recheck.specs.inner.Flags.{set_among};
+
+use pls_base::NoMemory;
+use pls_graph::Network;
+use pls_model::Verdict;
+use pls_view::LabelStore;
+use std::alloc::Global;
+use std::marker::Model;
+
+/// A network and its labels while they are edited, with the nodes that are touched and the verdicts
+/// of the last rounds, seen as the record `Snapshot`.
+#[derive(Drop)]
+pub struct Watched {
+    pub(crate) net: Network,
+    pub(crate) labels: LabelStore,
+    // For each node whether it is touched.
+    pub(crate) flags: Vec<bool>,
+    // For each node what it answered last, with its identity.
+    pub(crate) kept: Vec<(u32, Verdict)>,
+}
+
+impl Model for Watched {
+    ghost use Rattle.pls_model.specs.Configuration.{ids_of};
+    ghost use Rattle.pls_recheck.specs.Watch.{Snapshot};
+    ghost use Rattle.pls_recheck.specs.inner.Flags.{AreKept, marked};
+
+    ghost Value = { Snapshot };
+
+    ghost view = { λ watched. record {
+      network = watched.net;
+      labels = watched.labels;
+      touched = marked (ids_of watched.net) watched.flags.items;
+      kept = watched.kept.items;
+    } };
+
+    ghost invariant = { λ watched. AreKept watched.net watched.labels watched.flags.items
+        watched.kept.items };
+}
+
+impl Watched {
+    /// The network with these labels, one a node, and all nodes touched. The one error is want of
+    /// memory.
+    pub fn start(alloc: Global, net: Network, labels: LabelStore) -> Result<Watched, NoMemory>
+        requires { length labels ≡ length net }
+        ensures network { IfOk result (λ watched. watched.network ≡ net) }
+        ensures labels { IfOk result (λ watched. watched.labels ≡ labels) }
+        ensures all { IfOk result (λ watched. watched.touched ≡ ids_of net) }
+        ensures current { IfOk result
+            (λ watched. (judge : Seen → Verdict) → IsCurrent judge watched) }
+    {
+        let nodes = net.len();
+        let flags = flags_of(alloc, true, nodes)?;
+        let kept = vec![in alloc; (0, Verdict::Accept); nodes]?;
+        Ok(Watched {
+            net,
+            labels,
+            flags,
+            kept,
+        })
+    }
+
+    /// The network as it is now.
+    pub fn network(&self) -> &Network
+        ensures { result.now ≡ self.now.network }
+    {
+        &self.net
+    }
+
+    /// The labels as they are now, one a node.
+    pub fn labels(&self) -> &LabelStore
+        ensures labels { result.now ≡ self.now.labels }
+        ensures lengths { length result.now ≡ length self.now.network }
+    {
+        &self.labels
+    }
+
+    /// How many nodes are touched.
+    pub fn touched(&self) -> u32
+        ensures { result ≡ length self.now.touched }
+    {
+        // There are few nodes.
+        self.net.len();
+        count_set(self.flags.as_slice()) as u32
+    }
+}
+
+// So many flags, all alike.
+fn flags_of(alloc: Global, flag: bool, count: usize) -> Result<Vec<bool>, NoMemory>
+    ensures { IfOk result (λ flags. flags.items ≡ replicate count flag) }
+{
+    Ok(vec![in alloc; flag; count]?)
+}
+
+// How many flags are set.
+fn count_set(flags: &[bool]) -> usize
+    ensures { result ≡ set_among (length flags.now) flags.now }
+{
+    let mut count = 0;
+    for i in 0..flags.len() {
+        if flags[i] {
+            count += 1;
+        }
+    }
+    count
+}
