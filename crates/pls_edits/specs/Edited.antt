@@ -1,0 +1,99 @@
+-- What an edit makes, which nodes it touches, and why it is refused.
+use Rattle.std.specs.Prelude.{◌≡◌, ℕ, ◌≤◌, ◌^◌, ◌==◌, ◌||◌, nat_lt, Bool, false, List, [], ◌∷◌, filter, length, slice_set, insert, remove, Option, Some}
+use Rattle.pls_model.specs.declared.limits.TheConstants.{MAX_NUM}
+use Rattle.pls_model.specs.declared.row.NodeRow.{NodeRow}
+use Rattle.pls_model.specs.Configuration.{first_of}
+use Rattle.pls_graph.specs.declared.edits.EditError.{EditError}
+use Rattle.pls_graph.specs.declared.edits.EditError.TheVariants.{Absent, Full}
+use Rattle.pls_graph.specs.Edits.{SaysEdit, are_linked, cause, is_absent, join_refusal, joined, leave_refusal, left, link_refusal, linked, state_refusal, unlink_refusal, unlinked, weight_refusal, with_state, with_weight}
+use Rattle.pls_graph.specs.Places.{place_in}
+use Rattle.pls_view.specs.Labels.{bits_together}
+use Rattle.pls_edits.specs.declared.edit.Edit.{Edit}
+use Rattle.pls_edits.specs.declared.edit.Edit.TheVariants.{State, Weight, Link, Unlink, Join, Leave, Label}
+
+-- the network after the edit
+abbrev pub edited : Edit → List NodeRow → List NodeRow
+edited (State id state) rows = with_state rows id state
+edited (Weight a b weight) rows = with_weight rows a b weight
+edited (Link a b weight) rows = linked rows a b weight
+edited (Unlink a b) rows = unlinked rows a b
+edited (Join id mark num) rows = joined rows id mark num
+edited (Leave id) rows = left rows id
+edited (Label id bits) rows = rows
+
+-- the place that a new node of this identity takes: as many rows have a smaller one
+abbrev pub place_for : List NodeRow → ℕ → ℕ
+place_for rows id = length (filter (λ row. nat_lt row.id id) rows)
+
+-- a list with one item for each node goes with the nodes: a node that joins gets this item, and a
+-- node that leaves takes its own along
+abbrev pub carried : {X : Type 0} → Edit → List NodeRow → X → List X → List X
+carried (State id state) rows new items = items
+carried (Weight a b weight) rows new items = items
+carried (Link a b weight) rows new items = items
+carried (Unlink a b) rows new items = items
+carried (Join id mark num) rows new items = insert items (place_for rows id) new
+carried (Leave id) rows new items = remove items (place_in rows id)
+carried (Label id bits) rows new items = items
+
+-- the labels after the edit
+abbrev pub relabelled : Edit → List NodeRow → List (List Bool) → List (List Bool)
+relabelled (State id state) rows labels = labels
+relabelled (Weight a b weight) rows labels = labels
+relabelled (Link a b weight) rows labels = labels
+relabelled (Unlink a b) rows labels = labels
+relabelled (Join id mark num) rows labels = insert labels (place_for rows id) []
+relabelled (Leave id) rows labels = remove labels (place_in rows id)
+relabelled (Label id bits) rows labels = slice_set labels (place_in rows id) bits
+
+-- the nodes that the edit touches: the node, both ends of the edge, or the node and its
+-- neighbours; a node that leaves touches nobody
+abbrev pub touches : Edit → List NodeRow → ℕ → Bool
+touches (State id state) rows node = id == node
+touches (Weight a b weight) rows node = (a == node) || (b == node)
+touches (Link a b weight) rows node = (a == node) || (b == node)
+touches (Unlink a b) rows node = (a == node) || (b == node)
+touches (Join id mark num) rows node = id == node
+touches (Leave id) rows node = false
+touches (Label id bits) rows node = (id == node) || are_linked rows id node
+
+-- the greatest number of bits of all labels together
+abbrev pub most_bits : ℕ
+most_bits = 2 ^ 28
+
+-- why a label is refused: there is no such node, or all labels together would be too long
+abbrev pub label_refusal : List NodeRow → List (List Bool) → ℕ → List Bool → Option EditError
+label_refusal rows labels id bits = first_of (
+    cause (is_absent rows id) Absent
+    ∷ cause (nat_lt most_bits (bits_together (slice_set labels (place_in rows id) bits))) Full ∷ [])
+
+-- why the edit is refused, in a network with these labels: the first cause that holds
+abbrev pub edit_refusal : Edit → List NodeRow → List (List Bool) → Option EditError
+edit_refusal (State id state) rows labels = state_refusal rows id state
+edit_refusal (Weight a b weight) rows labels = weight_refusal rows a b
+edit_refusal (Link a b weight) rows labels = link_refusal rows a b
+edit_refusal (Unlink a b) rows labels = unlink_refusal rows a b
+edit_refusal (Join id mark num) rows labels = join_refusal rows id
+edit_refusal (Leave id) rows labels = leave_refusal rows id
+edit_refusal (Label id bits) rows labels = label_refusal rows labels id bits
+
+-- with this error the edit is refused: for this cause, or, where it is a link, a join or a label,
+-- also for want of memory
+abbrev pub RefusesWith : Edit → Option EditError → EditError → Type 0
+RefusesWith (State id state) refusal error = refusal ≡ Some error
+RefusesWith (Weight a b weight) refusal error = refusal ≡ Some error
+RefusesWith (Link a b weight) refusal error = SaysEdit refusal error
+RefusesWith (Unlink a b) refusal error = refusal ≡ Some error
+RefusesWith (Join id mark num) refusal error = SaysEdit refusal error
+RefusesWith (Leave id) refusal error = refusal ≡ Some error
+RefusesWith (Label id bits) refusal error = SaysEdit refusal error
+
+-- the number that the edit gives a state is at most 2^62
+abbrev pub FitsNum : Edit → Type 0
+FitsNum (State id state) = state.num ≤ MAX_NUM
+FitsNum (Weight a b weight) = Unit {0}
+FitsNum (Link a b weight) = Unit {0}
+FitsNum (Unlink a b) = Unit {0}
+FitsNum (Join id mark num) = num ≤ MAX_NUM
+FitsNum (Leave id) = Unit {0}
+FitsNum (Label id bits) = Unit {0}
