@@ -4,3 +4,8 @@ pub mod Current
 pub mod Steady
 pub mod Touching
 pub mod Relabelled
+pub mod Shifted
+pub mod Coming
+pub mod Carried
+pub mod Carrying
+pub mod Noted

@@ -11,13 +11,13 @@ use Rattle.pls_model.specs.declared.row.Port.{Port}
 use Rattle.pls_model.specs.declared.row.NodeRow.{NodeRow}
 use Rattle.pls_model.specs.Configuration.{IsNetwork, first_of, port_to, row_of}
 use Rattle.pls_graph.specs.declared.edits.EditError.TheVariants.{Absent, Full}
-use Rattle.pls_graph.specs.Edits.{are_linked, cause}
+use Rattle.pls_graph.specs.Edits.{are_linked, cause, leave_refusal}
 use Rattle.pls_graph.specs.Places.{place_in}
 use Rattle.pls_graph.proofs.Finds.{eqb_comm, fails_where_no_position, found_place, from_option_map, item_at, list_any-find}
 use Rattle.pls_graph.proofs.Placed.{WayBack, row_of_place, way_back}
 use Rattle.pls_view.specs.Labels.{bits_together}
 use Rattle.pls_view.specs.Seen.{label_of, seen_port}
-use Rattle.pls_recheck.specs.Edited.{label_refusal, most_bits}
+use Rattle.pls_edits.specs.Edited.{label_refusal, most_bits}
 use Rattle.pls_recheck.specs.inner.Flags.{MarksMore, names}
 use Rattle.pls_recheck.proofs.Steady.{SeeAlike, either_fails}
 use Rattle.pls_recheck.proofs.Touching.{or_false, touch_twice}
@@ -78,7 +78,7 @@ module _ (rows : List NodeRow) (net : IsNetwork rows) (id i : ℕ)
       by true e is = same_Some (place_in rows id) i is
       by false e is = absurd (cc)
 
-set_elsewhere : {X : Type 0} (xs : List X) (i j : ℕ) (x : X) → j ≢ i
+pub set_elsewhere : {X : Type 0} (xs : List X) (i j : ℕ) (x : X) → j ≢ i
     → slice_get xs j ≡ slice_get (set xs i x) j
 set_elsewhere [] zero j x other = refl
 set_elsewhere [] (suc i) j x other = refl
@@ -87,7 +87,7 @@ set_elsewhere (y ∷ xs) zero (suc j) x other = refl
 set_elsewhere (y ∷ xs) (suc i) zero x other = refl
 set_elsewhere (y ∷ xs) (suc i) (suc j) x other = set_elsewhere xs i j x (λ e. other (ap suc e))
 
-map_at : {X Y : Type 0} (f g : X → Y) (xs : List X)
+pub map_at : {X Y : Type 0} (f g : X → Y) (xs : List X)
     → ((p : ℕ) (x : X) → slice_get xs p ≡ Some x → f x ≡ g x) → map f xs ≡ map g xs
 map_at f g [] same = refl
 map_at f g (x ∷ xs) same = rw (same 0 x refl, map_at f g xs (λ p y at. same (suc p) y at)) refl
@@ -145,12 +145,12 @@ module _ (rows : List NodeRow) (net : IsNetwork rows) (labels : List (List Bool)
           subst (λ (n : ℕ). are_linked rows n row.id ≡ true) (sym (eqb-true id port.nbr e)) linked in
           let no : true ≡ false = sym is ∙ apart in absurd (cc no)
 
-pub label_absent : (rows : List NodeRow) (labels : List (List Bool)) (id : ℕ) (bits : List Bool)
-    → position (λ row. id == row.id) rows ≡ None → label_refusal rows labels id bits ≡ Some Absent
-label_absent rows labels id bits none = by (row_of rows id) refl
+pub no_row_found : (rows : List NodeRow) (id : ℕ) → position (λ row. id == row.id) rows ≡ None
+    → row_of rows id ≡ None
+no_row_found rows id none = by (row_of rows id) refl
   where
-    by : (o : Option NodeRow) → row_of rows id ≡ o → label_refusal rows labels id bits ≡ Some Absent
-    by None is = rw is refl
+    by : (o : Option NodeRow) → row_of rows id ≡ o → row_of rows id ≡ None
+    by None is = is
     by (Some row) is =
         let there = found_place (λ (row : NodeRow). id == row.id) rows row is in
         let fails = fails_where_no_position (λ (row : NodeRow). id == row.id) rows there.0 row none
@@ -159,6 +159,36 @@ label_absent rows labels id bits none = by (row_of rows id) refl
         ap (λ (row : NodeRow). id == row.id)
         (sym (get_or_from_slice_get rows there.0 row row there.1)) ∙ fails in
         let no : true ≡ false = sym there.2 ∙ not in absurd (cc no)
+
+pub label_absent : (rows : List NodeRow) (labels : List (List Bool)) (id : ℕ) (bits : List Bool)
+    → position (λ row. id == row.id) rows ≡ None → label_refusal rows labels id bits ≡ Some Absent
+label_absent rows labels id bits none = rw (no_row_found rows id none) refl
+
+pub leave_absent : (rows : List NodeRow) (id : ℕ) → position (λ row. id == row.id) rows ≡ None
+    → leave_refusal rows id ≡ Some Absent
+leave_absent rows id none = rw (no_row_found rows id none) refl
+
+-- the row that stands where its identity is found
+pub record IsRowOf (rows : List NodeRow) (id i : ℕ) (row : NodeRow) : Type 0 where
+  pub at : slice_get rows i ≡ Some row
+  pub same : row.id ≡ id
+  pub found : row_of rows id ≡ Some row
+
+pub row_there : (rows : List NodeRow) → IsNetwork rows → (id i : ℕ)
+    → position (λ row. id == row.id) rows ≡ Some i → (row : NodeRow) × IsRowOf rows id i row
+row_there rows net id i place =
+    let no : NodeRow = record { id = 0; state = record { up = None; mark = 0; num = 0 }; ports = [] } in
+    let there = position-Some (λ (row : NodeRow). id == row.id) rows i no place in
+    let row : (row : NodeRow) × (slice_get rows i ≡ Some row) = item_at rows i there.0 in
+    let test : (id == row.0.id) ≡ true = ap (λ (row : NodeRow). id == row.id)
+    (sym (get_or_from_slice_get rows i row.0 no row.1)) ∙ there.1 in (
+      row.0,
+      record {
+        at = row.1;
+        same = sym (eqb-true id row.0.id test);
+        found = found_at rows net id i place row.0 row.1;
+      },
+    )
 
 -- why a label is refused or not, where its node is found
 pub label_by : (rows : List NodeRow) → IsNetwork rows → (labels : List (List Bool)) (id i : ℕ)

@@ -6,12 +6,14 @@ use Rattle.std.proofs.lemmas.List.Quantifiers.{position-Some}
 use Rattle.std.proofs.lemmas.Option.{same_Some, slice_get_within, slice_get-get_or, get_or_from_slice_get}
 use Rattle.pls_model.specs.declared.row.NodeRow.{NodeRow}
 use Rattle.pls_model.specs.declared.verdict.Verdict.{Verdict}
+use Rattle.pls_model.specs.declared.verdict.Verdict.TheVariants.{Accept}
 use Rattle.pls_model.specs.Configuration.{IsNetwork, ids_of}
 use Rattle.pls_graph.proofs.Finds.{fails_where_no_position}
 use Rattle.pls_graph.proofs.Placed.{place_of_row}
 use Rattle.pls_view.specs.Seen.{Seen}
-use Rattle.pls_recheck.specs.Edited.{after, edited, relabelled, touches}
-use Rattle.pls_recheck.specs.declared.edit.Edit.{Edit}
+use Rattle.pls_edits.specs.Edited.{carried, edited, relabelled, touches}
+use Rattle.pls_recheck.specs.After.{after, touched_after}
+use Rattle.pls_edits.specs.declared.edit.Edit.{Edit}
 use Rattle.pls_recheck.specs.Watch.{IsCurrent, Snapshot, is_among}
 use Rattle.pls_recheck.specs.inner.Flags.{MarksMore, marked}
 use Rattle.pls_recheck.proofs.Cleared.{current_by_flags, current_by_ids}
@@ -22,11 +24,11 @@ pub or_false : (b : Bool) → b ≡ (b || false)
 or_false true = refl
 or_false false = refl
 
-or_true : (b : Bool) → true ≡ (b || true)
+pub or_true : (b : Bool) → true ≡ (b || true)
 or_true true = refl
 or_true false = refl
 
-or_twice : (a b c : Bool) → ((a || b) || c) ≡ (a || (b || c))
+pub or_twice : (a b c : Bool) → ((a || b) || c) ≡ (a || (b || c))
 or_twice true b c = refl
 or_twice false b c = refl
 
@@ -117,14 +119,21 @@ module _ (rows after : List NodeRow) (was : IsNetwork rows) (valid : IsNetwork a
 
 -- what was watched is the one after the edit, part by part
 pub snapshot_after : (edit : Edit) (before : Snapshot) (network : List NodeRow)
-    (labels : List (List Bool)) (touched : List ℕ) → network ≡ edited edit before.network
+    (labels : List (List Bool)) (touched : List ℕ)
+    → carried edit before.network (0, Accept) before.kept ≡ before.kept
+    → network ≡ edited edit before.network
     → labels ≡ relabelled edit before.network before.labels
     → touched ≡ filter (λ node. is_among before.touched node || touches edit before.network node)
     (ids_of network)
     → record { network = network; labels = labels; touched = touched; kept = before.kept }
     ≡ after edit before
-snapshot_after edit before network labels touched rows_are labels_are touched_are =
-    rw (touched_are, labels_are, rows_are) refl
+snapshot_after edit before network labels touched kept_are rows_are labels_are touched_are =
+    rw (touched_are, labels_are, rows_are) (ap (λ (kept : List (ℕ × Verdict)). record {
+      network = edited edit before.network;
+      labels = relabelled edit before.network before.labels;
+      touched = touched_after edit before.network before.touched;
+      kept = kept;
+    }) (sym kept_are))
 
 -- rows of the same identities are as many
 pub same_many : (rows after : List NodeRow) → ids_of after ≡ ids_of rows → (old : List Bool)

@@ -1,3 +1,3 @@
 pub mod Watch
-pub mod Edited
+pub mod After
 pub mod inner

@@ -4,29 +4,32 @@ ghost use Rattle.std.specs.Prelude.{◌≡◌, ◌≤◌, ◌==◌, ◌||◌, le
 ghost use Rattle.pls_model.specs.declared.limits.TheConstants.{MAX_NUM};
 ghost use Rattle.pls_model.specs.declared.verdict.Verdict.{Verdict};
 ghost use Rattle.pls_model.specs.Configuration.{IsNetwork, ids_of};
-ghost use Rattle.pls_graph.specs.Edits.{SaysEdit};
+ghost use Rattle.pls_graph.specs.Edits.{SaysEdit, link_refusal, state_refusal, unlink_refusal, weight_refusal};
 ghost use Rattle.pls_view.specs.Seen.{Seen};
-ghost use Rattle.pls_recheck.specs.Edited.{FitsNum, RefusesWith, after, edit_refusal};
+ghost use Rattle.pls_edits.specs.Edited.{FitsNum, RefusesWith, edit_refusal};
+ghost use Rattle.pls_edits.specs.declared.edit.Edit.{Edit};
+ghost use Rattle.pls_edits.specs.declared.edit.Edit.TheVariants.{State as StateEdit, Weight, Link, Unlink};
+ghost use Rattle.pls_recheck.specs.After.{after};
 ghost use Rattle.pls_recheck.specs.Watch.{IsCurrent};
-ghost use Rattle.pls_recheck.specs.inner.Flags.{MarksMore};
-ghost use Rattle.pls_recheck.specs.declared.edit.Edit.{Edit};
-ghost use Rattle.pls_recheck.specs.declared.edit.Edit.TheVariants.{State as StateEdit, Weight, Link, Unlink};
+ghost use Rattle.pls_recheck.specs.inner.Flags.{ClearsSome, MarksMore};
 
-use crate::edit::Edit;
 use crate::watched::Watched;
-use pls_graph::{EditError, Network};
+use pls_edits::{Edit, EditError};
+use pls_graph::Network;
 use pls_model::State;
 
 impl Watched {
     /// Makes an edit, and touches the nodes whose view it may change. An edit that is refused
-    /// changes and touches nothing; its error is the network's. Only a link and a label may find
-    /// no memory. It costs what the network's edit costs, or a search for each neighbour.
+    /// changes and touches nothing; its error is the network's. Only a link, a join and a label may find
+    /// no memory. It costs what the network's edit costs; a label goes over its node's neighbours only
+    /// where they need not all be touched already.
     pub fn apply(&mut self, edit: &Edit) -> Result<(), EditError>
         requires { FitsNum edit.now }
         ensures ok { OnOk result (self.new ≡ after edit.now self.old) }
-        ensures allowed { OnOk result (edit_refusal edit.now self.old ≡ None) }
-        ensures refused { IfErr result
-            (λ error. RefusesWith edit.now (edit_refusal edit.now self.old) error) }
+        ensures allowed { OnOk result
+            (edit_refusal edit.now self.old.network self.old.labels ≡ None) }
+        ensures refused { IfErr result (λ error. RefusesWith edit.now
+            (edit_refusal edit.now self.old.network self.old.labels) error) }
         ensures unchanged { OnErr result (self.new ≡ self.old) }
         ensures current { OnOk result ((judge : Seen → Verdict)
             → IsCurrent judge self.old → IsCurrent judge self.new) }
@@ -36,6 +39,8 @@ impl Watched {
             Edit::Weight { a, b, weight } => self.set_weight(*a, *b, *weight),
             Edit::Link { a, b, weight } => self.link(*a, *b, *weight),
             Edit::Unlink { a, b } => self.unlink(*a, *b),
+            Edit::Join { id, mark, num } => self.join(*id, *mark, *num),
+            Edit::Leave { id } => self.leave(*id),
             Edit::Label { id, bits } => self.set_label(*id, bits),
         }
     }
@@ -44,9 +49,9 @@ impl Watched {
     fn set_state(&mut self, id: u32, state: State) -> Result<(), EditError>
         requires { state.num ≤ MAX_NUM }
         ensures ok { OnOk result (self.new ≡ after (StateEdit id state) self.old) }
-        ensures allowed { OnOk result (edit_refusal (StateEdit id state) self.old ≡ None) }
+        ensures allowed { OnOk result (state_refusal self.old.network id state ≡ None) }
         ensures refused { IfErr result
-            (λ error. edit_refusal (StateEdit id state) self.old ≡ Some error) }
+            (λ error. state_refusal self.old.network id state ≡ Some error) }
         ensures unchanged { OnErr result (self.new ≡ self.old) }
         ensures current { OnOk result ((judge : Seen → Verdict)
             → IsCurrent judge self.old → IsCurrent judge self.new) }
@@ -60,9 +65,9 @@ impl Watched {
     // Gives an edge the weight.
     fn set_weight(&mut self, a: u32, b: u32, weight: u32) -> Result<(), EditError>
         ensures ok { OnOk result (self.new ≡ after (Weight a b weight) self.old) }
-        ensures allowed { OnOk result (edit_refusal (Weight a b weight) self.old ≡ None) }
+        ensures allowed { OnOk result (weight_refusal self.old.network a b ≡ None) }
         ensures refused { IfErr result
-            (λ error. edit_refusal (Weight a b weight) self.old ≡ Some error) }
+            (λ error. weight_refusal self.old.network a b ≡ Some error) }
         ensures unchanged { OnErr result (self.new ≡ self.old) }
         ensures current { OnOk result ((judge : Seen → Verdict)
             → IsCurrent judge self.old → IsCurrent judge self.new) }
@@ -76,9 +81,9 @@ impl Watched {
     // Puts an edge in.
     fn link(&mut self, a: u32, b: u32, weight: u32) -> Result<(), EditError>
         ensures ok { OnOk result (self.new ≡ after (Link a b weight) self.old) }
-        ensures allowed { OnOk result (edit_refusal (Link a b weight) self.old ≡ None) }
+        ensures allowed { OnOk result (link_refusal self.old.network a b ≡ None) }
         ensures refused { IfErr result
-            (λ error. SaysEdit (edit_refusal (Link a b weight) self.old) error) }
+            (λ error. SaysEdit (link_refusal self.old.network a b) error) }
         ensures unchanged { OnErr result (self.new ≡ self.old) }
         ensures current { OnOk result ((judge : Seen → Verdict)
             → IsCurrent judge self.old → IsCurrent judge self.new) }
@@ -86,15 +91,16 @@ impl Watched {
         self.net.len();
         self.net.link(a, b, weight)?;
         touch_ends(&self.net, a, b, &mut self.flags);
+        clear_ends(&self.net, a, b, &mut self.around);
         Ok(())
     }
 
     // Takes an edge away.
     fn unlink(&mut self, a: u32, b: u32) -> Result<(), EditError>
         ensures ok { OnOk result (self.new ≡ after (Unlink a b) self.old) }
-        ensures allowed { OnOk result (edit_refusal (Unlink a b) self.old ≡ None) }
+        ensures allowed { OnOk result (unlink_refusal self.old.network a b ≡ None) }
         ensures refused { IfErr result
-            (λ error. edit_refusal (Unlink a b) self.old ≡ Some error) }
+            (λ error. unlink_refusal self.old.network a b ≡ Some error) }
         ensures unchanged { OnErr result (self.new ≡ self.old) }
         ensures current { OnOk result ((judge : Seen → Verdict)
             → IsCurrent judge self.old → IsCurrent judge self.new) }
@@ -102,6 +108,7 @@ impl Watched {
         self.net.len();
         self.net.unlink(a, b)?;
         touch_ends(&self.net, a, b, &mut self.flags);
+        clear_ends(&self.net, a, b, &mut self.around);
         Ok(())
     }
 }
@@ -127,5 +134,27 @@ pub(crate) fn touch(net: &Network, id: u32, flags: &mut Vec<bool>)
     net.len();
     if let Some(i) = net.place_of(id) {
         flags[i] = true;
+    }
+}
+
+// Takes the flags of both ends of an edge back.
+fn clear_ends(net: &Network, a: u32, b: u32, flags: &mut Vec<bool>)
+    requires { length flags.old.items ≡ length net.now }
+    ensures cleared { ClearsSome (λ node. (a == node) || (b == node)) net.now flags.old.items
+        flags.new.items }
+{
+    clear(net, a, flags);
+    clear(net, b, flags);
+}
+
+// Takes the flag of a node back.
+fn clear(net: &Network, id: u32, flags: &mut Vec<bool>)
+    requires { length flags.old.items ≡ length net.now }
+    ensures cleared { ClearsSome (λ node. id == node) net.now flags.old.items flags.new.items }
+{
+    // A network is valid.
+    net.len();
+    if let Some(i) = net.place_of(id) {
+        flags[i] = false;
     }
 }

@@ -1,20 +1,21 @@
 //! Labels of what is watched.
 
-ghost use Rattle.std.specs.Prelude.{◌≡◌, ◌<◌, ◌-◌, ◌^◌, length, min, nat_lt, slice_set, None, OnErr, OnOk, IfErr, Some};
+ghost use Rattle.std.specs.Prelude.{◌≡◌, All, slice_get, ◌<◌, ◌-◌, ◌^◌, length, min, nat_lt, slice_set, None, OnErr, OnOk, IfErr, Some};
+ghost use Rattle.pls_model.specs.declared.row.NodeRow.{NodeRow};
 ghost use Rattle.pls_model.specs.declared.verdict.Verdict.{Verdict};
 ghost use Rattle.pls_graph.specs.Edits.{SaysEdit};
 ghost use Rattle.pls_view.specs.Labels.{bits_together};
 ghost use Rattle.pls_view.specs.Seen.{Seen};
-ghost use Rattle.pls_recheck.specs.Edited.{after, edit_refusal, most_bits};
+ghost use Rattle.pls_edits.specs.Edited.{label_refusal, most_bits};
+ghost use Rattle.pls_edits.specs.declared.edit.Edit.TheVariants.{Label};
+ghost use Rattle.pls_recheck.specs.After.{after};
 ghost use Rattle.pls_recheck.specs.Watch.{IsCurrent};
-ghost use Rattle.pls_recheck.specs.inner.Flags.{MarksMore, names};
-ghost use Rattle.pls_recheck.specs.declared.edit.Edit.TheVariants.{Label};
+ghost use Rattle.pls_recheck.specs.inner.Flags.{AreAround, MarksMore, SetsAt, beside_itself};
 
-use crate::applying::touch;
 use crate::watched::Watched;
 use pls_bits::BitBuf;
-use pls_graph::{EditError, Network};
-use pls_model::Port;
+use pls_edits::EditError;
+use pls_graph::Network;
 use pls_view::LabelStore;
 
 // The greatest number of bits of all labels together, 2^28.
@@ -24,9 +25,9 @@ impl Watched {
     // Gives a node the label.
     pub(crate) fn set_label(&mut self, id: u32, bits: &BitBuf) -> Result<(), EditError>
         ensures ok { OnOk result (self.new ≡ after (Label id bits.now) self.old) }
-        ensures allowed { OnOk result (edit_refusal (Label id bits.now) self.old ≡ None) }
+        ensures allowed { OnOk result (label_refusal self.old.network self.old.labels id bits.now ≡ None) }
         ensures refused { IfErr result
-            (λ error. SaysEdit (edit_refusal (Label id bits.now) self.old) error) }
+            (λ error. SaysEdit (label_refusal self.old.network self.old.labels id bits.now) error) }
         ensures unchanged { OnErr result (self.new ≡ self.old) }
         ensures current { OnOk result ((judge : Seen → Verdict)
             → IsCurrent judge self.old → IsCurrent judge self.new) }
@@ -41,8 +42,7 @@ impl Watched {
         let Ok(()) = self.labels.replace(i, bits) else {
             return Err(EditError::NoMemory);
         };
-        touch(&self.net, id, &mut self.flags);
-        touch_named(&self.net, self.net.ports(i), &mut self.flags);
+        touch_around(&self.net, i, &mut self.flags, &mut self.around);
         Ok(())
     }
 }
@@ -64,12 +64,31 @@ fn bits_with(labels: &LabelStore, i: usize, bits: &BitBuf) -> u64
     others.saturating_add(bits.len() as u64)
 }
 
-// Touches the nodes that the ports name.
-fn touch_named(net: &Network, ports: &[Port], flags: &mut Vec<bool>)
-    requires { length flags.old.items ≡ length net.now }
-    ensures { MarksMore (λ node. names ports.now node) net.now flags.old.items flags.new.items }
+// Touches the node at place i and its neighbours, if they need not all be touched already.
+fn touch_around(net: &Network, i: usize, flags: &mut Vec<bool>, around: &mut Vec<bool>)
+    requires within { i < length net.now }
+    requires a_flag { length flags.old.items ≡ length net.now }
+    requires around { AreAround net.now flags.old.items around.old.items }
+    ensures touched { (row : NodeRow) → slice_get net.now i ≡ Some row
+        → MarksMore (beside_itself row) net.now flags.old.items flags.new.items }
+    ensures around { AreAround net.now flags.new.items around.new.items }
 {
-    for p in 0..ports.len() {
-        touch(net, ports[p].nbr, flags);
+    // A network is valid.
+    net.len();
+    if around[i] {
+        return;
+    }
+    flags[i] = true;
+    set_all(net.places(i), flags);
+    around[i] = true;
+}
+
+// Sets the flags at these places.
+fn set_all(places: &[u32], flags: &mut Vec<bool>)
+    requires { All (λ place. place < length flags.old.items) places.now }
+    ensures { SetsAt places.now flags.old.items flags.new.items }
+{
+    for p in 0..places.len() {
+        flags[places[p] as usize] = true;
     }
 }

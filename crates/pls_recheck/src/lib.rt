@@ -8,13 +8,14 @@
 //! round: [`Counted`] judges as a checker does by asking a [`Bench`], which counts the questions.
 //!
 //! Definitions stand in `specs/`: `Watch` has the snapshot and what it means that its verdicts are
-//! current, `Edited` what an edit makes, which nodes it touches and why it is refused.
+//! current, `After` what an edit makes of it. What an edit makes of a network and its labels, which
+//! nodes it touches and why it is refused is said in `specs/Edited` of `pls_edits`.
 #![tactic(auto)]
 
 mod applying;
 mod bench;
 mod counted;
-mod edit;
+mod joining;
 mod judge;
 mod labelling;
 mod rounds;
@@ -23,8 +24,7 @@ mod watched;
 
 pub use bench::Bench;
 pub use counted::Counted;
-pub use edit::Edit;
 pub use judge::Judge;
-pub use pls_graph::EditError;
+pub use pls_edits::{Edit, EditError};
 pub use tally::Tally;
 pub use watched::Watched;

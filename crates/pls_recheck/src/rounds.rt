@@ -7,7 +7,7 @@ ghost use Rattle.pls_base.specs.Steps.{up_by};
 ghost use Rattle.pls_view.specs.Seen.{Seen, views};
 ghost use Rattle.pls_scheme.specs.Judging.{round_by};
 ghost use Rattle.pls_recheck.specs.Watch.{EndsEarly, IsCurrent};
-ghost use Rattle.pls_recheck.specs.inner.Flags.{AreCurrent, marked};
+ghost use Rattle.pls_recheck.specs.inner.Flags.{AreCurrent, cleared, marked};
 
 use crate::judge::Judge;
 use crate::watched::Watched;
@@ -44,6 +44,7 @@ impl Watched {
     {
         // A network is valid.
         self.net.len();
+        forget_all(&mut self.around);
         judge_flagged(
             alloc,
             &self.net,
@@ -67,6 +68,15 @@ impl Watched {
             return None;
         }
         Some(self.kept.as_slice())
+    }
+}
+
+// Forgets where all neighbours are touched, since a round takes flags back, also one that ends early.
+fn forget_all(around: &mut Vec<bool>)
+    ensures { around.new.items ≡ cleared (length around.old.items) around.old.items }
+{
+    for i in 0..around.len() {
+        around[i] = false;
     }
 }
 

@@ -22,6 +22,8 @@ pub struct Watched {
     pub(crate) labels: LabelStore,
     // For each node whether it is touched.
     pub(crate) flags: Vec<bool>,
+    // For each node whether it and its neighbours are known to be touched.
+    pub(crate) around: Vec<bool>,
     // For each node what it answered last, with its identity.
     pub(crate) kept: Vec<(u32, Verdict)>,
 }
@@ -41,7 +43,7 @@ impl Model for Watched {
     } };
 
     ghost invariant = { λ watched. AreKept watched.net watched.labels watched.flags.items
-        watched.kept.items };
+        watched.around.items watched.kept.items };
 }
 
 impl Watched {
@@ -57,11 +59,13 @@ impl Watched {
     {
         let nodes = net.len();
         let flags = flags_of(alloc, true, nodes)?;
+        let around = flags_of(alloc, false, nodes)?;
         let kept = vec![in alloc; (0, Verdict::Accept); nodes]?;
         Ok(Watched {
             net,
             labels,
             flags,
+            around,
             kept,
         })
     }

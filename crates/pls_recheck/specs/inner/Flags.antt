@@ -10,6 +10,10 @@ use Rattle.pls_view.specs.Seen.{Seen, views}
 abbrev pub names : List Port → ℕ → Bool
 names ports node = list_any (λ port. node == port.nbr) ports
 
+-- the node of the row, or one that its ports name
+abbrev pub beside_itself : NodeRow → ℕ → Bool
+beside_itself row node = (row.id == node) || names row.ports node
+
 -- the identities whose flag is set, in their order
 abbrev pub marked : List ℕ → List Bool → List ℕ
 marked [] flags = []
@@ -43,9 +47,29 @@ pub record MarksMore (passes : ℕ → Bool) (rows : List NodeRow) (old new : Li
   pub each : (k : ℕ) (row : NodeRow) (flag : Bool) → slice_get rows k ≡ Some row
       → slice_get old k ≡ Some flag → slice_get new k ≡ Some (flag || passes row.id)
 
--- one label, one flag and one verdict a node
-pub record AreKept (rows : List NodeRow) (labels : List (List Bool)) (flags : List Bool)
+-- of the flags of the rows whose identities pass none is set, and none is set that was not
+pub record ClearsSome (passes : ℕ → Bool) (rows : List NodeRow) (old new : List Bool) : Type 0 where
+  pub as_many : length new ≡ length old
+  pub each : (k : ℕ) (row : NodeRow) → slice_get rows k ≡ Some row → slice_get new k ≡ Some true
+      → (slice_get old k ≡ Some true) × (passes row.id ≡ false)
+
+-- the flags at the places are set too, and no other
+pub record SetsAt (places : List ℕ) (old new : List Bool) : Type 0 where
+  pub as_many : length new ≡ length old
+  pub each : (k : ℕ) (flag : Bool) → slice_get old k ≡ Some flag
+      → slice_get new k ≡ Some (flag || list_any (λ place. k == place) places)
+
+-- where a node is noted, it and its neighbours are all touched
+pub record AreAround (rows : List NodeRow) (flags around : List Bool) : Type 0 where
+  pub as_many : length around ≡ length rows
+  pub each : (k j : ℕ) (row other : NodeRow) → slice_get rows k ≡ Some row
+      → slice_get around k ≡ Some true → slice_get rows j ≡ Some other
+      → beside_itself row other.id ≡ true → slice_get flags j ≡ Some true
+
+-- one label, one flag, one note and one verdict a node
+pub record AreKept (rows : List NodeRow) (labels : List (List Bool)) (flags around : List Bool)
     (kept : List (ℕ × Verdict)) : Type 0 where
   pub a_label : length labels ≡ length rows
   pub a_flag : length flags ≡ length rows
   pub a_verdict : length kept ≡ length rows
+  pub noted : AreAround rows flags around

@@ -1,6 +1,8 @@
-use Rattle.std.proofs.Common.{sym, subst}
+use Rattle.std.proofs.Common.{Bool, List, arith, length, subst, sym}
 use Rattle.pls_recheck.specs.Watch.{IsCurrent, Snapshot}
+use Rattle.pls_recheck.specs.inner.Flags.{AreAround}
 use Rattle.pls_recheck.proofs.Cleared.{current_by_flags, current_by_ids}
+use Rattle.pls_recheck.proofs.Noted.{nothing_noted}
 use Rattle.pls_recheck.proofs.watched.Watched.round.Goals as goal
 
 pub judge_flagged-requires-clause-current : goal.judge_flagged-requires-clause-current
@@ -16,3 +18,17 @@ returns-clause-current g c =
     current_by_ids (g.J.Judge.judge c.args.judge.now) c.self.inside.net c.self.inside.labels
     c.judge_flagged.new.flags.items c.judge_flagged.new.kept.items c.len.ensures.valid
     c.judge_flagged.ensures.a_flag c.judge_flagged.ensures.current
+
+pub invariant_of-self : goal.invariant_of-self
+invariant_of-self g c =
+    let rows = c.self.inside.net in
+    let around = c.self.inside.around.items in
+    let flags = c.judge_flagged.new.flags.items in
+    record {
+      a_label = c.self.invariant.a_label;
+      a_flag = c.judge_flagged.ensures.a_flag;
+      a_verdict = c.judge_flagged.ensures.a_verdict;
+      noted = subst (λ (around : List Bool). AreAround rows flags around) (sym c.forget_all.ensures)
+          (nothing_noted rows flags around (length around) c.self.invariant.noted.as_many
+          (omega arith));
+    }

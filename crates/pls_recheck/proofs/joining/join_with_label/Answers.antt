@@ -1,0 +1,50 @@
+use Rattle.std.proofs.Common.{◌≡◌, ◌∙◌, arith, subst, sym}
+use Rattle.std.proofs.lemmas.Option.{same_Some}
+use Rattle.pls_model.specs.Configuration.{IsNetwork}
+use Rattle.pls_edits.specs.Edited.{place_for}
+use Rattle.pls_recheck.proofs.Coming.{place_inside, joined_and_left, joined_place, may_go}
+use Rattle.pls_recheck.proofs.joining.join_with_label.Goals as goal
+
+pub returns-in_default-clause-unchanged : goal.returns-in_default-clause-unchanged
+returns-in_default-clause-unchanged c =
+    let place = joined_place c.args.net.now c.len.ensures.valid c.args.id c.args.mark c.args.num
+    c.in_ok-join.ensures.allowed c.join.new.self c.in_ok-join.ensures.ok c.len-2.ensures.valid in
+    absurd (cc (place, c.in_default.ensures))
+
+pub insert-requires : goal.insert-requires
+insert-requires c =
+    let place = joined_place c.args.net.now c.len.ensures.valid c.args.id c.args.mark c.args.num
+    c.in_ok-join.ensures.allowed c.join.new.self c.in_ok-join.ensures.ok c.len-2.ensures.valid in
+    let is : c.in-Some.i ≡ place_for c.args.net.now c.args.id =
+    same_Some _ _ (c.in-Some.ensures ∙ place) in
+    omega (
+      arith,
+      is,
+      place_inside c.args.net.now c.len.ensures.valid c.args.id c.args.mark c.args.num
+          c.in_ok-join.ensures.allowed,
+      c.requires.a_label,
+    )
+
+pub take_back-requires : goal.take_back-requires
+take_back-requires c =
+    may_go c.args.net.now c.len.ensures.valid c.args.id c.args.mark c.args.num
+    c.in_ok-join.ensures.allowed c.join.new.self c.in_ok-join.ensures.ok c.len-2.ensures.valid
+
+pub returns-then-is_err-clause-valid : goal.returns-then-is_err-clause-valid
+returns-then-is_err-clause-valid c =
+    subst IsNetwork (sym (c.take_back.ensures
+    ∙ joined_and_left c.args.net.now c.len.ensures.valid c.args.id c.args.mark c.args.num
+    c.in_ok-join.ensures.allowed c.join.new.self c.in_ok-join.ensures.ok c.len-2.ensures.valid))
+    c.len.ensures.valid
+
+pub returns-then-is_err-clause-unchanged : goal.returns-then-is_err-clause-unchanged
+returns-then-is_err-clause-unchanged c =
+    c.take_back.ensures
+    ∙ joined_and_left c.args.net.now c.len.ensures.valid c.args.id c.args.mark c.args.num
+    c.in_ok-join.ensures.allowed c.join.new.self c.in_ok-join.ensures.ok c.len-2.ensures.valid
+
+pub returns-clause-place : goal.returns-clause-place
+returns-clause-place c =
+    let place = joined_place c.args.net.now c.len.ensures.valid c.args.id c.args.mark c.args.num
+    c.in_ok-join.ensures.allowed c.join.new.self c.in_ok-join.ensures.ok c.len-2.ensures.valid in
+    same_Some _ _ (c.in-Some.ensures ∙ place)

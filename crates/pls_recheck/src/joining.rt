@@ -1,0 +1,128 @@
+//! Nodes that join what is watched, and nodes that leave.
+
+ghost use Rattle.std.specs.Prelude.{◌≡◌, ◌<◌, ◌≤◌, [], insert, length, vec_capacity, None, Some, IfOk, IfErr, OnErr, OnOk};
+ghost use Rattle.pls_model.specs.declared.limits.TheConstants.{MAX_NUM};
+ghost use Rattle.pls_model.specs.declared.verdict.Verdict.{Verdict};
+ghost use Rattle.pls_model.specs.declared.verdict.Verdict.TheVariants.{Accept};
+ghost use Rattle.pls_graph.specs.Edits.{SaysEdit, joined, join_refusal, leave_refusal, left};
+ghost use Rattle.pls_model.specs.Configuration.{IsNetwork};
+ghost use Rattle.pls_view.specs.Seen.{Seen};
+ghost use Rattle.pls_edits.specs.Edited.{place_for};
+ghost use Rattle.pls_edits.specs.declared.edit.Edit.TheVariants.{Join, Leave};
+ghost use Rattle.pls_recheck.specs.After.{after};
+ghost use Rattle.pls_recheck.specs.Watch.{IsCurrent};
+
+use crate::watched::Watched;
+use pls_edits::EditError;
+use pls_graph::Network;
+use pls_model::Verdict;
+use pls_view::LabelStore;
+
+impl Watched {
+    // Puts a node in, without ports and pointer and with an empty label.
+    pub(crate) fn join(&mut self, id: u32, mark: u32, num: u64) -> Result<(), EditError>
+        requires { num ≤ MAX_NUM }
+        ensures ok { OnOk result (self.new ≡ after (Join id mark num) self.old) }
+        ensures allowed { OnOk result (join_refusal self.old.network id ≡ None) }
+        ensures refused { IfErr result
+            (λ error. SaysEdit (join_refusal self.old.network id) error) }
+        ensures unchanged { OnErr result (self.new ≡ self.old) }
+        ensures current { OnOk result ((judge : Seen → Verdict)
+            → IsCurrent judge self.old → IsCurrent judge self.new) }
+    {
+        self.flags.reserve(1)?;
+        self.around.reserve(1)?;
+        self.kept.reserve(1)?;
+        let i = join_with_label(&mut self.net, &mut self.labels, id, mark, num)?;
+        put_flag(&mut self.flags, i, true);
+        put_flag(&mut self.around, i, false);
+        put_verdict(&mut self.kept, i);
+        Ok(())
+    }
+
+    // Takes a node without ports away, with its label.
+    pub(crate) fn leave(&mut self, id: u32) -> Result<(), EditError>
+        ensures ok { OnOk result (self.new ≡ after (Leave id) self.old) }
+        ensures allowed { OnOk result (leave_refusal self.old.network id ≡ None) }
+        ensures refused { IfErr result
+            (λ error. leave_refusal self.old.network id ≡ Some error) }
+        ensures unchanged { OnErr result (self.new ≡ self.old) }
+        ensures current { OnOk result ((judge : Seen → Verdict)
+            → IsCurrent judge self.old → IsCurrent judge self.new) }
+    {
+        self.net.len();
+        let Some(i) = self.net.place_of(id) else {
+            return Err(EditError::Absent);
+        };
+        self.net.leave(id)?;
+        self.net.len();
+        self.labels.remove(i);
+        self.flags.remove(i);
+        self.around.remove(i);
+        self.kept.remove(i);
+        Ok(())
+    }
+}
+
+// Puts a node into the network and an empty label into the labels, or neither, and gives its place.
+fn join_with_label(
+    net: &mut Network,
+    labels: &mut LabelStore,
+    id: u32,
+    mark: u32,
+    num: u64,
+) -> Result<usize, EditError>
+    requires num { num ≤ MAX_NUM }
+    requires a_label { length labels.old ≡ length net.old }
+    ensures network { OnOk result (net.new ≡ joined net.old id mark num) }
+    ensures labels { IfOk result (λ place. labels.new ≡ insert labels.old place []) }
+    ensures place { IfOk result (λ place. place ≡ place_for net.old id) }
+    ensures was_valid { IsNetwork net.old }
+    ensures valid { IsNetwork net.new }
+    ensures allowed { OnOk result (join_refusal net.old id ≡ None) }
+    ensures refused { IfErr result (λ error. SaysEdit (join_refusal net.old id) error) }
+    ensures unchanged { OnErr result (net.new ≡ net.old) }
+    ensures as_labelled { OnErr result (labels.new ≡ labels.old) }
+{
+    net.len();
+    net.join(id, mark, num)?;
+    net.len();
+    let Some(i) = net.place_of(id) else {
+        // It has just joined.
+        return Err(EditError::NoMemory);
+    };
+    if labels.insert(i).is_err() {
+        take_back(net, id);
+        return Err(EditError::NoMemory);
+    }
+    Ok(i)
+}
+
+// Takes a node away that has just joined.
+fn take_back(net: &mut Network, id: u32)
+    requires { leave_refusal net.old id ≡ None }
+    ensures { net.new ≡ left net.old id }
+{
+    let gone = net.leave(id);
+    prove!(gone.is_ok());
+}
+
+// Puts a flag in at place i.
+fn put_flag(flags: &mut Vec<bool>, i: usize, flag: bool)
+    requires within { i ≤ length flags.old.items }
+    requires room { length flags.old.items < vec_capacity flags.old }
+    ensures { flags.new.items ≡ insert flags.old.items i flag }
+{
+    let put = flags.insert(i, flag);
+    prove!(put.is_ok());
+}
+
+// Puts a verdict in at place i that nothing is said of.
+fn put_verdict(kept: &mut Vec<(u32, Verdict)>, i: usize)
+    requires within { i ≤ length kept.old.items }
+    requires room { length kept.old.items < vec_capacity kept.old }
+    ensures { kept.new.items ≡ insert kept.old.items i (0, Accept) }
+{
+    let put = kept.insert(i, (0, Verdict::Accept));
+    prove!(put.is_ok());
+}
