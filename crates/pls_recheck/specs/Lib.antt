@@ -1,3 +1,4 @@
 pub mod Watch
 pub mod After
+pub mod Rechecked
 pub mod inner

@@ -5,7 +5,8 @@
 //! record `Snapshot`. [`Watched::apply`] makes an [`Edit`] and touches the nodes whose view it may
 //! change; [`Watched::round`] asks a [`Judge`] once for each touched node and for no other. Where no
 //! node is touched, [`Watched::verdicts`] are those of a full round. A [`Judge`] is lent to each
-//! round: [`Counted`] judges as a checker does by asking a [`Bench`], which counts the questions.
+//! round: [`Counted`] judges as a checker does by asking a [`Bench`], which counts the questions. A
+//! [`Recheck`] keeps its judge, and its verdicts are those of that judge.
 //!
 //! Definitions stand in `specs/`: `Watch` has the snapshot and what it means that its verdicts are
 //! current, `After` what an edit makes of it. What an edit makes of a network and its labels, which
@@ -18,6 +19,7 @@ mod counted;
 mod joining;
 mod judge;
 mod labelling;
+mod recheck;
 mod rounds;
 mod tally;
 mod watched;
@@ -26,5 +28,6 @@ pub use bench::Bench;
 pub use counted::Counted;
 pub use judge::Judge;
 pub use pls_edits::{Edit, EditError};
+pub use recheck::Recheck;
 pub use tally::Tally;
 pub use watched::Watched;
