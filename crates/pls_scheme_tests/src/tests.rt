@@ -5,6 +5,7 @@ mod combinations;
 mod distances;
 mod leaders;
 mod pointers;
+mod rechecks;
 mod schemes;
 mod small;
 mod spanning;
