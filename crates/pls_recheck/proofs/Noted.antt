@@ -200,22 +200,6 @@ module _ (rows : List NodeRow) (net : IsNetwork rows) (i : ℕ) (row : NodeRow)
 
   module _ (old around : List Bool) (many : length old ≡ length rows)
       (noted : AreAround rows old around) where
-    -- where the node is noted, that touches nothing more
-    pub marks_nothing : slice_get around i ≡ Some true → MarksMore (beside_itself row) rows old old
-    marks_nothing is = record {
-      as_many = refl;
-      each = λ k other flag there has.
-          by k other flag there has (beside_itself row other.id) refl;
-    }
-      where
-        by : (k : ℕ) (other : NodeRow) (flag : Bool) → slice_get rows k ≡ Some other
-            → slice_get old k ≡ Some flag → (b : Bool) → beside_itself row other.id ≡ b
-            → slice_get old k ≡ Some (flag || beside_itself row other.id)
-        by k other flag there has true e = noted.each i k row other at is there e
-            ∙ ap (λ (b : Bool). Some b) (or_true flag ∙ ap (λ (b : Bool). flag || b) (sym e))
-        by k other flag there has false e = has
-            ∙ ap (λ (b : Bool). Some b) (or_false flag ∙ ap (λ (b : Bool). flag || b) (sym e))
-
     -- the node may be noted then
     pub note_more : (new : List Bool) → MarksMore (beside_itself row) rows old new
         → AreAround rows new (set around i true)

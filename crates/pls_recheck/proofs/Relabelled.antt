@@ -1,9 +1,7 @@
 -- A label changes what its node and its neighbours see, and nobody else.
-use Rattle.std.proofs.Common.{◌≡◌, ◌≢◌, ◌∙◌, ℕ, zero, suc, ◌+◌, ◌<◌, ◌≤◌, Bool, true, false, cond, ◌==◌, ◌||◌, List, [], ◌∷◌, map, take, length, set, slice_get, position, nat_lt, min, Option, Some, None, is_some, option_map, refl, sym, ap, subst, arith, get_or}
+use Rattle.std.proofs.Common.{◌≡◌, ◌≢◌, ◌∙◌, ℕ, zero, suc, ◌+◌, ◌<◌, ◌≤◌, Bool, true, false, cond, ◌==◌, ◌||◌, List, [], ◌∷◌, map, length, set, slice_get, position, nat_lt, min, Option, Some, None, is_some, option_map, refl, sym, ap, subst, arith, get_or}
 use Rattle.std.specs.Option.{option_and_then, unwrap_or}
 use Rattle.std.proofs.lemmas.Bool.{eq-eqb, eqb-true, ltb-false, ltb-true, lt-ltb}
-use Rattle.std.proofs.lemmas.List.{take_more}
-use Rattle.std.proofs.lemmas.List.Folds.{list_any-append}
 use Rattle.std.proofs.lemmas.List.Sums.{sum_by-set}
 use Rattle.std.proofs.lemmas.List.Quantifiers.{position-Some}
 use Rattle.std.proofs.lemmas.Option.{same_Some, slice_get_within, get_or_from_slice_get}
@@ -13,14 +11,13 @@ use Rattle.pls_model.specs.Configuration.{IsNetwork, first_of, port_to, row_of}
 use Rattle.pls_graph.specs.declared.edits.EditError.TheVariants.{Absent, Full}
 use Rattle.pls_graph.specs.Edits.{are_linked, cause, leave_refusal}
 use Rattle.pls_graph.specs.Places.{place_in}
-use Rattle.pls_graph.proofs.Finds.{eqb_comm, fails_where_no_position, found_place, from_option_map, item_at, list_any-find}
+use Rattle.pls_graph.proofs.Finds.{fails_where_no_position, found_place, from_option_map, item_at, list_any-find}
 use Rattle.pls_graph.proofs.Placed.{WayBack, row_of_place, way_back}
 use Rattle.pls_view.specs.Labels.{bits_together}
 use Rattle.pls_view.specs.Seen.{label_of, seen_port}
 use Rattle.pls_edits.specs.Edited.{label_refusal, most_bits}
 use Rattle.pls_recheck.specs.inner.Flags.{MarksMore, names}
 use Rattle.pls_recheck.proofs.Steady.{SeeAlike, either_fails}
-use Rattle.pls_recheck.proofs.Touching.{or_false, touch_twice}
 
 -- tests that agree mark the same
 pub marks_same : (one other : ℕ → Bool) (rows : List NodeRow) (old new : List Bool)
@@ -31,21 +28,6 @@ marks_same one other rows old new same more = record {
   each = λ k row flag at has. more.each k row flag at has
       ∙ ap (λ (b : Bool). Some (flag || b)) (same row.id);
 }
-
--- one more port's node is touched
-pub touch_more : (rows : List NodeRow) (old mid new : List Bool) (ports : List Port) (p : ℕ) (d : Port)
-    → p < length ports → MarksMore (λ node. names (take p ports) node) rows old mid
-    → MarksMore (λ node. (get_or ports p d).nbr == node) rows mid new
-    → MarksMore (λ node. names (take (p + 1) ports) node) rows old new
-touch_more rows old mid new ports p d within before one =
-    marks_same (λ node. names (take p ports) node || ((get_or ports p d).nbr == node))
-    (λ node. names (take (p + 1) ports) node) rows old new
-    (λ node. ap (λ (b : Bool). names (take p ports) node || b)
-    (eqb_comm (get_or ports p d).nbr node ∙ or_false (node == (get_or ports p d).nbr))
-    ∙ sym (list_any-append (λ (port : Port). node == port.nbr) (take p ports) (get_or ports p d ∷ []))
-    ∙ ap (λ (some : List Port). names some node) (sym (take_more ports p d within)))
-    (touch_twice rows old mid new (λ node. names (take p ports) node)
-    (λ node. (get_or ports p d).nbr == node) before one)
 
 module _ (rows : List NodeRow) (net : IsNetwork rows) (id i : ℕ)
     (place : position (λ row. id == row.id) rows ≡ Some i) where

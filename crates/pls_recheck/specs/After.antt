@@ -7,7 +7,8 @@ use Rattle.pls_edits.specs.declared.edit.Edit.{Edit}
 use Rattle.pls_edits.specs.Edited.{carried, edited, relabelled, touches}
 use Rattle.pls_recheck.specs.Watch.{Snapshot, is_among}
 
--- the nodes that were touched before or are touched by the edit, and are still there, in their order
+-- the nodes that were touched before or are touched by the edit, without one that left, in their
+-- order
 abbrev pub touched_after : Edit → List NodeRow → List ℕ → List ℕ
 touched_after edit rows touched =
     filter (λ node. is_among touched node || touches edit rows node) (ids_of (edited edit rows))

@@ -20,9 +20,9 @@ use pls_model::State;
 
 impl Watched {
     /// Makes an edit, and touches the nodes whose view it may change. An edit that is refused
-    /// changes and touches nothing; its error is the network's. Only a link, a join and a label may find
-    /// no memory. It costs what the network's edit costs; a label goes over its node's neighbours only
-    /// where they need not all be touched already.
+    /// changes and touches nothing; its error is the network's. Only a link, a join and a label may
+    /// find no memory. It costs what the network's edit costs; a label goes over its node's
+    /// neighbours only where they need not all be touched already.
     pub fn apply(&mut self, edit: &Edit) -> Result<(), EditError>
         requires { FitsNum edit.now }
         ensures ok { OnOk result (self.new ≡ after edit.now self.old) }

@@ -25,7 +25,8 @@ impl Watched {
     // Gives a node the label.
     pub(crate) fn set_label(&mut self, id: u32, bits: &BitBuf) -> Result<(), EditError>
         ensures ok { OnOk result (self.new ≡ after (Label id bits.now) self.old) }
-        ensures allowed { OnOk result (label_refusal self.old.network self.old.labels id bits.now ≡ None) }
+        ensures allowed { OnOk result
+            (label_refusal self.old.network self.old.labels id bits.now ≡ None) }
         ensures refused { IfErr result
             (λ error. SaysEdit (label_refusal self.old.network self.old.labels id bits.now) error) }
         ensures unchanged { OnErr result (self.new ≡ self.old) }

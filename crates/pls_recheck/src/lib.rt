@@ -1,12 +1,12 @@
 //! Edits of a network while it is watched with its labels, and rounds in which only the nodes that
 //! an edit touched are judged again.
 //!
-//! A [`Watched`] holds a network, its labels and the verdicts of the last rounds, and is seen as the
-//! record `Snapshot`. [`Watched::apply`] makes an [`Edit`] and touches the nodes whose view it may
-//! change; [`Watched::round`] asks a [`Judge`] once for each touched node and for no other. Where no
-//! node is touched, [`Watched::verdicts`] are those of a full round. A [`Judge`] is lent to each
-//! round: [`Counted`] judges as a checker does by asking a [`Bench`], which counts the questions. A
-//! [`Recheck`] keeps its judge, and its verdicts are those of that judge.
+//! A [`Watched`] holds a network, its labels and the verdicts of the last rounds, and is seen as
+//! the record `Snapshot`. [`Watched::apply`] makes an [`Edit`] and touches the nodes whose view it
+//! may change; [`Watched::round`] asks a [`Judge`] once for each touched node and for no other.
+//! Where no node is touched, [`Watched::verdicts`] are those of a full round. A [`Judge`] is lent
+//! to each round: [`Counted`] judges as a checker does by asking a [`Bench`], which counts the
+//! questions. A [`Recheck`] keeps its judge, and its verdicts are those of that judge.
 //!
 //! Definitions stand in `specs/`: `Watch` has the snapshot and what it means that its verdicts are
 //! current, `After` what an edit makes of it. What an edit makes of a network and its labels, which

@@ -19,8 +19,8 @@ use std::alloc::Global;
 use std::marker::Model;
 
 // What is known of a value that a judge borrows, as of the bench of a `Counted`, is lost where the
-// judge is moved in here and out again. Who has to count a bench's questions lends the judge to each
-// `Watched::round` instead.
+// judge is moved in here and out again. Who has to count a bench's questions lends the judge to
+// each `Watched::round` instead.
 /// A [`Watched`] with the judge of all its rounds, seen as the record `Rechecked`.
 #[derive(Drop)]
 pub struct Recheck<J: Judge> {
@@ -45,8 +45,8 @@ impl<J: Judge> Model for Recheck<J> {
 }
 
 impl<J: Judge + Drop> Recheck<J> {
-    /// The network with these labels, one a node, and this judge, which was not asked yet. All nodes
-    /// are touched. The one error is want of memory: all three values are dropped then.
+    /// The network with these labels, one a node, and this judge, which is not asked yet. All
+    /// nodes are touched. The one error is want of memory: all three values are dropped then.
     pub fn start(
         alloc: Global,
         net: Network,
@@ -104,8 +104,8 @@ impl<J: Judge> Recheck<J> {
         self.core.round(alloc, &mut self.judge, steps)
     }
 
-    /// The identity of each node and the judge's verdict on its view, as a full round of the network
-    /// and the labels gives them, or `None` where a node is touched. It takes no memory.
+    /// The identity of each node and the judge's verdict on its view, as a full round of the
+    /// network and the labels gives them, or `None` where a node is touched. It takes no memory.
     pub fn verdicts(&self) -> Option<&[(u32, Verdict)]>
         ensures touched { IfNone result (1 ≤ length self.now.touched) }
         ensures none { IfSome result (λ _. self.now.touched ≡ []) }

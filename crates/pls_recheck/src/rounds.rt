@@ -71,7 +71,7 @@ impl Watched {
     }
 }
 
-// Forgets where all neighbours are touched, since a round takes flags back, also one that ends early.
+// Forgets where all neighbours are touched: a round takes flags back, also one that ends early.
 fn forget_all(around: &mut Vec<bool>)
     ensures { around.new.items ≡ cleared (length around.old.items) around.old.items }
 {
