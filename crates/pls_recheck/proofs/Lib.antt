@@ -9,3 +9,4 @@ pub mod Coming
 pub mod Carried
 pub mod Carrying
 pub mod Noted
+pub mod Around

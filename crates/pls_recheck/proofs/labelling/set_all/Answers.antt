@@ -1,7 +1,7 @@
 use Rattle.std.proofs.Common.{◌∙◌, ◌<◌, ℕ, true, List, arith, get_or, length, subst}
 use Rattle.std.proofs.lemmas.List.{length-set, take_all}
 use Rattle.pls_recheck.specs.inner.Flags.{SetsAt}
-use Rattle.pls_recheck.proofs.Noted.{set_more}
+use Rattle.pls_recheck.proofs.Around.{set_more}
 use Rattle.pls_recheck.proofs.labelling.set_all.Goals as goal
 
 pub loop-p-preserved : goal.loop-p-preserved

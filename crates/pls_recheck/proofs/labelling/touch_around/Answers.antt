@@ -2,7 +2,7 @@ use Rattle.std.proofs.Common.{◌≡◌, true, ℕ, List, Some, set, slice_get, 
 use Rattle.pls_model.specs.declared.row.NodeRow.{NodeRow}
 use Rattle.pls_graph.proofs.Finds.{item_at}
 use Rattle.pls_recheck.specs.inner.Flags.{MarksMore, SetsAt, beside_itself}
-use Rattle.pls_recheck.proofs.Noted.{marks_around, note_more}
+use Rattle.pls_recheck.proofs.Around.{marks_around, note_more}
 use Rattle.pls_recheck.proofs.labelling.touch_around.Goals as goal
 
 pub returns-clause-touched : goal.returns-clause-touched

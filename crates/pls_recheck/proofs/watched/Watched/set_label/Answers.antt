@@ -11,7 +11,7 @@ use Rattle.pls_edits.specs.declared.edit.Edit.{Edit}
 use Rattle.pls_edits.specs.declared.edit.Edit.TheVariants.{Label}
 use Rattle.pls_recheck.specs.inner.Flags.{MarksMore, marked}
 use Rattle.pls_recheck.proofs.Relabelled.{IsRowOf, label_absent, label_alike, label_by, place_is, row_there}
-use Rattle.pls_recheck.proofs.Noted.{marks_linked}
+use Rattle.pls_recheck.proofs.Around.{marks_linked}
 use Rattle.pls_recheck.proofs.Steady.{SeeAlike}
 use Rattle.pls_recheck.proofs.Touching.{current_now, snapshot_after, touched_now}
 use Rattle.pls_recheck.proofs.watched.Watched.set_label.Goals as goal
