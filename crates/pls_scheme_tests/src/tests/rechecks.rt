@@ -31,7 +31,11 @@ fn joins_and_leaves<J: Judge>(
 ) -> Result<(), Fail> {
     let before = texts(alloc, recheck)?;
     assert_eq!(rt; recheck.touched(), touched);
-    recheck.apply(&Edit::Join { id: 9, mark: 0, num: 0 })?;
+    recheck.apply(&Edit::Join {
+        id: 9,
+        mark: 0,
+        num: 0,
+    })?;
     assert_eq!(rt; recheck.touched(), touched.saturating_add(1));
     assert_eq!(rt; recheck.network().len(), 3);
     assert!(rt; recheck.verdicts().is_none());
