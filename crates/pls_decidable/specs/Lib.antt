@@ -1,2 +1,3 @@
 pub mod MarkTests
+pub mod SearchTests
 pub mod laws

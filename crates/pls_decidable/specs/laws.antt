@@ -1,1 +1,5 @@
+pub mod Tested
+pub mod AllLists
+pub mod Joining
 pub mod MarkTestLaws
+pub mod SearchTestLaws
