@@ -8,4 +8,4 @@
 
 mod search_laws;
 
-pub use search_laws::{bipartite_is_tested, count_is_tested, leader_is_tested};
+pub use search_laws::{acyclic_is_tested, bipartite_is_tested, count_is_tested, leader_is_tested};

@@ -5,8 +5,9 @@ ghost use Rattle.std.specs.Prelude.{◌≡◌, ◌↔◌, IsTrue};
 ghost use Rattle.pls_facts.specs.Leader.{HasOneLeader};
 ghost use Rattle.pls_facts.specs.NodeCount.{AreCounted};
 ghost use Rattle.pls_facts.specs.Bipartite.{IsBipartite};
+ghost use Rattle.pls_facts.specs.Cycle.{IsAcyclic};
 ghost use Rattle.pls_decidable.specs.MarkTests.{count_test, leader_test};
-ghost use Rattle.pls_decidable.specs.SearchTests.{bipartite_test};
+ghost use Rattle.pls_decidable.specs.SearchTests.{acyclic_test, bipartite_test};
 
 use pls_facts::is_valid;
 use pls_graph::Network;
@@ -24,6 +25,13 @@ pub fn count_is_tested(net: &Network)
 /// The test of colourings passes exactly where the nodes can be given two colours.
 pub fn bipartite_is_tested(net: &Network)
     ensures { IsTrue (bipartite_test net.now) ↔ IsBipartite net.now }
+{
+    is_valid(net);
+}
+
+/// The test of cycles passes exactly where there is none.
+pub fn acyclic_is_tested(net: &Network)
+    ensures { IsTrue (acyclic_test net.now) ↔ IsAcyclic net.now }
 {
     is_valid(net);
 }
