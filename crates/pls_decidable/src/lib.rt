@@ -6,6 +6,8 @@
 //! connected network. A test is a definition and never runs, so it may try all there is to try.
 #![tactic(auto)]
 
+mod pointer_laws;
 mod search_laws;
 
+pub use pointer_laws::{forest_is_tested, spt_is_tested, tree_is_tested};
 pub use search_laws::{acyclic_is_tested, bipartite_is_tested, count_is_tested, leader_is_tested};
