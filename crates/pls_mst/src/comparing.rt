@@ -1,11 +1,11 @@
 //! The levels of a node and those of a neighbour, side by side.
 
-ghost use Rattle.std.specs.Prelude.{◌≡◌, ℕ, ◌==◌, nat_lt, ◌&&◌, ◌||◌};
+ghost use Rattle.std.specs.Prelude.{◌≡◌, ℕ, ◌==◌, nat_lt, ◌⊎◌, ◌&&◌, ◌||◌, IfSome, IfNone};
 ghost use Rattle.pls_facts.specs.EdgeOrder.{edge_key, is_same_edge};
 ghost use Rattle.pls_boruvka.specs.Boruvka.{chosen_edge};
 ghost use Rattle.pls_mst.specs.Rules.{chose_least, is_at_most, is_chosen_between, is_named_or_shared};
 ghost use Rattle.pls_mst.specs.inner.Comparing.{both_compared, compared, edge_between};
-ghost use Rattle.pls_mst.specs.inner.Reading.{levels_off};
+ghost use Rattle.pls_mst.specs.inner.Reading.{AreBehind, AreTooFew, levels_off};
 
 use crate::reading::read_level;
 use pls_bits::{Cursor, NumCode};
@@ -34,17 +34,20 @@ pub struct Compared {
     pub(crate) chosen: bool,
 }
 
-// What so many levels say together, the own ones and those of a neighbour, as far as there are
-// both.
+// What so many levels say together, the own ones and those of a neighbour, which the cursors move
+// past, or `None` where one is missing.
 pub(crate) fn compare_levels<C: NumCode>(
     mine: &mut Cursor<'_>,
     theirs: &mut Cursor<'_>,
     count: u64,
     between: &Between,
     own: u64,
-) -> Compared
-    ensures { result ≡ compared between.now own (levels_off C.takes count mine.old)
-        (levels_off C.takes count theirs.old) }
+) -> Option<Compared>
+    ensures found { IfSome result (λ both. both ≡ compared between.now own
+        (levels_off C.takes count mine.old) (levels_off C.takes count theirs.old)) }
+    ensures left { IfSome result (λ both. AreBehind C.takes count theirs.old theirs.new) }
+    ensures missing { IfNone result
+        (AreTooFew C.takes count mine.old ⊎ AreTooFew C.takes count theirs.old) }
 {
     let mut found = Compared {
         shares: true,
@@ -52,15 +55,11 @@ pub(crate) fn compare_levels<C: NumCode>(
         chosen: false,
     };
     for _ in 0..count {
-        let Some(here) = read_level::<C>(mine) else {
-            return found;
-        };
-        let Some(there) = read_level::<C>(theirs) else {
-            return found;
-        };
+        let here = read_level::<C>(mine)?;
+        let there = read_level::<C>(theirs)?;
         found = with_level(found, between, own, &here, &there);
     }
-    found
+    Some(found)
 }
 
 // What is known of the levels so far and of one more.

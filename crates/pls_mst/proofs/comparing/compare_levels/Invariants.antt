@@ -1,9 +1,10 @@
 use Rattle.std.proofs.Common.{◌≡◌, ◌-◌, ◌≤◌}
 use Rattle.pls_mst.specs.inner.Comparing.{both_compared, compared}
-use Rattle.pls_mst.specs.inner.Reading.{levels_off}
+use Rattle.pls_mst.specs.inner.Reading.{AreBehind, levels_off}
 use Rattle.pls_mst.proofs.comparing.compare_levels.Given as goal
 
--- what the levels so far say, and those that are left, is what all say
+-- what the levels so far say, and those that are left, is what all say; and the cursors stand
+-- behind those so far
 abbrev pub invariant-loop : goal.invariant-loop
 invariant-loop g l = record {
   within : l.counter ≤ l.count;
@@ -12,4 +13,6 @@ invariant-loop g l = record {
       ≡ both_compared l.found (compared l.between l.own
       (levels_off g.C.NumCode.takes (l.count - l.counter) l.mine)
       (levels_off g.C.NumCode.takes (l.count - l.counter) l.theirs));
+  mine_behind : AreBehind g.C.NumCode.takes l.counter l.initial.mine l.mine;
+  theirs_behind : AreBehind g.C.NumCode.takes l.counter l.initial.theirs l.theirs;
 }
