@@ -1,11 +1,11 @@
 -- Levels that are read one after another: what stands behind those that were read, and whether the
 -- bits are a label.
-use Rattle.std.proofs.Common.{◌≡◌, ◌∙◌, ℕ, suc, ◌+◌, ◌-◌, ◌<◌, ◌≤◌, Bool, true, false, List, length, Option, Some, None, option_map, is_some, refl, sym, ap, arith}
+use Rattle.std.proofs.Common.{◌≡◌, ◌∙◌, ℕ, suc, ◌+◌, ◌-◌, ◌<◌, ◌≤◌, Bool, true, false, List, length, Option, Some, None, option_map, is_some, refl, ap, arith}
 use Rattle.pls_boruvka.specs.declared.level.Level.{Level}
 use Rattle.pls_mst.specs.declared.label.MstHead.{MstHead}
 use Rattle.pls_mst.specs.declared.label.MstLabel.{MstLabel}
 use Rattle.pls_mst.specs.Labels.{head_off, label_with, level_off, levels_in, mst_label}
-use Rattle.pls_mst.specs.inner.Reading.{AreBehind, AreTooFew, head_said}
+use Rattle.pls_mst.specs.inner.Reading.{head_said}
 use Rattle.pls_mst.specs.laws.LabelLaws.{levels_in-many}
 use Rattle.pls_mst.proofs.Levels.{levels_in-next, levels_in-none}
 
@@ -14,38 +14,41 @@ module _ (takes : List Bool → Option (ℕ × List Bool)) where
   abbrev are_so_many : List Bool → ℕ → Bool
   are_so_many bits count = is_some (levels_in takes count bits)
 
+  -- the rest stands behind so many levels: it is levels where the bits are those and as many more
+  abbrev pub AreBehind : ℕ → List Bool → List Bool → Type 0
+  AreBehind count bits rest =
+      (more : ℕ) → is_some (levels_in takes (count + more) bits) ≡ is_some (levels_in takes more rest)
+
   -- behind one level more stands what is left when it is read
   pub behind_more : (count : ℕ) (bits rest : List Bool) (level : Level) (left : List Bool)
-      → AreBehind takes count bits rest → level_off takes rest ≡ Some (level, left)
-      → AreBehind takes (count + 1) bits left
+      → AreBehind count bits rest → level_off takes rest ≡ Some (level, left)
+      → AreBehind (count + 1) bits left
   behind_more count bits rest level left behind next more =
       let same : (count + 1) + more ≡ count + suc more = omega arith in
       ap (are_so_many bits) same ∙ behind (suc more)
       ∙ levels_in-next takes more rest level left next
 
-  -- where none comes behind some levels, the bits are no more of them
-  pub too_few : (read count : ℕ) (bits rest : List Bool) → AreBehind takes read bits rest
-      → read < count → level_off takes rest ≡ None → AreTooFew takes count bits
-  too_few read count bits rest behind less none more =
-      let left : ℕ = count - (read + 1) in
-      let same : count + more ≡ read + suc (left + more) = omega (arith, less) in
-      ap (are_so_many bits) same ∙ behind (suc (left + more))
-      ∙ levels_in-none takes (left + more) rest none
+  module _ (read count : ℕ) (bits rest : List Bool) (behind : AreBehind read bits rest) where
+    -- bits are levels where what stands behind some of them are the others
+    pub behind_all : read ≤ count
+        → is_some (levels_in takes count bits) ≡ is_some (levels_in takes (count - read) rest)
+    behind_all within =
+        let same : count ≡ read + (count - read) = omega (arith, within) in
+        ap (are_so_many bits) same ∙ behind (count - read)
 
-  -- bits that are so many levels are not too few for them
-  pub never_too_few : (count : ℕ) (bits : List Bool) (levels : List Level)
-      → levels_in takes (length levels) bits ≡ Some levels → count ≤ length levels
-      → AreTooFew takes count bits → ⊥
-  never_too_few count bits levels read within few =
-      let same : count + (length levels - count) ≡ length levels = omega (arith, within) in
-      let no : false ≡ true = sym (few (length levels - count)) ∙ ap (are_so_many bits) same
-      ∙ ap is_some read in
-      absurd (cc)
+    -- where none comes behind some levels, the bits are no more of them
+    pub none_behind : read < count → level_off takes rest ≡ None
+        → is_some (levels_in takes count bits) ≡ false
+    none_behind less none =
+        let left : ℕ = count - (read + 1) in
+        let same : count - read ≡ suc left = omega (arith, less) in
+        behind_all (omega (arith, less)) ∙ ap (are_so_many rest) same
+        ∙ levels_in-none takes left rest none
 
   module _ (bits : List Bool) (head : MstHead) (rest : List Bool)
       (is : head_off takes bits ≡ Some (head, rest)) where
     -- where what is behind the front are not the levels that it states, there is no label
-    no_label : are_so_many rest head.count ≡ false → mst_label takes bits ≡ None
+    pub no_label : is_some (levels_in takes head.count rest) ≡ false → mst_label takes bits ≡ None
     no_label none = rw is (by (levels_in takes head.count rest) none)
       where
         by : (levels : Option (List Level)) → is_some levels ≡ false
@@ -53,8 +56,8 @@ module _ (takes : List Bool → Option (ℕ × List Bool)) where
         by None none = refl
         by (Some levels) none = absurd (cc)
 
-    -- where it are, there is one
-    a_label : are_so_many rest head.count ≡ true
+    -- where they are, there is one
+    pub a_label : is_some (levels_in takes head.count rest) ≡ true
         → (label : MstLabel) × (mst_label takes bits ≡ Some label) × (head_said label ≡ head)
         × (levels_in takes (length label.levels) rest ≡ Some label.levels)
     a_label there = by (levels_in takes head.count rest) refl there
@@ -78,27 +81,3 @@ module _ (takes : List Bool → Option (ℕ × List Bool)) where
               } in said) many,
               ap (λ (count : ℕ). levels_in takes count rest) many ∙ read,
             )
-
-    module _ (count : ℕ) (within : count ≤ head.count) where
-      all : count + (head.count - count) ≡ head.count
-      all = omega (arith, within)
-
-      -- too few levels are no label
-      pub no_label-few : AreTooFew takes count rest → mst_label takes bits ≡ None
-      no_label-few few =
-          no_label (ap (are_so_many rest) (sym all) ∙ few (head.count - count))
-
-      module _ (left : List Bool) (behind : AreBehind takes count rest left) where
-        at_end : are_so_many rest head.count ≡ are_so_many left (head.count - count)
-        at_end = ap (are_so_many rest) (sym all) ∙ behind (head.count - count)
-
-        -- nor are those behind which the others are missing, or more is left
-        pub no_label-left : are_so_many left (head.count - count) ≡ false
-            → mst_label takes bits ≡ None
-        no_label-left none = no_label (at_end ∙ none)
-
-        -- but those are behind which the others stand
-        pub a_label-left : are_so_many left (head.count - count) ≡ true
-            → (label : MstLabel) × (mst_label takes bits ≡ Some label) × (head_said label ≡ head)
-            × (levels_in takes (length label.levels) rest ≡ Some label.levels)
-        a_label-left there = a_label (at_end ∙ there)

@@ -12,7 +12,7 @@ ghost use Rattle.pls_mst.specs.inner.Reading.{head_said};
 
 use crate::comparing::{Between, Compared, compare_levels};
 use crate::label::MstHead;
-use crate::reading::{are_levels, levels_of, names_all, read_head};
+use crate::reading::{levels_of, names_all, read_head};
 use pls_bits::{Bits, NumCode};
 use pls_model::State;
 use pls_scheme::is_one_more;
@@ -120,14 +120,16 @@ pub(crate) fn with_port<C: NumCode>(
     let head = read_head::<C>(&mut theirs)?;
     let pointer = is_pointer(up, place);
     let between = edge_to(pointer, weight, &before.own, &head);
-    let count = before.own.count.min(head.count);
     let mut mine = levels_of::<C>(own);
-    let both = compare_levels::<C>(&mut mine, &mut theirs, count, &between, before.own.own)?;
-    if are_levels::<C>(&mut theirs, head.count - count) {
-        Some(before.with(pointer, &head, both))
-    } else {
-        None
-    }
+    let both = compare_levels::<C>(
+        &mut mine,
+        &mut theirs,
+        before.own.count,
+        head.count,
+        &between,
+        before.own.own,
+    )?;
+    Some(before.with(pointer, &head, both))
 }
 
 // The edge between a node and a neighbour, which it points at or not.

@@ -1,10 +1,10 @@
 -- Levels that are read off of bits, one behind the other.
-use Rattle.std.specs.Prelude.{◌≡◌, ℕ, zero, suc, ◌+◌, Bool, false, List, [], ◌∷◌, length, Option}
-use Rattle.std.specs.Option.{is_some, option_map_or}
+use Rattle.std.specs.Prelude.{ℕ, zero, suc, Bool, List, [], ◌∷◌, length, Option}
+use Rattle.std.specs.Option.{option_map_or}
 use Rattle.pls_boruvka.specs.declared.level.Level.{Level}
 use Rattle.pls_mst.specs.declared.label.MstHead.{MstHead}
 use Rattle.pls_mst.specs.declared.label.MstLabel.{MstLabel}
-use Rattle.pls_mst.specs.Labels.{level_off, levels_in}
+use Rattle.pls_mst.specs.Labels.{level_off}
 
 -- what stands in a label in front of its levels
 abbrev pub head_said : MstLabel → MstHead
@@ -21,12 +21,3 @@ abbrev pub levels_off : (List Bool → Option (ℕ × List Bool)) → ℕ → Li
 levels_off takes zero bits = []
 levels_off takes (suc count) bits = option_map_or (λ (first : Level × List Bool).
     first.0 ∷ levels_off takes count first.1) (level_off takes bits) []
-
--- the rest stands behind so many levels: it is levels where the bits are those and as many more
-abbrev pub AreBehind : (List Bool → Option (ℕ × List Bool)) → ℕ → List Bool → List Bool → Type 0
-AreBehind takes count bits rest =
-    (more : ℕ) → is_some (levels_in takes (count + more) bits) ≡ is_some (levels_in takes more rest)
-
--- the bits are fewer levels than this, or none
-abbrev pub AreTooFew : (List Bool → Option (ℕ × List Bool)) → ℕ → List Bool → Type 0
-AreTooFew takes count bits = (more : ℕ) → is_some (levels_in takes (count + more) bits) ≡ false
