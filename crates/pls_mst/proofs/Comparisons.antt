@@ -1,5 +1,9 @@
 -- What the levels of two neighbours say together, level by level.
-use Rattle.std.proofs.Common.{◌≡◌, ◌∙◌, ℕ, suc, Bool, true, false, ◌&&◌, ◌||◌, List, [], ◌∷◌, Option, Some, None, refl, sym, ap}
+use Rattle.std.proofs.Common.{◌≡◌, ◌∙◌, ℕ, suc, ◌==◌, Bool, true, false, ◌&&◌, ◌||◌, List, [], ◌∷◌, Option, Some, refl, sym, ap}
+use Rattle.std.proofs.Math.Bool.{or-true}
+use Rattle.std.proofs.lemmas.Bool.{eq-eqb}
+use Rattle.pls_facts.proofs.EdgeKeys.{is_same_edge-itself}
+use Rattle.pls_boruvka.specs.Boruvka.{chosen_edge}
 use Rattle.pls_boruvka.specs.declared.level.Level.{Level}
 use Rattle.pls_mst.specs.declared.comparing.Between.{Between}
 use Rattle.pls_mst.specs.declared.comparing.Compared.{Compared}
@@ -41,11 +45,11 @@ all_said : (found : Compared) → found ≡ both_compared found (three true true
 all_said found = same_Compared found (both_compared found (three true true false))
     (and_true found.shares) (and_true found.least) (or_false found.chosen)
 
-module _ (between : Between) (own : ℕ) where
-  compared-none : (mine : List Level) → compared between own mine [] ≡ three true true false
-  compared-none [] = refl
-  compared-none (level ∷ mine) = refl
+-- a number is itself
+one_number : (number : ℕ) → (number == number) ≡ true
+one_number number = eq-eqb number number refl
 
+module _ (between : Between) (own : ℕ) where
   -- one level more
   compared-more : (found with_it : Compared) (here there : Level) (mine theirs : List Level)
       → with_it.shares ≡ (found.shares && is_named_or_shared own here there)
@@ -65,6 +69,15 @@ module _ (between : Between) (own : ℕ) where
       (or_assoc found.chosen (is_chosen_between (edge_between between) here there) rest.chosen
       ∙ ap (λ (b : Bool). b || rest.chosen) (sym chosen))
 
+  -- levels that are the same say no more: each fragment is that of both
+  compared-same : (levels : List Level) → compared between own levels levels ≡ three true true false
+  compared-same [] = refl
+  compared-same (level ∷ levels) =
+      compared-more (three true true false) (three true true false) level level levels levels
+      (sym (rw (one_number level.fragment) (or-true (level.fragment == own))))
+      (sym (rw (one_number level.fragment) (is_same_edge-itself (chosen_edge level))))
+      (sym (rw (one_number level.fragment) refl)) ∙ compared-same levels
+
   -- what those that are left say
   abbrev pub left_say : (List Bool → Option (ℕ × List Bool)) → ℕ → List Bool → List Bool → Compared
   left_say takes count mine theirs =
@@ -72,16 +85,11 @@ module _ (between : Between) (own : ℕ) where
 
   module _ (takes : List Bool → Option (ℕ × List Bool)) (found : Compared) (left : ℕ)
       (mine theirs : List Bool) where
-    -- the node has no level more
-    pub none_here : level_off takes mine ≡ None
-        → found ≡ both_compared found (left_say takes (suc left) mine theirs)
-    none_here none = rw none (all_said found)
-
-    -- the neighbour has none
-    pub none_there : level_off takes theirs ≡ None
-        → found ≡ both_compared found (left_say takes (suc left) mine theirs)
-    none_there none = rw none (all_said found
-        ∙ ap (both_compared found) (sym (compared-none (levels_off takes (suc left) mine))))
+    -- where what is left is the same, all was said
+    pub same_left : mine ≡ theirs → found ≡ both_compared found (left_say takes left mine theirs)
+    same_left same = all_said found
+        ∙ ap (both_compared found) (sym (compared-same (levels_off takes left mine)))
+        ∙ ap (λ (theirs : List Bool). both_compared found (left_say takes left mine theirs)) same
 
     -- both have one
     pub both_there : (with_it : Compared) (here there : Level) (mine_left theirs_left : List Bool)

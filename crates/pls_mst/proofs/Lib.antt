@@ -1,4 +1,5 @@
 pub mod Levels
+pub mod Behind
 pub mod Comparisons
 pub mod MorePorts
 pub mod Written

@@ -1,13 +1,15 @@
 //! The levels of a node and those of a neighbour, side by side.
 
-ghost use Rattle.std.specs.Prelude.{◌≡◌, ℕ, ◌==◌, nat_lt, ◌&&◌, ◌||◌};
+ghost use Rattle.std.specs.Prelude.{◌≡◌, ℕ, ◌==◌, nat_lt, min, true, ◌&&◌, ◌||◌, IfSome};
+ghost use Rattle.std.specs.Option.{is_some};
 ghost use Rattle.pls_facts.specs.EdgeOrder.{edge_key, is_same_edge};
 ghost use Rattle.pls_boruvka.specs.Boruvka.{chosen_edge};
+ghost use Rattle.pls_mst.specs.Labels.{levels_in};
 ghost use Rattle.pls_mst.specs.Rules.{chose_least, is_at_most, is_chosen_between, is_named_or_shared};
 ghost use Rattle.pls_mst.specs.inner.Comparing.{both_compared, compared, edge_between};
 ghost use Rattle.pls_mst.specs.inner.Reading.{levels_off};
 
-use crate::reading::read_level;
+use crate::reading::{are_levels, read_level};
 use pls_bits::{Cursor, NumCode};
 use pls_boruvka::Level;
 
@@ -34,33 +36,45 @@ pub struct Compared {
     pub(crate) chosen: bool,
 }
 
-// What so many levels say together, the own ones and those of a neighbour, as far as there are
-// both.
+// What the levels of a node and of a neighbour say together, as far as there are both, or `None`
+// where the bits of the neighbour are not so many levels and nothing more. Behind the first fragment
+// that both are in, right labels are the same: there the rests are compared as bits, once.
 pub(crate) fn compare_levels<C: NumCode>(
     mine: &mut Cursor<'_>,
     theirs: &mut Cursor<'_>,
+    own_count: u64,
     count: u64,
     between: &Between,
     own: u64,
-) -> Compared
-    ensures { result ≡ compared between.now own (levels_off C.takes count mine.old)
-        (levels_off C.takes count theirs.old) }
+) -> Option<Compared>
+    ensures found { IfSome result (λ both. both ≡ compared between.now own
+        (levels_off C.takes (min own_count count) mine.old)
+        (levels_off C.takes (min own_count count) theirs.old)) }
+    ensures valid { is_some (levels_in C.takes own_count mine.old) ≡ true
+        → is_some result ≡ is_some (levels_in C.takes count theirs.old) }
 {
+    let shared = own_count.min(count);
     let mut found = Compared {
         shares: true,
         least: true,
         chosen: false,
     };
-    for _ in 0..count {
-        let Some(here) = read_level::<C>(mine) else {
-            return found;
-        };
-        let Some(there) = read_level::<C>(theirs) else {
-            return found;
-        };
+    let mut apart = own_count == count;
+    for _ in 0..shared {
+        let here = read_level::<C>(mine)?;
+        let there = read_level::<C>(theirs)?;
         found = with_level(found, between, own, &here, &there);
+        let meet = apart && here.fragment == there.fragment;
+        if meet && mine.rest().equal(theirs.rest()) {
+            return Some(found);
+        }
+        apart = apart && !meet;
     }
-    found
+    if are_levels::<C>(theirs, count - shared) {
+        Some(found)
+    } else {
+        None
+    }
 }
 
 // What is known of the levels so far and of one more.

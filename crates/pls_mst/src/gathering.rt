@@ -1,6 +1,6 @@
 //! What a node gathers of its ports, one after another.
 
-ghost use Rattle.std.specs.Prelude.{◌≡◌, ℕ, ◌==◌, ◌+◌, ◌++◌, List, [], ◌∷◌, ◌&&◌, Some, length, if◌then◌else◌};
+ghost use Rattle.std.specs.Prelude.{◌≡◌, ℕ, ◌==◌, ◌+◌, ◌++◌, List, [], ◌∷◌, ◌&&◌, Some, length, option_map, if◌then◌else◌};
 ghost use Rattle.std.specs.List.{list_all};
 ghost use Rattle.pls_model.specs.declared.row.State.{State};
 ghost use Rattle.pls_scheme.specs.Reading.{ReadPort, port_with, reading};
@@ -12,7 +12,7 @@ ghost use Rattle.pls_mst.specs.inner.Reading.{head_said};
 
 use crate::comparing::{Between, Compared, compare_levels};
 use crate::label::MstHead;
-use crate::reading::{levels_of, names_all};
+use crate::reading::{levels_of, names_all, read_head};
 use pls_bits::{Bits, NumCode};
 use pls_model::State;
 use pls_scheme::is_one_more;
@@ -99,29 +99,37 @@ impl Gathered {
     }
 }
 
-// What is gathered with one more port, the one at this place, whose neighbour has this label.
+// What is gathered with one more port, the one at this place, whose neighbour has these bits, or
+// `None` where they are no label. They are read once, and the own levels beside theirs.
 pub(crate) fn with_port<C: NumCode>(
     up: Option<u32>,
     own: &Bits<'_>,
     before: Gathered,
     place: usize,
     weight: u32,
-    label: &Bits<'_>,
-    head: &MstHead,
-) -> Gathered
-    ensures { (id : ℕ) (state : State) (mine theirs : MstLabel) (ports : List (ReadPort MstLabel))
+    bits: &Bits<'_>,
+) -> Option<Gathered>
+    ensures { (id : ℕ) (state : State) (mine : MstLabel) (ports : List (ReadPort MstLabel))
         → state.up ≡ up → length ports ≡ place → mst_label C.takes own.now ≡ Some mine
-        → mst_label C.takes label.now ≡ Some theirs → head_said theirs ≡ head.now
         → before ≡ gathered (reading id state mine ports)
-        → result ≡ gathered (reading id state mine (ports ++ port_with weight theirs ∷ [])) }
+        → result ≡ option_map (λ theirs. gathered
+        (reading id state mine (ports ++ port_with weight theirs ∷ [])))
+        (mst_label C.takes bits.now) }
 {
+    let mut theirs = bits.cursor();
+    let head = read_head::<C>(&mut theirs)?;
     let pointer = is_pointer(up, place);
-    let between = edge_to(pointer, weight, &before.own, head);
-    let count = before.own.count.min(head.count);
+    let between = edge_to(pointer, weight, &before.own, &head);
     let mut mine = levels_of::<C>(own);
-    let mut theirs = levels_of::<C>(label);
-    let both = compare_levels::<C>(&mut mine, &mut theirs, count, &between, before.own.own);
-    before.with(pointer, head, both)
+    let both = compare_levels::<C>(
+        &mut mine,
+        &mut theirs,
+        before.own.count,
+        head.count,
+        &between,
+        before.own.own,
+    )?;
+    Some(before.with(pointer, &head, both))
 }
 
 // The edge between a node and a neighbour, which it points at or not.

@@ -53,16 +53,14 @@ impl<C: NumCode> JudgesInPlace for MstRules<C> {
         place: usize,
         port: &PortView<'_>,
     ) -> Option<Gathered> {
-        let head = head_in::<C>(&port.label)?;
-        Some(with_port::<C>(
+        with_port::<C>(
             view.state.up,
             &view.own,
             tally,
             place,
             port.weight,
             &port.label,
-            &head,
-        ))
+        )
     }
 
     fn close(&self, view: &View<'_>, tally: Gathered) -> Verdict {

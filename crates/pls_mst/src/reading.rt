@@ -81,7 +81,7 @@ pub(crate) fn read_level<C: NumCode>(cursor: &mut Cursor<'_>) -> Option<Level>
 }
 
 // Whether what is left is so many levels, and nothing more. It stops at the first that is missing.
-fn are_levels<C: NumCode>(cursor: &mut Cursor<'_>, count: u64) -> bool
+pub(crate) fn are_levels<C: NumCode>(cursor: &mut Cursor<'_>, count: u64) -> bool
     ensures { result ≡ is_some (levels_in C.takes count cursor.old) }
 {
     for _ in 0..count {
