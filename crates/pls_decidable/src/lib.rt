@@ -8,4 +8,6 @@
 
 mod search_laws;
 
-pub use search_laws::{acyclic_is_tested, bipartite_is_tested, count_is_tested, leader_is_tested};
+pub use search_laws::{
+    acyclic_is_tested, bipartite_is_tested, count_is_tested, leader_is_tested, mst_is_tested,
+};
