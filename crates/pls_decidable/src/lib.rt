@@ -1,9 +1,11 @@
-//! The properties of `pls_facts` as functions from rows to a truth value, for judgements that are
+//! Properties of `pls_facts` as functions from rows to a truth value, for judgements that are
 //! computed.
 //!
-//! Each test stands in `specs/`, in the words of its property; the laws in `specs/laws/`, and a
-//! function for each of them, say that it gives true exactly where the property holds of a
-//! connected network. A test is a definition and never runs, so it may try all there is to try.
+//! Each test stands in `specs/`, in the words of its property: `MarkTests` has those of marks and
+//! numbers (`leader_test`, `count_test`), `SearchTests` those that try all lists of a kind
+//! (`bipartite_test`, `acyclic_test`, `mst_test`). The laws in `specs/laws/`, and a function for
+//! each of them, say that a test gives true exactly where its property holds of a network. A test
+//! is a definition and never runs, so it may try all there is to try.
 #![tactic(auto)]
 
 mod search_laws;
