@@ -1,3 +1,4 @@
 pub mod MarkTests
+pub mod PointerTests
 pub mod SearchTests
 pub mod laws

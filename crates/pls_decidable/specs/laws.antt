@@ -2,4 +2,5 @@ pub mod Tested
 pub mod AllLists
 pub mod Joining
 pub mod MarkTestLaws
+pub mod PointerTestLaws
 pub mod SearchTestLaws
