@@ -1,7 +1,7 @@
 //! An expression of schemes as a scheme.
 
-ghost use Rattle.std.specs.Prelude.{◌≡◌};
-ghost use Rattle.pls_combine.specs.Expression.{IsSmall};
+ghost use Rattle.std.specs.Prelude.{◌≡◌, ◌≤◌};
+ghost use Rattle.pls_combine.specs.Expression.{IsSmall, leaves_of};
 ghost use Rattle.pls_combine.specs.inner.Trees.{expression_of};
 
 use crate::scheme_tree::{
@@ -14,14 +14,13 @@ use pls_model::Verdict;
 use pls_scheme::{Checker, Property, Scheme};
 use pls_view::{LabelStore, View};
 use std::alloc::Global;
-use std::marker::{Model, PhantomData};
+use std::marker::Model;
 
-/// An expression of at most 8 basic schemes and a depth of at most 8, whose labels are written in
+/// An expression of at most 8 names and a depth of at most 8, whose labels are written in
 /// the number code `C`, seen as the expression. It is made by [`read_scheme`](crate::read_scheme).
 #[derive(Drop)]
 pub struct AnyScheme<C> {
-    tree: SchemeTree,
-    code: PhantomData<C>,
+    tree: SchemeTree<C>,
 }
 
 impl<C> Model for AnyScheme<C> {
@@ -40,20 +39,19 @@ impl<C> Model for AnyScheme<C> {
 
 impl<C> AnyScheme<C> {
     // The expression as a scheme. It takes no memory.
-    pub(crate) fn of_tree(tree: SchemeTree) -> Self
+    pub(crate) fn of_tree(tree: SchemeTree<C>) -> Self
         requires { IsSmall (expression_of tree) }
         ensures { result ≡ expression_of tree }
     {
-        AnyScheme {
-            tree,
-            code: PhantomData,
-        }
+        AnyScheme { tree }
     }
 
     // The expression.
-    pub(crate) fn tree(&self) -> &SchemeTree
+    #[tactic(auto, using(crate::proofs::Leaves::leaves_few))]
+    pub(crate) fn tree(&self) -> &SchemeTree<C>
         ensures same { expression_of result.now ≡ self.now }
         ensures small { IsSmall self.now }
+        ensures leaves { leaves_of self.now ≤ 8 }
     {
         &self.tree
     }

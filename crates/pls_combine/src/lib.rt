@@ -21,6 +21,7 @@
 mod any_scheme;
 mod both;
 mod both_scheme;
+mod expression_fronts;
 mod fronts;
 mod joined;
 mod laws;
@@ -29,6 +30,8 @@ mod one_of;
 mod one_of_scheme;
 mod part_rules;
 mod parts;
+mod property_fronts;
+mod property_text;
 mod scheme_error;
 mod scheme_name;
 mod scheme_text;

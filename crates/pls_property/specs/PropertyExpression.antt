@@ -1,5 +1,6 @@
 -- Expressions of properties: the property, its test, and how large an expression is.
-use Rattle.std.specs.Prelude.{ℕ, ◌+◌, ◌⊎◌, ◌&&◌, ◌||◌, max, Bool, List}
+use Rattle.std.specs.Prelude.{ℕ, ◌+◌, ◌<◌, ◌⊎◌, ◌&&◌, ◌||◌, ⊤, max, Bool, List}
+use Rattle.pls_model.specs.declared.limits.TheConstants.{MAX_NODES}
 use Rattle.pls_model.specs.declared.row.NodeRow.{NodeRow}
 use Rattle.pls_facts.specs.Bipartite.{IsBipartite}
 use Rattle.pls_facts.specs.Cycle.{IsAcyclic}
@@ -90,3 +91,18 @@ depth_of (Diameter most) = 1
 depth_of Bridgeless = 1
 depth_of (And first second) = 1 + max (depth_of first) (depth_of second)
 depth_of (Or first second) = 1 + max (depth_of first) (depth_of second)
+
+-- it can be written: each diameter in it is that of some network, of fewer edges than nodes
+abbrev pub IsWritable : PropertyExpression → Type 0
+IsWritable Leader = ⊤
+IsWritable Tree = ⊤
+IsWritable Forest = ⊤
+IsWritable ShortestPathTree = ⊤
+IsWritable Bipartite = ⊤
+IsWritable Acyclic = ⊤
+IsWritable Count = ⊤
+IsWritable MinimumSpanningTree = ⊤
+IsWritable (Diameter most) = most < MAX_NODES
+IsWritable Bridgeless = ⊤
+IsWritable (And first second) = IsWritable first × IsWritable second
+IsWritable (Or first second) = IsWritable first × IsWritable second

@@ -1,4 +1,4 @@
-use Rattle.pls_combine.proofs.fronts.+tree_front.Given as goal
+use Rattle.pls_combine.proofs.expression_fronts.+tree_front.Given as goal
 
 -- each call has one level less below it
 abbrev pub decreases-tree_front : goal.decreases-tree_front
