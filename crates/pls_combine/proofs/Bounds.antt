@@ -128,7 +128,7 @@ module _ (rows : List NodeRow) (net : IsNetwork rows) (words : AreWords (size_of
 
   num_small : (size_of rows).max_num ≤ MAX_NUM
   num_small = greatest_within (λ (row : NodeRow). row.state.num) rows MAX_NUM
-      (λ row in'. All-contains (λ (row : NodeRow). row.state.num ≤ MAX_NUM) row rows net.limits.small in')
+      (λ row in'. All-contains (λ (row : NodeRow). row.state.num ≤ MAX_NUM) rows row net.limits.small in')
 
   nums : code_length gamma_code (size_of rows).max_num ≤ 125
   nums = code_of (size_of rows).max_num num_small

@@ -18,7 +18,6 @@ pub fn is_small<C>(scheme: &AnyScheme<C>)
 }
 
 /// Expressions with one text are one.
-#[tactic(auto, using(crate::specs::laws::TextLaws::one_expression))]
 pub fn one_text<C>(one: &AnyScheme<C>, other: &AnyScheme<C>)
     ensures { expression_text one.now ≡ expression_text other.now → one.now ≡ other.now }
 {

@@ -84,6 +84,7 @@ fn joined(
 }
 
 // The property at the front of a text that has a name of its own, and what follows it.
+#[tactic(auto, unfolding(crate::specs::inner::PropertyFronts::named_front))]
 fn named_front(text: &[u8]) -> Option<(AnyProperty, &[u8])>
     ensures value { option_map seen_property result ≡ named_front text.now }
     ensures one { IfSome result (λ found. names_of (property_of found.0) ≡ 1) }

@@ -57,7 +57,7 @@ diameter_front text =
     option_map (λ most. followed (Diameter most.item) most.rest) (edges_front text)
 
 -- a property by its name
-abbrev pub named_front : List ℕ → Option (Front PropertyExpression)
+unfoldable pub named_front : List ℕ → Option (Front PropertyExpression)
 named_front text =
     option_or (option_map (λ name. followed (named name.item) name.rest) (name_front text))
     (option_or (worded Bridgeless (codes "bridgeless") text) (diameter_front text))

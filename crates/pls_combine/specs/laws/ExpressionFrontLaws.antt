@@ -175,8 +175,8 @@ front_is (suc below) text found is =
     (option_and_then (pair_front joined (expression_front below)) (join_front text))) found is) [
       | inl here ↦ basic_is (suc below) text found here
       | inr later ↦ elim (either_found (map_front below text)
-      (option_and_then (pair_front joined (expression_front below)) (join_front text)) found later) [
-        | inl here ↦ map_is below text found here
-        | inr here ↦ both_is below text found (front_is below) here
-      ]
+          (option_and_then (pair_front joined (expression_front below)) (join_front text)) found later) [
+            | inl here ↦ map_is below text found here
+            | inr here ↦ both_is below text found (front_is below) here
+          ]
     ]

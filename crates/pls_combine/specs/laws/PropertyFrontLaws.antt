@@ -48,6 +48,7 @@ named_read (suc below) text property rest is = rw is refl
 
 -- two in front are no name
 opening_unnamed : (join : Join) (rest : List ℕ) → named_front (opening_of join ++ rest) ≡ None
+unfolding named_front
 opening_unnamed Both rest = refl
 opening_unnamed Either rest = refl
 
@@ -71,6 +72,7 @@ both_read below join first second rest one two =
 pub property_read : (below : ℕ) (property : PropertyExpression) → depth_of property ≤ below + 1
     → IsWritable property → (rest : List ℕ) → digits_ahead rest ≡ 0
     → property_front below (property_text property ++ rest) ≡ Some (followed property rest)
+unfolding named_front
 property_read below Leader shallow writable rest none = named_read below _ Leader rest refl
 property_read below Tree shallow writable rest none = named_read below _ Tree rest refl
 property_read below Forest shallow writable rest none = named_read below _ Forest rest refl
@@ -183,15 +185,16 @@ diameter_is below text found is =
 
 named_is : (below : ℕ) (text : List ℕ) (found : Front PropertyExpression)
     → named_front text ≡ Some found → IsPropertyInFront below text found
+unfolding named_front
 named_is below text found is =
     elim (either_found (option_map (λ name. followed (named name.item) name.rest) (name_front text))
     (option_or (worded Bridgeless (codes "bridgeless") text) (diameter_front text)) found is) [
       | inl here ↦ basic_is below text found here
       | inr later ↦ elim (either_found (worded Bridgeless (codes "bridgeless") text)
-      (diameter_front text) found later) [
-        | inl here ↦ bridgeless_is below text found here
-        | inr here ↦ diameter_is below text found here
-      ]
+          (diameter_front text) found later) [
+            | inl here ↦ bridgeless_is below text found here
+            | inr here ↦ diameter_is below text found here
+          ]
     ]
 
 both_is : (below : ℕ) (text : List ℕ) (found : Front PropertyExpression)
