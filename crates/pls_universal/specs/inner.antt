@@ -2,3 +2,4 @@ pub mod Reading
 pub mod Writing
 pub mod Stating
 pub mod Verifying
+pub mod Deciding

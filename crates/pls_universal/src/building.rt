@@ -1,6 +1,6 @@
 //! The network that a map states.
 
-ghost use Rattle.std.specs.Prelude.{◌≡◌, ◌≤◌, ◌&&◌, ℕ, nat_le, true, false, map, if◌then◌else◌, Some, None, IfOk};
+ghost use Rattle.std.specs.Prelude.{◌≡◌, ◌≤◌, nat_le, true, map, if◌then◌else◌, Some, None, IfOk};
 ghost use Rattle.std.specs.List.{list_all};
 ghost use Rattle.pls_model.specs.declared.limits.TheConstants.{MAX_PORTS};
 ghost use Rattle.pls_universal.specs.Rules.{is_joined, is_port_small, is_small, is_within_limits, node_of, nodes_of, port_of, up_of};

@@ -1,5 +1,6 @@
 //! The universal scheme (Korman, Kutten and Peleg 2010): each label holds its node's identity and a
 //! map of the whole network. [`MapOf`] is the scheme of any property that a test tells ([`Tested`]).
+//! Its round reads and decides each map once, for all nodes that have it.
 //!
 //! [`write_map`] writes the map of a network, and [`read_map`] reads the one map that bits are, to
 //! their last bit; `specs/Map` says what is written (`numbers_of_map`, `IsMap`, `map_of`). A map may
@@ -18,9 +19,11 @@
 
 mod bound;
 mod building;
+mod deciding;
 mod layout;
 mod map;
 mod map_of;
+mod map_order;
 mod marking;
 mod reading;
 mod stating;

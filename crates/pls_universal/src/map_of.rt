@@ -3,6 +3,7 @@
 ghost use Rattle.std.specs.Prelude.{◌≡◌};
 
 use crate::bound::{map_bound, maps_are_short};
+use crate::deciding::{DecidedMaps, verdict_at};
 use crate::layout::MapLayout;
 use crate::map::MapLabel;
 use crate::marking::map_labels;
@@ -79,6 +80,32 @@ impl<P: Tested, C: NumCode> Checker for MapOf<P, C> {
         let stated = stated_by(alloc, &self.property, label.rows.as_slice())?;
         let verdict = verdict_on::<C>(alloc, &stated, view)?;
         Ok(verdict)
+    }
+
+    fn round(
+        &self,
+        alloc: Global,
+        net: &Network,
+        labels: &LabelStore,
+        steps: &mut Steps,
+    ) -> Result<Vec<Verdict>, NoMemory> {
+        is_valid(net);
+        let mut decided = DecidedMaps::new(alloc);
+        let mut verdicts = Vec::with_capacity(alloc, net.len())?;
+        for i in 0..net.len() {
+            let view = View::of(alloc, net, labels, i)?;
+            steps.tick();
+            let verdict = verdict_at::<P, C>(
+                alloc,
+                &self.property,
+                labels,
+                &mut decided,
+                i,
+                &view,
+            )?;
+            verdicts.push(verdict)?;
+        }
+        Ok(verdicts)
     }
 
     ghost leaf_law = { λ s. judge_by-leaf (map_label C.takes) (map_rules (P.test s.property)) };

@@ -1,6 +1,6 @@
 //! What is found out of a map, once for all nodes that have it.
 
-ghost use Rattle.std.specs.Prelude.{◌≡◌, IfOk};
+ghost use Rattle.std.specs.Prelude.{IfOk};
 ghost use Rattle.pls_universal.specs.inner.Stating.{IsStated};
 
 use crate::building::network_of;

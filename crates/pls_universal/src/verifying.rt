@@ -1,6 +1,6 @@
 //! The verdict of a node on its view, where its map was read before.
 
-ghost use Rattle.std.specs.Prelude.{◌≡◌, ◌==◌, ◌&&◌, ℕ, Bool, List, Some, None, IfOk};
+ghost use Rattle.std.specs.Prelude.{◌≡◌, Bool, List, Some, IfOk};
 ghost use Rattle.pls_model.specs.declared.row.NodeRow.{NodeRow};
 ghost use Rattle.pls_scheme.specs.Reading.{judge_by};
 ghost use Rattle.pls_universal.specs.declared.map.MapLabel.{MapLabel};
