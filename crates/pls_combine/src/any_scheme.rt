@@ -4,6 +4,7 @@ ghost use Rattle.std.specs.Prelude.{◌≡◌, ◌≤◌};
 ghost use Rattle.pls_combine.specs.Expression.{IsSmall, leaves_of};
 ghost use Rattle.pls_combine.specs.inner.Trees.{expression_of};
 
+use crate::rounds::node_by_node;
 use crate::scheme_tree::{
     SchemeTree, bound_of, decide_tree, leaves_of, lends_of, mark_tree, verify_tree,
 };
@@ -88,6 +89,19 @@ impl<C: NumCode> Checker for AnyScheme<C> {
     ) -> Result<Verdict, NoMemory> {
         steps.tick();
         verify_tree::<C>(alloc, self.tree(), view)
+    }
+
+    fn round(
+        &self,
+        alloc: Global,
+        net: &Network,
+        labels: &LabelStore,
+        steps: &mut Steps,
+    ) -> Result<Vec<Verdict>, NoMemory> {
+        match self.tree() {
+            SchemeTree::Map(universal) => universal.round(alloc, net, labels, steps),
+            tree => node_by_node::<C>(alloc, tree, net, labels, steps),
+        }
     }
 
     ghost leaf_law = { λ s. expression_leaf C.takes s };

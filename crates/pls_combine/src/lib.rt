@@ -32,6 +32,7 @@ mod part_rules;
 mod parts;
 mod property_fronts;
 mod property_text;
+mod rounds;
 mod scheme_error;
 mod scheme_name;
 mod scheme_text;
