@@ -1,5 +1,5 @@
 -- How many leaves an expression has, and which of them a verdict names.
-use Rattle.std.proofs.Common.{ℕ, ◌≤◌, arith}
+use Rattle.std.proofs.Common.{◌≤◌, arith}
 use Rattle.pls_property.specs.PropertyExpression.{PropertyExpression, names_of as property_names}
 use Rattle.pls_property.specs.PropertyExpression as property
 use Rattle.pls_combine.specs.Expression.{Expression, And, Basic, Map, Or, leaves_of, names_of}

@@ -1,6 +1,6 @@
 -- What stands at the front of a text: an expression of schemes is read where its text stands, and
 -- nowhere else.
-use Rattle.std.proofs.Common.{◌≡◌, ◌∙◌, inl, inr, ℕ, zero, suc, ◌+◌, ◌≤◌, ◌++◌, max, List, codes, Option, Some, None, option_map, refl, sym, ap, subst, arith}
+use Rattle.std.proofs.Common.{◌≡◌, ◌∙◌, inl, inr, ℕ, zero, suc, ◌+◌, ◌≤◌, ◌++◌, List, codes, Option, Some, None, option_map, refl, sym, ap, subst, arith}
 use Rattle.std.specs.Option.{option_and_then, option_or}
 use Rattle.std.proofs.lemmas.List.{append_assoc}
 use Rattle.std.proofs.lemmas.Option.{option_and_then_some, same_Some}
@@ -15,7 +15,7 @@ use Rattle.pls_combine.specs.SchemeWord.{name_of}
 use Rattle.pls_combine.specs.inner.Fronts.{Front, after, followed, join_front, name_front, pair_front}
 use Rattle.pls_combine.specs.inner.PropertyFronts.{property_front}
 use Rattle.pls_combine.specs.inner.ExpressionFronts.{basic_front, close_map, expression_front, joined, map_front}
-use Rattle.pls_combine.specs.laws.FrontLaws.{IsPair, after_is, behind_opening, either_found, name_found, name_read, opening_nameless, opening_of, pair_is, pair_onto, pair_read, worded_is}
+use Rattle.pls_combine.specs.laws.FrontLaws.{after_is, behind_opening, either_found, name_found, name_read, opening_nameless, opening_of, pair_is, pair_onto, pair_read, worded_is}
 use Rattle.pls_combine.specs.laws.PropertyFrontLaws.{property_deep_some, property_is, property_read}
 
 -- an expression is at least 1 deep

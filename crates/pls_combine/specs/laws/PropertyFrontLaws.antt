@@ -1,9 +1,8 @@
 -- What stands at the front of a text: an expression of properties is read where its text stands, and
 -- nowhere else.
-use Rattle.std.proofs.Common.{◌≡◌, ◌∙◌, inl, inr, ℕ, zero, suc, ◌+◌, ◌<◌, ◌≤◌, ◌++◌, max, List, codes, decimal, Option, Some, None, option_map, refl, sym, ap, subst, arith}
+use Rattle.std.proofs.Common.{◌≡◌, ◌∙◌, inl, inr, ℕ, zero, suc, ◌+◌, ◌≤◌, ◌++◌, List, codes, decimal, Option, Some, None, option_map, refl, sym, ap, subst, arith}
 use Rattle.std.specs.Option.{option_and_then, option_or}
 use Rattle.std.proofs.lemmas.Option.{option_and_then_some, same_Some}
-use Rattle.pls_model.specs.declared.limits.TheConstants.{MAX_NODES}
 use Rattle.pls_property.specs.PropertyExpression.{PropertyExpression, Acyclic, And, Bipartite, Bridgeless, Count, Diameter, Forest, IsWritable, Leader, MinimumSpanningTree, Or, ShortestPathTree, Tree, depth_of}
 use Rattle.pls_combine.specs.declared.fronts.Join.{Join}
 use Rattle.pls_combine.specs.declared.fronts.Join.TheVariants.{Both, Either}

@@ -1,5 +1,4 @@
-use Rattle.std.proofs.Common.{◌∙◌, drop, sym, ap, arith}
-use Rattle.pls_combine.specs.inner.PropertyFronts.{spelled}
+use Rattle.std.proofs.Common.{sym, arith}
 use Rattle.pls_combine.specs.laws.NumberFrontLaws.{digits_ahead-le, spelled_decimal}
 use Rattle.pls_combine.proofs.property_fronts.number_front.Goals as goal
 
