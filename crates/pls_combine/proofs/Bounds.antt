@@ -1,5 +1,5 @@
 -- How long marked labels are at most.
-use Rattle.std.proofs.Common.{◌≡◌, ℕ, ◌+◌, ◌-◌, ◌*◌, ◌^◌, ◌≤◌, nat_le, le-leb, if◌then◌else◌, Bool, true, false, length, subst, arith}
+use Rattle.std.proofs.Common.{◌≡◌, ℕ, ◌+◌, ◌-◌, ◌*◌, ◌^◌, ◌≤◌, nat_le, le-leb, if◌then◌else◌, Bool, true, false, List, [], ◌∷◌, map, length, Contains, sum_by, subst, arith}
 use Rattle.std.proofs.Common.{mul-le-mul}
 use Rattle.std.proofs.Math.Nat.{mul-le-mul_right}
 use Rattle.pls_bits.specs.Gamma.{gamma_code}
@@ -8,14 +8,39 @@ use Rattle.pls_bits.specs.laws.FloorLogLaws.{floor_log-grows, floor_log-unique}
 use Rattle.pls_bits.specs.laws.GammaLaws.{gamma_short}
 use Rattle.pls_bits.specs.declared.num_code.TheConstants.{MAX_CODED}
 use Rattle.pls_graph.specs.declared.size.Size.{Size}
-use Rattle.pls_model.specs.declared.limits.TheConstants.{MAX_NODES}
+use Rattle.std.proofs.lemmas.List.Elements.{All-contains}
+use Rattle.std.proofs.lemmas.List.Sums.{sum_by-cons}
+use Rattle.pls_model.specs.declared.limits.TheConstants.{MAX_NODES, MAX_NUM, MAX_PORTS}
+use Rattle.pls_model.specs.declared.row.NodeRow.{NodeRow}
+use Rattle.pls_model.specs.Configuration.{IsNetwork}
+use Rattle.pls_graph.specs.Size.{greatest, size_of}
+use Rattle.pls_graph.proofs.Members.{Contains-first, Contains-later}
+use Rattle.pls_universal.specs.Bound.{longest_map}
 use Rattle.pls_scheme.specs.Theorem.{AreWords}
 use Rattle.pls_scheme.specs.Length.{code_length, codes_length}
 use Rattle.pls_mst.specs.Mst.{front_limits, level_limits}
 use Rattle.pls_combine.specs.declared.scheme_name.SchemeName.{SchemeName}
 use Rattle.pls_combine.specs.declared.scheme_name.SchemeName.TheVariants.{Acyclic, Bipartite, Count, Forest, Leader, MinimumSpanningTree, ShortestPathTree, Tree}
-use Rattle.pls_combine.specs.Expression.{And, Basic, Expression, IsSmall, Or, leaves_of, longest_of}
+use Rattle.pls_combine.specs.Expression.{And, Basic, Expression, IsSmall, Map, Or, leaves_of, longest_of}
 use Rattle.pls_combine.specs.Named.{longest_named}
+use Rattle.pls_combine.proofs.Leaves.{leaves_few}
+
+-- the greatest of some numbers is at most a limit of all, and at most their sum
+greatest_within : {X : Type 0} (h : X → ℕ) (items : List X) (most : ℕ)
+    → ((x : X) → Contains items x → h x ≤ most) → greatest (map h items) ≤ most
+greatest_within h [] most each = omega arith
+greatest_within h (x ∷ items) most each =
+    let first = each x (Contains-first x items) in
+    let others = greatest_within h items most (λ y in'. each y (Contains-later x items y in')) in
+    omega (arith, first, others)
+
+greatest_in_sum : {X : Type 0} (h : X → ℕ) (items : List X)
+    → greatest (map h items) ≤ sum_by h items
+greatest_in_sum h [] = omega arith
+greatest_in_sum h (x ∷ items) =
+    let others = greatest_in_sum h items in
+    let sum = sum_by-cons h x items in
+    omega (arith, others, sum)
 
 -- the code of a number that has one has at most 125 bits
 short_code : (number : ℕ) → number ≤ MAX_CODED → code_length gamma_code number ≤ 125
@@ -75,32 +100,84 @@ short_bound scheme size few words = by scheme
 
 leaf_some : (scheme : Expression) → 1 ≤ leaves_of scheme
 leaf_some (Basic name) = omega arith
+leaf_some (Map property) = omega arith
 leaf_some (And first second) = omega (arith, leaf_some first)
 leaf_some (Or first second) = omega (arith, leaf_some first)
 
--- an expression has at most 8,320 bits for each of its names
-expression_bound : (scheme : Expression) (size : Size) → leaves_of scheme ≤ 8
-    → size.nodes ≤ MAX_NODES → AreWords size
-    → longest_of gamma_code scheme size + 128 ≤ 8320 * leaves_of scheme
-expression_bound (Basic name) size few nodes words =
-    let one = short_bound name size nodes words in
-    omega (arith, one)
-expression_bound (And first second) size few nodes words =
-    let some = leaf_some second in
-    let one = expression_bound first size (omega (arith, few)) nodes words in
-    let two = expression_bound second size (omega (arith, few)) nodes words in
-    let code = short_code (longest_of gamma_code first size) (omega (arith, few, one)) in
-    omega (arith, code, one, two)
-expression_bound (Or first second) size few nodes words =
-    let one = expression_bound first size (omega (arith, few)) nodes words in
-    let two = expression_bound second size (omega (arith, few)) nodes words in
-    let a = leaf_some first in
-    let b = leaf_some second in
-    omega (arith, one, two, a, b)
+module _ (rows : List NodeRow) (net : IsNetwork rows) (words : AreWords (size_of rows)) where
+  -- a number of the network has a short code
+  code_of : (number : ℕ) → number ≤ 2 ^ 62 → code_length gamma_code number ≤ 125
+  code_of number small = short_code number (omega (arith, small))
 
--- no small expression's bound is above 2^17 bits, in a network within the limits
-pub short_expression : (scheme : Expression) (size : Size) → IsSmall scheme → size.nodes ≤ MAX_NODES
-    → AreWords size → longest_of gamma_code scheme size ≤ 2 ^ 17
-short_expression scheme size small nodes words =
-    let whole = expression_bound scheme size small.few nodes words in
-    omega (arith, whole, small.few)
+  ids : code_length gamma_code (size_of rows).max_id ≤ 125
+  ids = code_of (size_of rows).max_id (omega (arith, words.max_id))
+
+  nodes : code_length gamma_code (length rows) ≤ 125
+  nodes = code_of (length rows) (omega (arith, net.limits.few_nodes))
+
+  degree_small : (size_of rows).max_degree ≤ MAX_PORTS
+  degree_small =
+      let sum = greatest_in_sum (λ (row : NodeRow). length row.ports) rows in
+      omega (arith, sum, net.limits.few_ports)
+
+  degrees : code_length gamma_code (size_of rows).max_degree ≤ 125
+  degrees = code_of (size_of rows).max_degree (omega (arith, degree_small))
+
+  marks : code_length gamma_code (size_of rows).max_mark ≤ 125
+  marks = code_of (size_of rows).max_mark (omega (arith, words.max_mark))
+
+  num_small : (size_of rows).max_num ≤ MAX_NUM
+  num_small = greatest_within (λ (row : NodeRow). row.state.num) rows MAX_NUM
+      (λ row in'. All-contains (λ (row : NodeRow). row.state.num ≤ MAX_NUM) rows row net.limits.small in')
+
+  nums : code_length gamma_code (size_of rows).max_num ≤ 125
+  nums = code_of (size_of rows).max_num num_small
+
+  weights : code_length gamma_code (size_of rows).max_weight ≤ 125
+  weights = code_of (size_of rows).max_weight (omega (arith, words.max_weight))
+
+  -- no label with a map has more than 2^27 bits less 128
+  short_map : longest_map gamma_code (size_of rows) + 128 ≤ 2 ^ 27
+  short_map =
+      let heads = mul-le-mul net.limits.few_nodes head in
+      let ports = mul-le-mul net.limits.few_ports port in
+      omega (arith, front, heads, ports)
+    where
+      front : codes_length gamma_code ((size_of rows).max_id ∷ length rows ∷ []) ≤ 250
+      front = omega (arith, ids, nodes)
+
+      head : codes_length gamma_code ((size_of rows).max_id ∷ (size_of rows).max_degree
+          ∷ (size_of rows).max_mark ∷ (size_of rows).max_num ∷ (size_of rows).max_degree ∷ []) ≤ 625
+      head = omega (arith, ids, degrees, marks, nums)
+
+      port : codes_length gamma_code ((size_of rows).max_id ∷ (size_of rows).max_weight ∷ []) ≤ 250
+      port = omega (arith, ids, weights)
+
+  -- an expression has at most 2^27 bits for each of its leaves
+  expression_bound : (scheme : Expression) → leaves_of scheme ≤ 8
+      → longest_of gamma_code scheme (size_of rows) + 128 ≤ 2 ^ 27 * leaves_of scheme
+  expression_bound (Basic name) few =
+      let one = short_bound name (size_of rows) net.limits.few_nodes words in
+      omega (arith, one)
+  expression_bound (Map property) few = omega (arith, short_map)
+  expression_bound (And first second) few =
+      let some = leaf_some second in
+      let one = expression_bound first (omega (arith, few)) in
+      let two = expression_bound second (omega (arith, few)) in
+      let code = code_of (longest_of gamma_code first (size_of rows)) (omega (arith, few, one)) in
+      omega (arith, code, one, two)
+  expression_bound (Or first second) few =
+      let one = expression_bound first (omega (arith, few)) in
+      let two = expression_bound second (omega (arith, few)) in
+      let a = leaf_some first in
+      let b = leaf_some second in
+      omega (arith, one, two, a, b)
+
+-- no small expression's bound is above 2^30 bits
+pub short_expression : (scheme : Expression) (rows : List NodeRow) → IsSmall scheme
+    → IsNetwork rows → AreWords (size_of rows)
+    → longest_of gamma_code scheme (size_of rows) ≤ 2 ^ 30
+short_expression scheme rows small net words =
+    let few : leaves_of scheme ≤ 8 = omega (arith, small.few, leaves_few scheme) in
+    let whole = expression_bound rows net words scheme few in
+    omega (arith, whole, few)

@@ -1,8 +1,7 @@
 -- The text of an expression begins with a letter.
-use Rattle.std.proofs.Common.{◌≡◌, ℕ, ◌==◌, Bool, false, List, ◌∷◌, refl}
-use Rattle.pls_combine.specs.declared.scheme_name.SchemeName.{SchemeName}
+use Rattle.std.proofs.Common.{◌≡◌, ℕ, ◌==◌, false, List, ◌∷◌, refl}
 use Rattle.pls_combine.specs.declared.scheme_name.SchemeName.TheVariants.{Acyclic, Bipartite, Count, Forest, Leader, MinimumSpanningTree, ShortestPathTree, Tree}
-use Rattle.pls_combine.specs.Expression.{Expression, And, Basic, Or}
+use Rattle.pls_combine.specs.Expression.{Expression, And, Basic, Map, Or}
 use Rattle.pls_combine.specs.ExpressionText.{expression_text}
 
 -- the first character is not `-`, which is 45
@@ -17,5 +16,6 @@ first_letter (Basic Leader) = (108, _, refl, refl)
 first_letter (Basic Count) = (99, _, refl, refl)
 first_letter (Basic ShortestPathTree) = (115, _, refl, refl)
 first_letter (Basic MinimumSpanningTree) = (109, _, refl, refl)
+first_letter (Map property) = (109, _, refl, refl)
 first_letter (And first second) = (97, _, refl, refl)
 first_letter (Or first second) = (111, _, refl, refl)

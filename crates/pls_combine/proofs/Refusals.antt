@@ -6,9 +6,10 @@ use Rattle.std.proofs.lemmas.Bool.{cases_lt, ltb-false, ltb-true}
 use Rattle.std.proofs.lemmas.Option.{same_Some}
 use Rattle.pls_combine.specs.declared.scheme_error.SchemeError.{SchemeError}
 use Rattle.pls_combine.specs.declared.scheme_error.SchemeError.TheVariants.{NoMemory, NotAScheme, TooDeep, TooMany}
-use Rattle.pls_combine.specs.Expression.{Expression, IsSmall, depth_of, leaves_of}
+use Rattle.pls_combine.specs.Expression.{Expression, IsSmall, IsWritable, depth_of, names_of}
 use Rattle.pls_combine.specs.ExpressionText.{HasTooMany, IsNoExpression, IsNoScheme, IsTooDeep, deepest, expression_text}
-use Rattle.pls_combine.specs.inner.Fronts.{Front, alone, counted, expression_front, expression_in, names_in, refusal_of}
+use Rattle.pls_combine.specs.inner.Fronts.{Front, alone}
+use Rattle.pls_combine.specs.inner.ExpressionFronts.{counted, expression_front, expression_in, names_in, refusal_of}
 use Rattle.pls_combine.specs.laws.DepthLaws.{deep_text}
 use Rattle.pls_combine.specs.laws.TextLaws.{expression_in-is, expression_in-text, one_expression}
 
@@ -28,22 +29,22 @@ same_error : {T : Type 0} (one other : SchemeError) → refused_as {T = T} one �
 same_error one other same = cc
 
 -- how many names an expression has, counted up to 255
-abbrev names_of : Expression → ℕ
-names_of scheme = min (leaves_of scheme) 255
+abbrev names_counted : Expression → ℕ
+names_counted scheme = min (names_of scheme) 255
 
 -- the names are those of the expression
-names_in-is : (text : List ℕ) → names_in text ≡ option_map names_of (expression_in text)
+names_in-is : (text : List ℕ) → names_in text ≡ option_map names_counted (expression_in text)
 names_in-is text = by (expression_front 7 text)
   where
     kept : (found : Front Expression) (b : Bool)
-        → (if b then Some (names_of found.item) else None)
-        ≡ option_map names_of (if b then Some found.item else None)
+        → (if b then Some (names_counted found.item) else None)
+        ≡ option_map names_counted (if b then Some found.item else None)
     kept found true = refl
     kept found false = refl
 
     by : (front : Option (Front Expression))
         → option_and_then alone (option_map counted front)
-        ≡ option_map names_of (option_and_then alone front)
+        ≡ option_map names_counted (option_and_then alone front)
     by None = refl
     by (Some found) = kept found (length found.rest == 0)
 
@@ -57,11 +58,11 @@ data Case (text : List ℕ) : Type 0 where
       → expression_in text ≡ Some scheme → refusal_of text ≡ None → Case text
 
 -- where they do not stand so deep, no expression of the text is so deep
-shallow_text : (text : List ℕ) (scheme : Expression) → (IsTooDeep text → ⊥)
+shallow_text : (text : List ℕ) (scheme : Expression) → IsWritable scheme → (IsTooDeep text → ⊥)
     → text ≡ expression_text scheme → depth_of scheme ≤ 8
-shallow_text text scheme shallow written =
+shallow_text text scheme writable shallow written =
     elim (cases_lt 8 (depth_of scheme)) [
-      | inl deep ↦ absurd (shallow (subst IsTooDeep (sym written) ((deep_text scheme).1 deep)))
+      | inl deep ↦ absurd (shallow (subst IsTooDeep (sym written) ((deep_text scheme writable).1 deep)))
       | inr few ↦ few
     ]
 
@@ -70,32 +71,35 @@ module _ (text : List ℕ) (deep : nat_lt 7 (deepest 0 text) ≡ false) where
   shallow past = absurd (omega (arith, past, ltb-false 7 (deepest 0 text) deep))
 
   case_few : (scheme : Expression) → expression_in text ≡ Some scheme → (b : Bool)
-      → nat_lt 8 (names_of scheme) ≡ b → Case text
+      → nat_lt 8 (names_counted scheme) ≡ b → Case text
   case_few scheme is true more =
       Many (record {
         shallow = shallow;
         scheme = scheme;
-        written = (expression_in-is text scheme is).0;
-        many = omega (arith, ltb-true 8 (names_of scheme) more);
+        writable = (expression_in-is text scheme is).writable;
+        written = (expression_in-is text scheme is).written;
+        many = omega (arith, ltb-true 8 (names_counted scheme) more);
       }) (rw (deep, names_in-is text, is, more) refl)
   case_few scheme is false few =
-      Small scheme (expression_in-is text scheme is).0 (record {
-        few = omega (arith, ltb-false 8 (names_of scheme) few);
-        shallow = (expression_in-is text scheme is).1;
+      Small scheme (expression_in-is text scheme is).written (record {
+        few = omega (arith, ltb-false 8 (names_counted scheme) few);
+        shallow = (expression_in-is text scheme is).shallow;
+        writable = (expression_in-is text scheme is).writable;
       }) is (rw (deep, names_in-is text, is, few) refl)
 
-  none_written : expression_in text ≡ None → (scheme : Expression) → text ≡ expression_text scheme → ⊥
-  none_written none scheme written =
+  none_written : expression_in text ≡ None → (scheme : Expression) → IsWritable scheme
+      → text ≡ expression_text scheme → ⊥
+  none_written none scheme writable written =
       let found : expression_in text ≡ Some scheme =
       ap expression_in written
-      ∙ expression_in-text scheme (shallow_text text scheme shallow written) in
+      ∙ expression_in-text scheme (shallow_text text scheme writable shallow written) writable in
       nothing_found scheme (sym none ∙ found)
 
   case_shallow : (found : Option Expression) → expression_in text ≡ found → Case text
   case_shallow None is =
       Other (record { shallow = shallow; other = none_written is })
       (rw (deep, names_in-is text, is) refl)
-  case_shallow (Some scheme) is = case_few scheme is (nat_lt 8 (names_of scheme)) refl
+  case_shallow (Some scheme) is = case_few scheme is (nat_lt 8 (names_counted scheme)) refl
 
 case_of : (text : List ℕ) → Case text
 case_of text = by (nat_lt 7 (deepest 0 text)) refl
@@ -122,7 +126,7 @@ deep_cause text = by (case_of text)
     by (Small scheme written small found is) = (
       λ also. no_other _ _ _ is also (λ e. absurd (cc)),
       λ deep.
-          absurd (omega (arith, (deep_text scheme).0 (subst IsTooDeep written deep), small.shallow)),
+          absurd (omega (arith, (deep_text scheme small.writable).0 (subst IsTooDeep written deep), small.shallow)),
     )
 
 pub other_cause : (text : List ℕ) → (refusal_of text ≡ Some NotAScheme) ↔ IsNoExpression text
@@ -134,11 +138,11 @@ other_cause text = by (case_of text)
     by (Other other is) = (λ _. other, λ _. is)
     by (Many many is) = (
       λ also. no_other _ _ _ is also (λ e. absurd (cc)),
-      λ none. absurd (none.other many.scheme many.written),
+      λ none. absurd (none.other many.scheme many.writable many.written),
     )
     by (Small scheme written small found is) = (
       λ also. no_other _ _ _ is also (λ e. absurd (cc)),
-      λ none. absurd (none.other scheme written),
+      λ none. absurd (none.other scheme small.writable written),
     )
 
 pub many_cause : (text : List ℕ) → (refusal_of text ≡ Some TooMany) ↔ HasTooMany text
@@ -149,15 +153,15 @@ many_cause text = by (case_of text)
         (λ also. no_other _ _ _ is also (λ e. absurd (cc)), λ many. absurd (many.shallow deep))
     by (Other other is) = (
       λ also. no_other _ _ _ is also (λ e. absurd (cc)),
-      λ many. absurd (other.other many.scheme many.written),
+      λ many. absurd (other.other many.scheme many.writable many.written),
     )
     by (Many many is) = (λ _. many, λ _. is)
     by (Small scheme written small found is) = (
       λ also. no_other _ _ _ is also (λ e. absurd (cc)),
       λ many.
           let same : scheme ≡ many.scheme =
-          one_expression scheme many.scheme (sym written ∙ many.written) in
-          let more : 8 < leaves_of scheme = rw same many.many in
+          one_expression scheme many.scheme small.writable many.writable (sym written ∙ many.written) in
+          let more : 8 < names_of scheme = rw same many.many in
           absurd (omega (arith, small.few, more)),
     )
 
@@ -169,12 +173,12 @@ refused_text text error refused other small_other at = by (case_of text)
     by : Case text → ⊥
     by (Deep deep is) =
         let past : IsTooDeep (expression_text other) = subst IsTooDeep at deep in
-        omega (arith, (deep_text other).0 past, small_other.shallow)
-    by (Other none is) = none.other other at
+        omega (arith, (deep_text other small_other.writable).0 past, small_other.shallow)
+    by (Other none is) = none.other other small_other.writable at
     by (Many many is) =
         let same : other ≡ many.scheme =
-        one_expression other many.scheme (sym at ∙ many.written) in
-        let more : 8 < leaves_of other = rw same many.many in
+        one_expression other many.scheme small_other.writable many.writable (sym at ∙ many.written) in
+        let more : 8 < names_of other = rw same many.many in
         omega (arith, small_other.few, more)
     by (Small scheme written small found is) = no_other _ _ _ is refused (λ e. absurd (cc))
 

@@ -1,12 +1,14 @@
--- The texts of expressions of schemes, by their writer: the name of a basic scheme, `and(A,B)` and
--- `or(A,B)`; and how deep parentheses stand in a text.
+-- The texts of expressions of schemes, by their writer: the name of a basic scheme, `map(P)`,
+-- `and(A,B)` and `or(A,B)`; and how deep parentheses stand in a text.
 use Rattle.std.specs.Prelude.{◌≡◌, ℕ, ◌+◌, ◌-◌, ◌<◌, ◌==◌, ◌++◌, max, List, [], ◌∷◌, codes, if◌then◌else◌}
-use Rattle.pls_combine.specs.Expression.{Expression, And, Basic, IsSmall, Or, leaves_of}
+use Rattle.pls_combine.specs.Expression.{Expression, And, Basic, IsSmall, IsWritable, Map, Or, names_of}
+use Rattle.pls_combine.specs.PropertyText.{property_text}
 use Rattle.pls_combine.specs.SchemeWord.{name_of}
 
 -- the text of an expression
 abbrev pub expression_text : Expression → List ℕ
 expression_text (Basic name) = name_of name
+expression_text (Map property) = codes "map(" ++ (property_text property ++ codes ")")
 expression_text (And first second) =
     codes "and(" ++ (expression_text first ++ (codes "," ++ (expression_text second ++ codes ")")))
 expression_text (Or first second) =
@@ -30,14 +32,15 @@ IsTooDeep text = 7 < deepest 0 text
 -- they do not, and the text is that of no expression
 pub record IsNoExpression (text : List ℕ) : Type 0 where
   pub shallow : IsTooDeep text → ⊥
-  pub other : (scheme : Expression) → text ≡ expression_text scheme → ⊥
+  pub other : (scheme : Expression) → IsWritable scheme → text ≡ expression_text scheme → ⊥
 
 -- they do not, and the text is that of an expression of more than 8 names
 pub record HasTooMany (text : List ℕ) : Type 0 where
   pub shallow : IsTooDeep text → ⊥
   pub scheme : Expression
+  pub writable : IsWritable scheme
   pub written : text ≡ expression_text scheme
-  pub many : 8 < leaves_of scheme
+  pub many : 8 < names_of scheme
 
 -- the text is that of no expression of at most 8 names and a depth of at most 8
 abbrev pub IsNoScheme : List ℕ → Type 0

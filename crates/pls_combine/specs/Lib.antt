@@ -5,6 +5,7 @@ pub mod Combined
 pub mod Joined
 pub mod Tagged
 pub mod Expression
+pub mod PropertyText
 pub mod ExpressionText
 pub mod inner
 pub mod laws

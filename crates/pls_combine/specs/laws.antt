@@ -1,12 +1,15 @@
 pub mod BothLaws
 pub mod DepthLaws
+pub mod ExpressionFrontLaws
 pub mod ExpressionLaws
 pub mod FrontLaws
 pub mod LeafLaws
 pub mod NamedLaws
+pub mod NumberFrontLaws
 pub mod OneOfLaws
 pub mod PairLaws
 pub mod PartsAccepted
+pub mod PropertyFrontLaws
 pub mod PutLaws
 pub mod TaggedLaws
 pub mod TextLaws

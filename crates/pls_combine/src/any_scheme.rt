@@ -1,9 +1,10 @@
 //! An expression of schemes as a scheme.
 
-ghost use Rattle.std.specs.Prelude.{◌≡◌};
-ghost use Rattle.pls_combine.specs.Expression.{IsSmall};
+ghost use Rattle.std.specs.Prelude.{◌≡◌, ◌≤◌};
+ghost use Rattle.pls_combine.specs.Expression.{IsSmall, leaves_of};
 ghost use Rattle.pls_combine.specs.inner.Trees.{expression_of};
 
+use crate::rounds::node_by_node;
 use crate::scheme_tree::{
     SchemeTree, bound_of, decide_tree, leaves_of, lends_of, mark_tree, verify_tree,
 };
@@ -14,14 +15,13 @@ use pls_model::Verdict;
 use pls_scheme::{Checker, Property, Scheme};
 use pls_view::{LabelStore, View};
 use std::alloc::Global;
-use std::marker::{Model, PhantomData};
+use std::marker::Model;
 
-/// An expression of at most 8 basic schemes and a depth of at most 8, whose labels are written in
+/// An expression of at most 8 names and a depth of at most 8, whose labels are written in
 /// the number code `C`, seen as the expression. It is made by [`read_scheme`](crate::read_scheme).
 #[derive(Drop)]
 pub struct AnyScheme<C> {
-    tree: SchemeTree,
-    code: PhantomData<C>,
+    tree: SchemeTree<C>,
 }
 
 impl<C> Model for AnyScheme<C> {
@@ -40,20 +40,19 @@ impl<C> Model for AnyScheme<C> {
 
 impl<C> AnyScheme<C> {
     // The expression as a scheme. It takes no memory.
-    pub(crate) fn of_tree(tree: SchemeTree) -> Self
+    pub(crate) fn of_tree(tree: SchemeTree<C>) -> Self
         requires { IsSmall (expression_of tree) }
         ensures { result ≡ expression_of tree }
     {
-        AnyScheme {
-            tree,
-            code: PhantomData,
-        }
+        AnyScheme { tree }
     }
 
     // The expression.
-    pub(crate) fn tree(&self) -> &SchemeTree
+    #[tactic(auto, using(crate::proofs::Leaves::leaves_few))]
+    pub(crate) fn tree(&self) -> &SchemeTree<C>
         ensures same { expression_of result.now ≡ self.now }
         ensures small { IsSmall self.now }
+        ensures leaves { leaves_of self.now ≤ 8 }
     {
         &self.tree
     }
@@ -90,6 +89,19 @@ impl<C: NumCode> Checker for AnyScheme<C> {
     ) -> Result<Verdict, NoMemory> {
         steps.tick();
         verify_tree::<C>(alloc, self.tree(), view)
+    }
+
+    fn round(
+        &self,
+        alloc: Global,
+        net: &Network,
+        labels: &LabelStore,
+        steps: &mut Steps,
+    ) -> Result<Vec<Verdict>, NoMemory> {
+        match self.tree() {
+            SchemeTree::Map(universal) => universal.round(alloc, net, labels, steps),
+            tree => node_by_node::<C>(alloc, tree, net, labels, steps),
+        }
     }
 
     ghost leaf_law = { λ s. expression_leaf C.takes s };

@@ -1,4 +1,5 @@
-//! The basic schemes by their names, and schemes joined by `and` and `or`.
+//! The basic schemes by their names, the universal scheme of a property, and schemes joined by `and`
+//! and `or`.
 //!
 //! [`Named`] is a basic scheme by its [`SchemeName`]: its calls are those of the scheme that it
 //! names. What a name means stands in `specs/Named`, one line a scheme for the property, the
@@ -8,9 +9,10 @@
 //! the traits alone. A node lends each part of a view to the scheme of the part
 //! ([`FirstPart`], [`SecondPart`], [`Rest`]) and copies no label.
 //!
-//! [`AnyScheme`] is an expression of names as a scheme, seen as the expression
+//! [`AnyScheme`] is an expression of names and of `map(P)` as a scheme, seen as the expression
 //! (`specs/Expression`: `HasProperty`, `judge_of`, `IsMarked`, `longest_of`, by its cases), which
-//! [`read_scheme`] reads and [`print_scheme`] writes (`specs/ExpressionText`: `expression_text`).
+//! [`read_scheme`] reads and [`print_scheme`] writes (`specs/ExpressionText`: `expression_text`, over
+//! `property_text` of `specs/PropertyText`). P is an expression of properties, of `pls_property`.
 //! Code above goes through this type.
 //!
 //! Further definitions stand in `specs/`: `Combined` has the verdicts of combinations, `Parts`,
@@ -21,6 +23,7 @@
 mod any_scheme;
 mod both;
 mod both_scheme;
+mod expression_fronts;
 mod fronts;
 mod joined;
 mod laws;
@@ -29,6 +32,9 @@ mod one_of;
 mod one_of_scheme;
 mod part_rules;
 mod parts;
+mod property_fronts;
+mod property_text;
+mod rounds;
 mod scheme_error;
 mod scheme_name;
 mod scheme_text;

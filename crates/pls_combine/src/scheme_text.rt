@@ -4,13 +4,14 @@ ghost use Rattle.std.specs.Prelude.{◌≡◌, ◌≤◌, ◌↔◌, ◌⊎◌, 
 ghost use Rattle.std.specs.Option.{is_some};
 ghost use Rattle.std.specs.Result.{IsErrOf};
 ghost use Rattle.std.specs.String.{string_bytes};
-ghost use Rattle.pls_combine.specs.Expression.{IsSmall, leaves_of};
+ghost use Rattle.pls_combine.specs.Expression.{IsSmall};
 ghost use Rattle.pls_combine.specs.ExpressionText.{HasTooMany, IsNoExpression, IsNoScheme, IsTooDeep, deepest, depth_after, expression_text};
-ghost use Rattle.pls_combine.specs.inner.Fronts.{expression_in, names_in, refusal_of};
+ghost use Rattle.pls_combine.specs.inner.ExpressionFronts.{expression_in, names_in, refusal_of};
 ghost use Rattle.pls_combine.specs.inner.Trees.{expression_of};
 
 use crate::any_scheme::AnyScheme;
-use crate::fronts::{names_front, tree_front};
+use crate::expression_fronts::{names_front, tree_front};
+use crate::property_text::print_property;
 use crate::scheme_error::SchemeError;
 use crate::scheme_name::name_of;
 use crate::scheme_tree::SchemeTree;
@@ -24,8 +25,9 @@ const MOST_NAMES: u8 = 8;
 // How deep parentheses may stand.
 const MOST_DEPTH: u8 = 7;
 
-/// The scheme of a text: `leader`, `tree`, `forest`, `spt`, `bipartite`, `acyclic`, `count`,
-/// `and(A,B)` or `or(A,B)`, of at most 8 names. The error is the first of `TooDeep`, `NotAScheme`
+/// The scheme of a text: `leader`, `tree`, `forest`, `spt`, `bipartite`, `acyclic`, `count`, `mst`,
+/// `map(P)`, `and(A,B)` or `or(A,B)`, where P is one of these names, `diameter:K` with K from 0 to
+/// 32767, `bridgeless`, `and(P,Q)` or `or(P,Q)`; of at most 8 names. The error is the first of `TooDeep`, `NotAScheme`
 /// and `TooMany` that is the case, or `NoMemory`. It reads each byte once or twice.
 pub fn read_scheme<C: NumCode>(alloc: Global, text: &str) -> Result<AnyScheme<C>, SchemeError>
     ensures written { IfOk result (λ scheme. text.now ≡ expression_text scheme) }
@@ -39,7 +41,7 @@ pub fn read_scheme<C: NumCode>(alloc: Global, text: &str) -> Result<AnyScheme<C>
     let bytes = text.as_bytes();
     match refusal_of(bytes) {
         Some(error) => Err(error),
-        None => Ok(AnyScheme::of_tree(tree_in(alloc, bytes)?)),
+        None => Ok(AnyScheme::of_tree(tree_in::<C>(alloc, bytes)?)),
     }
 }
 
@@ -93,11 +95,11 @@ fn names_in(text: &[u8]) -> Option<u8>
 }
 
 // The expression of a text.
-fn tree_in(alloc: Global, text: &[u8]) -> Result<SchemeTree, NoMemory>
+fn tree_in<C>(alloc: Global, text: &[u8]) -> Result<SchemeTree<C>, NoMemory>
     requires { is_some (expression_in text.now) ≡ true }
     ensures { IfOk result (λ tree. expression_in text.now ≡ Some (expression_of tree)) }
 {
-    match tree_front(alloc, text, MOST_DEPTH)? {
+    match tree_front::<C>(alloc, text, MOST_DEPTH)? {
         Some((tree, _)) => Ok(tree),
         None => unreachable!(),
     }
@@ -113,12 +115,17 @@ pub fn print_scheme<C: NumCode>(alloc: Global, scheme: &AnyScheme<C>) -> Result<
 }
 
 // Puts the text of an expression behind a text.
-fn print_tree(text: &mut String, tree: &SchemeTree) -> Result<(), NoMemory>
+fn print_tree<C>(text: &mut String, tree: &SchemeTree<C>) -> Result<(), NoMemory>
     ensures { OnOk result (string_bytes text.new
         ≡ string_bytes text.old ++ expression_text (expression_of tree.now)) }
 {
     match tree {
         SchemeTree::Basic(name) => text.push_str(name_of(*name))?,
+        SchemeTree::Map(universal) => {
+            text.push_str("map(")?;
+            print_property(text, &universal.property)?;
+            text.push_str(")")?;
+        }
         SchemeTree::And(first, second) => {
             text.push_str("and(")?;
             print_tree(text, first)?;

@@ -19,29 +19,33 @@ use pls_bits::NumCode;
 use pls_facts::is_valid;
 use pls_graph::{Network, Size};
 use pls_model::Verdict;
+use pls_property::AnyProperty;
 use pls_scheme::{Checker, Property, Scheme};
+use pls_universal::MapOf;
 use pls_view::{LabelStore, View};
 use std::alloc::Global;
 
-/// An expression of schemes.
+/// An expression of schemes, whose labels are written in the number code `C`.
 #[derive(Drop)]
-pub enum SchemeTree {
+pub enum SchemeTree<C> {
     /// A basic scheme.
     Basic(SchemeName),
+    /// The universal scheme of a property.
+    Map(MapOf<AnyProperty, C>),
     /// Both of two.
-    And(Box<SchemeTree>, Box<SchemeTree>),
+    And(Box<SchemeTree<C>>, Box<SchemeTree<C>>),
     /// At least one of two.
-    Or(Box<SchemeTree>, Box<SchemeTree>),
+    Or(Box<SchemeTree<C>>, Box<SchemeTree<C>>),
 }
 
 // How many leaves the expression has.
-pub(crate) fn leaves_of(tree: &SchemeTree) -> u8
+pub(crate) fn leaves_of<C>(tree: &SchemeTree<C>) -> u8
     requires { leaves_of (expression_of tree.now) ≤ 8 }
     ensures value { result ≡ leaves_of (expression_of tree.now) }
     ensures some { 1 ≤ result }
 {
     match tree {
-        SchemeTree::Basic(_) => 1,
+        SchemeTree::Basic(_) | SchemeTree::Map(_) => 1,
         SchemeTree::And(first, second) | SchemeTree::Or(first, second) => {
             leaves_of(first) + leaves_of(second)
         }
@@ -49,11 +53,12 @@ pub(crate) fn leaves_of(tree: &SchemeTree) -> u8
 }
 
 // Whether a view of at most 8 ports is judged without memory.
-pub(crate) fn lends_of(tree: &SchemeTree) -> bool
+pub(crate) fn lends_of<C>(tree: &SchemeTree<C>) -> bool
     ensures { result ≡ lends_of (expression_of tree.now) }
 {
     match tree {
         SchemeTree::Basic(_) => true,
+        SchemeTree::Map(_) => false,
         SchemeTree::And(first, second) | SchemeTree::Or(first, second) => {
             lends_of(first) && lends_of(second)
         }
@@ -64,7 +69,7 @@ pub(crate) fn lends_of(tree: &SchemeTree) -> bool
 #[tactic(auto, using(crate::proofs::Verdicts::judged_first, crate::proofs::Verdicts::judged_second, crate::proofs::Leaves::expression_leaf))]
 pub(crate) fn verify_tree<C: NumCode>(
     alloc: Global,
-    tree: &SchemeTree,
+    tree: &SchemeTree<C>,
     view: &View<'_>,
 ) -> Result<Verdict, NoMemory>
     requires { leaves_of (expression_of tree.now) ≤ 8 }
@@ -75,6 +80,7 @@ pub(crate) fn verify_tree<C: NumCode>(
 {
     match tree {
         SchemeTree::Basic(name) => Named::<C>::new(*name).verify(alloc, view, &mut Steps::new()),
+        SchemeTree::Map(universal) => universal.verify(alloc, view, &mut Steps::new()),
         SchemeTree::And(first, second) => {
             if let Some(verdict) = lacks_parts::<C>(view) {
                 return Ok(verdict);
@@ -108,7 +114,7 @@ pub(crate) fn verify_tree<C: NumCode>(
 // Whether a connected network has the property.
 pub(crate) fn decide_tree<C: NumCode>(
     alloc: Global,
-    tree: &SchemeTree,
+    tree: &SchemeTree<C>,
     net: &Network,
 ) -> Result<bool, NoMemory>
     requires { IsConnected net.now }
@@ -116,6 +122,7 @@ pub(crate) fn decide_tree<C: NumCode>(
 {
     match tree {
         SchemeTree::Basic(name) => Named::<C>::new(*name).decide(alloc, net),
+        SchemeTree::Map(universal) => universal.decide(alloc, net),
         SchemeTree::And(first, second) => {
             Ok(decide_tree::<C>(alloc, first, net)? && decide_tree::<C>(alloc, second, net)?)
         }
@@ -126,11 +133,12 @@ pub(crate) fn decide_tree<C: NumCode>(
 }
 
 // The bound of the expression, or `u64::MAX` where it is greater.
-pub(crate) fn bound_of<C: NumCode>(tree: &SchemeTree, size: &Size) -> u64
+pub(crate) fn bound_of<C: NumCode>(tree: &SchemeTree<C>, size: &Size) -> u64
     ensures { result ≡ answered (longest_of C.code (expression_of tree.now) size.now) }
 {
     match tree {
         SchemeTree::Basic(name) => Named::<C>::new(*name).bound(size),
+        SchemeTree::Map(universal) => universal.bound(size),
         SchemeTree::And(first, second) => {
             joined_bound::<C>(bound_of::<C>(first, size), bound_of::<C>(second, size))
         }
@@ -143,7 +151,7 @@ pub(crate) fn bound_of<C: NumCode>(tree: &SchemeTree, size: &Size) -> u64
 // The labels that prove the property of a connected network, or `None` exactly where it fails.
 pub(crate) fn mark_tree<C: NumCode>(
     alloc: Global,
-    tree: &SchemeTree,
+    tree: &SchemeTree<C>,
     net: &Network,
 ) -> Result<Option<LabelStore>, NoMemory>
     requires { IsConnected net.now }
@@ -162,6 +170,7 @@ pub(crate) fn mark_tree<C: NumCode>(
 {
     match tree {
         SchemeTree::Basic(name) => Named::<C>::new(*name).mark(alloc, net),
+        SchemeTree::Map(universal) => universal.mark(alloc, net),
         SchemeTree::And(first, second) => {
             let Some(fronts) = mark_tree::<C>(alloc, first, net)? else {
                 return Ok(None);

@@ -1,1 +1,2 @@
 pub mod PointersWorked
+pub mod SearchWorked

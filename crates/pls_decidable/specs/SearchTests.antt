@@ -42,19 +42,19 @@ abbrev pub bipartite_test : List NodeRow → Bool
 bipartite_test rows = list_any (is_colouring rows) (all_lists (false ∷ true ∷ []) (length rows))
 
 -- the edge has these two ends
-abbrev pub joins : Edge → ℕ → ℕ → Bool
-joins edge u v = (edge.a == u && edge.b == v) || (edge.a == v && edge.b == u)
+abbrev pub has_ends : Edge → ℕ → ℕ → Bool
+has_ends edge u v = (edge.a == u && edge.b == v) || (edge.a == v && edge.b == u)
 
--- from u along the listed nodes each two in turn are joined by some edge, and the last is v
+-- from u along the listed nodes each two in turn are the ends of some edge, and the last is v
 abbrev pub is_walk : List Edge → ℕ → List ℕ → ℕ → Bool
 is_walk edges u [] v = u == v
 is_walk edges u (next ∷ nodes) v =
-    list_any (λ edge. joins edge u next) edges && is_walk edges next nodes v
+    list_any (λ edge. has_ends edge u next) edges && is_walk edges next nodes v
 
 -- a walk through three nodes or more, no two of them the same, from `last` back to itself
 abbrev pub is_cycle : List Edge → ℕ → List ℕ → Bool
 is_cycle edges last nodes =
-    nat_le 3 (length nodes) && (not (has_repeat nodes) && is_walk edges last nodes last)
+    nat_le 3 (length nodes) && not (has_repeat nodes) && is_walk edges last nodes last
 
 -- no list of at most as many nodes as there are is a cycle
 abbrev pub acyclic_test : List NodeRow → Bool
@@ -72,11 +72,11 @@ abbrev pub spanning_trees : List Edge → List ℕ → List (List Edge)
 spanning_trees edges nodes =
     filter (λ tree. joins_all tree nodes) (all_lists edges (length nodes - 1))
 
--- one node has no pointer, the edges that the others point along join all nodes, and no spanning tree
--- weighs less than these
+-- one node has no pointer, the edges that the others point along join all nodes, and no spanning
+-- tree weighs less than these
 abbrev pub mst_test : List NodeRow → Bool
 mst_test rows =
     count_by is_root rows == 1
-    && (joins_all (pointed_edges rows) (ids_of rows)
+    && joins_all (pointed_edges rows) (ids_of rows)
     && list_all (λ tree. nat_le (weight_of (pointed_edges rows)) (weight_of tree))
-    (spanning_trees (edges_of rows) (ids_of rows)))
+    (spanning_trees (edges_of rows) (ids_of rows))

@@ -6,8 +6,9 @@ ghost use Rattle.pls_facts.specs.Leader.{HasOneLeader};
 ghost use Rattle.pls_facts.specs.NodeCount.{AreCounted};
 ghost use Rattle.pls_facts.specs.Bipartite.{IsBipartite};
 ghost use Rattle.pls_facts.specs.Cycle.{IsAcyclic};
+ghost use Rattle.pls_facts.specs.MinimumSpanningTree.{IsMinimumSpanningTree};
 ghost use Rattle.pls_decidable.specs.MarkTests.{count_test, leader_test};
-ghost use Rattle.pls_decidable.specs.SearchTests.{acyclic_test, bipartite_test};
+ghost use Rattle.pls_decidable.specs.SearchTests.{acyclic_test, bipartite_test, mst_test};
 
 use pls_facts::is_valid;
 use pls_graph::Network;
@@ -32,6 +33,13 @@ pub fn bipartite_is_tested(net: &Network)
 /// The test of cycles passes exactly where there is none.
 pub fn acyclic_is_tested(net: &Network)
     ensures { IsTrue (acyclic_test net.now) ↔ IsAcyclic net.now }
+{
+    is_valid(net);
+}
+
+/// The test of spanning trees of least weight passes exactly where the pointers make one.
+pub fn mst_is_tested(net: &Network)
+    ensures { IsTrue (mst_test net.now) ↔ IsMinimumSpanningTree net.now }
 {
     is_valid(net);
 }

@@ -1,3 +1,7 @@
 pub mod Adding
 pub mod Readings
 pub mod Storing
+pub mod Agreeing
+pub mod Judged
+pub mod Buildable
+pub mod KnownMaps

@@ -1,2 +1,5 @@
 pub mod Reading
 pub mod Writing
+pub mod Stating
+pub mod Verifying
+pub mod Deciding

@@ -1,26 +1,30 @@
--- Expressions as lists of words, by which their values are told apart: a name, and `and` and `or`
--- behind the two that they join.
+-- Expressions as lists of words, by which their values are told apart: a name, a property, and `and`
+-- and `or` behind the two that they join.
 use Rattle.std.proofs.Common.{◌≡◌, ◌∙◌, ◌⊎◌, inl, inr, Bool, true, false, List, [], ◌∷◌, ◌++◌, refl, sym, ap}
 use Rattle.std.specs.Coded.{Coded, code_by, coded_bool, coded_list, coded⊎}
 use Rattle.std.proofs.lemmas.List.{append-nil, append_assoc}
 use Rattle.pls_combine.specs.contracts.scheme_name.SchemeName as names
 use Rattle.pls_combine.specs.declared.scheme_name.SchemeName.{SchemeName}
 use Rattle.pls_combine.specs.declared.scheme_name.SchemeName.TheVariants.{Tree}
-use Rattle.pls_combine.specs.Expression.{Expression, And, Basic, Or}
+use Rattle.pls_property.specs.PropertyExpression.{PropertyExpression}
+use Rattle.pls_property.specs.inner.Codes.{coded_property}
+use Rattle.pls_combine.specs.Expression.{Expression, And, Basic, Map, Or}
 
--- a word: whether it is `or`, or a name
+-- a word: whether it is `or`, or a name, or a property
 abbrev Word : Type 0
-Word = Bool ⊎ SchemeName
+Word = Bool ⊎ (SchemeName ⊎ PropertyExpression)
 
 -- the words of an expression
 abbrev words_of : Expression → List Word
-words_of (Basic name) = inr name ∷ []
+words_of (Basic name) = inr (inl name) ∷ []
+words_of (Map property) = inr (inr property) ∷ []
 words_of (And first second) = words_of first ++ (words_of second ++ inl false ∷ [])
 words_of (Or first second) = words_of first ++ (words_of second ++ inl true ∷ [])
 
 -- what a word makes of the expressions so far, the last of which stands first
 abbrev taken : Word → List Expression → List Expression
-taken (inr name) others = Basic name ∷ others
+taken (inr (inl name)) others = Basic name ∷ others
+taken (inr (inr property)) others = Map property ∷ others
 taken (inl false) (second ∷ first ∷ others) = And first second ∷ others
 taken (inl true) (second ∷ first ∷ others) = Or first second ∷ others
 taken (inl join) [] = []
@@ -35,6 +39,7 @@ all_taken (word ∷ words) others = all_taken words (taken word others)
 all_taken-words : (scheme : Expression) (words : List Word) (others : List Expression)
     → all_taken (words_of scheme ++ words) others ≡ all_taken words (scheme ∷ others)
 all_taken-words (Basic name) words others = refl
+all_taken-words (Map property) words others = refl
 all_taken-words (And first second) words others =
     ap (λ (words : List Word). all_taken words others)
     (append_assoc (words_of first) (words_of second ++ inl false ∷ []) words)
@@ -67,5 +72,5 @@ expression_in-words scheme =
 -- expressions are told apart by their words
 abbrev pub coded_expression : Coded Expression
 coded_expression =
-    code_by (List Word) (coded_list (coded⊎ coded_bool names.the_row.coded)) words_of expression_in
+    code_by (List Word) (coded_list (coded⊎ coded_bool (coded⊎ names.the_row.coded coded_property))) words_of expression_in
     expression_in-words

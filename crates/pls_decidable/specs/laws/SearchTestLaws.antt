@@ -1,22 +1,28 @@
 -- The tests that try all lists give true exactly where the properties hold.
-use Rattle.std.proofs.Common.{◌≡◌, ◌≢◌, ◌∙◌, ◌≤◌, ◌==◌, ◌↔◌, ℕ, inl, inr, Bool, true, false, not, cond, List, [], ◌∷◌, map, length, refl, sym, ap, subst, arith, Contains}
-use Rattle.std.specs.List.{list_all, list_any}
+use Rattle.std.proofs.Common.{◌≡◌, ◌≢◌, ◌∙◌, ◌+◌, ◌≤◌, ◌==◌, ◌↔◌, ℕ, inl, inr, Bool, true, false, not, cond, List, [], ◌∷◌, map, length, refl, sym, ap, subst, arith, Contains}
+use Rattle.std.specs.Prelude.{nat_le}
+use Rattle.std.specs.List.{count_by, list_all, list_any}
 use Rattle.std.proofs.lemmas.Bool.{both_ways, eq-eqb, eqb-true, false_from_ne_true, false≢true, not-true, not_from_false, or_from, or_parts, true≢false}
 use Rattle.std.proofs.lemmas.List.{length-map}
 use Rattle.pls_model.specs.declared.row.NodeRow.{NodeRow}
 use Rattle.pls_model.specs.Configuration.{IsNetwork, has_repeat, ids_of}
-use Rattle.pls_model.specs.Walk.{Adjacent, Edge, Joins, Walk, edges_of}
+use Rattle.pls_model.specs.Walk.{Adjacent, Edge, JoinAll, Joins, Walk, edges_of}
 use Rattle.pls_graph.proofs.Members.{Contains-cons_cases, Contains-first, Contains-later}
 use Rattle.pls_facts.specs.Bipartite.{Colours, IsBipartite}
 use Rattle.pls_facts.specs.Cycle.{IsAcyclic, IsCycle}
-use Rattle.pls_facts.specs.SpanningTree.{AreDistinct}
+use Rattle.pls_facts.specs.SpanningTree.{AreDistinct, IsSpanningTree, is_root, pointed_edges}
+use Rattle.pls_facts.specs.Lightest.{weight_of}
+use Rattle.pls_facts.specs.MinimumSpanningTree.{IsMinimumSpanningTree}
 use Rattle.pls_facts.proofs.Distinct.{AreDistinct-cons, AreDistinct-first, AreDistinct-nil, AreDistinct-rest}
 use Rattle.pls_facts.proofs.Fewer.{length-part}
 use Rattle.pls_facts.proofs.Lists.{any_passes, passes_any}
 use Rattle.pls_facts.proofs.Neighbours.{adjacent_known}
+use Rattle.pls_facts.proofs.PointedEdges.{pointed_among}
 use Rattle.pls_facts.proofs.PortEdges.{IsGraph-network}
-use Rattle.pls_decidable.specs.SearchTests.{acyclic_test, all_lists, bipartite_test, colour_of, differ, is_colouring, is_cycle, is_walk, joins, lists_up_to}
+use Rattle.pls_facts.proofs.Trees.{length-pointed_edges}
+use Rattle.pls_decidable.specs.SearchTests.{acyclic_test, all_lists, bipartite_test, colour_of, differ, has_ends, is_colouring, is_cycle, is_walk, lists_up_to, mst_test, spanning_trees}
 use Rattle.pls_decidable.specs.laws.AllLists.{AreAmong, Contains-all_lists, Contains-lists_up_to}
+use Rattle.pls_decidable.specs.laws.Joining.{few_differ, joined_tells, spanning_listed}
 use Rattle.pls_decidable.specs.laws.Tested.{Tells, all_tells, any_tells, both_tells, either_tells, most_tells, not_tells, same_tells}
 
 -- two truth values differ
@@ -117,8 +123,8 @@ distinct_tells (first ∷ nodes) = (
 
 module _ (edges : List Edge) where
   -- some edge has the two ends
-  adjacent_tells : (u v : ℕ) → Tells (list_any (λ edge. joins edge u v) edges) (Adjacent edges u v)
-  adjacent_tells u v = any_tells (λ edge. joins edge u v) (λ edge. Joins edge u v) edges
+  adjacent_tells : (u v : ℕ) → Tells (list_any (λ edge. has_ends edge u v) edges) (Adjacent edges u v)
+  adjacent_tells u v = any_tells (λ edge. has_ends edge u v) (λ edge. Joins edge u v) edges
       (λ edge in'. either_tells (both_tells (same_tells edge.a u) (same_tells edge.b v))
       (both_tells (same_tells edge.a v) (same_tells edge.b u)))
 
@@ -133,14 +139,14 @@ module _ (edges : List Edge) where
       → Tells (is_cycle edges last nodes) (IsCycle edges last nodes)
   cycle_tells last nodes = (
     λ passes. let is = parts.0 passes in
-        record { long = is.0; distinct = is.1.0; closed = is.1.1 },
-    λ cycle. parts.1 (cycle.long, (cycle.distinct, cycle.closed)),
+        record { long = is.0.0; distinct = is.0.1; closed = is.1 },
+    λ cycle. parts.1 ((cycle.long, cycle.distinct), cycle.closed),
   )
     where
       parts : Tells (is_cycle edges last nodes)
-          (3 ≤ length nodes × (AreDistinct nodes × Walk edges last nodes last))
-      parts = both_tells (most_tells 3 (length nodes))
-          (both_tells (distinct_tells nodes) (walk_tells last nodes last))
+          ((3 ≤ length nodes × AreDistinct nodes) × Walk edges last nodes last)
+      parts = both_tells (both_tells (most_tells 3 (length nodes)) (distinct_tells nodes))
+          (walk_tells last nodes last)
 
 module _ (rows : List NodeRow) (net : IsNetwork rows) where
   -- a walk leads through nodes of the network
@@ -197,3 +203,55 @@ module _ (rows : List NodeRow) (net : IsNetwork rows) where
           (λ nodes in'. all_tells (λ last. not (is_cycle (edges_of rows) last nodes))
           (λ last. IsCycle (edges_of rows) last nodes → ⊥) (ids_of rows)
           (λ last last_in. not_tells (cycle_tells (edges_of rows) last nodes)))
+
+module _ (rows : List NodeRow) (net : IsNetwork rows) where
+  abbrev trees : List (List Edge)
+  trees = spanning_trees (edges_of rows) (ids_of rows)
+
+  -- the parts of the test
+  mst_tells : Tells (mst_test rows)
+      (((count_by is_root rows ≡ 1) × JoinAll (pointed_edges rows) (ids_of rows))
+      × ((tree : List Edge) → Contains trees tree
+      → weight_of (pointed_edges rows) ≤ weight_of tree))
+  mst_tells = let pointed = weight_of (pointed_edges rows) in
+      both_tells
+      (both_tells (same_tells (count_by is_root rows) 1)
+      (joined_tells (pointed_edges rows) (ids_of rows)))
+      (all_tells (λ tree. nat_le pointed (weight_of tree)) (λ tree. pointed ≤ weight_of tree) trees
+      (λ tree in'. most_tells pointed (weight_of tree)))
+
+  -- the test of spanning trees of least weight is right
+  pub mst_tested : (mst_test rows ≡ true) ↔ IsMinimumSpanningTree rows
+  mst_tested = (
+    λ passes. let is = mst_tells.0 passes in record {
+      tree = record { one_root = is.0.0; spanning = spans is.0.0 is.0.1 };
+      lightest = λ other other_spans. is.1 other ((listed other).1 other_spans);
+    },
+    λ least. mst_tells.1 (
+      (least.tree.one_root, least.tree.spanning.joined),
+      λ tree in'. least.lightest tree ((listed tree).0 in'),
+    ),
+  )
+    where
+      distinct : AreDistinct (ids_of rows)
+      distinct = (IsGraph-network rows net).distinct
+
+      many : length (ids_of rows) ≡ length rows
+      many = length-map rows (λ (row : NodeRow). row.id)
+
+      listed : (tree : List Edge) → Contains trees tree
+          ↔ IsSpanningTree (edges_of rows) tree (ids_of rows)
+      listed = spanning_listed (edges_of rows) (ids_of rows) distinct
+          (omega (arith, many, net.limits.some))
+
+      spans : count_by is_root rows ≡ 1 → JoinAll (pointed_edges rows) (ids_of rows)
+          → IsSpanningTree (edges_of rows) (pointed_edges rows) (ids_of rows)
+      spans one joined =
+          let few : length (pointed_edges rows) + 1 ≡ length (ids_of rows) =
+          omega (arith, length-pointed_edges rows net, one, many) in
+          record {
+            among = pointed_among rows net;
+            distinct = few_differ (pointed_edges rows) (ids_of rows) distinct few joined;
+            few = few;
+            joined = joined;
+          }

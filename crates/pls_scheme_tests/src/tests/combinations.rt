@@ -85,6 +85,12 @@ fn expressions_mark_as_what_they_say(rt: HostRuntime) -> Result<(), Fail> {
         ("and(bipartite,acyclic)", ["48", "54"], 7),
         ("or(and(bipartite,acyclic),tree)", ["24", "2a"], 8),
         ("or(tree,bipartite)", ["80", "c0"], 7),
+        ("map(diameter:1)", ["4d74d3e920", "6d74d3e920"], 40),
+        (
+            "or(map(tree),map(or(mst,bipartite)))",
+            ["a6ba69f490", "b6ba69f490"],
+            41,
+        ),
     ];
     for (text, labels, bound) in cases {
         assert!(rt; text_marks_as(rt.alloc(), text, labels, bound)?, "{text}");
@@ -122,7 +128,23 @@ fn texts_are_read_and_printed_or_refused(rt: HostRuntime) -> Result<(), Fail> {
         ("and(tree,)", Some(SchemeError::NotAScheme)),
         ("and(tree,tree", Some(SchemeError::NotAScheme)),
         ("and(tree, tree)", Some(SchemeError::NotAScheme)),
-        ("map(tree)", Some(SchemeError::NotAScheme)),
+        ("map(tree)", None),
+        ("map(diameter:0)", None),
+        ("or(map(and(or(bridgeless,spt),diameter:32767)),mst)", None),
+        ("map(diameter:32768)", Some(SchemeError::NotAScheme)),
+        ("map(diameter:01)", Some(SchemeError::NotAScheme)),
+        ("map(diameter:)", Some(SchemeError::NotAScheme)),
+        ("map(and(tree,diameter:1x))", Some(SchemeError::NotAScheme)),
+        ("map(map(tree))", Some(SchemeError::NotAScheme)),
+        ("bridgeless", Some(SchemeError::NotAScheme)),
+        (
+            "map(and(tree,or(tree,and(tree,or(tree,and(tree,or(tree,and(tree,spt))))))))",
+            Some(SchemeError::TooDeep),
+        ),
+        (
+            "and(tree,map(or(or(or(mst,spt),or(mst,spt)),or(or(mst,spt),or(mst,spt)))))",
+            Some(SchemeError::TooMany),
+        ),
         (
             "and(and(and(and(and(and(and(and(",
             Some(SchemeError::TooDeep),

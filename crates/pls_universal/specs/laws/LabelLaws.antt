@@ -1,5 +1,5 @@
 -- Labels are read exactly where their codes stand.
-use Rattle.std.proofs.Common.{◌≡◌, ◌∙◌, ◌↔◌, ℕ, ◌++◌, Bool, List, [], ◌∷◌, Option, Some, None, option_map, refl, sym, ap, subst}
+use Rattle.std.proofs.Common.{◌≡◌, ◌∙◌, ◌↔◌, ℕ, ◌++◌, Bool, List, [], ◌∷◌, Option, Some, None, IfSome, IfNone, option_map, refl, sym, ap, subst}
 use Rattle.std.specs.Option.{option_and_then}
 use Rattle.std.proofs.lemmas.List.Elements.{All-cons, All-head, All-tail}
 use Rattle.pls_bits.specs.NumberCode.{TakesCodes, TakesOnly}
@@ -20,7 +20,7 @@ module _ (code : ℕ → List Bool) (takes : List Bool → Option (ℕ × List B
   in-map rows bits is = ap (option_and_then to_the_end) (map_read code takes taken only rows bits is)
 
   -- and from no others
-  map-in : (rows : List MapRow) (bits : List Bool) → map_in takes bits ≡ Some rows
+  pub map-in : (rows : List MapRow) (bits : List Bool) → map_in takes bits ≡ Some rows
       → IsMap code rows bits
   map-in rows bits is = by (takes bits) refl is
     where
@@ -94,3 +94,17 @@ module _ (code : ℕ → List Bool) (takes : List Bool → Option (ℕ × List B
             coded = All-tail Small label.own (numbers_of_map label.rows) is.coded;
             written = refl;
           }))
+
+  -- what bits say, where they say something, they spell
+  pub some-spelled : (bits : List Bool) (found : Option MapLabel) → found ≡ map_label takes bits
+      → IfSome found (λ label. AreCodesOf code (numbers_of_label label) bits)
+  some-spelled bits None is = tt
+  some-spelled bits (Some label) is = (map_label-spells bits label).0 (sym is)
+
+  -- and where they say nothing, they spell nothing
+  pub none-spelled : (bits : List Bool) (found : Option MapLabel) → found ≡ map_label takes bits
+      → IfNone found ((label : MapLabel) → AreCodesOf code (numbers_of_label label) bits → ⊥)
+  none-spelled bits None is = λ label spelled.
+      let there : map_label takes bits ≡ Some label = (map_label-spells bits label).1 spelled in
+      absurd (cc)
+  none-spelled bits (Some label) is = tt

@@ -20,7 +20,7 @@ use Rattle.pls_facts.proofs.Classes.{class-joined, class_of}
 use Rattle.pls_facts.proofs.Neighbours.{neighbour_row, within_greatest}
 use Rattle.pls_facts.proofs.Pointed.{row_of_id}
 use Rattle.pls_scheme.specs.Reading.{port_where, read_where}
-use Rattle.pls_scheme.specs.Theorem.{AreRightEverywhere, AreWords, HoldEverywhere}
+use Rattle.pls_scheme.specs.Theorem.{AreRightEverywhere, AreWords, HoldEverywhere, OneIsRight}
 use Rattle.pls_scheme.proofs.SaidPorts.{all_ports_pass}
 use Rattle.pls_universal.specs.declared.map.MapLabel.{MapLabel}
 use Rattle.pls_universal.specs.declared.map.MapRow.{MapRow}
@@ -28,7 +28,7 @@ use Rattle.pls_universal.specs.Map.{map_of, port_stated, row_stated, up_stated}
 use Rattle.pls_universal.specs.Rules.{IsTestOf, are_one, has_map, is_joined, is_network, is_node_right, is_port_right, is_port_small, is_small, is_within_limits, is_word, map_rules, map_says, matched, node_of, nodes_of, port_of, same_port, same_record, same_state, same_up, up_of}
 
 -- lists match themselves, where each item passes with itself
-matched-itself : {X : Type 0} (test : X → X → Bool) → ((x : X) → test x x ≡ true) → (xs : List X)
+pub matched-itself : {X : Type 0} (test : X → X → Bool) → ((x : X) → test x x ≡ true) → (xs : List X)
     → matched test xs xs ≡ true
 matched-itself test itself [] = refl
 matched-itself test itself (x ∷ xs) =
@@ -40,7 +40,7 @@ number-itself number = eq-eqb number number refl
 port-itself : (port : ℕ × ℕ) → same_port port port ≡ true
 port-itself port = and_from _ _ (number-itself port.0) (number-itself port.1)
 
-record-itself : (row : MapRow) → same_record row row ≡ true
+pub record-itself : (row : MapRow) → same_record row row ≡ true
 record-itself row =
     and_from _ (matched same_port row.ports row.ports)
     (and_from _ (row.num == row.num) (and_from _ (row.mark == row.mark)
@@ -84,7 +84,7 @@ same-one (first ∷ others) same = list_all-from_AllPass (λ other. first == oth
     (Contains-later first others (get_or others i d) (Contains-get_or others i d within))))
 
 -- where all are joined, one node stands for all
-connected-joined : (rows : List NodeRow) → IsConnected rows → is_joined rows ≡ true
+pub connected-joined : (rows : List NodeRow) → IsConnected rows → is_joined rows ≡ true
 connected-joined rows connected =
     let edges : List Edge = edges_of rows in
     same-one (map (class_of edges) (ids_of rows)) (λ a b a_in b_in.
@@ -234,3 +234,8 @@ map_one_right rows row one other mine theirs =
 
     parts : (a b : ℕ) (m n : List MapRow) → a ≡ b → m ≡ n → make a m ≡ make b n
     parts a b m n one two = rw (one, two) refl
+
+-- so it is for each node of a connected network with a property
+pub map_right_once : (holds : List NodeRow → Type 0) → OneIsRight holds map_says
+map_right_once holds rows net connected has row one other in' mine theirs =
+    map_one_right rows row one other mine theirs

@@ -9,7 +9,7 @@ use Rattle.pls_model.specs.declared.row.State.{State}
 use Rattle.pls_model.specs.declared.row.NodeRow.{NodeRow}
 use Rattle.pls_model.specs.declared.refusal.BuildError.{BuildError}
 use Rattle.pls_model.specs.declared.limits.TheConstants.{MAX_NODES, MAX_NUM, MAX_PORTS}
-use Rattle.pls_model.specs.Configuration.{IsNetwork, ids_of, ports_in, refusal_of}
+use Rattle.pls_model.specs.Configuration.{AreWithinLimits, IsNetwork, ids_of, ports_in, refusal_of}
 use Rattle.pls_model.specs.Walk.{AreJoined, Edge, IsConnected, Walk, edges_of}
 use Rattle.pls_graph.proofs.Joined.{AreJoined-adjacent, AreJoined-through, AreJoined-turned}
 use Rattle.pls_graph.proofs.Members.{Contains-cons_cases, Contains-first, Contains-later, Contains-map}
@@ -156,27 +156,33 @@ small-nodes rows all = All-map
     leb-true row.num MAX_NUM
     (both_pass _ (nat_le row.num MAX_NUM) (both_pass _ (list_all is_port_small row.ports) small).0).1)
 
--- what passes rule 5 is a network, and connected
-pub network-is : (rows : List MapRow) → is_network rows ≡ true
-    → IsNetwork (nodes_of rows) × IsConnected (nodes_of rows)
-network-is rows is =
-    let (two, joined) = both_pass _ (is_joined (nodes_of rows)) is in
-    let (limits, valid) = both_pass (is_within_limits rows)
-    (is_none (refusal_of (nodes_of rows))) two in
+-- a map within the limits states rows within them
+pub limits-are : (rows : List MapRow) → is_within_limits rows ≡ true
+    → AreWithinLimits (nodes_of rows)
+limits-are rows limits =
     let (counts, small) = both_pass _ (list_all is_small rows) limits in
     let (many, ports) = both_pass _ (nat_le (ports_in (nodes_of rows)) MAX_PORTS) counts in
     let (some, few) = both_pass (nat_le 1 (length rows)) (nat_le (length rows) MAX_NODES) many in
     let long : length (nodes_of rows) ≡ length rows =
     length-map rows node_of in
     let one = leb-true 1 (length rows) some in
-    let most = leb-true (length rows) MAX_NODES few in (
+    let most = leb-true (length rows) MAX_NODES few in
+    record {
+      some = omega (arith, long, one);
+      few_nodes = omega (arith, long, most);
+      few_ports = leb-true (ports_in (nodes_of rows)) MAX_PORTS ports;
+      small = small-nodes rows small;
+    }
+
+-- what passes rule 5 is a network, and connected
+pub network-is : (rows : List MapRow) → is_network rows ≡ true
+    → IsNetwork (nodes_of rows) × IsConnected (nodes_of rows)
+network-is rows is =
+    let (two, joined) = both_pass _ (is_joined (nodes_of rows)) is in
+    let (limits, valid) = both_pass (is_within_limits rows)
+    (is_none (refusal_of (nodes_of rows))) two in (
       record {
-        limits = record {
-          some = omega (arith, long, one);
-          few_nodes = omega (arith, long, most);
-          few_ports = leb-true (ports_in (nodes_of rows)) MAX_PORTS ports;
-          small = small-nodes rows small;
-        };
+        limits = limits-are rows limits;
         valid = none-is (refusal_of (nodes_of rows)) valid;
       },
       joined-connected (nodes_of rows) joined,

@@ -2,7 +2,7 @@ use Rattle.std.proofs.Common.{◌≡◌, ◌∙◌, None, Some, inr, sym, ap, re
 use Rattle.pls_combine.specs.declared.scheme_error.SchemeError.TheVariants.{NotAScheme, TooDeep, TooMany}
 use Rattle.pls_combine.specs.ExpressionText.{HasTooMany, IsNoExpression, IsTooDeep, expression_text}
 use Rattle.pls_combine.specs.Expression.{IsSmall}
-use Rattle.pls_combine.specs.inner.Fronts.{refusal_of}
+use Rattle.pls_combine.specs.inner.ExpressionFronts.{refusal_of}
 use Rattle.pls_combine.specs.inner.Trees.{expression_of}
 use Rattle.std.proofs.lemmas.Option.{same_Some}
 use Rattle.pls_combine.specs.laws.TextLaws.{expression_in-is}
@@ -88,11 +88,11 @@ of_tree-requires g c =
     sym c.in-None.is ∙ c.refusal_of.ensures in
     let text = kept_text c.as_bytes-bytes.result.now kept in
     let same : text.0 ≡ expression_of c.in_ok-tree_in-in-None.field-0 =
-    same_Some _ _ (sym text.1 ∙ c.in_ok-tree_in-in-None.ensures) in
+    same_Some text.0 (expression_of c.in_ok-tree_in-in-None.field-0) (sym text.1 ∙ c.in_ok-tree_in-in-None.ensures) in
     subst IsSmall same text.2
 
 pub returns-in_ok-tree_in-in-None-clause-written : goal.returns-in_ok-tree_in-in-None-clause-written
 returns-in_ok-tree_in-in-None-clause-written g c =
     let written = expression_in-is c.as_bytes-bytes.result.now
     (expression_of c.in_ok-tree_in-in-None.field-0) c.in_ok-tree_in-in-None.ensures in
-    sym c.as_bytes-bytes.ensures.value ∙ written.0 ∙ ap expression_text (sym c.of_tree.ensures)
+    sym c.as_bytes-bytes.ensures.value ∙ written.written ∙ ap expression_text (sym c.of_tree.ensures)

@@ -92,3 +92,6 @@ returns-in_ok-labels-in-Or-2-clause-short g t c =
     c.in_ok-labels-in-Or-2.ensures.tagged c.in_ok-labels-in-Or-2.ensures.fit
     (longest_of g.C.NumCode.code second (size_of c.args.net.now)) _ (omega arith)
     (rw (c.in-Some-4.is, c.deref-in-Or-2.ensures) at (c.in_ok-rests-in-Or-2.ensures.short)))
+
+pub returns-in-Map-clause-accepted : goal.returns-in-Map-clause-accepted
+returns-in-Map-clause-accepted g t c = rw c.in-Map.is c.mark-in-Map.ensures.accepted

@@ -1,4 +1,4 @@
-use Rattle.pls_combine.proofs.fronts.+names_front.Given as goal
+use Rattle.pls_combine.proofs.expression_fronts.+names_front.Given as goal
 
 -- each call has one level less below it
 abbrev pub decreases-names_front : goal.decreases-names_front

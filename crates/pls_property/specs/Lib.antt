@@ -1,0 +1,4 @@
+pub mod PropertyExpression
+pub mod Held
+pub mod inner
+pub mod laws

@@ -1,0 +1,166 @@
+-- Labels whose map is compared with one by its bits.
+use Rattle.std.proofs.Common.{◌≡◌, ◌≢◌, ◌∙◌, ◌<◌, ◌≤◌, ◌+◌, ℕ, suc, ◌&&◌, Bool, true, false, List, ◌∷◌, length, get_or, drop, Option, Some, None, option_map, refl, sym, ap, subst, arith}
+use Rattle.std.proofs.Math.Seq.{drop-cons}
+use Rattle.std.proofs.lemmas.Bool.{false_from_ne_true}
+use Rattle.std.proofs.lemmas.List.{drop_all}
+use Rattle.pls_bits.specs.NumberCode.{TakesCodes, TakesOnly}
+use Rattle.pls_view.specs.declared.view.PortView.{PortView}
+use Rattle.pls_view.specs.Seen.{SeenPort}
+use Rattle.pls_scheme.specs.Numbers.{codes_of}
+use Rattle.pls_scheme.specs.Reading.{ReadPort, read_ports}
+use Rattle.pls_universal.specs.Map.{numbers_of_map}
+use Rattle.pls_universal.specs.declared.map.MapLabel.{MapLabel}
+use Rattle.pls_universal.specs.declared.map.MapRow.{MapRow}
+use Rattle.pls_universal.specs.Reading.{label_with, map_in, map_label}
+use Rattle.pls_universal.specs.Rules.{matched, same_record}
+use Rattle.pls_universal.specs.laws.LabelLaws.{map-in}
+use Rattle.pls_universal.specs.laws.MapMet.{matched-itself, record-itself}
+use Rattle.pls_universal.specs.laws.RuleLaws.{map-same}
+use Rattle.pls_universal.specs.inner.Verifying.{agreement, ports_shown, same_map}
+
+module _ (takes : List Bool → Option (ℕ × List Bool)) where
+  -- a label that begins with no number cannot be read
+  pub same_map-unread : (rows : List MapRow) (label : List Bool) → takes label ≡ None
+      → None ≡ same_map takes rows label
+  same_map-unread rows label none = rw none refl
+
+  -- where the map behind the number is this one, the label has it
+  pub same_map-equal : (rows : List MapRow) (label : List Bool) (own : ℕ) (map : List Bool)
+      → takes label ≡ Some (own, map) → map_in takes map ≡ Some rows
+      → Some true ≡ same_map takes rows label
+  same_map-equal rows label own map first read =
+      rw (first, read) (ap Some (sym (matched-itself same_record record-itself rows)))
+
+  -- the map of a label that is read is that behind its number
+  pub behind_number : (label : List Bool) (own : ℕ) (map : List Bool) (read : MapLabel)
+      → takes label ≡ Some (own, map) → map_label takes label ≡ Some read
+      → map_in takes map ≡ Some read.rows
+  behind_number label own map read first is =
+      by (map_in takes map) refl (rw first at is)
+    where
+      by : (found : Option (List MapRow)) → map_in takes map ≡ found
+          → option_map (label_with own) found ≡ Some read → found ≡ Some read.rows
+      by None found is = absurd (cc)
+      by (Some rows) found is =
+          let same : label_with own rows ≡ read = cc in
+          ap (λ (label : MapLabel). Some label.rows) same
+
+  -- and what the label calls itself is the number
+  pub number_own : (label : List Bool) (own : ℕ) (map : List Bool) (read : MapLabel)
+      → takes label ≡ Some (own, map) → map_label takes label ≡ Some read → own ≡ read.own
+  number_own label own map read first is = by (map_in takes map) (rw first at is)
+    where
+      by : (found : Option (List MapRow)) → option_map (label_with own) found ≡ Some read
+          → own ≡ read.own
+      by None is = absurd (cc)
+      by (Some rows) is =
+          let same : label_with own rows ≡ read = cc in
+          ap (λ (label : MapLabel). label.own) same
+
+  module _ (code : ℕ → List Bool) (taken : TakesCodes code takes) (only : TakesOnly code takes) where
+    -- where the bits behind the number differ, so do the maps
+    pub same_map-other : (rows : List MapRow) (label : List Bool) (own : ℕ) (map other : List Bool)
+        → takes label ≡ Some (own, other) → map_in takes map ≡ Some rows → map ≢ other
+        → (found : MapLabel) → Some found ≡ map_label takes label
+        → Some false ≡ same_map takes rows label
+    same_map-other rows label own map other first read apart found is =
+        rw (sym is) (ap Some (sym (false_from_ne_true
+        (matched same_record found.rows rows) (λ same.
+        let one : found.rows ≡ rows = map-same found.rows rows same in
+        let mine = map-in code takes taken only rows map read in
+        let theirs = map-in code takes taken only found.rows other
+        (behind_number label own other found first (sym is)) in
+        apart (mine.written
+        ∙ sym (subst (λ (rows : List MapRow). other ≡ codes_of code (numbers_of_map rows))
+        one theirs.written))))))
+
+  -- a label that is no label cannot be read
+  pub same_map-none : (rows : List MapRow) (label : List Bool) → None ≡ map_label takes label
+      → None ≡ same_map takes rows label
+  same_map-none rows label none = rw (sym none) refl
+
+  -- where the first label is read, it is the first that is asked
+  agreement-first : (rows : List MapRow) (port : SeenPort) (ports : List SeenPort) (same : Bool)
+      → same_map takes rows port.label ≡ Some same
+      → agreement takes rows (port ∷ ports)
+      ≡ option_map (λ rest. same && rest) (agreement takes rows ports)
+  agreement-first rows port ports same is =
+      by (map_label takes port.label) refl is (read_ports (map_label takes) ports) refl
+    where
+      by : (first : Option MapLabel) → map_label takes port.label ≡ first
+          → option_map (λ (label : MapLabel). matched same_record label.rows rows) first ≡ Some same
+          → (others : Option (List (ReadPort MapLabel)))
+          → read_ports (map_label takes) ports ≡ others
+          → agreement takes rows (port ∷ ports)
+          ≡ option_map (λ rest. same && rest) (agreement takes rows ports)
+      by None first is others read = absurd (cc)
+      by (Some label) first is None read = rw (first, read) refl
+      by (Some label) first is (Some others) read =
+          let this : matched same_record label.rows rows ≡ same = cc in
+          rw (first, read, sym this) refl
+
+  -- where it cannot be read, nothing is said
+  agreement-unread : (rows : List MapRow) (port : SeenPort) (ports : List SeenPort)
+      → same_map takes rows port.label ≡ None → agreement takes rows (port ∷ ports) ≡ None
+  agreement-unread rows port ports is = by (map_label takes port.label) refl is
+    where
+      by : (first : Option MapLabel) → map_label takes port.label ≡ first
+          → option_map (λ (label : MapLabel). matched same_record label.rows rows) first ≡ None
+          → agreement takes rows (port ∷ ports) ≡ None
+      by None first is = rw first refl
+      by (Some label) first is = absurd (cc)
+
+  -- the port at a place is the first of those from there on
+  pub from_place : (ports : List PortView) (i : ℕ) (port : PortView) → i < length ports
+      → port ≡ get_or ports i port → drop i ports ≡ port ∷ drop (i + 1) ports
+  from_place ports i port within is =
+      let one : suc i ≡ i + 1 = omega arith in
+      drop-cons ports i port within
+      ∙ ap (λ (first : PortView). first ∷ drop (suc i) ports) (sym is)
+      ∙ ap (λ (i : ℕ). port ∷ drop i ports) one
+
+  and-group : (a b : Bool) (rest : Option Bool)
+      → option_map (λ c. a && c) (option_map (λ c. b && c) rest)
+      ≡ option_map (λ c. (a && b) && c) rest
+  and-group a b None = refl
+  and-group true b (Some c) = refl
+  and-group false b (Some c) = refl
+
+  -- one more label is compared
+  pub agreement-next : (rows : List MapRow) (ports : List PortView) (i : ℕ) (port : PortView)
+      (agrees same : Bool) → i < length ports → port ≡ get_or ports i port
+      → Some same ≡ same_map takes rows port.label
+      → option_map (λ rest. agrees && rest) (agreement takes rows (ports_shown (drop i ports)))
+      ≡ option_map (λ rest. (agrees && same) && rest)
+      (agreement takes rows (ports_shown (drop (i + 1) ports)))
+  agreement-next rows ports i port agrees same within at is =
+      rw (
+        from_place ports i port within at,
+        agreement-first rows
+            (record { weight = port.weight; label = port.label }) (ports_shown (drop (i + 1) ports)) same (sym is),
+      )
+      (and-group agrees same (agreement takes rows (ports_shown (drop (i + 1) ports))))
+
+  -- one that cannot be read
+  pub agreement-stopped : (rows : List MapRow) (ports : List PortView) (i : ℕ) (port : PortView)
+      (agrees : Bool) → i < length ports → port ≡ get_or ports i port
+      → None ≡ same_map takes rows port.label
+      → option_map (λ rest. agrees && rest) (agreement takes rows (ports_shown (drop i ports)))
+      ≡ None
+  agreement-stopped rows ports i port agrees within at is =
+      rw (
+        from_place ports i port within at,
+        agreement-unread rows
+            (record { weight = port.weight; label = port.label }) (ports_shown (drop (i + 1) ports)) (sym is),
+      ) refl
+
+  -- all are compared
+  pub agreement-all : (rows : List MapRow) (ports : List PortView) (i : ℕ) (agrees : Bool)
+      → length ports ≤ i
+      → option_map (λ rest. agrees && rest) (agreement takes rows (ports_shown (drop i ports)))
+      ≡ Some agrees
+  agreement-all rows ports i agrees past = rw (drop_all i ports past) (by agrees)
+    where
+      by : (agrees : Bool) → Some (agrees && true) ≡ Some agrees
+      by true = refl
+      by false = refl

@@ -1,0 +1,130 @@
+-- Maps that were decided, and labels that have one of them.
+use Rattle.std.proofs.Common.{◌≡◌, ◌∙◌, ◌<◌, ◌≤◌, ◌+◌, ◌++◌, ℕ, zero, suc, inl, inr, Bool, List, [], ◌∷◌, All, insert, length, option_map, slice_get, Option, Some, refl, sym, ap, subst, arith, length-append}
+use Rattle.std.proofs.lemmas.Bool.{cases_lt}
+use Rattle.std.proofs.lemmas.List.Elements.{All-cons, All-head, All-tail}
+use Rattle.std.proofs.lemmas.Option.{same_Some, slice_get-map, slice_get_within}
+use Rattle.pls_model.specs.declared.row.NodeRow.{NodeRow}
+use Rattle.pls_model.specs.Configuration.{IsNetwork}
+use Rattle.pls_graph.proofs.Placed.{place_of_row}
+use Rattle.pls_view.specs.Seen.{Seen, label_of, seen, views}
+use Rattle.pls_view.proofs.Views.{label_at}
+use Rattle.pls_facts.proofs.Lists.{item_at}
+use Rattle.pls_universal.specs.declared.deciding.DecidedMap.{DecidedMap}
+use Rattle.pls_universal.specs.declared.deciding.DecidedMaps.{DecidedMaps}
+use Rattle.pls_universal.specs.declared.map.MapRow.{MapRow}
+use Rattle.pls_universal.specs.Reading.{label_with, map_in}
+use Rattle.pls_universal.specs.inner.Deciding.{AreDecided, IsDecided, IsNumberOf, IsNumberOfMap}
+use Rattle.pls_universal.proofs.Agreeing.{behind_number}
+
+-- what holds of all items and of one more holds of all when it came in
+All-inserted : {X : Type 0} (P : X → Type 0) (xs : List X) (i : ℕ) (x : X) → i ≤ length xs
+    → All P xs → P x → All P (insert xs i x)
+All-inserted P xs zero x within all one = All-cons P x xs one all
+All-inserted P [] (suc i) x within all one = absurd (omega (arith, within))
+All-inserted P (first ∷ xs) (suc i) x within all one =
+    All-cons P first (insert xs i x) (All-head P first xs all)
+    (All-inserted P xs i x (omega (arith, within)) (All-tail P first xs all) one)
+
+module _ {X : Type 0} where
+  -- items keep their places before one more
+  kept-before : (xs : List X) (x : X) (i : ℕ) → i < length xs
+      → slice_get (xs ++ x ∷ []) i ≡ slice_get xs i
+  kept-before [] x i within = absurd (omega (arith, within))
+  kept-before (first ∷ xs) x zero within = refl
+  kept-before (first ∷ xs) x (suc i) within = kept-before xs x i (omega (arith, within))
+
+  -- which stands behind them
+  here-behind : (xs : List X) (x : X) → slice_get (xs ++ x ∷ []) (length xs) ≡ Some x
+  here-behind [] x = refl
+  here-behind (first ∷ xs) x = here-behind xs x
+
+module _ (takes : List Bool → Option (ℕ × List Bool)) (test : List NodeRow → Bool)
+    (labels : List (List Bool)) (old : DecidedMaps) (decided : AreDecided takes test labels old) where
+  -- a label whose map is one of those that were decided
+  pub known-map : (label : List Bool) (own : ℕ) (map : List Bool) (number : ℕ)
+      → takes label ≡ Some (own, map) → IsNumberOfMap takes labels old map number
+      → IsNumberOf takes test old label number
+  known-map label own map number first is = record {
+    map = is.known;
+    at = is.at;
+    found = record {
+      own = label_with own rows;
+      read = rw (first, there) refl;
+      stated = known.2.stated;
+    };
+  }
+    where
+      known : (bits : List Bool) × (slice_get labels is.known.place ≡ Some bits)
+          × IsDecided takes test bits is.known
+      known = decided.each number is.known is.at
+
+      rows : List MapRow
+      rows = known.2.own.rows
+
+      same : is.has.bits ≡ known.0
+      same = same_Some is.has.bits known.0 (sym is.has.at ∙ known.1)
+
+      there : map_in takes map ≡ Some rows
+      there = behind_number takes known.0 is.has.own map known.2.own
+          (subst (λ (bits : List Bool). takes bits ≡ Some (is.has.own, map)) same is.has.parts)
+          known.2.read
+
+  module _ (new : DecidedMaps) (at : ℕ) (map : DecidedMap) (label : List Bool)
+      (within : at ≤ length old.order.items) (maps : new.maps.items ≡ old.maps.items ++ map ∷ [])
+      (order : new.order.items ≡ insert old.order.items at (length old.maps.items))
+      (stands : slice_get labels map.place ≡ Some label) (found : IsDecided takes test label map) where
+    -- one more map is decided
+    pub one-decided : AreDecided takes test labels new
+    one-decided = record { numbers = numbers; each = each }
+      where
+        long : length new.maps.items ≡ length old.maps.items + 1
+        long = ap (λ (maps : List DecidedMap). length maps) maps
+            ∙ length-append old.maps.items (map ∷ [])
+
+        numbers : All (λ number. number < length new.maps.items) new.order.items
+        numbers = rw order (All-inserted (λ number. number < length new.maps.items)
+            old.order.items at (length old.maps.items) within
+            (λ i d inside. omega (arith, decided.numbers i d inside, long)) (omega (arith, long)))
+
+        each : (number : ℕ) (known : DecidedMap) → slice_get new.maps.items number ≡ Some known
+            → (bits : List Bool) × (slice_get labels known.place ≡ Some bits)
+            × IsDecided takes test bits known
+        each number known is = elim (cases_lt number (length old.maps.items)) [
+          | inl before ↦ decided.each number known
+              (sym (kept-before old.maps.items map number before)
+              ∙ ap (λ (maps : List DecidedMap). slice_get maps number) (sym maps) ∙ is)
+          | inr past ↦
+              let inside = slice_get_within new.maps.items number known is in
+              let last : number ≡ length old.maps.items = omega (arith, past, inside, long) in
+              let same : map ≡ known = same_Some map known
+              (sym (here-behind old.maps.items map)
+              ∙ ap (slice_get (old.maps.items ++ map ∷ [])) (sym last)
+              ∙ ap (λ (maps : List DecidedMap). slice_get maps number) (sym maps) ∙ is) in
+              subst (λ (known : DecidedMap). (bits : List Bool)
+              × (slice_get labels known.place ≡ Some bits) × IsDecided takes test bits known) same
+              (label, stands, found)
+        ]
+
+    -- its number is the last
+    pub one-number : IsNumberOf takes test new label (length old.maps.items)
+    one-number = record {
+      map = map;
+      at = rw maps (here-behind old.maps.items map);
+      found = found;
+    }
+
+-- the own label of a view is that of its node
+pub own_at : (rows : List NodeRow) (labels : List (List Bool)) (i : ℕ) (view : Seen)
+    → IsNetwork rows → length labels ≡ length rows → i < length rows
+    → slice_get (views rows labels) i ≡ Some view → slice_get labels i ≡ Some view.own
+own_at rows labels i view net each within shows =
+    let (row, at) : (row : NodeRow) × (slice_get rows i ≡ Some row) = item_at rows i within in
+    let (bits, has) : (bits : List Bool) × (slice_get labels i ≡ Some bits) =
+    item_at labels i (omega (arith, each, within)) in
+    let own : label_of rows labels row.id ≡ bits =
+    label_at rows labels row.id i bits (place_of_row rows net i row at) has in
+    let same : seen (label_of rows labels) row ≡ view = same_Some (seen (label_of rows labels) row)
+    view
+    (sym (slice_get-map (seen (label_of rows labels)) rows i
+    ∙ ap (option_map (seen (label_of rows labels))) at) ∙ shows) in
+    has ∙ ap Some (sym own ∙ ap (λ (view : Seen). view.own) same)

@@ -1,0 +1,188 @@
+//! The universal scheme.
+
+ghost use Rattle.std.specs.Prelude.{◌≡◌};
+
+use crate::bound::{map_bound, maps_are_short};
+use crate::deciding::{DecidedMaps, verdict_at};
+use crate::layout::MapLayout;
+use crate::map::MapLabel;
+use crate::marking::map_labels;
+use crate::stating::stated_by;
+use crate::tested::Tested;
+use crate::verifying::verdict_on;
+use pls_base::{NoMemory, Steps};
+use pls_bits::{BitBuf, Bits, NumCode};
+use pls_facts::is_valid;
+use pls_graph::{Network, Size};
+use pls_model::Verdict;
+use pls_scheme::{Checker, Layout, Property, Scheme};
+use pls_view::{LabelStore, View};
+use std::alloc::Global;
+use std::marker::PhantomData;
+
+/// The universal scheme of a property: each label holds its node's identity and a map of the
+/// network, and each node compares the maps, finds itself in its own, and asks the property of what
+/// it states (Korman, Kutten and Peleg 2010). Labels are written in the number code `C`.
+#[derive(Drop)]
+pub struct MapOf<P, C> {
+    /// The property.
+    pub property: P,
+    code: PhantomData<C>,
+}
+
+impl<P, C> MapOf<P, C> {
+    /// The scheme of this property. It takes no memory.
+    pub fn new(property: P) -> Self
+        ensures { result.property ≡ property }
+    {
+        MapOf {
+            property,
+            code: PhantomData,
+        }
+    }
+}
+
+impl<P: Tested, C: NumCode> Checker for MapOf<P, C> {
+    ghost use Rattle.std.specs.Prelude.{true, false};
+    ghost use Rattle.pls_scheme.specs.Reading.{judge_by};
+    ghost use Rattle.pls_scheme.specs.laws.LeafLaws.{judge_by-leaf};
+    ghost use Rattle.pls_universal.specs.Reading.{map_label};
+    ghost use Rattle.pls_universal.specs.Rules.{map_rules};
+
+    ghost judge = { λ s view. judge_by (map_label C.takes) (map_rules (P.test s.property)) view };
+
+    ghost leaves = { λ _. 1 };
+
+    ghost lends = { λ _. false };
+
+    ghost TAKES_MEMORY = { true };
+
+    const TAKES_MEMORY: bool = true;
+
+    fn leaves(&self) -> u8 {
+        1
+    }
+
+    fn lends(&self) -> bool {
+        false
+    }
+
+    fn verify(
+        &self,
+        alloc: Global,
+        view: &View<'_>,
+        steps: &mut Steps,
+    ) -> Result<Verdict, NoMemory> {
+        steps.tick();
+        let Some(label) = MapLayout::<C>::read(alloc, &view.own)? else {
+            return Ok(Verdict::Reject { leaf: 1, rule: 1 });
+        };
+        let stated = stated_by(alloc, &self.property, label.rows.as_slice())?;
+        let verdict = verdict_on::<C>(alloc, &stated, view)?;
+        Ok(verdict)
+    }
+
+    fn round(
+        &self,
+        alloc: Global,
+        net: &Network,
+        labels: &LabelStore,
+        steps: &mut Steps,
+    ) -> Result<Vec<Verdict>, NoMemory> {
+        is_valid(net);
+        let mut decided = DecidedMaps::new(alloc);
+        let mut verdicts = Vec::with_capacity(alloc, net.len())?;
+        for i in 0..net.len() {
+            let view = View::of(alloc, net, labels, i)?;
+            steps.tick();
+            let verdict = verdict_at::<P, C>(
+                alloc,
+                &self.property,
+                labels,
+                &mut decided,
+                i,
+                &view,
+            )?;
+            verdicts.push(verdict)?;
+        }
+        Ok(verdicts)
+    }
+
+    ghost leaf_law = { λ s. judge_by-leaf (map_label C.takes) (map_rules (P.test s.property)) };
+
+    ghost lends_law = { λ _ taken. absurd (cc) };
+}
+
+impl<P: Tested, C: NumCode> Property for MapOf<P, C> {
+    ghost holds = { λ s rows. P.holds s.property rows };
+
+    fn decide(&self, alloc: Global, net: &Network) -> Result<bool, NoMemory> {
+        self.property.decide(alloc, net)
+    }
+}
+
+impl<P: Tested, C: NumCode> Scheme for MapOf<P, C> {
+    ghost use Rattle.pls_scheme.specs.Marked.{IsMarkedBy};
+    ghost use Rattle.pls_scheme.specs.Numbers.{AreCoded};
+    ghost use Rattle.pls_scheme.specs.laws.CodeLaws.{has_spelling, one_spelling};
+    ghost use Rattle.pls_scheme.specs.laws.Marking.{marked_once, one_said, sound_by};
+    ghost use Rattle.pls_universal.specs.Bound.{longest_map};
+    ghost use Rattle.pls_universal.specs.Map.{IsMapLabel, numbers_of_label};
+    ghost use Rattle.pls_universal.specs.Reading.{map_label};
+    ghost use Rattle.pls_universal.specs.Rules.{map_rules, map_says};
+    ghost use Rattle.pls_universal.specs.laws.LabelLaws.{map_label-spells};
+    ghost use Rattle.pls_universal.specs.laws.MapMet.{map_right_once};
+    ghost use Rattle.pls_universal.specs.laws.MapShow.{map_show};
+
+    type Label = MapLabel;
+
+    ghost layout = { λ _ bits label. IsMapLabel C.code bits label };
+
+    ghost writable = { λ _ label. AreCoded (numbers_of_label label) };
+
+    ghost marked = { λ _ rows labels. IsMarkedBy (IsMapLabel C.code) (map_says rows) rows labels };
+
+    ghost longest = { λ _ size. longest_map C.code size };
+
+    fn read_label(&self, alloc: Global, bits: Bits<'_>) -> Result<Option<MapLabel>, NoMemory> {
+        let label = MapLayout::<C>::read(alloc, &bits)?;
+        Ok(label)
+    }
+
+    fn write_label(&self, alloc: Global, label: &MapLabel) -> Result<BitBuf, NoMemory> {
+        MapLayout::<C>::write(alloc, label)
+    }
+
+    fn bound(&self, size: &Size) -> u64 {
+        map_bound::<C>(size)
+    }
+
+    fn mark(&self, alloc: Global, net: &Network) -> Result<Option<LabelStore>, NoMemory> {
+        is_valid(net);
+        // So its identities, weights and marks are numbers of 32 bits.
+        net.size();
+        maps_are_short::<C>(net);
+        if !self.property.decide(alloc, net)? {
+            return Ok(None);
+        }
+        let labels = map_labels::<C>(alloc, net)?;
+        // So no label is longer than a number of 64 bits says.
+        labels.total();
+        Ok(Some(labels))
+    }
+
+    ghost reads_back_law = { λ _ label. has_spelling C.code (numbers_of_label label) };
+
+    ghost one_spelling_law = { λ _ label. one_spelling C.code (numbers_of_label label) };
+
+    ghost one_label_law = { λ _. one_said (map_label C.takes) (IsMapLabel C.code)
+        (map_label-spells C.code C.takes C.takes_codes C.takes_only) };
+
+    ghost sound_law = { λ s. sound_by (map_label C.takes) (map_rules (P.test s.property))
+        (P.holds s.property) (map_show (P.test s.property) (P.holds s.property)
+        (P.test_law s.property)) };
+
+    ghost one_marking_law = { λ s. marked_once (IsMapLabel C.code) (P.holds s.property) map_says
+        (λ label. one_spelling C.code (numbers_of_label label))
+        (map_right_once (P.holds s.property)) };
+}

@@ -1,0 +1,34 @@
+//! What is found out of a map, once for all nodes that have it.
+
+ghost use Rattle.std.specs.Prelude.{IfOk};
+ghost use Rattle.pls_universal.specs.inner.Stating.{IsStated};
+
+use crate::building::network_of;
+use crate::map::MapRow;
+use crate::tested::Tested;
+use pls_base::NoMemory;
+use pls_graph::Network;
+use std::alloc::Global;
+
+/// The connected network that a map states, and whether it has the property.
+#[derive(Drop)]
+pub struct Stated {
+    pub(crate) net: Network,
+    pub(crate) has: bool,
+}
+
+// The connected network that the records of a map state, with the answer of the property, or `None`
+// where they state none. The property is decided once at most. The one error is want of memory.
+pub(crate) fn stated_by<P: Tested>(
+    alloc: Global,
+    property: &P,
+    rows: &[MapRow],
+) -> Result<Option<Stated>, NoMemory>
+    ensures { IfOk result (IsStated (P.test property.now) rows.now) }
+{
+    let Some(net) = network_of(alloc, rows)? else {
+        return Ok(None);
+    };
+    let has = property.decide(alloc, &net)?;
+    Ok(Some(Stated { net, has }))
+}

@@ -1,0 +1,143 @@
+//! The verdict of a node on its view, where its map was read before.
+
+ghost use Rattle.std.specs.Prelude.{◌≡◌, Bool, List, Some, IfOk};
+ghost use Rattle.pls_model.specs.declared.row.NodeRow.{NodeRow};
+ghost use Rattle.pls_scheme.specs.Reading.{judge_by};
+ghost use Rattle.pls_universal.specs.declared.map.MapLabel.{MapLabel};
+ghost use Rattle.pls_universal.specs.declared.map.MapRow.{MapRow};
+ghost use Rattle.pls_universal.specs.Reading.{map_in, map_label};
+ghost use Rattle.pls_universal.specs.Rules.{map_rules, matched, same_state};
+ghost use Rattle.pls_universal.specs.inner.Stating.{IsStated};
+ghost use Rattle.pls_universal.specs.inner.Verifying.{agreement, has_node, is_called, is_port_seen, ports_shown, same_map};
+
+use crate::layout::MapLayout;
+use crate::stating::Stated;
+use pls_base::NoMemory;
+use pls_bits::{Bits, NumCode};
+use pls_graph::{Network, Port, State};
+use pls_model::Verdict;
+use pls_scheme::{Layout, judged_from};
+use pls_view::{PortView, View};
+use std::alloc::Global;
+
+// The verdict on a view, by what was found out of the map of its own label. The one error is want
+// of memory.
+pub(crate) fn verdict_on<C: NumCode>(
+    alloc: Global,
+    stated: &Option<Stated>,
+    view: &View<'_>,
+) -> Result<Verdict, NoMemory>
+    ensures { IfOk result (λ verdict. (test : List NodeRow → Bool) (own : MapLabel)
+        → map_label C.takes view.now.own ≡ Some own → IsStated test own.rows stated.now
+        → verdict ≡ judge_by (map_label C.takes) (map_rules test) view.now) }
+{
+    let Some((own, map)) = parts::<C>(&view.own) else {
+        return Ok(Verdict::Reject { leaf: 1, rule: 1 });
+    };
+    let Some(agrees) = agreement::<C>(alloc, &map, &view.ports)? else {
+        return Ok(Verdict::Reject { leaf: 1, rule: 2 });
+    };
+    let itself = own == u64::from(view.id);
+    Ok(match stated {
+        Some(stated) => {
+            let here = has_node::<C>(&stated.net, view);
+            judged_from(3, &[itself, agrees, true, here, stated.has])
+        }
+        None => judged_from(3, &[itself, agrees, false]),
+    })
+}
+
+// The number in front of a label, and the bits of the map behind it, or `None` where the label
+// begins with no number. It takes no memory.
+pub(crate) fn parts<'a, C: NumCode>(label: &Bits<'a>) -> Option<(u64, Bits<'a>)>
+    ensures { result ≡ C.takes label.now }
+{
+    let mut cursor = label.cursor();
+    let own = C::read(&mut cursor)?;
+    Some((own, cursor.rest()))
+}
+
+// Whether each port's label has the map that these bits are, or `None` where one cannot be read.
+// The one error is want of memory.
+fn agreement<C: NumCode>(
+    alloc: Global,
+    map: &Bits<'_>,
+    ports: &[PortView<'_>],
+) -> Result<Option<bool>, NoMemory>
+    ensures { IfOk result (λ found. (rows : List MapRow) → map_in C.takes map.now ≡ Some rows
+        → found ≡ agreement C.takes rows (ports_shown ports.now)) }
+{
+    let mut agrees = true;
+    for port in ports {
+        let Some(same) = same_map::<C>(alloc, map, &port.label)? else {
+            return Ok(None);
+        };
+        agrees &= same;
+    }
+    Ok(Some(agrees))
+}
+
+// Whether a label has the map that these bits are, or `None` where it cannot be read. A map of
+// equal bits is not read again. The one error is want of memory.
+fn same_map<C: NumCode>(
+    alloc: Global,
+    map: &Bits<'_>,
+    label: &Bits<'_>,
+) -> Result<Option<bool>, NoMemory>
+    ensures { IfOk result (λ found. (rows : List MapRow) → map_in C.takes map.now ≡ Some rows
+        → found ≡ same_map C.takes rows label.now) }
+{
+    let Some((_, other)) = parts::<C>(label) else {
+        return Ok(None);
+    };
+    if map.equal(other) {
+        return Ok(Some(true));
+    }
+    let Some(_) = MapLayout::<C>::read(alloc, label)? else {
+        return Ok(None);
+    };
+    Ok(Some(false))
+}
+
+// Whether the network has the node of a view, with its state and its ports.
+fn has_node<C: NumCode>(net: &Network, view: &View<'_>) -> bool
+    ensures { result ≡ has_node C.takes net.now view.now }
+{
+    let Some(place) = net.place_of(view.id) else {
+        return false;
+    };
+    let (_, state) = net.node(place);
+    same_state(state, view.state) && same_ports::<C>(net.ports(place), &view.ports)
+}
+
+// Whether two states are the same.
+fn same_state(one: State, other: State) -> bool
+    ensures { result ≡ same_state one other }
+{
+    one.up == other.up && one.mark == other.mark && one.num == other.num
+}
+
+// Whether ports have the weights, and name what the labels say, one by one.
+fn same_ports<C: NumCode>(ports: &[Port], seen: &[PortView<'_>]) -> bool
+    ensures { result ≡ matched (is_port_seen C.takes) ports.now (ports_shown seen.now) }
+{
+    if ports.len() != seen.len() {
+        return false;
+    }
+    for (p, port) in ports.iter().enumerate() {
+        if port.weight != seen[p].weight || !is_called::<C>(port.nbr, &seen[p].label) {
+            return false;
+        }
+    }
+    true
+}
+
+// Whether the number in front of a label is this one.
+fn is_called<C: NumCode>(id: u32, label: &Bits<'_>) -> bool
+    ensures { result ≡ is_called C.takes id label.now }
+{
+    match parts::<C>(label) {
+        Some((own, _)) => u64::from(id) == own,
+        None => false,
+    }
+}
