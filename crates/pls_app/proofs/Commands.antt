@@ -22,7 +22,8 @@ one_said said (With task scheme) (With other_task other_scheme) is is_other =
     let tasks : task ≡ other_task = same_Some task other_task (sym is.0 ∙ is_other.0) in
     let texts : expression_text scheme ≡ expression_text other_scheme =
     same_Some (expression_text scheme) (expression_text other_scheme) (sym is.1 ∙ is_other.1) in
-    let schemes : scheme ≡ other_scheme = one_expression scheme other_scheme texts in
+    let schemes : scheme ≡ other_scheme = one_expression scheme other_scheme
+    is.2.writable is_other.2.writable texts in
     ap (λ (task : Task). With task scheme) tasks
     ∙ ap (λ (scheme : Expression). With other_task scheme) schemes
 

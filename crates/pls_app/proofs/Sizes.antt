@@ -68,10 +68,9 @@ words_of rows readable =
 
 -- the bound of a small expression on a network that was read
 pub bound_small : (scheme : Expression) (rows : List NodeRow) → IsSmall scheme → IsReadable rows
-    → longest_of gamma_code scheme (size_of rows) ≤ 2 ^ 17
+    → longest_of gamma_code scheme (size_of rows) ≤ 2 ^ 30
 bound_small scheme rows small readable =
-    short_expression scheme (size_of rows) small readable.network.limits.few_nodes
-    (words_of rows readable)
+    short_expression scheme rows small readable.network (words_of rows readable)
 
 -- so it is answered as it is
 pub bound_answered : (scheme : Expression) (rows : List NodeRow) → IsSmall scheme
@@ -86,8 +85,12 @@ pub tried_answered : (rows : List NodeRow) → IsNetwork rows → AreWords (size
     → answered (longest_of gamma_code tried_scheme (size_of rows))
     ≡ longest_of gamma_code tried_scheme (size_of rows)
 tried_answered rows net words =
-    let small : IsSmall tried_scheme = record { few = omega arith; shallow = omega arith } in
-    omega (arith, short_expression tried_scheme (size_of rows) small net.limits.few_nodes words)
+    let small : IsSmall tried_scheme = record {
+      few = omega arith;
+      shallow = omega arith;
+      writable = tt;
+    } in
+    omega (arith, short_expression tried_scheme rows small net words)
 
 -- at least one times a number is at least the number
 greater : (count bits : ℕ) → 1 ≤ count → bits ≤ count * bits

@@ -1,1 +1,4 @@
 pub mod Edited
+pub mod EditsText
+pub mod inner
+pub mod laws

@@ -1,11 +1,27 @@
-//! Edits of a network and its labels.
+//! Edits of a network and its labels, and the part of an input that states them.
 //!
 //! An [`Edit`] changes a state, a weight, an edge, a node or a label. `specs/Edited` says what each
 //! makes of a network and its labels (`edited`, `relabelled`), which nodes it touches (`touches`),
 //! and why it is refused (`edit_refusal`).
+//!
+//! An [`EditLine`] is an edit or asks for a round. `specs/EditsText` says how lists of them are
+//! written, one a line: [`scan_edits`] passes one edits part without memory, or names its first
+//! faulty line, and the [`EditsText`] that it gives lends the text, counts its lines and rounds, and
+//! reads them ([`EditsText::list`]).
 #![tactic(auto)]
 
 mod edit;
+mod edit_line;
+mod edit_words;
+mod edits_tally;
+mod edits_text;
+mod limits;
+mod number_words;
 
 pub use edit::Edit;
+pub use edit_line::EditLine;
+pub use edits_tally::EditsWord;
+pub use edits_text::{EditsText, scan_edits};
+pub use limits::{MAX_LINES, MAX_ROUNDS};
+pub use pls_base::NoMemory;
 pub use pls_graph::EditError;

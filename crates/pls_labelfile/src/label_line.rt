@@ -1,6 +1,6 @@
 //! The line of a label.
 
-ghost use Rattle.std.specs.Prelude.{◌≡◌, ◌≢◌, ◌≤◌, ◌<◌, ◌+◌, ◌^◌, ◌↔◌, ◌∷◌, ◌++◌, ℕ, List, length, slice_set, IfNone, IfSome, IsTrue};
+ghost use Rattle.std.specs.Prelude.{◌≡◌, ◌≢◌, ◌≤◌, ◌<◌, ◌+◌, ◌^◌, ◌↔◌, ◌∷◌, ◌++◌, ℕ, List, length, slice_set, IfNone, IfOk, IfSome, IsTrue};
 ghost use Rattle.pls_lines.specs.LineKind.{Says};
 ghost use Rattle.pls_lines.specs.Lines.{Stands};
 ghost use Rattle.pls_bits.specs.Hex.{hex_digits};
@@ -9,9 +9,11 @@ ghost use Rattle.pls_labelfile.specs.LabelsText.{FitsLabel, NamedLabel, label_li
 ghost use Rattle.pls_labelfile.specs.inner.HexWord.{IsHexWord, SaysLabels, word_length};
 
 use crate::limits::MAX_BITS;
-use pls_bits::spells_bits;
+use pls_base::NoMemory;
+use pls_bits::{BitBuf, from_hex, spells_bits};
 use pls_lines::{LineKind, after_word, bytes_before, is_same, number_before, u32_before};
 use pls_view::LabelRoom;
+use std::alloc::Global;
 use std::marker::Model;
 
 /// What a line `label ID LEN HEX` says, seen as the label. The word for its bits is lent.
@@ -77,6 +79,17 @@ impl<'a> LabelLine<'a> {
         ensures spare { room.new.spare + cost (length self.now.bits) ≡ room.old.spare }
     {
         room.replace_spare_hex(place, self.len(), self.digits());
+    }
+
+    /// The bits of the label, on their own. The one error is want of memory.
+    pub fn to_bits(&self, alloc: Global) -> Result<BitBuf, NoMemory>
+        ensures { IfOk result (λ bits. bits ≡ self.now.bits) }
+    {
+        // The digits were tested when the line was read.
+        match from_hex(alloc, self.len(), self.digits()) {
+            Ok(bits) => Ok(bits),
+            Err(_) => Err(NoMemory),
+        }
     }
 
     // The hex digits of the bits, none where there is no bit.

@@ -2,13 +2,14 @@
 use Rattle.std.proofs.Common.{◌≡◌, ◌∙◌, ℕ, ◌+◌, ◌<◌, ◌≤◌, Bool, true, false, List, [], ◌∷◌, ◌++◌, map, take, drop, length, get_or, codes, decimal, refl, sym, ap, append-nil, append_assoc}
 use Rattle.std.proofs.lemmas.Grind.{flat_map-append}
 use Rattle.std.proofs.lemmas.List.{map-append, take-append-drop, take_more, take_all}
+use Rattle.pls_model.specs.declared.verdict.Verdict.{Verdict}
 use Rattle.pls_model.specs.declared.verdict.Verdict.TheVariants.{Accept, Reject}
 use Rattle.pls_lines.specs.Text.{line_of, text_of}
 use Rattle.pls_lines.specs.laws.Fronts.{text_of-append}
 use Rattle.pls_sim.specs.declared.outcome.Outcome.{Outcome}
 use Rattle.pls_sim.specs.declared.outcome.Outcome.TheVariants.{Decided, Waiting}
-use Rattle.pls_report.specs.Report.{closing_line, node_line, rejecting, report_text, waiting}
-use Rattle.pls_report.specs.inner.Pieces.{outcome_tail, spaced, waiting_tail}
+use Rattle.pls_report.specs.Report.{closing_line, node_line, rejecting, rejecting_verdicts, round_line, waiting}
+use Rattle.pls_report.specs.inner.Pieces.{connected_tail, outcome_tail, spaced, waiting_tail}
 
 -- one more number
 pub spaced_more : (numbers : List ℕ) (i d : ℕ) → i < length numbers
@@ -51,36 +52,39 @@ closing_text false rows =
     ap (λ (line : List ℕ). line ++ 10 ∷ [])
     (append-nil (codes "rejecting " ++ decimal (rejecting rows)))
 
-module _ (rows : List (ℕ × Outcome)) (i : ℕ) where
-  -- one more node
-  pub lines_more : (d : ℕ × Outcome) → i < length rows
-      → text_of (map node_line (take i rows)) ++ (node_line (get_or rows i d) ++ 10 ∷ [])
-      ≡ text_of (map node_line (take (i + 1) rows))
+pub round_text : (number checked : ℕ) (connected : Bool) (rows : List (ℕ × Verdict))
+    → ((codes "round " ++ decimal number) ++ ((codes " checked " ++ decimal checked)
+    ++ (connected_tail connected ++ decimal (rejecting_verdicts rows)))) ++ codes "\n"
+    ≡ round_line number checked connected rows ++ 10 ∷ []
+round_text number checked true rows = refl
+round_text number checked false rows = refl
+
+module _ {X : Type 0} (line : X → List ℕ) (rows : List X) (i : ℕ) where
+  -- one more line
+  pub lines_more : (d : X) → i < length rows
+      → text_of (map line (take i rows)) ++ (line (get_or rows i d) ++ 10 ∷ [])
+      ≡ text_of (map line (take (i + 1) rows))
   lines_more d within =
       sym (rw (
         take_more rows i d within,
-        map-append node_line (take i rows) (get_or rows i d ∷ []),
-        text_of-append (map node_line (take i rows)) (node_line (get_or rows i d) ∷ []),
+        map-append line (take i rows) (get_or rows i d ∷ []),
+        text_of-append (map line (take i rows)) (line (get_or rows i d) ∷ []),
       ) refl)
 
   -- and the others behind it
-  pub lines_rest : (simulated : Bool)
-      → text_of (map node_line (take i rows))
-      ++ text_of (map node_line (drop i rows) ++ closing_line simulated rows ∷ [])
-      ≡ report_text simulated rows
-  lines_rest simulated =
-      sym (text_of-append (map node_line (take i rows))
-      (map node_line (drop i rows) ++ closing_line simulated rows ∷ []))
+  pub lines_rest : (closing : List ℕ)
+      → text_of (map line (take i rows)) ++ text_of (map line (drop i rows) ++ closing ∷ [])
+      ≡ text_of (map line rows ++ closing ∷ [])
+  lines_rest closing =
+      sym (text_of-append (map line (take i rows)) (map line (drop i rows) ++ closing ∷ []))
       ∙ ap text_of
-      (sym (append_assoc (map node_line (take i rows)) (map node_line (drop i rows))
-      (closing_line simulated rows ∷ []))
-      ∙ ap (λ (lines : List (List ℕ)). lines ++ closing_line simulated rows ∷ [])
-      (sym (map-append node_line (take i rows) (drop i rows))
-      ∙ ap (map node_line) (take-append-drop i rows)))
+      (sym (append_assoc (map line (take i rows)) (map line (drop i rows)) (closing ∷ []))
+      ∙ ap (λ (lines : List (List ℕ)). lines ++ closing ∷ [])
+      (sym (map-append line (take i rows) (drop i rows))
+      ∙ ap (map line) (take-append-drop i rows)))
 
-  pub lines_closed : (simulated : Bool) → length rows ≤ i
-      → text_of (map node_line (take i rows)) ++ (closing_line simulated rows ++ 10 ∷ [])
-      ≡ report_text simulated rows
-  lines_closed simulated past =
-      rw (take_all i rows past)
-      (sym (text_of-append (map node_line rows) (closing_line simulated rows ∷ [])))
+  pub lines_closed : (closing : List ℕ) → length rows ≤ i
+      → text_of (map line (take i rows)) ++ (closing ++ 10 ∷ [])
+      ≡ text_of (map line rows ++ closing ∷ [])
+  lines_closed closing past =
+      rw (take_all i rows past) (sym (text_of-append (map line rows) (closing ∷ [])))

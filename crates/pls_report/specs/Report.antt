@@ -1,6 +1,7 @@
 -- The text of a report: a line for each node, and then how many reject.
 use Rattle.std.specs.Prelude.{ℕ, Bool, true, false, if◌then◌else◌, List, [], ◌∷◌, ◌++◌, map, count_by, codes, decimal}
 use Rattle.std.specs.List.{list_all}
+use Rattle.pls_model.specs.declared.verdict.Verdict.{Verdict}
 use Rattle.pls_model.specs.declared.verdict.Verdict.TheVariants.{Accept, Reject}
 use Rattle.pls_lines.specs.Text.{line_of, text_of}
 use Rattle.pls_sim.specs.declared.outcome.Outcome.{Outcome}
@@ -45,6 +46,10 @@ outcome_words (Waiting ports) = codes "waiting" ∷ map decimal ports
 abbrev pub node_line : ℕ × Outcome → List ℕ
 node_line row = line_of (codes "node" ∷ decimal row.0 ∷ outcome_words row.1)
 
+-- the line of a node that has decided
+abbrev pub decided_line : ℕ × Verdict → List ℕ
+decided_line row = node_line (row.0, Decided row.1)
+
 -- `waiting W`, where the round was played from a schedule
 abbrev pub waiting_words : Bool → List (ℕ × Outcome) → List (List ℕ)
 waiting_words simulated rows =
@@ -54,6 +59,30 @@ waiting_words simulated rows =
 abbrev pub closing_line : Bool → List (ℕ × Outcome) → List ℕ
 closing_line simulated rows =
     line_of (codes "rejecting" ∷ decimal (rejecting rows) ∷ waiting_words simulated rows)
+
+-- of nodes with their verdicts, whether all accept, and how many reject
+abbrev pub all_verdicts_accept : List (ℕ × Verdict) → Bool
+all_verdicts_accept rows = list_all (λ row. is_accepting (Decided row.1)) rows
+
+abbrev pub rejecting_verdicts : List (ℕ × Verdict) → ℕ
+rejecting_verdicts rows = count_by (λ row. is_rejecting (Decided row.1)) rows
+
+-- `yes` or `no`
+abbrev pub yes_or_no : Bool → List ℕ
+yes_or_no true = codes "yes"
+yes_or_no false = codes "no"
+
+-- `round K checked C connected YESNO rejecting R`
+abbrev pub round_line : ℕ → ℕ → Bool → List (ℕ × Verdict) → List ℕ
+round_line number checked connected rows =
+    line_of (codes "round" ∷ decimal number ∷ codes "checked" ∷ decimal checked
+    ∷ codes "connected" ∷ yes_or_no connected ∷ codes "rejecting"
+    ∷ decimal (rejecting_verdicts rows) ∷ [])
+
+-- the text of a round's report: a line for each node, and then the round's own
+abbrev pub round_text : ℕ → ℕ → Bool → List (ℕ × Verdict) → List ℕ
+round_text number checked connected rows =
+    text_of (map decided_line rows ++ round_line number checked connected rows ∷ [])
 
 -- the text of a report
 abbrev pub report_text : Bool → List (ℕ × Outcome) → List ℕ

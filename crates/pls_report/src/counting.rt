@@ -1,7 +1,8 @@
 //! How many nodes reject, how many wait, and whether all accept.
 
 ghost use Rattle.std.specs.Prelude.{◌≡◌};
-ghost use Rattle.pls_report.specs.Report.{all_accept, is_accepting, is_rejecting, is_waiting, rejecting, waiting};
+ghost use Rattle.pls_sim.specs.declared.outcome.Outcome.TheVariants.{Decided};
+ghost use Rattle.pls_report.specs.Report.{all_accept, all_verdicts_accept, is_accepting, is_rejecting, is_waiting, rejecting, rejecting_verdicts, waiting};
 
 use pls_model::Verdict;
 use pls_sim::Outcome;
@@ -11,6 +12,13 @@ pub fn rejecting(rows: &[(u32, Outcome)]) -> usize
     ensures { result ≡ rejecting rows.now }
 {
     rows.iter().filter(|row| rejects(&row.1)).count()
+}
+
+/// How many of the nodes reject, of nodes with their verdicts.
+pub(crate) fn rejecting_verdicts(rows: &[(u32, Verdict)]) -> usize
+    ensures { result ≡ rejecting_verdicts rows.now }
+{
+    rows.iter().filter(|row| is_reject(row.1)).count()
 }
 
 /// How many of the nodes wait.
@@ -25,6 +33,20 @@ pub fn all_accept(rows: &[(u32, Outcome)]) -> bool
     ensures { result ≡ all_accept rows.now }
 {
     rows.iter().all(|row| accepts(&row.1))
+}
+
+/// Whether all nodes accept, of nodes with their verdicts.
+pub fn all_verdicts_accept(rows: &[(u32, Verdict)]) -> bool
+    ensures { result ≡ all_verdicts_accept rows.now }
+{
+    rows.iter().all(|row| is_accept(row.1))
+}
+
+// Whether a verdict accepts.
+fn is_accept(verdict: Verdict) -> bool
+    ensures { result ≡ is_accepting (Decided verdict) }
+{
+    matches!(verdict, Verdict::Accept)
 }
 
 // Whether a node accepts.
@@ -45,6 +67,13 @@ fn rejects(outcome: &Outcome) -> bool
         Outcome::Decided(Verdict::Reject { .. }) => true,
         _ => false,
     }
+}
+
+// Whether a verdict rejects.
+fn is_reject(verdict: Verdict) -> bool
+    ensures { result ≡ is_rejecting (Decided verdict) }
+{
+    matches!(verdict, Verdict::Reject { .. })
 }
 
 // Whether a node waits.

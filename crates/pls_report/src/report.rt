@@ -59,7 +59,7 @@ fn write_lines<K: Sink>(
 }
 
 // Writes the line of a node.
-fn write_node<K: Sink>(
+pub(crate) fn write_node<K: Sink>(
     sink: &mut K,
     gathered: &mut Gathered,
     id: u32,

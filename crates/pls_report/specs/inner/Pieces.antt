@@ -48,3 +48,8 @@ outcome_tail (Waiting ports) = codes " waiting" ++ spaced ports
 abbrev pub waiting_tail : Bool → ℕ → List ℕ
 waiting_tail true count = codes " waiting " ++ decimal count
 waiting_tail false count = []
+
+-- what the line of a round says behind its number and the number of nodes checked
+abbrev pub connected_tail : Bool → List ℕ
+connected_tail true = codes " connected yes rejecting "
+connected_tail false = codes " connected no rejecting "

@@ -15,7 +15,7 @@ loop-id-preserved g c =
     let line : List ℕ = node_line row ++ 10 ∷ [] in
     subst (Wrote _ _ _ _ _ _ _ _)
     (ap (λ (row : ℕ × Outcome). text_of (map node_line (take i rows)) ++ (node_line row ++ 10 ∷ []))
-    c.loop-id-item.is ∙ lines_more rows i row c.loop-id-test.true)
+    c.loop-id-item.is ∙ lines_more node_line rows i row c.loop-id-test.true)
     (wrote_both (text_of (map node_line (take i rows))) line c.loop-id.invariant
     c.in_ok-write_node.ensures)
 
@@ -33,8 +33,8 @@ returns-in_err-write_node g c =
     (subst (WroteFront _ _ _ _ _ _)
     (ap (λ (front : List ℕ). front ++ rest)
     (ap (λ (row : ℕ × Outcome). text_of (map node_line (take i rows)) ++ (node_line row ++ 10 ∷ []))
-    c.loop-id-item.is ∙ lines_more rows i row c.loop-id-test.true)
-    ∙ lines_rest rows (i + 1) c.args.simulated)
+    c.loop-id-item.is ∙ lines_more node_line rows i row c.loop-id-test.true)
+    ∙ lines_rest node_line rows (i + 1) (closing_line c.args.simulated rows))
     (front_first _ rest here))
 
 pub returns : goal.returns
@@ -43,6 +43,6 @@ returns g c =
     let i : ℕ = c.loop-id.id-index in
     let simulated = c.args.simulated in
     subst (Writes _ _ _ _ _ _ _ _ c.write_closing.result)
-    (lines_closed rows i simulated c.loop-id-test.false)
+    (lines_closed node_line rows i (closing_line simulated rows) c.loop-id-test.false)
     (both _ _ _ _ c.write_closing.result (text_of (map node_line (take i rows)))
     (closing_line simulated rows ++ 10 ∷ []) c.loop-id.invariant c.write_closing.ensures)

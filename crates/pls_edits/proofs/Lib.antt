@@ -1,0 +1,3 @@
+pub mod LineTexts
+pub mod Counted
+pub mod Told

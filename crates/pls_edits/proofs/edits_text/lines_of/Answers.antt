@@ -1,0 +1,36 @@
+use Rattle.std.proofs.Common.{◌≡◌, ◌∙◌, List, [], ◌∷◌, ◌++◌, ap, refl, sym, append-nil, append_assoc}
+use Rattle.pls_lines.specs.ListPart.{NextItem, Remains}
+use Rattle.pls_edits.specs.EditsText.{FitsEdit, edit_line}
+use Rattle.pls_edits.specs.declared.edit_line.EditLine.{EditLine}
+use Rattle.pls_edits.proofs.edits_text.lines_of.Goals as goal
+
+pub loop-words-init : goal.loop-words-init
+loop-words-init c = λ items remains. (
+  items,
+  sym (ap (λ (list : List EditLine). list ++ items) c.new-list.ensures.items),
+  remains,
+)
+
+pub loop-words-preserved : goal.loop-words-preserved
+loop-words-preserved c = λ items remains.
+    let so_far = c.loop-words.invariant items remains in
+    let next = c.in-Some.ensures.next so_far.0 so_far.2 in
+    let line = c.in_ok-into_line.field-0 in
+    let same : c.in-Some.words ≡ line = sym c.in_ok-into_line.ensures in
+    let list : List EditLine = c.loop-words.list.items in (
+      next.more,
+      so_far.1 ∙ ap (λ (rest : List EditLine). list ++ rest) next.are
+          ∙ ap (λ (line : EditLine). list ++ line ∷ next.more) same
+          ∙ sym (append_assoc list (line ∷ []) next.more)
+          ∙ ap (λ (front : List EditLine). front ++ next.more) (sym c.in_ok-push.ensures.items),
+      next.remains,
+    )
+
+pub returns : goal.returns
+returns c = λ items remains.
+    let so_far = c.loop-words.invariant items remains in
+    let none = c.in_default.ensures.none so_far.0 so_far.2 in
+    let list : List EditLine = c.loop-words.list.items in
+    let whole : items ≡ list =
+    so_far.1 ∙ ap (λ (rest : List EditLine). list ++ rest) none ∙ append-nil list in
+    sym whole

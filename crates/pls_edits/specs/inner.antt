@@ -1,0 +1,3 @@
+-- What private functions say to each other.
+pub mod Words
+pub mod Tally

@@ -1,0 +1,135 @@
+//! The lines of an edits part, read without memory.
+
+ghost use Rattle.std.specs.Prelude.{◌≡◌, ◌≢◌, ℕ, List, ◌∷◌, ◌++◌, IfNone, IfOk, IfSome};
+ghost use Rattle.pls_edits.specs.EditsText.{FitsEdit, edit_line, is_round};
+ghost use Rattle.pls_edits.specs.inner.Words.{IsPlain, IsPlainEdit};
+ghost use Rattle.pls_edits.specs.declared.edit.Edit.{Edit};
+ghost use Rattle.pls_edits.specs.declared.edit_line.EditLine.{EditLine};
+ghost use Rattle.pls_edits.specs.declared.edit_line.EditLine.TheVariants.{Edit as Makes};
+
+use crate::edit::Edit;
+use crate::edit_line::EditLine;
+use crate::number_words::{state_after, three_numbers};
+use pls_base::NoMemory;
+use pls_labelfile::LabelLine;
+use pls_lines::{LineKind, after_line, one_number, two_numbers};
+use pls_model::MAX_NUM;
+use std::alloc::Global;
+use std::marker::Model;
+
+const MOST: u64 = 0xffff_ffff;
+
+/// What a line of an edits part says, seen as the [`EditLine`]. The word for a label's bits is
+/// lent.
+#[derive(Drop)]
+pub(crate) struct EditWords<'a> {
+    words: Words<'a>,
+}
+
+/// The line of a label, or any other.
+#[derive(Drop)]
+pub(crate) enum Words<'a> {
+    // A line that gives a label.
+    Label(LabelLine<'a>),
+    // Any other.
+    Plain(EditLine),
+}
+
+impl<'a> Model for EditWords<'a> {
+    ghost use Rattle.pls_edits.specs.declared.edit_line.EditLine.{EditLine};
+    ghost use Rattle.pls_edits.specs.inner.Words.{line_said};
+
+    ghost Value = { EditLine };
+
+    ghost view = { λ line. line_said line.words };
+}
+
+impl<'a> LineKind<'a> for EditWords<'a> {
+    ghost use Rattle.pls_edits.specs.EditsText.{FitsEdit, edit_line};
+    ghost use Rattle.pls_edits.specs.laws.EditLaws.{edit_lines};
+
+    ghost written = { edit_line };
+
+    ghost Fits = { FitsEdit };
+
+    ghost kind_law = { edit_lines };
+
+    fn read(text: &'a [u8]) -> Option<(Self, &'a [u8])> {
+        if let Some((label, rest)) = LabelLine::read(text) {
+            let words = Words::Label(label);
+            return Some((EditWords { words }, rest));
+        }
+        let (line, rest) = plain_line(text)?;
+        let words = Words::Plain(line);
+        Some((EditWords { words }, rest))
+    }
+}
+
+impl<'a> EditWords<'a> {
+    // Whether the line asks for a round.
+    pub(crate) fn is_round(&self) -> bool
+        ensures { result ≡ is_round self.now }
+    {
+        matches!(&self.words, Words::Plain(EditLine::Round))
+    }
+
+    // The line, with the bits of its label on their own. The one error is want of memory.
+    pub(crate) fn into_line(self, alloc: Global) -> Result<EditLine, NoMemory>
+        ensures { IfOk result (λ line. line ≡ self.entry) }
+    {
+        match self.words {
+            Words::Label(label) => {
+                let bits = label.to_bits(alloc)?;
+                let id = label.id();
+                Ok(EditLine::Edit(Edit::Label { id, bits }))
+            }
+            Words::Plain(line) => Ok(line),
+        }
+    }
+}
+
+// The line at the front of a text that gives no label, and what follows its line feed; `None` where
+// no such line stands there.
+fn plain_line(text: &[u8]) -> Option<(EditLine, &[u8])>
+    ensures fits { IfSome result (λ read. FitsEdit read.0) }
+    ensures stands { IfSome result (λ read. text.now ≡ edit_line read.0 ++ 10 ∷ read.1.now) }
+    ensures none { IfNone result ((line : EditLine) (rest : List ℕ) → IsPlain line → FitsEdit line
+        → text.now ≢ edit_line line ++ 10 ∷ rest) }
+{
+    if let Some(rest) = after_line(text, b"round") {
+        return Some((EditLine::Round, rest));
+    }
+    let (edit, rest) = plain_edit(text)?;
+    Some((EditLine::Edit(edit), rest))
+}
+
+// The edit at the front of a text that gives no label, and what follows its line feed; `None` where
+// no such edit stands there.
+fn plain_edit(text: &[u8]) -> Option<(Edit, &[u8])>
+    ensures fits { IfSome result (λ read. FitsEdit (Makes read.0)) }
+    ensures stands { IfSome result
+        (λ read. text.now ≡ edit_line (Makes read.0) ++ 10 ∷ read.1.now) }
+    ensures none { IfNone result ((edit : Edit) (rest : List ℕ) → IsPlainEdit edit
+        → FitsEdit (Makes edit) → text.now ≢ edit_line (Makes edit) ++ 10 ∷ rest) }
+{
+    if let Some((id, state, rest)) = state_after(text, b"state") {
+        return Some((Edit::State { id, state }, rest));
+    }
+    if let Some((a, b, weight, rest)) = three_numbers(text, b"weight", MOST) {
+        let weight = weight as u32;
+        return Some((Edit::Weight { a, b, weight }, rest));
+    }
+    if let Some((a, b, weight, rest)) = three_numbers(text, b"link", MOST) {
+        let weight = weight as u32;
+        return Some((Edit::Link { a, b, weight }, rest));
+    }
+    if let Some((a, b, rest)) = two_numbers(text, b"unlink", MOST) {
+        let (a, b) = (a as u32, b as u32);
+        return Some((Edit::Unlink { a, b }, rest));
+    }
+    if let Some((id, mark, num, rest)) = three_numbers(text, b"join", MAX_NUM) {
+        return Some((Edit::Join { id, mark, num }, rest));
+    }
+    let (id, rest) = one_number(text, b"leave", MOST)?;
+    Some((Edit::Leave { id: id as u32 }, rest))
+}

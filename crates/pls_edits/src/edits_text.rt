@@ -1,0 +1,121 @@
+//! The text of edits: scanned without memory, and read as the list of its lines.
+
+ghost use Rattle.std.specs.Prelude.{◌≡◌, ◌<◌, ◌≤◌, ◌+◌, ◌^◌, List, length, IfErr, IfOk, OnErr};
+ghost use Rattle.pls_lines.specs.Lines.{IsFormFault};
+ghost use Rattle.pls_lines.specs.ListPart.{Remains};
+ghost use Rattle.pls_edits.specs.EditsText.{AreFew, FitsEdit, IsEditsPart, IsEditsRefusal, PassesEdits, TellsEdits, edit_line};
+ghost use Rattle.pls_edits.specs.declared.edit_line.EditLine.{EditLine};
+
+use crate::edit_line::EditLine;
+use crate::edit_words::EditWords;
+use crate::edits_tally::EditsTally;
+use crate::limits::{MAX_LINES, MAX_ROUNDS};
+use pls_base::{NoMemory, Quantity, TextError};
+use pls_lines::{Lines, ListText, Part, next_item, scan};
+use std::alloc::Global;
+use std::marker::Model;
+
+/// The text of an edits part, which it lends, the number of its heading line, and how many lines
+/// and how many rounds it has.
+#[derive(Drop)]
+pub struct EditsText<'a> {
+    part: ListText<'a, EditsTally>,
+}
+
+impl<'a> Model for EditsText<'a> {
+    ghost use Rattle.pls_edits.specs.EditsText.{IsTold, WrittenEdits, kept};
+
+    ghost Value = { WrittenEdits };
+
+    ghost view = { λ text. kept text.part.lines.rest text.part.lines.number
+        text.part.kept.events text.part.kept.rounds };
+
+    ghost invariant = { λ text. IsTold (kept text.part.lines.rest text.part.lines.number
+        text.part.kept.events text.part.kept.rounds) };
+}
+
+impl<'a> Part<'a> for EditsText<'a> {
+    ghost use Rattle.pls_edits.specs.EditsText.{IsEditsPart, PassesEdits};
+    ghost use Rattle.pls_edits.specs.laws.EditLaws.{edits_some_part};
+
+    ghost Format = { IsEditsPart };
+
+    ghost Passed = { PassesEdits };
+
+    ghost part_law = { edits_some_part };
+
+    fn pass(lines: &mut Lines<'a>) -> Result<Self, TextError> {
+        let part = ListText::<'a, EditsTally>::pass(lines)?;
+        Ok(EditsText { part })
+    }
+}
+
+/// Reads one edits part, which the reader passes. It takes no memory.
+///
+/// The one refusal is `Form`, with the number of the first line that is not of the form; then the
+/// reader stays.
+pub fn scan_edits<'a>(lines: &mut Lines<'a>) -> Result<EditsText<'a>, TextError>
+    ensures ok { IfOk result (λ part. PassesEdits lines.old lines.new part) }
+    ensures form { IfErr result (λ error. IsFormFault IsEditsPart lines.old error) }
+    ensures unchanged { OnErr result (lines.new ≡ lines.old) }
+{
+    scan(lines)
+}
+
+impl<'a> EditsText<'a> {
+    /// How many lines stand between heading and `end`, and `u64::MAX` at the most.
+    pub fn events(&self) -> u64
+        ensures { result ≡ self.now.events }
+    {
+        self.part.kept.events
+    }
+
+    /// How many of them ask for a round, and `u64::MAX` at the most.
+    pub fn rounds(&self) -> u64
+        ensures { result ≡ self.now.rounds }
+    {
+        self.part.kept.rounds
+    }
+
+    /// The number of the line at a place, or of `end` where the place is behind all.
+    pub fn number_of(&self, place: usize) -> u64
+        requires { place + 1 < 2 ^ 63 }
+        ensures { result ≡ self.now.number + 1 + place }
+    {
+        self.part.number_of(place)
+    }
+
+    /// The edits and rounds, in the order of their lines.
+    ///
+    /// `Limit(Events)` where there are more lines than [`MAX_LINES`], else `Limit(Rounds)` where
+    /// there are more rounds than [`MAX_ROUNDS`], before any memory is taken; `NoMemory` for want
+    /// of memory.
+    pub fn list(&self, alloc: Global) -> Result<Vec<EditLine>, TextError>
+        ensures ok { (lines : List EditLine) → TellsEdits self.now.text lines
+            → IfOk result (λ list. list.items ≡ lines) }
+        ensures few { IfOk result (λ list. AreFew list.items) }
+        ensures refused { (lines : List EditLine) → TellsEdits self.now.text lines
+            → IfErr result (λ error. IsEditsRefusal lines error) }
+    {
+        if self.part.kept.events > MAX_LINES as u64 {
+            return Err(TextError::Limit(Quantity::Events));
+        }
+        if self.part.kept.rounds > MAX_ROUNDS as u64 {
+            return Err(TextError::Limit(Quantity::Rounds));
+        }
+        Ok(lines_of(alloc, self.part.behind_heading())?)
+    }
+}
+
+// The edits and rounds of the lines that a text says before its `end`. The one refusal is want of
+// memory.
+fn lines_of(alloc: Global, mut lines: Lines<'_>) -> Result<Vec<EditLine>, NoMemory>
+    ensures { (items : List EditLine) → Remains FitsEdit edit_line lines.entry.rest items
+        → IfOk result (λ list. list.items ≡ items) }
+{
+    let mut list = Vec::new(alloc);
+    while let Some(words) = next_item::<EditWords<'_>>(&mut lines) {
+        list.push(words.into_line(alloc)?)?;
+    }
+    Ok(list)
+}

@@ -1,0 +1,49 @@
+//! Lines of a word and a state, or of a word and three numbers.
+
+ghost use Rattle.std.specs.Prelude.{◌≡◌, ◌≢◌, ℕ, ◌≤◌, ◌^◌, List, [], ◌∷◌, ◌++◌, IfNone, IfSome, decimal};
+ghost use Rattle.pls_model.specs.declared.row.State.{State};
+ghost use Rattle.pls_lines.specs.Text.{line_of};
+ghost use Rattle.pls_netfile.specs.NetworkLine.{FitsNode};
+ghost use Rattle.pls_netfile.specs.NetworkText.{state_words};
+ghost use Rattle.pls_edits.specs.EditsText.{FitThree};
+
+use pls_lines::{after_word, number_before, u32_before};
+use pls_model::State;
+use pls_netfile::read_state;
+
+// The identity and the state of a line at the front of a text that is a word and these, and what
+// follows its line feed; `None` where no such line stands there.
+pub(crate) fn state_after<'a>(text: &'a [u8], word: &[u8]) -> Option<(u32, State, &'a [u8])>
+    ensures fits { IfSome result (λ read. FitsNode read.0 read.1) }
+    ensures stands { IfSome result (λ read.
+        text.now ≡ line_of (word.now ∷ state_words read.0 read.1) ++ 10 ∷ read.2.now) }
+    ensures none { IfNone result ((id : ℕ) (state : State) (rest : List ℕ) → FitsNode id state
+        → text.now ≢ line_of (word.now ∷ state_words id state) ++ 10 ∷ rest) }
+{
+    let words = after_word(text, word)?;
+    let (id, state, rest) = read_state(words)?;
+    Some((id, state, rest))
+}
+
+// The numbers of a line at the front of a text that is a word and these, the first two below 2^32
+// and the third at most `most`, and what follows its line feed; `None` where no such line stands
+// there.
+pub(crate) fn three_numbers<'a>(
+    text: &'a [u8],
+    word: &[u8],
+    most: u64,
+) -> Option<(u32, u32, u64, &'a [u8])>
+    requires few { most ≤ 2 ^ 63 }
+    ensures stands { IfSome result (λ read. text.now
+        ≡ line_of (word.now ∷ decimal read.0 ∷ decimal read.1 ∷ decimal read.2 ∷ [])
+        ++ 10 ∷ read.3.now) }
+    ensures within { IfSome result (λ read. FitThree read.0 read.1 read.2 most) }
+    ensures none { IfNone result ((a b c : ℕ) (rest : List ℕ) → FitThree a b c most
+        → text.now ≢ line_of (word.now ∷ decimal a ∷ decimal b ∷ decimal c ∷ []) ++ 10 ∷ rest) }
+{
+    let words = after_word(text, word)?;
+    let (first, words) = u32_before(words, b' ')?;
+    let (second, last) = u32_before(words, b' ')?;
+    let (third, rest) = number_before(last, b'\n', most)?;
+    Some((first, second, third, rest))
+}

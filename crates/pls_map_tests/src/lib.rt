@@ -1,0 +1,5 @@
+//! The tests of the universal scheme.
+#![tactic(auto)]
+
+#[cfg(test)]
+mod tests;

@@ -1,0 +1,207 @@
+//! The universal scheme: the verdict of each rule, and how often a round asks the property.
+
+use pls_base::{NoMemory, Steps};
+use pls_bits::{BitBuf, Gamma};
+use pls_graph::Network;
+use pls_netfile::read_network;
+use pls_properties::Diameter;
+use pls_scheme::{Checker, Property, Verdict};
+use pls_universal::{MapOf, Tested, map_labels};
+use pls_view::{LabelStore, View};
+use std::alloc::Global;
+use std::cell::Cell;
+use std::test::Fail;
+
+// Four nodes in a row, the same with another mark, in a ring, and in two parts.
+const ROW: &str = "network\nnode 1 - 0 0\nport 2 1\nnode 2 - 0 0\nport 1 1\nport 3 1\n\
+                   node 3 - 0 0\nport 2 1\nport 4 1\nnode 4 - 0 0\nport 3 1\nend\n";
+
+const MARKED: &str = "network\nnode 1 - 0 0\nport 2 1\nnode 2 - 0 0\nport 1 1\nport 3 1\n\
+                      node 3 - 5 0\nport 2 1\nport 4 1\nnode 4 - 0 0\nport 3 1\nend\n";
+
+const ROUND: &str = "network\nnode 1 - 0 0\nport 2 1\nport 4 1\nnode 2 - 0 0\nport 1 1\nport 3 1\n\
+                     node 3 - 0 0\nport 2 1\nport 4 1\nnode 4 - 0 0\nport 3 1\nport 1 1\nend\n";
+
+const PARTS: &str = "network\nnode 1 - 0 0\nport 2 1\nnode 2 - 0 0\nport 1 1\n\
+                     node 3 - 0 0\nport 4 1\nnode 4 - 0 0\nport 3 1\nend\n";
+
+// A diameter, and how often it was asked for.
+#[derive(Drop)]
+struct Counted {
+    property: Diameter,
+    asked: Cell<u32>,
+}
+
+impl Property for Counted {
+    ghost use Rattle.pls_properties.specs.Diameter.{HasDiameter};
+
+    ghost holds = { λ s. HasDiameter s.property.most };
+
+    fn decide(&self, alloc: Global, net: &Network) -> Result<bool, NoMemory> {
+        self.asked.set(self.asked.get().wrapping_add(1));
+        self.property.decide(alloc, net)
+    }
+}
+
+impl Tested for Counted {
+    ghost use Rattle.pls_properties.specs.Tests.{diameter_test};
+    ghost use Rattle.pls_properties.specs.laws.TestLaws.{diameter_tested};
+
+    ghost test = { λ s rows. diameter_test s.property.most rows };
+
+    ghost test_law = { λ s rows _ _. diameter_tested s.property.most rows };
+}
+
+// The universal scheme of a diameter.
+fn scheme(most: u32) -> MapOf<Counted, Gamma> {
+    let property = Diameter::new(most);
+    let asked = Cell::new(0);
+    MapOf::new(Counted { property, asked })
+}
+
+// A network of this text.
+fn network(alloc: Global, text: &str) -> Result<Network, Fail> {
+    match read_network(alloc, text.as_bytes()) {
+        Ok(net) => Ok(net),
+        Err(_) => Err(Fail::from("refused")),
+    }
+}
+
+// A ring of ten nodes with this mark.
+fn ring(alloc: Global, mark: u32) -> Result<Network, Fail> {
+    let mut text = String::from_str(alloc, "network\n")?;
+    for id in 1..11u32 {
+        let before = if id == 1 { 10 } else { id - 1 };
+        let behind = if id == 10 { 1 } else { id + 1 };
+        let node = format!(in alloc; "node {id} - {mark} 0\nport {before} 1\nport {behind} 1\n")?;
+        text.push_str(node.as_str())?;
+    }
+    text.push_str("end\n")?;
+    network(alloc, text.as_str())
+}
+
+// Labels of some stores: those of the first are numbered from 0, and those of each other behind
+// these, as many as `each`. A greater number is that of an empty label.
+fn chosen(
+    alloc: Global,
+    stores: &[LabelStore],
+    each: usize,
+    numbers: &[usize],
+) -> Result<LabelStore, Fail> {
+    let mut labels = LabelStore::blank(alloc, numbers.len())?;
+    for (i, number) in numbers.iter().enumerate() {
+        let mut label = BitBuf::new(alloc);
+        let place = number.checked_rem(each).unwrap_or(0);
+        match stores.get(number.checked_div(each).unwrap_or(0)) {
+            Some(store) if place < store.len() => label.append(store.bits(place))?,
+            _ => {}
+        }
+        if i < labels.len() {
+            labels.replace(i, &label)?;
+        }
+    }
+    Ok(labels)
+}
+
+// The labels of rings of ten nodes with the marks from 0 to 4.
+fn rings(alloc: Global) -> Result<Vec<LabelStore>, Fail> {
+    let mut stores = Vec::new(alloc);
+    for mark in 0..5u32 {
+        let net = ring(alloc, mark)?;
+        stores.push(map_labels::<Gamma>(alloc, &net)?)?;
+    }
+    Ok(stores)
+}
+
+// The number of the rule by which each node rejects, and 0 where it accepts.
+fn rules(
+    alloc: Global,
+    scheme: &MapOf<Counted, Gamma>,
+    net: &Network,
+    labels: &LabelStore,
+) -> Result<Vec<u8>, Fail> {
+    if labels.len() != net.len() {
+        return Err(Fail::from("not one label a node"));
+    }
+    let mut rules = Vec::new(alloc);
+    for verdict in &scheme.round(alloc, net, labels, &mut Steps::new())? {
+        rules.push(rule_of(*verdict))?;
+    }
+    Ok(rules)
+}
+
+// The number of the rule by which a verdict rejects, and 0 where it accepts.
+fn rule_of(verdict: Verdict) -> u8 {
+    match verdict {
+        Verdict::Accept => 0,
+        Verdict::Reject { leaf: _, rule } => rule,
+    }
+}
+
+#[test]
+fn each_rule_is_named(rt: HostRuntime) -> Result<(), Fail> {
+    let net = network(rt.alloc(), ROW)?;
+    for (name, text, most, numbers, expected) in [
+        ("its own maps", ROW, 3, [0, 1, 2, 3], [0, 0, 0, 0]),
+        ("too many edges", ROW, 2, [0, 1, 2, 3], [7, 7, 7, 7]),
+        ("another mark", MARKED, 3, [4, 5, 6, 7], [0, 0, 6, 0]),
+        ("another degree", ROUND, 3, [4, 5, 6, 7], [6, 0, 0, 6]),
+        ("two parts", PARTS, 3, [4, 5, 6, 7], [5, 5, 5, 5]),
+        ("another's label", ROW, 3, [1, 0, 2, 3], [3, 3, 6, 0]),
+        ("no label", ROW, 3, [0, 9, 2, 3], [2, 1, 2, 0]),
+        ("two maps", MARKED, 3, [0, 1, 2, 7], [0, 0, 4, 4]),
+    ] {
+        let other = network(rt.alloc(), text)?;
+        let mut stores = Vec::new(rt.alloc());
+        stores.push(map_labels::<Gamma>(rt.alloc(), &net)?)?;
+        stores.push(map_labels::<Gamma>(rt.alloc(), &other)?)?;
+        let labels = chosen(rt.alloc(), &stores, 4, numbers.as_slice())?;
+        let found = rules(rt.alloc(), &scheme(most), &net, &labels)?;
+        assert_eq!(rt; found.as_slice(), expected.as_slice(), "{name}");
+    }
+    Ok(())
+}
+
+#[test]
+fn a_map_is_decided_once(rt: HostRuntime) -> Result<(), Fail> {
+    let net = ring(rt.alloc(), 0)?;
+    let stores = rings(rt.alloc())?;
+    for (name, numbers, rule, asked) in [
+        ("one map", [0, 1, 2, 3, 4, 5, 6, 7, 8, 9], 0, 1),
+        ("two in turn", [0, 11, 2, 13, 4, 15, 6, 17, 8, 19], 4, 2),
+        (
+            "five, each twice",
+            [30, 11, 42, 3, 24, 45, 26, 7, 18, 39],
+            4,
+            5,
+        ),
+    ] {
+        let labels = chosen(rt.alloc(), &stores, 10, numbers.as_slice())?;
+        let scheme = scheme(5);
+        let found = rules(rt.alloc(), &scheme, &net, &labels)?;
+        assert_eq!(rt; found.as_slice(), [rule; 10].as_slice(), "{name}");
+        assert_eq!(rt; scheme.property.asked.get(), asked, "{name}");
+    }
+    Ok(())
+}
+
+#[test]
+fn a_view_is_judged_as_in_the_round(rt: HostRuntime) -> Result<(), Fail> {
+    let net = ring(rt.alloc(), 0)?;
+    let stores = rings(rt.alloc())?;
+    let labels = chosen(rt.alloc(), &stores, 10, &[0, 1, 12, 3, 4, 6, 5, 7, 99, 9])?;
+    let scheme = scheme(5);
+    let found = rules(rt.alloc(), &scheme, &net, &labels)?;
+    let mut singly = Vec::new(rt.alloc());
+    for i in 0..net.len() {
+        if labels.len() == net.len() {
+            let view = View::of(rt.alloc(), &net, &labels, i)?;
+            let verdict = scheme.verify(rt.alloc(), &view, &mut Steps::new())?;
+            singly.push(rule_of(verdict))?;
+        }
+    }
+    let expected = [0, 4, 4, 4, 6, 3, 3, 2, 1, 2];
+    assert_eq!(rt; found.as_slice(), expected.as_slice(), "in the round");
+    assert_eq!(rt; singly.as_slice(), expected.as_slice(), "view by view");
+    Ok(())
+}
