@@ -11,10 +11,11 @@ use Rattle.pls_report.specs.Report.{all_accept}
 use Rattle.pls_app.specs.declared.command.Command.{Command}
 use Rattle.pls_app.specs.declared.command.Command.TheVariants.{With}
 use Rattle.pls_app.specs.declared.command.Task.{Task}
-use Rattle.pls_app.specs.declared.command.Task.TheVariants.{Mark, Verify, Simulate, Bound}
+use Rattle.pls_app.specs.declared.command.Task.TheVariants.{Mark, Verify, Simulate, Recheck, Bound}
 use Rattle.pls_combine.specs.Expression.{Expression}
 use Rattle.pls_app.specs.declared.limits.TheConstants.{MAX_INPUT}
 use Rattle.pls_app.specs.Command.{IsCommand, parts_of, shape_of}
+use Rattle.pls_app.specs.Reports.{ends_well}
 use Rattle.pls_app.specs.Input.{Input, IsInput}
 use Rattle.pls_app.specs.Order.{IsRefused, work_refusal}
 use Rattle.pls_app.specs.Answer.{Answer, Answers, TaskYields, Yields, refusal, task_outcomes, usage}
@@ -151,6 +152,8 @@ task_ends (Verify json) scheme input answer yields =
     ends_so answer _ yields (report_ends (all_accept (task_outcomes (Verify json) scheme input)))
 task_ends (Simulate json) scheme input answer yields =
     ends_so answer _ yields (report_ends (all_accept (task_outcomes (Simulate json) scheme input)))
+task_ends Recheck scheme input answer yields =
+    ends_so answer _ yields.2 (report_ends (ends_well yields.0))
 task_ends Bound scheme input answer yields =
     inl (ap (λ (answer : Answer). answer.status) yields)
 

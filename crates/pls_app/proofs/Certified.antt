@@ -17,7 +17,7 @@ use Rattle.pls_bits.specs.Gamma.{gamma_code, gamma_takes}
 use Rattle.pls_combine.specs.Expression.{Expression, IsSmall, judge_of, longest_of}
 use Rattle.pls_app.specs.declared.command.Command.TheVariants.{With}
 use Rattle.pls_app.specs.declared.command.Task.{Task}
-use Rattle.pls_app.specs.declared.command.Task.TheVariants.{Mark, Verify, Simulate, Bound}
+use Rattle.pls_app.specs.declared.command.Task.TheVariants.{Mark, Verify, Simulate, Recheck, Bound}
 use Rattle.pls_app.specs.Order.{labels_over}
 use Rattle.pls_app.specs.Input.{Input, IsInput, net_labels_text}
 use Rattle.pls_app.specs.Answer.{Answer, Answers, decided_by, report}
@@ -59,7 +59,7 @@ marked_input : (scheme : Expression) (bytes : List ℕ) (input : Input) (labels 
     → IsInput Network bytes input → labels_over scheme input.rows ≡ None
     → Shows scheme input.rows labels
     → IsInput Labelled (bytes ++ net_labels_text input.rows labels)
-    (record { rows = input.rows; labels = labels; events = [] })
+    (record { rows = input.rows; labels = labels; events = []; edits = [] })
 marked_input scheme bytes input labels is accepted shows =
     let rows : List NodeRow = input.rows in
     let text : List ℕ = net_labels_text rows labels in
@@ -70,7 +70,7 @@ marked_input scheme bytes input labels is accepted shows =
     record {
       short = omega (arith, ap (length {A = ℕ}) same, fits);
       readable = is.readable;
-      filled = (record { each = shows.each; few = few }, refl);
+      filled = (record { each = shows.each; few = few }, refl, refl);
       is = same;
     }
 
@@ -82,7 +82,7 @@ certified scheme bytes input text small is accepted shown =
     let rows : List NodeRow = input.rows in
     let labels = shown.labels in
     let mine : List ℕ = net_labels_text rows labels in
-    let read : Input = record { rows = rows; labels = labels; events = [] } in
+    let read : Input = record { rows = rows; labels = labels; events = []; edits = [] } in
     let answer : Answer = report false false (decided_by (judge_of gamma_takes scheme) rows labels) in
     let answers : Answers (With (Verify false) scheme) (bytes ++ mine) answer =
     worked_answer (With (Verify false) scheme) (bytes ++ mine) read answer
@@ -124,6 +124,8 @@ certified_mark Mark scheme bytes input answer small is does shows other same don
 certified_mark (Verify json) scheme bytes input answer small is does shows other same done =
     absurd (cc)
 certified_mark (Simulate json) scheme bytes input answer small is does shows other same done =
+    absurd (cc)
+certified_mark Recheck scheme bytes input answer small is does shows other same done =
     absurd (cc)
 certified_mark Bound scheme bytes input answer small is does shows other same done =
     absurd (cc)

@@ -20,13 +20,16 @@ use Rattle.pls_labelfile.proofs.LabelsPart.{one_labels}
 use Rattle.pls_sim.specs.declared.event.Event.{Event}
 use Rattle.pls_sim.specs.ScheduleText.{schedule_text}
 use Rattle.pls_sim.proofs.Told.{one_told}
+use Rattle.pls_edits.specs.declared.edit_line.EditLine.{EditLine}
+use Rattle.pls_edits.specs.EditsText.{edits_text}
+use Rattle.pls_edits.proofs.Told.{one_told as one_edits}
 use Rattle.pls_graph.specs.Connected.{IsFirstApart, smallest_id}
 use Rattle.pls_graph.proofs.Members.{Contains-first}
 use Rattle.pls_graph.proofs.Placed.{smallest_first}
 use Rattle.pls_app.specs.declared.shape.Shape.{Shape}
-use Rattle.pls_app.specs.declared.shape.Shape.TheVariants.{Network, Labelled, Scheduled}
+use Rattle.pls_app.specs.declared.shape.Shape.TheVariants.{Network, Labelled, Scheduled, Edited}
 use Rattle.pls_app.specs.Input.{AreLabels, Input, IsInput, IsReadable, net_labels_text}
-use Rattle.pls_app.specs.Order.{Parts, events_behind, labels_behind, parts_text}
+use Rattle.pls_app.specs.Order.{Parts, edits_behind, events_behind, labels_behind, parts_text}
 
 -- the labels of an input fit
 pub parts_fit : (rows : List NodeRow) (labels : List (List Bool)) → IsReadable rows
@@ -58,29 +61,48 @@ pub some_of : {X : Type 0} (found : Option X) → IsSome found → (x : X) × (f
 some_of None some = absurd (cc)
 some_of (Some x) some = (x, refl)
 
+-- the text behind a network and its labels
+abbrev pub last_text : Option (List Event) → Option (List EditLine) → List ℕ
+last_text events edits = events_behind events ++ edits_behind edits
+
+-- the text of the parts is told by which there are
+pub text_by : (parts : Parts) (labels : Option (List NamedLabel)) (events : Option (List Event))
+    (edits : Option (List EditLine)) → parts.labels ≡ labels → parts.events ≡ events
+    → parts.edits ≡ edits
+    → parts_text parts
+    ≡ network_text parts.rows ++ (labels_behind labels ++ last_text events edits)
+text_by parts labels events edits some more last =
+    ap (λ (behind : List ℕ). network_text parts.rows ++ behind)
+    (ap (λ labels. labels_behind labels ++ last_text parts.events parts.edits) some
+    ∙ ap (λ (behind : List ℕ). labels_behind labels ++ behind)
+    (ap (λ events. last_text events parts.edits) more ∙ ap (last_text events) last))
+
 -- the text of the parts, where some are not there
-pub alone_parts : (parts : Parts) → parts.labels ≡ None → parts.events ≡ None
+pub alone_parts : (parts : Parts) → parts.labels ≡ None → parts.events ≡ None → parts.edits ≡ None
     → parts_text parts ≡ network_text parts.rows
-alone_parts parts none no_more =
-    ap (λ labels. network_text parts.rows ++ (labels_behind labels ++ events_behind parts.events))
-    none ∙ ap (λ events. network_text parts.rows ++ events_behind events) no_more
-    ∙ append-nil (network_text parts.rows)
+alone_parts parts none no_more no_last =
+    text_by parts None None None none no_more no_last ∙ append-nil (network_text parts.rows)
 
 pub labelled_parts : (parts : Parts) (labels : List NamedLabel) → parts.labels ≡ Some labels
-    → parts.events ≡ None → parts_text parts ≡ network_text parts.rows ++ labels_text labels
-labelled_parts parts labels some no_more =
-    ap (λ labels. network_text parts.rows ++ (labels_behind labels ++ events_behind parts.events))
-    some
-    ∙ ap (λ events. network_text parts.rows ++ (labels_text labels ++ events_behind events)) no_more
+    → parts.events ≡ None → parts.edits ≡ None
+    → parts_text parts ≡ network_text parts.rows ++ labels_text labels
+labelled_parts parts labels some no_more no_last =
+    text_by parts (Some labels) None None some no_more no_last
     ∙ ap (λ (behind : List ℕ). network_text parts.rows ++ behind) (append-nil (labels_text labels))
 
 pub scheduled_parts : (parts : Parts) (labels : List NamedLabel) (events : List Event)
-    → parts.labels ≡ Some labels → parts.events ≡ Some events
+    → parts.labels ≡ Some labels → parts.events ≡ Some events → parts.edits ≡ None
     → parts_text parts ≡ network_text parts.rows ++ (labels_text labels ++ schedule_text events)
-scheduled_parts parts labels events some more =
-    ap (λ labels. network_text parts.rows ++ (labels_behind labels ++ events_behind parts.events))
-    some
-    ∙ ap (λ events. network_text parts.rows ++ (labels_text labels ++ events_behind events)) more
+scheduled_parts parts labels events some more no_last =
+    text_by parts (Some labels) (Some events) None some more no_last
+    ∙ ap (λ (last : List ℕ). network_text parts.rows ++ (labels_text labels ++ last))
+    (append-nil (schedule_text events))
+
+pub edited_parts : (parts : Parts) (labels : List NamedLabel) (edits : List EditLine)
+    → parts.labels ≡ Some labels → parts.events ≡ None → parts.edits ≡ Some edits
+    → parts_text parts ≡ network_text parts.rows ++ (labels_text labels ++ edits_text edits)
+edited_parts parts labels edits some no_more last =
+    text_by parts (Some labels) None (Some edits) some no_more last
 
 -- the smallest node is a node
 smallest_in : (rows : List NodeRow) → IsNetwork rows → Contains (ids_of rows) (smallest_id rows)
@@ -135,23 +157,9 @@ same_labels rows others one other x y same ranges range mine theirs is =
 
 -- inputs with the same parts are one
 same_parts : (one other : Input) → one.rows ≡ other.rows → one.labels ≡ other.labels
-    → one.events ≡ other.events → one ≡ other
-same_parts one other rows labels events =
-    ap (λ (rows : List NodeRow). record {
-      rows = rows;
-      labels = one.labels;
-      events = one.events;
-    }) rows
-    ∙ ap (λ (labels : List (List Bool)). record {
-      rows = other.rows;
-      labels = labels;
-      events = one.events;
-    }) labels
-    ∙ ap (λ (events : List Event). record {
-      rows = other.rows;
-      labels = other.labels;
-      events = events;
-    }) events
+    → one.events ≡ other.events → one.edits ≡ other.edits → one ≡ other
+same_parts one other rows labels events edits =
+    λ i. record { rows = rows i; labels = labels i; events = events i; edits = edits i }
 
 -- the bytes of an input fix it
 pub one_input : (shape : Shape) (bytes : List ℕ) (one other : Input) → IsInput shape bytes one
@@ -162,7 +170,7 @@ one_input Network bytes one other mine theirs =
     let rows = one_network one.rows other.rows [] [] mine.readable.ranges theirs.readable.ranges
     ends in
     same_parts one other rows.0 (mine.filled.0 ∙ sym theirs.filled.0)
-    (mine.filled.1 ∙ sym theirs.filled.1)
+    (mine.filled.1 ∙ sym theirs.filled.1) (mine.filled.2 ∙ sym theirs.filled.2)
 one_input Labelled bytes one other mine theirs =
     let rows = one_network one.rows other.rows _ _ mine.readable.ranges theirs.readable.ranges
     (sym mine.is ∙ theirs.is) in
@@ -170,6 +178,7 @@ one_input Labelled bytes one other mine theirs =
     mine.readable.ranges theirs.readable.ranges mine.filled.0 theirs.filled.0
     (ap (λ (text : List ℕ). text ++ []) rows.1) in
     same_parts one other rows.0 labels.0 (mine.filled.1 ∙ sym theirs.filled.1)
+    (mine.filled.2 ∙ sym theirs.filled.2)
 one_input Scheduled bytes one other mine theirs =
     let rows = one_network one.rows other.rows _ _ mine.readable.ranges theirs.readable.ranges
     (sym mine.is ∙ theirs.is) in
@@ -178,4 +187,13 @@ one_input Scheduled bytes one other mine theirs =
     let events = one_told (schedule_text one.events) one.events other.events
     (record { fits = mine.filled.1.ranges; is = refl })
     (record { fits = theirs.filled.1.ranges; is = labels.1 }) in
-    same_parts one other rows.0 labels.0 events
+    same_parts one other rows.0 labels.0 events (mine.filled.2 ∙ sym theirs.filled.2)
+one_input Edited bytes one other mine theirs =
+    let rows = one_network one.rows other.rows _ _ mine.readable.ranges theirs.readable.ranges
+    (sym mine.is ∙ theirs.is) in
+    let labels = same_labels one.rows other.rows one.labels other.labels _ _ rows.0
+    mine.readable.ranges theirs.readable.ranges mine.filled.0 theirs.filled.0 rows.1 in
+    let edits = one_edits (edits_text one.edits) one.edits other.edits
+    (record { are = mine.filled.2.are; is = refl })
+    (record { are = theirs.filled.2.are; is = labels.1 }) in
+    same_parts one other rows.0 labels.0 (mine.filled.1 ∙ sym theirs.filled.1) edits

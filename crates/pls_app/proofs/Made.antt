@@ -14,14 +14,17 @@ use Rattle.pls_lines.specs.Counted.{counted}
 use Rattle.pls_sim.specs.declared.event.Event.{Event}
 use Rattle.pls_sim.specs.declared.limits.TheConstants.{MAX_EVENTS}
 use Rattle.pls_sim.specs.ScheduleText.{WrittenSchedule, schedule_text}
+use Rattle.pls_edits.specs.declared.edit_line.EditLine.{EditLine}
+use Rattle.pls_edits.specs.declared.limits.TheConstants.{MAX_LINES, MAX_ROUNDS}
+use Rattle.pls_edits.specs.EditsText.{AreFew, WrittenEdits, edits_text, rounds_of}
 use Rattle.pls_app.specs.declared.shape.Shape.{Shape}
-use Rattle.pls_app.specs.declared.shape.Shape.TheVariants.{Network, Labelled, Scheduled}
+use Rattle.pls_app.specs.declared.shape.Shape.TheVariants.{Network, Labelled, Scheduled, Edited}
 use Rattle.pls_app.specs.declared.input.Texts.{Texts}
 use Rattle.pls_app.specs.declared.limits.TheConstants.{MAX_INPUT}
-use Rattle.pls_app.specs.Input.{AreEvents, AreLabels, IsInput, IsReadable, first_event_line, net_labels_text}
+use Rattle.pls_app.specs.Input.{AreEvents, AreFewEdits, AreLabels, HasLines, Input, IsInput, IsReadable, first_event_line, net_labels_text}
 use Rattle.pls_app.specs.Order.{heading_of}
-use Rattle.pls_app.specs.inner.Scanned.{AreBuilt, AreListed, IsBuilt, IsScanned, TellsBehind, TellsEvents, TellsLast, TellsSome, first_line_of, lines_behind}
-use Rattle.pls_app.proofs.Inputs.{alone_parts, few_bits, labelled_parts, scheduled_parts, some_of}
+use Rattle.pls_app.specs.inner.Scanned.{AreBuilt, AreEditsListed, AreListed, IsBuilt, IsScanned, TellsBehind, TellsEvents, TellsLast, TellsLastEdits, TellsSome, TellsSomeEdits, first_line_of, lines_behind}
+use Rattle.pls_app.proofs.Inputs.{alone_parts, edited_parts, few_bits, labelled_parts, scheduled_parts, some_of}
 
 -- no text was scanned where there is no part, and else one was
 no_labels : (rows : List NodeRow) (texts : Option WrittenLabels)
@@ -49,6 +52,19 @@ some_events : (rows : List NodeRow) (labels : Option (List NamedLabel))
     → (written : WrittenSchedule) × (texts ≡ Some written) × TellsLast rows labels written found
 some_events rows labels None events found some tells = absurd (rw some at tells)
 some_events rows labels (Some written) events found some tells = (written, refl, rw some at tells)
+
+no_edits : (rows : List NodeRow) (labels : Option (List NamedLabel)) (texts : Option WrittenEdits)
+    (edits : Option (List EditLine)) → edits ≡ None → TellsSomeEdits rows labels texts edits
+    → texts ≡ None
+no_edits rows labels None edits none tells = refl
+no_edits rows labels (Some written) edits none tells = absurd (rw none at tells)
+
+some_edits : (rows : List NodeRow) (labels : Option (List NamedLabel))
+    (texts : Option WrittenEdits) (edits : Option (List EditLine)) (found : List EditLine)
+    → edits ≡ Some found → TellsSomeEdits rows labels texts edits
+    → (written : WrittenEdits) × (texts ≡ Some written) × TellsLastEdits rows labels written found
+some_edits rows labels None edits found some tells = absurd (rw some at tells)
+some_edits rows labels (Some written) edits found some tells = (written, refl, rw some at tells)
 
 -- the labels that were built of a text are its labels, one for each node
 record AreRead (rows : List NodeRow) (store : List (List Bool))
@@ -80,20 +96,38 @@ few_events : (written : WrittenSchedule) (events : List Event) → written.event
     → written.events ≤ MAX_EVENTS → length events ≤ MAX_EVENTS
 few_events written events count few = omega (arith, count, few)
 
+-- the counts of edits are within the limits
+abbrev pub FewLines : WrittenEdits → Type 0
+FewLines written = (written.events ≤ MAX_LINES) × (written.rounds ≤ MAX_ROUNDS)
+
+few_lines : (written : WrittenEdits) (edits : List EditLine) → written.events ≡ counted edits
+    → written.rounds ≡ counted (rounds_of edits) → FewLines written → AreFew edits
+few_lines written edits events rounds few = record {
+  events = omega (arith, events, few.0);
+  rounds = omega (arith, rounds, few.1);
+}
+
 -- what was scanned and built of an input, within the limits
 pub record IsMade (shape : Shape) (bytes : List ℕ) (texts : Texts) (net : List NodeRow)
-    (store : List (List Bool)) (list : List Event) : Type 0 where
+    (store : List (List Bool)) (list : List Event) (edit_list : List EditLine) : Type 0 where
   pub scanned : IsScanned shape bytes texts
   pub few : IfSome texts.schedule (λ text. text.events ≤ MAX_EVENTS)
+  pub few_edits : IfSome texts.edits FewLines
   pub rows : (rows : List NodeRow) → TellsNetwork texts.network rows → net ≡ rows
   pub valid : IsNetwork net
   pub labels : AreBuilt net texts.labels store
   pub events : AreListed texts.schedule list
+  pub edits : AreEditsListed texts.edits edit_list
 
 module _ (bytes : List ℕ) (texts : Texts) (net : List NodeRow) (store : List (List Bool))
-    (list : List Event) (short : length bytes ≤ MAX_INPUT) (connected : IsConnected net) where
+    (list : List Event) (edits : List EditLine) (short : length bytes ≤ MAX_INPUT)
+    (connected : IsConnected net) where
   abbrev pub Made : Shape → Type 0
-  Made shape = IsMade shape bytes texts net store list
+  Made shape = IsMade shape bytes texts net store list edits
+
+  -- what was made, as an input
+  abbrev pub made_input : Input
+  made_input = record { rows = net; labels = store; events = list; edits = edits }
 
   is_net : (shape : Shape) (made : Made shape) → net ≡ made.scanned.parts.rows
   is_net shape made = made.rows made.scanned.parts.rows made.scanned.tells_rows
@@ -143,18 +177,41 @@ module _ (bytes : List ℕ) (texts : Texts) (net : List NodeRow) (store : List (
       rw (no_events parts.rows parts.labels texts.schedule parts.events none
       made.scanned.tells_events) at made.events
 
+  -- the edits of parts that have them
+  edits_read : (shape : Shape) (made : Made shape) (found : List EditLine)
+      → made.scanned.parts.edits ≡ Some found → (edits ≡ found) × AreFewEdits edits
+  edits_read shape made found some =
+      let parts = made.scanned.parts in
+      let text = some_edits parts.rows parts.labels texts.edits parts.edits found some
+      made.scanned.tells_edits in
+      let listed : AreEditsListed (Some text.0) edits = rw text.1 at made.edits in
+      let few : IfSome (Some text.0) FewLines = rw text.1 at made.few_edits in
+      let same = listed found text.2.tells in (
+        same,
+        subst AreFewEdits (sym same) (record {
+          are = text.2.tells.are;
+          few = few_lines text.0 found text.2.events text.2.rounds few;
+        }),
+      )
+
+  edits_none : (shape : Shape) (made : Made shape) → made.scanned.parts.edits ≡ None → edits ≡ []
+  edits_none shape made none =
+      let parts = made.scanned.parts in
+      rw (no_edits parts.rows parts.labels texts.edits parts.edits none made.scanned.tells_edits)
+      at made.edits
+
   -- what was scanned and built is an input
-  pub input_of : (shape : Shape) → Made shape
-      → IsInput shape bytes (record { rows = net; labels = store; events = list })
+  pub input_of : (shape : Shape) → Made shape → IsInput shape bytes made_input
   input_of Network made = record {
     short = short;
     readable = readable Network made;
     filled = (
       labels_none Network made made.scanned.has.0,
       events_none Network made made.scanned.has.1,
+      edits_none Network made made.scanned.has.2,
     );
     is = made.scanned.is
-        ∙ alone_parts made.scanned.parts made.scanned.has.0 made.scanned.has.1
+        ∙ alone_parts made.scanned.parts made.scanned.has.0 made.scanned.has.1 made.scanned.has.2
         ∙ ap network_text (sym (is_net Network made));
   }
   input_of Labelled made =
@@ -163,9 +220,14 @@ module _ (bytes : List ℕ) (texts : Texts) (net : List NodeRow) (store : List (
       record {
         short = short;
         readable = readable Labelled made;
-        filled = (read.are, events_none Labelled made made.scanned.has.1);
+        filled = (
+          read.are,
+          events_none Labelled made made.scanned.has.1,
+          edits_none Labelled made made.scanned.has.2,
+        );
         is = made.scanned.is
             ∙ labelled_parts made.scanned.parts found.0 found.1 made.scanned.has.1
+            made.scanned.has.2
             ∙ ap (λ (rows : List NodeRow). network_text rows ++ labels_text found.0)
             (sym (is_net Labelled made))
             ∙ ap (λ (labels : List NamedLabel). network_text net ++ labels_text labels)
@@ -179,9 +241,10 @@ module _ (bytes : List ℕ) (texts : Texts) (net : List NodeRow) (store : List (
       record {
         short = short;
         readable = readable Scheduled made;
-        filled = (read.are, listed.1);
+        filled = (read.are, listed.1, edits_none Scheduled made made.scanned.has.2);
         is = made.scanned.is
             ∙ scheduled_parts made.scanned.parts found.0 events.0 found.1 events.1
+            made.scanned.has.2
             ∙ ap (λ (rows : List NodeRow). network_text rows
             ++ (labels_text found.0 ++ schedule_text events.0)) (sym (is_net Scheduled made))
             ∙ ap (λ (labels : List NamedLabel). network_text net
@@ -189,29 +252,61 @@ module _ (bytes : List ℕ) (texts : Texts) (net : List NodeRow) (store : List (
             ∙ ap (λ (events : List Event). network_text net
             ++ (net_labels_text net store ++ schedule_text events)) (sym listed.0);
       }
+  input_of Edited made =
+      let found = some_of made.scanned.parts.labels made.scanned.has.0 in
+      let last = some_of made.scanned.parts.edits made.scanned.has.2 in
+      let read = labels_read Edited made found.0 found.1 in
+      let listed = edits_read Edited made last.0 last.1 in
+      record {
+        short = short;
+        readable = readable Edited made;
+        filled = (read.are, events_none Edited made made.scanned.has.1, listed.1);
+        is = made.scanned.is
+            ∙ edited_parts made.scanned.parts found.0 last.0 found.1 made.scanned.has.1 last.1
+            ∙ ap (λ (rows : List NodeRow). network_text rows
+            ++ (labels_text found.0 ++ edits_text last.0)) (sym (is_net Edited made))
+            ∙ ap (λ (labels : List NamedLabel). network_text net
+            ++ (labels_text labels ++ edits_text last.0)) (sym read.back)
+            ∙ ap (λ (edits : List EditLine). network_text net
+            ++ (net_labels_text net store ++ edits_text edits)) (sym listed.0);
+      }
 
-  -- the line of the first event
-  pub line_of : (shape : Shape) → Made shape → shape ≡ Scheduled
-      → first_line_of texts.schedule
-      ≡ first_event_line (record { rows = net; labels = store; events = list })
-  line_of Network made is = absurd (cc)
-  line_of Labelled made is = absurd (cc)
+  -- the line of the first event or edit, by the number of the heading of their part
+  line_behind : (shape : Shape) (made : Made shape) (found : List NamedLabel) (number : ℕ)
+      → made.scanned.parts.labels ≡ Some found
+      → number ≡ heading_of made.scanned.parts.rows + lines_behind made.scanned.parts.labels
+      → number + 1 ≡ first_event_line made_input
+  line_behind shape made found number some is =
+      let parts = made.scanned.parts in
+      let read = labels_read shape made found some in
+      let heading : number ≡ heading_of parts.rows + length (labels_lines found) =
+      is ∙ ap (λ labels. heading_of parts.rows + lines_behind labels) some in
+      let lines : length (network_lines net) ≡ length (network_lines parts.rows) =
+      ap (λ (rows : List NodeRow). length (network_lines rows)) (is_net shape made) in
+      let behind : length (labels_lines (named (ids_of net) store)) ≡ length (labels_lines found) =
+      ap (λ (labels : List NamedLabel). length (labels_lines labels)) read.back in
+      omega (arith, heading, lines, behind)
+
+  -- so it is the line that was found
+  pub line_of : (shape : Shape) → Made shape → HasLines shape
+      → first_line_of texts.schedule texts.edits ≡ first_event_line made_input
+  line_of Network made is = absurd is
+  line_of Labelled made is = absurd is
+  line_of Edited made is =
+      let parts = made.scanned.parts in
+      let found = some_of parts.labels made.scanned.has.0 in
+      let last = some_of parts.edits made.scanned.has.2 in
+      let none = no_events parts.rows parts.labels texts.schedule parts.events
+      made.scanned.has.1 made.scanned.tells_events in
+      let text = some_edits parts.rows parts.labels texts.edits parts.edits last.0 last.1
+      made.scanned.tells_edits in
+      ap (λ schedule. first_line_of schedule texts.edits) none ∙ ap (first_line_of None) text.1
+      ∙ line_behind Edited made found.0 text.0.number found.1 text.2.heading
   line_of Scheduled made is =
       let parts = made.scanned.parts in
       let found = some_of parts.labels made.scanned.has.0 in
       let events = some_of parts.events made.scanned.has.1 in
-      let read = labels_read Scheduled made found.0 found.1 in
       let text = some_events parts.rows parts.labels texts.schedule parts.events events.0 events.1
       made.scanned.tells_events in
-      let heading : text.0.number
-      ≡ heading_of parts.rows + length (labels_lines found.0) =
-      text.2.heading ∙ ap (λ labels. heading_of parts.rows + lines_behind labels) found.1 in
-      let lines : length (network_lines net) ≡ length (network_lines parts.rows) =
-      ap (λ (rows : List NodeRow). length (network_lines rows)) (is_net Scheduled made) in
-      let behind : length (labels_lines (named (ids_of net) store))
-      ≡ length (labels_lines found.0) =
-      ap (λ (labels : List NamedLabel). length (labels_lines labels)) read.back in
-      let line : text.0.number + 1
-      ≡ first_event_line (record { rows = net; labels = store; events = list }) =
-      omega (arith, heading, lines, behind) in
-      ap first_line_of text.1 ∙ line
+      ap (λ schedule. first_line_of schedule texts.edits) text.1
+      ∙ line_behind Scheduled made found.0 text.0.number found.1 text.2.heading

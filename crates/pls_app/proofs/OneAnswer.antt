@@ -5,13 +5,15 @@ use Rattle.pls_combine.specs.laws.ExpressionLaws.{expression_marked_once}
 use Rattle.pls_app.specs.declared.command.Command.{Command}
 use Rattle.pls_app.specs.declared.command.Command.TheVariants.{With}
 use Rattle.pls_app.specs.declared.command.Task.{Task}
-use Rattle.pls_app.specs.declared.command.Task.TheVariants.{Mark, Verify, Simulate, Bound}
-use Rattle.pls_bits.specs.Gamma.{gamma_code}
-use Rattle.pls_combine.specs.Expression.{Expression}
+use Rattle.pls_app.specs.declared.command.Task.TheVariants.{Mark, Verify, Simulate, Recheck, Bound}
+use Rattle.pls_bits.specs.Gamma.{gamma_code, gamma_takes}
+use Rattle.pls_combine.specs.Expression.{Expression, judge_of}
+use Rattle.pls_edits.specs.declared.edit_line.EditLine.TheVariants.{Round}
 use Rattle.pls_app.proofs.Commands.{no_trial, one_command, one_trial}
 use Rattle.pls_app.specs.Command.{shape_of}
 use Rattle.pls_app.specs.Input.{Input, IsReadable}
-use Rattle.pls_app.specs.Answer.{Answer, Answers, Marks, TaskYields, Works, Yields, labelled, refusal}
+use Rattle.pls_app.specs.Answer.{Answer, Answers, Marks, TaskYields, Works, Yields, labelled, refusal, reported}
+use Rattle.pls_app.specs.Reports.{begun}
 use Rattle.pls_app.specs.declared.request.Request.{Request}
 use Rattle.pls_app.specs.declared.request.Request.TheVariants.{Reading, Trial}
 use Rattle.pls_app.specs.Trial.{IsTrialAnswer, IsUsage, trial_line, tried_scheme}
@@ -21,6 +23,7 @@ use Rattle.pls_lines.specs.Text.{text_of}
 use Rattle.pls_trial.specs.Generator.{trial_of}
 use Rattle.pls_app.proofs.Inputs.{one_input}
 use Rattle.pls_app.proofs.OneRefusal.{one_refusal, refused_unread}
+use Rattle.pls_app.proofs.Rechecked.{one_reports}
 
 -- the marks of a network have one answer
 one_mark : (scheme : Expression) (rows : List NodeRow) (answer other : Answer) → IsReadable rows
@@ -48,6 +51,10 @@ one_task Mark scheme input answer other readable one two =
     one_mark scheme input.rows answer other readable one two
 one_task (Verify json) scheme input answer other readable one two = one ∙ sym two
 one_task (Simulate json) scheme input answer other readable one two = one ∙ sym two
+one_task Recheck scheme input answer other readable one two =
+    let same = one_reports (judge_of gamma_takes scheme) (Round ∷ input.edits) (begun input) 0 one.0
+    two.0 one.1 two.1 in
+    one.2 ∙ ap reported same ∙ sym two.2
 one_task Bound scheme input answer other readable one two = one ∙ sym two
 
 one_yield : (command : Command) (input : Input) (answer other : Answer) → IsReadable input.rows

@@ -1,5 +1,5 @@
 -- Bytes are refused in one way, or they are an input.
-use Rattle.std.proofs.Common.{◌≡◌, ◌∙◌, ℕ, List, [], ◌++◌, All, Option, Some, None, IfSome, inl, inr, ap, subst, refl, sym, arith}
+use Rattle.std.proofs.Common.{◌≡◌, ◌∙◌, ℕ, List, ◌++◌, All, Option, Some, None, IfSome, IsSome, inl, inr, ap, subst, refl, sym, arith}
 use Rattle.std.proofs.lemmas.List.{append-nil}
 use Rattle.std.proofs.lemmas.Option.{same_Some}
 use Rattle.pls_base.specs.declared.refusal_number.TheConstants.{APART}
@@ -17,15 +17,18 @@ use Rattle.pls_labelfile.proofs.LabelsPart.{is_labels_part, one_labels}
 use Rattle.pls_sim.specs.declared.event.Event.{Event}
 use Rattle.pls_sim.specs.ScheduleText.{FitsEvent, IsSchedulePart, schedule_lines, schedule_text}
 use Rattle.pls_sim.proofs.Told.{one_told}
+use Rattle.pls_edits.specs.declared.edit_line.EditLine.{EditLine}
+use Rattle.pls_edits.specs.EditsText.{AreEdits, IsEditsPart, edits_lines, edits_text}
+use Rattle.pls_edits.proofs.Told.{one_told as one_edits}
 use Rattle.pls_app.specs.declared.command.Command.{Command}
 use Rattle.pls_app.specs.declared.shape.Shape.{Shape}
-use Rattle.pls_app.specs.declared.shape.Shape.TheVariants.{Network, Labelled, Scheduled}
+use Rattle.pls_app.specs.declared.shape.Shape.TheVariants.{Network, Labelled, Scheduled, Edited}
 use Rattle.pls_app.specs.Command.{shape_of}
 use Rattle.pls_app.specs.Input.{Input, IsInput}
-use Rattle.pls_app.specs.Order.{AreWritten, HasForm, HasParts, IsApart, IsFirstRefusal, IsRefused, IsRefusedText, Parts, events_behind, labels_behind, parts_text, refusals_in, work_refusal}
-use Rattle.pls_app.proofs.Inputs.{alone_parts, apart_from, labelled_parts, one_apart, one_input, parts_fit, scheduled_parts, some_of}
-use Rattle.pls_app.proofs.Refused.{labelled_unrefused, network_unrefused}
-use Rattle.pls_app.proofs.Schedules.{is_schedule_part}
+use Rattle.pls_app.specs.Order.{AreWritten, HasForm, HasParts, IsApart, IsFirstRefusal, IsRefused, IsRefusedText, Parts, labels_behind, parts_text, refusals_in, work_refusal}
+use Rattle.pls_app.proofs.Inputs.{alone_parts, apart_from, edited_parts, labelled_parts, last_text, one_apart, one_input, parts_fit, scheduled_parts, some_of}
+use Rattle.pls_app.proofs.Refused.{labelled, labelled_unrefused, network_unrefused}
+use Rattle.pls_app.proofs.Schedules.{is_edits_part, is_schedule_part}
 
 -- the first refusal is one
 one_first : (parts : Parts) (error other : TextError) → IsFirstRefusal parts error
@@ -55,13 +58,24 @@ behind_labels labels events fits fit = record {
   parts = refl;
 }
 
+-- and so with edits
+behind_edits : (labels : List NamedLabel) (edits : List EditLine) → All FitsLabel labels
+    → AreEdits edits → Then IsLabelsPart IsEditsPart (labels_lines labels ++ edits_lines edits)
+behind_edits labels edits fits are = record {
+  front = labels_lines labels;
+  back = edits_lines edits;
+  is_first = is_labels_part labels fits;
+  is_second = is_edits_part edits are;
+  parts = refl;
+}
+
 -- the parts of an input have no faulty line
 formed : (shape : Shape) (bytes : List ℕ) (parts : Parts) (error : TextError)
     → HasParts shape parts → AreWritten parts → bytes ≡ parts_text parts
     → NamesFirstFault (HasForm shape) bytes error → ⊥
 formed Network bytes parts error has fits is fault =
     fault.2.2.none (network_lines parts.rows) (rows_are_part parts.rows fits.rows)
-    (is ∙ alone_parts parts has.0 has.1)
+    (is ∙ alone_parts parts has.0 has.1 has.2)
 formed Labelled bytes parts error has fits is fault =
     let found = some_of parts.labels has.0 in
     let labels : List NamedLabel = found.0 in
@@ -75,7 +89,7 @@ formed Labelled bytes parts error has fits is fault =
       is_second = is_labels_part labels fit;
       parts = refl;
     })
-    (is ∙ labelled_parts parts labels found.1 has.1
+    (is ∙ labelled_parts parts labels found.1 has.1 has.2
     ∙ sym (text_of-append (network_lines parts.rows) (labels_lines labels)))
 formed Scheduled bytes parts error has fits is fault =
     let found = some_of parts.labels has.0 in
@@ -95,88 +109,131 @@ formed Scheduled bytes parts error has fits is fault =
       is_second = behind_labels labels events fit fit_too;
       parts = refl;
     })
-    (is ∙ scheduled_parts parts labels events found.1 last.1
+    (is ∙ scheduled_parts parts labels events found.1 last.1 has.2
     ∙ ap (λ (text : List ℕ). network_text parts.rows ++ text)
     (sym (text_of-append (labels_lines labels) (schedule_lines events)))
+    ∙ sym (text_of-append (network_lines parts.rows) behind))
+formed Edited bytes parts error has fits is fault =
+    let found = some_of parts.labels has.0 in
+    let last = some_of parts.edits has.2 in
+    let labels : List NamedLabel = found.0 in
+    let edits : List EditLine = last.0 in
+    let fit : IfSome (Some labels) (All FitsLabel) =
+    subst (λ labels. IfSome labels (All FitsLabel)) found.1 fits.labels in
+    let are : IfSome (Some edits) AreEdits =
+    subst (λ edits. IfSome edits AreEdits) last.1 fits.edits in
+    let behind : List (List ℕ) = labels_lines labels ++ edits_lines edits in
+    fault.2.2.none (network_lines parts.rows ++ behind)
+    (record {
+      front = network_lines parts.rows;
+      back = behind;
+      is_first = rows_are_part parts.rows fits.rows;
+      is_second = behind_edits labels edits fit are;
+      parts = refl;
+    })
+    (is ∙ edited_parts parts labels edits found.1 has.1 last.1
+    ∙ ap (λ (text : List ℕ). network_text parts.rows ++ text)
+    (sym (text_of-append (labels_lines labels) (edits_lines edits)))
     ∙ sym (text_of-append (network_lines parts.rows) behind))
 
 -- the text behind a network
 behind_text : (parts : Parts) (labels : Option (List NamedLabel)) (events : Option (List Event))
-    → parts.labels ≡ labels → parts.events ≡ events
-    → labels_behind parts.labels ++ events_behind parts.events
-    ≡ labels_behind labels ++ events_behind events
-behind_text parts labels events some more =
-    ap (λ labels. labels_behind labels ++ events_behind parts.events) some
-    ∙ ap (λ events. labels_behind labels ++ events_behind events) more
+    (edits : Option (List EditLine)) → parts.labels ≡ labels → parts.events ≡ events
+    → parts.edits ≡ edits
+    → labels_behind parts.labels ++ last_text parts.events parts.edits
+    ≡ labels_behind labels ++ last_text events edits
+behind_text parts labels events edits some more last =
+    ap (λ labels. labels_behind labels ++ last_text parts.events parts.edits) some
+    ∙ ap (λ (behind : List ℕ). labels_behind labels ++ behind)
+    (ap (λ events. last_text events parts.edits) more ∙ ap (last_text events) last)
+
+-- the labels and what stands behind them, of which there are labels
+record SameBehind (one other : Parts) : Type 0 where
+  labels : one.labels ≡ other.labels
+  last : last_text one.events one.edits ≡ last_text other.events other.edits
+
+same_behind : (one other : Parts) → IsSome one.labels → IsSome other.labels → AreWritten one
+    → AreWritten other
+    → labels_behind one.labels ++ last_text one.events one.edits
+    ≡ labels_behind other.labels ++ last_text other.events other.edits → SameBehind one other
+same_behind one other has have fits fit same =
+    let mine = some_of one.labels has in
+    let theirs = some_of other.labels have in
+    let fits_mine : IfSome (Some mine.0) (All FitsLabel) =
+    subst (λ labels. IfSome labels (All FitsLabel)) mine.1 fits.labels in
+    let fits_theirs : IfSome (Some theirs.0) (All FitsLabel) =
+    subst (λ labels. IfSome labels (All FitsLabel)) theirs.1 fit.labels in
+    let text : labels_text mine.0 ++ last_text one.events one.edits
+    ≡ labels_text theirs.0 ++ last_text other.events other.edits =
+    sym (behind_text one (Some mine.0) one.events one.edits mine.1 refl refl) ∙ same
+    ∙ behind_text other (Some theirs.0) other.events other.edits theirs.1 refl refl in
+    let labels = one_labels mine.0 theirs.0 _ _ fits_mine fits_theirs text in
+    record { labels = mine.1 ∙ ap Some labels.0 ∙ sym theirs.1; last = labels.1 }
+
+-- the text of the last part is told by which it is
+last_is : (events : Option (List Event)) (edits : Option (List EditLine))
+    (mine : Option (List Event)) (my_edits : Option (List EditLine)) → events ≡ mine
+    → edits ≡ my_edits → last_text events edits ≡ last_text mine my_edits
+last_is events edits mine my_edits more last =
+    ap (λ events. last_text events edits) more ∙ ap (last_text mine) last
 
 -- what stands behind a network is one
 one_behind : (shape : Shape) (one other : Parts) → HasParts shape one → HasParts shape other
     → AreWritten one → AreWritten other
-    → labels_behind one.labels ++ events_behind one.events
-    ≡ labels_behind other.labels ++ events_behind other.events
-    → (one.labels ≡ other.labels) × (one.events ≡ other.events)
+    → labels_behind one.labels ++ last_text one.events one.edits
+    ≡ labels_behind other.labels ++ last_text other.events other.edits
+    → (one.labels ≡ other.labels) × (one.events ≡ other.events) × (one.edits ≡ other.edits)
 one_behind Network one other has have fits fit same =
-    (has.0 ∙ sym have.0, has.1 ∙ sym have.1)
+    (has.0 ∙ sym have.0, has.1 ∙ sym have.1, has.2 ∙ sym have.2)
 one_behind Labelled one other has have fits fit same =
-    let mine = some_of one.labels has.0 in
-    let theirs = some_of other.labels have.0 in
-    let fits_mine : IfSome (Some mine.0) (All FitsLabel) =
-    subst (λ labels. IfSome labels (All FitsLabel)) mine.1 fits.labels in
-    let fits_theirs : IfSome (Some theirs.0) (All FitsLabel) =
-    subst (λ labels. IfSome labels (All FitsLabel)) theirs.1 fit.labels in
-    let text : labels_text mine.0 ++ [] ≡ labels_text theirs.0 ++ [] =
-    sym (behind_text one (Some mine.0) None mine.1 has.1) ∙ same
-    ∙ behind_text other (Some theirs.0) None theirs.1 have.1 in
-    let labels = one_labels mine.0 theirs.0 [] [] fits_mine fits_theirs text in
-    (mine.1 ∙ ap Some labels.0 ∙ sym theirs.1, has.1 ∙ sym have.1)
+    let behind = same_behind one other has.0 have.0 fits fit same in
+    (behind.labels, has.1 ∙ sym have.1, has.2 ∙ sym have.2)
 one_behind Scheduled one other has have fits fit same =
-    let mine = some_of one.labels has.0 in
-    let theirs = some_of other.labels have.0 in
-    let my_events = some_of one.events has.1 in
-    let their_events = some_of other.events have.1 in
-    let fits_mine : IfSome (Some mine.0) (All FitsLabel) =
-    subst (λ labels. IfSome labels (All FitsLabel)) mine.1 fits.labels in
-    let fits_theirs : IfSome (Some theirs.0) (All FitsLabel) =
-    subst (λ labels. IfSome labels (All FitsLabel)) theirs.1 fit.labels in
-    let fits_my_events : IfSome (Some my_events.0) (All FitsEvent) =
-    subst (λ events. IfSome events (All FitsEvent)) my_events.1 fits.events in
-    let fits_their_events : IfSome (Some their_events.0) (All FitsEvent) =
-    subst (λ events. IfSome events (All FitsEvent)) their_events.1 fit.events in
-    let text : labels_text mine.0 ++ schedule_text my_events.0
-    ≡ labels_text theirs.0 ++ schedule_text their_events.0 =
-    sym (behind_text one (Some mine.0) (Some my_events.0) mine.1 my_events.1) ∙ same
-    ∙ behind_text other (Some theirs.0) (Some their_events.0) theirs.1 their_events.1 in
-    let labels = one_labels mine.0 theirs.0 _ _ fits_mine fits_theirs text in
-    let events = one_told (schedule_text my_events.0) my_events.0 their_events.0
-    (record { fits = fits_my_events; is = refl })
-    (record { fits = fits_their_events; is = labels.1 }) in (
-      mine.1 ∙ ap Some labels.0 ∙ sym theirs.1,
-      my_events.1 ∙ ap Some events ∙ sym their_events.1,
-    )
+    let behind = same_behind one other has.0 have.0 fits fit same in
+    let mine = some_of one.events has.1 in
+    let theirs = some_of other.events have.1 in
+    let fits_mine : IfSome (Some mine.0) (All FitsEvent) =
+    subst (λ events. IfSome events (All FitsEvent)) mine.1 fits.events in
+    let fits_theirs : IfSome (Some theirs.0) (All FitsEvent) =
+    subst (λ events. IfSome events (All FitsEvent)) theirs.1 fit.events in
+    let text : schedule_text mine.0 ≡ schedule_text theirs.0 =
+    sym (last_is one.events one.edits (Some mine.0) None mine.1 has.2
+    ∙ append-nil (schedule_text mine.0)) ∙ behind.last
+    ∙ (last_is other.events other.edits (Some theirs.0) None theirs.1 have.2
+    ∙ append-nil (schedule_text theirs.0)) in
+    let events = one_told (schedule_text mine.0) mine.0 theirs.0
+    (record { fits = fits_mine; is = refl }) (record { fits = fits_theirs; is = text }) in
+    (behind.labels, mine.1 ∙ ap Some events ∙ sym theirs.1, has.2 ∙ sym have.2)
+one_behind Edited one other has have fits fit same =
+    let behind = same_behind one other has.0 have.0 fits fit same in
+    let mine = some_of one.edits has.2 in
+    let theirs = some_of other.edits have.2 in
+    let are_mine : IfSome (Some mine.0) AreEdits =
+    subst (λ edits. IfSome edits AreEdits) mine.1 fits.edits in
+    let are_theirs : IfSome (Some theirs.0) AreEdits =
+    subst (λ edits. IfSome edits AreEdits) theirs.1 fit.edits in
+    let text : edits_text mine.0 ≡ edits_text theirs.0 =
+    sym (last_is one.events one.edits None (Some mine.0) has.1 mine.1) ∙ behind.last
+    ∙ last_is other.events other.edits None (Some theirs.0) have.1 theirs.1 in
+    let edits = one_edits (edits_text mine.0) mine.0 theirs.0
+    (record { are = are_mine; is = refl }) (record { are = are_theirs; is = text }) in
+    (behind.labels, has.1 ∙ sym have.1, mine.1 ∙ ap Some edits ∙ sym theirs.1)
 
 -- the parts of an input are one
 one_parts : (shape : Shape) (one other : Parts) → HasParts shape one → HasParts shape other
     → AreWritten one → AreWritten other → parts_text one ≡ parts_text other → one ≡ other
 one_parts shape one other has have fits fit same =
     let first = one_network one.rows other.rows
-    (labels_behind one.labels ++ events_behind one.events)
-    (labels_behind other.labels ++ events_behind other.events) fits.rows fit.rows same in
+    (labels_behind one.labels ++ last_text one.events one.edits)
+    (labels_behind other.labels ++ last_text other.events other.edits) fits.rows fit.rows same in
     let behind = one_behind shape one other has have fits fit first.1 in
-    ap (λ (rows : List NodeRow). record {
-      rows = rows;
-      labels = one.labels;
-      events = one.events;
-    }) first.0
-    ∙ ap (λ (labels : Option (List NamedLabel)). record {
-      rows = other.rows;
-      labels = labels;
-      events = one.events;
-    }) behind.0
-    ∙ ap (λ (events : Option (List Event)). record {
-      rows = other.rows;
-      labels = other.labels;
-      events = events;
-    }) behind.1
+    let rows = first.0 in
+    λ i. record {
+      rows = rows i;
+      labels = behind.0 i;
+      events = behind.1 i;
+      edits = behind.2 i;
+    }
 
 -- the text of an input is refused in one way
 one_text_refusal : (shape : Shape) (bytes : List ℕ) (error other : TextError)
@@ -210,42 +267,64 @@ record IsKept (shape : Shape) (bytes : List ℕ) (rows : List NodeRow) : Type 0 
 kept : (shape : Shape) (bytes : List ℕ) (input : Input) → IsInput shape bytes input
     → IsKept shape bytes input.rows
 kept Network bytes input read = record {
-  parts = record { rows = input.rows; labels = None; events = None };
-  has = (refl, refl);
-  fits = record { rows = read.readable.ranges; labels = tt; events = tt };
+  parts = record { rows = input.rows; labels = None; events = None; edits = None };
+  has = (refl, refl, refl);
+  fits = record { rows = read.readable.ranges; labels = tt; events = tt; edits = tt };
   is = read.is ∙ sym (append-nil (network_text input.rows));
   of_rows = refl;
   unrefused = network_unrefused input.rows read.readable.network;
 }
 kept Labelled bytes input read =
-    let labels : List NamedLabel = named (ids_of input.rows) input.labels in record {
-      parts = record { rows = input.rows; labels = Some labels; events = None };
-      has = (refl, refl);
+    let text : List ℕ = labels_text (named (ids_of input.rows) input.labels) in record {
+      parts = labelled input.rows input.labels None None;
+      has = (refl, refl, refl);
       fits = record {
         rows = read.readable.ranges;
         labels = parts_fit input.rows input.labels read.readable read.filled.0;
         events = tt;
+        edits = tt;
       };
       is = read.is ∙ ap (λ (text : List ℕ). network_text input.rows ++ text)
-          (sym (append-nil (labels_text labels)));
+          (sym (append-nil text));
       of_rows = refl;
-      unrefused = labelled_unrefused input.rows input.labels None read.readable.network
-          read.filled.0 tt;
+      unrefused = labelled_unrefused input.rows input.labels None None read.readable.network
+          read.filled.0 (record { events = tt; edits = tt; rounds = tt });
     }
 kept Scheduled bytes input read =
-    let labels : List NamedLabel = named (ids_of input.rows) input.labels in record {
-      parts = record { rows = input.rows; labels = Some labels; events = Some input.events };
-      has = (refl, refl);
+    let text : List ℕ = labels_text (named (ids_of input.rows) input.labels) in record {
+      parts = labelled input.rows input.labels (Some input.events) None;
+      has = (refl, refl, refl);
       fits = record {
         rows = read.readable.ranges;
         labels = parts_fit input.rows input.labels read.readable read.filled.0;
         events = read.filled.1.ranges;
+        edits = tt;
       };
-      is = read.is;
+      is = read.is ∙ ap (λ (last : List ℕ). network_text input.rows ++ (text ++ last))
+          (sym (append-nil (schedule_text input.events)));
       of_rows = refl;
-      unrefused = labelled_unrefused input.rows input.labels (Some input.events)
-          read.readable.network read.filled.0 read.filled.1.few;
+      unrefused = labelled_unrefused input.rows input.labels (Some input.events) None
+          read.readable.network read.filled.0
+          (record { events = read.filled.1.few; edits = tt; rounds = tt });
     }
+kept Edited bytes input read = record {
+  parts = labelled input.rows input.labels None (Some input.edits);
+  has = (refl, refl, refl);
+  fits = record {
+    rows = read.readable.ranges;
+    labels = parts_fit input.rows input.labels read.readable read.filled.0;
+    events = tt;
+    edits = read.filled.2.are;
+  };
+  is = read.is;
+  of_rows = refl;
+  unrefused = labelled_unrefused input.rows input.labels None (Some input.edits)
+      read.readable.network read.filled.0 (record {
+        events = tt;
+        edits = read.filled.2.few.events;
+        rounds = read.filled.2.few.rounds;
+      });
+}
 
 -- the text of an input is not refused
 text_kept : (shape : Shape) (bytes : List ℕ) (error : TextError) (read : Input)

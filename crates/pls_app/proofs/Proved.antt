@@ -7,20 +7,23 @@ use Rattle.pls_graph.proofs.Members.{Contains-first, Contains-later}
 use Rattle.pls_base.specs.declared.text_error.TextError.{TextError}
 use Rattle.pls_base.specs.declared.text_error.TextError.TheVariants.{Form, Limit, Sense, NoMemory}
 use Rattle.pls_model.specs.declared.row.NodeRow.{NodeRow}
+use Rattle.pls_model.specs.declared.status.Status.{Status}
 use Rattle.pls_model.specs.declared.status.Status.TheVariants.{Done, No}
 use Rattle.pls_model.specs.declared.verdict.Verdict.{Verdict}
 use Rattle.pls_model.specs.declared.verdict.Verdict.TheVariants.{Accept, Reject}
 use Rattle.pls_view.specs.Seen.{Seen, label_of, seen, views}
-use Rattle.pls_scheme.specs.Judging.{AllAccept}
+use Rattle.pls_model.specs.Configuration.{IsNetwork}
+use Rattle.pls_model.specs.Walk.{IsConnected}
+use Rattle.pls_scheme.specs.Judging.{AllAccept, round_by}
 use Rattle.pls_sim.specs.declared.event.Event.{Event}
 use Rattle.pls_sim.specs.declared.outcome.Outcome.{Outcome}
 use Rattle.pls_sim.specs.declared.outcome.Outcome.TheVariants.{Decided}
 use Rattle.pls_sim.specs.Schedule.{outcome_after, outcome_of, unheard}
-use Rattle.pls_report.specs.Report.{all_accept, is_accepting}
+use Rattle.pls_report.specs.Report.{all_accept, all_verdicts_accept, is_accepting}
 use Rattle.pls_app.specs.declared.command.Command.{Command}
 use Rattle.pls_app.specs.declared.command.Command.TheVariants.{With}
 use Rattle.pls_app.specs.declared.command.Task.{Task}
-use Rattle.pls_app.specs.declared.command.Task.TheVariants.{Mark, Verify, Simulate, Bound}
+use Rattle.pls_app.specs.declared.command.Task.TheVariants.{Mark, Verify, Simulate, Recheck, Bound}
 use Rattle.pls_bits.specs.Gamma.{gamma_code, gamma_takes}
 use Rattle.pls_bits.specs.NumberCode.{TakesOnly}
 use Rattle.pls_bits.specs.laws.GammaLaws.{gamma_takes-only}
@@ -29,7 +32,7 @@ use Rattle.pls_combine.specs.laws.ExpressionLaws.{expression_sound}
 use Rattle.pls_app.specs.Command.{Checks, IsCheck, parts_of}
 use Rattle.pls_app.specs.Input.{Input, IsInput}
 use Rattle.pls_app.specs.Answer.{Answer, Answers, TaskYields, decided_by, played_by, refusal_status, report, task_outcomes}
-use Rattle.pls_app.specs.Run.{Lacks, Proves, SomeRejects}
+use Rattle.pls_app.specs.Run.{IsJudged, Lacks, Proves, SomeRejects}
 
 -- a verdict that is decided and accepting accepts
 accepts : (verdict : Verdict) → is_accepting (Decided verdict) ≡ true → verdict ≡ Accept
@@ -76,6 +79,7 @@ all_judged (Verify json) scheme input checks all =
     decided_accept (judge_of gamma_takes scheme) input.rows input.labels all
 all_judged (Simulate json) scheme input checks all =
     played_accept (judge_of gamma_takes scheme) input.rows input.labels input.events all
+all_judged Recheck scheme input checks all = absurd checks
 all_judged Bound scheme input checks all = absurd checks
 
 -- a task that checks labels reads one for each node
@@ -84,6 +88,7 @@ each_label : (task : Task) (bytes : List ℕ) (input : Input) → IsCheck task
 each_label Mark bytes input checks is = absurd checks
 each_label (Verify json) bytes input checks is = is.filled.0.each
 each_label (Simulate json) bytes input checks is = is.filled.0.each
+each_label Recheck bytes input checks is = absurd checks
 each_label Bound bytes input checks is = absurd checks
 
 -- and its status says whether all outcomes accept
@@ -95,6 +100,7 @@ ends_by (Verify json) scheme input answer checks yields =
     ap (λ (answer : Answer). answer.status) yields
 ends_by (Simulate json) scheme input answer checks yields =
     ap (λ (answer : Answer). answer.status) yields
+ends_by Recheck scheme input answer checks yields = absurd checks
 ends_by Bound scheme input answer checks yields = absurd checks
 
 -- `Done` says that all do, and `No` that some does not
@@ -118,6 +124,14 @@ refused_not_no (Form line) ends = cc
 refused_not_no (Limit quantity) ends = cc
 refused_not_no (Sense number place) ends = cc
 refused_not_no NoMemory ends = cc
+
+-- so it has judged nothing
+pub refused_not_judged : (error : TextError) (status : Status) → status ≡ refusal_status error
+    → IsJudged status → ⊥
+refused_not_judged error status same judged = elim judged [
+  | inl done ↦ refused_not_done error (sym same ∙ done)
+  | inr ends ↦ refused_not_no error (sym same ∙ ends)
+]
 
 -- the gamma code is taken from the front of its own codes alone
 gamma_only : TakesOnly gamma_code gamma_takes
@@ -214,3 +228,22 @@ accepted_report scheme rows labels accepted =
     (λ k d within. ap (λ (verdict : Verdict). is_accepting (Decided verdict))
     (accepted k d within)) in
     rw all refl
+
+-- the verdicts of a round that all accept
+verdicts_accept : (judge : Seen → Verdict) (rows : List NodeRow) (labels : List (List Bool))
+    → all_verdicts_accept (round_by judge rows labels) ≡ true → AllAccept judge rows labels
+verdicts_accept judge rows labels all = λ k d within.
+    let row : Seen → ℕ × Verdict = λ view. (view.id, judge view) in
+    accepts (judge (get_or (views rows labels) k d))
+    (AllPass-from_list_all (λ view. is_accepting (Decided (judge view))) (views rows labels)
+    (sym (list_all-map (λ row. is_accepting (Decided row.1)) row (views rows labels)) ∙ all)
+    k d within)
+
+-- a network whose nodes all accept its labels, and that is connected, has the property
+pub round_holds : (scheme : Expression) (rows : List NodeRow) (labels : List (List Bool))
+    → IsNetwork rows → IsConnected rows → length labels ≡ length rows
+    → all_verdicts_accept (round_by (judge_of gamma_takes scheme) rows labels) ≡ true
+    → HasProperty scheme rows
+round_holds scheme rows labels network connected each all =
+    expression_sound gamma_code gamma_takes gamma_only scheme rows labels network connected each
+    (verdicts_accept (judge_of gamma_takes scheme) rows labels all)

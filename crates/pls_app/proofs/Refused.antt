@@ -18,11 +18,14 @@ use Rattle.pls_labelfile.proofs.Named.{named_no_misfit, total_bits-named}
 use Rattle.pls_sim.specs.declared.event.Event.{Event}
 use Rattle.pls_sim.specs.declared.limits.TheConstants.{MAX_EVENTS}
 use Rattle.pls_sim.specs.ScheduleText.{FitsEvent, IsEventsRefusal, WrittenSchedule}
+use Rattle.pls_edits.specs.declared.edit_line.EditLine.{EditLine}
+use Rattle.pls_edits.specs.declared.limits.TheConstants.{MAX_LINES, MAX_ROUNDS}
+use Rattle.pls_edits.specs.EditsText.{AreEdits, AreFew, HasTooMany, IsEditsRefusal, WrittenEdits, rounds_of}
 use Rattle.pls_app.specs.declared.shape.Shape.{Shape}
 use Rattle.pls_app.specs.declared.input.Texts.{Texts}
 use Rattle.pls_app.specs.Input.{AreLabels}
-use Rattle.pls_app.specs.Order.{IsApart, IsFirstRefusal, Parts, RefusesParts, heading_of, misfit_in, refusals_in}
-use Rattle.pls_app.specs.inner.Scanned.{AreBuilt, AreRefused, AreUnlisted, IsScanned, TellsEvents, TellsSome, limits_in}
+use Rattle.pls_app.specs.Order.{IsApart, IsFirstRefusal, Parts, RefusesParts, heading_of, lines_in, misfit_in, refusals_in}
+use Rattle.pls_app.specs.inner.Scanned.{AreBuilt, AreEditsUnlisted, AreRefused, AreUnlisted, IsScanned, TellsEvents, TellsSome, TellsSomeEdits, limits_in}
 use Rattle.pls_app.proofs.Inputs.{refusal_is}
 use Rattle.pls_app.proofs.LimitsPassed.{Few, first_behind, first_in, kept_in, limits_kept, limits_on, limits_scanned}
 
@@ -43,6 +46,14 @@ events_fit rows labels None (Some events) tells = absurd tells
 events_fit rows labels (Some written) None tells = absurd tells
 events_fit rows labels (Some written) (Some events) tells = tells.tells.fits
 
+edits_fit : (rows : List NodeRow) (labels : Option (List NamedLabel))
+    (texts : Option WrittenEdits) (edits : Option (List EditLine))
+    → TellsSomeEdits rows labels texts edits → IfSome edits AreEdits
+edits_fit rows labels None None tells = tt
+edits_fit rows labels None (Some edits) tells = absurd tells
+edits_fit rows labels (Some written) None tells = absurd tells
+edits_fit rows labels (Some written) (Some edits) tells = tells.tells.are
+
 -- the first refusal of what was scanned refuses the bytes
 refuses : (shape : Shape) (bytes : List ℕ) (texts : Texts) (error : TextError)
     (scanned : IsScanned shape bytes texts) → IsFirstRefusal scanned.parts error
@@ -57,6 +68,7 @@ refuses shape bytes texts error scanned first =
         labels = labels_fit parts.rows texts.labels parts.labels scanned.tells_labels;
         events = events_fit parts.rows parts.labels texts.schedule parts.events
             scanned.tells_events;
+        edits = edits_fit parts.rows parts.labels texts.edits parts.edits scanned.tells_edits;
       };
       is = scanned.is;
       first = first;
@@ -184,42 +196,59 @@ parts_apart shape bytes texts net store error scanned none built valid labels ap
       subst (λ (rows : List NodeRow). IsApart rows error) is_net apart,
     ))
 
+-- parts whose lines are within the limits
+pub record AreFewLines (parts : Parts) : Type 0 where
+  pub events : Few MAX_EVENTS (lines_in parts).events
+  pub edits : Few MAX_LINES (lines_in parts).edits
+  pub rounds : Few MAX_ROUNDS (lines_in parts).rounds
+
 -- parts whose labels fit are refused by nothing before 17
 unrefused : (parts : Parts) → IsNetwork parts.rows → Few MAX_BITS (option_map total_bits parts.labels)
-    → Few MAX_EVENTS (option_map length parts.events)
-    → option_and_then (misfit_in parts.rows) parts.labels ≡ None
+    → AreFewLines parts → option_and_then (misfit_in parts.rows) parts.labels ≡ None
     → first_of (refusals_in parts) ≡ None
-unrefused parts net bits events fit =
+unrefused parts net bits lines fit =
     behind_network parts None net
     (limits_kept (length parts.rows) (ports_in parts.rows) (option_map total_bits parts.labels)
-    (option_map length parts.events) (record {
+    (lines_in parts) (record {
       few_nodes = net.limits.few_nodes;
       few_ports = net.limits.few_ports;
       few_bits = bits;
-      few_events = events;
+      few_events = lines.events;
+      few_edits = lines.edits;
+      few_rounds = lines.rounds;
     })) fit
 
 -- a network alone is refused by nothing before 17
 pub network_unrefused : (rows : List NodeRow) → IsNetwork rows
-    → first_of (refusals_in (record { rows = rows; labels = None; events = None })) ≡ None
-network_unrefused rows net =
-    unrefused (record { rows = rows; labels = None; events = None }) net tt tt refl
-
--- a network, labels for it and few events are refused by nothing before 17
-pub labelled_unrefused : (rows : List NodeRow) (labels : List (List Bool))
-    (events : Option (List Event)) → IsNetwork rows → AreLabels rows labels
-    → Few MAX_EVENTS (option_map length events)
-    → first_of (refusals_in
-    (record { rows = rows; labels = Some (named (ids_of rows) labels); events = events }))
+    → first_of (refusals_in (record { rows = rows; labels = None; events = None; edits = None }))
     ≡ None
-labelled_unrefused rows labels events net labelled few =
+network_unrefused rows net =
+    unrefused (record { rows = rows; labels = None; events = None; edits = None }) net tt
+    (record { events = tt; edits = tt; rounds = tt }) refl
+
+-- a network with its labels, and other parts behind them
+abbrev pub labelled : List NodeRow → List (List Bool) → Option (List Event)
+    → Option (List EditLine) → Parts
+labelled rows labels events edits = record {
+  rows = rows;
+  labels = Some (named (ids_of rows) labels);
+  events = events;
+  edits = edits;
+}
+
+-- such parts with few lines are refused by nothing before 17
+pub labelled_unrefused : (rows : List NodeRow) (labels : List (List Bool))
+    (events : Option (List Event)) (edits : Option (List EditLine)) → IsNetwork rows
+    → AreLabels rows labels → AreFewLines (labelled rows labels events edits)
+    → first_of (refusals_in (labelled rows labels events edits)) ≡ None
+labelled_unrefused rows labels events edits net labelled_so few =
     let ids : List ℕ = ids_of rows in
     let many : length ids ≡ length rows = length-map rows (λ (row : NodeRow). row.id) in
-    let each : length labels ≡ length ids = labelled.each ∙ sym many in
+    let each : length labels ≡ length ids = labelled_so.each ∙ sym many in
     let bits : total_bits (named ids labels) ≤ MAX_BITS =
-    omega (arith, total_bits-named ids labels each, labelled.few) in
-    unrefused (record { rows = rows; labels = Some (named ids labels); events = events }) net bits
-    few (rw (named_no_misfit ids labels each) refl)
+    omega (arith, total_bits-named ids labels each, labelled_so.few) in
+    unrefused (labelled rows labels events edits) net bits few
+    (rw (named_no_misfit ids labels each) refl)
 
 -- few events are refused for want of memory alone
 unlisted_few : (events : List Event) (error : TextError) → length events ≤ MAX_EVENTS
@@ -246,3 +275,37 @@ events_unlisted shape bytes texts error scanned none unlisted =
     by (Some written) None few tells unlisted = absurd tells
     by (Some written) (Some events) few tells unlisted =
         unlisted_few events error few (unlisted events tells.tells)
+
+-- few edits are not too many
+too_many : {error : TextError} (edits : List EditLine) → AreFew edits → HasTooMany edits error → ⊥
+too_many edits few many = elim many [
+  | inl events ↦ omega (arith, events.1, few.events)
+  | inr rounds ↦ omega (arith, rounds.2, few.rounds)
+]
+
+-- few edits are refused for want of memory alone
+edits_few : (edits : List EditLine) (error : TextError) → AreFew edits → IsEditsRefusal edits error
+    → error ≡ NoMemory
+edits_few edits NoMemory few refused = refl
+edits_few edits (Form line) few refused = absurd (too_many edits few refused)
+edits_few edits (Limit quantity) few refused = absurd (too_many edits few refused)
+edits_few edits (Sense number place) few refused = absurd (too_many edits few refused)
+
+pub edits_unlisted : (shape : Shape) (bytes : List ℕ) (texts : Texts) (error : TextError)
+    → IsScanned shape bytes texts → first_of (limits_in texts) ≡ None
+    → AreEditsUnlisted texts.edits error → error ≡ NoMemory
+edits_unlisted shape bytes texts error scanned none unlisted =
+    let parts = scanned.parts in
+    let kept = kept_in parts (kept_scanned shape bytes texts scanned none) in
+    by texts.edits parts.edits kept.few_edits kept.few_rounds scanned.tells_edits unlisted
+  where
+    by : (texts : Option WrittenEdits) (edits : Option (List EditLine))
+        → Few MAX_LINES (option_map length edits)
+        → Few MAX_ROUNDS (option_map (λ edits. length (rounds_of edits)) edits)
+        → TellsSomeEdits scanned.parts.rows scanned.parts.labels texts edits
+        → AreEditsUnlisted texts error → error ≡ NoMemory
+    by None edits events rounds tells unlisted = unlisted
+    by (Some written) None events rounds tells unlisted = absurd tells
+    by (Some written) (Some edits) events rounds tells unlisted =
+        edits_few edits error (record { events = events; rounds = rounds })
+        (unlisted edits tells.tells)

@@ -19,7 +19,7 @@ use Rattle.pls_report.specs.Report.{all_accept, report_text}
 use Rattle.pls_app.specs.declared.command.Command.{Command}
 use Rattle.pls_app.specs.declared.command.Command.TheVariants.{With}
 use Rattle.pls_app.specs.declared.command.Task.{Task}
-use Rattle.pls_app.specs.declared.command.Task.TheVariants.{Mark, Verify, Simulate, Bound}
+use Rattle.pls_app.specs.declared.command.Task.TheVariants.{Mark, Verify, Simulate, Recheck, Bound}
 use Rattle.pls_bits.specs.Gamma.{gamma_code, gamma_takes}
 use Rattle.pls_graph.specs.Size.{size_of}
 use Rattle.pls_combine.specs.Expression.{Expression, HasProperty, IsMarked, judge_of, longest_of}
@@ -27,6 +27,7 @@ use Rattle.pls_json.specs.Json.{json_text}
 use Rattle.pls_app.specs.Command.{shape_of}
 use Rattle.pls_app.specs.Input.{Input, IsInput}
 use Rattle.pls_app.specs.Order.{IsRefused, work_refusal}
+use Rattle.pls_app.specs.Reports.{Report, ReportInput, ends_well, reports_text}
 
 -- how a run ends, and the text that it writes
 pub record Answer : Type 0 where
@@ -91,6 +92,7 @@ task_outcomes (Verify json) scheme input =
     decided_by (judge_of gamma_takes scheme) input.rows input.labels
 task_outcomes (Simulate json) scheme input =
     played_by (judge_of gamma_takes scheme) input.rows input.labels input.events
+task_outcomes Recheck scheme input = []
 task_outcomes Bound scheme input = []
 
 abbrev pub outcomes_in : Command → Input → List (ℕ × Outcome)
@@ -111,6 +113,19 @@ Marks scheme rows answer =
     × (answer ≡ labelled rows labels))
     ⊎ ((HasProperty scheme rows → ⊥) × (answer ≡ no))
 
+-- the answer with the reports of rounds
+abbrev pub reported : List Report → Answer
+reported reports = record {
+  status = if ends_well reports then Done else No;
+  text = reports_text reports;
+}
+
+-- the answer to `recheck` on an input: the reports of its rounds
+abbrev pub Rechecks : Expression → Input → Answer → Type 0
+Rechecks scheme input answer =
+    (reports : List Report) × ReportInput (judge_of gamma_takes scheme) input reports
+    × (answer ≡ reported reports)
+
 -- the answer to a task with a scheme on an input that it does not refuse
 abbrev pub TaskYields : Task → Expression → Input → Answer → Type 0
 TaskYields Mark scheme input answer = Marks scheme input.rows answer
@@ -118,6 +133,7 @@ TaskYields (Verify json) scheme input answer =
     answer ≡ report json false (task_outcomes (Verify json) scheme input)
 TaskYields (Simulate json) scheme input answer =
     answer ≡ report json true (task_outcomes (Simulate json) scheme input)
+TaskYields Recheck scheme input answer = Rechecks scheme input answer
 TaskYields Bound scheme input answer =
     answer ≡ bounded (longest_of gamma_code scheme (size_of input.rows))
 

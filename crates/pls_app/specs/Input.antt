@@ -1,5 +1,5 @@
 -- What the commands read: a connected network, and what they need besides.
-use Rattle.std.specs.Prelude.{◌≡◌, ℕ, ◌+◌, ◌≤◌, Bool, List, [], ◌++◌, length, All}
+use Rattle.std.specs.Prelude.{◌≡◌, ℕ, ◌+◌, ◌≤◌, Bool, List, [], ◌++◌, length, All, ⊤}
 use Rattle.pls_model.specs.declared.row.NodeRow.{NodeRow}
 use Rattle.pls_model.specs.Configuration.{IsNetwork, ids_of}
 use Rattle.pls_model.specs.Walk.{IsConnected}
@@ -10,15 +10,19 @@ use Rattle.pls_labelfile.specs.declared.limits.TheConstants.{MAX_BITS}
 use Rattle.pls_sim.specs.declared.event.Event.{Event}
 use Rattle.pls_sim.specs.declared.limits.TheConstants.{MAX_EVENTS}
 use Rattle.pls_sim.specs.ScheduleText.{FitsEvent, schedule_text}
+use Rattle.pls_edits.specs.declared.edit_line.EditLine.{EditLine}
+use Rattle.pls_edits.specs.EditsText.{AreEdits, AreFew, edits_text}
 use Rattle.pls_app.specs.declared.shape.Shape.{Shape}
-use Rattle.pls_app.specs.declared.shape.Shape.TheVariants.{Network, Labelled, Scheduled}
+use Rattle.pls_app.specs.declared.shape.Shape.TheVariants.{Network, Labelled, Scheduled, Edited}
 use Rattle.pls_app.specs.declared.limits.TheConstants.{MAX_INPUT}
 
--- what an input says: a network, labels and events, which are none where it has no part for them
+-- what an input says: a network, labels, events and edits, which are none where it has no part for
+-- them
 pub record Input : Type 0 where
   pub rows : List NodeRow
   pub labels : List (List Bool)
   pub events : List Event
+  pub edits : List EditLine
 
 -- the rows are a connected network, and its numbers can stand in a text
 pub record IsReadable (rows : List NodeRow) : Type 0 where
@@ -36,11 +40,20 @@ pub record AreEvents (events : List Event) : Type 0 where
   pub ranges : All FitsEvent events
   pub few : length events ≤ MAX_EVENTS
 
--- the labels and events are those of an input with these parts
+-- the edits can stand in a text, and there are not too many of them
+pub record AreFewEdits (edits : List EditLine) : Type 0 where
+  pub are : AreEdits edits
+  pub few : AreFew edits
+
+-- the labels, events and edits are those of an input with these parts
 abbrev pub IsFilled : Shape → Input → Type 0
-IsFilled Network input = (input.labels ≡ []) × (input.events ≡ [])
-IsFilled Labelled input = AreLabels input.rows input.labels × (input.events ≡ [])
-IsFilled Scheduled input = AreLabels input.rows input.labels × AreEvents input.events
+IsFilled Network input = (input.labels ≡ []) × (input.events ≡ []) × (input.edits ≡ [])
+IsFilled Labelled input =
+    AreLabels input.rows input.labels × (input.events ≡ []) × (input.edits ≡ [])
+IsFilled Scheduled input =
+    AreLabels input.rows input.labels × AreEvents input.events × (input.edits ≡ [])
+IsFilled Edited input =
+    AreLabels input.rows input.labels × (input.events ≡ []) × AreFewEdits input.edits
 
 -- the text of the labels of a network
 abbrev pub net_labels_text : List NodeRow → List (List Bool) → List ℕ
@@ -52,6 +65,8 @@ input_text Network input = network_text input.rows
 input_text Labelled input = network_text input.rows ++ net_labels_text input.rows input.labels
 input_text Scheduled input = network_text input.rows
     ++ (net_labels_text input.rows input.labels ++ schedule_text input.events)
+input_text Edited input = network_text input.rows
+    ++ (net_labels_text input.rows input.labels ++ edits_text input.edits)
 
 -- the bytes are the text of an input with these parts, within the limit
 pub record IsInput (shape : Shape) (bytes : List ℕ) (input : Input) : Type 0 where
@@ -60,7 +75,14 @@ pub record IsInput (shape : Shape) (bytes : List ℕ) (input : Input) : Type 0 w
   pub filled : IsFilled shape input
   pub is : bytes ≡ input_text shape input
 
--- the line of the first event: the first but one behind the network and its labels
+-- the last part of an input of the shape has a line for each event or edit
+abbrev pub HasLines : Shape → Type 0
+HasLines Network = ⊥
+HasLines Labelled = ⊥
+HasLines Scheduled = ⊤
+HasLines Edited = ⊤
+
+-- the line of the first event or edit: the first but one behind the network and its labels
 abbrev pub first_event_line : Input → ℕ
 first_event_line input =
     length (network_lines input.rows)

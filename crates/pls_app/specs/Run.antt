@@ -12,16 +12,21 @@ use Rattle.pls_labelfile.specs.LabelsText.{labels_text, named}
 use Rattle.pls_scheme.specs.Judging.{AllAccept}
 use Rattle.pls_scheme.specs.Marked.{answered}
 use Rattle.pls_app.specs.declared.limits.TheConstants.{MAX_INPUT}
+use Rattle.pls_base.specs.Steps.{up_by}
+use Rattle.pls_model.specs.Walk.{IsConnected}
 use Rattle.pls_app.specs.declared.command.Command.{Command}
+use Rattle.pls_app.specs.declared.command.Command.TheVariants.{With}
+use Rattle.pls_app.specs.declared.command.Task.TheVariants.{Recheck}
 use Rattle.pls_bits.specs.Gamma.{gamma_code, gamma_takes}
 use Rattle.pls_sim.specs.declared.outcome.Outcome.{Outcome}
 use Rattle.pls_report.specs.Report.{is_accepting}
-use Rattle.pls_app.specs.declared.shape.Shape.TheVariants.{Network}
+use Rattle.pls_app.specs.declared.shape.Shape.TheVariants.{Network, Edited}
 use Rattle.pls_app.specs.Command.{IsCommand, shape_of, verify_words}
 use Rattle.pls_combine.specs.Expression.{Expression, HasProperty, judge_of, longest_of}
 use Rattle.pls_app.specs.Input.{Input, IsInput}
 use Rattle.pls_app.specs.Order.{IsRefused}
 use Rattle.pls_app.specs.Answer.{Answer, outcomes_in, refusal, refusal_status}
+use Rattle.pls_app.specs.Reports.{Report, ReportInput, checked_in, edited_by}
 use Rattle.pls_app.specs.Words.{IsAnswer}
 
 -- the words are this command, and the source tells these bytes
@@ -179,6 +184,42 @@ pub record Lacks (scheme : Expression) (bytes : List ℕ) : Type 0 where
   pub input : Input
   pub is : IsInput Network bytes input
   pub lacks : HasProperty scheme input.rows → ⊥
+
+-- the network of an input is connected and has the property after all edits
+pub record HoldsIn (scheme : Expression) (input : Input) : Type 0 where
+  pub connected : IsConnected (edited_by input.edits input.rows)
+  pub holds : HasProperty scheme (edited_by input.edits input.rows)
+
+-- so it is with the input that the bytes are
+pub record HoldsAfter (scheme : Expression) (bytes : List ℕ) : Type 0 where
+  pub input : Input
+  pub is : IsInput Edited bytes input
+  pub holds : HoldsIn scheme input
+
+-- the count rose by as many nodes as the reports of an input's rounds say were checked
+pub record RoseIn (scheme : Expression) (input : Input) (old new : ℕ) : Type 0 where
+  pub reports : List Report
+  pub are : ReportInput (judge_of gamma_takes scheme) input reports
+  pub rose : new ≡ up_by (checked_in reports) old
+
+-- so it is with the input that the bytes are
+pub record RoseByChecked (scheme : Expression) (bytes : List ℕ) (old new : ℕ) : Type 0 where
+  pub input : Input
+  pub is : IsInput Edited bytes input
+  pub rose : RoseIn scheme input old new
+
+-- the run ends with what it found of the network
+abbrev pub IsJudged : Status → Type 0
+IsJudged status = (status ≡ Done) ⊎ (status ≡ No)
+
+-- how often the bench was asked: by `recheck`, where it ends with its reports, once for each node
+-- that they say was checked, and by no other command
+pub record CountsAsked (words : List (List ℕ)) (left : Option (List ℕ)) (status : Status)
+    (old new : ℕ) : Type 0 where
+  pub checked : (scheme : Expression) (bytes : List ℕ)
+      → Asks words left (With Recheck scheme) bytes → IsJudged status
+      → RoseByChecked scheme bytes old new
+  pub others : ((scheme : Expression) → IsCommand words (With Recheck scheme) → ⊥) → new ≡ old
 
 -- a text was written whole and the status is its own, or a write failed behind a front of it
 abbrev pub Told : Status → Status → ℕ → ℕ → Option (List ℕ) → Option (List ℕ) → List ℕ → Type 0

@@ -2,9 +2,11 @@
 
 ghost use Rattle.std.specs.Prelude.{◌≡◌, ◌≢◌, if◌then◌else◌, IfOk, OnOk};
 ghost use Rattle.pls_report.specs.Report.{all_accept};
-ghost use Rattle.pls_app.specs.Answer.{no, refusal, refusal_status, report, usage};
+ghost use Rattle.pls_app.specs.Answer.{no, refusal, refusal_status, report, reported, usage};
+ghost use Rattle.pls_app.specs.Reports.{ends_well};
 ghost use Rattle.pls_app.specs.Run.{IsAnswered};
 
+use crate::round_report::RoundReport;
 use pls_base::{NoMemory, Status, TextError};
 use pls_json::json_report;
 use pls_report::all_accept;
@@ -31,6 +33,8 @@ pub(crate) enum Content {
         simulated: bool,
         rows: Vec<(u32, Outcome)>,
     },
+    /// Reports of rounds, which become text as they are written.
+    Rounds(Vec<RoundReport>),
 }
 
 impl Model for Answer {
@@ -80,6 +84,32 @@ pub(crate) fn report(
         Content::Report { simulated, rows }
     };
     Ok(Answer { status, content })
+}
+
+// The answer with the reports of rounds.
+pub(crate) fn reported(reports: Vec<RoundReport>) -> Answer
+    ensures reports { result ≡ reported reports.items }
+    ensures answered { IsAnswered result.status }
+{
+    let status = if ends_well(&reports) {
+        Status::Done
+    } else {
+        Status::No
+    };
+    Answer {
+        status,
+        content: Content::Rounds(reports),
+    }
+}
+
+// Whether all is well in the last report, where there is one.
+fn ends_well(reports: &[RoundReport]) -> bool
+    ensures { result ≡ ends_well reports.now }
+{
+    match reports.last() {
+        Some(last) => last.is_well(),
+        None => true,
+    }
 }
 
 // The status of a round: whether all nodes accept.

@@ -4,14 +4,15 @@ ghost use Rattle.std.specs.Prelude.{◌≡◌, ◌≢◌, ◌≤◌, IfErr, IfOk
 ghost use Rattle.pls_model.specs.Configuration.{IsNetwork, first_of};
 ghost use Rattle.pls_model.specs.Walk.{IsConnected};
 ghost use Rattle.pls_lines.specs.Fault.{NamesFirstFault};
-ghost use Rattle.pls_app.specs.Input.{IsInput, first_event_line};
+ghost use Rattle.pls_app.specs.Input.{HasLines, IsInput, first_event_line};
 ghost use Rattle.pls_app.specs.Order.{HasForm, IsApart, over};
-ghost use Rattle.pls_app.specs.inner.Scanned.{AreBuilt, AreListed, AreRefused, AreUnlisted, IsScanned, Refuses, bits_over, events_over, first_line_of, limits_in, said};
+ghost use Rattle.pls_app.specs.inner.Scanned.{AreBuilt, AreEditsListed, AreEditsUnlisted, AreListed, AreRefused, AreUnlisted, IsScanned, Refuses, bits_over, edits_over, events_over, first_line_of, limits_in, said};
 
 use crate::limits::MAX_INPUT;
 use crate::shape::Shape;
 use pls_base::refusal_number::APART;
 use pls_base::{Quantity, TextError};
+use pls_edits::{EditLine, EditsText, MAX_LINES, MAX_ROUNDS};
 use pls_graph::{Network, connected};
 use pls_labelfile::{LabelsText, MAX_BITS};
 use pls_lines::{Both, read_whole};
@@ -21,13 +22,14 @@ use pls_sim::{Event, MAX_EVENTS, ScheduleText};
 use pls_view::LabelStore;
 use std::alloc::Global;
 
-/// What an input says. There are no labels and no events where it has no part for them.
+/// What an input says. There are no labels, events and edits where it has no part for them.
 #[derive(Drop)]
 pub(crate) struct Input {
     pub(crate) net: Network,
     pub(crate) labels: LabelStore,
     pub(crate) events: Vec<Event>,
-    // The number of the line of the first event.
+    pub(crate) edits: Vec<EditLine>,
+    // The number of the line of the first event or edit.
     pub(crate) first_line: u64,
 }
 
@@ -37,13 +39,14 @@ pub(crate) struct Texts<'a> {
     pub(crate) network: NetworkText<'a>,
     pub(crate) labels: Option<LabelsText<'a>>,
     pub(crate) schedule: Option<ScheduleText<'a>>,
+    pub(crate) edits: Option<EditsText<'a>>,
 }
 
 // What an input of these parts says, or why it is refused.
 pub(crate) fn read_input(alloc: Global, shape: Shape, bytes: &[u8]) -> Result<Input, TextError>
     requires { length bytes.now ≤ MAX_INPUT }
     ensures input { IfOk result (λ input. IsInput shape bytes.now (said input)) }
-    ensures line { IfOk result (λ input. shape ≡ Shape.Scheduled
+    ensures line { IfOk result (λ input. HasLines shape
         → input.first_line ≡ first_event_line (said input)) }
     ensures refused { IfErr result (λ error. Refuses shape bytes.now error) }
 {
@@ -52,12 +55,14 @@ pub(crate) fn read_input(alloc: Global, shape: Shape, bytes: &[u8]) -> Result<In
     let net = texts.network.build(alloc)?;
     let labels = build_labels(alloc, &texts.labels, &net)?;
     let events = list_events(alloc, &texts.schedule)?;
+    let edits = list_edits(alloc, &texts.edits)?;
     test_connected(alloc, &net)?;
-    let first_line = first_line(&texts.schedule);
+    let first_line = first_line(&texts.schedule, &texts.edits);
     Ok(Input {
         net,
         labels,
         events,
+        edits,
         first_line,
     })
 }
@@ -74,6 +79,7 @@ fn scan_parts<'a>(shape: Shape, bytes: &'a [u8]) -> Result<Texts<'a>, TextError>
                 network,
                 labels: None,
                 schedule: None,
+                edits: None,
             })
         }
         Shape::Labelled => {
@@ -83,6 +89,7 @@ fn scan_parts<'a>(shape: Shape, bytes: &'a [u8]) -> Result<Texts<'a>, TextError>
                 network: parts.first,
                 labels,
                 schedule: None,
+                edits: None,
             })
         }
         Shape::Scheduled => {
@@ -95,12 +102,27 @@ fn scan_parts<'a>(shape: Shape, bytes: &'a [u8]) -> Result<Texts<'a>, TextError>
                 network: parts.first,
                 labels,
                 schedule,
+                edits: None,
+            })
+        }
+        Shape::Edited => {
+            let parts = read_whole::<Both<NetworkText<'a>, Both<LabelsText<'a>, EditsText<'a>>>>(
+                bytes,
+            )?;
+            let labels = Some(parts.second.first);
+            let edits = Some(parts.second.second);
+            Ok(Texts {
+                network: parts.first,
+                labels,
+                schedule: None,
+                edits,
             })
         }
     }
 }
 
-// Refuses parts with too many nodes, ports, bits or events, in this order. It takes no memory.
+// Refuses parts with too many nodes, ports, bits, events or rounds, in this order. It takes no
+// memory.
 fn test_limits(texts: &Texts<'_>) -> Result<(), TextError>
     ensures within { OnOk result (first_of (limits_in texts.now) ≡ None) }
     ensures refused { IfErr result (λ error. first_of (limits_in texts.now) ≡ Some error) }
@@ -108,7 +130,8 @@ fn test_limits(texts: &Texts<'_>) -> Result<(), TextError>
     test_count(Quantity::Nodes, MAX_NODES as u64, texts.network.nodes())?;
     test_count(Quantity::Ports, MAX_PORTS as u64, texts.network.ports())?;
     test_bits(&texts.labels)?;
-    test_events(&texts.schedule)
+    test_events(&texts.schedule)?;
+    test_edits(&texts.edits)
 }
 
 // Refuses a quantity that passes its limit.
@@ -144,6 +167,20 @@ fn test_events(schedule: &Option<ScheduleText<'_>>) -> Result<(), TextError>
     }
 }
 
+// Refuses too many edits, or else too many rounds, where there are edits.
+fn test_edits(edits: &Option<EditsText<'_>>) -> Result<(), TextError>
+    ensures within { OnOk result (first_of (edits_over edits.now) ≡ None) }
+    ensures refused { IfErr result (λ error. first_of (edits_over edits.now) ≡ Some error) }
+{
+    match edits {
+        Some(edits) => {
+            test_count(Quantity::Events, MAX_LINES as u64, edits.events())?;
+            test_count(Quantity::Rounds, MAX_ROUNDS as u64, edits.rounds())
+        }
+        None => Ok(()),
+    }
+}
+
 // The labels that a text says, where there is one, or why they are refused.
 fn build_labels(
     alloc: Global,
@@ -170,13 +207,25 @@ fn list_events(alloc: Global, schedule: &Option<ScheduleText<'_>>) -> Result<Vec
     }
 }
 
-// The number of the line of the first event, 0 where there is no schedule.
-fn first_line(schedule: &Option<ScheduleText<'_>>) -> u64
-    ensures { result ≡ first_line_of schedule.now }
+// The edits and rounds that a text says, where there is one, or why they are refused.
+fn list_edits(alloc: Global, edits: &Option<EditsText<'_>>) -> Result<Vec<EditLine>, TextError>
+    ensures listed { IfOk result (λ list. AreEditsListed edits.now list.items) }
+    ensures refused { IfErr result (λ error. AreEditsUnlisted edits.now error) }
 {
-    match schedule {
-        Some(schedule) => schedule.number_of(0),
-        None => 0,
+    match edits {
+        Some(edits) => edits.list(alloc),
+        None => Ok(Vec::new(alloc)),
+    }
+}
+
+// The number of the line of the first event or edit, 0 where there is no part for them.
+fn first_line(schedule: &Option<ScheduleText<'_>>, edits: &Option<EditsText<'_>>) -> u64
+    ensures { result ≡ first_line_of schedule.now edits.now }
+{
+    match (schedule, edits) {
+        (Some(schedule), _) => schedule.number_of(0),
+        (None, Some(edits)) => edits.number_of(0),
+        (None, None) => 0,
     }
 }
 

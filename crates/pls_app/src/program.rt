@@ -7,27 +7,32 @@ ghost use Rattle.pls_words.specs.Words.{words_in};
 ghost use Rattle.pls_combine.specs.Expression.{Expression};
 ghost use Rattle.pls_app.specs.Command.{Checks};
 ghost use Rattle.pls_app.specs.Trial.{IsUnread};
-ghost use Rattle.pls_app.specs.Run.{Asks, Consumes, EndsAs, HasItsCause, IsAnswered, IsSureOfAnswer, Lacks, Proves, RefusesExactly, SomeRejects, Tells, TellsPart, Told, TookCertificate};
+ghost use Rattle.pls_app.specs.Run.{Asks, Consumes, CountsAsked, EndsAs, HasItsCause, HoldsAfter, IsAnswered, IsSureOfAnswer, Lacks, Proves, RefusesExactly, SomeRejects, Tells, TellsPart, Told, TookCertificate};
+ghost use Rattle.pls_app.specs.Reports.{reports_text};
 ghost use Rattle.pls_app.specs.inner.Written.{text_in};
 
 use crate::answer::{Answer, Content, usage};
 use crate::command::{Command, Task};
 use crate::from_source::answer_from;
 use crate::request::{Request, read_request};
+use crate::round_report::RoundReport;
 use crate::trial::trial;
 use pls_base::{Fault, NoMemory, Sink, Source, Status, write_all};
-use pls_report::write_report;
+use pls_recheck::Bench;
+use pls_report::{write_report, write_round};
 use std::alloc::Global;
 
 /// Runs the program: `words` are the words after its name, `source` gives its input, and `sink`
-/// takes its text. The answer is the status with which the process ends.
+/// takes its text. `bench` answers for the nodes that `recheck` judges. The answer is the status with
+/// which the process ends.
 ///
 /// The text is whole before its first byte is written, and writing takes no memory.
-pub fn run<'w, S: Source, K: Sink>(
+pub fn run<'w, S: Source, K: Sink, B: Bench>(
     alloc: Global,
     words: &'w [&'w str],
     source: &mut S,
     sink: &mut K,
+    bench: &mut B,
 ) -> Status
     // What `Done` and `No` say of the network.
     ensures check { (scheme : Expression) (command : Command) (bytes : List ℕ)
@@ -43,6 +48,13 @@ pub fn run<'w, S: Source, K: Sink>(
     ensures mark_no { (scheme : Expression) (bytes : List ℕ)
         → Asks (words_in words.now) (S.left source.old) (Command.With Task.Mark scheme) bytes
         → result ≡ Status.No → Lacks scheme bytes }
+    ensures recheck { (scheme : Expression) (bytes : List ℕ)
+        → Asks (words_in words.now) (S.left source.old) (Command.With Task.Recheck scheme) bytes
+        → result ≡ Status.Done → HoldsAfter scheme bytes }
+
+    // How often the bench was asked.
+    ensures asked { CountsAsked (words_in words.now) (S.left source.old) result
+        (B.asked bench.old) (B.asked bench.new) }
 
     // The status and the text are those of the answer to the words and the bytes. It comes, or want
     // of memory, where no call on the source failed, and none on the sink did or could.
@@ -77,7 +89,7 @@ pub fn run<'w, S: Source, K: Sink>(
             Ok(answer) => tell(sink, &answer),
             Err(NoMemory) => Status::NoMemory,
         },
-        Ok(Some(Request::Reading(command))) => match answer_from(alloc, &command, source) {
+        Ok(Some(Request::Reading(command))) => match answer_from(alloc, command, source, bench) {
             Ok(answer) => tell(sink, &answer),
             Err(status) => status,
         },
@@ -109,5 +121,27 @@ fn write_content<K: Sink>(sink: &mut K, content: &Content) -> Result<(), Fault>
         Content::Known(text) => write_all(sink, text),
         Content::Written(text) => write_all(sink, text),
         Content::Report { simulated, rows } => write_report(rows, *simulated, sink),
+        Content::Rounds(reports) => write_rounds(reports, sink),
     }
+}
+
+// Writes the reports of rounds, one after another. It takes no memory.
+fn write_rounds<K: Sink>(reports: &[RoundReport], sink: &mut K) -> Result<(), Fault>
+    ensures all { OnOk result (Appends (K.taken sink.old) (K.taken sink.new)
+        (reports_text reports.now)) }
+    ensures part { OnErr result (AppendsPart (K.taken sink.old) (K.taken sink.new)
+        (reports_text reports.now)) }
+    ensures fault { OnErr result (Rose (K.faults sink.old) (K.faults sink.new)) }
+    ensures sure { K.IsSureOf sink.old (length (reports_text reports.now)) → IsOk result }
+{
+    for report in reports {
+        let RoundReport {
+            number,
+            checked,
+            connected,
+            verdicts,
+        } = report;
+        write_round(*number, *checked, *connected, verdicts, sink)?;
+    }
+    Ok(())
 }

@@ -8,7 +8,7 @@ ghost use Rattle.pls_app.specs.Words.{IsAnswer};
 ghost use Rattle.pls_app.specs.Run.{IsAnswered, Tells};
 ghost use Rattle.pls_tests.specs.declared.memory_run.TheConstants.{ROOM};
 
-use pls_app::run;
+use pls_app::{Tally, run};
 use pls_base::{MemSink, NoMemory, Status, SureSource};
 use std::alloc::Global;
 
@@ -31,6 +31,6 @@ pub fn run_in_memory(
 {
     let mut source = SureSource::new(input);
     let mut sink = MemSink::new(alloc, ROOM, ROOM, Vec::new(alloc))?;
-    let status = run(alloc, words, &mut source, &mut sink);
+    let status = run(alloc, words, &mut source, &mut sink, &mut Tally::new());
     Ok((status, sink))
 }

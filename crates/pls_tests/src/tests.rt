@@ -2,6 +2,7 @@
 
 mod colours;
 mod expressions;
+mod recheck;
 mod refusals;
 mod simulate;
 mod streams;

@@ -2,7 +2,7 @@
 use Rattle.std.specs.Prelude.{◌≡◌, ◌≢◌, ℕ, ◌+◌, List, [], ◌∷◌, length, map, Bool, Option, Some, None, option_map, option_and_then, ⊤}
 use Rattle.pls_base.specs.declared.text_error.TextError.{TextError}
 use Rattle.pls_base.specs.declared.text_error.TextError.TheVariants.{NoMemory}
-use Rattle.pls_base.specs.declared.text_error.Quantity.TheVariants.{Nodes, Ports, Bits, Events}
+use Rattle.pls_base.specs.declared.text_error.Quantity.TheVariants.{Nodes, Ports, Bits, Events, Rounds}
 use Rattle.pls_model.specs.declared.row.NodeRow.{NodeRow}
 use Rattle.pls_model.specs.declared.limits.TheConstants.{MAX_NODES, MAX_PORTS}
 use Rattle.pls_model.specs.Configuration.{ids_of}
@@ -15,6 +15,9 @@ use Rattle.pls_labelfile.specs.declared.limits.TheConstants.{MAX_BITS}
 use Rattle.pls_sim.specs.declared.event.Event.{Event}
 use Rattle.pls_sim.specs.declared.limits.TheConstants.{MAX_EVENTS}
 use Rattle.pls_sim.specs.ScheduleText.{IsEventsRefusal, TellsSchedule, WrittenSchedule}
+use Rattle.pls_edits.specs.declared.edit_line.EditLine.{EditLine}
+use Rattle.pls_edits.specs.declared.limits.TheConstants.{MAX_LINES, MAX_ROUNDS}
+use Rattle.pls_edits.specs.EditsText.{IsEditsRefusal, TellsEdits, WrittenEdits, rounds_of}
 use Rattle.pls_app.specs.declared.shape.Shape.{Shape}
 use Rattle.pls_app.specs.declared.input.Input.{Input as Read}
 use Rattle.pls_app.specs.declared.input.Texts.{Texts}
@@ -55,6 +58,22 @@ TellsEvents rows labels None (Some events) = ⊥
 TellsEvents rows labels (Some written) None = ⊥
 TellsEvents rows labels (Some written) (Some events) = TellsLast rows labels written events
 
+-- the edits are those of the text that was scanned behind the labels
+pub record TellsLastEdits (rows : List NodeRow) (labels : Option (List NamedLabel))
+    (written : WrittenEdits) (edits : List EditLine) : Type 0 where
+  pub tells : TellsEdits written.text edits
+  pub heading : written.number ≡ heading_of rows + lines_behind labels
+  pub events : written.events ≡ counted edits
+  pub rounds : written.rounds ≡ counted (rounds_of edits)
+
+-- a text was scanned just where there are edits, and they are its edits
+abbrev pub TellsSomeEdits : List NodeRow → Option (List NamedLabel) → Option WrittenEdits
+    → Option (List EditLine) → Type 0
+TellsSomeEdits rows labels None None = ⊤
+TellsSomeEdits rows labels None (Some edits) = ⊥
+TellsSomeEdits rows labels (Some written) None = ⊥
+TellsSomeEdits rows labels (Some written) (Some edits) = TellsLastEdits rows labels written edits
+
 -- the bytes are the text of parts of the shape, which were scanned
 pub record IsScanned (shape : Shape) (bytes : List ℕ) (texts : Texts) : Type 0 where
   pub parts : Parts
@@ -62,6 +81,7 @@ pub record IsScanned (shape : Shape) (bytes : List ℕ) (texts : Texts) : Type 0
   pub tells_rows : TellsNetwork texts.network parts.rows
   pub tells_labels : TellsSome parts.rows texts.labels parts.labels
   pub tells_events : TellsEvents parts.rows parts.labels texts.schedule parts.events
+  pub tells_edits : TellsSomeEdits parts.rows parts.labels texts.edits parts.edits
   pub is : bytes ≡ parts_text parts
 
 -- bits and events that pass their limits
@@ -72,11 +92,17 @@ abbrev pub events_over : Option WrittenSchedule → Option TextError
 events_over schedule =
     option_and_then (over Events MAX_EVENTS) (option_map (λ text. text.events) schedule)
 
+-- lines and rounds of edits that pass theirs
+abbrev pub edits_over : Option WrittenEdits → List (Option TextError)
+edits_over edits =
+    option_and_then (over Events MAX_LINES) (option_map (λ text. text.events) edits)
+    ∷ option_and_then (over Rounds MAX_ROUNDS) (option_map (λ text. text.rounds) edits) ∷ []
+
 -- the limits on what was scanned
 abbrev pub limits_in : Texts → List (Option TextError)
 limits_in texts =
     over Nodes MAX_NODES texts.network.nodes ∷ over Ports MAX_PORTS texts.network.ports
-    ∷ bits_over texts.labels ∷ events_over texts.schedule ∷ []
+    ∷ bits_over texts.labels ∷ events_over texts.schedule ∷ edits_over texts.edits
 
 -- the store has the labels that a text says, which fit the nodes
 pub record IsBuilt (rows : List NodeRow) (written : WrittenLabels)
@@ -111,14 +137,32 @@ AreUnlisted None error = error ≡ NoMemory
 AreUnlisted (Some written) error = (events : List Event) → TellsSchedule written.text events
     → IsEventsRefusal events error
 
--- the line of the first event of a text, if there is one
-abbrev pub first_line_of : Option WrittenSchedule → ℕ
-first_line_of None = 0
-first_line_of (Some written) = written.number + 1
+-- the list has the edits of the text, if there is one
+abbrev pub AreEditsListed : Option WrittenEdits → List EditLine → Type 0
+AreEditsListed None list = list ≡ []
+AreEditsListed (Some written) list = (edits : List EditLine) → TellsEdits written.text edits
+    → list ≡ edits
+
+-- the error is the refusal of the edits that a text says, or want of memory
+abbrev pub AreEditsUnlisted : Option WrittenEdits → TextError → Type 0
+AreEditsUnlisted None error = error ≡ NoMemory
+AreEditsUnlisted (Some written) error = (edits : List EditLine) → TellsEdits written.text edits
+    → IsEditsRefusal edits error
+
+-- the line of the first event or edit of a text, if there is one
+abbrev pub first_line_of : Option WrittenSchedule → Option WrittenEdits → ℕ
+first_line_of (Some written) edits = written.number + 1
+first_line_of None (Some written) = written.number + 1
+first_line_of None None = 0
 
 -- what an input that was read says
 abbrev pub said : Read → Input
-said read = record { rows = read.net; labels = read.labels; events = read.events.items }
+said read = record {
+  rows = read.net;
+  labels = read.labels;
+  events = read.events.items;
+  edits = read.edits.items;
+}
 
 -- the error refuses the bytes, or it is want of memory, which says nothing of them
 abbrev pub Refuses : Shape → List ℕ → TextError → Type 0

@@ -2,7 +2,7 @@
 
 use super::{APART, COLOURS, PAIR, ROW};
 use crate::run_in_memory;
-use pls_app::run;
+use pls_app::{Tally, run};
 use pls_base::{MemSink, MemSource, Status};
 use std::alloc::Global;
 use std::process::Abort;
@@ -95,7 +95,13 @@ fn reads_and_writes_of_a_played_round_fail(rt: HostRuntime) -> Result<(), Fail> 
         let input = format!(in alloc; "{PAIR}{COLOURS}schedule\nend\n")?;
         let mut source = MemSource::new(input.into_bytes(), 1, vec![in alloc; failing_read]?);
         let mut sink = MemSink::new(alloc, 1000, 1, vec![in alloc; failing_write]?)?;
-        let end = run(alloc, &["simulate", "bipartite"], &mut source, &mut sink);
+        let end = run(
+            alloc,
+            &["simulate", "bipartite"],
+            &mut source,
+            &mut sink,
+            &mut Tally::new(),
+        );
         assert_eq!(rt; sink.bytes(), text.as_bytes());
         assert_eq!(rt; end, status);
     }

@@ -1,7 +1,7 @@
 //! A run whose reads and writes are of one byte each, and some of which fail.
 
 use super::{COLOURS, PAIR};
-use pls_app::run;
+use pls_app::{Tally, run};
 use pls_base::{MemSink, MemSource, Status};
 use std::test::Fail;
 
@@ -19,7 +19,13 @@ fn reads_and_writes_of_one_byte(rt: HostRuntime) -> Result<(), Fail> {
         bytes.extend_from_slice(COLOURS.as_bytes())?;
         let mut source = MemSource::new(bytes, 1, vec![in alloc; failing_read]?);
         let mut sink = MemSink::new(alloc, 1000, 1, vec![in alloc; failing_write]?)?;
-        let end = run(alloc, &["verify", "bipartite"], &mut source, &mut sink);
+        let end = run(
+            alloc,
+            &["verify", "bipartite"],
+            &mut source,
+            &mut sink,
+            &mut Tally::new(),
+        );
         assert_eq!(rt; sink.bytes(), text.as_bytes());
         assert_eq!(rt; end, status);
     }

@@ -1,7 +1,7 @@
 //! Worked examples of networks that are made from a number, marked and checked.
 
 use crate::run_in_memory;
-use pls_app::run;
+use pls_app::{Tally, run};
 use pls_base::{MemSink, MemSource, Status};
 use std::test::Fail;
 
@@ -58,7 +58,13 @@ fn a_trial_reads_no_input(rt: HostRuntime) -> Result<(), Fail> {
     let alloc = rt.alloc();
     let mut source = MemSource::new(Vec::new(alloc), 1, vec![in alloc; 1]?);
     let mut sink = MemSink::new(alloc, 1000, 1, vec![in alloc; 6]?)?;
-    let end = run(alloc, &["trial", "1:7"], &mut source, &mut sink);
+    let end = run(
+        alloc,
+        &["trial", "1:7"],
+        &mut source,
+        &mut sink,
+        &mut Tally::new(),
+    );
     assert_eq!(rt; sink.bytes(), b"trial".as_slice());
     assert_eq!(rt; end, Status::WriteFault);
     Ok(())

@@ -1,13 +1,14 @@
 use Rattle.std.proofs.Common.{refl, subst, sym, ℕ, List, inl, inr}
 use Rattle.pls_words.specs.Words.{words_in}
 use Rattle.pls_app.specs.declared.command.Command.TheVariants.{With}
-use Rattle.pls_app.specs.declared.command.Task.TheVariants.{Mark}
+use Rattle.pls_app.specs.declared.command.Task.TheVariants.{Mark, Recheck}
 use Rattle.pls_app.specs.Answer.{usage}
 use Rattle.pls_app.specs.Command.{IsCommand}
 use Rattle.pls_app.specs.Trial.{IsTrial, IsUsage}
 use Rattle.pls_app.specs.Run.{EndsAs, IsAnswered}
 use Rattle.pls_model.specs.declared.status.Status.{Status}
 use Rattle.pls_app.proofs.Answered.{refusal_has_cause, same_command, tells_refusal, trial_answer, usage_answer}
+use Rattle.pls_app.proofs.Asked.{counts_command, counts_none, told_judged}
 use Rattle.pls_app.proofs.Commands.{no_trial, one_command}
 use Rattle.pls_app.proofs.Consumed.{lost_nothing}
 use Rattle.pls_app.proofs.Told.{tells, tells_command, tells_part, tells_part_of, told_answered, told_done, told_no, told_ends, told_sure, took_certificate, unread_usage}
@@ -247,3 +248,46 @@ returns-in-Ok-None-clause-unread g c due unread =
           (sym (unread_usage words due none unread)) ends,
       refl,
     )
+
+pub returns-in-Ok-clause-recheck : goal.returns-in-Ok-clause-recheck
+returns-in-Ok-clause-recheck g c scheme bytes asks done =
+    let words : List (List ℕ) = words_in c.args.words.now in
+    let is : IsTrial words c.in-Ok-Some-Trial.nodes c.in-Ok-Some-Trial.seed =
+    rw (c.in-Ok-Some-Trial.field-0-is, c.in-Ok-Some-Trial.field-0-0-is)
+    at c.in-Ok-Some-Trial.ensures.some in
+    absurd (no_trial words (With Recheck scheme) _ _ asks.asked is)
+
+pub returns-in-Ok-clause-asked : goal.returns-in-Ok-clause-asked
+returns-in-Ok-clause-asked g c =
+    let words : List (List ℕ) = words_in c.args.words.now in
+    let is : IsTrial words c.in-Ok-Some-Trial.nodes c.in-Ok-Some-Trial.seed =
+    rw (c.in-Ok-Some-Trial.field-0-is, c.in-Ok-Some-Trial.field-0-0-is)
+    at c.in-Ok-Some-Trial.ensures.some in
+    counts_none words _ _ _ (λ command asked. no_trial words command _ _ asked is)
+
+pub returns-in-Ok-None-clause-asked : goal.returns-in-Ok-None-clause-asked
+returns-in-Ok-None-clause-asked g c =
+    let words : List (List ℕ) = words_in c.args.words.now in
+    let none : IsUsage words = c.in-Ok-None.ensures.none c.in-Ok-None.field-0-is in
+    counts_none words _ _ _ none.no_command
+
+pub returns-in-Ok-answer_from-clause-recheck : goal.returns-in-Ok-answer_from-clause-recheck
+returns-in-Ok-answer_from-clause-recheck g c scheme bytes asks done =
+    let words : List (List ℕ) = words_in c.args.words.now in
+    let is : IsCommand words c.in-Ok-Some-Reading.command =
+    rw (c.in-Ok-Some-Reading.field-0-is, c.in-Ok-Some-Reading.field-0-0-is)
+    at c.in-Ok-Some-Reading.ensures.some in
+    let found = c.in-Ok-answer_from.ensures.rechecked bytes asks.told in
+    found.held scheme
+    (one_command words c.in-Ok-Some-Reading.command (With Recheck scheme) is asks.asked)
+    (told_done _ _ _ _ _ _ _ c.tell-in-Ok-answer_from.ensures.told done)
+
+pub returns-in-Ok-answer_from-clause-asked : goal.returns-in-Ok-answer_from-clause-asked
+returns-in-Ok-answer_from-clause-asked g c =
+    let words : List (List ℕ) = words_in c.args.words.now in
+    let is : IsCommand words c.in-Ok-Some-Reading.command =
+    rw (c.in-Ok-Some-Reading.field-0-is, c.in-Ok-Some-Reading.field-0-0-is)
+    at c.in-Ok-Some-Reading.ensures.some in
+    counts_command words _ c.in-Ok-Some-Reading.command is c.in-Ok-answer_from.answer.status _ _ _
+    (told_judged _ _ _ _ _ _ _ c.tell-in-Ok-answer_from.ensures.told)
+    c.in-Ok-answer_from.ensures.rechecked c.in-Ok-answer_from.ensures.unasked

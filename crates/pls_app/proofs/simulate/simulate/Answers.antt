@@ -19,7 +19,7 @@ overflow_add-place c =
     omega (
       arith,
       first_line_small c.requires.bytes (said c.args.input.now) c.requires.is,
-      c.requires.line refl,
+      c.requires.line tt,
       c.requires.is.filled.1.few,
       c.in-Some.ensures.within,
       ap length c.deref.ensures.value,
@@ -34,7 +34,7 @@ returns-in-Some-clause-does c =
     ap (option_map (λ line. Sense UNAPPLIED line))
     (rw (c.in_ok-sim.ensures.network, c.deref.ensures.value)
     at c.in-Some.ensures.place (first_event_line input))
-    ∙ ap (λ line. Some (Sense UNAPPLIED (line + place))) (sym (c.requires.line refl)) in
+    ∙ ap (λ line. Some (Sense UNAPPLIED (line + place))) (sym (c.requires.line tt)) in
     IfOk-weaker c.refuse.result (λ answer. answer ≡ refusal error)
     (λ answer. Does (Simulate c.args.json) c.args.scheme.now input answer)
     (λ answer same. inl (error, some, same)) c.refuse.ensures.says

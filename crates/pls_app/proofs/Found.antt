@@ -1,0 +1,134 @@
+-- What the rounds of an input show of its network.
+use Rattle.std.proofs.Common.{◌≡◌, ◌∙◌, ℕ, ◌+◌, Bool, true, false, if◌then◌else◌, List, [], ◌∷◌, length, Option, Some, None, option_map, refl, sym, ap, subst}
+use Rattle.pls_model.specs.declared.row.NodeRow.{NodeRow}
+use Rattle.pls_model.specs.declared.verdict.Verdict.{Verdict}
+use Rattle.pls_model.specs.declared.status.Status.TheVariants.{Done, No}
+use Rattle.pls_model.specs.Configuration.{IsNetwork}
+use Rattle.pls_model.specs.Walk.{IsConnected}
+use Rattle.pls_base.specs.Steps.{up_by}
+use Rattle.pls_bits.specs.Gamma.{gamma_takes}
+use Rattle.pls_view.specs.Seen.{Seen}
+use Rattle.pls_combine.specs.Expression.{Expression, HasProperty, judge_of}
+use Rattle.pls_edits.specs.declared.edit_line.EditLine.{EditLine}
+use Rattle.pls_edits.specs.declared.edit_line.EditLine.TheVariants.{Round}
+use Rattle.pls_edits.specs.EditsText.{AreEdits}
+use Rattle.pls_edits.specs.inner.Tally.{is_closed}
+use Rattle.pls_edits.proofs.Counted.{are_closed}
+use Rattle.pls_app.specs.Input.{Input}
+use Rattle.pls_base.specs.declared.text_error.TextError.{TextError}
+use Rattle.pls_base.specs.declared.text_error.TextError.TheVariants.{Sense}
+use Rattle.pls_app.specs.declared.refusal_number.TheConstants.{INAPPLICABLE}
+use Rattle.pls_app.specs.Inapplicable.{first_refused, inapplicable}
+use Rattle.pls_app.specs.Answer.{Answer, refusal, reported}
+use Rattle.pls_app.specs.Reports.{Report, ReportInput, Situation, begun, checked_in, edited_by, ends_well}
+use Rattle.pls_app.specs.Run.{HoldsIn, RoseIn}
+use Rattle.pls_app.specs.inner.Rechecking.{Played, Reported, behind_all}
+use Rattle.pls_app.specs.inner.Tasks.{RecheckedIn}
+use Rattle.pls_app.proofs.Proved.{refused_not_done, refused_not_judged, round_holds}
+use Rattle.pls_app.proofs.Rechecked.{EndsIn, ends_so, played_more, round_played, rows_after}
+
+-- a round before the lines closes them too
+round_first : (edits : List EditLine) → is_closed edits ≡ true → is_closed (Round ∷ edits) ≡ true
+round_first [] closed = refl
+round_first (edit ∷ edits) closed = closed
+
+-- round 0, and then the lines of an input
+pub all_played : (judge : Seen → Verdict) (input : Input) (mid now : Situation)
+    (first reports : List Report) (old asked new : ℕ)
+    → Reported judge (begun input) mid [] first old asked
+    → Played judge mid now first reports input.edits asked new
+    → Played judge (begun input) now [] reports (Round ∷ input.edits) old new
+all_played judge input mid now first reports old asked new one others =
+    played_more judge (begun input) mid now [] first reports (Round ∷ []) input.edits old asked new
+    (round_played judge (begun input) mid [] first old asked one) others
+
+module _ (scheme : Expression) (input : Input) (now : Situation) (reports : List Report)
+    (old new : ℕ)
+    (played : Played (judge_of gamma_takes scheme) (begun input) now [] reports
+    (Round ∷ input.edits) old new) where
+  -- these are the reports of the input
+  pub are_reports : ReportInput (judge_of gamma_takes scheme) input reports
+  are_reports =
+      subst (ReportInput (judge_of gamma_takes scheme) input) (sym played.added) played.are
+
+  -- and the bench was asked once for each node that they say was checked
+  pub are_asked : RoseIn scheme input old new
+  are_asked = record {
+    reports = reports;
+    are = are_reports;
+    rose = played.asked ∙ ap (λ (all : List Report). up_by (checked_in all) old) (sym played.added);
+  }
+
+  -- where all is well in the last, the network has the property after all edits
+  pub all_well : AreEdits input.edits → IsNetwork now.rows → length now.labels ≡ length now.rows
+      → ends_well reports ≡ true → HoldsIn scheme input
+  all_well edits network each well =
+      let judge = judge_of gamma_takes scheme in
+      let ends : EndsIn judge (behind_all (Round ∷ input.edits) (begun input)) =
+      ends_so judge Round input.edits (begun input) 0 reports
+      (round_first input.edits (are_closed input.edits edits)) are_reports well in
+      let here : EndsIn judge now = subst (EndsIn judge) (sym played.is) ends in
+      let rows : now.rows ≡ edited_by input.edits input.rows =
+      ap (λ (now : Situation). now.rows) played.is ∙ rows_after (Round ∷ input.edits) (begun input) in
+      record {
+        connected = subst IsConnected rows here.connected;
+        holds = subst (HasProperty scheme) rows
+            (round_holds scheme now.rows now.labels network here.connected each here.accepted);
+      }
+
+  -- so the answer with the reports says
+  pub all_found : AreEdits input.edits → IsNetwork now.rows → length now.labels ≡ length now.rows
+      → RecheckedIn scheme input (reported reports).status old new
+  all_found edits network each = record {
+    held = λ done. all_well edits network each (done_well (ends_well reports) done);
+    asked = λ judged. are_asked;
+  }
+    where
+      done_well : (well : Bool) → (if well then Done else No) ≡ Done → well ≡ true
+      done_well true done = refl
+      done_well false done = absurd (cc)
+
+-- a refusal has found nothing
+pub refused_in : (scheme : Expression) (input : Input) (error : TextError) (answer : Answer)
+    (old new : ℕ) → answer ≡ refusal error → RecheckedIn scheme input answer.status old new
+refused_in scheme input error answer old new same =
+    let ends = ap (λ (answer : Answer). answer.status) same in record {
+      held = λ done. absurd (refused_not_done error (sym ends ∙ done));
+      asked = λ judged. absurd (refused_not_judged error answer.status ends judged);
+    }
+
+-- the same, of what is known to be the parts of the input
+pub played_input : (judge one other : Seen → Verdict) (input : Input) (start mid now : Situation)
+    (none first reports : List Report) (edits : List EditLine) (old asked new : ℕ) → one ≡ judge
+    → other ≡ judge → start ≡ begun input → none ≡ [] → edits ≡ input.edits
+    → Reported one start mid none first old asked
+    → Played other mid now first reports edits asked new
+    → Played judge (begun input) now [] reports (Round ∷ input.edits) old new
+played_input judge one other input start mid now none first reports edits old asked new same too
+    begins empty are reported played =
+    let here : Reported judge (begun input) mid [] first old asked =
+    subst (λ (judge : Seen → Verdict). Reported judge (begun input) mid [] first old asked) same
+    (subst (λ (start : Situation). Reported one start mid [] first old asked) begins
+    (subst (λ (none : List Report). Reported one start mid none first old asked) empty reported)) in
+    let there : Played judge mid now first reports input.edits asked new =
+    subst (λ (judge : Seen → Verdict). Played judge mid now first reports input.edits asked new) too
+    (subst (λ (edits : List EditLine). Played other mid now first reports edits asked new) are played) in
+    all_played judge input mid now first reports old asked new here there
+
+-- the first edit that is refused, by the place that was found
+pub refused_lines : (input : Input) (rows : List NodeRow) (labels : List (List Bool))
+    (edits : List EditLine) (line : ℕ) (found : Option ℕ) → rows ≡ input.rows
+    → labels ≡ input.labels → edits ≡ input.edits
+    → ((line : ℕ) → first_refused rows labels line edits ≡ option_map (λ place. line + place) found)
+    → inapplicable input.rows input.labels line input.edits
+    ≡ option_map (λ place. Sense INAPPLICABLE (line + place)) found
+refused_lines input rows labels edits line found same_rows same_labels same_edits each =
+    ap (option_map (λ line. Sense INAPPLICABLE line))
+    ((λ i. first_refused (sym same_rows i) (sym same_labels i) line (sym same_edits i)) ∙ each line)
+    ∙ by found
+  where
+    by : (found : Option ℕ)
+        → option_map (λ line. Sense INAPPLICABLE line) (option_map (λ place. line + place) found)
+        ≡ option_map (λ place. Sense INAPPLICABLE (line + place)) found
+    by None = refl
+    by (Some place) = refl
