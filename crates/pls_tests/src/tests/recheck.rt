@@ -82,7 +82,7 @@ fn nodes_join_and_leave(rt: HostRuntime) -> Result<(), Fail> {
     let alone = "node 1 accept\nnode 2 accept\nnode 9 reject 1 1\n\
                  round 1 checked 1 connected no rejecting 1\n";
     let linked = "node 1 accept\nnode 2 accept\nnode 9 accept\n\
-                  round 2 checked 3 connected yes rejecting 0\n";
+                  round 2 checked 2 connected yes rejecting 0\n";
     let alloc = rt.alloc();
     let left = format!(in alloc; "{start}{gone}")?;
     let joined = format!(in alloc; "{start}{alone}{linked}")?;
