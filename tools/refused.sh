@@ -45,7 +45,8 @@ leader=$top/examples/leader.txt
 pair=$top/examples/two-nodes.txt
 head -n 6 "$pair" > net
 : > none
-for scheme in tree forest acyclic bipartite spt mst 'or(bipartite,mst)' 'and(tree,and(forest,bipartite))'; do
+for scheme in tree forest acyclic bipartite spt mst 'or(bipartite,mst)' 'and(tree,and(forest,bipartite))' \
+    'map(and(mst,diameter:2))'; do
     "$top/pls" mark "$scheme" < "$chain" | cat "$chain" - > marked
     try "$chain" mark "$scheme"
     try marked verify "$scheme"
@@ -59,6 +60,9 @@ printf 'schedule\nemit 1 0\nemit 2 0\narrive 1\narrive 2\nend\n' | cat "$pair" -
 try played simulate bipartite
 try played simulate bipartite --json
 try "$pair" verify bipartite --json
+printf 'edits\njoin 9 0 0\nlink 2 9 1\nlabel 9 1 80\nround\nunlink 2 9\nleave 9\nlabel 2 1 00\nweight 1 2 5\nstate 1 - 0 0\nround\nend\n' |
+    cat "$pair" - > edited
+try edited recheck bipartite
 try net bound 'and(bipartite,acyclic)'
 try none trial 5:7
 
