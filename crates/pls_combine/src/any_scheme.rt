@@ -4,6 +4,7 @@ ghost use Rattle.std.specs.Prelude.{◌≡◌, ◌≤◌};
 ghost use Rattle.pls_combine.specs.Expression.{IsSmall, leaves_of};
 ghost use Rattle.pls_combine.specs.inner.Trees.{expression_of};
 
+use crate::named::Named;
 use crate::rounds::node_by_node;
 use crate::scheme_tree::{
     SchemeTree, bound_of, decide_tree, leaves_of, lends_of, mark_tree, verify_tree,
@@ -99,6 +100,7 @@ impl<C: NumCode> Checker for AnyScheme<C> {
         steps: &mut Steps,
     ) -> Result<Vec<Verdict>, NoMemory> {
         match self.tree() {
+            SchemeTree::Basic(name) => Named::<C>::new(*name).round(alloc, net, labels, steps),
             SchemeTree::Map(universal) => universal.round(alloc, net, labels, steps),
             tree => node_by_node::<C>(alloc, tree, net, labels, steps),
         }

@@ -79,6 +79,25 @@ impl<C: NumCode> Checker for Named<C> {
         }
     }
 
+    fn round(
+        &self,
+        alloc: Global,
+        net: &Network,
+        labels: &LabelStore,
+        steps: &mut Steps,
+    ) -> Result<Vec<Verdict>, NoMemory> {
+        match self.name {
+            SchemeName::Tree => Tree::<C>::new().round(alloc, net, labels, steps),
+            SchemeName::Forest => Forest::<C>::new().round(alloc, net, labels, steps),
+            SchemeName::Bipartite => Bipartite::new().round(alloc, net, labels, steps),
+            SchemeName::Acyclic => Acyclic::<C>::new().round(alloc, net, labels, steps),
+            SchemeName::Leader => Leader::<C>::new().round(alloc, net, labels, steps),
+            SchemeName::Count => Count::<C>::new().round(alloc, net, labels, steps),
+            SchemeName::ShortestPathTree => Spt::<C>::new().round(alloc, net, labels, steps),
+            SchemeName::MinimumSpanningTree => Mst::<C>::new().round(alloc, net, labels, steps),
+        }
+    }
+
     ghost leaf_law = { λ s. one_leaf C.takes s.name };
 
     ghost lends_law = { λ _ _. refl };

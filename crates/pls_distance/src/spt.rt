@@ -2,10 +2,11 @@
 //! distance from the root.
 
 use crate::gathering::Gathered;
-use pls_bits::NumCode;
-use pls_model::Verdict;
-use pls_scheme::{Basic, Coded, Judgement, JudgesInPlace, OfNumbers, ReadsInPlace, judged_from};
-use pls_view::{PortView, View};
+use pls_bits::{Bits, NumCode};
+use pls_model::{State, Verdict};
+use pls_scheme::{
+    Basic, Coded, Judgement, JudgesInPlace, Looked, OfNumbers, ReadsInPlace, judged_from,
+};
 use std::marker::PhantomData;
 
 /// What a label says.
@@ -64,31 +65,47 @@ impl<C: NumCode> Judgement for SptRules<C> {
     ghost rules = { λ _. spt_rules };
 }
 
-// The rules need the weight of the port that the node points at, so each label is read here.
+// The rules need the weight of the port that the node points at, so they gather of each port what
+// they ask of it.
 impl<C: NumCode> JudgesInPlace for SptRules<C> {
     ghost use Rattle.pls_distance.specs.inner.Gathering.{gathered};
 
+    type Glance = SptLabel;
+
     type Tally = Gathered;
+
+    ghost glance = { λ _ label. label };
 
     ghost gathered = { λ _ view. gathered view };
 
-    fn open(&self, view: &View<'_>) -> Option<Gathered> {
-        let own = Coded::<SptLabel, C, 3>::read_in_place(&view.own)?;
-        Some(Gathered::before(own))
+    fn look(&self, bits: &Bits<'_>) -> Option<SptLabel> {
+        Coded::<SptLabel, C, 3>::read_in_place(bits)
+    }
+
+    fn open(&self, own: &SptLabel) -> Gathered {
+        Gathered::before(*own)
     }
 
     fn pass(
         &self,
-        view: &View<'_>,
+        up: Option<u32>,
+        _own: &Looked<'_, SptLabel>,
         tally: Gathered,
         place: usize,
-        port: &PortView<'_>,
-    ) -> Option<Gathered> {
-        let label = Coded::<SptLabel, C, 3>::read_in_place(&port.label)?;
-        Some(tally.with(view.state.up, place, port.weight, label))
+        weight: u32,
+        label: &Looked<'_, SptLabel>,
+    ) -> Gathered {
+        tally.with(up, place, weight, *label.glance)
     }
 
-    fn close(&self, view: &View<'_>, tally: Gathered) -> Verdict {
-        judged_from(3, &tally.rules(view.id, view.state))
+    fn close(
+        &self,
+        id: u32,
+        state: State,
+        _own: &Looked<'_, SptLabel>,
+        _above: Option<&SptLabel>,
+        tally: Gathered,
+    ) -> Verdict {
+        judged_from(3, &tally.rules(id, state))
     }
 }

@@ -3,6 +3,8 @@ pub mod Codes
 pub mod Deciding
 pub mod Fitting
 pub mod HeldRules
+pub mod LookedAt
 pub mod Markings
+pub mod MorePorts
 pub mod Passing
 pub mod SaidPorts

@@ -1,6 +1,6 @@
 -- Views whose labels are read, and verdicts by rules on what was read. Rule 1 asks that the own
 -- label can be read, rule 2 that each neighbour's can; the others are asked of what they say.
-use Rattle.std.specs.Prelude.{ℕ, Bool, List, [], ◌∷◌, map, slice_get, Option, Some, None, option_map, option_and_then}
+use Rattle.std.specs.Prelude.{ℕ, ◌==◌, Bool, false, List, [], ◌∷◌, map, slice_get, Option, Some, None, option_map, option_and_then}
 use Rattle.pls_model.specs.declared.row.State.{State}
 use Rattle.pls_model.specs.declared.row.Port.{Port}
 use Rattle.pls_model.specs.declared.row.NodeRow.{NodeRow}
@@ -50,9 +50,10 @@ judged_read rules view (Some own) (Some ports) =
 abbrev pub judge_by : {L : Type 0} → (List Bool → Option L) → (Read L → List Bool) → Seen → Verdict
 judge_by read rules view = judged_read rules view (read view.own) (read_ports read view.ports)
 
--- what is read at a port with this weight and label, where it can be
-abbrev pub read_at : {L : Type 0} → (List Bool → Option L) → ℕ → List Bool → Option (ReadPort L)
-read_at read weight label = read_port read (record { weight = weight; label = label })
+-- the pointer is the port of this number
+abbrev pub is_place : Option ℕ → ℕ → Bool
+is_place None place = false
+is_place (Some number) place = number == place
 
 -- a port with this weight, whose label says this
 abbrev pub port_with : {L : Type 0} → ℕ → L → ReadPort L

@@ -1,13 +1,15 @@
 //! Basic schemes: rules and a marker, as a scheme.
 
 use crate::checker::Checker;
-use crate::in_place::{JudgesInPlace, judged};
+use crate::in_place::JudgesInPlace;
 use crate::labels::labels_of;
 use crate::layout::Layout;
 use crate::marker::Marker;
 use crate::once::Once;
 use crate::property::Property;
+use crate::round::verdicts_of;
 use crate::scheme::Scheme;
+use crate::view_judged::judged;
 use pls_base::{NoMemory, Steps};
 use pls_bits::{BitBuf, Bits};
 use pls_facts::is_valid;
@@ -67,6 +69,16 @@ impl<R: JudgesInPlace> Checker for Basic<R> {
     ) -> Result<Verdict, NoMemory> {
         steps.tick();
         Ok(judged(&self.rules, view))
+    }
+
+    fn round(
+        &self,
+        alloc: Global,
+        net: &Network,
+        labels: &LabelStore,
+        steps: &mut Steps,
+    ) -> Result<Vec<Verdict>, NoMemory> {
+        verdicts_of(alloc, &self.rules, net, labels, steps)
     }
 
     ghost leaf_law = { λ s. judge_by-leaf R.Layout.said (R.rules s.rules) };

@@ -1,66 +1,84 @@
-//! Rules that are tried in one pass over the ports of a view.
+//! Rules that are tried in one pass over the ports of a node.
 
-ghost use Rattle.std.specs.Prelude.{◌≡◌, ◌++◌, ◌∷◌, [], List, length, Some, option_map};
+ghost use Rattle.std.specs.Prelude.{◌≡◌, ℕ, ◌++◌, ◌∷◌, [], List, length, Some, option_map};
+ghost use Rattle.std.specs.Option.{option_copied};
+ghost use Rattle.pls_model.specs.declared.row.State.{State};
 ghost use Rattle.pls_scheme.specs.Judging.{judged_from};
-ghost use Rattle.pls_scheme.specs.Reading.{Read, ReadPort, judge_by, read_at, reading};
+ghost use Rattle.pls_scheme.specs.Reading.{Read, ReadPort, label_above, port_with, reading};
 
 use crate::judgement::Judgement;
-use pls_model::Verdict;
-use pls_view::{PortView, View};
+use pls_bits::Bits;
+use pls_model::{State, Verdict};
 
-/// Rules that are tried on lent bits, without memory, in one pass over the ports: for labels that
-/// are not read as values. [`Once`](crate::Once) makes them of [`Rules`](crate::Rules).
+/// A label that was looked at: its bits, and what they say at a glance.
+#[derive(Drop)]
+pub struct Looked<'a, G> {
+    /// The bits of the label, lent.
+    pub bits: &'a Bits<'a>,
+    /// What they say at a glance.
+    pub glance: &'a G,
+}
+
+/// Rules that are tried without memory, in one pass over the ports, each label having been looked at
+/// once. [`Once`](crate::Once) makes them of [`Rules`](crate::Rules).
 pub trait JudgesInPlace: Judgement {
+    /// What is kept of a label at a glance. What does not fit there is read where it lies.
+    type Glance: Drop;
+
     /// What is gathered in a pass over the ports.
     type Tally: Drop;
+
+    // What is kept of a label.
+    ghost glance: { Self → Self.Layout.Label → Self.Glance };
 
     // What is gathered of the node and of its first ports.
     ghost gathered: { Self → Read Self.Layout.Label → Self.Tally };
 
-    /// What is gathered before the first port, or `None` where the own label cannot be read.
-    fn open(&self, view: &View<'_>) -> Option<Self::Tally>
-        ensures { result ≡ option_map
-            (λ own. gathered self.now (reading view.now.id view.now.state own []))
-            (Self.Layout.said view.now.own) };
+    /// What the bits say at a glance, or `None` where they are no label, read to their last bit.
+    fn look(&self, bits: &Bits<'_>) -> Option<Self::Glance>
+        ensures { result ≡ option_map (glance self.now) (Self.Layout.said bits.now) };
 
-    /// What is gathered with one more port, or `None` where its label cannot be read.
+    /// What is gathered before the first port.
+    fn open(&self, own: &Self::Glance) -> Self::Tally
+        ensures { (id : ℕ) (state : State) (label : Self.Layout.Label)
+            → glance self.now label ≡ own.now
+            → result ≡ gathered self.now (reading id state label []) };
+
+    /// What is gathered with one more port, the one at this place, of a node with this pointer.
     fn pass(
         &self,
-        view: &View<'_>,
+        up: Option<u32>,
+        own: &Looked<'_, Self::Glance>,
         tally: Self::Tally,
         place: usize,
-        port: &PortView<'_>,
-    ) -> Option<Self::Tally>
-        ensures { (own : Self.Layout.Label) (ports : List (ReadPort Self.Layout.Label))
-            → Self.Layout.said view.now.own ≡ Some own → length ports ≡ place
-            → tally ≡ gathered self.now (reading view.now.id view.now.state own ports)
-            → result ≡ option_map (λ port. gathered self.now
-            (reading view.now.id view.now.state own (ports ++ port ∷ [])))
-            (read_at Self.Layout.said port.now.weight port.now.label) };
+        weight: u32,
+        label: &Looked<'_, Self::Glance>,
+    ) -> Self::Tally
+        ensures { (id : ℕ) (state : State) (mine theirs : Self.Layout.Label)
+            (ports : List (ReadPort Self.Layout.Label))
+            → state.up ≡ up → length ports ≡ place
+            → Self.Layout.said own.now.bits.now ≡ Some mine
+            → glance self.now mine ≡ own.now.glance.now
+            → Self.Layout.said label.now.bits.now ≡ Some theirs
+            → glance self.now theirs ≡ label.now.glance.now
+            → tally ≡ gathered self.now (reading id state mine ports)
+            → result ≡ gathered self.now
+            (reading id state mine (ports ++ port_with weight theirs ∷ [])) };
 
-    /// The verdict by what was gathered: a rejection by the first rule that fails, or acceptance.
-    fn close(&self, view: &View<'_>, tally: Self::Tally) -> Verdict
-        ensures { (own : Self.Layout.Label) (ports : List (ReadPort Self.Layout.Label))
-            → Self.Layout.said view.now.own ≡ Some own
-            → length ports ≡ length view.now.ports
-            → tally ≡ gathered self.now (reading view.now.id view.now.state own ports)
-            → result ≡ judged_from 3
-            (Self.rules self.now (reading view.now.id view.now.state own ports)) };
-}
-
-// The verdict on a view, in one pass over its ports.
-pub(crate) fn judged<R: JudgesInPlace>(rules: &R, view: &View<'_>) -> Verdict
-    ensures { result ≡ judge_by R.Layout.said (R.rules rules.now) view.now }
-{
-    let mut tally = match rules.open(view) {
-        Some(tally) => tally,
-        None => return Verdict::Reject { leaf: 1, rule: 1 },
-    };
-    for (place, port) in view.ports.iter().enumerate() {
-        tally = match rules.pass(view, tally, place, port) {
-            Some(more) => more,
-            None => return Verdict::Reject { leaf: 1, rule: 2 },
-        };
-    }
-    rules.close(view, tally)
+    /// The verdict by what was gathered and by the label above, at the port that the node points at,
+    /// if it points at one: a rejection by the first rule that fails, or acceptance.
+    fn close(
+        &self,
+        id: u32,
+        state: State,
+        own: &Looked<'_, Self::Glance>,
+        above: Option<&Self::Glance>,
+        tally: Self::Tally,
+    ) -> Verdict
+        ensures { (label : Self.Layout.Label) (ports : List (ReadPort Self.Layout.Label))
+            → Self.Layout.said own.now.bits.now ≡ Some label
+            → glance self.now label ≡ own.now.glance.now
+            → option_copied above.entry ≡ option_map (glance self.now) (label_above ports state.up)
+            → tally ≡ gathered self.now (reading id state label ports)
+            → result ≡ judged_from 3 (Self.rules self.now (reading id state label ports)) };
 }

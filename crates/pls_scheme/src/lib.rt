@@ -9,7 +9,8 @@
 //!
 //! A basic scheme states only what is its own: how its labels are written ([`Layout`]; [`Coded`]
 //! for labels that are a few numbers), its rules ([`Rules`] over labels that are read, each once,
-//! or [`JudgesInPlace`] over lent bits), its property and what labels are right ([`Marker`]).
+//! or [`JudgesInPlace`] over labels that are kept at a glance), its property and what labels are
+//! right ([`Marker`]).
 //! [`Basic`] makes the scheme of it, [`Ruled`] of [`Rules`]. Other schemes implement [`Checker`],
 //! [`Property`] and [`Scheme`] themselves.
 //!
@@ -35,15 +36,17 @@ mod marker;
 mod numbers;
 mod once;
 mod property;
+mod round;
 mod rules;
 mod scheme;
+mod view_judged;
 
 pub use basic::{Basic, Ruled};
 pub use certify::{are_accepted, certifies};
 pub use checker::Checker;
 pub use coded::{Coded, OfNumbers};
 pub use holding::hold_everywhere;
-pub use in_place::JudgesInPlace;
+pub use in_place::{JudgesInPlace, Looked};
 pub use judgement::Judgement;
 pub use judging::{is_one_more, judged_from};
 pub use labels::labels_of;
@@ -51,7 +54,7 @@ pub use layout::{Layout, ReadsInPlace};
 pub use length::{code_length, codes_length};
 pub use marker::Marker;
 pub use numbers::{read_numbers, write_numbers};
-pub use once::{Once, Pass};
+pub use once::Once;
 pub use pls_model::Verdict;
 pub use property::Property;
 pub use rules::Rules;

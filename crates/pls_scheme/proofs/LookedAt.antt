@@ -1,0 +1,122 @@
+-- Labels that were looked at, at the places of a node and of its neighbours.
+use Rattle.std.proofs.Common.{◌≡◌, ◌∙◌, ◌<◌, ℕ, ◌==◌, Bool, List, length, map, get_or, position, slice_get, Option, Some, None, option_map, refl, sym, ap, subst, arith}
+use Rattle.std.specs.Option.{option_and_then}
+use Rattle.std.proofs.lemmas.List.{length-map}
+use Rattle.std.proofs.lemmas.Option.{same_Some, slice_get-get_or, slice_get-map, slice_get_read, slice_get_within}
+use Rattle.pls_model.specs.declared.row.State.{State}
+use Rattle.pls_model.specs.declared.row.Port.{Port}
+use Rattle.pls_model.specs.declared.row.NodeRow.{NodeRow}
+use Rattle.pls_model.specs.Configuration.{IsNetwork}
+use Rattle.pls_graph.specs.Places.{beside}
+use Rattle.pls_graph.proofs.Beside.{beside_many, beside_port}
+use Rattle.pls_graph.proofs.Placed.{pointer_within}
+use Rattle.pls_facts.proofs.Lists.{item_at}
+use Rattle.pls_view.specs.Seen.{Seen, SeenPort, label_of, seen_port, views}
+use Rattle.pls_view.proofs.Views.{label_at, view_by_parts}
+use Rattle.pls_scheme.specs.inner.Looks.{AreLooked, seen_above, seen_in}
+
+-- the view of a node of this identity, state and label, with these ports
+abbrev pub shown_from : List NodeRow → List (List Bool) → ℕ → State → List Bool → List Port → Seen
+shown_from rows labels id state own ports = record {
+  id = id;
+  state = state;
+  own = own;
+  ports = map (seen_port (label_of rows labels)) ports;
+}
+
+-- it is the view at the place
+pub is_shown : (rows : List NodeRow) (labels : List (List Bool)) (i id : ℕ) (state : State)
+    (own : List Bool) (ports : List Port) (view : Seen)
+    → option_map (λ row. row.id) (slice_get rows i) ≡ Some id
+    → option_map (λ row. row.state) (slice_get rows i) ≡ Some state
+    → option_map (λ row. row.ports) (slice_get rows i) ≡ Some ports
+    → position (λ row. id == row.id) rows ≡ Some i → slice_get labels i ≡ Some own
+    → slice_get (views rows labels) i ≡ Some view
+    → shown_from rows labels id state own ports ≡ view
+is_shown rows labels i id state own ports view id_is state_is ports_is placed own_at at =
+    same_Some (shown_from rows labels id state own ports) view
+    (sym (view_by_parts rows labels i id state ports own
+    (map (seen_port (label_of rows labels)) ports) id_is state_is ports_is
+    (label_at rows labels id i own placed own_at) refl) ∙ at)
+
+-- what is kept of the label at a place is what is seen in it
+pub looked_there : {L G : Type 0} (read : List Bool → Option L) (glance : L → G)
+    (labels : List (List Bool)) (looked : List (Option G)) → AreLooked read glance labels looked
+    → (place : ℕ) (bits : List Bool) (entry : Option G) → slice_get labels place ≡ Some bits
+    → entry ≡ get_or looked place entry → entry ≡ seen_in read glance bits
+looked_there {L} {G} read glance labels looked are place bits entry at is =
+    let many : length looked ≡ length labels =
+    ap (λ (looked : List (Option G)). length looked) are
+    ∙ length-map labels (seen_in read glance) in
+    let within = slice_get_within labels place bits at in
+    let has : slice_get looked place ≡ Some entry =
+    slice_get_read looked (length looked) place entry refl (omega (arith, many, within)) is in
+    same_Some entry (seen_in read glance bits)
+    (sym has ∙ ap (λ (looked : List (Option G)). slice_get looked place) are
+    ∙ slice_get-map (seen_in read glance) labels place
+    ∙ ap (option_map (seen_in read glance)) at)
+
+-- the port of a view shows the label at the place of the neighbour
+pub port_shown : (rows : List NodeRow) (labels : List (List Bool)) (ports : List Port) (p : ℕ)
+    (port : Port) (place : ℕ) (bits : List Bool) → slice_get ports p ≡ Some port
+    → position (λ row. port.nbr == row.id) rows ≡ Some place → slice_get labels place ≡ Some bits
+    → slice_get (map (seen_port (label_of rows labels)) ports) p
+    ≡ Some (record { weight = port.weight; label = bits })
+port_shown rows labels ports p port place bits at placed has =
+    slice_get-map (seen_port (label_of rows labels)) ports p
+    ∙ ap (option_map (seen_port (label_of rows labels))) at
+    ∙ ap (λ (label : List Bool).
+    let shows : SeenPort = record { weight = port.weight; label = label } in Some shows)
+    (label_at rows labels port.nbr place bits placed has)
+
+module _ (rows : List NodeRow) (net : IsNetwork rows) (i : ℕ) (ports : List Port)
+    (ports_is : option_map (λ (row : NodeRow). row.ports) (slice_get rows i) ≡ Some ports)
+    (places : List ℕ) (places_is : places ≡ beside rows i) where
+  -- there is a place for each port
+  pub place_for_port : (p : ℕ) → p < length ports → p < length places
+  place_for_port p within =
+      let listed = ap (λ (places : List ℕ). length places) places_is in
+      let many = beside_many rows net i ports ports_is in
+      omega (arith, listed, many, within)
+
+  -- the neighbour at a port stands at its place
+  pub port_placed : (p : ℕ) (port : Port) → slice_get ports p ≡ Some port
+      → position (λ row. port.nbr == row.id) rows ≡ Some (get_or places p 0)
+  port_placed p port at =
+      beside_port rows net i p ports port 0 ports_is at
+      ∙ ap (λ (places : List ℕ). Some (get_or places p 0)) (sym places_is)
+
+  -- a pointer is the number of a port
+  pub pointer_port : (state : State) (up : ℕ)
+      → option_map (λ (row : NodeRow). row.state) (slice_get rows i) ≡ Some state
+      → state.up ≡ Some up → up < length ports
+  pointer_port state up state_is up_is = by (slice_get rows i) refl state_is ports_is
+    where
+      by : (found : Option NodeRow) → slice_get rows i ≡ found
+          → option_map (λ (row : NodeRow). row.state) found ≡ Some state
+          → option_map (λ (row : NodeRow). row.ports) found ≡ Some ports → up < length ports
+      by None at one other = absurd (cc)
+      by (Some row) at one other =
+          let state_same : row.state ≡ state = same_Some row.state state one in
+          let ports_same : row.ports ≡ ports = same_Some row.ports ports other in
+          subst (λ (ports : List Port). up < length ports) ports_same
+          (pointer_within rows net i row at up
+          (ap (λ (state : State). state.up) state_same ∙ up_is))
+
+  -- what is kept of the label at the place of the node above is seen above
+  pub above_there : {L G : Type 0} (read : List Bool → Option L) (glance : L → G)
+      (labels : List (List Bool)) (looked : List (Option G)) → AreLooked read glance labels looked
+      → length labels ≡ length rows → (up : ℕ) → up < length ports
+      → get_or places up 0 < length rows
+      → (entry : Option G) → entry ≡ get_or looked (get_or places up 0) entry
+      → entry ≡ seen_above read glance (map (seen_port (label_of rows labels)) ports) (Some up)
+  above_there read glance labels looked are each up within inside entry is =
+      let none : Port = record { nbr = 0; weight = 0 } in
+      let port : Port = get_or ports up none in
+      let port_at : slice_get ports up ≡ Some port = slice_get-get_or ports up none within in
+      let (bits, bits_at) : (bits : List Bool) × (slice_get labels (get_or places up 0) ≡ Some bits)
+      = item_at labels (get_or places up 0) (omega (arith, inside, each)) in
+      looked_there read glance labels looked are (get_or places up 0) bits entry bits_at is
+      ∙ sym (ap (option_and_then (λ (port : SeenPort). seen_in read glance port.label))
+      (port_shown rows labels ports up port (get_or places up 0) bits port_at
+      (port_placed up port port_at) bits_at))

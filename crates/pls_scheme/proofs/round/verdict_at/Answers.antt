@@ -1,0 +1,171 @@
+use Rattle.std.proofs.Common.{◌≡◌, ◌∙◌, List, Some, get_or, slice_get, refl, sym, ap, subst}
+use Rattle.std.specs.Option.{option_copied}
+use Rattle.std.proofs.lemmas.List.{length-map}
+use Rattle.std.proofs.lemmas.Option.{slice_get-get_or}
+use Rattle.pls_model.specs.declared.row.Port.{Port}
+use Rattle.pls_model.specs.declared.verdict.Verdict.TheVariants.{Reject}
+use Rattle.pls_view.specs.Seen.{Seen, SeenPort, label_of, seen_port}
+use Rattle.pls_view.proofs.Views.{placed}
+use Rattle.pls_scheme.specs.Reading.{judge_by}
+use Rattle.pls_scheme.specs.inner.Looks.{seen_above}
+use Rattle.pls_scheme.proofs.LookedAt.{above_there, is_shown, looked_there, place_for_port, pointer_port, port_placed, port_shown, shown_from}
+use Rattle.pls_scheme.proofs.Passing.{pass_more, pass_opened, passed, unopened, unpassed}
+use Rattle.pls_scheme.proofs.round.verdict_at.Goals as goal
+use Rattle.pls_scheme.proofs.round.verdict_at.Goals.{in-Some-up, in-None}
+
+pub returns-in_default : goal.returns-in_default
+returns-in_default g c view at =
+    let rows = c.args.net.now in
+    let labels = c.args.labels.now in
+    let said = g.R.Layout.Layout.said in
+    let glance = g.R.JudgesInPlace.glance c.args.rules.now in
+    let rules = g.R.Judgement.rules c.args.rules.now in
+    let node = c.node-id.result in
+    let bits = c.bits-bits.result in
+    subst (λ (view : Seen). Reject 1 1 ≡ judge_by said rules view)
+    (is_shown rows labels c.args.i node.0 node.1 bits c.ports-ports.result.now view
+    c.node-id.ensures.id c.node-id.ensures.state c.ports-ports.ensures
+    (placed rows c.node-id.ensures.valid c.args.i node.0 c.node-id.ensures.id)
+    c.bits-bits.ensures at)
+    (unopened said glance (g.R.JudgesInPlace.gathered c.args.rules.now)
+    (shown_from rows labels node.0 node.1 bits c.ports-ports.result.now) rules
+    (sym c.in_default.is ∙ looked_there said glance labels c.args.looked.now c.requires.looked
+    c.args.i bits c.index-looked-i.result c.bits-bits.ensures c.index-looked-i.is))
+
+pub loop-p-init : goal.loop-p-init
+loop-p-init g c =
+    let said = g.R.Layout.Layout.said in
+    let glance = g.R.JudgesInPlace.glance c.args.rules.now in
+    let node = c.node-id.result in
+    let bits = c.bits-bits.result in
+    pass_opened said glance (g.R.JudgesInPlace.gathered c.args.rules.now)
+    (shown_from c.args.net.now c.args.labels.now node.0 node.1 bits c.ports-ports.result.now)
+    c.in-Some.glance c.open-tally.result
+    (sym c.in-Some.is ∙ looked_there said glance c.args.labels.now c.args.looked.now
+    c.requires.looked c.args.i bits c.index-looked-i.result c.bits-bits.ensures
+    c.index-looked-i.is)
+    (λ label same. c.open-tally.ensures node.0 node.1 label same)
+
+pub bounds-places-p : goal.bounds-places-p
+bounds-places-p g c =
+    place_for_port c.args.net.now c.node-id.ensures.valid c.args.i c.ports-ports.result.now
+    c.ports-ports.ensures c.places-places.result.now c.places-places.ensures.places c.loop-p.p
+    c.loop-p-test.true
+
+pub returns-in_default-looked : goal.returns-in_default-looked
+returns-in_default-looked g c view at =
+    let rows = c.args.net.now in
+    let labels = c.args.labels.now in
+    let said = g.R.Layout.Layout.said in
+    let glance = g.R.JudgesInPlace.glance c.args.rules.now in
+    let rules = g.R.Judgement.rules c.args.rules.now in
+    let node = c.node-id.result in
+    let bits = c.bits-bits.result in
+    let ports : List Port = c.ports-ports.result.now in
+    let p = c.loop-p.p in
+    let place = get_or c.places-places.result.now p 0 in
+    let port : Port = get_or ports p (record { nbr = 0; weight = 0 }) in
+    let port_at : slice_get ports p ≡ Some port =
+    slice_get-get_or ports p (record { nbr = 0; weight = 0 }) c.loop-p-test.true in
+    let there = c.bits-bits-in-loop-p.result in
+    let shows : SeenPort = record { weight = port.weight; label = there } in
+    subst (λ (view : Seen). Reject 1 2 ≡ judge_by said rules view)
+    (is_shown rows labels c.args.i node.0 node.1 bits ports view
+    c.node-id.ensures.id c.node-id.ensures.state c.ports-ports.ensures
+    (placed rows c.node-id.ensures.valid c.args.i node.0 c.node-id.ensures.id)
+    c.bits-bits.ensures at)
+    (unpassed said glance (g.R.JudgesInPlace.gathered c.args.rules.now)
+    (shown_from rows labels node.0 node.1 bits ports) rules p c.loop-p.tally shows
+    c.loop-p.invariant
+    (port_shown rows labels ports p port place there port_at
+    (port_placed rows c.node-id.ensures.valid c.args.i ports c.ports-ports.ensures
+    c.places-places.result.now c.places-places.ensures.places p port port_at)
+    c.bits-bits-in-loop-p.ensures)
+    (sym c.in_default-looked.is ∙ looked_there said glance labels c.args.looked.now
+    c.requires.looked place there c.index-looked-place.result c.bits-bits-in-loop-p.ensures
+    c.index-looked-place.is))
+
+pub loop-p-preserved : goal.loop-p-preserved
+loop-p-preserved g c =
+    let rows = c.args.net.now in
+    let labels = c.args.labels.now in
+    let said = g.R.Layout.Layout.said in
+    let glance = g.R.JudgesInPlace.glance c.args.rules.now in
+    let node = c.node-id.result in
+    let bits = c.bits-bits.result in
+    let ports : List Port = c.ports-ports.result.now in
+    let p = c.loop-p.p in
+    let place = get_or c.places-places.result.now p 0 in
+    let port : Port = get_or ports p (record { nbr = 0; weight = 0 }) in
+    let port_at : slice_get ports p ≡ Some port =
+    slice_get-get_or ports p (record { nbr = 0; weight = 0 }) c.loop-p-test.true in
+    let there = c.bits-bits-in-loop-p.result in
+    let shows : SeenPort = record { weight = port.weight; label = there } in
+    pass_more said glance (g.R.JudgesInPlace.gathered c.args.rules.now)
+    (shown_from rows labels node.0 node.1 bits ports) p c.loop-p.tally c.pass-tally.result shows
+    c.in-Some.glance c.in-Some-looked.glance c.loop-p.invariant
+    (port_shown rows labels ports p port place there port_at
+    (port_placed rows c.node-id.ensures.valid c.args.i ports c.ports-ports.ensures
+    c.places-places.result.now c.places-places.ensures.places p port port_at)
+    c.bits-bits-in-loop-p.ensures)
+    (sym c.in-Some.is ∙ looked_there said glance labels c.args.looked.now c.requires.looked
+    c.args.i bits c.index-looked-i.result c.bits-bits.ensures c.index-looked-i.is)
+    (sym c.in-Some-looked.is ∙ looked_there said glance labels c.args.looked.now
+    c.requires.looked place there c.index-looked-place.result c.bits-bits-in-loop-p.ensures
+    c.index-looked-place.is)
+    (λ mine theirs so_far many own_read own_same port_read port_same is.
+    c.pass-tally.ensures node.0 node.1 mine theirs so_far refl many own_read own_same port_read
+    port_same is)
+
+pub bounds-places-up : goal.bounds-places-up
+bounds-places-up g c =
+    let rows = c.args.net.now in
+    place_for_port rows c.node-id.ensures.valid c.args.i c.ports-ports.result.now
+    c.ports-ports.ensures c.places-places.result.now c.places-places.ensures.places
+    c.in-Some-up.up
+    (pointer_port rows c.node-id.ensures.valid c.args.i c.ports-ports.result.now
+    c.ports-ports.ensures c.places-places.result.now c.places-places.ensures.places
+    c.node-id.result.1 c.in-Some-up.up c.node-id.ensures.state c.in-Some-up.is)
+
+pub returns : goal.returns
+returns g c view at =
+    let rows = c.args.net.now in
+    let labels = c.args.labels.now in
+    let said = g.R.Layout.Layout.said in
+    let glance = g.R.JudgesInPlace.glance c.args.rules.now in
+    let rules = g.R.Judgement.rules c.args.rules.now in
+    let node = c.node-id.result in
+    let bits = c.bits-bits.result in
+    let ports : List Port = c.ports-ports.result.now in
+    let places = c.places-places.result.now in
+    let shown : Seen = shown_from rows labels node.0 node.1 bits ports in
+    let above : option_copied c.match-state.above ≡ seen_above said glance shown.ports node.1.up =
+    elim c.match-state.branch [
+      | in-Some-up w ↦
+          let within = pointer_port rows c.node-id.ensures.valid c.args.i ports
+          c.ports-ports.ensures places c.places-places.ensures.places node.1 w.in-Some-up.up
+          c.node-id.ensures.state w.in-Some-up.is in
+          ap option_copied w.above-is ∙ w.as_ref-above.ensures.value
+          ∙ above_there rows c.node-id.ensures.valid c.args.i ports c.ports-ports.ensures
+          places c.places-places.ensures.places said glance labels c.args.looked.now
+          c.requires.looked c.requires.each w.in-Some-up.up within
+          (c.places-places.ensures.within w.in-Some-up.up 0
+          (place_for_port rows c.node-id.ensures.valid c.args.i ports c.ports-ports.ensures
+          places c.places-places.ensures.places w.in-Some-up.up within))
+          w.index-looked-places.result w.index-looked-places.is
+          ∙ ap (seen_above said glance shown.ports) (sym w.in-Some-up.is)
+      | in-None w ↦ ap option_copied w.above-is
+          ∙ ap (seen_above said glance shown.ports) (sym w.in-None.is)
+    ] in
+    let over = c.loop-p-test.false in
+    subst (λ (view : Seen). c.close.result ≡ judge_by said rules view)
+    (is_shown rows labels c.args.i node.0 node.1 bits ports view
+    c.node-id.ensures.id c.node-id.ensures.state c.ports-ports.ensures
+    (placed rows c.node-id.ensures.valid c.args.i node.0 c.node-id.ensures.id)
+    c.bits-bits.ensures at)
+    (passed said glance (g.R.JudgesInPlace.gathered c.args.rules.now) shown rules c.loop-p.p
+    c.loop-p.tally c.in-Some.glance (option_copied c.match-state.above) c.close.result
+    (rw (length-map ports (seen_port (label_of rows labels))) over) c.loop-p.invariant
+    (sym c.in-Some.is ∙ looked_there said glance labels c.args.looked.now c.requires.looked
+    c.args.i bits c.index-looked-i.result c.bits-bits.ensures c.index-looked-i.is) above
+    (λ own read own_read same above is. c.close.ensures own read own_read same above is))

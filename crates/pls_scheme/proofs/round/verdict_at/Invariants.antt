@@ -1,0 +1,10 @@
+use Rattle.pls_scheme.proofs.LookedAt.{shown_from}
+use Rattle.pls_scheme.proofs.Passing.{IsPassed}
+use Rattle.pls_scheme.proofs.round.verdict_at.Given as goal
+
+-- the ports before this place are read
+abbrev pub invariant-loop-p : goal.invariant-loop-p
+invariant-loop-p g l =
+    IsPassed g.R.Layout.Layout.said (g.R.JudgesInPlace.glance l.rules)
+    (g.R.JudgesInPlace.gathered l.rules)
+    (shown_from l.net l.labels l.id l.state l.own.bits.now l.ports) l.p l.tally

@@ -1,0 +1,98 @@
+//! A round in which each label is looked at once, for all the nodes that see it.
+
+ghost use Rattle.std.specs.Prelude.{◌≡◌, ◌<◌, length, slice_get, Some, IfOk};
+ghost use Rattle.pls_view.specs.Seen.{Seen, views};
+ghost use Rattle.pls_scheme.specs.Judging.{RoseByAtMost, verdicts_by};
+ghost use Rattle.pls_scheme.specs.Reading.{judge_by};
+ghost use Rattle.pls_scheme.specs.inner.Looks.{AreLooked};
+
+use crate::in_place::{JudgesInPlace, Looked};
+use pls_base::{NoMemory, Steps};
+use pls_graph::Network;
+use pls_model::Verdict;
+use pls_view::LabelStore;
+use std::alloc::Global;
+
+// The verdict of each node on its view, in the order of the nodes. It adds at most one step a node.
+// The one error is want of memory.
+pub(crate) fn verdicts_of<R: JudgesInPlace>(
+    alloc: Global,
+    rules: &R,
+    net: &Network,
+    labels: &LabelStore,
+    steps: &mut Steps,
+) -> Result<Vec<Verdict>, NoMemory>
+    requires { length labels.now ≡ length net.now }
+    ensures verdicts { IfOk result (λ found. found.items
+        ≡ verdicts_by (judge_by R.Layout.said (R.rules rules.now)) net.now labels.now) }
+    ensures few_steps { RoseByAtMost (length net.now) steps.old steps.new }
+{
+    let looked = look_at_all(alloc, rules, labels)?;
+    let mut verdicts = Vec::with_capacity(alloc, net.len())?;
+    for i in 0..net.len() {
+        steps.tick();
+        verdicts.push(verdict_at(rules, net, labels, &looked, i))?;
+    }
+    Ok(verdicts)
+}
+
+// What each label says at a glance, or `None` where it cannot be read.
+fn look_at_all<R: JudgesInPlace>(
+    alloc: Global,
+    rules: &R,
+    labels: &LabelStore,
+) -> Result<Vec<Option<R::Glance>>, NoMemory>
+    ensures { IfOk result
+        (λ looked. AreLooked R.Layout.said (R.glance rules.now) labels.now looked.items) }
+{
+    let mut looked = Vec::with_capacity(alloc, labels.len())?;
+    for i in 0..labels.len() {
+        looked.push(rules.look(&labels.bits(i)))?;
+    }
+    Ok(looked)
+}
+
+// The verdict of the node at a place, where the labels were looked at.
+fn verdict_at<R: JudgesInPlace>(
+    rules: &R,
+    net: &Network,
+    labels: &LabelStore,
+    looked: &[Option<R::Glance>],
+    i: usize,
+) -> Verdict
+    requires each { length labels.now ≡ length net.now }
+    requires looked { AreLooked R.Layout.said (R.glance rules.now) labels.now looked.now }
+    requires within { i < length net.now }
+    ensures { (view : Seen) → slice_get (views net.now labels.now) i ≡ Some view
+        → result ≡ judge_by R.Layout.said (R.rules rules.now) view }
+{
+    let (id, state) = net.node(i);
+    let ports = net.ports(i);
+    let places = net.places(i);
+    let bits = labels.bits(i);
+    let Some(glance) = &looked[i] else {
+        return Verdict::Reject { leaf: 1, rule: 1 };
+    };
+    let own = Looked {
+        bits: &bits,
+        glance,
+    };
+    let mut tally = rules.open(glance);
+    for (p, port) in ports.iter().enumerate() {
+        let place = places[p] as usize;
+        let bits = labels.bits(place);
+        let Some(glance) = &looked[place] else {
+            return Verdict::Reject { leaf: 1, rule: 2 };
+        };
+        let label = Looked {
+            bits: &bits,
+            glance,
+        };
+        tally = rules.pass(state.up, &own, tally, p, port.weight, &label);
+    }
+    let above = match state.up {
+        Some(up) => looked[places[up as usize] as usize].as_ref(),
+        None => None,
+    };
+    rules.close(id, state, &own, above, tally)
+}
