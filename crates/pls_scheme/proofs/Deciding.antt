@@ -1,5 +1,5 @@
 -- A property that is decided by rules, tried on labels that are right if it holds.
-use Rattle.std.proofs.Common.{◌≡◌, ◌↔◌, ℕ, Bool, List, IsTrue}
+use Rattle.std.proofs.Common.{◌↔◌, ℕ, Bool, List, IsTrue}
 use Rattle.pls_model.specs.declared.row.NodeRow.{NodeRow}
 use Rattle.pls_model.specs.Configuration.{IsNetwork}
 use Rattle.pls_model.specs.Walk.{IsConnected}

@@ -4,5 +4,7 @@ pub mod Deciding
 pub mod Fitting
 pub mod HeldRules
 pub mod Markings
+pub mod MorePorts
 pub mod Passing
 pub mod SaidPorts
+pub mod Storing

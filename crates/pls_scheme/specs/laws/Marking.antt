@@ -7,7 +7,7 @@ use Rattle.pls_view.specs.Seen.{label_of}
 use Rattle.pls_facts.proofs.Lists.{item_at, same_at_places, some_item}
 use Rattle.pls_scheme.specs.SchemeLaws.{AreOneLabel, HaveOneSpelling, IsMarkedOnce, IsSound, SaysWhatIsSpelled}
 use Rattle.pls_scheme.specs.Marked.{IsMarkedBy}
-use Rattle.pls_scheme.specs.Reading.{Read, judge_by, read_where}
+use Rattle.pls_scheme.specs.Reading.{Read, judge_by}
 use Rattle.pls_scheme.specs.Theorem.{OneIsRight, RulesShow}
 use Rattle.pls_scheme.specs.laws.Saying.{accepted_one, accepted_say, say_of}
 
