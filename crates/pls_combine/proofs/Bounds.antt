@@ -1,5 +1,5 @@
 -- How long marked labels are at most.
-use Rattle.std.proofs.Common.{◌≡◌, ℕ, ◌+◌, ◌-◌, ◌*◌, ◌^◌, ◌≤◌, nat_le, le-leb, if◌then◌else◌, Bool, true, false, List, [], ◌∷◌, map, length, Contains, sum_by, subst, arith}
+use Rattle.std.proofs.Common.{◌≡◌, ℕ, ◌+◌, ◌-◌, ◌*◌, ◌^◌, ◌≤◌, nat_le, le-leb, if◌then◌else◌, Bool, true, false, List, [], ◌∷◌, map, length, subst, arith}
 use Rattle.std.proofs.Common.{mul-le-mul}
 use Rattle.std.proofs.Math.Nat.{mul-le-mul_right}
 use Rattle.pls_bits.specs.Gamma.{gamma_code}
@@ -9,12 +9,11 @@ use Rattle.pls_bits.specs.laws.GammaLaws.{gamma_short}
 use Rattle.pls_bits.specs.declared.num_code.TheConstants.{MAX_CODED}
 use Rattle.pls_graph.specs.declared.size.Size.{Size}
 use Rattle.std.proofs.lemmas.List.Elements.{All-contains}
-use Rattle.std.proofs.lemmas.List.Sums.{sum_by-cons}
 use Rattle.pls_model.specs.declared.limits.TheConstants.{MAX_NODES, MAX_NUM, MAX_PORTS}
 use Rattle.pls_model.specs.declared.row.NodeRow.{NodeRow}
 use Rattle.pls_model.specs.Configuration.{IsNetwork}
-use Rattle.pls_graph.specs.Size.{greatest, size_of}
-use Rattle.pls_graph.proofs.Members.{Contains-first, Contains-later}
+use Rattle.pls_graph.specs.Size.{size_of}
+use Rattle.pls_facts.proofs.Greatest.{greatest_in_sum, greatest_within}
 use Rattle.pls_universal.specs.Bound.{longest_map}
 use Rattle.pls_scheme.specs.Theorem.{AreWords}
 use Rattle.pls_scheme.specs.Length.{code_length, codes_length}
@@ -24,23 +23,6 @@ use Rattle.pls_combine.specs.declared.scheme_name.SchemeName.TheVariants.{Acycli
 use Rattle.pls_combine.specs.Expression.{And, Basic, Expression, IsSmall, Map, Or, leaves_of, longest_of}
 use Rattle.pls_combine.specs.Named.{longest_named}
 use Rattle.pls_combine.proofs.Leaves.{leaves_few}
-
--- the greatest of some numbers is at most a limit of all, and at most their sum
-greatest_within : {X : Type 0} (h : X → ℕ) (items : List X) (most : ℕ)
-    → ((x : X) → Contains items x → h x ≤ most) → greatest (map h items) ≤ most
-greatest_within h [] most each = omega arith
-greatest_within h (x ∷ items) most each =
-    let first = each x (Contains-first x items) in
-    let others = greatest_within h items most (λ y in'. each y (Contains-later x items y in')) in
-    omega (arith, first, others)
-
-greatest_in_sum : {X : Type 0} (h : X → ℕ) (items : List X)
-    → greatest (map h items) ≤ sum_by h items
-greatest_in_sum h [] = omega arith
-greatest_in_sum h (x ∷ items) =
-    let others = greatest_in_sum h items in
-    let sum = sum_by-cons h x items in
-    omega (arith, others, sum)
 
 -- the code of a number that has one has at most 125 bits
 short_code : (number : ℕ) → number ≤ MAX_CODED → code_length gamma_code number ≤ 125

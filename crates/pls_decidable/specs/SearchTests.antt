@@ -7,7 +7,7 @@ use Rattle.pls_model.specs.Configuration.{has_repeat, ids_of}
 use Rattle.pls_model.specs.Walk.{Edge, edges_of}
 use Rattle.pls_facts.specs.SpanningTree.{is_root, pointed_edges}
 use Rattle.pls_facts.specs.Lightest.{weight_of}
-use Rattle.pls_facts.proofs.Classes.{class_of}
+use Rattle.pls_facts.specs.Classes.{class_of}
 
 -- all lists of so many items out of these
 abbrev pub all_lists : {X : Type 0} → List X → ℕ → List (List X)

@@ -1,53 +1,18 @@
 -- What a node has gathered with one more port.
-use Rattle.std.proofs.Common.{◌≡◌, ◌≢◌, ◌∙◌, ◌⊎◌, inl, inr, arith, ℕ, zero, suc, ◌+◌, ◌==◌, nat_le, Bool, true, false, ◌&&◌, if◌then◌else◌, List, [], ◌∷◌, ◌++◌, map, length, Option, Some, None, slice_get, option_map, refl, sym, ap}
+use Rattle.std.proofs.Common.{◌≡◌, ◌∙◌, ℕ, ◌+◌, ◌==◌, nat_le, Bool, true, false, ◌&&◌, if◌then◌else◌, List, [], ◌∷◌, ◌++◌, map, length, Option, Some, None, slice_get, option_map, refl, sym, ap}
 use Rattle.std.specs.List.{list_all}
 use Rattle.std.specs.Option.{option_and_then, option_map_or}
-use Rattle.std.proofs.lemmas.Bool.{cases_eq, eq-eqb, ne_eqb}
 use Rattle.std.proofs.lemmas.List.{map-append}
-use Rattle.std.proofs.lemmas.List.Folds.{list_all-append}
 use Rattle.std.proofs.lemmas.Option.{slice_get-map}
 use Rattle.pls_model.specs.declared.row.State.{State}
 use Rattle.pls_scheme.specs.Reading.{Read, ReadPort, reading}
+use Rattle.pls_scheme.proofs.MorePorts.{all_more, at_pointer_more}
 use Rattle.pls_pointer.specs.Tree.{names_root}
 use Rattle.pls_pointer.specs.declared.tree.TreeLabel.{TreeLabel}
 use Rattle.pls_distance.specs.declared.spt.SptLabel.{SptLabel}
 use Rattle.pls_distance.specs.declared.gathering.Gathered.{Gathered}
 use Rattle.pls_distance.specs.Spt.{agrees_on_its_root, follows_target, is_nearest, is_reached_by, tree_port}
 use Rattle.pls_distance.specs.inner.Gathering.{gathered, is_port}
-
--- a test of all with one more
-all_more : {X : Type 0} (test : X → Bool) (items : List X) (last : X)
-    → list_all test (items ++ last ∷ []) ≡ (list_all test items && test last)
-all_more test items last = list_all-append test items (last ∷ [])
-    ∙ ap (λ (b : Bool). list_all test items && b) (and_true (test last))
-  where
-    and_true : (b : Bool) → (b && true) ≡ b
-    and_true true = refl
-    and_true false = refl
-
--- what stands at the place that a pointer names, with one more item
-at_pointer_more : {X : Type 0} (items : List X) (last : X) (up : Option ℕ)
-    → option_and_then (slice_get (items ++ last ∷ [])) up
-    ≡ (if is_port up (length items) then Some last else option_and_then (slice_get items) up)
-at_pointer_more items last None = refl
-at_pointer_more {X} items last (Some number) = at items number
-  where
-    at : (items : List X) (number : ℕ) → slice_get (items ++ last ∷ []) number
-        ≡ (if number == length items then Some last else slice_get items number)
-    at [] zero = refl
-    at [] (suc number) = rw (ne_eqb (suc number) 0 (λ same. absurd (cc))) refl
-    at (first ∷ items) zero = rw (ne_eqb 0 (suc (length items)) (λ same. absurd (cc))) refl
-    at (first ∷ items) (suc number) =
-        at items number
-        ∙ ap (λ (here : Bool). if here then Some last else slice_get items number)
-        (by (cases_eq number (length items)))
-      where
-        by : ((number ≡ length items) ⊎ (number ≢ length items))
-            → (number == length items) ≡ (suc number == suc (length items))
-        by (inl same) = eq-eqb number (length items) same
-            ∙ sym (eq-eqb (suc number) (suc (length items)) (ap suc same))
-        by (inr apart) = ne_eqb number (length items) apart
-            ∙ sym (ne_eqb (suc number) (suc (length items)) (λ same. apart (omega (arith, same))))
 
 module _ (id : ℕ) (state : State) (own : SptLabel) (ports : List (ReadPort SptLabel))
     (port : ReadPort SptLabel) where
@@ -93,7 +58,8 @@ module _ (id : ℕ) (state : State) (own : SptLabel) (ports : List (ReadPort Spt
       ≡ (if is_port state.up (length ports) then (own.depth == port.label.depth + 1
       && own.dist == port.label.dist + port.weight) else follows_target before)
   follows_more = follows_both (ports ++ port ∷ [])
-      ∙ ap both (at_pointer_more ports port state.up) ∙ by (is_port state.up (length ports))
+      ∙ ap both (at_pointer_more is_port (λ place. refl) (λ number place. refl) ports port state.up)
+      ∙ by (is_port state.up (length ports))
     where
       by : (here : Bool)
           → both (if here then Some port else option_and_then (slice_get ports) state.up)

@@ -36,15 +36,11 @@ carried (Join id mark num) rows new items = insert items (place_for rows id) new
 carried (Leave id) rows new items = remove items (place_in rows id)
 carried (Label id bits) rows new items = items
 
--- the labels after the edit
+-- the labels after the edit: they go with the nodes, a new node has an empty one, and a node whose
+-- label the edit gives has this one
 abbrev pub relabelled : Edit → List NodeRow → List (List Bool) → List (List Bool)
-relabelled (State id state) rows labels = labels
-relabelled (Weight a b weight) rows labels = labels
-relabelled (Link a b weight) rows labels = labels
-relabelled (Unlink a b) rows labels = labels
-relabelled (Join id mark num) rows labels = insert labels (place_for rows id) []
-relabelled (Leave id) rows labels = remove labels (place_in rows id)
 relabelled (Label id bits) rows labels = slice_set labels (place_in rows id) bits
+relabelled edit rows labels = carried edit rows [] labels
 
 -- the nodes that the edit touches: the node, both ends of the edge, or the node and its
 -- neighbours; a node that leaves touches nobody

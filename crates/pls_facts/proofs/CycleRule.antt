@@ -6,10 +6,11 @@ use Rattle.std.proofs.lemmas.Bool.{cases_eq, cases_lt, leb-true, le-leb}
 use Rattle.std.proofs.lemmas.List.Sums.{sum_by-cons, sum_by-remove, sum_by-set}
 use Rattle.pls_model.specs.Walk.{Edge, AreJoined, Walk}
 use Rattle.pls_graph.proofs.Members.{Contains-cons_cases, Contains-filter, Contains-first, Contains-from_filter, Contains-later}
+use Rattle.pls_facts.specs.Classes.{class_of}
 use Rattle.pls_facts.specs.Path.{IsPath, IsAlong}
 use Rattle.pls_facts.specs.SpanningTree.{AreDistinct, IsSpanningTree}
 use Rattle.pls_facts.specs.Lightest.{IsGraph, IsLightest, OthersAreHeavy, weight_of}
-use Rattle.pls_facts.proofs.Classes.{class_of, class-joined}
+use Rattle.pls_facts.proofs.Classes.{class-joined}
 use Rattle.pls_facts.proofs.Decided.{cases_Edge}
 use Rattle.pls_facts.proofs.Distinct.{AreDistinct-first, AreDistinct-rest, Contains-remove, Contains-set_kept, Contains-set_new, decide_Contains}
 use Rattle.pls_facts.proofs.Exchanges.{IsSpanningTree-set, class-removed}

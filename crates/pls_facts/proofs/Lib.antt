@@ -1,6 +1,7 @@
 pub mod Lists
 pub mod Filtered
 pub mod Neighbours
+pub mod Greatest
 pub mod Agreed
 pub mod OnlyNode
 pub mod Finding

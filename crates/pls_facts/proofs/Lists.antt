@@ -1,11 +1,11 @@
 -- Lists: their items at places, their images, and the items that pass a test.
 use Rattle.std.proofs.Common.{◌≡◌, ◌∙◌, ℕ, zero, suc, ◌+◌, ◌<◌, ◌≤◌, inl, inr, Bool, true, false, ◌||◌, List, [], ◌∷◌, ◌++◌, length, map, take, slice_get, get_or, Option, All, Contains, Some, option_map, count_by, cond, refl, sym, ap, arith}
-use Rattle.std.specs.List.{AllPairs, filter, list_any}
+use Rattle.std.specs.List.{AllPairs, filter, list_all, list_any}
 use Rattle.std.proofs.lemmas.Bool.{or_cases}
 use Rattle.std.proofs.lemmas.List.{map-append, same_lists, take_more}
-use Rattle.std.proofs.lemmas.List.Elements.{filter_passes}
+use Rattle.std.proofs.lemmas.List.Elements.{All-contains, Contains-get_or, filter_passes}
 use Rattle.std.proofs.lemmas.List.Kept.{AllPairs-filter}
-use Rattle.std.proofs.lemmas.List.Sums.{length-filter, sum_by-cons}
+use Rattle.std.proofs.lemmas.List.Sums.{AllPass-from_list_all, length-filter, list_all-from_AllPass, sum_by-cons}
 use Rattle.std.proofs.lemmas.Option.{get_or_from_slice_get, slice_get-get_or, slice_get-map, slice_get_within}
 use Rattle.pls_graph.proofs.Members.{Contains-cons_cases, Contains-filter, Contains-first, Contains-later}
 
@@ -58,6 +58,17 @@ module _ {X : Type 0} where
       by (y ∷ []) apart pass = omega arith
       by (y ∷ z ∷ ys) apart pass = absurd (apart 0 1 y (omega arith) (omega arith)
           (pass 0 y (omega arith)) (pass 1 y (omega arith)))
+
+  -- what all items pass, each does, and the other way round
+  pub each_passes : (test : X → Bool) (xs : List X) → list_all test xs ≡ true
+      → (x : X) → Contains xs x → test x ≡ true
+  each_passes test xs all x in' =
+      All-contains (λ x. test x ≡ true) xs x (AllPass-from_list_all test xs all) in'
+
+  pub all_pass : (test : X → Bool) (xs : List X) → ((x : X) → Contains xs x → test x ≡ true)
+      → list_all test xs ≡ true
+  all_pass test xs each = list_all-from_AllPass test xs (λ k d within.
+      each (get_or xs k d) (Contains-get_or xs k d within))
 
   -- where an item passes, some does
   pub any_passes : (p : X → Bool) (xs : List X) (x : X) → Contains xs x → p x ≡ true

@@ -1,13 +1,16 @@
--- Exactly one node passes a test of its state.
-use Rattle.std.proofs.Common.{◌≡◌, ◌∙◌, ℕ, ◌<◌, inl, inr, Bool, true, List, [], ◌∷◌, Contains, sym, subst, arith, get_or}
+-- The identities of a network ascend, and exactly one node passes a test of its state.
+use Rattle.std.proofs.Common.{◌≡◌, ◌∙◌, ℕ, ◌<◌, inl, inr, Bool, true, List, [], ◌∷◌, length, Contains, Some, sym, subst, arith, get_or, slice_get}
 use Rattle.std.specs.List.{AllPairs, filter}
+use Rattle.std.proofs.lemmas.List.{get_or-map, length-map}
 use Rattle.std.proofs.lemmas.Option.{slice_get-get_or}
 use Rattle.pls_model.specs.declared.row.State.{State}
 use Rattle.pls_model.specs.declared.row.NodeRow.{NodeRow}
-use Rattle.pls_model.specs.Configuration.{IsNetwork}
+use Rattle.pls_model.specs.Configuration.{IsNetwork, ids_of}
+use Rattle.pls_graph.proofs.Finds.{item_at}
 use Rattle.pls_graph.proofs.Members.{Contains-cons_cases, Contains-filter, Contains-first, Contains-from_filter}
 use Rattle.pls_graph.proofs.Placed.{ids_rise}
 use Rattle.pls_facts.specs.OnlyNode.{passing}
+use Rattle.pls_facts.specs.SpanningTree.{AreDistinct}
 use Rattle.pls_facts.proofs.Filtered.{filter-one, count_by-one}
 
 -- of each two rows of a network the later has the greater identity
@@ -16,6 +19,18 @@ pub ids_ascend : (rows : List NodeRow) → IsNetwork rows
 ids_ascend rows net i j d before within =
     ids_rise rows net i j (get_or rows i d) (get_or rows j d) before
     (slice_get-get_or rows i d (omega (arith, before, within))) (slice_get-get_or rows j d within)
+
+-- so its identities are distinct
+pub ids_distinct : (rows : List NodeRow) → IsNetwork rows → AreDistinct (ids_of rows)
+ids_distinct rows net i j d before within same =
+    let some : (row : NodeRow) × (slice_get rows 0 ≡ Some row) =
+    item_at rows 0 net.limits.some in
+    let name : NodeRow → ℕ = λ row. row.id in
+    let inside : j < length rows = omega (arith, within, length-map rows name) in
+    let first = get_or-map name rows i some.0 d (omega (arith, before, inside)) in
+    let second = get_or-map name rows j some.0 d inside in
+    let rise = ids_ascend rows net i j some.0 before inside in
+    omega (arith, same, first, second, rise)
 
 module _ (test : State → Bool) (rows : List NodeRow) where
   -- the test, of a row

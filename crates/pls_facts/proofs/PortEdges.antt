@@ -1,20 +1,19 @@
 -- Each edge of a network stands at two ports, one of each of its ends.
-use Rattle.std.proofs.Common.{◌≡◌, ◌∙◌, ℕ, ◌<◌, ◌==◌, true, nat_lt, List, Some, sym, ap, subst, arith, slice_get, length, Contains}
+use Rattle.std.proofs.Common.{◌≡◌, ◌∙◌, ℕ, ◌<◌, ◌==◌, true, nat_lt, List, Some, sym, ap, subst, arith, slice_get, Contains}
 use Rattle.std.specs.List.{filter}
 use Rattle.std.proofs.lemmas.Bool.{eqb-true, ltb-true}
-use Rattle.std.proofs.lemmas.List.{get_or-map, length-map}
 use Rattle.pls_model.specs.declared.row.Port.{Port}
 use Rattle.pls_model.specs.declared.row.NodeRow.{NodeRow}
 use Rattle.pls_model.specs.Configuration.{IsNetwork, ids_of}
 use Rattle.pls_model.specs.Walk.{Edge, edges_from, edges_of}
-use Rattle.pls_graph.proofs.Finds.{found_place, item_at}
+use Rattle.pls_graph.proofs.Finds.{found_place}
 use Rattle.pls_graph.proofs.Members.{Contains-from_filter, Contains-from_flat_map, Contains-from_map, Contains-from_place, place_from_Contains}
 use Rattle.pls_graph.proofs.Placed.{row_place, way_back, WayBack}
 use Rattle.pls_facts.specs.Lightest.{IsGraph}
 use Rattle.pls_facts.specs.SpanningTree.{edge_at}
 use Rattle.pls_facts.proofs.Decided.{same_Edge}
 use Rattle.pls_facts.proofs.Pointed.{id_of_row}
-use Rattle.pls_facts.proofs.OnlyNode.{ids_ascend}
+use Rattle.pls_facts.proofs.OnlyNode.{ids_distinct}
 
 -- the edge at a port of the row of u that names v
 pub record IsAtPort (rows : List NodeRow) (edge : Edge) (u v : ℕ) : Type 0 where
@@ -95,15 +94,7 @@ module _ (rows : List NodeRow) (net : IsNetwork rows) where
   -- the identities of a network are distinct, and its edges join them
   pub IsGraph-network : IsGraph (edges_of rows) (ids_of rows)
   IsGraph-network = record {
-    distinct = λ i j d before within same.
-        let some : (row : NodeRow) × (slice_get rows 0 ≡ Some row) =
-        item_at rows 0 net.limits.some in
-        let name : NodeRow → ℕ = λ row. row.id in
-        let inside : j < length rows = omega (arith, within, length-map rows name) in
-        let first = get_or-map name rows i some.0 d (omega (arith, before, inside)) in
-        let second = get_or-map name rows j some.0 d inside in
-        let rise = ids_ascend rows net i j some.0 before inside in
-        omega (arith, same, first, second, rise);
+    distinct = ids_distinct rows net;
     ends = λ edge in'.
         let ports = ports_of_edge edge in' in (
           subst (Contains (ids_of rows)) ports.0.owner (id_of_row rows ports.0.row

@@ -12,6 +12,7 @@ pub mod TreeSums
 pub mod Weight
 pub mod ShortestPath
 pub mod Path
+pub mod Classes
 pub mod Lightest
 pub mod Precedes
 pub mod EdgeOrder

@@ -1,6 +1,6 @@
--- What the marker of the number of nodes writes is right: places of parents are parents, and chains
--- from place to place are chains from node to node.
-use Rattle.std.proofs.Common.{◌≡◌, ◌≢◌, ◌∙◌, ℕ, ◌+◌, ◌<◌, ◌≤◌, ◌==◌, inl, inr, true, false, List, [], ◌∷◌, length, map, get_or, position, unwrap_or, Contains, Option, Some, None, slice_get, refl, sym, ap, subst, arith}
+-- In the marker of the number of nodes places of parents are parents, and chains from place to
+-- place are chains from node to node.
+use Rattle.std.proofs.Common.{◌≡◌, ◌∙◌, ℕ, ◌+◌, ◌<◌, ◌≤◌, ◌==◌, inl, inr, true, false, List, [], ◌∷◌, length, map, get_or, position, unwrap_or, Contains, Option, Some, None, slice_get, refl, sym, ap, subst, arith}
 use Rattle.std.specs.Option.{option_map}
 use Rattle.std.proofs.lemmas.Bool.{cases_eq, cases_lt, eq-eqb, eqb-true}
 use Rattle.std.proofs.lemmas.List.{length-map}
@@ -22,52 +22,28 @@ use Rattle.pls_facts.proofs.Lists.{item_at}
 use Rattle.pls_facts.proofs.Neighbours.{port_adjacent}
 use Rattle.pls_facts.proofs.Pointed.{id_of_row}
 use Rattle.pls_facts.proofs.RootLevels.{alone_at_0, levels_fall}
-use Rattle.pls_search.specs.SubtreeSizes.{AreParentsWithin, AreSubtreeSizes, HasParentAt}
-use Rattle.pls_leader.specs.Count.{IsCounted, IsOneNearer, IsParent, count_of, count_says}
+use Rattle.pls_search.specs.SubtreeSizes.{AreParentsWithin, HasParentAt}
+use Rattle.pls_leader.specs.Count.{IsOneNearer, IsParent}
 use Rattle.pls_leader.specs.Rooted.{AreLevelsFrom}
 use Rattle.pls_leader.specs.inner.Nearest.{AreNearest, IsLeast, is_above}
-
--- the identity that is written for a parent: the node's own where it has none
-abbrev pub IsWritten : List NodeRow → NodeRow → Option ℕ → ℕ → Type 0
-IsWritten rows row None parent = parent ≡ row.id
-IsWritten rows row (Some up) parent = (node : NodeRow) → slice_get rows up ≡ Some node
-    → node.id ≡ parent
-
--- what is written is the identity at the parent's place, or the own one
-pub written_parent : (rows : List NodeRow) (row : NodeRow) (parents : List (Option ℕ))
-    (place up id : ℕ) → get_or parents place None ≡ Some up
-    → option_map (λ (row : NodeRow). row.id) (slice_get rows up) ≡ Some id
-    → (entry : Option ℕ) → slice_get parents place ≡ Some entry → IsWritten rows row entry id
-written_parent rows row parents place up id is named entry at =
-    let same : Some up ≡ entry = sym is ∙ get_or_from_slice_get parents place entry None at in
-    subst (λ (entry : Option ℕ). IsWritten rows row entry id) same
-    (λ node here. same_Some node.id id
-    (sym (ap (option_map (λ (row : NodeRow). row.id)) here) ∙ named))
-
-pub written_own : (rows : List NodeRow) (row : NodeRow) (parents : List (Option ℕ))
-    (place id : ℕ) → get_or parents place None ≡ None → id ≡ row.id
-    → (entry : Option ℕ) → slice_get parents place ≡ Some entry → IsWritten rows row entry id
-written_own rows row parents place id is own entry at =
-    let same : None ≡ entry = sym is ∙ get_or_from_slice_get parents place entry None at in
-    subst (λ (entry : Option ℕ). IsWritten rows row entry id) same own
 
 module _ (rows : List NodeRow) (net : IsNetwork rows) (levels : List ℕ)
     (from : AreLevelsFrom rows 0 levels) (parents : List (Option ℕ))
     (nearest : AreNearest rows levels parents) where
-  abbrev level : ℕ → ℕ
+  abbrev pub level : ℕ → ℕ
   level place = get_or levels place 0
 
-  abbrev IsRow : ℕ → NodeRow → Type 0
+  abbrev pub IsRow : ℕ → NodeRow → Type 0
   IsRow place row = slice_get rows place ≡ Some row
 
-  first : (first : NodeRow) × (slice_get rows 0 ≡ Some first)
+  pub first : (first : NodeRow) × (slice_get rows 0 ≡ Some first)
   first = item_at rows 0 (let some = net.limits.some in omega (arith, some))
 
-  abbrev root : ℕ
+  abbrev pub root : ℕ
   root = first.0.id
 
   -- the level of the node at a place
-  level_is : (place : ℕ) (row : NodeRow) → IsRow place row
+  pub level_is : (place : ℕ) (row : NodeRow) → IsRow place row
       → IsLevel (edges_of rows) root row.id (level place)
   level_is place row at =
       let (number, has) : (number : ℕ) × (slice_get levels place ≡ Some number) =
@@ -135,7 +111,7 @@ module _ (rows : List NodeRow) (net : IsNetwork rows) (levels : List ℕ)
   }
 
   -- what a place has as its parent, its node has as its parent
-  up_there : (place parent : ℕ) (row : NodeRow) → IsRow place row → HasParentAt parents place parent
+  pub up_there : (place parent : ℕ) (row : NodeRow) → IsRow place row → HasParentAt parents place parent
       → (node : NodeRow) × IsRow parent node × IsParent rows root row.id node.id
       × (level place ≡ level parent + 1)
   up_there place parent row at has =
@@ -195,7 +171,7 @@ module _ (rows : List NodeRow) (net : IsNetwork rows) (levels : List ℕ)
       (level_is place row at)
 
   -- only the root has none above
-  alone : (place : ℕ) (row : NodeRow) → IsRow place row → slice_get parents place ≡ Some None
+  pub alone : (place : ℕ) (row : NodeRow) → IsRow place row → slice_get parents place ≡ Some None
       → row.id ≡ root
   alone place row at has = elim (cases_eq (by_id row.id) 0) [
     | inl none ↦ alone_at_0 rows net root by_id by_id_level row in' none
@@ -279,7 +255,7 @@ module _ (rows : List NodeRow) (net : IsNetwork rows) (levels : List ℕ)
   id_of place row at = ap (λ (row : NodeRow). row.id) (get_or_from_slice_get rows place row first.0 at)
 
   -- as many nodes' chains meet a node as places' chains meet its place
-  ids_many : (place : ℕ) (row : NodeRow) (size : ℕ) → IsRow place row
+  pub ids_many : (place : ℕ) (row : NodeRow) (size : ℕ) → IsRow place row
       → AreSoMany
       (λ other. (other < length parents) × ChainMeets (HasParentAt parents) other place) size
       → AreSoMany (λ id. Contains (ids_of rows) id × ChainMeets (IsParent rows root) id row.id) size
@@ -359,49 +335,3 @@ module _ (rows : List NodeRow) (net : IsNetwork rows) (levels : List ℕ)
           such.1.1) in
           subst (Contains (map id_at so.all)) (id_of other node node_at ∙ named)
           (Contains-map id_at so.all other ((so.are other).1 (within, chain)))
-
-  -- the label that is written is right
-  pub counted_right : (sizes : List ℕ) → AreSubtreeSizes parents sizes → (place : ℕ) (row : NodeRow)
-      → IsRow place row → (start : NodeRow) → slice_get rows 0 ≡ Some start
-      → (parent size : ℕ) → slice_get sizes place ≡ Some size
-      → ((entry : Option ℕ) → slice_get parents place ≡ Some entry → IsWritten rows row entry parent)
-      → count_says rows row (count_of start.id row.id parent (level place) size (length rows))
-  counted_right sizes are place row at start start_at parent size has written other other_at =
-      let same : other ≡ first.0 = same_Some other first.0 (sym other_at ∙ first.1) in
-      let start_is : start ≡ first.0 = same_Some start first.0 (sym start_at ∙ first.1) in
-      subst (λ (first : NodeRow). IsCounted rows first.id row
-      (count_of start.id row.id parent (level place) size (length rows))) (sym same)
-      record {
-        root_is = ap (λ (row : NodeRow). row.id) start_is;
-        own = refl;
-        depth = level_is place row at;
-        at_root = at_root;
-        parent = is_parent;
-        size = ids_many place row size at (are.size place size has);
-        total = refl;
-      }
-    where
-      entry : (entry : Option ℕ) × (slice_get parents place ≡ Some entry)
-      entry = item_at parents place (let each = nearest.each in
-          omega (arith, each, slice_get_within rows place row at))
-
-      at_root : row.id ≡ root → parent ≡ row.id
-      at_root is = by entry.0 entry.1
-        where
-          by : (entry : Option ℕ) → slice_get parents place ≡ Some entry → parent ≡ row.id
-          by None none = written None none
-          by (Some up) up_at =
-              let (node, there, is_up, less) = up_there place up row at up_at in
-              let few : level place ≤ length {A = ℕ} [] = (level_is place row at).fewest [] (sym is) in
-              absurd (omega (arith, few, less))
-
-      is_parent : row.id ≢ root → IsParent rows root row.id parent
-      is_parent apart = by entry.0 entry.1
-        where
-          by : (entry : Option ℕ) → slice_get parents place ≡ Some entry
-              → IsParent rows root row.id parent
-          by None none = absurd (apart (alone place row at none))
-          by (Some up) up_at =
-              let (node, there, is_up, less) = up_there place up row at up_at in
-              let named : node.id ≡ parent = written (Some up) up_at node there in
-              subst (IsParent rows root row.id) named is_up

@@ -1,3 +1,4 @@
 pub mod Right
 pub mod Nearest
 pub mod Counted
+pub mod Written

@@ -1,11 +1,10 @@
 -- What a node has gathered with one more port.
-use Rattle.std.proofs.Common.{◌≡◌, ◌≢◌, ◌∙◌, ◌⊎◌, inl, inr, arith, ℕ, zero, suc, ◌+◌, ◌==◌, min, Bool, true, false, ◌&&◌, if◌then◌else◌, List, [], ◌∷◌, ◌++◌, length, take, Option, Some, None, slice_get, refl, sym, ap}
-use Rattle.std.specs.List.{enumerate_from, list_all, list_any, zip}
+use Rattle.std.proofs.Common.{◌≡◌, ◌∙◌, arith, ℕ, ◌+◌, ◌==◌, min, Bool, true, false, ◌&&◌, if◌then◌else◌, List, [], ◌∷◌, ◌++◌, length, take, Option, Some, slice_get, refl, sym, ap}
+use Rattle.std.specs.List.{enumerate_from, list_all, list_any}
 use Rattle.std.specs.Option.{option_and_then, option_map_or}
-use Rattle.std.proofs.lemmas.Bool.{cases_eq, eq-eqb, ne_eqb}
-use Rattle.std.proofs.lemmas.List.Folds.{list_all-append}
 use Rattle.pls_model.specs.declared.row.State.{State}
 use Rattle.pls_scheme.specs.Reading.{Read, ReadPort, port_with, reading}
+use Rattle.pls_scheme.proofs.MorePorts.{all_more, at_pointer_more, numbered_from_0, zip-take}
 use Rattle.pls_boruvka.specs.declared.level.Level.{Level}
 use Rattle.pls_mst.specs.declared.comparing.Between.{Between}
 use Rattle.pls_mst.specs.declared.comparing.Compared.{Compared}
@@ -18,73 +17,6 @@ use Rattle.pls_mst.specs.inner.Comparing.{compared, edge_between}
 use Rattle.pls_mst.specs.inner.Gathering.{between, gathered, gathered_more}
 use Rattle.pls_mst.specs.inner.Reading.{head_said, levels_off}
 use Rattle.pls_mst.proofs.Levels.{levels_off-take}
-
--- a test of all with one more
-all_more : {X : Type 0} (test : X → Bool) (items : List X) (last : X)
-    → list_all test (items ++ last ∷ []) ≡ (list_all test items && test last)
-all_more test items last = list_all-append test items (last ∷ [])
-    ∙ ap (λ (b : Bool). list_all test items && b) (and_true (test last))
-  where
-    and_true : (b : Bool) → (b && true) ≡ b
-    and_true true = refl
-    and_true false = refl
-
--- the last of numbered items has the number of those before it
-numbered_more : {X : Type 0} (first : ℕ) (items : List X) (last : X)
-    → enumerate_from first (items ++ last ∷ [])
-    ≡ enumerate_from first items ++ (first + length items, last) ∷ []
-numbered_more {X} first [] last =
-    let here : first ≡ first + 0 = omega arith in
-    ap (λ (number : ℕ). let one : ℕ × X = (number, last) in one ∷ []) here
-numbered_more {X} first (item ∷ items) last =
-    let here : first + 1 + length items ≡ first + suc (length items) = omega arith in
-    let one : ℕ × X = (first, item) in
-    ap (λ (rest : List (ℕ × X)). one ∷ rest) (numbered_more (first + 1) items last
-    ∙ ap (λ (number : ℕ). let one : ℕ × X = (number, last) in
-    enumerate_from (first + 1) items ++ one ∷ []) here)
-
-numbered_from_0 : {X : Type 0} (items : List X) (last : X)
-    → enumerate_from 0 (items ++ last ∷ []) ≡ enumerate_from 0 items ++ (length items, last) ∷ []
-numbered_from_0 {X} items last =
-    let here : 0 + length items ≡ length items = omega arith in
-    numbered_more 0 items last ∙ ap (λ (number : ℕ). let one : ℕ × X = (number, last) in
-    enumerate_from 0 items ++ one ∷ []) here
-
--- what stands at the place that a pointer names, with one more item
-at_pointer_more : {X : Type 0} (items : List X) (last : X) (up : Option ℕ)
-    → option_and_then (slice_get (items ++ last ∷ [])) up
-    ≡ (if is_pointer up (length items) then Some last else option_and_then (slice_get items) up)
-at_pointer_more items last None = refl
-at_pointer_more {X} items last (Some number) = at items number
-  where
-    at : (items : List X) (number : ℕ) → slice_get (items ++ last ∷ []) number
-        ≡ (if number == length items then Some last else slice_get items number)
-    at [] zero = refl
-    at [] (suc number) = rw (ne_eqb (suc number) 0 (λ same. absurd (cc))) refl
-    at (first ∷ items) zero = rw (ne_eqb 0 (suc (length items)) (λ same. absurd (cc))) refl
-    at (first ∷ items) (suc number) =
-        at items number
-        ∙ ap (λ (here : Bool). if here then Some last else slice_get items number)
-        (by (cases_eq number (length items)))
-      where
-        by : ((number ≡ length items) ⊎ (number ≢ length items))
-            → (number == length items) ≡ (suc number == suc (length items))
-        by (inl same) = eq-eqb number (length items) same
-            ∙ sym (eq-eqb (suc number) (suc (length items)) (ap suc same))
-        by (inr apart) = ne_eqb number (length items) apart
-            ∙ sym (ne_eqb (suc number) (suc (length items)) (λ same. apart (omega (arith, same))))
-
--- of two lists side by side only so much counts as the shorter has
-pub zip-take : {X Y : Type 0} (count : ℕ) (xs : List X) (ys : List Y)
-    → count ≡ min (length xs) (length ys) → zip (take count xs) (take count ys) ≡ zip xs ys
-zip-take zero [] ys is = refl
-zip-take zero (x ∷ xs) [] is = refl
-zip-take zero (x ∷ xs) (y ∷ ys) is = absurd (omega (arith, is))
-zip-take (suc count) [] ys is = absurd (omega (arith, is))
-zip-take (suc count) (x ∷ xs) [] is = absurd (omega (arith, is))
-zip-take {X} {Y} (suc count) (x ∷ xs) (y ∷ ys) is =
-    let one : X × Y = (x, y) in
-    ap (λ (rest : List (X × Y)). one ∷ rest) (zip-take count xs ys (omega (arith, is)))
 
 -- what levels say that stand side by side
 abbrev beside_said : Between → ℕ → List (Level × Level) → Compared
@@ -121,7 +53,8 @@ module _ (id : ℕ) (state : State) (own : MstLabel) (ports : List (ReadPort Mst
       else option_map_or test (option_and_then (slice_get ports) state.up) true)
   at_target test =
       ap (λ (read : Option (ReadPort MstLabel)). option_map_or test read true)
-      (at_pointer_more ports port state.up) ∙ by here
+      (at_pointer_more is_pointer (λ place. refl) (λ number place. refl) ports port state.up)
+      ∙ by here
     where
       by : (here : Bool) → option_map_or test
           (if here then Some port else option_and_then (slice_get ports) state.up) true

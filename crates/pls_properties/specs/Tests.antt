@@ -4,7 +4,7 @@ use Rattle.std.specs.List.{list_all, list_any}
 use Rattle.pls_model.specs.declared.row.NodeRow.{NodeRow}
 use Rattle.pls_model.specs.Configuration.{ids_of}
 use Rattle.pls_model.specs.Walk.{Edge, edges_of}
-use Rattle.pls_facts.proofs.Classes.{class_of}
+use Rattle.pls_facts.specs.Classes.{class_of}
 use Rattle.pls_properties.specs.Bridgeless.{without}
 
 -- some edge leads from u to a node that passes

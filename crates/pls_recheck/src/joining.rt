@@ -87,10 +87,7 @@ fn join_with_label(
     net.len();
     net.join(id, mark, num)?;
     net.len();
-    let Some(i) = net.place_of(id) else {
-        // It has just joined.
-        return Err(EditError::NoMemory);
-    };
+    let i = net.place_of(id).unwrap();
     if labels.insert(i).is_err() {
         take_back(net, id);
         return Err(EditError::NoMemory);

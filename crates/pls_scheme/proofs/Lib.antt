@@ -8,3 +8,4 @@ pub mod Markings
 pub mod MorePorts
 pub mod Passing
 pub mod SaidPorts
+pub mod Storing

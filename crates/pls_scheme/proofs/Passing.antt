@@ -132,7 +132,7 @@ module _ {L G : Type 0} (read : List Bool → Option L) (glance : L → G) where
       ap (λ (ports : List SeenPort). seen_above read glance ports up)
       (take_more ports place port within ∙ ap (λ (last : SeenPort). take place ports ++ last ∷ [])
       (get_or_from_slice_get ports place port port at))
-      ∙ ap see (at_pointer_more (take place ports) port up)
+      ∙ ap see (at_pointer_more is_place (λ place. refl) (λ number place. refl) (take place ports) port up)
       ∙ by (is_place up (length (take place ports))) (is_place up place) (ap (is_place up) many)
     where
       by : (one other : Bool) → one ≡ other

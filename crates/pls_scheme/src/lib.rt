@@ -18,7 +18,9 @@
 //! `Theorem` what makes rules and a marker a scheme, `Marked` marked labels, `SchemeLaws` the laws.
 //! Proofs may cite `specs/laws/` (`Saying`: rounds in which each label says what a function of the
 //! identity says; `CodeLaws`: labels of numbers), and of `proofs/` what is right for each node
-//! (`Markings`), labels of numbers within limits (`Fitting`) and tests at the ports (`SaidPorts`).
+//! (`Markings`), labels of numbers within limits (`Fitting`), labels that are stored one after the
+//! other (`Storing`), tests at the ports (`SaidPorts`) and what is read with one more port
+//! (`MorePorts`).
 #![tactic(auto)]
 
 mod basic;

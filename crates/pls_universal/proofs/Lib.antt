@@ -1,6 +1,5 @@
 pub mod Adding
 pub mod Readings
-pub mod Storing
 pub mod Agreeing
 pub mod Judged
 pub mod Buildable

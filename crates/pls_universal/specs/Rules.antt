@@ -8,7 +8,7 @@ use Rattle.pls_model.specs.declared.row.State.{State}
 use Rattle.pls_model.specs.declared.row.NodeRow.{NodeRow}
 use Rattle.pls_model.specs.Configuration.{IsNetwork, ids_of, ports_in, refusal_of, row_of}
 use Rattle.pls_model.specs.Walk.{IsConnected, edges_of}
-use Rattle.pls_facts.proofs.Classes.{class_of}
+use Rattle.pls_facts.specs.Classes.{class_of}
 use Rattle.pls_scheme.specs.Reading.{Read, ReadPort}
 use Rattle.pls_universal.specs.declared.map.MapLabel.{MapLabel}
 use Rattle.pls_universal.specs.declared.map.MapRow.{MapRow}

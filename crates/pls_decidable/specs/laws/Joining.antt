@@ -1,64 +1,20 @@
--- Edges that join all nodes: nodes of one class are joined, edges that join all nodes and are as few
--- as a tree has are distinct, and the lists of such edges are the spanning trees.
-use Rattle.std.proofs.Common.{◌≡◌, ◌∙◌, ◌+◌, ◌-◌, ◌≤◌, ◌==◌, ◌↔◌, ℕ, inl, inr, Bool, true, false, cond, List, [], ◌∷◌, length, get_or, refl, sym, subst, arith, Contains, remove}
+-- Edges that join all nodes: the test of that is right, edges that join all nodes and are as few as
+-- a tree has are distinct, and the lists of such edges are the spanning trees.
+use Rattle.std.proofs.Common.{◌≡◌, ◌∙◌, ◌+◌, ◌-◌, ◌≤◌, ◌==◌, ◌↔◌, ℕ, inl, inr, Bool, List, length, get_or, sym, subst, arith, Contains, remove}
 use Rattle.std.specs.List.{list_all}
 use Rattle.std.proofs.lemmas.Bool.{eq-eqb, eqb-true}
 use Rattle.std.proofs.lemmas.List.{get_or_default}
 use Rattle.std.proofs.lemmas.List.Edits.{get_or-remove_below, length-remove}
 use Rattle.pls_model.specs.Walk.{AreJoined, Edge, JoinAll}
-use Rattle.pls_graph.proofs.Joined.{AreJoined-adjacent, AreJoined-through, AreJoined-turned}
-use Rattle.pls_graph.proofs.Members.{Contains-filter, Contains-first, Contains-from_filter, Contains-later}
+use Rattle.pls_graph.proofs.Members.{Contains-filter, Contains-from_filter}
+use Rattle.pls_facts.specs.Classes.{class_of}
 use Rattle.pls_facts.specs.SpanningTree.{AreDistinct, IsSpanningTree}
-use Rattle.pls_facts.proofs.Classes.{class-joined, class_of, one_class}
+use Rattle.pls_facts.proofs.Classes.{class-joined, joined-class, one_class}
 use Rattle.pls_facts.proofs.Distinct.{Contains-remove}
-use Rattle.pls_facts.proofs.Paths.{AreJoined-each}
+use Rattle.pls_facts.proofs.Paths.{AreJoined-among}
 use Rattle.pls_decidable.specs.SearchTests.{all_lists, joins_all, spanning_trees}
 use Rattle.pls_decidable.specs.laws.AllLists.{Contains-all_lists, Contains-from_all_lists}
 use Rattle.pls_decidable.specs.laws.Tested.{Tells, all_tells}
-
--- what edges join, edges join that contain these
-pub AreJoined-among : (edges others : List Edge)
-    → ((edge : Edge) → Contains edges edge → Contains others edge)
-    → (u v : ℕ) → AreJoined edges u v → AreJoined others u v
-AreJoined-among edges others among = AreJoined-each edges others (λ u v adjacent.
-    AreJoined-adjacent others u v (adjacent.0, among adjacent.0 adjacent.1, adjacent.2))
-
--- a node is joined with the one that stands for its class
-class_joins : (edges : List Edge) (u : ℕ) → AreJoined edges u (class_of edges u)
-class_joins [] u = ([], refl)
-class_joins (edge ∷ edges) u =
-    by (class_of edges u == class_of edges edge.a) refl (more u (class_joins edges u))
-    (more edge.a (class_joins edges edge.a)) (more edge.b (class_joins edges edge.b))
-  where
-    more : (w : ℕ) → AreJoined edges w (class_of edges w)
-        → AreJoined (edge ∷ edges) w (class_of edges w)
-    more w = AreJoined-among edges (edge ∷ edges) (λ other in'. Contains-later edge edges other in')
-        w (class_of edges w)
-
-    by : (b : Bool) → (class_of edges u == class_of edges edge.a) ≡ b
-        → AreJoined (edge ∷ edges) u (class_of edges u)
-        → AreJoined (edge ∷ edges) edge.a (class_of edges edge.a)
-        → AreJoined (edge ∷ edges) edge.b (class_of edges edge.b)
-        → AreJoined (edge ∷ edges) u (cond b (class_of edges edge.b) (class_of edges u))
-    by false other here first second = here
-    by true same here first second =
-        AreJoined-through (edge ∷ edges) u edge.a (class_of edges edge.b)
-        (AreJoined-through (edge ∷ edges) u (class_of edges edge.a) edge.a
-        (subst (AreJoined (edge ∷ edges) u)
-        (eqb-true (class_of edges u) (class_of edges edge.a) same) here)
-        (AreJoined-turned (edge ∷ edges) edge.a (class_of edges edge.a) first))
-        (AreJoined-through (edge ∷ edges) edge.a edge.b (class_of edges edge.b)
-        (AreJoined-adjacent (edge ∷ edges) edge.a edge.b
-        (edge, Contains-first edge edges, inl (refl, refl)))
-        second)
-
--- nodes of one class are joined
-pub joined-class : (edges : List Edge) (u v : ℕ) → class_of edges u ≡ class_of edges v
-    → AreJoined edges u v
-joined-class edges u v same =
-    AreJoined-through edges u (class_of edges v) v
-    (subst (AreJoined edges u) same (class_joins edges u))
-    (AreJoined-turned edges v (class_of edges v) (class_joins edges v))
 
 module _ (edges : List Edge) (nodes : List ℕ) where
   -- the test of what they join is right

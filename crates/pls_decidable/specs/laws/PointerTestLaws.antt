@@ -12,6 +12,7 @@ use Rattle.pls_facts.specs.Pointer.{next, Chain, IsChainOf, NoneReturns}
 use Rattle.pls_facts.specs.ShortestPath.{IsShortestPathTree}
 use Rattle.pls_facts.specs.SpanningTree.{IsTree, is_root}
 use Rattle.pls_facts.specs.Weight.{IsDistance, edge_weight, walk_weight}
+use Rattle.pls_facts.proofs.Lists.{all_pass, each_passes}
 use Rattle.pls_facts.proofs.Bounded.{IsChainOf-short, LeadsRound, LeadsRound-long}
 use Rattle.pls_facts.proofs.ChainDepths.{chain_end, chains_fall}
 use Rattle.pls_facts.proofs.Chains.{IsChainOf-never_returns}
@@ -22,7 +23,6 @@ use Rattle.pls_facts.proofs.ShortestPaths.{chain_distance, one_chain, shortest_b
 use Rattle.pls_facts.proofs.Trees.{IsTree-falling, NoneReturns-IsTree}
 use Rattle.pls_facts.proofs.Weights.{FallsByWeight, RisesByWeight, distances_rise, edge_weight-turned, port_weighs}
 use Rattle.pls_decidable.specs.PointerTests.{chain_of, chain_weight, chain_within, forest_test, has_end, has_lightest, is_no_lighter, spt_test, tree_test}
-use Rattle.pls_decidable.specs.laws.Tested.{all_pass, each_passes}
 
 module _ (rows : List NodeRow) where
   -- the nodes make a chain of u, of so many pointers or up to its end

@@ -1,25 +1,13 @@
 -- Answers that are true exactly where a fact holds, and what they tell where they are put together.
-use Rattle.std.proofs.Common.{◌≡◌, ◌↔◌, ◌≤◌, ◌⊎◌, inl, inr, ℕ, ◌==◌, Bool, true, not, ◌&&◌, ◌||◌, List, Contains, get_or}
+use Rattle.std.proofs.Common.{◌≡◌, ◌↔◌, ◌≤◌, ◌⊎◌, inl, inr, ℕ, ◌==◌, Bool, true, not, ◌&&◌, ◌||◌, List, Contains}
 use Rattle.std.specs.Prelude.{nat_le}
 use Rattle.std.specs.List.{list_all, list_any}
 use Rattle.std.proofs.lemmas.Bool.{and_from, and_parts, both_ways, eq-eqb, eqb-true, false_from_ne_true, le-leb, leb-true, not-true, not_from_false, or_cases, or_left, or_right}
-use Rattle.std.proofs.lemmas.List.Elements.{All-contains, Contains-get_or}
-use Rattle.std.proofs.lemmas.List.Sums.{AllPass-from_list_all, list_all-from_AllPass}
-use Rattle.pls_facts.proofs.Lists.{any_passes, passes_any}
+use Rattle.pls_facts.proofs.Lists.{all_pass, any_passes, each_passes, passes_any}
 
 -- the answer is true exactly where the fact holds
 abbrev pub Tells : Bool → Type 0 → Type 0
 Tells answer P = (answer ≡ true) ↔ P
-
--- what all items pass, each does, and the other way round
-module _ {X : Type 0} (test : X → Bool) (xs : List X) where
-  pub each_passes : list_all test xs ≡ true → (x : X) → Contains xs x → test x ≡ true
-  each_passes all x in' =
-      All-contains (λ x. test x ≡ true) xs x (AllPass-from_list_all test xs all) in'
-
-  pub all_pass : ((x : X) → Contains xs x → test x ≡ true) → list_all test xs ≡ true
-  all_pass each = list_all-from_AllPass test xs (λ k d within.
-      each (get_or xs k d) (Contains-get_or xs k d within))
 
 -- where a test of items tells a fact, all items pass it where the fact holds of each, and some item
 -- where it holds of some

@@ -1,31 +1,18 @@
 -- The tests give true exactly where the properties hold.
-use Rattle.std.proofs.Common.{◌≡◌, ◌∙◌, ℕ, zero, suc, ◌≤◌, ◌==◌, ◌&&◌, ◌||◌, ◌↔◌, inl, inr, Bool, true, false, cond, List, [], ◌∷◌, length, get_or, Contains, refl, ap, subst, arith}
+use Rattle.std.proofs.Common.{◌≡◌, ◌∙◌, ℕ, zero, suc, ◌≤◌, ◌==◌, ◌&&◌, ◌||◌, ◌↔◌, inl, inr, Bool, true, List, [], ◌∷◌, length, Contains, refl, ap, arith}
 use Rattle.std.specs.List.{list_all}
 use Rattle.std.proofs.lemmas.Bool.{and_from, and_parts, eq-eqb, eqb-true, or_cases, or_left, or_right}
-use Rattle.std.proofs.lemmas.List.Elements.{All-contains, Contains-get_or}
-use Rattle.std.proofs.lemmas.List.Sums.{AllPass-from_list_all, list_all-from_AllPass}
 use Rattle.pls_model.specs.declared.row.NodeRow.{NodeRow}
 use Rattle.pls_model.specs.Configuration.{ids_of}
-use Rattle.pls_model.specs.Walk.{Adjacent, AreJoined, Edge, JoinAll, Walk, edges_of}
-use Rattle.pls_graph.proofs.Joined.{AreJoined-adjacent, AreJoined-through, AreJoined-turned, along}
-use Rattle.pls_graph.proofs.Members.{Contains-first, Contains-later}
-use Rattle.pls_facts.proofs.Classes.{class-joined, class_of}
-use Rattle.pls_facts.proofs.Lists.{any_passes, passes_any}
+use Rattle.pls_model.specs.Walk.{Adjacent, Edge, JoinAll, Walk, edges_of}
+use Rattle.pls_facts.specs.Classes.{class_of}
+use Rattle.pls_facts.proofs.Classes.{class-joined, joined-class}
+use Rattle.pls_facts.proofs.Lists.{all_pass, any_passes, each_passes, passes_any}
 use Rattle.pls_properties.specs.Diameter.{AreWithin, HasDiameter}
 use Rattle.pls_properties.specs.Bridgeless.{IsBridgeless, without}
 use Rattle.pls_properties.specs.Tests.{any_two, are_classed, bridgeless_test, diameter_test, joins_without, leads_to, walks_within}
 
--- what all items pass, each does, and the other way round
-module _ {X : Type 0} (test : X → Bool) (xs : List X) where
-  each_passes : list_all test xs ≡ true → (x : X) → Contains xs x → test x ≡ true
-  each_passes all x in' =
-      All-contains (λ x. test x ≡ true) xs x (AllPass-from_list_all test xs all) in'
-
-  all_pass : ((x : X) → Contains xs x → test x ≡ true) → list_all test xs ≡ true
-  all_pass each = list_all-from_AllPass test xs (λ k d within.
-      each (get_or xs k d) (Contains-get_or xs k d within))
-
--- so for any two
+-- what all pass, any two pass, and the other way round
 module _ (test : ℕ → ℕ → Bool) (nodes : List ℕ) where
   two_pass : any_two test nodes ≡ true → (u v : ℕ) → Contains nodes u → Contains nodes v
       → test u v ≡ true
@@ -114,52 +101,6 @@ diameter_tested most rows = (
       (λ u v in_u in_v. let near = holds u v in_u in_v in
       finds_walk (edges_of rows) v most u near.0 near.1 near.2),
 )
-
--- with one more edge, what was joined is joined
-joined_more : (edge : Edge) (edges : List Edge) (u v : ℕ) → AreJoined edges u v
-    → AreJoined (edge ∷ edges) u v
-joined_more edge edges u v joined =
-    along edges (AreJoined (edge ∷ edges) u) (λ w x here (other, in', between).
-    AreJoined-through (edge ∷ edges) u w x here (AreJoined-adjacent (edge ∷ edges) w x
-    (other, Contains-later edge edges other in', between))) u v joined ([], refl)
-
--- a node is joined with the one that stands for its class
-class_joins : (edges : List Edge) (u : ℕ) → AreJoined edges u (class_of edges u)
-class_joins [] u = ([], refl)
-class_joins (edge ∷ edges) u =
-    by (class_of edges u == class_of edges edge.a) refl (class_joins edges u)
-    (class_joins edges edge.a) (class_joins edges edge.b)
-  where
-    all : List Edge
-    all = edge ∷ edges
-
-    by : (b : Bool) → (class_of edges u == class_of edges edge.a) ≡ b
-        → AreJoined edges u (class_of edges u)
-        → AreJoined edges edge.a (class_of edges edge.a)
-        → AreJoined edges edge.b (class_of edges edge.b)
-        → AreJoined (edge ∷ edges) u (cond b (class_of edges edge.b) (class_of edges u))
-    by false other here first second = joined_more edge edges u (class_of edges u) here
-    by true same here first second =
-        let is : class_of edges u ≡ class_of edges edge.a =
-        eqb-true (class_of edges u) (class_of edges edge.a) same in
-        let to_a : AreJoined edges u edge.a =
-        AreJoined-through edges u (class_of edges edge.a) edge.a
-        (subst (AreJoined edges u) is here)
-        (AreJoined-turned edges edge.a (class_of edges edge.a) first) in
-        AreJoined-through (edge ∷ edges) u edge.a (class_of edges edge.b)
-        (joined_more edge edges u edge.a to_a)
-        (AreJoined-through (edge ∷ edges) edge.a edge.b (class_of edges edge.b)
-        (AreJoined-adjacent (edge ∷ edges) edge.a edge.b
-        (edge, Contains-first edge edges, inl (refl, refl)))
-        (joined_more edge edges edge.b (class_of edges edge.b) second))
-
--- nodes of one class are joined
-pub joined-class : (edges : List Edge) (u v : ℕ) → class_of edges u ≡ class_of edges v
-    → AreJoined edges u v
-joined-class edges u v same =
-    AreJoined-through edges u (class_of edges v) v
-    (subst (AreJoined edges u) same (class_joins edges u))
-    (AreJoined-turned edges v (class_of edges v) (class_joins edges v))
 
 -- the test of what edges join is right
 join_tested : (edges : List Edge) (nodes : List ℕ)

@@ -1,6 +1,6 @@
 -- Where each label has its node's identity and the map of the network, the rules hold everywhere in
 -- a connected network with the property.
-use Rattle.std.proofs.Common.{◌≡◌, ◌∙◌, ℕ, suc, ◌-◌, ◌^◌, ◌≤◌, ◌==◌, ◌+◌, inl, inr, Bool, true, false, nat_le, List, [], ◌∷◌, map, length, get_or, Contains, Option, Some, None, is_none, refl, sym, ap, subst, arith}
+use Rattle.std.proofs.Common.{◌≡◌, ◌∙◌, ℕ, suc, ◌-◌, ◌^◌, ◌≤◌, ◌==◌, ◌+◌, Bool, true, false, nat_le, List, [], ◌∷◌, map, length, get_or, Contains, Option, Some, None, is_none, refl, sym, ap, subst, arith}
 use Rattle.std.specs.List.{flat_map, list_all}
 use Rattle.std.specs.Option.{option_map_or}
 use Rattle.std.proofs.lemmas.Bool.{and_from, eq-eqb, le-leb}
@@ -15,8 +15,10 @@ use Rattle.pls_model.specs.declared.row.NodeRow.{NodeRow}
 use Rattle.pls_model.specs.Configuration.{IsNetwork, ids_of, ports_in, refusal_of, row_of}
 use Rattle.pls_model.specs.Walk.{Edge, IsConnected, edges_of}
 use Rattle.pls_graph.specs.Size.{greatest, size_of, weights_of}
-use Rattle.pls_graph.proofs.Members.{Contains-cons_cases, Contains-first, Contains-flat_map, Contains-from_map, Contains-later, Contains-map}
-use Rattle.pls_facts.proofs.Classes.{class-joined, class_of}
+use Rattle.pls_graph.proofs.Members.{Contains-first, Contains-flat_map, Contains-from_map, Contains-later, Contains-map}
+use Rattle.pls_facts.specs.Classes.{class_of}
+use Rattle.pls_facts.proofs.Classes.{class-joined}
+use Rattle.pls_facts.proofs.Greatest.{in_greatest}
 use Rattle.pls_facts.proofs.Neighbours.{neighbour_row, within_greatest}
 use Rattle.pls_facts.proofs.Pointed.{row_of_id}
 use Rattle.pls_scheme.specs.Reading.{port_where, read_where}
@@ -91,15 +93,6 @@ connected-joined rows connected =
     let (u, u_in, is_a) = Contains-from_map (class_of edges) (ids_of rows) a a_in in
     let (v, v_in, is_b) = Contains-from_map (class_of edges) (ids_of rows) b b_in in
     sym is_a ∙ class-joined edges u v (connected u v u_in v_in) ∙ is_b)
-
--- a number of a list is at most the greatest
-pub in_greatest : (numbers : List ℕ) (number : ℕ) → Contains numbers number → number ≤ greatest numbers
-in_greatest [] number in' = absurd (omega (arith, in'.1))
-in_greatest (first ∷ numbers) number in' =
-    elim (Contains-cons_cases first numbers number in') [
-      | inl same ↦ omega (arith, same)
-      | inr later ↦ omega (arith, in_greatest numbers number later)
-    ]
 
 module _ (rows : List NodeRow) (net : IsNetwork rows) (words : AreWords (size_of rows)) where
   id_small : (row : NodeRow) → Contains rows row → is_word row.id ≡ true

@@ -1,5 +1,5 @@
 -- What the single rules say.
-use Rattle.std.proofs.Common.{◌≡◌, ◌∙◌, ℕ, ◌≤◌, ◌==◌, ◌&&◌, inl, inr, Bool, true, false, cond, nat_le, List, [], ◌∷◌, map, length, Contains, Option, Some, None, is_none, refl, sym, ap, subst, arith, All, get_or}
+use Rattle.std.proofs.Common.{◌≡◌, ◌∙◌, ℕ, ◌≤◌, ◌==◌, ◌&&◌, inl, inr, Bool, true, false, nat_le, List, [], ◌∷◌, map, length, Contains, Option, Some, None, is_none, refl, sym, ap, arith, All, get_or}
 use Rattle.std.specs.List.{list_all}
 use Rattle.std.proofs.lemmas.Bool.{eqb-true, leb-true}
 use Rattle.std.proofs.lemmas.List.{length-map}
@@ -10,10 +10,10 @@ use Rattle.pls_model.specs.declared.row.NodeRow.{NodeRow}
 use Rattle.pls_model.specs.declared.refusal.BuildError.{BuildError}
 use Rattle.pls_model.specs.declared.limits.TheConstants.{MAX_NODES, MAX_NUM, MAX_PORTS}
 use Rattle.pls_model.specs.Configuration.{AreWithinLimits, IsNetwork, ids_of, ports_in, refusal_of}
-use Rattle.pls_model.specs.Walk.{AreJoined, Edge, IsConnected, Walk, edges_of}
-use Rattle.pls_graph.proofs.Joined.{AreJoined-adjacent, AreJoined-through, AreJoined-turned}
-use Rattle.pls_graph.proofs.Members.{Contains-cons_cases, Contains-first, Contains-later, Contains-map}
-use Rattle.pls_facts.proofs.Classes.{class_of}
+use Rattle.pls_model.specs.Walk.{IsConnected, edges_of}
+use Rattle.pls_graph.proofs.Members.{Contains-cons_cases, Contains-map}
+use Rattle.pls_facts.specs.Classes.{class_of}
+use Rattle.pls_facts.proofs.Classes.{joined-class}
 use Rattle.pls_universal.specs.declared.map.MapRow.{MapRow}
 use Rattle.pls_universal.specs.Rules.{are_one, is_joined, is_network, is_port_small, is_small, is_within_limits, matched, node_of, nodes_of, same_port, same_record, same_state, same_up}
 
@@ -80,41 +80,6 @@ state-same one other is =
         → make a b c ≡ make d e f
     parts a b c d e f one two three = rw (one, two, three) refl
 
--- a node is joined to the one that stands for it
-joined-class : (edges : List Edge) (node : ℕ) → AreJoined edges node (class_of edges node)
-joined-class [] node = ([], refl)
-joined-class (edge ∷ edges) node = by (joined-class edges)
-    (class_of edges node == class_of edges edge.a) refl
-  where
-    later : (nodes : List ℕ) (u v : ℕ) → Walk edges u nodes v → AreJoined (edge ∷ edges) u v
-    later [] u v same = ([], same)
-    later (next ∷ nodes) u v walk =
-        let (e, in', joins) = walk.0 in
-        AreJoined-through (edge ∷ edges) u next v
-        (AreJoined-adjacent (edge ∷ edges) u next (e, Contains-later edge edges e in', joins))
-        (later nodes next v walk.1)
-
-    onward : (u v : ℕ) → AreJoined edges u v → AreJoined (edge ∷ edges) u v
-    onward u v (nodes, walk) = later nodes u v walk
-
-    by : ((node : ℕ) → AreJoined edges node (class_of edges node))
-        → (moves : Bool) → (class_of edges node == class_of edges edge.a) ≡ moves
-        → AreJoined (edge ∷ edges) node (cond moves (class_of edges edge.b) (class_of edges node))
-    by joined false is = onward node (class_of edges node) (joined node)
-    by joined true is =
-        let same = eqb-true (class_of edges node) (class_of edges edge.a) is in
-        let here : AreJoined (edge ∷ edges) node (class_of edges edge.a) =
-        subst (AreJoined (edge ∷ edges) node) same
-        (onward node (class_of edges node) (joined node)) in
-        let back = AreJoined-turned (edge ∷ edges) edge.a (class_of edges edge.a)
-        (onward edge.a (class_of edges edge.a) (joined edge.a)) in
-        let across = AreJoined-adjacent (edge ∷ edges) edge.a edge.b
-        (edge, Contains-first edge edges, inl (refl, refl)) in
-        let there = onward edge.b (class_of edges edge.b) (joined edge.b) in
-        AreJoined-through (edge ∷ edges) node (class_of edges edge.a) (class_of edges edge.b) here
-        (AreJoined-through (edge ∷ edges) (class_of edges edge.a) edge.a (class_of edges edge.b)
-        back (AreJoined-through (edge ∷ edges) edge.a edge.b (class_of edges edge.b) across there))
-
 -- what is all the same is the same at any two
 one-same : (numbers : List ℕ) → are_one numbers ≡ true → (a b : ℕ) → Contains numbers a
     → Contains numbers b → a ≡ b
@@ -131,14 +96,10 @@ one-same (first ∷ others) all a b one other = sym (to a one) ∙ to b other
 -- where one node stands for all, all are joined
 pub joined-connected : (rows : List NodeRow) → is_joined rows ≡ true → IsConnected rows
 joined-connected rows all u v u_in v_in =
-    let edges : List Edge = edges_of rows in
-    let same : class_of edges u ≡ class_of edges v =
-    one-same (map (class_of edges) (ids_of rows)) all (class_of edges u) (class_of edges v)
-    (Contains-map (class_of edges) (ids_of rows) u u_in)
-    (Contains-map (class_of edges) (ids_of rows) v v_in) in
-    AreJoined-through edges u (class_of edges u) v (joined-class edges u)
-    (subst (λ (class : ℕ). AreJoined edges class v) (sym same)
-    (AreJoined-turned edges v (class_of edges v) (joined-class edges v)))
+    let class : ℕ → ℕ = class_of (edges_of rows) in
+    joined-class (edges_of rows) u v
+    (one-same (map class (ids_of rows)) all (class u) (class v)
+    (Contains-map class (ids_of rows) u u_in) (Contains-map class (ids_of rows) v v_in))
 
 -- no refusal
 none-is : (refusal : Option BuildError) → is_none refusal ≡ true → refusal ≡ None

@@ -1,5 +1,5 @@
 -- The label of a node with the map of its network is no longer than the bound.
-use Rattle.std.proofs.Common.{◌≡◌, ◌∙◌, ℕ, ◌≤◌, ◌+◌, ◌*◌, ◌++◌, Bool, List, [], ◌∷◌, map, flat_map, length, Contains, Option, Some, None, sum_by, refl, ap, subst, arith, suc-mul, length-append}
+use Rattle.std.proofs.Common.{◌≡◌, ◌∙◌, ℕ, ◌≤◌, ◌+◌, ◌*◌, ◌++◌, Bool, List, [], ◌∷◌, map, flat_map, length, Contains, Option, Some, None, refl, ap, subst, arith, suc-mul, length-append}
 use Rattle.std.proofs.Math.Nat.{add-mul}
 use Rattle.std.proofs.lemmas.List.{length-map}
 use Rattle.std.proofs.lemmas.List.Concat.{flat_map-cons}
@@ -14,6 +14,7 @@ use Rattle.pls_model.specs.Configuration.{IsNetwork, ids_of, ports_in}
 use Rattle.pls_graph.specs.Size.{degrees_of, greatest, size_of, weights_of}
 use Rattle.pls_graph.proofs.Members.{Contains-first, Contains-flat_map, Contains-later, Contains-map, place_from_Contains}
 use Rattle.pls_graph.proofs.Placed.{pointer_within}
+use Rattle.pls_facts.proofs.Greatest.{greatest_in_sum, greatest_within, in_greatest}
 use Rattle.pls_facts.proofs.Neighbours.{neighbour_row, within_greatest}
 use Rattle.pls_scheme.specs.Length.{codes_length}
 use Rattle.pls_scheme.specs.Numbers.{codes_of}
@@ -22,30 +23,12 @@ use Rattle.pls_scheme.proofs.Fitting.{AreWithin, within_fits}
 use Rattle.pls_universal.specs.Bound.{longest_map}
 use Rattle.pls_universal.specs.Map.{map_of, numbers_of_label, numbers_of_port, numbers_of_row, port_stated, row_stated, up_stated}
 use Rattle.pls_universal.specs.Reading.{label_with}
-use Rattle.pls_universal.specs.laws.MapMet.{in_greatest}
 use Rattle.pls_universal.specs.laws.NumberLaws.{codes_of-append}
 
 -- the numbers of a record in front of its ports
 abbrev head_of : NodeRow → List ℕ
 head_of row = row.id ∷ up_stated row.state.up ∷ row.state.mark ∷ row.state.num
     ∷ length (map port_stated row.ports) ∷ []
-
--- the greatest of some numbers is at most a limit of all, and at most their sum
-greatest_within : {X : Type 0} (h : X → ℕ) (items : List X) (most : ℕ)
-    → ((x : X) → Contains items x → h x ≤ most) → greatest (map h items) ≤ most
-greatest_within h [] most each = omega arith
-greatest_within h (x ∷ items) most each =
-    let first = each x (Contains-first x items) in
-    let others = greatest_within h items most (λ y in'. each y (Contains-later x items y in')) in
-    omega (arith, first, others)
-
-greatest_in_sum : {X : Type 0} (h : X → ℕ) (items : List X)
-    → greatest (map h items) ≤ sum_by h items
-greatest_in_sum h [] = omega arith
-greatest_in_sum h (x ∷ items) =
-    let others = greatest_in_sum h items in
-    let sum = sum_by-cons h x items in
-    omega (arith, others, sum)
 
 module _ (code : ℕ → List Bool) where
   -- how long the codes of numbers are

@@ -2,7 +2,8 @@ use Rattle.std.proofs.Common.{◌≡◌, ◌∙◌, ℕ, get_or, slice_get, Opti
 use Rattle.std.proofs.lemmas.Option.{same_Some, slice_get-get_or}
 use Rattle.std.specs.Option.{option_map}
 use Rattle.pls_model.specs.declared.row.NodeRow.{NodeRow}
-use Rattle.pls_leader.proofs.Counted.{IsWritten, counted_right, parents_within, written_own, written_parent}
+use Rattle.pls_leader.proofs.Counted.{parents_within}
+use Rattle.pls_leader.proofs.Written.{IsWritten, counted_right, written_own, written_parent}
 use Rattle.pls_leader.proofs.count_scheme.label_at.Goals.{in-Some, in-None}
 use Rattle.pls_leader.proofs.count_scheme.label_at.Goals as goal
 

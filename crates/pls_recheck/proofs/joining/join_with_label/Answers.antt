@@ -1,22 +1,22 @@
-use Rattle.std.proofs.Common.{◌≡◌, ◌∙◌, arith, subst, sym}
+use Rattle.std.proofs.Common.{◌≡◌, ◌∙◌, arith, refl, subst, sym}
 use Rattle.std.proofs.lemmas.Option.{same_Some}
 use Rattle.pls_model.specs.Configuration.{IsNetwork}
 use Rattle.pls_edits.specs.Edited.{place_for}
 use Rattle.pls_recheck.proofs.Coming.{place_inside, joined_and_left, joined_place, may_go}
 use Rattle.pls_recheck.proofs.joining.join_with_label.Goals as goal
 
-pub returns-in_default-clause-unchanged : goal.returns-in_default-clause-unchanged
-returns-in_default-clause-unchanged c =
+pub unwrap-i-requires : goal.unwrap-i-requires
+unwrap-i-requires c =
     let place = joined_place c.args.net.now c.len.ensures.valid c.args.id c.args.mark c.args.num
     c.in_ok-join.ensures.allowed c.join.new.self c.in_ok-join.ensures.ok c.len-2.ensures.valid in
-    absurd (cc (place, c.in_default.ensures))
+    rw (c.place_of.ensures ∙ place) refl
 
 pub insert-requires : goal.insert-requires
 insert-requires c =
     let place = joined_place c.args.net.now c.len.ensures.valid c.args.id c.args.mark c.args.num
     c.in_ok-join.ensures.allowed c.join.new.self c.in_ok-join.ensures.ok c.len-2.ensures.valid in
-    let is : c.in-Some.i ≡ place_for c.args.net.now c.args.id =
-    same_Some _ _ (c.in-Some.ensures ∙ place) in
+    let is : c.unwrap-i.result ≡ place_for c.args.net.now c.args.id =
+    same_Some _ _ (sym c.unwrap-i.ensures ∙ c.place_of.ensures ∙ place) in
     omega (
       arith,
       is,
@@ -47,4 +47,4 @@ pub returns-clause-place : goal.returns-clause-place
 returns-clause-place c =
     let place = joined_place c.args.net.now c.len.ensures.valid c.args.id c.args.mark c.args.num
     c.in_ok-join.ensures.allowed c.join.new.self c.in_ok-join.ensures.ok c.len-2.ensures.valid in
-    same_Some _ _ (c.in-Some.ensures ∙ place)
+    same_Some _ _ (sym c.unwrap-i.ensures ∙ c.place_of.ensures ∙ place)

@@ -1,6 +1,7 @@
 use Rattle.std.proofs.Common.{◌+◌, arith}
 use Rattle.pls_search.specs.inner.Passing.{visits_from}
-use Rattle.pls_search.proofs.Passing.{done_None, done_Some, parent_within, waits_on}
+use Rattle.pls_search.proofs.Passing.{done_None, done_Some, waits_on}
+use Rattle.pls_search.proofs.Totals.{parent_within}
 use Rattle.pls_search.proofs.subtrees.hand_on.Goals as goal
 
 pub returns-then-waits-place-gt0 : goal.returns-then-waits-place-gt0

@@ -1,7 +1,9 @@
 use Rattle.std.proofs.Common.{◌≡◌, ℕ, arith, length, replicate, subst}
 use Rattle.std.proofs.lemmas.List.{get_or-replicate, length-replicate}
 use Rattle.pls_search.specs.inner.Passing.{IsPassing, visits_from}
-use Rattle.pls_search.proofs.Passing.{passed_sizes, passing_start, the_totals}
+use Rattle.pls_search.proofs.Passed.{passed_sizes}
+use Rattle.pls_search.proofs.Passing.{passing_start}
+use Rattle.pls_search.proofs.Totals.{the_totals}
 use Rattle.pls_search.proofs.subtrees.subtree_sizes.Goals as goal
 
 pub loop-place-init : goal.loop-place-init

@@ -1,5 +1,7 @@
 use Rattle.std.proofs.Common.{◌∙◌, arith}
-use Rattle.pls_search.proofs.Passing.{number_any, parent_within, waits_few, waits_more, waits_more_at}
+use Rattle.pls_search.proofs.Below.{number_any}
+use Rattle.pls_search.proofs.Totals.{parent_within}
+use Rattle.pls_search.proofs.Waits.{waits_few, waits_more, waits_more_at}
 use Rattle.pls_search.proofs.subtrees.visits_and_children.Goals.{in-Some, in_default}
 use Rattle.pls_search.proofs.subtrees.visits_and_children.Goals as goal
 

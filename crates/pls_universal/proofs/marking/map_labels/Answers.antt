@@ -3,9 +3,9 @@ use Rattle.std.specs.Option.{option_map}
 use Rattle.std.proofs.lemmas.List.{length-set}
 use Rattle.std.proofs.lemmas.Option.{same_Some, slice_get_within}
 use Rattle.pls_model.specs.declared.row.NodeRow.{NodeRow}
+use Rattle.pls_scheme.proofs.Storing.{right_more}
 use Rattle.pls_universal.specs.Map.{IsMap, IsMapLabel, map_of}
 use Rattle.pls_universal.specs.Reading.{label_with}
-use Rattle.pls_universal.proofs.Storing.{right_more}
 use Rattle.pls_universal.proofs.marking.map_labels.Goals as goal
 
 pub loop-i-preserved : goal.loop-i-preserved

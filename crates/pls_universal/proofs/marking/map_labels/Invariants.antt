@@ -1,7 +1,7 @@
 use Rattle.std.proofs.Common.{◌≡◌, length}
+use Rattle.pls_scheme.proofs.Storing.{AreRightBefore}
 use Rattle.pls_universal.specs.Map.{IsMapLabel, map_of}
 use Rattle.pls_universal.specs.Reading.{label_with}
-use Rattle.pls_universal.proofs.Storing.{AreRightBefore}
 use Rattle.pls_universal.proofs.marking.map_labels.Given as goal
 
 -- the labels before number i are right

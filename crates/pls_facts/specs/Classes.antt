@@ -1,0 +1,14 @@
+-- The classes into which edges put nodes: nodes of one class are exactly those that are joined.
+use Rattle.std.specs.Prelude.{ℕ, ◌==◌, cond, List, [], ◌∷◌}
+use Rattle.pls_model.specs.Walk.{Edge}
+
+-- where a class is put into another: the class of a node, by what it was before
+abbrev pub moved : ℕ → ℕ → ℕ → ℕ
+moved from to class = cond (class == from) to class
+
+-- the node that stands for all nodes of a node's class: without edges each node stands for itself,
+-- and each edge puts the class of its one end into that of the other
+abbrev pub class_of : List Edge → ℕ → ℕ
+class_of [] node = node
+class_of (edge ∷ edges) node =
+    moved (class_of edges edge.a) (class_of edges edge.b) (class_of edges node)
