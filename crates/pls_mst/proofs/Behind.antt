@@ -1,6 +1,6 @@
 -- Levels that are read one after another: what stands behind those that were read, and whether the
 -- bits are a label.
-use Rattle.std.proofs.Common.{◌≡◌, ◌∙◌, ℕ, suc, ◌+◌, ◌-◌, ◌<◌, ◌≤◌, Bool, true, false, List, length, Option, Some, None, option_map, is_some, refl, ap, arith}
+use Rattle.std.proofs.Common.{◌≡◌, ◌∙◌, ℕ, suc, ◌+◌, ◌-◌, ◌<◌, ◌≤◌, Bool, true, false, List, length, Option, Some, None, is_some, refl, ap, arith}
 use Rattle.pls_boruvka.specs.declared.level.Level.{Level}
 use Rattle.pls_mst.specs.declared.label.MstHead.{MstHead}
 use Rattle.pls_mst.specs.declared.label.MstLabel.{MstLabel}
@@ -47,16 +47,7 @@ module _ (takes : List Bool → Option (ℕ × List Bool)) where
 
   module _ (bits : List Bool) (head : MstHead) (rest : List Bool)
       (is : head_off takes bits ≡ Some (head, rest)) where
-    -- where what is behind the front are not the levels that it states, there is no label
-    pub no_label : is_some (levels_in takes head.count rest) ≡ false → mst_label takes bits ≡ None
-    no_label none = rw is (by (levels_in takes head.count rest) none)
-      where
-        by : (levels : Option (List Level)) → is_some levels ≡ false
-            → option_map (label_with head) levels ≡ None
-        by None none = refl
-        by (Some levels) none = absurd (cc)
-
-    -- where they are, there is one
+    -- where what is behind the front are the levels that it states, there is a label
     pub a_label : is_some (levels_in takes head.count rest) ≡ true
         → (label : MstLabel) × (mst_label takes bits ≡ Some label) × (head_said label ≡ head)
         × (levels_in takes (length label.levels) rest ≡ Some label.levels)

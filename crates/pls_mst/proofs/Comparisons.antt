@@ -1,16 +1,21 @@
 -- What the levels of two neighbours say together, level by level.
-use Rattle.std.proofs.Common.{◌≡◌, ◌∙◌, ℕ, suc, ◌==◌, Bool, true, false, ◌&&◌, ◌||◌, List, [], ◌∷◌, Option, Some, refl, sym, ap}
+use Rattle.std.proofs.Common.{◌≡◌, ◌∙◌, ℕ, zero, suc, ◌+◌, ◌-◌, ◌<◌, ◌≤◌, ◌==◌, min, Bool, true, false, ◌&&◌, ◌||◌, List, [], ◌∷◌, ◌++◌, length, take, drop, get_or, Option, Some, None, refl, sym, ap, arith}
+use Rattle.std.specs.List.{list_all, list_any, zip}
 use Rattle.std.proofs.Math.Bool.{or-true}
 use Rattle.std.proofs.lemmas.Bool.{eq-eqb}
+use Rattle.std.proofs.lemmas.List.{length-drop, length-take-le, take-append-drop, take_more}
 use Rattle.pls_facts.proofs.EdgeKeys.{is_same_edge-itself}
 use Rattle.pls_boruvka.specs.Boruvka.{chosen_edge}
 use Rattle.pls_boruvka.specs.declared.level.Level.{Level}
 use Rattle.pls_mst.specs.declared.comparing.Between.{Between}
 use Rattle.pls_mst.specs.declared.comparing.Compared.{Compared}
+use Rattle.pls_mst.specs.declared.glance.TheConstants.{FRONT}
 use Rattle.pls_mst.specs.Labels.{level_off}
 use Rattle.pls_mst.specs.Rules.{chose_least, is_chosen_between, is_named_or_shared}
 use Rattle.pls_mst.specs.inner.Comparing.{both_compared, compared, edge_between}
+use Rattle.pls_mst.specs.inner.Glance.{front_of}
 use Rattle.pls_mst.specs.inner.Reading.{levels_off}
+use Rattle.pls_mst.proofs.Fronts.{front_of-take}
 
 -- of these three
 abbrev three : Bool → Bool → Bool → Compared
@@ -49,6 +54,28 @@ all_said found = same_Compared found (both_compared found (three true true false
 one_number : (number : ℕ) → (number == number) ≡ true
 one_number number = eq-eqb number number refl
 
+-- of two lists side by side only so much counts as the shorter has
+zip-take : {X Y : Type 0} (count : ℕ) (xs : List X) (ys : List Y)
+    → count ≡ min (length xs) (length ys) → zip (take count xs) (take count ys) ≡ zip xs ys
+zip-take zero [] ys is = refl
+zip-take zero (x ∷ xs) [] is = refl
+zip-take zero (x ∷ xs) (y ∷ ys) is = absurd (omega (arith, is))
+zip-take (suc count) [] ys is = absurd (omega (arith, is))
+zip-take (suc count) (x ∷ xs) [] is = absurd (omega (arith, is))
+zip-take {X} {Y} (suc count) (x ∷ xs) (y ∷ ys) is =
+    let one : X × Y = (x, y) in
+    ap (λ (rest : List (X × Y)). one ∷ rest) (zip-take count xs ys (omega (arith, is)))
+
+-- what levels say that stand side by side
+abbrev beside_said : Between → ℕ → List (Level × Level) → Compared
+beside_said between own beside = record {
+  shares = list_all (λ (both : Level × Level). is_named_or_shared own both.0 both.1) beside;
+  least = list_all (λ (both : Level × Level).
+      chose_least (edge_between between) between.outside both.0 both.1) beside;
+  chosen = list_any (λ (both : Level × Level).
+      is_chosen_between (edge_between between) both.0 both.1) beside;
+}
+
 module _ (between : Between) (own : ℕ) where
   -- one level more
   compared-more : (found with_it : Compared) (here there : Level) (mine theirs : List Level)
@@ -68,6 +95,120 @@ module _ (between : Between) (own : ℕ) where
       rest.least ∙ ap (λ (b : Bool). b && rest.least) (sym least))
       (or_assoc found.chosen (is_chosen_between (edge_between between) here there) rest.chosen
       ∙ ap (λ (b : Bool). b || rest.chosen) (sym chosen))
+
+  -- what levels say that are in front, and those behind them
+  compared-append : (mine theirs mine_behind theirs_behind : List Level)
+      → length mine ≡ length theirs
+      → compared between own (mine ++ mine_behind) (theirs ++ theirs_behind)
+      ≡ both_compared (compared between own mine theirs)
+      (compared between own mine_behind theirs_behind)
+  compared-append [] [] mine_behind theirs_behind many = refl
+  compared-append [] (there ∷ theirs) mine_behind theirs_behind many = absurd (omega (arith, many))
+  compared-append (here ∷ mine) [] mine_behind theirs_behind many = absurd (omega (arith, many))
+  compared-append (here ∷ mine) (there ∷ theirs) mine_behind theirs_behind many =
+      let first : Compared = compared between own mine theirs in
+      let rest : Compared = compared between own mine_behind theirs_behind in
+      let all = compared-append mine theirs mine_behind theirs_behind (omega (arith, many)) in
+      let shares : Bool = is_named_or_shared own here there in
+      let least : Bool = chose_least (edge_between between) between.outside here there in
+      let chosen : Bool = is_chosen_between (edge_between between) here there in
+      same_Compared
+      (compared between own (here ∷ mine ++ mine_behind) (there ∷ theirs ++ theirs_behind))
+      (both_compared (compared between own (here ∷ mine) (there ∷ theirs)) rest)
+      (ap (λ (said : Compared). shares && said.shares) all
+      ∙ and_assoc shares first.shares rest.shares)
+      (ap (λ (said : Compared). least && said.least) all
+      ∙ and_assoc least first.least rest.least)
+      (ap (λ (said : Compared). chosen || said.chosen) all
+      ∙ or_assoc chosen first.chosen rest.chosen)
+
+  -- one level more at the end
+  pub compared-last : (place : ℕ) (mine theirs : List Level) (d : Level) (found with_it : Compared)
+      → place < length mine → place < length theirs
+      → found ≡ compared between own (take place mine) (take place theirs)
+      → with_it.shares ≡ (found.shares
+      && is_named_or_shared own (get_or mine place d) (get_or theirs place d))
+      → with_it.least ≡ (found.least && chose_least (edge_between between) between.outside
+      (get_or mine place d) (get_or theirs place d))
+      → with_it.chosen ≡ (found.chosen || is_chosen_between (edge_between between)
+      (get_or mine place d) (get_or theirs place d))
+      → with_it ≡ compared between own (take (place + 1) mine) (take (place + 1) theirs)
+  compared-last place mine theirs d found with_it mine_has theirs_has is shares least chosen =
+      let here : Level = get_or mine place d in
+      let there : Level = get_or theirs place d in
+      let many : length (take place mine) ≡ length (take place theirs) =
+      length-take-le place mine (omega (arith, mine_has))
+      ∙ sym (length-take-le place theirs (omega (arith, theirs_has))) in
+      same_Compared with_it
+      (both_compared found (compared between own (here ∷ []) (there ∷ [])))
+      (shares ∙ ap (λ (b : Bool). found.shares && b) (and_true (is_named_or_shared own here there)))
+      (least ∙ ap (λ (b : Bool). found.least && b)
+      (and_true (chose_least (edge_between between) between.outside here there)))
+      (chosen ∙ ap (λ (b : Bool). found.chosen || b)
+      (or_false (is_chosen_between (edge_between between) here there)))
+      ∙ ap (λ (found : Compared).
+      both_compared found (compared between own (here ∷ []) (there ∷ []))) is
+      ∙ sym (compared-append (take place mine) (take place theirs) (here ∷ []) (there ∷ []) many)
+      ∙ ap (λ (mine : List Level). compared between own mine (take place theirs ++ there ∷ []))
+      (sym (take_more mine place d mine_has))
+      ∙ ap (compared between own (take (place + 1) mine))
+      (sym (take_more theirs place d theirs_has))
+
+  -- only so many levels count as both have
+  compared-take : (count : ℕ) (mine theirs : List Level)
+      → count ≡ min (length mine) (length theirs)
+      → compared between own (take count mine) (take count theirs)
+      ≡ compared between own mine theirs
+  compared-take count mine theirs is =
+      ap (beside_said between own) (zip-take count mine theirs is)
+
+  -- what the first levels say, as they are kept, and those behind them
+  module _ (mine theirs : List Level) (count : ℕ) (is : count ≡ min (length mine) (length theirs))
+    where
+      -- of so many
+      front_said : (first : ℕ) → first ≤ FRONT → first ≤ count
+          → compared between own (take first (front_of mine)) (take first (front_of theirs))
+          ≡ compared between own (take first mine) (take first theirs)
+      front_said first few there =
+          ap (λ (mine : List Level). compared between own mine (take first (front_of theirs)))
+          (front_of-take first mine few (omega (arith, there, is)))
+          ∙ ap (compared between own (take first mine))
+          (front_of-take first theirs few (omega (arith, there, is)))
+
+      -- where there are no others
+      pub all_in_front : (first : ℕ) → first ≡ min count FRONT → count ≤ FRONT
+          → compared between own (take first (front_of mine)) (take first (front_of theirs))
+          ≡ compared between own mine theirs
+      all_in_front first first_is few =
+          front_said first (omega (arith, first_is)) (omega (arith, first_is))
+          ∙ compared-take first mine theirs (omega (arith, first_is, few, is))
+
+      -- where there are
+      pub front_and_behind : (first : ℕ) → first ≡ min count FRONT → FRONT ≤ count
+          → both_compared
+          (compared between own (take first (front_of mine)) (take first (front_of theirs)))
+          (compared between own (take (count - FRONT) (drop FRONT mine))
+          (take (count - FRONT) (drop FRONT theirs))) ≡ compared between own mine theirs
+      front_and_behind first first_is more =
+          let full : first ≡ FRONT = omega (arith, first_is, more) in
+          let mine_left = length-drop FRONT mine in
+          let theirs_left = length-drop FRONT theirs in
+          let many : length (take FRONT mine) ≡ length (take FRONT theirs) =
+          length-take-le FRONT mine (omega (arith, is, more))
+          ∙ sym (length-take-le FRONT theirs (omega (arith, is, more))) in
+          ap (λ (found : Compared). both_compared found
+          (compared between own (take (count - FRONT) (drop FRONT mine))
+          (take (count - FRONT) (drop FRONT theirs))))
+          (front_said first (omega (arith, first_is)) (omega (arith, first_is))
+          ∙ ap (λ (first : ℕ). compared between own (take first mine) (take first theirs)) full)
+          ∙ ap (both_compared (compared between own (take FRONT mine) (take FRONT theirs)))
+          (compared-take (count - FRONT) (drop FRONT mine) (drop FRONT theirs)
+          (omega (arith, is, more, mine_left, theirs_left)))
+          ∙ sym (compared-append (take FRONT mine) (take FRONT theirs) (drop FRONT mine)
+          (drop FRONT theirs) many)
+          ∙ ap (λ (mine : List Level). compared between own mine
+          (take FRONT theirs ++ drop FRONT theirs)) (take-append-drop FRONT mine)
+          ∙ ap (compared between own mine) (take-append-drop FRONT theirs)
 
   -- levels that are the same say no more: each fragment is that of both
   compared-same : (levels : List Level) → compared between own levels levels ≡ three true true false
@@ -90,6 +231,19 @@ module _ (between : Between) (own : ℕ) where
     same_left same = all_said found
         ∙ ap (both_compared found) (sym (compared-same (levels_off takes left mine)))
         ∙ ap (λ (theirs : List Bool). both_compared found (left_say takes left mine theirs)) same
+
+    -- nor does it say more where one has none
+    pub none_here : level_off takes mine ≡ None
+        → found ≡ both_compared found (left_say takes (suc left) mine theirs)
+    none_here none = rw none (all_said found)
+
+    pub none_there : level_off takes theirs ≡ None
+        → found ≡ both_compared found (left_say takes (suc left) mine theirs)
+    none_there none = rw none (by (levels_off takes (suc left) mine))
+      where
+        by : (levels : List Level) → found ≡ both_compared found (compared between own levels [])
+        by [] = all_said found
+        by (level ∷ levels) = all_said found
 
     -- both have one
     pub both_there : (with_it : Compared) (here there : Level) (mine_left theirs_left : List Bool)

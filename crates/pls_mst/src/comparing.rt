@@ -1,17 +1,21 @@
 //! The levels of a node and those of a neighbour, side by side.
 
-ghost use Rattle.std.specs.Prelude.{◌≡◌, ℕ, ◌==◌, nat_lt, min, true, ◌&&◌, ◌||◌, IfSome};
-ghost use Rattle.std.specs.Option.{is_some};
+ghost use Rattle.std.specs.Prelude.{◌≡◌, ℕ, ◌≤◌, ◌==◌, nat_lt, ◌&&◌, ◌||◌, take, Some};
 ghost use Rattle.pls_facts.specs.EdgeOrder.{edge_key, is_same_edge};
 ghost use Rattle.pls_boruvka.specs.Boruvka.{chosen_edge};
-ghost use Rattle.pls_mst.specs.Labels.{levels_in};
+ghost use Rattle.pls_mst.specs.declared.glance.TheConstants.{FRONT};
+ghost use Rattle.pls_mst.specs.declared.label.MstLabel.{MstLabel};
+ghost use Rattle.pls_mst.specs.Labels.{mst_label};
 ghost use Rattle.pls_mst.specs.Rules.{chose_least, is_at_most, is_chosen_between, is_named_or_shared};
 ghost use Rattle.pls_mst.specs.inner.Comparing.{both_compared, compared, edge_between};
+ghost use Rattle.pls_mst.specs.inner.Glance.{glance_of};
 ghost use Rattle.pls_mst.specs.inner.Reading.{levels_off};
 
-use crate::reading::{are_levels, read_level};
+use crate::glance::{FRONT, MstGlance, behind_front, in_front};
+use crate::reading::read_level;
 use pls_bits::{Cursor, NumCode};
 use pls_boruvka::Level;
+use pls_scheme::Looked;
 
 /// The edge between a node and a neighbour.
 #[derive(Clone, Copy, Debug, PartialEq, Eq)]
@@ -36,45 +40,85 @@ pub struct Compared {
     pub(crate) chosen: bool,
 }
 
-// What the levels of a node and of a neighbour say together, as far as there are both, or `None`
-// where the bits of the neighbour are not so many levels and nothing more. Behind the first fragment
-// that both are in, right labels are the same: there the rests are compared as bits, once.
+// What the levels of two labels that were looked at say together, as far as there are both: the
+// first of them as they are kept, those behind as they lie in the bits.
 pub(crate) fn compare_levels<C: NumCode>(
-    mine: &mut Cursor<'_>,
-    theirs: &mut Cursor<'_>,
-    own_count: u64,
-    count: u64,
+    mine: &Looked<'_, MstGlance>,
+    theirs: &Looked<'_, MstGlance>,
+    between: &Between,
+) -> Compared
+    ensures { (own other : MstLabel) → mst_label C.takes mine.now.bits.now ≡ Some own
+        → glance_of own ≡ mine.now.glance.now
+        → mst_label C.takes theirs.now.bits.now ≡ Some other
+        → glance_of other ≡ theirs.now.glance.now
+        → result ≡ compared between.now own.own own.levels other.levels }
+{
+    let MstGlance { head, front } = mine.glance;
+    let shared = head.count.min(theirs.glance.head.count);
+    let first = in_front(shared);
+    let found = compare_fronts(front, &theirs.glance.front, first, between, head.own);
+    if shared <= FRONT as u64 {
+        return found;
+    }
+    let mut here = behind_front::<C>(mine.bits);
+    let mut there = behind_front::<C>(theirs.bits);
+    let left = shared - FRONT as u64;
+    compare_behind::<C>(found, &mut here, &mut there, left, between, head.own)
+}
+
+// What the first levels of a node and of a neighbour say together, so many of them.
+fn compare_fronts(
+    mine: &[Level; FRONT],
+    theirs: &[Level; FRONT],
+    count: usize,
     between: &Between,
     own: u64,
-) -> Option<Compared>
-    ensures found { IfSome result (λ both. both ≡ compared between.now own
-        (levels_off C.takes (min own_count count) mine.old)
-        (levels_off C.takes (min own_count count) theirs.old)) }
-    ensures valid { is_some (levels_in C.takes own_count mine.old) ≡ true
-        → is_some result ≡ is_some (levels_in C.takes count theirs.old) }
+) -> Compared
+    requires { count ≤ FRONT }
+    ensures { result ≡ compared between.now own (take count mine.now) (take count theirs.now) }
 {
-    let shared = own_count.min(count);
     let mut found = Compared {
         shares: true,
         least: true,
         chosen: false,
     };
-    let mut apart = own_count == count;
-    for _ in 0..shared {
-        let here = read_level::<C>(mine)?;
-        let there = read_level::<C>(theirs)?;
+    for place in 0..count {
+        found = with_level(found, between, own, &mine[place], &theirs[place]);
+    }
+    found
+}
+
+// What is known of the levels so far and of so many behind them, as far as there are both. Behind
+// the first fragment that both are in, right labels are the same: there the rests are compared as
+// bits, once.
+fn compare_behind<C: NumCode>(
+    before: Compared,
+    mine: &mut Cursor<'_>,
+    theirs: &mut Cursor<'_>,
+    count: u64,
+    between: &Between,
+    own: u64,
+) -> Compared
+    ensures { result ≡ both_compared before (compared between.now own
+        (levels_off C.takes count mine.old) (levels_off C.takes count theirs.old)) }
+{
+    let mut found = before;
+    let mut apart = true;
+    for _ in 0..count {
+        let Some(here) = read_level::<C>(mine) else {
+            return found;
+        };
+        let Some(there) = read_level::<C>(theirs) else {
+            return found;
+        };
         found = with_level(found, between, own, &here, &there);
         let meet = apart && here.fragment == there.fragment;
         if meet && mine.rest().equal(theirs.rest()) {
-            return Some(found);
+            return found;
         }
         apart = apart && !meet;
     }
-    if are_levels::<C>(theirs, count - shared) {
-        Some(found)
-    } else {
-        None
-    }
+    found
 }
 
 // What is known of the levels so far and of one more.

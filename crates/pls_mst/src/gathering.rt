@@ -1,27 +1,24 @@
 //! What a node gathers of its ports, one after another.
 
-ghost use Rattle.std.specs.Prelude.{◌≡◌, ℕ, ◌==◌, ◌+◌, ◌++◌, List, [], ◌∷◌, ◌&&◌, Some, length, option_map, if◌then◌else◌};
-ghost use Rattle.std.specs.List.{list_all};
+ghost use Rattle.std.specs.Prelude.{◌≡◌, ℕ, ◌==◌, ◌+◌, ◌++◌, List, [], ◌∷◌, ◌&&◌, Some, length, if◌then◌else◌};
 ghost use Rattle.pls_model.specs.declared.row.State.{State};
 ghost use Rattle.pls_scheme.specs.Reading.{ReadPort, port_with, reading};
 ghost use Rattle.pls_mst.specs.declared.label.MstLabel.{MstLabel};
 ghost use Rattle.pls_mst.specs.Labels.{mst_label};
 ghost use Rattle.pls_mst.specs.Rules.{is_pointer, mst_rules};
 ghost use Rattle.pls_mst.specs.inner.Gathering.{between, gathered, gathered_more};
-ghost use Rattle.pls_mst.specs.inner.Reading.{head_said};
+ghost use Rattle.pls_mst.specs.inner.Glance.{glance_of};
 
 use crate::comparing::{Between, Compared, compare_levels};
+use crate::glance::{MstGlance, names_all};
 use crate::label::MstHead;
-use crate::reading::{levels_of, names_all, read_head};
-use pls_bits::{Bits, NumCode};
+use pls_bits::NumCode;
 use pls_model::State;
-use pls_scheme::is_one_more;
+use pls_scheme::{Looked, is_one_more};
 
-/// What the own label says in front of its levels, and which rules on the ports hold at those so
-/// far.
+/// Which rules on the ports hold at those so far.
 #[derive(Clone, Copy, Debug, PartialEq, Eq)]
 pub struct Gathered {
-    pub(crate) own: MstHead,
     // The node is one deeper than the one that it points at, which is its parent.
     pub(crate) follows: bool,
     // The neighbours name the own root and have as many levels.
@@ -36,12 +33,11 @@ pub struct Gathered {
 
 impl Gathered {
     // Before the first port.
-    pub(crate) fn before(own: MstHead) -> Gathered
-        ensures { (id : ℕ) (state : State) (label : MstLabel) → head_said label ≡ own
+    pub(crate) fn before() -> Gathered
+        ensures { (id : ℕ) (state : State) (label : MstLabel)
             → result ≡ gathered (reading id state label []) }
     {
         Gathered {
-            own,
             follows: true,
             agrees: true,
             shares: true,
@@ -51,11 +47,16 @@ impl Gathered {
     }
 
     // With one more port, which the pointer is or not.
-    pub(crate) fn with(self, pointer: bool, theirs: &MstHead, both: Compared) -> Gathered
-        ensures { result ≡ gathered_more pointer theirs.now both self }
+    pub(crate) fn with(
+        self,
+        pointer: bool,
+        own: &MstHead,
+        theirs: &MstHead,
+        both: Compared,
+    ) -> Gathered
+        ensures { result ≡ gathered_more pointer own.now theirs.now both self }
     {
         let Gathered {
-            own,
             follows,
             agrees,
             shares,
@@ -68,8 +69,7 @@ impl Gathered {
             chosen: was_chosen,
         } = both;
         Gathered {
-            own,
-            follows: one_of(pointer, follows_above(&own, theirs), follows),
+            follows: one_of(pointer, follows_above(own, theirs), follows),
             agrees: agrees && (theirs.root == own.root && theirs.count == own.count),
             shares: one_of(pointer, shared, shares),
             least: least && chose_least,
@@ -79,15 +79,21 @@ impl Gathered {
 
     // Which rules hold, of a node with this identity, state and label that has gathered all its
     // ports.
-    pub(crate) fn rules<C: NumCode>(&self, id: u32, state: State, own: &Bits<'_>) -> [bool; 5]
+    pub(crate) fn rules<C: NumCode>(
+        &self,
+        id: u32,
+        state: State,
+        own: &Looked<'_, MstGlance>,
+    ) -> [bool; 5]
         ensures { (mine : MstLabel) (ports : List (ReadPort MstLabel))
-            → mst_label C.takes own.now ≡ Some mine
+            → mst_label C.takes own.now.bits.now ≡ Some mine
+            → glance_of mine ≡ own.now.glance.now
             → self.now ≡ gathered (reading id state mine ports)
             → result ≡ mst_rules (reading id state mine ports) }
     {
-        let head = &self.own;
+        let head = &own.glance.head;
         let points = state.up.is_some();
-        let names = points || names_all::<C>(own, head.count, head.own);
+        let names = points || names_all::<C>(own);
         let is_root = head.depth == 0 && (head.root == u64::from(id) && head.parent == head.own);
         [
             head.own == u64::from(id) && ((points || is_root) && self.follows),
@@ -99,37 +105,28 @@ impl Gathered {
     }
 }
 
-// What is gathered with one more port, the one at this place, whose neighbour has these bits, or
-// `None` where they are no label. They are read once, and the own levels beside theirs.
+// What is gathered with one more port, the one at this place, whose neighbour's label was looked at
+// too.
 pub(crate) fn with_port<C: NumCode>(
     up: Option<u32>,
-    own: &Bits<'_>,
+    own: &Looked<'_, MstGlance>,
     before: Gathered,
     place: usize,
     weight: u32,
-    bits: &Bits<'_>,
-) -> Option<Gathered>
-    ensures { (id : ℕ) (state : State) (mine : MstLabel) (ports : List (ReadPort MstLabel))
-        → state.up ≡ up → length ports ≡ place → mst_label C.takes own.now ≡ Some mine
+    label: &Looked<'_, MstGlance>,
+) -> Gathered
+    ensures { (id : ℕ) (state : State) (mine theirs : MstLabel) (ports : List (ReadPort MstLabel))
+        → state.up ≡ up → length ports ≡ place
+        → mst_label C.takes own.now.bits.now ≡ Some mine → glance_of mine ≡ own.now.glance.now
+        → mst_label C.takes label.now.bits.now ≡ Some theirs
+        → glance_of theirs ≡ label.now.glance.now
         → before ≡ gathered (reading id state mine ports)
-        → result ≡ option_map (λ theirs. gathered
-        (reading id state mine (ports ++ port_with weight theirs ∷ [])))
-        (mst_label C.takes bits.now) }
+        → result ≡ gathered (reading id state mine (ports ++ port_with weight theirs ∷ [])) }
 {
-    let mut theirs = bits.cursor();
-    let head = read_head::<C>(&mut theirs)?;
     let pointer = is_pointer(up, place);
-    let between = edge_to(pointer, weight, &before.own, &head);
-    let mut mine = levels_of::<C>(own);
-    let both = compare_levels::<C>(
-        &mut mine,
-        &mut theirs,
-        before.own.count,
-        head.count,
-        &between,
-        before.own.own,
-    )?;
-    Some(before.with(pointer, &head, both))
+    let between = edge_to(pointer, weight, &own.glance.head, &label.glance.head);
+    let both = compare_levels::<C>(own, label, &between);
+    before.with(pointer, &own.glance.head, &label.glance.head, both)
 }
 
 // The edge between a node and a neighbour, which it points at or not.

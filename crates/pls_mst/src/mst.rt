@@ -1,14 +1,13 @@
 //! The rules of the scheme `mst`: a label says where the node stands in the tree, and for each
-//! level its fragment and the edge that the fragment chose. It is judged where it lies, in one pass
-//! over the ports: the levels of the node and of each neighbour are compared side by side.
+//! level its fragment and the edge that the fragment chose. Each label is looked at once; then, in
+//! one pass over the ports, the levels of the node and of each neighbour are compared side by side.
 
 use crate::gathering::{Gathered, with_port};
+use crate::glance::{MstGlance, glance_at};
 use crate::layout::MstLayout;
-use crate::reading::head_in;
-use pls_bits::NumCode;
-use pls_model::Verdict;
-use pls_scheme::{Basic, Judgement, JudgesInPlace, judged_from};
-use pls_view::{PortView, View};
+use pls_bits::{Bits, NumCode};
+use pls_model::{State, Verdict};
+use pls_scheme::{Basic, Judgement, JudgesInPlace, Looked, judged_from};
 use std::marker::PhantomData;
 
 /// The scheme of spanning trees of least weight, whose labels are written in the number code `C`.
@@ -36,34 +35,44 @@ impl<C: NumCode> Judgement for MstRules<C> {
 
 impl<C: NumCode> JudgesInPlace for MstRules<C> {
     ghost use Rattle.pls_mst.specs.inner.Gathering.{gathered};
+    ghost use Rattle.pls_mst.specs.inner.Glance.{glance_of};
+
+    type Glance = MstGlance;
 
     type Tally = Gathered;
 
+    ghost glance = { λ _ label. glance_of label };
+
     ghost gathered = { λ _ view. gathered view };
 
-    fn open(&self, view: &View<'_>) -> Option<Gathered> {
-        let own = head_in::<C>(&view.own)?;
-        Some(Gathered::before(own))
+    fn look(&self, bits: &Bits<'_>) -> Option<MstGlance> {
+        glance_at::<C>(bits)
+    }
+
+    fn open(&self, _own: &MstGlance) -> Gathered {
+        Gathered::before()
     }
 
     fn pass(
         &self,
-        view: &View<'_>,
+        up: Option<u32>,
+        own: &Looked<'_, MstGlance>,
         tally: Gathered,
         place: usize,
-        port: &PortView<'_>,
-    ) -> Option<Gathered> {
-        with_port::<C>(
-            view.state.up,
-            &view.own,
-            tally,
-            place,
-            port.weight,
-            &port.label,
-        )
+        weight: u32,
+        label: &Looked<'_, MstGlance>,
+    ) -> Gathered {
+        with_port::<C>(up, own, tally, place, weight, label)
     }
 
-    fn close(&self, view: &View<'_>, tally: Gathered) -> Verdict {
-        judged_from(3, &tally.rules::<C>(view.id, view.state, &view.own))
+    fn close(
+        &self,
+        id: u32,
+        state: State,
+        own: &Looked<'_, MstGlance>,
+        _above: Option<&MstGlance>,
+        tally: Gathered,
+    ) -> Verdict {
+        judged_from(3, &tally.rules::<C>(id, state, own))
     }
 }

@@ -6,7 +6,6 @@ ghost use Rattle.std.specs.List.{list_all};
 ghost use Rattle.std.specs.Option.{is_some};
 ghost use Rattle.pls_mst.specs.declared.label.MstLabel.{MstLabel};
 ghost use Rattle.pls_mst.specs.Labels.{head_off, level_off, levels_in, mst_label};
-ghost use Rattle.pls_mst.specs.Rules.{names_all_fragments};
 ghost use Rattle.pls_mst.specs.inner.Reading.{head_said, levels_off};
 
 use crate::label::MstHead;
@@ -92,17 +91,8 @@ pub(crate) fn are_levels<C: NumCode>(cursor: &mut Cursor<'_>, count: u64) -> boo
     cursor.rest().is_empty()
 }
 
-// Whether each of the levels of a label, so many, has the fragment of this name.
-pub(crate) fn names_all<C: NumCode>(bits: &Bits<'_>, count: u64, own: u64) -> bool
-    ensures { (label : MstLabel) → mst_label C.takes bits.now ≡ Some label
-        → length label.levels ≡ count → label.own ≡ own → result ≡ names_all_fragments label }
-{
-    let mut cursor = levels_of::<C>(bits);
-    all_have::<C>(&mut cursor, count, own)
-}
-
 // Whether each of so many levels has the fragment of this name. It stops at the first that has not.
-fn all_have<C: NumCode>(cursor: &mut Cursor<'_>, count: u64, own: u64) -> bool
+pub(crate) fn all_have<C: NumCode>(cursor: &mut Cursor<'_>, count: u64, own: u64) -> bool
     ensures { result ≡ list_all (λ level. level.fragment == own)
         (levels_off C.takes count cursor.old) }
 {

@@ -1,6 +1,6 @@
 -- Lists with one more item, as what is read of a node is with one more port.
-use Rattle.std.proofs.Common.{◌≡◌, ◌≢◌, ◌∙◌, ◌⊎◌, inl, inr, arith, ℕ, zero, suc, ◌+◌, ◌==◌, min, Bool, true, false, ◌&&◌, if◌then◌else◌, List, [], ◌∷◌, ◌++◌, length, take, Option, Some, None, slice_get, refl, sym, ap}
-use Rattle.std.specs.List.{enumerate_from, list_all, zip}
+use Rattle.std.proofs.Common.{◌≡◌, ◌≢◌, ◌∙◌, ◌⊎◌, inl, inr, arith, ℕ, zero, suc, ◌+◌, ◌==◌, Bool, true, false, ◌&&◌, if◌then◌else◌, List, [], ◌∷◌, ◌++◌, length, Option, Some, None, slice_get, refl, sym, ap}
+use Rattle.std.specs.List.{enumerate_from, list_all}
 use Rattle.std.specs.Option.{option_and_then}
 use Rattle.std.proofs.lemmas.Bool.{cases_eq, eq-eqb, ne_eqb}
 use Rattle.std.proofs.lemmas.List.Folds.{list_all-append}
@@ -63,15 +63,3 @@ at_pointer_more {X} names none some items last (Some number) =
             ∙ sym (eq-eqb (suc number) (suc (length items)) (ap suc same))
         by (inr apart) = ne_eqb number (length items) apart
             ∙ sym (ne_eqb (suc number) (suc (length items)) (λ same. apart (omega (arith, same))))
-
--- of two lists side by side only so much counts as the shorter has
-pub zip-take : {X Y : Type 0} (count : ℕ) (xs : List X) (ys : List Y)
-    → count ≡ min (length xs) (length ys) → zip (take count xs) (take count ys) ≡ zip xs ys
-zip-take zero [] ys is = refl
-zip-take zero (x ∷ xs) [] is = refl
-zip-take zero (x ∷ xs) (y ∷ ys) is = absurd (omega (arith, is))
-zip-take (suc count) [] ys is = absurd (omega (arith, is))
-zip-take (suc count) (x ∷ xs) [] is = absurd (omega (arith, is))
-zip-take {X} {Y} (suc count) (x ∷ xs) (y ∷ ys) is =
-    let one : X × Y = (x, y) in
-    ap (λ (rest : List (X × Y)). one ∷ rest) (zip-take count xs ys (omega (arith, is)))

@@ -7,12 +7,10 @@ use Rattle.pls_mst.specs.declared.gathering.Gathered.{Gathered}
 use Rattle.pls_mst.specs.declared.label.MstHead.{MstHead}
 use Rattle.pls_mst.specs.declared.label.MstLabel.{MstLabel}
 use Rattle.pls_mst.specs.Rules.{agrees_on_root_and_levels, chosen_edges_are_least, follows_target, pointed_edge_is_chosen, shares_with_target}
-use Rattle.pls_mst.specs.inner.Reading.{head_said}
 
--- what the own label says in front of its levels, and which rules on the ports hold
+-- which rules on the ports hold
 abbrev pub gathered : Read MstLabel → Gathered
 gathered view = record {
-  own = head_said view.own;
   follows = follows_target view;
   agrees = agrees_on_root_and_levels view;
   shares = shares_with_target view;
@@ -30,12 +28,11 @@ between pointer weight mine theirs = record {
 }
 
 -- what is gathered with one more port, which the pointer is or not
-abbrev pub gathered_more : Bool → MstHead → Compared → Gathered → Gathered
-gathered_more pointer theirs both before = record {
-  own = before.own;
-  follows = if pointer then (before.own.depth == theirs.depth + 1
-      && before.own.parent == theirs.own) else before.follows;
-  agrees = before.agrees && (theirs.root == before.own.root && theirs.count == before.own.count);
+abbrev pub gathered_more : Bool → MstHead → MstHead → Compared → Gathered → Gathered
+gathered_more pointer own theirs both before = record {
+  follows = if pointer then (own.depth == theirs.depth + 1 && own.parent == theirs.own)
+      else before.follows;
+  agrees = before.agrees && (theirs.root == own.root && theirs.count == own.count);
   shares = if pointer then both.shares else before.shares;
   least = before.least && both.least;
   chosen = if pointer then both.chosen else before.chosen;
