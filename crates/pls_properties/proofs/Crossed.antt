@@ -52,7 +52,7 @@ some_level edges u v count level apart = by level.nodes refl
         omega (arith, many, level.many)
 
 -- the level that is found is that of the node
-pub level_found : (rows : List NodeRow) → IsConnected rows → (root : ℕ) (found : List (Option ℕ))
+level_found : (rows : List NodeRow) → IsConnected rows → (root : ℕ) (found : List (Option ℕ))
     → AreLevels rows root found → (first row : NodeRow) (place : ℕ)
     → slice_get rows root ≡ Some first → slice_get rows place ≡ Some row
     → IsLevel (edges_of rows) first.id row.id (level_at found place)
@@ -234,11 +234,14 @@ module _ (rows : List NodeRow) (net : IsNetwork rows) (connected : IsConnected r
 
 module _ (rows : List NodeRow) where
   -- without a bridge, there is a way round each edge
-  pub ways_round : IsBridgeless rows → (place : ℕ) → HaveWaysRound rows place
-  ways_round holds place other in' later one two edge at_one at_two in_edge joins =
+  pub way_round : IsBridgeless rows → (place other : ℕ) → HasWayRound rows place other
+  way_round holds place other one two edge at_one at_two in_edge joins =
       holds edge in_edge one.id two.id
       (Contains-map (λ (row : NodeRow). row.id) rows one (Contains-from_place rows place one at_one))
       (Contains-map (λ (row : NodeRow). row.id) rows two (Contains-from_place rows other two at_two))
+
+  pub ways_round : IsBridgeless rows → (place : ℕ) → HaveWaysRound rows place
+  ways_round holds place other in' later = way_round holds place other
 
   -- the edges of the first nodes have ways round
   abbrev pub RoundSoFar : ℕ → Type 0

@@ -1,5 +1,5 @@
 pub mod Reached
 pub mod Rest
 pub mod Crossed
+pub mod Strong
 pub mod Worked
-pub mod Doubled

@@ -1,17 +1,22 @@
-//! Whether the edges of a network join all nodes when any one of them is left out. An edge is no
-//! bridge where its deeper end, by the levels from the first node, has another neighbour that is no
-//! deeper. Of what is left, an edge is a bridge exactly where it alone leads from the nodes that are
-//! nearer to its one end to the others, by a search from each end; so the decider takes a time of
-//! nodes and ports, and that once more for each edge to a node with one way up.
+//! Whether the edges of a network join all nodes when any one of them is left out, decided in a time
+//! that grows with nodes and ports. A search in depth gives each edge a direction, and a second one
+//! finds the nodes from which the directions lead back to the first. Nothing is proved of what the
+//! two find, and it is checked: where the check passes, no edge is a bridge. Else an edge that leads
+//! to a node without a way back is judged, by a search from each of its ends; it is a bridge exactly
+//! where it alone leads from the nodes nearer to its one end to the others. Where that were no bridge
+//! either, each edge would be judged so.
 
-ghost use Rattle.std.specs.Prelude.{◌≡◌, ◌<◌, ◌↔◌, length, Contains, IfOk, IsTrue};
+ghost use Rattle.std.specs.Prelude.{◌≡◌, ◌<◌, ◌==◌, ◌↔◌, length, Contains, IfOk, IsTrue};
+ghost use Rattle.std.specs.List.{list_any};
 ghost use Rattle.pls_model.specs.Walk.{IsConnected};
 ghost use Rattle.pls_graph.specs.Levels.{AreLevels};
 ghost use Rattle.pls_graph.specs.Places.{beside};
 ghost use Rattle.pls_properties.specs.Bridgeless.{IsBridgeless};
 ghost use Rattle.pls_properties.specs.inner.Crossing.{HasWayRound, HaveWaysRound};
 
-use crate::crossing::{has_second_way, is_only_crossing};
+use crate::crossing::is_only_crossing;
+use crate::descent::{Descent, descend, entry_at};
+use crate::orientation::{is_strong, ranks_home};
 use pls_base::NoMemory;
 use pls_facts::is_valid;
 use pls_graph::Network;
@@ -44,9 +49,67 @@ fn is_bridgeless(alloc: Global, net: &Network) -> Result<bool, NoMemory>
     ensures { IfOk result (λ yes. IsTrue yes ↔ IsBridgeless net.now) }
 {
     is_valid(net);
-    let found = levels(alloc, net, 0)?;
+    let Descent { numbers, parents } = descend(alloc, net)?;
+    let homes = ranks_home(alloc, net, &numbers, &parents)?;
+    if is_strong(net, &numbers, &parents, &homes) {
+        return Ok(true);
+    }
+    if has_bridge_down(alloc, net, &parents, &homes)? {
+        return Ok(false);
+    }
+    all_have_ways_round(alloc, net)
+}
+
+// Whether the first edge is a bridge along which a place without a rank home was entered from one
+// with a rank.
+fn has_bridge_down(
+    alloc: Global,
+    net: &Network,
+    parents: &[usize],
+    homes: &[usize],
+) -> Result<bool, NoMemory>
+    requires { IsConnected net.now }
+    ensures { IfOk result (λ yes. IsTrue yes → IsBridgeless net.now → ⊥) }
+{
     for place in 0..net.len() {
-        if !have_ways_round(alloc, net, &found, place)? {
+        let parent = entry_at(parents, place);
+        if entry_at(homes, place) == 0 && entry_at(homes, parent) > 0 {
+            return is_bridge(alloc, net, place, parent);
+        }
+    }
+    Ok(false)
+}
+
+// Whether there is an edge between the nodes at two places and it is a bridge.
+fn is_bridge(alloc: Global, net: &Network, place: usize, other: usize) -> Result<bool, NoMemory>
+    requires joined { IsConnected net.now }
+    requires within { place < length net.now }
+    ensures { IfOk result (λ yes. IsTrue yes → IsBridgeless net.now → ⊥) }
+{
+    is_valid(net);
+    if !is_beside(net, place, other) {
+        return Ok(false);
+    }
+    let round = ends_have_way_round(alloc, net, place, other)?;
+    Ok(!round)
+}
+
+// Whether a place is beside another.
+fn is_beside(net: &Network, place: usize, other: usize) -> bool
+    requires { place < length net.now }
+    ensures { result ≡ list_any (λ k. k == other) (beside net.now place) }
+{
+    let places = net.places(place);
+    places.iter().any(|k| *k as usize == other)
+}
+
+// Whether the edges of each node have ways round.
+fn all_have_ways_round(alloc: Global, net: &Network) -> Result<bool, NoMemory>
+    requires { IsConnected net.now }
+    ensures { IfOk result (λ yes. IsTrue yes ↔ IsBridgeless net.now) }
+{
+    for place in 0..net.len() {
+        if !have_ways_round(alloc, net, place)? {
             return Ok(false);
         }
     }
@@ -55,20 +118,14 @@ fn is_bridgeless(alloc: Global, net: &Network) -> Result<bool, NoMemory>
 
 // Whether the node at a place and each neighbour at a later place are joined by the edges but that
 // between them.
-fn have_ways_round(
-    alloc: Global,
-    net: &Network,
-    found: &[Option<u32>],
-    place: usize,
-) -> Result<bool, NoMemory>
+fn have_ways_round(alloc: Global, net: &Network, place: usize) -> Result<bool, NoMemory>
     requires joined { IsConnected net.now }
-    requires found { AreLevels net.now 0 found.now }
     requires within { place < length net.now }
     ensures { IfOk result (λ yes. IsTrue yes ↔ HaveWaysRound net.now place) }
 {
     for other in net.places(place) {
         let other = *other as usize;
-        if !later_has_way_round(alloc, net, found, place, other)? {
+        if !later_has_way_round(alloc, net, place, other)? {
             return Ok(false);
         }
     }
@@ -80,12 +137,10 @@ fn have_ways_round(
 fn later_has_way_round(
     alloc: Global,
     net: &Network,
-    found: &[Option<u32>],
     place: usize,
     other: usize,
 ) -> Result<bool, NoMemory>
     requires joined { IsConnected net.now }
-    requires found { AreLevels net.now 0 found.now }
     requires within { place < length net.now }
     requires beside { Contains (beside net.now place) other }
     requires inside { other < length net.now }
@@ -94,16 +149,29 @@ fn later_has_way_round(
     if other <= place {
         return Ok(true);
     }
-    is_valid(net);
-    if has_second_way(net, found, place, other) {
-        return Ok(true);
-    }
+    ends_have_way_round(alloc, net, place, other)
+}
+
+// Whether the nodes at two places that are neighbours are joined by the other edges, by a search
+// from each.
+fn ends_have_way_round(
+    alloc: Global,
+    net: &Network,
+    place: usize,
+    other: usize,
+) -> Result<bool, NoMemory>
+    requires joined { IsConnected net.now }
+    requires within { place < length net.now }
+    requires beside { Contains (beside net.now place) other }
+    requires inside { other < length net.now }
+    ensures { IfOk result (λ yes. IsTrue yes ↔ HasWayRound net.now place other) }
+{
     let near = levels(alloc, net, place)?;
     let far = levels(alloc, net, other)?;
     Ok(has_way_round(net, place, &near, other, &far))
 }
 
-// Whether the nodes at two places that are neighbours are joined by the other edges.
+// The same by the levels from either.
 fn has_way_round(
     net: &Network,
     place: usize,

@@ -2,10 +2,10 @@
 
 ghost use Rattle.std.specs.Prelude.{◌≡◌, ◌<◌, ◌||◌, length};
 ghost use Rattle.std.specs.Bool.{OnFalse, OnTrue};
-ghost use Rattle.std.specs.List.{list_all, list_any};
+ghost use Rattle.std.specs.List.{list_all};
 ghost use Rattle.pls_model.specs.Configuration.{IsNetwork};
 ghost use Rattle.pls_graph.specs.Places.{beside};
-ghost use Rattle.pls_properties.specs.inner.Crossing.{IsCrossedElsewhere, IsOnlyCrossing, is_allowed, is_another, is_doubled, is_nearer, level_at};
+ghost use Rattle.pls_properties.specs.inner.Crossing.{IsCrossedElsewhere, IsOnlyCrossing, is_allowed, is_nearer, level_at};
 
 use pls_graph::Network;
 
@@ -58,48 +58,6 @@ fn is_allowed(
     ensures { result ≡ is_allowed near.now far.now place other from to }
 {
     !is_nearer(near, far, from) || is_nearer(near, far, to) || (from == place && to == other)
-}
-
-// Whether the deeper of two neighbours, by the levels from the first node, has another neighbour
-// that is no deeper than it; then there is a way round the edge between the two.
-pub(crate) fn has_second_way(
-    net: &Network,
-    found: &[Option<u32>],
-    place: usize,
-    other: usize,
-) -> bool
-    requires within { place < length net.now }
-    requires inside { other < length net.now }
-    ensures { result ≡ (is_doubled net.now found.now place other
-        || is_doubled net.now found.now other place) }
-{
-    is_doubled(net, found, place, other) || is_doubled(net, found, other, place)
-}
-
-// Whether the first of two places is no deeper than the second, and another beside that neither.
-fn is_doubled(net: &Network, found: &[Option<u32>], place: usize, other: usize) -> bool
-    requires { other < length net.now }
-    ensures { result ≡ is_doubled net.now found.now place other }
-{
-    level_at(found, place) <= level_at(found, other) && has_another(net, found, place, other)
-}
-
-// Whether beside a place there is another one than this that is no deeper.
-fn has_another(net: &Network, found: &[Option<u32>], place: usize, other: usize) -> bool
-    requires { other < length net.now }
-    ensures { result ≡ list_any (is_another found.now place other) (beside net.now other) }
-{
-    let places = net.places(other);
-    places
-        .iter()
-        .any(|third| is_another(found, place, other, *third as usize))
-}
-
-// Whether a third place is not the first, and no deeper than the second.
-fn is_another(found: &[Option<u32>], place: usize, other: usize, third: usize) -> bool
-    ensures { result ≡ is_another found.now place other third }
-{
-    third != place && level_at(found, third) <= level_at(found, other)
 }
 
 // Whether a place is nearer to the first end.

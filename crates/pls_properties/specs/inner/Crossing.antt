@@ -1,6 +1,5 @@
 -- The ports that lead from the nodes nearer to one end of an edge to the others.
-use Rattle.std.specs.Prelude.{◌≡◌, ℕ, ◌<◌, nat_lt, nat_le, ◌==◌, Bool, true, false, not, ◌&&◌, ◌||◌, List, length, Contains, slice_get, Option, Some, None}
-use Rattle.std.specs.List.{list_any}
+use Rattle.std.specs.Prelude.{◌≡◌, ℕ, ◌<◌, nat_lt, ◌==◌, Bool, true, false, not, ◌&&◌, ◌||◌, List, length, Contains, slice_get, Option, Some, None}
 use Rattle.pls_model.specs.declared.row.NodeRow.{NodeRow}
 use Rattle.pls_model.specs.Walk.{AreJoined, Edge, Joins, edges_of}
 use Rattle.pls_graph.specs.Places.{beside}
@@ -36,17 +35,6 @@ abbrev pub IsCrossedElsewhere : List NodeRow → List (Option ℕ) → List (Opt
 IsCrossedElsewhere rows near far place other =
     (from to : ℕ) × (from < length rows) × Contains (beside rows from) to
     × (is_allowed near far place other from to ≡ false)
-
--- the third place is not the first, and no deeper than the second
-abbrev pub is_another : List (Option ℕ) → ℕ → ℕ → ℕ → Bool
-is_another found place other third =
-    not (third == place) && nat_le (level_at found third) (level_at found other)
-
--- the first place is no deeper than the second, and another beside that neither
-abbrev pub is_doubled : List NodeRow → List (Option ℕ) → ℕ → ℕ → Bool
-is_doubled rows found place other =
-    nat_le (level_at found place) (level_at found other)
-    && list_any (is_another found place other) (beside rows other)
 
 -- the nodes at two places are joined by the edges but that between them
 abbrev pub HasWayRound : List NodeRow → ℕ → ℕ → Type 0

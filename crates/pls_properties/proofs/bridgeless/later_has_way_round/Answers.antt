@@ -1,5 +1,6 @@
-use Rattle.std.proofs.Common.{◌∙◌, sym, refl, arith}
-use Rattle.pls_properties.proofs.Doubled.{either_opens}
+use Rattle.std.proofs.Common.{◌<◌, ◌↔◌, IsTrue, refl, arith}
+use Rattle.std.proofs.lemmas.Result.{IfOk-weaker}
+use Rattle.pls_properties.specs.inner.Crossing.{HasWayRound}
 use Rattle.pls_properties.proofs.bridgeless.later_has_way_round.Goals as goal
 
 pub returns-then-other-place : goal.returns-then-other-place
@@ -8,15 +9,13 @@ returns-then-other-place c = (
   λ way. refl,
 )
 
-pub returns-then-has_second_way : goal.returns-then-has_second_way
-returns-then-has_second_way c = (
-  λ yes later. either_opens c.args.net.now c.is_valid.ensures c.requires.joined c.args.found.now
-      c.requires.found c.args.place c.args.other (sym c.has_second_way.ensures ∙ c.if-has_second_way.true),
-  λ way. refl,
-)
-
 pub returns : goal.returns
-returns c = (
-  λ yes later. c.has_way_round.ensures.0 yes,
-  λ way. let late = c.if-other-place.false in c.has_way_round.ensures.1 (way (omega (arith, late))),
-)
+returns c =
+    let rows = c.args.net.now in
+    let place = c.args.place in
+    let other = c.args.other in
+    let late = c.if-other-place.false in
+    IfOk-weaker c.ends_have_way_round.result (λ yes. IsTrue yes ↔ HasWayRound rows place other)
+    (λ yes. IsTrue yes ↔ (place < other → HasWayRound rows place other))
+    (λ yes same. (λ is later. same.0 is, λ way. same.1 (way (omega (arith, late)))))
+    c.ends_have_way_round.ensures
