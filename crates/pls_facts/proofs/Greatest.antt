@@ -1,5 +1,5 @@
--- The greatest of some numbers: each is at most the greatest, and the greatest at most a limit of all
--- and the sum of all.
+-- The greatest of some numbers: each is at most the greatest, and the greatest at most a limit of
+-- all and the sum of all.
 use Rattle.std.proofs.Common.{ℕ, ◌≤◌, inl, inr, List, [], ◌∷◌, map, sum_by, Contains, arith}
 use Rattle.std.proofs.lemmas.List.Sums.{sum_by-cons}
 use Rattle.pls_graph.specs.Size.{greatest}

@@ -18,8 +18,8 @@ use Rattle.pls_facts.proofs.Levels.{one_level}
 use Rattle.pls_facts.proofs.Lists.{item_at}
 use Rattle.pls_facts.proofs.ParentLines.{AreSoMany-one}
 use Rattle.pls_leader.specs.Count.{IsCountLabel, IsCountMarked, IsCounted, IsParent, count_label, count_limits, count_of, count_rules, count_says, judge_count, longest_count, numbers_of_count}
-use Rattle.pls_leader.specs.laws.CountShow.{count_show}
 use Rattle.pls_leader.specs.laws.CountRight.{rules_met, within_limits}
+use Rattle.pls_leader.specs.laws.CountShow.{count_show}
 
 -- labels of equal parts are equal
 label_is : (r o p d s t a b c e f g : ℕ) → r ≡ a → o ≡ b → p ≡ c → d ≡ e → s ≡ f → t ≡ g

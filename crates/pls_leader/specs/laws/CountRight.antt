@@ -1,5 +1,5 @@
--- Where labels of the scheme of the number of nodes are right everywhere, the sizes that they say are
--- summed along the tree, the rules hold, and each number is within the limits of the network.
+-- Where labels of the scheme of the number of nodes are right everywhere, the sizes that they say
+-- are summed along the tree, the rules hold, and each number is within the limits of the network.
 use Rattle.std.proofs.Common.{◌≡◌, ◌≢◌, ◌∙◌, ℕ, ◌+◌, ◌<◌, ◌≤◌, ◌==◌, ◌&&◌, ◌||◌, inl, inr, nat_lt, not, Bool, true, false, List, [], map, length, Contains, Option, Some, None, slice_get, if◌then◌else◌, refl, sym, ap, subst, arith}
 use Rattle.std.specs.List.{list_any}
 use Rattle.std.specs.Option.{option_map_or}
@@ -23,6 +23,7 @@ use Rattle.pls_facts.specs.TreeSums.{AreSummed, HaveParents}
 use Rattle.pls_facts.proofs.Levels.{one_level}
 use Rattle.pls_facts.proofs.Lists.{item_at}
 use Rattle.pls_facts.proofs.Neighbours.{adjacent_known, id_within, neighbour_row, port_leads}
+use Rattle.pls_facts.proofs.OnlyNode.{ids_distinct}
 use Rattle.pls_facts.proofs.ParentLines.{AreParents, AreSoMany-one, is_child, line_ends, line_from, met_by, met_by-few, met_by-many, so_many-children}
 use Rattle.pls_facts.proofs.Pointed.{id_of_row}
 use Rattle.pls_facts.proofs.RootLevels.{alone_at_0, below_nodes, level_of, root_at_0}
@@ -32,7 +33,6 @@ use Rattle.pls_leader.specs.declared.count.CountLabel.{CountLabel}
 use Rattle.pls_leader.specs.Count.{IsCounted, IsOneNearer, IsParent, agrees_with, children_sizes, count_rules, count_says, is_parent_above}
 use Rattle.pls_leader.specs.laws.CountShow.{children_said}
 use Rattle.pls_leader.specs.laws.RootedLaws.{at_0_alone}
-use Rattle.pls_facts.proofs.OnlyNode.{ids_distinct}
 
 -- a test of which the second half is asked only where the first fails
 or_else : (a b : Bool) → (a ≡ false → b ≡ true) → (a || b) ≡ true
