@@ -5,14 +5,14 @@ use Rattle.std.specs.Option.{option_and_then, option_map_or}
 use Rattle.std.proofs.lemmas.List.{map-append}
 use Rattle.std.proofs.lemmas.Option.{slice_get-map}
 use Rattle.pls_model.specs.declared.row.State.{State}
-use Rattle.pls_scheme.specs.Reading.{Read, ReadPort, reading}
+use Rattle.pls_scheme.specs.Reading.{Read, ReadPort, is_pointer, reading}
 use Rattle.pls_scheme.proofs.MorePorts.{all_more, at_pointer_more}
 use Rattle.pls_pointer.specs.Tree.{names_root}
 use Rattle.pls_pointer.specs.declared.tree.TreeLabel.{TreeLabel}
 use Rattle.pls_distance.specs.declared.spt.SptLabel.{SptLabel}
 use Rattle.pls_distance.specs.declared.gathering.Gathered.{Gathered}
 use Rattle.pls_distance.specs.Spt.{agrees_on_its_root, follows_target, is_nearest, is_reached_by, tree_port}
-use Rattle.pls_distance.specs.inner.Gathering.{gathered, is_port}
+use Rattle.pls_distance.specs.inner.Gathering.{gathered}
 
 module _ (id : ℕ) (state : State) (own : SptLabel) (ports : List (ReadPort SptLabel))
     (port : ReadPort SptLabel) where
@@ -55,11 +55,11 @@ module _ (id : ℕ) (state : State) (own : SptLabel) (ports : List (ReadPort Spt
       read_tree (Some number) = slice_get-map tree_port ports number
 
   follows_more : follows_target after
-      ≡ (if is_port state.up (length ports) then (own.depth == port.label.depth + 1
+      ≡ (if is_pointer state.up (length ports) then (own.depth == port.label.depth + 1
       && own.dist == port.label.dist + port.weight) else follows_target before)
   follows_more = follows_both (ports ++ port ∷ [])
-      ∙ ap both (at_pointer_more is_port (λ place. refl) (λ number place. refl) ports port state.up)
-      ∙ by (is_port state.up (length ports))
+      ∙ ap both (at_pointer_more ports port state.up)
+      ∙ by (is_pointer state.up (length ports))
     where
       by : (here : Bool)
           → both (if here then Some port else option_and_then (slice_get ports) state.up)
@@ -72,7 +72,7 @@ module _ (id : ℕ) (state : State) (own : SptLabel) (ports : List (ReadPort Spt
   pub is_gathered : (before_it after_it : Gathered) → before_it ≡ gathered before
       → after_it.own ≡ before_it.own
       → after_it.agrees ≡ (before_it.agrees && (port.label.root == before_it.own.root))
-      → after_it.follows ≡ (if is_port state.up (length ports)
+      → after_it.follows ≡ (if is_pointer state.up (length ports)
       then (before_it.own.depth == port.label.depth + 1
       && before_it.own.dist == port.label.dist + port.weight) else before_it.follows)
       → after_it.nearest
@@ -83,7 +83,7 @@ module _ (id : ℕ) (state : State) (own : SptLabel) (ports : List (ReadPort Spt
       (own_is ∙ ap (λ (it : Gathered). it.own) is)
       (agrees_is ∙ ap (λ (it : Gathered). it.agrees && (port.label.root == it.own.root)) is
       ∙ sym agrees_more)
-      (follows_is ∙ ap (λ (it : Gathered). if is_port state.up (length ports)
+      (follows_is ∙ ap (λ (it : Gathered). if is_pointer state.up (length ports)
       then (it.own.depth == port.label.depth + 1
       && it.own.dist == port.label.dist + port.weight) else it.follows) is ∙ sym follows_more)
       (nearest_is ∙ ap (λ (it : Gathered).

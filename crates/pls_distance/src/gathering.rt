@@ -2,10 +2,10 @@
 
 ghost use Rattle.std.specs.Prelude.{◌≡◌, ℕ, ◌++◌, ◌∷◌, [], List, length, ◌==◌, ◌&&◌, ◌+◌, if◌then◌else◌};
 ghost use Rattle.pls_model.specs.declared.row.State.{State};
-ghost use Rattle.pls_scheme.specs.Reading.{ReadPort, port_with, reading};
+ghost use Rattle.pls_scheme.specs.Reading.{ReadPort, is_pointer, port_with, reading};
 ghost use Rattle.pls_distance.specs.declared.spt.SptLabel.{SptLabel};
 ghost use Rattle.pls_distance.specs.Spt.{spt_rules};
-ghost use Rattle.pls_distance.specs.inner.Gathering.{gathered, is_port};
+ghost use Rattle.pls_distance.specs.inner.Gathering.{gathered};
 
 use crate::farther::{is_farther_by, is_reached_by};
 use crate::spt::SptLabel;
@@ -58,7 +58,7 @@ impl Gathered {
         Gathered {
             own,
             agrees: both(agrees, label.root == own.root),
-            follows: follows_so_far(&own, is_port(up, place), weight, &label, follows),
+            follows: follows_so_far(&own, is_pointer(up, place), weight, &label, follows),
             nearest: both(nearest, is_reached_by(own.dist, label.dist, weight)),
         }
     }
@@ -81,8 +81,8 @@ impl Gathered {
 }
 
 // Whether a pointer names the port at a place.
-fn is_port(up: Option<u32>, place: usize) -> bool
-    ensures { result ≡ is_port up place }
+fn is_pointer(up: Option<u32>, place: usize) -> bool
+    ensures { result ≡ is_pointer up place }
 {
     match up {
         Some(port) => port as usize == place,

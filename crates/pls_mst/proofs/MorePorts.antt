@@ -3,14 +3,14 @@ use Rattle.std.proofs.Common.{◌≡◌, ◌∙◌, ℕ, ◌+◌, ◌==◌, Bool
 use Rattle.std.specs.List.{enumerate_from, list_all}
 use Rattle.std.specs.Option.{option_and_then, option_map_or}
 use Rattle.pls_model.specs.declared.row.State.{State}
-use Rattle.pls_scheme.specs.Reading.{Read, ReadPort, port_with, reading}
+use Rattle.pls_scheme.specs.Reading.{Read, ReadPort, is_pointer, port_with, reading}
 use Rattle.pls_scheme.proofs.MorePorts.{all_more, at_pointer_more, numbered_from_0}
 use Rattle.pls_mst.specs.declared.comparing.Between.{Between}
 use Rattle.pls_mst.specs.declared.comparing.Compared.{Compared}
 use Rattle.pls_mst.specs.declared.gathering.Gathered.{Gathered}
 use Rattle.pls_mst.specs.declared.label.MstHead.{MstHead}
 use Rattle.pls_mst.specs.declared.label.MstLabel.{MstLabel}
-use Rattle.pls_mst.specs.Rules.{agrees_on_root_and_levels, agrees_with, chose_least_at, chosen_edges_are_least, edge_to, is_chosen_between, is_named_or_shared, is_pointer, on_each_level, on_some_level}
+use Rattle.pls_mst.specs.Rules.{agrees_on_root_and_levels, agrees_with, chose_least_at, chosen_edges_are_least, edge_to, is_chosen_between, is_named_or_shared, on_each_level, on_some_level}
 use Rattle.pls_mst.specs.inner.Comparing.{compared}
 use Rattle.pls_mst.specs.inner.Gathering.{between, gathered, gathered_more}
 use Rattle.pls_mst.specs.inner.Reading.{head_said}
@@ -40,7 +40,7 @@ module _ (id : ℕ) (state : State) (own : MstLabel) (ports : List (ReadPort Mst
       else option_map_or test (option_and_then (slice_get ports) state.up) true)
   at_target test =
       ap (λ (read : Option (ReadPort MstLabel)). option_map_or test read true)
-      (at_pointer_more is_pointer (λ place. refl) (λ number place. refl) ports port state.up)
+      (at_pointer_more ports port state.up)
       ∙ by here
     where
       by : (here : Bool) → option_map_or test

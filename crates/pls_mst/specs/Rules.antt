@@ -8,7 +8,7 @@ use Rattle.std.specs.Option.{option_map_or}
 use Rattle.pls_model.specs.Walk.{Edge}
 use Rattle.pls_model.specs.declared.verdict.Verdict.{Verdict}
 use Rattle.pls_view.specs.Seen.{Seen}
-use Rattle.pls_scheme.specs.Reading.{Read, ReadPort, judge_by, target}
+use Rattle.pls_scheme.specs.Reading.{Read, ReadPort, is_pointer, judge_by, target}
 use Rattle.pls_facts.specs.EdgeOrder.{edge_key, is_same_edge}
 use Rattle.pls_pointer.specs.Pointing.{points}
 use Rattle.pls_boruvka.specs.Boruvka.{chosen_edge}
@@ -81,11 +81,6 @@ edge_to own port = record {
   b = max own.own port.label.own;
   weight = port.weight;
 }
-
--- the pointer is the port of this number
-abbrev pub is_pointer : Option ℕ → ℕ → Bool
-is_pointer None number = false
-is_pointer (Some up) number = up == number
 
 -- 0 where the port of this number is the pointer or the neighbour's parent is the node, else 1
 abbrev pub outside_tree : Option ℕ → MstLabel → ℕ → ReadPort MstLabel → ℕ

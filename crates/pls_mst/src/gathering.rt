@@ -2,10 +2,10 @@
 
 ghost use Rattle.std.specs.Prelude.{◌≡◌, ℕ, ◌==◌, ◌+◌, ◌++◌, List, [], ◌∷◌, ◌&&◌, Some, length, if◌then◌else◌};
 ghost use Rattle.pls_model.specs.declared.row.State.{State};
-ghost use Rattle.pls_scheme.specs.Reading.{ReadPort, port_with, reading};
+ghost use Rattle.pls_scheme.specs.Reading.{ReadPort, is_pointer, port_with, reading};
 ghost use Rattle.pls_mst.specs.declared.label.MstLabel.{MstLabel};
 ghost use Rattle.pls_mst.specs.Labels.{mst_label};
-ghost use Rattle.pls_mst.specs.Rules.{is_pointer, mst_rules};
+ghost use Rattle.pls_mst.specs.Rules.{mst_rules};
 ghost use Rattle.pls_mst.specs.inner.Gathering.{between, gathered, gathered_more};
 ghost use Rattle.pls_mst.specs.inner.Glance.{glance_of};
 

@@ -4,6 +4,7 @@ use Rattle.std.specs.List.{enumerate_from, list_all}
 use Rattle.std.specs.Option.{option_and_then}
 use Rattle.std.proofs.lemmas.Bool.{cases_eq, eq-eqb, ne_eqb}
 use Rattle.std.proofs.lemmas.List.Folds.{list_all-append}
+use Rattle.pls_scheme.specs.Reading.{is_pointer}
 
 -- a test of all with one more
 pub all_more : {X : Type 0} (test : X → Bool) (items : List X) (last : X)
@@ -37,15 +38,11 @@ numbered_from_0 {X} items last =
     enumerate_from 0 items ++ one ∷ []) here
 
 -- what stands at the place that a pointer names, with one more item
-pub at_pointer_more : {X : Type 0} (names : Option ℕ → ℕ → Bool)
-    → ((place : ℕ) → names None place ≡ false)
-    → ((number place : ℕ) → names (Some number) place ≡ (number == place))
-    → (items : List X) (last : X) (up : Option ℕ)
+pub at_pointer_more : {X : Type 0} (items : List X) (last : X) (up : Option ℕ)
     → option_and_then (slice_get (items ++ last ∷ [])) up
-    ≡ (if names up (length items) then Some last else option_and_then (slice_get items) up)
-at_pointer_more names none some items last None = rw (none (length items)) refl
-at_pointer_more {X} names none some items last (Some number) =
-    rw (some number (length items)) (at items number)
+    ≡ (if is_pointer up (length items) then Some last else option_and_then (slice_get items) up)
+at_pointer_more items last None = refl
+at_pointer_more {X} items last (Some number) = at items number
   where
     at : (items : List X) (number : ℕ) → slice_get (items ++ last ∷ []) number
         ≡ (if number == length items then Some last else slice_get items number)

@@ -7,7 +7,7 @@ use Rattle.pls_model.specs.declared.verdict.Verdict.{Verdict}
 use Rattle.pls_model.specs.declared.verdict.Verdict.TheVariants.{Reject}
 use Rattle.pls_view.specs.Seen.{Seen, SeenPort}
 use Rattle.pls_scheme.specs.Judging.{judged_from}
-use Rattle.pls_scheme.specs.Reading.{Read, ReadPort, is_place, judge_by, label_above, port_with, read_port, read_ports, reading}
+use Rattle.pls_scheme.specs.Reading.{Read, ReadPort, is_pointer, judge_by, label_above, port_with, read_port, read_ports, reading}
 use Rattle.pls_scheme.specs.inner.Looks.{seen_above, seen_in}
 use Rattle.pls_scheme.proofs.MorePorts.{at_pointer_more}
 use Rattle.pls_scheme.specs.laws.Readings.{judged_by_rules, rejected_by_2, split_read}
@@ -122,7 +122,7 @@ module _ {L G : Type 0} (read : List Bool → Option L) (glance : L → G) where
   pub above_more : (ports : List SeenPort) (place : ℕ) (port : SeenPort) (up : Option ℕ) (seen : G)
       → slice_get ports place ≡ Some port → Some seen ≡ seen_in read glance port.label
       → seen_above read glance (take (place + 1) ports) up
-      ≡ (if is_place up place then Some seen else seen_above read glance (take place ports) up)
+      ≡ (if is_pointer up place then Some seen else seen_above read glance (take place ports) up)
   above_more ports place port up seen at is =
       let within = slice_get_within ports place port at in
       let many : length (take place ports) ≡ place =
@@ -132,8 +132,8 @@ module _ {L G : Type 0} (read : List Bool → Option L) (glance : L → G) where
       ap (λ (ports : List SeenPort). seen_above read glance ports up)
       (take_more ports place port within ∙ ap (λ (last : SeenPort). take place ports ++ last ∷ [])
       (get_or_from_slice_get ports place port port at))
-      ∙ ap see (at_pointer_more is_place (λ place. refl) (λ number place. refl) (take place ports) port up)
-      ∙ by (is_place up (length (take place ports))) (is_place up place) (ap (is_place up) many)
+      ∙ ap see (at_pointer_more (take place ports) port up)
+      ∙ by (is_pointer up (length (take place ports))) (is_pointer up place) (ap (is_pointer up) many)
     where
       by : (one other : Bool) → one ≡ other
           → option_and_then (λ (port : SeenPort). seen_in read glance port.label)

@@ -51,9 +51,9 @@ abbrev pub judge_by : {L : Type 0} → (List Bool → Option L) → (Read L → 
 judge_by read rules view = judged_read rules view (read view.own) (read_ports read view.ports)
 
 -- the pointer is the port of this number
-abbrev pub is_place : Option ℕ → ℕ → Bool
-is_place None place = false
-is_place (Some number) place = number == place
+abbrev pub is_pointer : Option ℕ → ℕ → Bool
+is_pointer None place = false
+is_pointer (Some number) place = number == place
 
 -- a port with this weight, whose label says this
 abbrev pub port_with : {L : Type 0} → ℕ → L → ReadPort L

@@ -1,7 +1,7 @@
 //! The verdict on a view, by rules that are tried in place.
 
 ghost use Rattle.std.specs.Prelude.{◌≡◌, Some, if◌then◌else◌};
-ghost use Rattle.pls_scheme.specs.Reading.{is_place, judge_by};
+ghost use Rattle.pls_scheme.specs.Reading.{is_pointer, judge_by};
 
 use crate::in_place::{JudgesInPlace, Looked};
 use pls_model::Verdict;
@@ -36,7 +36,7 @@ pub(crate) fn judged<R: JudgesInPlace>(rules: &R, view: &View<'_>) -> Verdict
 
 // What was seen above, with what is seen at one more place.
 fn above_so_far<G: Drop>(up: Option<u32>, place: usize, seen: G, above: Option<G>) -> Option<G>
-    ensures { result ≡ (if is_place up place then Some seen else above) }
+    ensures { result ≡ (if is_pointer up place then Some seen else above) }
 {
     match up {
         Some(port) if port as usize == place => Some(seen),

@@ -1,14 +1,8 @@
 -- What a node gathers of its ports.
-use Rattle.std.specs.Prelude.{ℕ, ◌==◌, Bool, false, Option, Some, None}
 use Rattle.pls_scheme.specs.Reading.{Read}
 use Rattle.pls_distance.specs.declared.spt.SptLabel.{SptLabel}
 use Rattle.pls_distance.specs.declared.gathering.Gathered.{Gathered}
 use Rattle.pls_distance.specs.Spt.{agrees_on_its_root, follows_target, is_nearest}
-
--- the pointer names the port with this number
-abbrev pub is_port : Option ℕ → ℕ → Bool
-is_port None place = false
-is_port (Some number) place = number == place
 
 -- the own label, and which rules on the ports hold
 abbrev pub gathered : Read SptLabel → Gathered

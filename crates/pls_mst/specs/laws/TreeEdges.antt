@@ -18,8 +18,8 @@ use Rattle.pls_facts.proofs.Neighbours.{neighbour_row}
 use Rattle.pls_facts.proofs.Pointed.{IsPointer, IsPointer-next}
 use Rattle.pls_facts.proofs.PointedEdges.{Joins-edge_at, points_either_way}
 use Rattle.pls_facts.proofs.PortEdges.{IsAtPort}
+use Rattle.pls_scheme.specs.Reading.{is_pointer}
 use Rattle.pls_mst.specs.declared.label.MstLabel.{MstLabel}
-use Rattle.pls_mst.specs.Rules.{is_pointer}
 use Rattle.pls_mst.specs.laws.Fragments.{told_outside}
 
 -- a port that is pointed at is one of the ports

@@ -2,7 +2,7 @@ use Rattle.std.proofs.Common.{◌≡◌, ◌∙◌, ◌≤◌, List, Option, Som
 use Rattle.std.proofs.lemmas.List.{length-map, take_all}
 use Rattle.pls_view.specs.Seen.{Seen, SeenPort}
 use Rattle.pls_facts.proofs.Lists.{item_mapped}
-use Rattle.pls_scheme.specs.Reading.{is_place}
+use Rattle.pls_scheme.specs.Reading.{is_pointer}
 use Rattle.pls_scheme.specs.inner.Looks.{seen_above, seen_in}
 use Rattle.pls_scheme.proofs.Passing.{above_more, above_none, pass_more, pass_opened, passed, unpassed}
 use Rattle.pls_scheme.proofs.view_judged.judged.Goals as goal
@@ -55,10 +55,10 @@ loop-place-preserved g c =
           (ap (λ (view : Seen). said view.own) c.view.view_is ∙ own_read) own_same port_read
           port_same is);
       above = c.above_so_far-above.ensures
-          ∙ ap (λ (up : Option ℕ). if is_place up c.loop-place.place then Some c.in-Some-look.seen
+          ∙ ap (λ (up : Option ℕ). if is_pointer up c.loop-place.place then Some c.in-Some-look.seen
           else c.loop-place.above) up_is
           ∙ ap (λ (above : Option g.row.R-Glance.Denot).
-          if is_place view.state.up c.loop-place.place then Some c.in-Some-look.seen else above)
+          if is_pointer view.state.up c.loop-place.place then Some c.in-Some-look.seen else above)
           c.loop-place.invariant.above
           ∙ sym (above_more said glance view.ports c.loop-place.place port view.state.up
           c.in-Some-look.seen at port_seen);
