@@ -2,7 +2,7 @@
 -- verification of minimum spanning trees", with the levels of Borůvka's method): on each level it
 -- belongs to a fragment that lies together, and its fragment has chosen the least edge that leaves
 -- it. Each edge that a node points along was chosen by the fragment of one of its ends.
-use Rattle.std.specs.Prelude.{ℕ, ◌+◌, ◌==◌, nat_lt, min, max, Bool, true, false, not, ◌&&◌, ◌||◌, if◌then◌else◌, List, [], ◌∷◌, length, Option, Some, None}
+use Rattle.std.specs.Prelude.{ℕ, ◌+◌, ◌==◌, nat_lt, min, max, Bool, true, false, not, ◌&&◌, ◌||◌, if◌then◌else◌, List, [], ◌∷◌, length, Option}
 use Rattle.std.specs.List.{enumerate_from, list_all, list_any, zip}
 use Rattle.std.specs.Option.{option_map_or}
 use Rattle.pls_model.specs.Walk.{Edge}
