@@ -1,7 +1,6 @@
 -- Maps that were decided, and labels that have one of them.
-use Rattle.std.proofs.Common.{◌≡◌, ◌∙◌, ◌<◌, ◌≤◌, ◌+◌, ◌++◌, ℕ, zero, suc, inl, inr, Bool, List, [], ◌∷◌, All, insert, length, option_map, slice_get, Option, Some, refl, sym, ap, subst, arith, length-append}
+use Rattle.std.proofs.Common.{◌≡◌, ◌∙◌, ◌<◌, ◌+◌, ◌++◌, ℕ, zero, suc, inl, inr, Bool, List, [], ◌∷◌, length, option_map, slice_get, Option, Some, refl, sym, ap, subst, arith, length-append}
 use Rattle.std.proofs.lemmas.Bool.{cases_lt}
-use Rattle.std.proofs.lemmas.List.Elements.{All-cons, All-head, All-tail}
 use Rattle.std.proofs.lemmas.Option.{same_Some, slice_get-map, slice_get_within}
 use Rattle.pls_model.specs.declared.row.NodeRow.{NodeRow}
 use Rattle.pls_model.specs.Configuration.{IsNetwork}
@@ -15,15 +14,6 @@ use Rattle.pls_universal.specs.declared.map.MapRow.{MapRow}
 use Rattle.pls_universal.specs.Reading.{label_with, map_in}
 use Rattle.pls_universal.specs.inner.Deciding.{AreDecided, IsDecided, IsNumberOf, IsNumberOfMap}
 use Rattle.pls_universal.proofs.Agreeing.{behind_number}
-
--- what holds of all items and of one more holds of all when it came in
-All-inserted : {X : Type 0} (P : X → Type 0) (xs : List X) (i : ℕ) (x : X) → i ≤ length xs
-    → All P xs → P x → All P (insert xs i x)
-All-inserted P xs zero x within all one = All-cons P x xs one all
-All-inserted P [] (suc i) x within all one = absurd (omega (arith, within))
-All-inserted P (first ∷ xs) (suc i) x within all one =
-    All-cons P first (insert xs i x) (All-head P first xs all)
-    (All-inserted P xs i x (omega (arith, within)) (All-tail P first xs all) one)
 
 module _ {X : Type 0} where
   -- items keep their places before one more
@@ -69,22 +59,16 @@ module _ (takes : List Bool → Option (ℕ × List Bool)) (test : List NodeRow 
           (subst (λ (bits : List Bool). takes bits ≡ Some (is.has.own, map)) same is.has.parts)
           known.2.read
 
-  module _ (new : DecidedMaps) (at : ℕ) (map : DecidedMap) (label : List Bool)
-      (within : at ≤ length old.order.items) (maps : new.maps.items ≡ old.maps.items ++ map ∷ [])
-      (order : new.order.items ≡ insert old.order.items at (length old.maps.items))
+  module _ (new : DecidedMaps) (map : DecidedMap) (label : List Bool)
+      (maps : new.maps.items ≡ old.maps.items ++ map ∷ [])
       (stands : slice_get labels map.place ≡ Some label) (found : IsDecided takes test label map) where
     -- one more map is decided
     pub one-decided : AreDecided takes test labels new
-    one-decided = record { numbers = numbers; each = each }
+    one-decided = record { each = each }
       where
         long : length new.maps.items ≡ length old.maps.items + 1
         long = ap (λ (maps : List DecidedMap). length maps) maps
             ∙ length-append old.maps.items (map ∷ [])
-
-        numbers : All (λ number. number < length new.maps.items) new.order.items
-        numbers = rw order (All-inserted (λ number. number < length new.maps.items)
-            old.order.items at (length old.maps.items) within
-            (λ i d inside. omega (arith, decided.numbers i d inside, long)) (omega (arith, long)))
 
         each : (number : ℕ) (known : DecidedMap) → slice_get new.maps.items number ≡ Some known
             → (bits : List Bool) × (slice_get labels known.place ≡ Some bits)

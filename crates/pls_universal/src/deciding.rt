@@ -1,7 +1,7 @@
 //! Maps that are decided in a round, each once for all nodes that have it.
 
-ghost use Rattle.std.specs.Prelude.{◌≡◌, ◌<◌, ◌≤◌, ◌++◌, ◌∷◌, [], ℕ, true, Bool, List, All, Option, Some, None, length, slice_get, IfOk, IfErr, IfSome, IfNone, OnOk};
-ghost use Rattle.std.specs.List.{insert};
+ghost use Rattle.std.specs.Prelude.{◌≡◌, ◌<◌, ◌++◌, ◌∷◌, [], ℕ, true, Bool, List, All, Option, Some, None, length, slice_get, IfOk, IfSome, IfNone, OnOk};
+ghost use Rattle.std.specs.Bool.{OnTrue};
 ghost use Rattle.pls_model.specs.declared.row.NodeRow.{NodeRow};
 ghost use Rattle.pls_scheme.specs.Reading.{judge_by};
 ghost use Rattle.pls_universal.specs.Reading.{map_label};
@@ -9,7 +9,6 @@ ghost use Rattle.pls_universal.specs.Rules.{map_rules};
 ghost use Rattle.pls_universal.specs.inner.Deciding.{AreDecided, IsNumberOf, IsNumberOfMap};
 
 use crate::layout::MapLayout;
-use crate::map_order::comes_before;
 use crate::stating::{Stated, stated_by};
 use crate::tested::Tested;
 use crate::verifying::{parts, verdict_on};
@@ -19,6 +18,7 @@ use pls_model::Verdict;
 use pls_scheme::Layout;
 use pls_view::{LabelStore, View};
 use std::alloc::Global;
+use std::collections::BTreeMap;
 
 /// What was found out of the map of the label at a place.
 #[derive(Drop)]
@@ -32,9 +32,9 @@ pub struct DecidedMap {
 pub struct DecidedMaps {
     // The maps, numbered from 0 as they came.
     pub(crate) maps: Vec<DecidedMap>,
-    // Their numbers, that of the least map first. How soon a map is found again rests on this
-    // order, and no answer does.
-    pub(crate) order: Vec<usize>,
+    // Their numbers, by the words of the maps. How soon a map is found again rests on this table,
+    // and no answer does.
+    numbers: BTreeMap<Vec<u64>, usize>,
 }
 
 impl DecidedMaps {
@@ -45,49 +45,55 @@ impl DecidedMaps {
     {
         DecidedMaps {
             maps: Vec::new(alloc),
-            order: Vec::new(alloc),
+            numbers: BTreeMap::new(alloc),
         }
     }
 
-    // Puts a map behind the others, and its number at this place of their order. The one error is
-    // want of memory.
-    fn put(&mut self, at: usize, map: DecidedMap) -> Result<usize, NoMemory>
-        requires { at ≤ length self.old.order.items }
+    // Puts a map behind the others, which has these words. The one error is want of memory.
+    fn put(&mut self, words: Vec<u64>, map: DecidedMap) -> Result<usize, NoMemory>
         ensures number { IfOk result (λ number. number ≡ length self.old.maps.items) }
         ensures maps { OnOk result (self.new.maps.items ≡ self.old.maps.items ++ map ∷ []) }
-        ensures order { OnOk result (self.new.order.items
-            ≡ insert self.old.order.items at (length self.old.maps.items)) }
     {
         let number = self.maps.len();
-        self.order.insert(at, number)?;
         self.maps.push(map)?;
+        self.numbers.insert(words, number)?;
         Ok(number)
     }
 
-    // The number of an equal map, or the place at which this one stands in the order.
-    fn seek<C: NumCode>(&self, labels: &LabelStore, map: &Bits<'_>) -> Result<usize, usize>
-        requires numbers { All (λ number. number < length self.now.maps.items)
-            self.now.order.items }
-        requires places { All (λ map. map.place < length labels.now) self.now.maps.items }
-        ensures number { IfOk result (IsNumberOfMap C.takes labels.now self.now map.now) }
-        ensures place { IfErr result (λ place. place ≤ length self.now.order.items) }
+    // The number of an equal map. That of the map that came last is looked at first, so that where
+    // all labels have one map, nothing is looked up. The one error is want of memory.
+    fn seek<C: NumCode>(
+        &self,
+        alloc: Global,
+        labels: &LabelStore,
+        map: &Bits<'_>,
+    ) -> Result<Option<usize>, NoMemory>
+        requires { All (λ map. map.place < length labels.now) self.now.maps.items }
+        ensures { IfOk result (λ found. IfSome found
+            (IsNumberOfMap C.takes labels.now self.now map.now)) }
     {
-        let mut low = 0;
-        let mut high = self.order.len();
-        while low < high {
-            let middle = low + (high - low) / 2;
-            let number = self.order[middle];
-            let other = labels.bits(self.maps[number].place);
-            if has_map::<C>(&other, map) {
-                return Ok(number);
-            }
-            if comes_before(map, &other) {
-                high = middle;
-            } else {
-                low = middle + 1;
+        let last = self.maps.len().saturating_sub(1);
+        if self.is_number::<C>(labels, last, map) {
+            return Ok(Some(last));
+        }
+        let words = words_of(alloc, map)?;
+        if let Some(number) = self.numbers.get(words.as_slice()) {
+            if self.is_number::<C>(labels, *number, map) {
+                return Ok(Some(*number));
             }
         }
-        Err(low)
+        Ok(None)
+    }
+
+    // Whether the map with this number is there and equal to this one.
+    fn is_number<C: NumCode>(&self, labels: &LabelStore, number: usize, map: &Bits<'_>) -> bool
+        requires { All (λ map. map.place < length labels.now) self.now.maps.items }
+        ensures { OnTrue result (IsNumberOfMap C.takes labels.now self.now map.now number) }
+    {
+        match self.maps.get(number) {
+            Some(known) => has_map::<C>(&labels.bits(known.place), map),
+            None => false,
+        }
     }
 
     // The number of the map of the label, which stands at place `i`, or `None` where the label
@@ -111,17 +117,32 @@ impl DecidedMaps {
         let Some((_, map)) = parts::<C>(label) else {
             return Ok(None);
         };
-        let at = match self.seek::<C>(labels, &map) {
-            Ok(number) => return Ok(Some(number)),
-            Err(at) => at,
-        };
+        if let Some(known) = self.seek::<C>(alloc, labels, &map)? {
+            return Ok(Some(known));
+        }
         let Some(read) = MapLayout::<C>::read(alloc, label)? else {
             return Ok(None);
         };
         let stated = stated_by(alloc, property, read.rows.as_slice())?;
-        let number = self.put(at, DecidedMap { place: i, stated })?;
+        let words = words_of(alloc, &map)?;
+        let number = self.put(words, DecidedMap { place: i, stated })?;
         Ok(Some(number))
     }
+}
+
+// How many bits a map has, and the bits in words, the last filled up with zeros. So maps that are
+// equal have the same words.
+fn words_of(alloc: Global, map: &Bits<'_>) -> Result<Vec<u64>, NoMemory> {
+    let mut words = Vec::new(alloc);
+    words.push(map.len() as u64)?;
+    map.append_to(&mut words)?;
+    let used = map.len() % 64;
+    if let Some(last) = words.last_mut() {
+        if used > 0 {
+            *last &= u64::MAX << (64 - used);
+        }
+    }
+    Ok(words)
 }
 
 // Whether the map of a label is this one, bit by bit.

@@ -23,7 +23,6 @@ mod deciding;
 mod layout;
 mod map;
 mod map_of;
-mod map_order;
 mod marking;
 mod reading;
 mod stating;

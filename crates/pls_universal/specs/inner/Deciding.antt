@@ -1,5 +1,5 @@
 -- Maps that were decided in a round, each once for all nodes that have it.
-use Rattle.std.specs.Prelude.{◌≡◌, ℕ, ◌<◌, Bool, List, length, All, slice_get, Option, Some}
+use Rattle.std.specs.Prelude.{◌≡◌, ℕ, Bool, List, slice_get, Option, Some}
 use Rattle.pls_model.specs.declared.row.NodeRow.{NodeRow}
 use Rattle.pls_universal.specs.declared.map.MapLabel.{MapLabel}
 use Rattle.pls_universal.specs.declared.deciding.DecidedMap.{DecidedMap}
@@ -14,10 +14,9 @@ pub record IsDecided (takes : List Bool → Option (ℕ × List Bool)) (test : L
   pub read : map_label takes bits ≡ Some own
   pub stated : IsStated test own.rows map.stated
 
--- so was each of the maps, and the numbers in their order are of some of them
+-- so was each of the maps
 pub record AreDecided (takes : List Bool → Option (ℕ × List Bool)) (test : List NodeRow → Bool)
     (labels : List (List Bool)) (decided : DecidedMaps) : Type 0 where
-  pub numbers : All (λ number. number < length decided.maps.items) decided.order.items
   pub each : (number : ℕ) (map : DecidedMap) → slice_get decided.maps.items number ≡ Some map
       → (bits : List Bool) × (slice_get labels map.place ≡ Some bits)
       × IsDecided takes test bits map

@@ -1,48 +1,51 @@
-use Rattle.std.proofs.Common.{◌≡◌, ◌∙◌, Some, sym, subst}
+use Rattle.std.proofs.Common.{◌≡◌, ◌∙◌, IfSome, Some, sym, subst}
 use Rattle.pls_universal.specs.Reading.{map_label}
-use Rattle.pls_universal.specs.inner.Deciding.{IsDecided, IsNumberOf}
+use Rattle.pls_universal.specs.inner.Deciding.{IsDecided, IsNumberOf, IsNumberOfMap}
 use Rattle.pls_universal.specs.inner.Stating.{IsStated}
 use Rattle.pls_universal.specs.declared.deciding.DecidedMap.{DecidedMap}
 use Rattle.pls_universal.proofs.KnownMaps.{known-map, one-decided, one-number}
 use Rattle.pls_universal.proofs.deciding.DecidedMaps.number_of.Goals as goal
 
-pub returns-in-Ok-clause-number : goal.returns-in-Ok-clause-number
-returns-in-Ok-clause-number g c =
-    known-map g.C.NumCode.takes (g.P.Tested.test c.args.property.now) c.args.labels.now
-    c.args.self.now c.requires.decided c.args.label.now c.in-Some.field-0-0 c.in-Some.map
-    c.in-Ok.number (sym c.in-Some.ensures) c.in-Ok.ensures.number
+pub returns-in-Some-2-clause-number : goal.returns-in-Some-2-clause-number
+returns-in-Some-2-clause-number g c =
+    let takes = g.C.NumCode.takes in
+    let labels = c.args.labels.now in
+    let map = c.in-Some.map in
+    let is : IsNumberOfMap takes labels c.args.self.now map c.in-Some-2.known =
+    subst (λ found. IfSome found (IsNumberOfMap takes labels c.args.self.now map)) c.in-Some-2.is
+    c.in_ok-known.ensures in
+    known-map takes (g.P.Tested.test c.args.property.now) labels c.args.self.now c.requires.decided
+    c.args.label.now c.in-Some.field-0-0 map c.in-Some-2.known (sym c.in-Some.ensures) is
 
 pub returns-clause-decided : goal.returns-clause-decided
 returns-clause-decided g c =
     let takes = g.C.NumCode.takes in
     let test = g.P.Tested.test c.args.property.now in
     let map : DecidedMap = record { place = c.args.i; stated = c.in_ok-stated.stated } in
-    let read : map_label takes c.args.label.now ≡ Some c.in-Some-2.read =
-    sym c.in_ok-read.ensures ∙ c.in-Some-2.is in
+    let read : map_label takes c.args.label.now ≡ Some c.in-Some-3.read =
+    sym c.in_ok-read.ensures ∙ c.in-Some-3.is in
     let found : IsDecided takes test c.args.label.now map = record {
-      own = c.in-Some-2.read;
+      own = c.in-Some-3.read;
       read = read;
       stated = subst (λ rows. IsStated test rows c.in_ok-stated.stated) c.as_slice.ensures
           c.in_ok-stated.ensures;
     } in
     one-decided takes test c.args.labels.now c.args.self.now c.requires.decided c.put.new.self
-    c.in-Err.at map c.args.label.now c.in-Err.ensures.place c.in_ok-number.ensures.maps
-    c.in_ok-number.ensures.order c.requires.at found
+    map c.args.label.now c.in_ok-number.ensures.maps c.requires.at found
 
 pub returns-clause-number : goal.returns-clause-number
 returns-clause-number g c =
     let takes = g.C.NumCode.takes in
     let test = g.P.Tested.test c.args.property.now in
     let map : DecidedMap = record { place = c.args.i; stated = c.in_ok-stated.stated } in
-    let read : map_label takes c.args.label.now ≡ Some c.in-Some-2.read =
-    sym c.in_ok-read.ensures ∙ c.in-Some-2.is in
+    let read : map_label takes c.args.label.now ≡ Some c.in-Some-3.read =
+    sym c.in_ok-read.ensures ∙ c.in-Some-3.is in
     let found : IsDecided takes test c.args.label.now map = record {
-      own = c.in-Some-2.read;
+      own = c.in-Some-3.read;
       read = read;
       stated = subst (λ rows. IsStated test rows c.in_ok-stated.stated) c.as_slice.ensures
           c.in_ok-stated.ensures;
     } in
     subst (IsNumberOf takes test c.put.new.self c.args.label.now) (sym c.in_ok-number.ensures.number)
     (one-number takes test c.args.labels.now c.args.self.now c.requires.decided c.put.new.self
-    c.in-Err.at map c.args.label.now c.in-Err.ensures.place c.in_ok-number.ensures.maps
-    c.in_ok-number.ensures.order c.requires.at found)
+    map c.args.label.now c.in_ok-number.ensures.maps c.requires.at found)
