@@ -61,7 +61,12 @@ fn bridges_are_found(rt: HostRuntime) -> Result<(), Fail> {
         ("a path", 4, PATH, false),
         ("a ring", 5, RING, true),
         ("a ring and a node at its last", 6, TAIL_AT_THE_LAST, false),
-        ("a ring and a node at its first", 6, TAIL_AT_THE_FIRST, false),
+        (
+            "a ring and a node at its first",
+            6,
+            TAIL_AT_THE_FIRST,
+            false,
+        ),
         ("two rings and an edge between", 6, TWO_RINGS_APART, false),
         ("two rings that share a node", 5, TWO_RINGS_AT_A_NODE, true),
         ("each two of four", 4, ALL_OF_FOUR, true),
