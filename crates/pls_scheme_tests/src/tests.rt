@@ -3,6 +3,7 @@
 mod boruvka;
 mod combinations;
 mod distances;
+mod expressions;
 mod leaders;
 mod pointers;
 mod rechecks;

@@ -29,7 +29,7 @@ pub(super) fn has(bits: u32, place: u32) -> bool {
 }
 
 // A number with this bit too.
-fn with(bits: u32, place: u32) -> u32 {
+pub(super) fn with(bits: u32, place: u32) -> u32 {
     bits | 1_u32.wrapping_shl(place)
 }
 
@@ -77,18 +77,25 @@ impl Small {
     }
 }
 
-// Whether these edges join the nodes up to a number of them.
-pub(super) fn are_joined(edges: u32, nodes: u32) -> bool {
-    let mut reached = 1_u32;
-    for _ in 0..4 {
+// The nodes that a walk of at most so many edges reaches from a node, one bit a node.
+pub(super) fn reached(edges: u32, start: u32, most: u32) -> u32 {
+    let mut reached = with(0, start);
+    for _ in 0..most {
+        let before = reached;
         for a in 0..4 {
             for b in 0..4 {
-                if Small::joins(edges, a, b) && has(reached, a) {
+                if Small::joins(edges, a, b) && has(before, a) {
                     reached = with(reached, b);
                 }
             }
         }
     }
+    reached
+}
+
+// Whether these edges join the nodes up to a number of them.
+pub(super) fn are_joined(edges: u32, nodes: u32) -> bool {
+    let reached = reached(edges, 0, 3);
     (0..4).all(|node| node >= nodes || has(reached, node))
 }
 
@@ -120,7 +127,7 @@ pub(super) fn is_tree(net: Small) -> bool {
 }
 
 // No chain of one to four pointers returns to its start.
-fn is_forest(net: Small) -> bool {
+pub(super) fn is_forest(net: Small) -> bool {
     (0..4).all(|start| !returns(net, start))
 }
 
@@ -140,7 +147,7 @@ fn returns(net: Small, start: u32) -> bool {
 }
 
 // Some choice of two colours differs across each edge.
-fn is_bipartite(net: Small) -> bool {
+pub(super) fn is_bipartite(net: Small) -> bool {
     (0..16_u32).any(|colours| differs(net.edges, colours))
 }
 
@@ -150,7 +157,7 @@ fn differs(edges: u32, colours: u32) -> bool {
 }
 
 // No ring goes through three or four different nodes.
-fn is_acyclic(net: Small) -> bool {
+pub(super) fn is_acyclic(net: Small) -> bool {
     for a in 0..4 {
         for b in 0..4 {
             for c in 0..4 {
@@ -170,7 +177,7 @@ fn closes(edges: u32, a: u32, b: u32, c: u32) -> bool {
 }
 
 // The text of a network.
-fn text_of(alloc: Global, net: Small) -> Result<Vec<u8>, AllocError> {
+pub(super) fn text_of(alloc: Global, net: Small) -> Result<Vec<u8>, AllocError> {
     let mut text = b"network\n".to_vec(alloc)?;
     for node in 0..net.nodes.min(4) {
         let line = match net.pointer(node) {
