@@ -1,5 +1,5 @@
 -- How long marked labels are at most.
-use Rattle.std.proofs.Common.{◌≡◌, ℕ, ◌+◌, ◌-◌, ◌*◌, ◌^◌, ◌≤◌, nat_le, le-leb, if◌then◌else◌, Bool, true, false, List, [], ◌∷◌, map, length, subst, arith}
+use Rattle.std.proofs.Common.{◌≡◌, ℕ, ◌+◌, ◌-◌, ◌*◌, ◌^◌, ◌≤◌, nat_le, le-leb, if◌then◌else◌, Bool, true, false, List, [], ◌∷◌, length, subst, arith}
 use Rattle.std.proofs.Common.{mul-le-mul}
 use Rattle.std.proofs.Math.Nat.{mul-le-mul_right}
 use Rattle.pls_bits.specs.Gamma.{gamma_code}

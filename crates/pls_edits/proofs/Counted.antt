@@ -1,8 +1,7 @@
 -- What is counted of the lines of edits, with one more.
-use Rattle.std.proofs.Common.{◌≡◌, ◌∙◌, ℕ, ◌+◌, ◌-◌, ◌^◌, Bool, true, false, cond, List, [], ◌∷◌, ◌++◌, length, min, refl, sym, ap, subst, arith, append-nil, length-append}
-use Rattle.std.specs.List.{All, filter}
+use Rattle.std.proofs.Common.{◌≡◌, ◌∙◌, ℕ, ◌+◌, Bool, true, false, List, [], ◌∷◌, ◌++◌, length, min, refl, sym, ap, subst, arith, length-append}
+use Rattle.std.specs.List.{All}
 use Rattle.std.proofs.lemmas.List.Elements.{All-push}
-use Rattle.pls_lines.specs.Counted.{counted}
 use Rattle.pls_lines.specs.ListPart.{Begun}
 use Rattle.pls_lines.proofs.ListItems.{All-front}
 use Rattle.pls_edits.specs.declared.edit_line.EditLine.{EditLine}

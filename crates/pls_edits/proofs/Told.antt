@@ -1,5 +1,5 @@
 -- A text says one list of edits and rounds, which are counted.
-use Rattle.std.proofs.Common.{◌≡◌, ◌∙◌, inl, inr, ℕ, ◌<◌, ◌≤◌, List, [], length, codes, Result, Ok, Err, refl, sym, ap, subst, append-nil, arith}
+use Rattle.std.proofs.Common.{◌≡◌, ◌∙◌, ℕ, ◌<◌, ◌≤◌, List, [], length, codes, Result, Ok, Err, sym, ap, subst, append-nil, arith}
 use Rattle.std.specs.Result.{IfErr, IsErrAnd}
 use Rattle.pls_base.specs.declared.text_error.TextError.{TextError}
 use Rattle.pls_base.specs.declared.text_error.TextError.TheVariants.{NoMemory}

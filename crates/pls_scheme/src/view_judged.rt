@@ -1,6 +1,6 @@
 //! The verdict on a view, by rules that are tried in place.
 
-ghost use Rattle.std.specs.Prelude.{◌≡◌, Some, if◌then◌else◌};
+ghost use Rattle.std.specs.Prelude.{◌≡◌};
 ghost use Rattle.pls_scheme.specs.Reading.{is_pointer, judge_by};
 
 use crate::in_place::{JudgesInPlace, Looked};
@@ -29,17 +29,19 @@ pub(crate) fn judged<R: JudgesInPlace>(rules: &R, view: &View<'_>) -> Verdict
             glance: &seen,
         };
         tally = rules.pass(view.state.up, &own, tally, place, port.weight, &label);
-        above = above_so_far(view.state.up, place, seen, above);
+        if is_pointer(view.state.up, place) {
+            above = Some(seen);
+        }
     }
     rules.close(view.id, view.state, &own, above.as_ref(), tally)
 }
 
-// What was seen above, with what is seen at one more place.
-fn above_so_far<G: Drop>(up: Option<u32>, place: usize, seen: G, above: Option<G>) -> Option<G>
-    ensures { result ≡ (if is_pointer up place then Some seen else above) }
+// Whether a pointer is the port at this place.
+fn is_pointer(up: Option<u32>, place: usize) -> bool
+    ensures { result ≡ is_pointer up place }
 {
     match up {
-        Some(port) if port as usize == place => Some(seen),
-        _ => above,
+        Some(port) => port as usize == place,
+        None => false,
     }
 }

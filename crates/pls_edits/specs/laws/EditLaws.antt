@@ -1,6 +1,6 @@
 -- The lines of edits are a kind of line, and lists of them a part.
-use Rattle.std.proofs.Common.{◌≡◌, ◌∙◌, ℕ, ◌-◌, ◌<◌, ◌≤◌, ◌^◌, nat_lt, Bool, true, false, List, [], ◌∷◌, ◌++◌, length, Option, Some, None, IfSome, if◌then◌else◌, codes, decimal, refl, sym, ap, arith}
-use Rattle.std.specs.List.{All, AllByRecursion, list_all}
+use Rattle.std.proofs.Common.{◌≡◌, ◌∙◌, ℕ, ◌-◌, ◌<◌, ◌^◌, nat_lt, Bool, true, false, List, [], ◌∷◌, ◌++◌, length, Option, Some, None, IfSome, if◌then◌else◌, codes, decimal, refl, ap, arith}
+use Rattle.std.specs.List.{AllByRecursion, list_all}
 use Rattle.std.specs.Str.{bytes_eq}
 use Rattle.std.specs.Str.Parse.{digits_value}
 use Rattle.std.proofs.lemmas.List.Elements.{All-nil}
@@ -29,7 +29,7 @@ use Rattle.pls_edits.specs.declared.edit.Edit.TheVariants.{State, Weight, Link, 
 use Rattle.pls_edits.specs.declared.edit_line.EditLine.{EditLine}
 use Rattle.pls_edits.specs.declared.edit_line.EditLine.TheVariants.{Edit as Makes, Round}
 use Rattle.pls_edits.specs.declared.edits_tally.EditsWord.{EditsWord}
-use Rattle.pls_edits.specs.EditsText.{AreEdits, FitsEdit, FitThree, IsEditsPart, edit_args, edit_line, edit_word, is_round}
+use Rattle.pls_edits.specs.EditsText.{AreEdits, FitsEdit, FitThree, IsEditsPart, edit_args, edit_line, edit_word}
 
 -- what a word says as a number, and as a pointer
 abbrev number : List ℕ → ℕ

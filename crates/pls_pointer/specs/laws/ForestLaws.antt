@@ -1,8 +1,7 @@
 -- The theorem of the scheme of forests.
-use Rattle.std.proofs.Common.{◌≡◌, ℕ, ◌<◌, ◌==◌, Bool, List, [], ◌∷◌, length, Contains, Option, ap, arith}
+use Rattle.std.proofs.Common.{ℕ, ◌<◌, ◌==◌, Bool, List, length, Option, ap, arith}
 use Rattle.std.proofs.lemmas.Bool.{eq-eqb}
 use Rattle.pls_bits.specs.NumberCode.{Grows, IsShort}
-use Rattle.pls_model.specs.declared.row.NodeRow.{NodeRow}
 use Rattle.pls_graph.specs.Size.{size_of}
 use Rattle.pls_scheme.specs.Numbers.{AreCoded, label_in}
 use Rattle.pls_scheme.specs.SchemeLaws.{IsMarkedOnce, IsSound}

@@ -1,10 +1,10 @@
 -- The theorem of the scheme of trees.
-use Rattle.std.proofs.Common.{◌≡◌, ◌≤◌, ◌<◌, ◌∙◌, ◌||◌, ◌==◌, ◌&&◌, ℕ, Bool, true, List, [], ◌∷◌, length, Contains, Option, None, sym, ap, arith, is_some}
+use Rattle.std.proofs.Common.{◌≡◌, ◌≤◌, ◌<◌, ◌∙◌, ◌||◌, ◌==◌, ◌&&◌, ℕ, Bool, true, List, length, Contains, Option, None, sym, ap, arith, is_some}
 use Rattle.std.proofs.lemmas.Bool.{and_from, and_parts, eq-eqb, eqb-true}
 use Rattle.pls_bits.specs.NumberCode.{Grows, IsShort}
 use Rattle.pls_model.specs.declared.row.Port.{Port}
 use Rattle.pls_model.specs.declared.row.NodeRow.{NodeRow}
-use Rattle.pls_model.specs.Configuration.{IsNetwork, ids_of}
+use Rattle.pls_model.specs.Configuration.{ids_of}
 use Rattle.pls_graph.specs.Size.{greatest, size_of}
 use Rattle.pls_scheme.specs.Numbers.{AreCoded, label_in}
 use Rattle.pls_scheme.specs.Reading.{read_where, port_where}

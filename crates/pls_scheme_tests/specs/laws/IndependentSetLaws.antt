@@ -9,13 +9,13 @@ use Rattle.pls_model.specs.Configuration.{IsNetwork}
 use Rattle.pls_model.specs.Walk.{Adjacent, edges_of}
 use Rattle.pls_graph.specs.Size.{greatest}
 use Rattle.pls_scheme.specs.Numbers.{AreCoded, AreCodesOf}
-use Rattle.pls_scheme.specs.Reading.{read_where, port_where}
+use Rattle.pls_scheme.specs.Reading.{port_where}
 use Rattle.pls_scheme.specs.Theorem.{HoldEverywhere, OneIsRight, RightFits, RulesAreMet, RulesShow}
 use Rattle.pls_scheme.proofs.Fitting.{within_fits}
 use Rattle.pls_scheme.proofs.SaidPorts.{passes_at_some, some_port_passes}
 use Rattle.pls_facts.proofs.Neighbours.{neighbour_row, port_adjacent, port_leads, within_greatest}
 use Rattle.pls_scheme_tests.specs.declared.independent_set.MarkLabel.{MarkLabel}
-use Rattle.pls_scheme_tests.specs.IndependentSet.{IsInside, IsMaximalIndependent, independent_rules, independent_says, is_apart, is_inside, longest_independent, mark_of, numbers_of_mark}
+use Rattle.pls_scheme_tests.specs.IndependentSet.{IsInside, IsMaximalIndependent, independent_rules, independent_says, is_inside, longest_independent, numbers_of_mark}
 
 -- tests of which not both pass, and of which one does
 not_both : (a b : Bool) → (a ≡ true → b ≡ true → ⊥) → not (a && b) ≡ true

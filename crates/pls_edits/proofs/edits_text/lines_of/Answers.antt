@@ -1,6 +1,4 @@
-use Rattle.std.proofs.Common.{◌≡◌, ◌∙◌, List, [], ◌∷◌, ◌++◌, ap, refl, sym, append-nil, append_assoc}
-use Rattle.pls_lines.specs.ListPart.{NextItem, Remains}
-use Rattle.pls_edits.specs.EditsText.{FitsEdit, edit_line}
+use Rattle.std.proofs.Common.{◌≡◌, ◌∙◌, List, [], ◌∷◌, ◌++◌, ap, sym, append-nil, append_assoc}
 use Rattle.pls_edits.specs.declared.edit_line.EditLine.{EditLine}
 use Rattle.pls_edits.proofs.edits_text.lines_of.Goals as goal
 

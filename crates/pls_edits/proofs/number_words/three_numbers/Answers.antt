@@ -1,4 +1,4 @@
-use Rattle.std.proofs.Common.{ℕ, List, [], ◌∷◌, ◌++◌, decimal, ◌∙◌, ap, arith}
+use Rattle.std.proofs.Common.{◌∙◌, arith}
 use Rattle.pls_lines.specs.laws.NumberWords.{behind_number, behind_word}
 use Rattle.pls_edits.proofs.LineTexts.{three_text}
 use Rattle.pls_edits.proofs.number_words.three_numbers.Goals as goal

@@ -1,4 +1,4 @@
-use Rattle.std.proofs.Common.{◌≡◌, ◌∙◌, ◌≤◌, List, Option, Some, length, slice_get, sym, ap, arith, if◌then◌else◌, ℕ}
+use Rattle.std.proofs.Common.{◌≡◌, ◌∙◌, ◌≤◌, ℕ, Bool, List, Option, Some, length, slice_get, take, sym, ap, arith, if◌then◌else◌}
 use Rattle.std.proofs.lemmas.List.{length-map, take_all}
 use Rattle.pls_view.specs.Seen.{Seen, SeenPort}
 use Rattle.pls_facts.proofs.Lists.{item_mapped}
@@ -6,6 +6,7 @@ use Rattle.pls_scheme.specs.Reading.{is_pointer}
 use Rattle.pls_scheme.specs.inner.Looks.{seen_above, seen_in}
 use Rattle.pls_scheme.proofs.Passing.{above_more, above_none, pass_more, pass_opened, passed, unpassed}
 use Rattle.pls_scheme.proofs.view_judged.judged.Goals as goal
+use Rattle.pls_scheme.proofs.view_judged.judged.Goals.{else-is_pointer, then-is_pointer}
 
 pub loop-place-init : goal.loop-place-init
 loop-place-init g c =
@@ -44,7 +45,12 @@ loop-place-preserved g c =
     c.loop-place-test.true c.port-item.is) in
     let port_seen : Some c.in-Some-look.seen ≡ seen_in said glance port.label =
     sym c.in-Some-look.is ∙ c.look-in-loop-place.ensures in
-    let up_is = ap (λ (view : Seen). view.state.up) c.view.view_is in record {
+    let up_is = ap (λ (view : Seen). view.state.up) c.view.view_is in
+    let before = seen_above said glance (take c.loop-place.place view.ports) view.state.up in
+    let more = above_more said glance view.ports c.loop-place.place port view.state.up
+    c.in-Some-look.seen at port_seen in
+    let test = sym (c.is_pointer.ensures
+    ∙ ap (λ (up : Option ℕ). is_pointer up c.loop-place.place) up_is) in record {
       passed = pass_more said glance (g.R.JudgesInPlace.gathered c.args.rules.now) view
           c.loop-place.place c.loop-place.tally c.pass-tally.result port c.in-Some.glance
           c.in-Some-look.seen c.loop-place.invariant.passed at
@@ -54,14 +60,14 @@ loop-place-preserved g c =
           c.pass-tally.ensures view.id view.state mine theirs ports (sym up_is) many
           (ap (λ (view : Seen). said view.own) c.view.view_is ∙ own_read) own_same port_read
           port_same is);
-      above = c.above_so_far-above.ensures
-          ∙ ap (λ (up : Option ℕ). if is_pointer up c.loop-place.place then Some c.in-Some-look.seen
-          else c.loop-place.above) up_is
-          ∙ ap (λ (above : Option g.row.R-Glance.Denot).
-          if is_pointer view.state.up c.loop-place.place then Some c.in-Some-look.seen else above)
-          c.loop-place.invariant.above
-          ∙ sym (above_more said glance view.ports c.loop-place.place port view.state.up
-          c.in-Some-look.seen at port_seen);
+      above = elim c.if-is_pointer.branch [
+        | then-is_pointer w ↦ w.above-is
+            ∙ sym (more ∙ ap (λ (here : Bool). if here then Some c.in-Some-look.seen
+            else before) (test ∙ w.if-is_pointer.true))
+        | else-is_pointer w ↦ w.above-is ∙ c.loop-place.invariant.above
+            ∙ sym (more ∙ ap (λ (here : Bool). if here then Some c.in-Some-look.seen
+            else before) (test ∙ w.if-is_pointer.false))
+      ];
     }
 
 pub returns : goal.returns

@@ -1,7 +1,6 @@
-use Rattle.std.proofs.Common.{◌≡◌, ◌∙◌, ℕ, ◌+◌, ◌-◌, ◌^◌, Bool, true, false, min, length, ap, refl, sym, arith}
+use Rattle.std.proofs.Common.{◌≡◌, ◌∙◌, ℕ, ◌+◌, ◌-◌, ◌^◌, min, length, ap, sym, arith}
 use Rattle.pls_edits.specs.declared.edits_tally.EditsTally.{EditsTally}
 use Rattle.pls_edits.specs.EditsText.{is_round, rounds_of}
-use Rattle.pls_edits.specs.inner.Tally.{edits_tally}
 use Rattle.pls_edits.proofs.Counted.{begun_push, closed_push, events_push, round_number, rounds_push}
 use Rattle.pls_edits.proofs.edits_tally.EditsTallyListTally.take.Goals as goal
 
