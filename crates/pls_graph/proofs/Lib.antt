@@ -37,5 +37,6 @@ mod WeightDone
 mod Undone
 mod Fronts
 mod Shaped
+mod Spread
 mod Inserted
 mod EditSteps

@@ -9,7 +9,7 @@ ghost use Rattle.pls_model.specs.declared.limits.TheConstants.{MAX_NODES};
 ghost use Rattle.pls_model.specs.declared.refusal.BuildError.TheVariants.{Order};
 ghost use Rattle.pls_graph.specs.inner.Gaps.{IsGap};
 ghost use Rattle.pls_graph.specs.inner.Ranges.{rows_at};
-ghost use Rattle.pls_graph.specs.inner.Seeking.{AreRising};
+ghost use Rattle.pls_graph.specs.inner.Seeking.{AreRising, IsBetween};
 
 use crate::table::Node;
 use pls_model::{BuildError, Port};
@@ -28,31 +28,35 @@ pub(crate) fn order(nodes: &[Node]) -> Option<BuildError>
     None
 }
 
-/// The place of an identity among nodes whose identities rise. It is looked for first where it
-/// stands if they have no gaps.
+/// The place of an identity among nodes whose identities rise. It is looked for between the places
+/// that the identities at both ends leave: where there are no gaps that is one place.
 pub(crate) fn place_among(nodes: &[Node], id: u32) -> Option<usize>
     requires { AreRising nodes.now }
     ensures { result ≡ position (λ node. id == node.id) nodes.now }
 {
-    match place_without_gaps(nodes, id) {
-        Some(place) => Some(place),
-        None => nodes.binary_search_by_key(&id, |node| node.id).ok(),
+    let (start, stop) = bounds_of(nodes, id)?;
+    let found = nodes[start..stop].binary_search_by_key(&id, |node| node.id);
+    match found {
+        Ok(place) => Some(start + place),
+        Err(_) => None,
     }
 }
 
-// The place of an identity that stands as far behind the first one as it is above it; `None` for
-// every other.
-fn place_without_gaps(nodes: &[Node], id: u32) -> Option<usize>
+// From which place on and up to which one the node of an identity must stand, if there is one: no
+// further from an end than its identity is from the one there. `None` where it is beyond the ends.
+fn bounds_of(nodes: &[Node], id: u32) -> Option<(usize, usize)>
     requires { AreRising nodes.now }
-    ensures { IfSome result (λ place. position (λ node. id == node.id) nodes.now ≡ Some place) }
+    ensures order { IfSome result (λ bounds. bounds.0 ≤ bounds.1) }
+    ensures within { IfSome result (λ bounds. bounds.1 ≤ length nodes.now) }
+    ensures between { IfSome result (λ bounds. IsBetween id bounds.0 bounds.1 nodes.now) }
+    ensures none { IfNone result (position (λ node. id == node.id) nodes.now ≡ None) }
 {
     let first = nodes.first()?;
-    let place = id.checked_sub(first.id)? as usize;
-    if place < nodes.len() && nodes[place].id == id {
-        Some(place)
-    } else {
-        None
-    }
+    let last = nodes.last()?;
+    let below = id.checked_sub(first.id)? as usize;
+    let above = last.id.checked_sub(id)? as usize;
+    let end = nodes.len() - 1;
+    Some((end.saturating_sub(above), below.min(end) + 1))
 }
 
 /// The place among nodes whose identities rise at which one would stand that is new; `None` where a
