@@ -11,3 +11,4 @@ pub mod ListOfAll
 pub mod ListWritten
 pub mod Stepped
 pub mod FormTold
+mod FrontByByte

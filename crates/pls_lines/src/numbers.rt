@@ -9,6 +9,7 @@ const MOST_OF_32_BITS: u64 = 0xffff_ffff;
 
 /// A number up to `most` at the front of a text, and what follows the byte `end` behind it; `None`
 /// where they do not stand there.
+#[inline(always)]
 pub fn number_before(text: &[u8], end: u8, most: u64) -> Option<(u64, &[u8])>
     requires no_digit { end < 48 }
     requires few { most ≤ 2 ^ 63 }
@@ -24,6 +25,7 @@ pub fn number_before(text: &[u8], end: u8, most: u64) -> Option<(u64, &[u8])>
 
 /// A number below 2^32 at the front of a text, and what follows the byte `end` behind it; `None`
 /// where they do not stand there.
+#[inline(always)]
 pub fn u32_before(text: &[u8], end: u8) -> Option<(u32, &[u8])>
     requires no_digit { end < 48 }
     ensures stands { IfSome result (λ parts. text.now ≡ decimal parts.0 ++ end ∷ parts.1.now) }
@@ -37,6 +39,7 @@ pub fn u32_before(text: &[u8], end: u8) -> Option<(u32, &[u8])>
 
 // The number that the digits at the front of a text spell, and what follows all of them; `None`
 // where there are none, where a zero leads others, and where the number is above `most`.
+#[inline]
 fn leading_number(text: &[u8], most: u64) -> Option<(u64, &[u8])>
     requires few { most ≤ 2 ^ 63 }
     ensures stands { IfSome result (λ parts. text.now ≡ decimal parts.0 ++ parts.1.now) }
@@ -61,6 +64,7 @@ fn leading_number(text: &[u8], most: u64) -> Option<(u64, &[u8])>
 }
 
 // What a digit at the front of a text stands for, and what follows it.
+#[inline(always)]
 fn leading_digit(text: &[u8]) -> Option<(u64, &[u8])>
     ensures stands { IfSome result (λ parts. text.now ≡ (48 + parts.0) ∷ parts.1.now) }
     ensures within { IfSome result (λ parts. parts.0 < 10) }

@@ -10,6 +10,7 @@ pub fn is_same(text: &[u8], other: &[u8]) -> bool
 }
 
 /// What follows a word and one space at the front of a text; `None` where they do not stand there.
+#[inline(always)]
 pub fn after_word<'a>(text: &'a [u8], word: &[u8]) -> Option<&'a [u8]>
     ensures stands { IfSome result (λ rest. text.now ≡ word.now ++ 32 ∷ rest.now) }
     ensures none { IfNone result ((rest : List ℕ) → text.now ≢ word.now ++ 32 ∷ rest) }
@@ -19,6 +20,7 @@ pub fn after_word<'a>(text: &'a [u8], word: &[u8]) -> Option<&'a [u8]>
 
 /// What follows a line and its line feed at the front of a text; `None` where they do not stand
 /// there.
+#[inline(always)]
 pub fn after_line<'a>(text: &'a [u8], line: &[u8]) -> Option<&'a [u8]>
     ensures stands { IfSome result (λ rest. text.now ≡ line.now ++ 10 ∷ rest.now) }
     ensures none { IfNone result ((rest : List ℕ) → text.now ≢ line.now ++ 10 ∷ rest) }
@@ -27,6 +29,7 @@ pub fn after_line<'a>(text: &'a [u8], line: &[u8]) -> Option<&'a [u8]>
 }
 
 /// What follows a byte that a text begins with; `None` where it begins with another, or is empty.
+#[inline(always)]
 pub fn after_byte(text: &[u8], byte: u8) -> Option<&[u8]>
     ensures stands { IfSome result (λ rest. text.now ≡ byte ∷ rest.now) }
     ensures none { IfNone result ((rest : List ℕ) → text.now ≢ byte ∷ rest) }
@@ -49,6 +52,7 @@ pub fn bytes_before(text: &[u8], count: usize, end: u8) -> Option<(&[u8], &[u8])
 }
 
 // What follows a front of a text and the byte behind it.
+#[inline(always)]
 fn after_both<'a>(text: &'a [u8], front: &[u8], byte: u8) -> Option<&'a [u8]>
     ensures stands { IfSome result (λ rest. text.now ≡ front.now ++ byte ∷ rest.now) }
     ensures none { IfNone result ((rest : List ℕ) → text.now ≢ front.now ++ byte ∷ rest) }
@@ -57,9 +61,14 @@ fn after_both<'a>(text: &'a [u8], front: &[u8], byte: u8) -> Option<&'a [u8]>
 }
 
 // What follows a front of a text.
+#[inline(always)]
 fn after_front<'a>(text: &'a [u8], front: &[u8]) -> Option<&'a [u8]>
     ensures { MatchOption result ((rest : List ℕ) → text.now ≢ front.now ++ rest)
         (λ rest. text.now ≡ front.now ++ rest.now) }
 {
-    text.strip_prefix(front)
+    let mut rest = text;
+    for byte in front {
+        rest = after_byte(rest, *byte)?;
+    }
+    Some(rest)
 }
