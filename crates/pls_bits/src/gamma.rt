@@ -21,6 +21,7 @@ impl NumCode for Gamma {
 
     ghost takes = { gamma_takes };
 
+    #[inline]
     fn write(buf: &mut BitBuf, number: u64) -> Result<(), NoMemory> {
         let zeros = zeros_of(number);
         buf.push_digits(zeros, number + 1, zeros + 1)
@@ -28,6 +29,7 @@ impl NumCode for Gamma {
 
     // The next 64 bits show the zeros, and mostly all of the code; the code of 0 is a one alone.
     // The cursor moves only where a code comes.
+    #[inline(always)]
     fn read(cursor: &mut Cursor<'_>) -> Option<u64> {
         let ahead = cursor.peek();
         if ahead >> 63 == 1 {
@@ -66,6 +68,7 @@ impl NumCode for Gamma {
 }
 
 // How many zeros the code of a number begins with.
+#[inline(always)]
 fn zeros_of(number: u64) -> usize
     requires { number ≤ MAX_CODED }
     ensures value { result ≡ floor_log (number + 1) }

@@ -62,6 +62,7 @@ impl Network {
     }
 
     /// The number of nodes, at least 1. `valid` says what holds of each network.
+    #[inline(always)]
     pub fn len(&self) -> usize
         ensures len { result ≡ length self.now }
         ensures valid { IsNetwork self.now }
@@ -84,6 +85,7 @@ impl Network {
     }
 
     /// The identity and the state of the node at place i.
+    #[inline(always)]
     pub fn node(&self, i: usize) -> (u32, State)
         requires { i < length self.now }
         ensures id { option_map (λ row. row.id) (slice_get self.now i) ≡ Some result.0 }
@@ -94,6 +96,7 @@ impl Network {
     }
 
     /// The ports of the node at place i, in their order.
+    #[inline(always)]
     pub fn ports(&self, i: usize) -> &[Port]
         requires { i < length self.now }
         ensures { option_map (λ row. row.ports) (slice_get self.now i) ≡ Some result.now }
@@ -102,6 +105,7 @@ impl Network {
     }
 
     /// The places of the neighbours of the node at place i, in the order of its ports.
+    #[inline(always)]
     pub fn places(&self, i: usize) -> &[u32]
         requires { i < length self.now }
         ensures places { result.now ≡ beside self.now i }

@@ -83,6 +83,7 @@ impl Table {
     }
 
     /// The number of nodes.
+    #[inline(always)]
     pub(crate) fn len(&self) -> usize
         ensures rows { result ≡ length self.now.rows }
         ensures places { result ≡ length self.now.places }
@@ -91,6 +92,7 @@ impl Table {
     }
 
     /// The identity and the state of the node at place i.
+    #[inline(always)]
     pub(crate) fn node(&self, i: usize) -> (u32, State)
         requires { i < length self.now.rows }
         ensures id { option_map (λ row. row.id) (slice_get self.now.rows i) ≡ Some result.0 }
@@ -102,6 +104,7 @@ impl Table {
     }
 
     /// The ports of the node at place i.
+    #[inline(always)]
     pub(crate) fn ports(&self, i: usize) -> &[Port]
         requires { i < length self.now.rows }
         ensures { option_map (λ row. row.ports) (slice_get self.now.rows i) ≡ Some result.now }
@@ -111,6 +114,7 @@ impl Table {
     }
 
     /// The places beside the row at place i, as many as it has ports.
+    #[inline(always)]
     pub(crate) fn places(&self, i: usize) -> &[u32]
         requires { i < length self.now.rows }
         ensures places { slice_get self.now.places i ≡ Some result.now }

@@ -67,6 +67,7 @@ pub(crate) fn compare_levels<C: NumCode>(
 }
 
 // What the first levels of a node and of a neighbour say together, so many of them.
+#[inline(always)]
 fn compare_fronts(
     mine: &[Level; FRONT],
     theirs: &[Level; FRONT],
@@ -122,6 +123,7 @@ fn compare_behind<C: NumCode>(
 }
 
 // What is known of the levels so far and of one more.
+#[inline(always)]
 fn with_level(
     found: Compared,
     between: &Between,
@@ -148,6 +150,7 @@ fn with_level(
 }
 
 // Whether a fragment has the node's name, or the neighbour is in it too.
+#[inline(always)]
 fn is_named_or_shared(own: u64, mine: &Level, theirs: &Level) -> bool
     ensures { result ≡ is_named_or_shared own mine.now theirs.now }
 {
@@ -156,6 +159,7 @@ fn is_named_or_shared(own: u64, mine: &Level, theirs: &Level) -> bool
 
 // Whether two nodes of one fragment name one chosen edge, or the chosen edge does not come behind
 // the edge between the two.
+#[inline(always)]
 fn chose_least(between: &Between, mine: &Level, theirs: &Level) -> bool
     ensures { result ≡ chose_least (edge_between between.now) between.now.outside mine.now
         theirs.now }
@@ -168,6 +172,7 @@ fn chose_least(between: &Between, mine: &Level, theirs: &Level) -> bool
 }
 
 // Whether two levels name one chosen edge.
+#[inline(always)]
 fn chose_same(mine: &Level, theirs: &Level) -> bool
     ensures { result ≡ is_same_edge (chosen_edge mine.now) (chosen_edge theirs.now) }
 {
@@ -175,6 +180,7 @@ fn chose_same(mine: &Level, theirs: &Level) -> bool
 }
 
 // Whether the chosen edge does not come behind the edge between two fragments.
+#[inline(always)]
 fn comes_no_later(mine: &Level, between: &Between) -> bool
     ensures { result ≡ is_at_most (edge_key (chosen_edge mine.now) 0)
         (edge_key (edge_between between.now) between.now.outside) }
@@ -185,6 +191,7 @@ fn comes_no_later(mine: &Level, between: &Between) -> bool
 }
 
 // Whether one number is less than another, or the same and what follows holds.
+#[inline(always)]
 fn is_less_or(one: u64, other: u64, follows: bool) -> bool
     ensures { result ≡ (nat_lt one other || (one == other && follows)) }
 {
@@ -192,6 +199,7 @@ fn is_less_or(one: u64, other: u64, follows: bool) -> bool
 }
 
 // Whether two nodes are in two fragments, one of which chose the edge between them.
+#[inline(always)]
 fn is_chosen_between(between: &Between, mine: &Level, theirs: &Level) -> bool
     ensures { result ≡ is_chosen_between (edge_between between.now) mine.now theirs.now }
 {
@@ -199,6 +207,7 @@ fn is_chosen_between(between: &Between, mine: &Level, theirs: &Level) -> bool
 }
 
 // Whether the chosen edge of a level is the edge between two nodes.
+#[inline(always)]
 fn is_edge(level: &Level, between: &Between) -> bool
     ensures { result ≡ is_same_edge (chosen_edge level.now) (edge_between between.now) }
 {

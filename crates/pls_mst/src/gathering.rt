@@ -47,6 +47,7 @@ impl Gathered {
     }
 
     // With one more port, which the pointer is or not.
+    #[inline(always)]
     pub(crate) fn with(
         self,
         pointer: bool,
@@ -130,6 +131,7 @@ pub(crate) fn with_port<C: NumCode>(
 }
 
 // The edge between a node and a neighbour, which it points at or not.
+#[inline(always)]
 pub(crate) fn edge_to(pointer: bool, weight: u32, mine: &MstHead, theirs: &MstHead) -> Between
     ensures { result ≡ between pointer weight mine.now theirs.now }
 {
@@ -143,6 +145,7 @@ pub(crate) fn edge_to(pointer: bool, weight: u32, mine: &MstHead, theirs: &MstHe
 }
 
 // Whether a node is one deeper than another, which is its parent.
+#[inline(always)]
 fn follows_above(own: &MstHead, above: &MstHead) -> bool
     ensures { result ≡ (own.now.depth == above.now.depth + 1 && own.now.parent == above.now.own) }
 {
@@ -150,6 +153,7 @@ fn follows_above(own: &MstHead, above: &MstHead) -> bool
 }
 
 // Whether a pointer is the port of a number.
+#[inline(always)]
 pub(crate) fn is_pointer(up: Option<u32>, number: usize) -> bool
     ensures { result ≡ is_pointer up number }
 {
@@ -160,6 +164,7 @@ pub(crate) fn is_pointer(up: Option<u32>, number: usize) -> bool
 }
 
 // The one or the other.
+#[inline(always)]
 fn one_of(first: bool, one: bool, other: bool) -> bool
     ensures { result ≡ (if first then one else other) }
 {

@@ -67,6 +67,7 @@ fn read_front<C: NumCode>(cursor: &mut Cursor<'_>, count: u64) -> Option<[Level;
 }
 
 // How many of so many levels are kept.
+#[inline(always)]
 pub(crate) fn in_front(count: u64) -> usize
     ensures { result ≡ min count FRONT }
 {
@@ -104,6 +105,7 @@ pub(crate) fn names_all<C: NumCode>(label: &Looked<'_, MstGlance>) -> bool
 }
 
 // Whether the first levels, so many, have this fragment.
+#[inline(always)]
 fn front_has(front: &[Level; FRONT], count: usize, fragment: u64) -> bool
     requires { count ≤ FRONT }
     ensures { result ≡ list_all (λ level. level.fragment == fragment) (take count front.now) }

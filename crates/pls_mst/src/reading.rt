@@ -38,6 +38,7 @@ pub(crate) fn levels_of<'a, C: NumCode>(bits: &Bits<'a>) -> Cursor<'a>
 }
 
 // What stands in front of the levels, which the cursor moves past.
+#[inline]
 pub(crate) fn read_head<C: NumCode>(cursor: &mut Cursor<'_>) -> Option<MstHead>
     ensures found { IfSome result (λ head. head_off C.takes cursor.old ≡ Some (head, cursor.new)) }
     ensures none { IfNone result (head_off C.takes cursor.old ≡ None) }
@@ -58,6 +59,7 @@ pub(crate) fn read_head<C: NumCode>(cursor: &mut Cursor<'_>) -> Option<MstHead>
 
 // The level that comes next, with its edge in order, which the cursor moves past, or `None` where
 // there is none.
+#[inline(always)]
 pub(crate) fn read_level<C: NumCode>(cursor: &mut Cursor<'_>) -> Option<Level>
     ensures found { IfSome result
         (λ level. level_off C.takes cursor.old ≡ Some (level, cursor.new)) }

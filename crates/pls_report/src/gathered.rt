@@ -37,6 +37,7 @@ impl Gathered {
     }
 
     // Adds bytes, where there is room for them.
+    #[inline(always)]
     fn add(&mut self, bytes: &[u8]) -> bool
         ensures { self.new ≡ (if result then self.old ++ bytes.now else self.old) }
     {
@@ -61,6 +62,7 @@ impl Gathered {
     }
 
     /// Writes bytes behind those that were gathered, or gathers them too.
+    #[inline(always)]
     pub(crate) fn put<K: Sink>(&mut self, sink: &mut K, bytes: &[u8]) -> Result<(), Fault>
         ensures { Writes self.old self.new (K.taken sink.old) (K.taken sink.new)
             (K.faults sink.old) (K.faults sink.new) (K.IsSureOf sink.old) (K.IsSureOf sink.new)
@@ -78,6 +80,7 @@ impl Gathered {
 }
 
 // Copies bytes to a place.
+#[inline(always)]
 fn copy_at(into: &mut [u8], at: usize, bytes: &[u8])
     requires { at + length bytes.now ≤ length into.old }
     ensures length { length into.new ≡ length into.old }

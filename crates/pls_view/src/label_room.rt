@@ -73,6 +73,7 @@ impl LabelRoom {
     }
 
     /// How many labels there are.
+    #[inline(always)]
     pub fn len(&self) -> usize
         ensures { result ≡ length self.now.labels }
     {
@@ -94,6 +95,7 @@ impl LabelRoom {
     }
 
     /// The bits of the label at place `i`, lent. It takes no memory.
+    #[inline(always)]
     pub fn bits(&self, i: usize) -> Bits<'_>
         requires { i < length self.now.labels }
         ensures { slice_get self.now.labels i ≡ Some result }
