@@ -20,6 +20,7 @@ mod PortAdded
 mod Ordered
 mod Halved
 mod Agreed
+mod Marked
 mod Sized
 mod Sound
 mod Changing

@@ -1,7 +1,7 @@
 //! The tests that a network passes at each of its rows, made where the rows stand: the port back is
-//! looked for at the place that stands beside a port. Rows of very many ports are left to tables.
+//! looked for at the place that stands beside a port, port by port where each row has few.
 
-ghost use Rattle.std.specs.Prelude.{◌≡◌, ◌<◌, ◌==◌, false, find, length, map, nat_le, option_map, slice_get, true, Some};
+ghost use Rattle.std.specs.Prelude.{◌≡◌, ◌<◌, ◌==◌, false, find, length, map, nat_le, option_map, slice_get, true, IfOk, Some};
 ghost use Rattle.std.specs.Bool.{OnTrue};
 ghost use Rattle.std.specs.List.{list_all, list_any};
 ghost use Rattle.std.specs.Option.{option_map_or};
@@ -11,14 +11,40 @@ ghost use Rattle.pls_graph.specs.Places.{place_in, places_in};
 ghost use Rattle.pls_graph.specs.inner.Ways.{agrees_back, is_mutual};
 ghost use Rattle.pls_graph.specs.inner.Sound.{is_sound};
 
+use crate::marking::are_sound_by_marks;
 use crate::table::Table;
 use pls_model::{Port, State};
+use std::alloc::{AllocError, Global};
 
-// The most ports of a row that are looked through.
-const FEW_PORTS: usize = 64;
+// The most ports of each row where ports are looked for one by one.
+const FEW_PORTS: usize = 16;
 
-/// Whether each row has few ports and passes the tests. `false` says nothing.
-pub(crate) fn are_sound(table: &Table) -> bool
+/// Whether each row passes the tests. `false` says nothing.
+pub(crate) fn are_sound(alloc: Global, table: &Table) -> Result<bool, AllocError>
+    requires { table.now.places ≡ places_in table.now.rows }
+    ensures { IfOk result (λ sound. OnTrue sound
+        (list_all (is_sound table.now.rows) table.now.rows ≡ true)) }
+{
+    if have_few_ports(table) {
+        Ok(are_sound_by_looking(table))
+    } else {
+        are_sound_by_marks(alloc, table)
+    }
+}
+
+// Whether each row has few ports.
+fn have_few_ports(table: &Table) -> bool {
+    for i in 0..table.len() {
+        if table.ports(i).len() > FEW_PORTS {
+            return false;
+        }
+    }
+    true
+}
+
+// Whether each row passes the tests, by a look through its ports and those of its neighbours for
+// each port. `false` says nothing.
+fn are_sound_by_looking(table: &Table) -> bool
     requires { table.now.places ≡ places_in table.now.rows }
     ensures { OnTrue result (list_all (is_sound table.now.rows) table.now.rows ≡ true) }
 {
@@ -30,7 +56,7 @@ pub(crate) fn are_sound(table: &Table) -> bool
     true
 }
 
-// Whether the row at a place has few ports and passes the tests. `false` says nothing.
+// Whether the row at a place passes the tests. `false` says nothing.
 fn row_is_sound(table: &Table, i: usize) -> bool
     requires places { table.now.places ≡ places_in table.now.rows }
     requires within { i < length table.now.rows }
@@ -39,17 +65,14 @@ fn row_is_sound(table: &Table, i: usize) -> bool
 {
     let (id, state) = table.node(i);
     let ports = table.ports(i);
-    if ports.len() > FEW_PORTS {
-        return false;
-    }
     !names(ports, id)
         && !names_twice(ports)
         && !points_nowhere(state, ports)
         && row_is_mutual(table, id, ports, table.places(i))
 }
 
-// Whether one of the ports names a node.
-fn names(ports: &[Port], nbr: u32) -> bool
+/// Whether one of the ports names a node.
+pub(crate) fn names(ports: &[Port], nbr: u32) -> bool
     ensures { result ≡ list_any (λ port. nbr == port.nbr) ports.now }
 {
     ports.iter().any(|port| nbr == port.nbr)
@@ -67,8 +90,8 @@ fn names_twice(ports: &[Port]) -> bool
     false
 }
 
-// Whether the pointer names none of the ports.
-fn points_nowhere(state: State, ports: &[Port]) -> bool
+/// Whether the pointer names none of the ports.
+pub(crate) fn points_nowhere(state: State, ports: &[Port]) -> bool
     ensures { result ≡ option_map_or (λ up. nat_le (length ports.now) up) state.up false }
 {
     state.up.is_some_and(|up| ports.len() <= up as usize)

@@ -125,6 +125,18 @@ impl Table {
         &self.places[node.start..node.start + node.count]
     }
 
+    /// The number of items of the vector in which all ports stand.
+    pub(crate) fn slots(&self) -> usize {
+        self.ports.len()
+    }
+
+    /// Where in that vector the ports of the node at place i start.
+    pub(crate) fn start(&self, i: usize) -> usize
+        requires { i < length self.now.rows }
+    {
+        self.nodes[i].start
+    }
+
     /// The first node whose identity is not above that of the node before it, as a refusal.
     pub(crate) fn order(&self) -> Option<BuildError>
         requires { 1 ≤ length self.now.rows }
