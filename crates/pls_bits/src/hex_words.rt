@@ -61,3 +61,14 @@ fn word_of(digits: &[u8]) -> u64
         Err(_) => unreachable!(),
     }
 }
+
+// The hex text of a word.
+pub(crate) fn word_digits(word: u64) -> [u8; 16]
+    ensures { result ≡ hex_digits (bits_of_word word) }
+{
+    let mut digits = [0; 16];
+    match hex::encode_to_slice(word.to_be_bytes(), &mut digits) {
+        Ok(()) => digits,
+        Err(_) => unreachable!(),
+    }
+}
