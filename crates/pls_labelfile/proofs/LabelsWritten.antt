@@ -1,15 +1,15 @@
 -- The text of labels, written line by line.
-use Rattle.std.proofs.Common.{◌≡◌, ℕ, ◌+◌, ◌<◌, ◌≤◌, ◌^◌, zero, suc, Bool, List, [], ◌∷◌, ◌++◌, map, take, length, Some, codes, decimal, sym, ◌∙◌, ap, subst, slice_get, option_map, append_assoc, add-one, arith}
+use Rattle.std.proofs.Common.{◌≡◌, ℕ, ◌+◌, ◌<◌, ◌≤◌, ◌^◌, zero, suc, Bool, List, [], ◌∷◌, ◌++◌, map, take, length, Some, codes, decimal, refl, sym, ◌∙◌, ap, subst, slice_get, option_map, append_assoc, add-one, arith}
 use Rattle.std.specs.List.{All, sum_by}
 use Rattle.std.proofs.lemmas.List.Elements.{All-push}
-use Rattle.std.specs.Fmt.{digits}
 use Rattle.std.proofs.lemmas.List.{map_push, length-map, take_all}
 use Rattle.std.proofs.lemmas.Option.{slice_get-map}
 use Rattle.pls_model.specs.declared.row.NodeRow.{NodeRow}
 use Rattle.pls_model.specs.Configuration.{ids_of}
 use Rattle.pls_lines.specs.Text.{text_of}
 use Rattle.pls_lines.specs.laws.Fronts.{text_of-append}
-use Rattle.pls_labelfile.specs.LabelsText.{NamedLabel, FitsLabel, label_line, labels_text, named}
+use Rattle.pls_bits.specs.Hex.{hex_digits}
+use Rattle.pls_labelfile.specs.LabelsText.{NamedLabel, FitsLabel, hex_word, label_line, label_of_words, labels_text, named}
 use Rattle.pls_labelfile.proofs.Named.{each_short, named-take, named-all, named_fit}
 
 -- the lines of a labels part up to the labels of the first nodes
@@ -17,15 +17,23 @@ abbrev pub lines_so_far : List NodeRow → List (List Bool) → ℕ → List (Li
 lines_so_far rows labels count =
     codes "labels" ∷ map label_line (named (take count (ids_of rows)) (take count labels))
 
--- a text with the line of an empty label behind it
-pub empty_written : (id : ℕ) (bits : List Bool) (old new : List ℕ) → length bits ≡ 0
-    → new ≡ old ++ (codes "label " ++ (decimal id ++ codes " 0 -\n"))
-    → new ≡ old ++ text_of (label_line (record { id = id; bits = bits }) ∷ [])
-unfolding digits
-empty_written id [] old new none e =
-    e ∙ ap (λ (rest : List ℕ). old ++ (codes "label " ++ rest))
-    (sym (append_assoc (decimal id) (codes " 0 -") (10 ∷ [])))
-empty_written id (bit ∷ bits) old new none e = absurd (omega arith)
+-- a text with the words of a label's line behind it
+pub line_written : (old : List ℕ) (id len : ℕ) (word : List ℕ)
+    → ((((old ++ (codes "label " ++ decimal id)) ++ (codes " " ++ decimal len)) ++ 32 ∷ []) ++ word)
+    ++ 10 ∷ [] ≡ old ++ text_of (label_of_words id len word ∷ [])
+line_written old id len word =
+    let first : List ℕ = codes "label " ++ decimal id in
+    let second : List ℕ = codes " " ++ decimal len in
+    let rest : List ℕ = 32 ∷ word in
+    ap (λ (text : List ℕ). text ++ 10 ∷ [])
+    (append_assoc ((old ++ first) ++ second) (32 ∷ []) word
+    ∙ append_assoc (old ++ first) second rest ∙ append_assoc old first (second ++ rest))
+    ∙ append_assoc old (first ++ (second ++ rest)) (10 ∷ [])
+
+-- the word for some bits
+pub word_of_some : (bits : List Bool) → (bits ≡ [] → ⊥) → hex_word bits ≡ hex_digits bits
+word_of_some [] some = absurd (some refl)
+word_of_some (bit ∷ bits) some = refl
 
 -- the line of one label more
 pub one_line_more : (rows : List NodeRow) (labels : List (List Bool)) (place id : ℕ)

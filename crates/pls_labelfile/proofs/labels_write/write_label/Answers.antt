@@ -1,8 +1,16 @@
-use Rattle.std.proofs.Common.{arith}
-use Rattle.pls_labelfile.proofs.LabelsWritten.{empty_written}
+use Rattle.std.proofs.Common.{length}
+use Rattle.pls_labelfile.specs.LabelsText.{hex_word}
+use Rattle.pls_labelfile.proofs.LabelsWritten.{line_written}
 use Rattle.pls_labelfile.proofs.labels_write.write_label.Goals as goal
 
-pub returns-then-len-eq0-clause-text : goal.returns-then-len-eq0-clause-text
-returns-then-len-eq0-clause-text c =
-    empty_written c.args.id c.args.bits.now _ _
-    (omega (arith, c.if-len-eq0.true, c.len-len.ensures)) c.in_ok-write.ensures.bytes
+pub returns-clause-text : goal.returns-clause-text
+returns-clause-text c =
+    let bits = c.args.bits.now in
+    rw (
+      c.in_ok-push-2.ensures.items,
+      c.in_ok-write_word.ensures,
+      c.in_ok-push.ensures.items,
+      c.in_ok-write_number-2.ensures,
+      c.in_ok-write_number.ensures,
+      c.len.ensures,
+    ) (line_written c.args.text.now.items c.args.id (length bits) (hex_word bits))
