@@ -1,7 +1,8 @@
 -- The lines of a report, piece by piece.
-use Rattle.std.proofs.Common.{◌≡◌, ◌∙◌, ℕ, ◌+◌, ◌<◌, ◌≤◌, Bool, true, false, List, [], ◌∷◌, ◌++◌, map, take, drop, length, get_or, codes, decimal, refl, sym, ap, append-nil, append_assoc}
+use Rattle.std.proofs.Common.{◌≡◌, ◌∙◌, ℕ, ◌+◌, ◌<◌, ◌≤◌, Bool, true, false, List, [], ◌∷◌, ◌++◌, map, take, drop, length, get_or, codes, decimal, refl, sym, ap, append-nil, append_assoc, arith}
+use Rattle.std.proofs.Math.Seq.{take-append-add}
 use Rattle.std.proofs.lemmas.Grind.{flat_map-append}
-use Rattle.std.proofs.lemmas.List.{map-append, take-append-drop, take_more, take_all}
+use Rattle.std.proofs.lemmas.List.{length-take-le, map-append, take-append-drop, take-take, take_more, take_all}
 use Rattle.pls_model.specs.declared.verdict.Verdict.{Verdict}
 use Rattle.pls_model.specs.declared.verdict.Verdict.TheVariants.{Accept, Reject}
 use Rattle.pls_lines.specs.Text.{line_of, text_of}
@@ -43,6 +44,17 @@ node_text id (Decided (Reject leaf rule)) = refl
 node_text id (Waiting ports) =
     ap (λ (tail : List ℕ). (codes "node " ++ (decimal id ++ 32 ∷ tail)) ++ codes "\n")
     (sym (line_spaced (codes "waiting") ports))
+
+-- the first of some numbers behind others
+pub front_behind : (old new more : List ℕ) (at count : ℕ) → at ≤ length old → count ≤ length more
+    → take (at + length more) new ≡ take at old ++ more
+    → take (at + count) new ≡ take at old ++ take count more
+front_behind old new more at count within few is =
+    let place : at + count ≡ length (take at old) + count =
+    omega (arith, length-take-le at old within) in
+    sym (take-take (at + count) (at + length more) new (omega (arith, few)))
+    ∙ ap (take (at + count)) is ∙ ap (λ (n : ℕ). take n (take at old ++ more)) place
+    ∙ take-append-add (take at old) more count
 
 pub closing_text : (simulated : Bool) (rows : List (ℕ × Outcome))
     → ((codes "rejecting " ++ decimal (rejecting rows)) ++ waiting_tail simulated (waiting rows))

@@ -1,9 +1,13 @@
 //! Bytes that are written later, with others.
 
-ghost use Rattle.std.specs.Prelude.{◌≡◌, ◌≤◌, ◌+◌, ◌++◌, [], length, take, if◌then◌else◌, OnOk};
+ghost use Rattle.std.specs.Prelude.{◌≡◌, ◌≤◌, ◌+◌, ◌++◌, ◌∷◌, [], length, if◌then◌else◌, OnOk};
+ghost use Rattle.pls_sim.specs.declared.outcome.Outcome.TheVariants.{Decided};
+ghost use Rattle.pls_report.specs.Report.{node_line};
 ghost use Rattle.pls_report.specs.inner.Pieces.{Writes};
 
+use crate::decided::{bytes_at, line_at};
 use pls_base::{Fault, Sink, write_all};
+use pls_model::Verdict;
 use std::marker::Model;
 
 const ROOM: usize = 4096;
@@ -44,9 +48,45 @@ impl Gathered {
         if bytes.len() > ROOM - self.count {
             return false;
         }
-        copy_at(&mut self.bytes, self.count, bytes);
-        self.count += bytes.len();
+        self.count = bytes_at(&mut self.bytes, self.count, bytes);
         true
+    }
+
+    // Adds the line of a node that has decided.
+    fn add_line(&mut self, id: u32, verdict: Verdict)
+        requires { length self.old + 80 ≤ 4096 }
+        ensures { self.new ≡ self.old ++ (node_line (id, Decided verdict) ++ 10 ∷ []) }
+    {
+        self.count = line_at(&mut self.bytes, self.count, id, verdict);
+    }
+
+    // Writes what was gathered where there is no room for a line behind it.
+    fn make_room<K: Sink>(&mut self, sink: &mut K) -> Result<(), Fault>
+        ensures writes { Writes self.old self.new (K.taken sink.old) (K.taken sink.new)
+            (K.faults sink.old) (K.faults sink.new) (K.IsSureOf sink.old) (K.IsSureOf sink.new)
+            result [] }
+        ensures room { OnOk result (length self.new + 80 ≤ 4096) }
+    {
+        if self.count + 80 <= ROOM {
+            return Ok(());
+        }
+        self.flush(sink)
+    }
+
+    /// Writes the line of a node that has decided behind the bytes that were gathered.
+    pub(crate) fn put_line<K: Sink>(
+        &mut self,
+        sink: &mut K,
+        id: u32,
+        verdict: Verdict,
+    ) -> Result<(), Fault>
+        ensures { Writes self.old self.new (K.taken sink.old) (K.taken sink.new)
+            (K.faults sink.old) (K.faults sink.new) (K.IsSureOf sink.old) (K.IsSureOf sink.new)
+            result (node_line (id, Decided verdict) ++ 10 ∷ []) }
+    {
+        self.make_room(sink)?;
+        self.add_line(id, verdict);
+        Ok(())
     }
 
     /// Writes what was gathered.
@@ -77,14 +117,4 @@ impl Gathered {
         }
         write_all(sink, bytes)
     }
-}
-
-// Copies bytes to a place.
-#[inline(always)]
-fn copy_at(into: &mut [u8], at: usize, bytes: &[u8])
-    requires { at + length bytes.now ≤ length into.old }
-    ensures length { length into.new ≡ length into.old }
-    ensures bytes { take (at + length bytes.now) into.new ≡ take at into.old ++ bytes.now }
-{
-    into[at..at + bytes.len()].copy_from_slice(bytes);
 }

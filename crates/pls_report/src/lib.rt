@@ -7,6 +7,7 @@
 #![tactic(auto)]
 
 mod counting;
+mod decided;
 mod gathered;
 mod pieces;
 mod report;

@@ -1,16 +1,16 @@
 //! The text of a report, line by line.
 
-ghost use Rattle.std.specs.Prelude.{ℕ, ◌≤◌, ◌-◌, ◌++◌, ◌∷◌, [], length, MatchResult, OnErr, OnOk};
+ghost use Rattle.std.specs.Prelude.{ℕ, ◌≤◌, ◌-◌, ◌++◌, ◌∷◌, [], codes, length, MatchResult, OnErr, OnOk};
 ghost use Rattle.std.specs.Io.KnownBytes.{Appends};
 ghost use Rattle.pls_base.specs.Streams.{AppendsPart, Rose, StaysSure};
+ghost use Rattle.pls_sim.specs.declared.outcome.Outcome.TheVariants.{Waiting};
 ghost use Rattle.pls_report.specs.Report.{closing_line, node_line, report_text, waiting};
-ghost use Rattle.pls_report.specs.inner.Pieces.{Writes, outcome_tail, waiting_tail};
+ghost use Rattle.pls_report.specs.inner.Pieces.{Writes, spaced, waiting_tail};
 
 use crate::counting;
 use crate::gathered::Gathered;
 use crate::pieces::{put_both, put_spaced};
 use pls_base::{Fault, Sink};
-use pls_model::Verdict;
 use pls_sim::Outcome;
 
 /// Writes the report of nodes, each with its identity and its outcome: a line for each, in their
@@ -59,7 +59,7 @@ fn write_lines<K: Sink>(
 }
 
 // Writes the line of a node.
-pub(crate) fn write_node<K: Sink>(
+fn write_node<K: Sink>(
     sink: &mut K,
     gathered: &mut Gathered,
     id: u32,
@@ -70,48 +70,37 @@ pub(crate) fn write_node<K: Sink>(
         result
         (node_line (id, outcome.now) ++ 10 ∷ []) }
 {
-    put_both(sink, gathered, b"node ", id as u64)?;
-    write_outcome(sink, gathered, outcome)?;
-    gathered.put(sink, b"\n")
-}
-
-// Writes what a node's line says behind its identity.
-fn write_outcome<K: Sink>(
-    sink: &mut K,
-    gathered: &mut Gathered,
-    outcome: &Outcome,
-) -> Result<(), Fault>
-    ensures { Writes gathered.old gathered.new (K.taken sink.old) (K.taken sink.new)
-        (K.faults sink.old) (K.faults sink.new) (K.IsSureOf sink.old) (K.IsSureOf sink.new)
-        result (outcome_tail outcome.now) }
-{
     match outcome {
-        Outcome::Decided(verdict) => write_verdict(sink, gathered, *verdict),
-        Outcome::Waiting(ports) => {
-            gathered.put(sink, b" waiting")?;
-            put_spaced(sink, gathered, ports.as_slice())
-        }
+        Outcome::Decided(verdict) => gathered.put_line(sink, id, *verdict),
+        Outcome::Waiting(ports) => write_waiting_node(sink, gathered, id, ports.as_slice()),
     }
 }
 
-// Writes what a node's line says that has decided.
-fn write_verdict<K: Sink>(
+// Writes the line of a node that waits.
+fn write_waiting_node<K: Sink>(
     sink: &mut K,
     gathered: &mut Gathered,
-    verdict: Verdict,
+    id: u32,
+    ports: &[u32],
 ) -> Result<(), Fault>
     ensures { Writes gathered.old gathered.new (K.taken sink.old) (K.taken sink.new)
         (K.faults sink.old) (K.faults sink.new) (K.IsSureOf sink.old) (K.IsSureOf sink.new)
         result
-        (outcome_tail (Outcome.Decided verdict)) }
+        (node_line (id, Waiting ports.now) ++ 10 ∷ []) }
 {
-    match verdict {
-        Verdict::Accept => gathered.put(sink, b" accept"),
-        Verdict::Reject { leaf, rule } => {
-            put_both(sink, gathered, b" reject ", leaf as u64)?;
-            put_both(sink, gathered, b" ", rule as u64)
-        }
-    }
+    put_both(sink, gathered, b"node ", id as u64)?;
+    write_ports(sink, gathered, ports)?;
+    gathered.put(sink, b"\n")
+}
+
+// Writes what its line says behind its identity.
+fn write_ports<K: Sink>(sink: &mut K, gathered: &mut Gathered, ports: &[u32]) -> Result<(), Fault>
+    ensures { Writes gathered.old gathered.new (K.taken sink.old) (K.taken sink.new)
+        (K.faults sink.old) (K.faults sink.new) (K.IsSureOf sink.old) (K.IsSureOf sink.new)
+        result (codes " waiting" ++ spaced ports.now) }
+{
+    gathered.put(sink, b" waiting")?;
+    put_spaced(sink, gathered, ports)
 }
 
 // Writes the line that closes a report.

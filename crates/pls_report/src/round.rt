@@ -9,10 +9,8 @@ ghost use Rattle.pls_report.specs.inner.Pieces.{Writes, connected_tail};
 use crate::counting::rejecting_verdicts;
 use crate::gathered::Gathered;
 use crate::pieces::put_both;
-use crate::report::write_node;
 use pls_base::{Fault, Sink};
 use pls_model::Verdict;
-use pls_sim::Outcome;
 
 /// Writes the report of a round in which touched nodes were judged again: a line for each node, with
 /// its identity and its verdict, and then the number of the round, how many nodes were checked,
@@ -58,7 +56,7 @@ fn write_decided<K: Sink>(
         result (round_text number checked connected rows.now) }
 {
     for (id, verdict) in rows {
-        write_node(sink, gathered, *id, &Outcome::Decided(*verdict))?;
+        gathered.put_line(sink, *id, *verdict)?;
     }
     let rejecting = rejecting_verdicts(rows);
     write_numbers(number, checked, connected, rejecting as u64, sink, gathered)

@@ -12,16 +12,16 @@ loop-id-preserved g c =
     let i : ℕ = c.loop-id.id-index in
     subst (Wrote _ _ _ _ _ _ _ _) (lines_more decided_line rows i _ c.loop-id-test.true)
     (wrote_both (text_of (map decided_line (take i rows))) _ c.loop-id.invariant
-    c.in_ok-write_node.ensures)
+    c.in_ok-put_line.ensures)
 
-pub returns-in_err-write_node : goal.returns-in_err-write_node
-returns-in_err-write_node g c =
+pub returns-in_err-put_line : goal.returns-in_err-put_line
+returns-in_err-put_line g c =
     let rows = c.args.rows.now in
     let i : ℕ = c.loop-id.id-index in
     let closing : List ℕ = round_line c.args.number c.args.checked c.args.connected rows in
     let rest : List ℕ = text_of (map decided_line (drop (i + 1) rows) ++ closing ∷ []) in
     let here = front_later (text_of (map decided_line (take i rows))) _ c.loop-id.invariant
-    c.in_err-write_node.ensures in
+    c.in_err-put_line.ensures in
     failed _ _ c.from_residual.result _ c.from_residual.ensures.0
     (subst (WroteFront _ _ _ _ _ _)
     (ap (λ (front : List ℕ). front ++ rest) (lines_more decided_line rows i _ c.loop-id-test.true)
