@@ -4,7 +4,7 @@ ghost use Rattle.std.specs.Prelude.{◌≡◌, ℕ, List};
 ghost use Rattle.pls_scheme.specs.Numbers.{AreNumbers};
 
 use crate::layout::{Layout, ReadsInPlace};
-use crate::numbers::{read_numbers, write_numbers};
+use crate::numbers::{append_numbers, read_numbers};
 use pls_base::NoMemory;
 use pls_bits::{BitBuf, Bits, NumCode};
 use std::alloc::Global;
@@ -51,8 +51,8 @@ impl<L: OfNumbers<N>, C: NumCode, const N: usize> Layout for Coded<L, C, N> {
         Ok(Self::read_in_place(bits))
     }
 
-    fn write(alloc: Global, label: &L) -> Result<BitBuf, NoMemory> {
-        write_numbers::<C>(alloc, &label.numbers())
+    fn append(bits: &mut BitBuf, label: &L) -> Result<(), NoMemory> {
+        append_numbers::<C>(bits, &label.numbers())
     }
 
     ghost said_law = { label_in-spells N L.numbers L.of_numbers L.numbers_law C.code C.takes

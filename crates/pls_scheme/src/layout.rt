@@ -1,7 +1,8 @@
 //! How the labels of a scheme are laid out.
 
-ghost use Rattle.std.specs.Prelude.{◌≡◌, Bool, List, Option, IfOk};
+ghost use Rattle.std.specs.Prelude.{◌≡◌, Bool, List, Option, IfOk, OnOk};
 ghost use Rattle.pls_scheme.specs.SchemeLaws.{HasSpellings, HaveOneSpelling, SaysWhatIsSpelled};
+ghost use Rattle.pls_scheme.specs.Spelled.{AddsSpelling};
 
 use pls_base::NoMemory;
 use pls_bits::{BitBuf, Bits};
@@ -26,10 +27,20 @@ pub trait Layout {
     fn read(alloc: Global, bits: &Bits<'_>) -> Result<Option<Self::Label>, NoMemory>
         ensures { IfOk result (λ found. found ≡ said bits.now) };
 
+    /// Appends the spelling of a label. The one error is want of memory.
+    fn append(bits: &mut BitBuf, label: &Self::Label) -> Result<(), NoMemory>
+        requires { writable label.now }
+        ensures { OnOk result (AddsSpelling spells label.now bits.old bits.new) };
+
     /// The spelling of a label. The one error is want of memory.
     fn write(alloc: Global, label: &Self::Label) -> Result<BitBuf, NoMemory>
         requires { writable label.now }
-        ensures { IfOk result (λ bits. spells bits label.now) };
+        ensures { IfOk result (λ bits. spells bits label.now) }
+    {
+        let mut bits = BitBuf::new(alloc);
+        Self::append(&mut bits, label)?;
+        Ok(bits)
+    }
 
     // Bits say a label exactly where they are its spelling.
     ghost said_law: { SaysWhatIsSpelled said spells };

@@ -55,7 +55,7 @@ pub use labels::labels_of;
 pub use layout::{Layout, ReadsInPlace};
 pub use length::{code_length, codes_length};
 pub use marker::Marker;
-pub use numbers::{read_numbers, write_numbers};
+pub use numbers::{append_numbers, read_numbers};
 pub use once::Once;
 pub use pls_model::Verdict;
 pub use property::Property;

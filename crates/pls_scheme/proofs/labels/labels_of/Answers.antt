@@ -2,7 +2,7 @@ use Rattle.std.proofs.Common.{subst, ◌≡◌, ◌∙◌, Some, length, sym, ap
 use Rattle.std.specs.Prelude.{slice_get}
 use Rattle.std.proofs.lemmas.List.{length-set}
 use Rattle.std.proofs.lemmas.Option.{same_Some, slice_get-get_or, slice_get_within}
-use Rattle.pls_scheme.proofs.Storing.{right_more}
+use Rattle.pls_scheme.proofs.Storing.{right_more, spelled_alone}
 use Rattle.pls_scheme.proofs.labels.labels_of.Goals as goal
 
 pub loop-i-preserved : goal.loop-i-preserved
@@ -19,7 +19,7 @@ loop-i-preserved g c =
           right_more (λ label bits. g.L.Layout.spells bits label) said c.loop-i.labels i _
           before.each c.loop-i-test.true
           (λ label at. subst (g.L.Layout.spells _) (same_Some own label (sym there ∙ at))
-          c.in_ok-write.ensures)
+          (spelled_alone g.L.Layout.spells own _ _ c.clear.ensures c.in_ok-append.ensures))
           before.spelled place label bits below lab (rw replaced at stored);
     }
 
