@@ -34,10 +34,8 @@ impl Layout for ColourLayout {
         Ok(Self::read_in_place(bits))
     }
 
-    fn write(alloc: Global, label: &ColourLabel) -> Result<BitBuf, NoMemory> {
-        let mut bits = BitBuf::new(alloc);
-        bits.push(label.colour)?;
-        Ok(bits)
+    fn append(bits: &mut BitBuf, label: &ColourLabel) -> Result<(), NoMemory> {
+        bits.push(label.colour)
     }
 
     ghost said_law = { colour_label-spells };
