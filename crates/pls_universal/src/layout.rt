@@ -10,7 +10,7 @@ use crate::map::{MapLabel, MapRow};
 use crate::reading::read_map;
 use pls_base::NoMemory;
 use pls_bits::{BitBuf, Bits, NumCode};
-use pls_scheme::Layout;
+use pls_scheme::{Layout, append_numbers};
 use std::alloc::Global;
 use std::marker::PhantomData;
 
@@ -45,10 +45,8 @@ impl<C: NumCode> Layout for MapLayout<C> {
         Ok(Some(MapLabel { own, rows }))
     }
 
-    fn write(alloc: Global, label: &MapLabel) -> Result<BitBuf, NoMemory> {
-        let mut bits = BitBuf::new(alloc);
-        append_label::<C>(&mut bits, label)?;
-        Ok(bits)
+    fn append(bits: &mut BitBuf, label: &MapLabel) -> Result<(), NoMemory> {
+        append_label::<C>(bits, label)
     }
 
     ghost said_law = { map_label-spells C.code C.takes C.takes_codes C.takes_only };
@@ -99,17 +97,6 @@ fn append_ports<C: NumCode>(bits: &mut BitBuf, ports: &[(u64, u64)]) -> Result<(
 {
     for port in ports {
         append_numbers::<C>(bits, &[port.0, port.1])?;
-    }
-    Ok(())
-}
-
-// Appends the codes of these numbers, one behind the other.
-fn append_numbers<C: NumCode>(bits: &mut BitBuf, numbers: &[u64]) -> Result<(), NoMemory>
-    requires { AreCoded numbers.now }
-    ensures { OnOk result (Adds C.code numbers.now bits.old bits.new) }
-{
-    for number in numbers {
-        C::write(bits, *number)?;
     }
     Ok(())
 }

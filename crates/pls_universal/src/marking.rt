@@ -1,6 +1,6 @@
 //! The labels with the map of a network.
 
-ghost use Rattle.std.specs.Prelude.{◌≡◌, List, length, IfOk};
+ghost use Rattle.std.specs.Prelude.{◌≡◌, List, length, IfOk, OnOk};
 ghost use Rattle.pls_scheme.specs.Marked.{IsMarkedBy};
 ghost use Rattle.pls_scheme.specs.Numbers.{AreCodesOf};
 ghost use Rattle.pls_universal.specs.declared.map.MapRow.{MapRow};
@@ -23,20 +23,21 @@ pub fn map_labels<C: NumCode>(alloc: Global, net: &Network) -> Result<LabelStore
 {
     let map = write_map::<C>(alloc, net)?;
     let mut labels = LabelStore::blank(alloc, net.len())?;
+    let mut label = BitBuf::new(alloc);
     for i in 0..net.len() {
-        let label = label_of::<C>(alloc, net.node(i).0, map.bits())?;
+        put_label::<C>(&mut label, net.node(i).0, map.bits())?;
         labels.replace(i, &label)?;
     }
     Ok(labels)
 }
 
-// The label of an identity and a map.
-fn label_of<C: NumCode>(alloc: Global, id: u32, map: Bits<'_>) -> Result<BitBuf, NoMemory>
-    ensures { IfOk result (λ bits. (rows : List MapRow) → IsMap C.code rows map.entry
-        → AreCodesOf C.code (numbers_of_label (label_with id rows)) bits) }
+// Puts the label of an identity and a map in the place of the bits.
+fn put_label<C: NumCode>(bits: &mut BitBuf, id: u32, map: Bits<'_>) -> Result<(), NoMemory>
+    ensures { OnOk result ((rows : List MapRow) → IsMap C.code rows map.entry
+        → AreCodesOf C.code (numbers_of_label (label_with id rows)) bits.new) }
 {
-    let mut bits = BitBuf::new(alloc);
-    C::write(&mut bits, u64::from(id))?;
+    bits.clear();
+    C::write(bits, u64::from(id))?;
     bits.append(map)?;
-    Ok(bits)
+    Ok(())
 }

@@ -18,17 +18,17 @@ loop-i-preserved g c =
     let within : i < length rows = omega (arith, c.loop-i-test.true, c.len-i-end.ensures.len) in
     let is_map : IsMap code (map_of rows) c.bits.result =
     subst (IsMap code (map_of rows)) (sym c.bits.ensures) c.in_ok-map.ensures in
-    let here : (row : NodeRow) → slice_get rows i ≡ Some row → right row c.in_ok-label.label =
+    let here : (row : NodeRow) → slice_get rows i ≡ Some row → right row c.put_label.new.bits =
     λ row at.
     let id : row.id ≡ c.node.result.0 = same_Some row.id c.node.result.0
     (sym (ap (option_map (λ (row : NodeRow). row.id)) at) ∙ c.node.ensures.id) in
-    subst (λ (id : ℕ). IsMapLabel code c.in_ok-label.label (label_with id (map_of rows))) (sym id)
-    (c.in_ok-label.ensures (map_of rows) is_map) in
+    subst (λ (id : ℕ). IsMapLabel code c.put_label.new.bits (label_with id (map_of rows))) (sym id)
+    (c.in_ok-put_label.ensures (map_of rows) is_map) in
     let replaced = c.in_ok-replace.ensures.replaced in record {
-      each = ap length replaced ∙ length-set c.loop-i.labels i c.in_ok-label.label
+      each = ap length replaced ∙ length-set c.loop-i.labels i c.put_label.new.bits
           ∙ c.loop-i.invariant.each;
       right = λ place row bits below at stored.
-          right_more right rows c.loop-i.labels i c.in_ok-label.label c.loop-i.invariant.each within
+          right_more right rows c.loop-i.labels i c.put_label.new.bits c.loop-i.invariant.each within
           here c.loop-i.invariant.right place row bits below at (rw replaced at stored);
     }
 
