@@ -23,7 +23,7 @@ use Rattle.pls_boruvka.specs.declared.level.Level.{Level}
 use Rattle.pls_boruvka.specs.Boruvka.{AreChainLengths, AreLevelLists, AreLevels, AreLevelsFrom, chosen_edge, chosen_edges}
 use Rattle.pls_boruvka.specs.Fragments.{JoinedChainEnds}
 use Rattle.pls_boruvka.specs.inner.Choices.{AreChoices, top_at}
-use Rattle.pls_boruvka.specs.inner.Chosen.{AddLevel, AreChildrenWithin, AreChosen, AreOne, JoinChildren, SomeApart, SomeUnpointed}
+use Rattle.pls_boruvka.specs.inner.Chosen.{AreChildrenWithin, AreChosen, AreOne, JoinChildren, SomeApart, SomeUnpointed, no_chosen}
 use Rattle.pls_boruvka.specs.inner.Tops.{AreParents, AreTops, IsTop}
 use Rattle.pls_boruvka.proofs.ChainLengths.{AreChainLengths-chain_length, Falls-chains, chain_length}
 use Rattle.pls_boruvka.proofs.Halving.{few_levels}
@@ -33,6 +33,7 @@ use Rattle.pls_boruvka.proofs.LightestLevels.{IsLightest-levels}
 use Rattle.pls_boruvka.proofs.Listed.{Each-at}
 use Rattle.pls_boruvka.proofs.NextLevel.{AreFlags-more, IsLevelOf-chosen, child_of, children_within, chosen_in_tree, level_of, lighter_where, one_more}
 use Rattle.pls_boruvka.proofs.Placing.{JoinedChainEnds-top, id_at, id_at-row}
+use Rattle.pls_boruvka.proofs.Rounds.{AddLevel}
 use Rattle.pls_boruvka.proofs.Unjoined.{unjoined, unjoined-fewer}
 
 -- what levels say of a node
@@ -209,7 +210,7 @@ module _ (rows : List NodeRow) (net : IsNetwork rows) where
           chosen
 
       -- each list has what the level says behind it
-      said_more : (new : List (List Level)) → AddLevel all (length all) lists new
+      said_more : (new : List (List Level)) → AddLevel all lists new
           → new ≡ map (said_of (begun.levels ++ level ∷ [])) rows
       said_more new added = ext_get_or [] new (map (said_of (begun.levels ++ level ∷ [])) rows)
           (omega (
@@ -231,25 +232,21 @@ module _ (rows : List NodeRow) (net : IsNetwork rows) where
           ) in
           let row : NodeRow = get_or rows i first in
           let at : slice_get rows i ≡ Some row = slice_get-get_or rows i first inside in
-          let blank : Chosen = record {
-            level = record { fragment = 0; weight = 0; a = 0; b = 0 };
-            child = 0;
-          } in
           let early : i < length all = omega (arith, inside, chosen.each) in
           let old : get_or lists i [] ≡ said_of begun.levels row =
           ap (λ (lists : List (List Level)). get_or lists i []) begun.said
           ∙ get_or-map (said_of begun.levels) rows i first [] inside in
-          let one : (get_or all i blank).level ≡ level row.id =
-          sym (ap (λ (place : ℕ). (get_or all place blank).level)
+          let one : (get_or all i no_chosen).level ≡ level row.id =
+          sym (ap (λ (place : ℕ). (get_or all place no_chosen).level)
           (place_named rows net i row at)) in
-          added.added i (get_or all i blank) early (slice_get-get_or all i blank early)
-          ∙ ap (λ (list : List Level). list ++ (get_or all i blank).level ∷ []) old
+          added.added i (get_or all i no_chosen) (slice_get-get_or all i no_chosen early)
+          ∙ ap (λ (list : List Level). list ++ (get_or all i no_chosen).level ∷ []) old
           ∙ ap (λ (more : Level). said_of begun.levels row ++ more ∷ []) one
           ∙ sym (map-append (λ level. level row.id) begun.levels (level ∷ []))
           ∙ sym (get_or-map (said_of (begun.levels ++ level ∷ [])) rows i first [] inside))
 
       module _ (newer : List Bool) (joins : JoinChildren all (length all) flags newer) where
-        pub IsBegun-more : (new : List (List Level)) → AddLevel all (length all) lists new
+        pub IsBegun-more : (new : List (List Level)) → AddLevel all lists new
             → IsBegun rows newer new
         IsBegun-more new added = record {
           depth = begun.depth;

@@ -9,6 +9,7 @@ pub mod LightestLevels
 pub mod JoinedChains
 pub mod Leaving
 pub mod NextLevel
+pub mod Rounds
 pub mod Unjoined
 pub mod Begun
 pub mod OneAnswer

@@ -1,6 +1,6 @@
 //! Levels upon levels, until one fragment holds all nodes.
 
-ghost use Rattle.std.specs.Prelude.{◌≡◌, ◌<◌, ◌≤◌, ◌^◌, List, [], replicate, length, All, IfOk, IfSome, IfNone, true, false};
+ghost use Rattle.std.specs.Prelude.{◌≡◌, ◌<◌, ◌≤◌, ◌^◌, List, replicate, length, All, IfOk, IfSome, IfNone, true, false};
 ghost use Rattle.pls_model.specs.Configuration.{ids_of};
 ghost use Rattle.pls_model.specs.Walk.{Edge, edges_of};
 ghost use Rattle.pls_facts.specs.Lightest.{IsLightest, weight_of};
@@ -9,7 +9,7 @@ ghost use Rattle.pls_boruvka.specs.Boruvka.{AreLevelLists};
 ghost use Rattle.pls_boruvka.specs.inner.Chosen.{AreOne, SomeApart};
 
 use crate::choosing::choices_of;
-use crate::joining::{add_level, chosen_of, join};
+use crate::joining::{chosen_of, join, lists_of};
 use crate::level::LevelList;
 use crate::tops::{parents_of, tops_of};
 use pls_base::NoMemory;
@@ -31,7 +31,7 @@ pub fn boruvka_levels(alloc: Global, net: &Network) -> Result<Option<Vec<LevelLi
         × IsSpanningTree (edges_of net.now) other (ids_of net.now)
         × (weight_of other < weight_of (pointed_edges net.now)))) }
 {
-    let mut lists = no_levels(alloc, net.len())?;
+    let mut rounds = Vec::new(alloc);
     let parents = parents_of(alloc, net)?;
     let parents = parents.as_slice();
     let mut joined = none_joined(alloc, net.len())?;
@@ -40,15 +40,17 @@ pub fn boruvka_levels(alloc: Global, net: &Network) -> Result<Option<Vec<LevelLi
         let tops = tops_of(alloc, parents, joined)?;
         let tops = tops.as_slice();
         if are_one(tops) {
+            let rounds = rounds.as_slice();
+            let lists = lists_of(alloc, net.len(), rounds)?;
             return Ok(Some(lists));
         }
         let choices = choices_of(alloc, net, parents, tops)?;
-        let Some(all) = chosen_of(alloc, net, tops, choices.as_slice())? else {
+        let choices = choices.as_slice();
+        let Some(all) = chosen_of(alloc, net, tops, choices)? else {
             return Ok(None);
         };
-        let all = all.as_slice();
-        join(joined, all);
-        add_level(lists.as_mut_slice(), all)?;
+        join(joined, all.as_slice());
+        rounds.push(all)?;
     }
 }
 
@@ -64,17 +66,6 @@ fn are_one(tops: &[usize]) -> bool
         }
     }
     true
-}
-
-// Lists without levels, so many.
-fn no_levels(alloc: Global, count: usize) -> Result<Vec<LevelList>, NoMemory>
-    ensures { IfOk result (λ lists. lists.items ≡ replicate count []) }
-{
-    let mut lists = Vec::with_capacity(alloc, count)?;
-    for _ in 0..count {
-        lists.push(LevelList::from_vec(Vec::new(alloc)))?;
-    }
-    Ok(lists)
 }
 
 // So many nodes whose pointers are not joined.

@@ -1,7 +1,7 @@
 //! What a level says of each node, and the pointers that its chosen edges join.
 
-ghost use Rattle.std.specs.Prelude.{◌≡◌, ◌<◌, All, length, IfOk, IfSome, IfNone, OnOk};
-ghost use Rattle.pls_boruvka.specs.inner.Chosen.{AreChildrenWithin, AreChosen, AddLevel, IsChosen, IsUnpointed, JoinChildren, SomeUnpointed};
+ghost use Rattle.std.specs.Prelude.{◌≡◌, ◌<◌, All, length, map, IfOk, IfSome, IfNone};
+ghost use Rattle.pls_boruvka.specs.inner.Chosen.{AreChildrenWithin, AreChosen, IsChosen, IsUnpointed, JoinChildren, SomeUnpointed, said_at, said_by};
 
 use crate::choice::Choice;
 use crate::level::{Level, LevelList};
@@ -68,13 +68,31 @@ pub(crate) fn join(joined: &mut [bool], all: &[Chosen])
     }
 }
 
-// Adds to each list what the level says.
-pub(crate) fn add_level(lists: &mut [LevelList], all: &[Chosen]) -> Result<(), NoMemory>
-    requires each { length all.now ≡ length lists.old }
-    ensures { OnOk result (AddLevel all.now (length all.now) lists.old lists.new) }
+// For each of so many places the levels of the node there, in memory that they fill.
+pub(crate) fn lists_of(
+    alloc: Global,
+    count: usize,
+    rounds: &[Vec<Chosen>],
+) -> Result<Vec<LevelList>, NoMemory>
+    requires each { All (λ all. length all.items ≡ count) rounds.now }
+    ensures { IfOk result (λ lists. lists.items
+        ≡ said_by (map (λ all. all.items) rounds.now) count) }
 {
-    for place in 0..all.len() {
-        lists[place].push(all[place].level)?;
+    let mut lists = Vec::with_capacity(alloc, count)?;
+    for place in 0..count {
+        lists.push(list_at(alloc, rounds, place)?)?;
     }
-    Ok(())
+    Ok(lists)
+}
+
+// The levels of the node at a place.
+fn list_at(alloc: Global, rounds: &[Vec<Chosen>], place: usize) -> Result<LevelList, NoMemory>
+    requires within { All (λ all. place < length all.items) rounds.now }
+    ensures { IfOk result (λ list. list ≡ said_at (map (λ all. all.items) rounds.now) place) }
+{
+    let mut levels = Vec::with_capacity(alloc, rounds.len())?;
+    for all in rounds {
+        levels.push(all[place].level)?;
+    }
+    Ok(LevelList::from_vec(levels))
 }

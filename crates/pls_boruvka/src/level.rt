@@ -1,8 +1,7 @@
 //! What a node has on each level, and the list of its levels.
 
-ghost use Rattle.std.specs.Prelude.{◌≡◌, ◌++◌, ◌∷◌, [], OnOk};
+ghost use Rattle.std.specs.Prelude.{◌≡◌};
 
-use pls_base::NoMemory;
 use std::marker::Model;
 
 /// What a node has on one level: its fragment, and the edge that the fragment chose.
@@ -46,13 +45,5 @@ impl LevelList {
         ensures { result.now ≡ self.now }
     {
         self.levels.as_slice()
-    }
-
-    /// Adds a level behind the others. The one error is want of memory.
-    pub(crate) fn push(&mut self, level: Level) -> Result<(), NoMemory>
-        ensures { OnOk result (self.new ≡ self.old ++ level ∷ []) }
-    {
-        self.levels.push(level)?;
-        Ok(())
     }
 }

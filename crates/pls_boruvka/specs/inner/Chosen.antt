@@ -1,5 +1,6 @@
 -- What a level says of each node, and which pointers its edges join.
-use Rattle.std.specs.Prelude.{◌≡◌, ◌≢◌, ℕ, ◌<◌, ◌≤◌, ◌⊎◌, ◌↔◌, Bool, true, false, List, [], ◌∷◌, ◌++◌, length, Option, Some, None, slice_get, slice_index_or}
+use Rattle.std.specs.Prelude.{◌≡◌, ◌≢◌, ℕ, ◌<◌, ◌⊎◌, ◌↔◌, Bool, true, false, List, length, map, Option, Some, None, slice_get, slice_index_or}
+use Rattle.std.specs.List.{range_with_len}
 use Rattle.pls_model.specs.declared.row.NodeRow.{NodeRow}
 use Rattle.pls_boruvka.specs.declared.choice.Choice.{Choice}
 use Rattle.pls_boruvka.specs.declared.joining.Chosen.{Chosen}
@@ -52,13 +53,17 @@ pub record JoinChildren (all : List Chosen) (count : ℕ) (old new : List Bool) 
   pub joined : (place : ℕ) → (slice_index_or new place false ≡ true)
       ↔ ((slice_index_or old place false ≡ true) ⊎ IsChild all count place)
 
--- the first lists have what the level says behind what they had, and the others are as they were
-pub record AddLevel (all : List Chosen) (count : ℕ) (old new : List (List Level)) : Type 0 where
-  pub each : length new ≡ length old
-  pub added : (place : ℕ) (one : Chosen) → place < count → slice_get all place ≡ Some one
-      → slice_index_or new place [] ≡ slice_index_or old place [] ++ one.level ∷ []
-  pub kept : (place : ℕ) → count ≤ place
-      → slice_index_or new place [] ≡ slice_index_or old place []
+-- what stands behind the last place
+abbrev pub no_chosen : Chosen
+no_chosen = record { level = record { fragment = 0; weight = 0; a = 0; b = 0 }; child = 0 }
+
+-- the levels of the node at a place
+abbrev pub said_at : List (List Chosen) → ℕ → List Level
+said_at rounds place = map (λ all. (slice_index_or all place no_chosen).level) rounds
+
+-- the levels of each node, of so many
+abbrev pub said_by : List (List Chosen) → ℕ → List (List Level)
+said_by rounds count = map (said_at rounds) (range_with_len 0 count)
 
 -- all tops are the same
 abbrev pub AreOne : List ℕ → Type 0

@@ -1,33 +1,45 @@
-use Rattle.std.proofs.Common.{◌≡◌, ◌∙◌, ℕ, Bool, false, List, [], Vec, Global, Option, IfSome, IfNone, length, replicate, refl, sym, ap, subst, arith}
+use Rattle.std.proofs.Common.{◌≡◌, ◌∙◌, ◌++◌, ◌∷◌, ◌≤◌, ◌^◌, ℕ, Bool, false, List, [], Vec, Global, Option, IfSome, IfNone, All, length, map, replicate, refl, sym, ap, subst}
+use Rattle.std.proofs.lemmas.List.{map-append}
+use Rattle.std.proofs.lemmas.List.Elements.{All-append, All-cons, All-nil}
+use Rattle.pls_model.specs.declared.row.NodeRow.{NodeRow}
 use Rattle.pls_boruvka.specs.declared.joining.Chosen.{Chosen}
 use Rattle.pls_boruvka.specs.declared.level.Level.{Level}
+use Rattle.pls_boruvka.specs.Boruvka.{AreLevelLists}
 use Rattle.pls_boruvka.specs.inner.Choices.{AreChoices}
-use Rattle.pls_boruvka.specs.inner.Chosen.{AddLevel, AreChosen, SomeUnpointed}
+use Rattle.pls_boruvka.specs.inner.Chosen.{AreChosen, SomeUnpointed, said_by}
 use Rattle.pls_boruvka.specs.inner.Tops.{AreParents, AreTops, HasDepths}
 use Rattle.pls_boruvka.proofs.Begun.{AreLevelLists-begun, IsBegun, IsBegun-more, IsBegun-none, IsLightest-begun, children_begun, few_begun, fewer_unjoined, lighter_begun, tops_within}
 use Rattle.pls_boruvka.proofs.ChainLengths.{Falls-chains, depth_few}
-use Rattle.pls_boruvka.proofs.Listed.{written_back}
 use Rattle.pls_boruvka.proofs.Placing.{HasDepths-rows}
+use Rattle.pls_boruvka.proofs.Rounds.{AddLevel, said_by-more, said_by-none}
 use Rattle.pls_boruvka.proofs.boruvka.boruvka_levels.Goals as goal
+
+-- what the rounds so far say
+abbrev lists_by : List NodeRow → List (Vec Chosen Global) → List (List Level)
+lists_by rows rounds = said_by (map (λ all. all.items) rounds) (length rows)
 
 pub loop-joined-init : goal.loop-joined-init
 loop-joined-init c =
     let rows = c.args.net.now in
-    let size = c.len.ensures.len in
     let falses : c.as_mut_slice-joined.result.now ≡ replicate (length rows) false =
     c.as_mut_slice-joined.ensures.value ∙ c.in_ok-joined.ensures
-    ∙ ap (λ (count : ℕ). replicate count false) c.len-2.ensures.len in
-    let lists : c.in_ok-lists.lists.items ≡ replicate (length rows) [] =
-    c.in_ok-lists.ensures ∙ ap (λ (count : ℕ). replicate count []) size in
-    subst (λ (flags : List Bool). IsBegun rows flags c.in_ok-lists.lists.items) (sym falses)
-    (subst (IsBegun rows (replicate (length rows) false)) (sym lists)
-    (IsBegun-none rows c.len.ensures.valid c.requires.tree))
+    ∙ ap (λ (count : ℕ). replicate count false) c.len.ensures.len in
+    let lists : lists_by rows c.new-rounds.result.items ≡ replicate (length rows) [] =
+    ap (lists_by rows) c.new-rounds.ensures.items ∙ said_by-none (length rows) in
+    record {
+      each = subst (All (λ all. length all.items ≡ length rows)) (sym c.new-rounds.ensures.items)
+          (All-nil (λ all. length all.items ≡ length rows));
+      begun = subst (λ (flags : List Bool). IsBegun rows flags
+          (lists_by rows c.new-rounds.result.items)) (sym falses)
+          (subst (IsBegun rows (replicate (length rows) false)) (sym lists)
+          (IsBegun-none rows c.len.ensures.valid c.requires.tree));
+    }
 
 pub tops_of-requires-clause-falls : goal.tops_of-requires-clause-falls
 tops_of-requires-clause-falls c =
     let rows = c.args.net.now in
     let valid = c.len.ensures.valid in
-    let begun = c.loop-joined.invariant in
+    let begun = c.loop-joined.invariant.begun in
     subst HasDepths (sym c.as_slice-parents.ensures.value)
     (HasDepths-rows rows valid c.in_ok-parents.parents.items c.in_ok-parents.ensures begun.depth
     (Falls-chains rows valid begun.depth begun.deep) (depth_few rows valid begun.depth begun.deep))
@@ -38,11 +50,15 @@ returns-then-are_one-clause-levels c =
     let parents = c.as_slice-parents.result.now in
     let flags = c.loop-joined.joined in
     let tops = c.as_slice-tops.result.now in
-    AreLevelLists-begun rows c.len.ensures.valid parents flags tops
+    subst (AreLevelLists rows)
+    (sym (c.in_ok-lists.ensures
+    ∙ ap (λ (count : ℕ). said_by (map (λ (all : Vec Chosen Global). all.items) c.as_slice-rounds.result.now) count) c.len-then-are_one.ensures.len
+    ∙ ap (lists_by rows) c.as_slice-rounds.ensures.value))
+    (AreLevelLists-begun rows c.len.ensures.valid parents flags tops
     (subst (AreParents rows) (sym c.as_slice-parents.ensures.value) c.in_ok-parents.ensures)
     (subst (AreTops parents flags) (sym c.as_slice-tops.ensures.value) c.in_ok-tops.ensures)
-    c.requires.tree c.loop-joined.lists.items c.loop-joined.invariant
-    (c.if-are_one.ensures.one refl)
+    c.requires.tree (lists_by rows c.loop-joined.rounds.items) c.loop-joined.invariant.begun
+    (c.if-are_one.ensures.one refl))
 
 pub returns-then-are_one-clause-few : goal.returns-then-are_one-clause-few
 returns-then-are_one-clause-few c =
@@ -50,11 +66,15 @@ returns-then-are_one-clause-few c =
     let parents = c.as_slice-parents.result.now in
     let flags = c.loop-joined.joined in
     let tops = c.as_slice-tops.result.now in
-    few_begun rows c.len.ensures.valid parents flags tops
+    subst (λ (lists : List (List Level)). All (λ list. 2 ^ length list ≤ length rows) lists)
+    (sym (c.in_ok-lists.ensures
+    ∙ ap (λ (count : ℕ). said_by (map (λ (all : Vec Chosen Global). all.items) c.as_slice-rounds.result.now) count) c.len-then-are_one.ensures.len
+    ∙ ap (lists_by rows) c.as_slice-rounds.ensures.value))
+    (few_begun rows c.len.ensures.valid parents flags tops
     (subst (AreParents rows) (sym c.as_slice-parents.ensures.value) c.in_ok-parents.ensures)
     (subst (AreTops parents flags) (sym c.as_slice-tops.ensures.value) c.in_ok-tops.ensures)
-    c.requires.tree c.loop-joined.lists.items c.loop-joined.invariant
-    (c.if-are_one.ensures.one refl)
+    c.requires.tree (lists_by rows c.loop-joined.rounds.items) c.loop-joined.invariant.begun
+    (c.if-are_one.ensures.one refl))
 
 pub returns-then-are_one-clause-lightest : goal.returns-then-are_one-clause-lightest
 returns-then-are_one-clause-lightest c =
@@ -65,7 +85,7 @@ returns-then-are_one-clause-lightest c =
     IsLightest-begun rows c.len.ensures.valid parents flags tops
     (subst (AreParents rows) (sym c.as_slice-parents.ensures.value) c.in_ok-parents.ensures)
     (subst (AreTops parents flags) (sym c.as_slice-tops.ensures.value) c.in_ok-tops.ensures)
-    c.requires.tree c.loop-joined.lists.items c.loop-joined.invariant
+    c.requires.tree (lists_by rows c.loop-joined.rounds.items) c.loop-joined.invariant.begun
     (c.if-are_one.ensures.one refl)
 
 pub choices_of-requires-clause-within : goal.choices_of-requires-clause-within
@@ -92,13 +112,13 @@ returns-in_default-clause-lighter c =
     let parents = c.as_slice-parents.result.now in
     let flags = c.loop-joined.joined in
     let tops = c.as_slice-tops.result.now in
-    let choices = c.as_slice.result.now in
+    let choices = c.as_slice-choices.result.now in
     lighter_begun rows c.len.ensures.valid c.requires.tree parents flags tops
     (subst (AreParents rows) (sym c.as_slice-parents.ensures.value) c.in_ok-parents.ensures)
     (subst (AreTops parents flags) (sym c.as_slice-tops.ensures.value) c.in_ok-tops.ensures)
     (c.if-are_one.ensures.apart refl) choices
-    (subst (AreChoices rows tops (length rows)) (sym c.as_slice.ensures.value)
-    c.in_ok-choices.ensures) c.loop-joined.lists.items c.loop-joined.invariant
+    (subst (AreChoices rows tops (length rows)) (sym c.as_slice-choices.ensures.value)
+    c.in_ok-choices.ensures) (lists_by rows c.loop-joined.rounds.items) c.loop-joined.invariant.begun
     (subst (λ (found : Option (Vec Chosen Global)). IfNone found (SomeUnpointed tops choices))
     c.in_default.is c.in_ok-all.ensures.unpointed)
 
@@ -108,10 +128,10 @@ join-requires c =
     let parents = c.as_slice-parents.result.now in
     let flags = c.loop-joined.joined in
     let tops = c.as_slice-tops.result.now in
-    let choices = c.as_slice.result.now in
-    let all = c.as_slice-all.result.now in
+    let choices = c.as_slice-choices.result.now in
+    let all = c.as_slice.result.now in
     let chosen : AreChosen rows tops choices all = subst (AreChosen rows tops choices)
-    (sym c.as_slice-all.ensures.value)
+    (sym c.as_slice.ensures.value)
     (subst (λ (found : Option (Vec Chosen Global)). IfSome found
     (λ all. AreChosen rows tops choices all.items)) c.in-Some.is c.in_ok-all.ensures.chosen) in
     record {
@@ -119,8 +139,8 @@ join-requires c =
           (subst (AreParents rows) (sym c.as_slice-parents.ensures.value) c.in_ok-parents.ensures)
           (subst (AreTops parents flags) (sym c.as_slice-tops.ensures.value) c.in_ok-tops.ensures)
           (c.if-are_one.ensures.apart refl) choices
-          (subst (AreChoices rows tops (length rows)) (sym c.as_slice.ensures.value)
-          c.in_ok-choices.ensures) c.loop-joined.lists.items c.loop-joined.invariant all chosen;
+          (subst (AreChoices rows tops (length rows)) (sym c.as_slice-choices.ensures.value)
+          c.in_ok-choices.ensures) (lists_by rows c.loop-joined.rounds.items) c.loop-joined.invariant.begun all chosen;
     }
 
 pub loop-joined-smaller : goal.loop-joined-smaller
@@ -129,18 +149,18 @@ loop-joined-smaller c =
     let parents = c.as_slice-parents.result.now in
     let flags = c.loop-joined.joined in
     let tops = c.as_slice-tops.result.now in
-    let choices = c.as_slice.result.now in
-    let all = c.as_slice-all.result.now in
+    let choices = c.as_slice-choices.result.now in
+    let all = c.as_slice.result.now in
     let chosen : AreChosen rows tops choices all = subst (AreChosen rows tops choices)
-    (sym c.as_slice-all.ensures.value)
+    (sym c.as_slice.ensures.value)
     (subst (λ (found : Option (Vec Chosen Global)). IfSome found
     (λ all. AreChosen rows tops choices all.items)) c.in-Some.is c.in_ok-all.ensures.chosen) in
     fewer_unjoined rows c.len.ensures.valid c.requires.tree parents flags tops
     (subst (AreParents rows) (sym c.as_slice-parents.ensures.value) c.in_ok-parents.ensures)
     (subst (AreTops parents flags) (sym c.as_slice-tops.ensures.value) c.in_ok-tops.ensures)
     (c.if-are_one.ensures.apart refl) choices
-    (subst (AreChoices rows tops (length rows)) (sym c.as_slice.ensures.value)
-    c.in_ok-choices.ensures) c.loop-joined.lists.items c.loop-joined.invariant all chosen
+    (subst (AreChoices rows tops (length rows)) (sym c.as_slice-choices.ensures.value)
+    c.in_ok-choices.ensures) (lists_by rows c.loop-joined.rounds.items) c.loop-joined.invariant.begun all chosen
     c.join.new.joined
     c.join.ensures
 
@@ -150,24 +170,35 @@ loop-joined-preserved c =
     let parents = c.as_slice-parents.result.now in
     let flags = c.loop-joined.joined in
     let tops = c.as_slice-tops.result.now in
-    let choices = c.as_slice.result.now in
-    let all = c.as_slice-all.result.now in
+    let choices = c.as_slice-choices.result.now in
+    let all = c.as_slice.result.now in
     let chosen : AreChosen rows tops choices all = subst (AreChosen rows tops choices)
-    (sym c.as_slice-all.ensures.value)
+    (sym c.as_slice.ensures.value)
     (subst (λ (found : Option (Vec Chosen Global)). IfSome found
     (λ all. AreChosen rows tops choices all.items)) c.in-Some.is c.in_ok-all.ensures.chosen) in
-    let new : List (List Level) = c.add_level.new.lists in
-    let lists = c.loop-joined.lists in
-    let added : AddLevel all (length all) lists.items new =
-    subst (λ (old : List (List Level)). AddLevel all (length all) old new)
-    c.as_mut_slice.ensures.value c.in_ok-add_level.ensures in
-    subst (IsBegun rows c.join.new.joined)
-    (written_back new lists.items lists.len (omega (arith, added.each, lists.ok.0)))
-    (IsBegun-more rows c.len.ensures.valid c.requires.tree parents flags tops
-    (subst (AreParents rows) (sym c.as_slice-parents.ensures.value) c.in_ok-parents.ensures)
-    (subst (AreTops parents flags) (sym c.as_slice-tops.ensures.value) c.in_ok-tops.ensures)
-    (c.if-are_one.ensures.apart refl) choices
-    (subst (AreChoices rows tops (length rows)) (sym c.as_slice.ensures.value)
-    c.in_ok-choices.ensures) c.loop-joined.lists.items c.loop-joined.invariant all chosen
-    c.join.new.joined
-    c.join.ensures new added)
+    let rounds = c.loop-joined.rounds.items in
+    let vec_items : Vec Chosen Global → List Chosen = λ all. all.items in
+    let each = c.loop-joined.invariant.each in
+    let many : length c.in-Some.all.items ≡ length rows =
+    sym (ap length c.as_slice.ensures.value) ∙ chosen.each in
+    let is : all ≡ c.in-Some.all.items = c.as_slice.ensures.value in
+    let added : AddLevel all (lists_by rows rounds) (lists_by rows c.push.new.self.items) =
+    subst (λ (new : List (List Chosen)). AddLevel all (lists_by rows rounds)
+    (said_by new (length rows)))
+    (sym (ap (map vec_items) c.in_ok-push.ensures.items
+    ∙ map-append vec_items rounds (c.in-Some.all ∷ [])
+    ∙ ap (λ (last : List Chosen). map vec_items rounds ++ last ∷ []) (sym is)))
+    (said_by-more (map vec_items rounds) all (length rows) chosen.each) in
+    record {
+      each = subst (All (λ all. length all.items ≡ length rows)) (sym c.in_ok-push.ensures.items)
+          (All-append (λ all. length all.items ≡ length rows) rounds (c.in-Some.all ∷ []) each
+          (All-cons (λ all. length all.items ≡ length rows) c.in-Some.all [] many
+          (All-nil (λ all. length all.items ≡ length rows))));
+      begun = IsBegun-more rows c.len.ensures.valid c.requires.tree parents flags tops
+          (subst (AreParents rows) (sym c.as_slice-parents.ensures.value) c.in_ok-parents.ensures)
+          (subst (AreTops parents flags) (sym c.as_slice-tops.ensures.value) c.in_ok-tops.ensures)
+          (c.if-are_one.ensures.apart refl) choices
+          (subst (AreChoices rows tops (length rows)) (sym c.as_slice-choices.ensures.value)
+          c.in_ok-choices.ensures) (lists_by rows rounds) c.loop-joined.invariant.begun all chosen
+          c.join.new.joined c.join.ensures _ added;
+    }

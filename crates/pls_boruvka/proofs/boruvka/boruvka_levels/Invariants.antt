@@ -1,9 +1,14 @@
+use Rattle.std.proofs.Common.{◌≡◌, All, length, map}
+use Rattle.pls_boruvka.specs.inner.Chosen.{said_by}
 use Rattle.pls_boruvka.proofs.Begun.{IsBegun}
 use Rattle.pls_boruvka.proofs.Unjoined.{unjoined}
 use Rattle.pls_boruvka.proofs.boruvka.boruvka_levels.Given as goal
 
 abbrev pub invariant-loop-joined : goal.invariant-loop-joined
-invariant-loop-joined l = IsBegun l.net l.joined l.lists.items
+invariant-loop-joined l = record {
+  each : All (λ all. length all.items ≡ length l.net) l.rounds.items;
+  begun : IsBegun l.net l.joined (said_by (map (λ all. all.items) l.rounds.items) (length l.net));
+}
 
 abbrev pub decreases-loop-joined : goal.decreases-loop-joined
 decreases-loop-joined l = unjoined l.joined
