@@ -1,14 +1,11 @@
 //! How labels of the scheme `mst` are written.
 
-ghost use Rattle.std.specs.Prelude.{◌≡◌, ◌++◌, OnOk};
-ghost use Rattle.pls_scheme.specs.Numbers.{AreCoded, codes_of};
-
 use crate::label::{MstHead, MstLabel};
 use crate::reading::{head_in, levels_of, read_levels};
 use pls_base::NoMemory;
 use pls_bits::{BitBuf, Bits, NumCode};
 use pls_boruvka::LevelList;
-use pls_scheme::Layout;
+use pls_scheme::{Layout, append_numbers};
 use std::alloc::Global;
 use std::marker::PhantomData;
 
@@ -53,17 +50,16 @@ impl<C: NumCode> Layout for MstLayout<C> {
         }))
     }
 
-    fn write(alloc: Global, label: &MstLabel) -> Result<BitBuf, NoMemory> {
-        let mut bits = BitBuf::new(alloc);
+    fn append(bits: &mut BitBuf, label: &MstLabel) -> Result<(), NoMemory> {
         let levels = label.levels.as_slice();
         let count = levels.len() as u64;
         let front = [label.root, label.own, label.parent, label.depth, count];
-        append_numbers::<C>(&mut bits, &front)?;
+        append_numbers::<C>(bits, &front)?;
         for level in levels {
             let numbers = [level.fragment, level.weight, level.a, level.b];
-            append_numbers::<C>(&mut bits, &numbers)?;
+            append_numbers::<C>(bits, &numbers)?;
         }
-        Ok(bits)
+        Ok(())
     }
 
     ghost said_law = { mst_label-spells C.code C.takes C.takes_codes C.takes_only };
@@ -71,15 +67,4 @@ impl<C: NumCode> Layout for MstLayout<C> {
     ghost spelling_law = { mst_spelled C.code };
 
     ghost one_spelling_law = { one_mst_spelling C.code };
-}
-
-// Appends the codes of these numbers, one behind the other.
-fn append_numbers<C: NumCode>(bits: &mut BitBuf, numbers: &[u64]) -> Result<(), NoMemory>
-    requires { AreCoded numbers.now }
-    ensures { OnOk result (bits.new ≡ bits.old ++ codes_of C.code numbers.now) }
-{
-    for number in numbers {
-        C::write(bits, *number)?;
-    }
-    Ok(())
 }
