@@ -15,7 +15,7 @@ use Rattle.pls_facts.proofs.Dictionary.{Precedes-transitive}
 use Rattle.pls_facts.proofs.EdgeKeys.{outside-in, outside-out}
 use Rattle.pls_facts.proofs.Filtered.{Contains-filter_map}
 use Rattle.pls_boruvka.specs.declared.choice.Choice.{Choice}
-use Rattle.pls_boruvka.specs.inner.Choices.{AreChoices, IsChildOf, IsChoice, IsEarlier, IsFirstOf, LeavesAt, LeavesPlace, LeavesTop, key_of, top_at}
+use Rattle.pls_boruvka.specs.inner.Choices.{AreChoices, IsChildOf, IsChoice, IsEarlier, IsFirstOf, IsLighter, LeavesAt, LeavesPlace, LeavesTop, key_of, top_at}
 
 pub IsAtMost-through : (one other third : List ℕ) → IsAtMost one other → IsAtMost other third
     → IsAtMost one third
@@ -107,32 +107,50 @@ module _ (rows : List NodeRow) where
         ∙ sym (key_of-edge edge other also)),
   )
 
-  module _ (tops : List ℕ) (place : ℕ) where
-    pub LeavesAt-none : IsFirstOf (LeavesAt rows tops place 0) None
-    LeavesAt-none choice leaves = let early = leaves.early in omega arith
+  module _ (tops : List ℕ) (place : ℕ) (Old : Choice → Type 0) where
+    -- an edge of before, or one at one of so many ports
+    abbrev pub OrAt : ℕ → Choice → Type 0
+    OrAt count choice = Old choice ⊎ LeavesAt rows tops place count choice
 
-    pub LeavesAt-all : (row : NodeRow) → slice_get rows place ≡ Some row → (first : Option Choice)
-        → IsFirstOf (LeavesAt rows tops place (length row.ports)) first
-        → IsFirstOf (LeavesPlace rows tops place) first
-    LeavesAt-all row at first is = IsFirstOf-same (LeavesAt rows tops place (length row.ports))
-        (LeavesPlace rows tops place) first (λ choice leaves. (length row.ports, leaves))
-        (λ choice (count, leaves). record {
-          row = leaves.row;
-          port = leaves.port;
-          number = leaves.number;
-          at = leaves.at;
-          has = leaves.has;
-          early = let same = ap (λ (row : NodeRow). length row.ports)
-              (same_Some leaves.row row (sym leaves.at ∙ at)) in
-              omega (
-                arith,
-                same,
-                slice_get_within leaves.row.ports leaves.number leaves.port
-                    leaves.has,
-              );
-          apart = leaves.apart;
-          right = leaves.right;
-        })
+    -- of no port there is none
+    pub OrAt-none : (first : Option Choice) → IsFirstOf Old first → IsFirstOf (OrAt 0) first
+    OrAt-none first is = IsFirstOf-same Old (OrAt 0) first (λ choice old. inl old)
+        (λ choice such. elim such [
+          | inl old ↦ old
+          | inr leaves ↦ absurd (let early = leaves.early in omega arith)
+        ])
+        is
+
+    -- at any port
+    pub OrAt-all : (row : NodeRow) → slice_get rows place ≡ Some row → (first : Option Choice)
+        → IsFirstOf (OrAt (length row.ports)) first
+        → IsFirstOf (λ choice. Old choice ⊎ LeavesPlace rows tops place choice) first
+    OrAt-all row at first is = IsFirstOf-same (OrAt (length row.ports))
+        (λ choice. Old choice ⊎ LeavesPlace rows tops place choice) first
+        (λ choice such. elim such [
+          | inl old ↦ inl old
+          | inr leaves ↦ inr (length row.ports, leaves)
+        ])
+        (λ choice such. elim such [
+          | inl old ↦ inl old
+          | inr (count, leaves) ↦ inr record {
+            row = leaves.row;
+            port = leaves.port;
+            number = leaves.number;
+            at = leaves.at;
+            has = leaves.has;
+            early = let same = ap (λ (row : NodeRow). length row.ports)
+                (same_Some leaves.row row (sym leaves.at ∙ at)) in
+                omega (
+                  arith,
+                  same,
+                  slice_get_within leaves.row.ports leaves.number leaves.port
+                      leaves.has,
+                );
+            apart = leaves.apart;
+            right = leaves.right;
+          }
+        ])
         is
 
     module _ (count : ℕ) (row : NodeRow) (port : Port) (at : slice_get rows place ≡ Some row)
@@ -183,47 +201,73 @@ module _ (rows : List NodeRow) where
       }
 
       -- a port inside the fragment changes nothing
-      pub LeavesAt-inside : top_at tops (place_in rows port.nbr) ≡ top_at tops place
-          → (first : Option Choice) → IsFirstOf (LeavesAt rows tops place count) first
-          → IsFirstOf (LeavesAt rows tops place (count + 1)) first
-      LeavesAt-inside inside first is = IsFirstOf-same (LeavesAt rows tops place count)
-          (LeavesAt rows tops place (count + 1)) first still
-          (λ choice leaves. elim (later choice leaves) [
-            | inl before ↦ before
-            | inr now ↦ absurd (now.0 inside)
+      pub OrAt-inside : top_at tops (place_in rows port.nbr) ≡ top_at tops place
+          → (first : Option Choice) → IsFirstOf (OrAt count) first
+          → IsFirstOf (OrAt (count + 1)) first
+      OrAt-inside inside first is = IsFirstOf-same (OrAt count) (OrAt (count + 1)) first
+          (λ choice such. elim such [
+            | inl old ↦ inl old
+            | inr leaves ↦ inr (still choice leaves)
+          ])
+          (λ choice such. elim such [
+            | inl old ↦ inl old
+            | inr leaves ↦ elim (later choice leaves) [
+              | inl before ↦ inr before
+              | inr now ↦ absurd (now.0 inside)
+            ]
           ])
           is
 
-      -- one that leaves it comes to the others
-      pub LeavesAt-more : (top_at tops (place_in rows port.nbr) ≢ top_at tops place)
-          → (first result : Option Choice) (choice : Choice)
-          → IsFirstOf (LeavesAt rows tops place count) first
-          → IsChoice rows (edge_at row port) choice → IsEarlier first (Some choice) result
-          → IsFirstOf (LeavesAt rows tops place (count + 1)) result
-      LeavesAt-more apart first result choice is right earlier = IsFirstOf-same
-          (λ choice. LeavesAt rows tops place count choice ⊎ IsChoice rows (edge_at row port)
-          choice)
-          (LeavesAt rows tops place (count + 1)) result
-          (λ choice such. elim such [
-            | inl before ↦ still choice before
-            | inr now ↦ record {
-              row = row;
-              port = port;
-              number = count;
-              at = at;
-              has = has;
-              early = omega arith;
-              apart = apart;
-              right = now;
-            }
-          ])
-          (λ choice leaves. elim (later choice leaves) [
-            | inl before ↦ inl before
-            | inr now ↦ inr now.1
-          ])
-          (IsFirstOf-either (LeavesAt rows tops place count) (IsChoice rows (edge_at row port))
-          first
-          (Some choice) result is (IsFirstOf-edge (edge_at row port) choice right) earlier)
+      -- the edge at a port that leaves it comes to the others
+      module _ (apart : top_at tops (place_in rows port.nbr) ≢ top_at tops place) where
+        or_edge : (result : Option Choice)
+            → IsFirstOf (λ choice. OrAt count choice ⊎ IsChoice rows (edge_at row port) choice)
+            result → IsFirstOf (OrAt (count + 1)) result
+        or_edge result is = IsFirstOf-same
+            (λ choice. OrAt count choice ⊎ IsChoice rows (edge_at row port) choice)
+            (OrAt (count + 1)) result
+            (λ choice such. elim such [
+              | inl (inl old) ↦ inl old
+              | inl (inr before) ↦ inr (still choice before)
+              | inr now ↦ inr record {
+                row = row;
+                port = port;
+                number = count;
+                at = at;
+                has = has;
+                early = omega arith;
+                apart = apart;
+                right = now;
+              }
+            ])
+            (λ choice such. elim such [
+              | inl old ↦ inl (inl old)
+              | inr leaves ↦ elim (later choice leaves) [
+                | inl before ↦ inl (inr before)
+                | inr now ↦ inr now.1
+              ]
+            ])
+            is
+
+        pub OrAt-more : (first result : Option Choice) (choice : Choice)
+            → IsFirstOf (OrAt count) first → IsChoice rows (edge_at row port) choice
+            → IsEarlier first (Some choice) result → IsFirstOf (OrAt (count + 1)) result
+        OrAt-more first result choice is right earlier = or_edge result
+            (IsFirstOf-either (OrAt count) (IsChoice rows (edge_at row port)) first (Some choice)
+            result is (IsFirstOf-edge (edge_at row port) choice right) earlier)
+
+        -- and is behind a lighter one
+        pub OrAt-lighter : (first : Option Choice) → IsLighter first port.weight
+            → IsFirstOf (OrAt count) first → IsFirstOf (OrAt (count + 1)) first
+        OrAt-lighter None lighter is = absurd lighter
+        OrAt-lighter (Some first) lighter is = or_edge (Some first) (
+          inl is.0,
+          λ choice such. elim such [
+            | inl before ↦ is.1 choice before
+            | inr now ↦ inr (inl (subst (λ (weight : ℕ). first.weight < weight)
+                (sym (ap (λ (edge : Edge). edge.weight) now.is)) lighter))
+          ],
+        )
 
   module _ (tops : List ℕ) where
     -- before the first place nothing is found
@@ -235,14 +279,32 @@ module _ (rows : List NodeRow) where
           (λ choice (place, before, named, leaves). absurd (omega (arith, before)));
     }
 
+    -- with the edges at one place more of the fragment
+    pub LeavesTop-next : (count : ℕ) (first : Option Choice)
+        → IsFirstOf (λ choice. LeavesTop rows tops count (top_at tops count) choice
+        ⊎ LeavesPlace rows tops count choice) first
+        → IsFirstOf (LeavesTop rows tops (count + 1) (top_at tops count)) first
+    LeavesTop-next count first is = IsFirstOf-same
+        (λ choice. LeavesTop rows tops count (top_at tops count) choice
+        ⊎ LeavesPlace rows tops count choice)
+        (LeavesTop rows tops (count + 1) (top_at tops count)) first
+        (λ choice such. elim such [
+          | inl (place, before, named, leaves) ↦ (place, omega (arith, before), named, leaves)
+          | inr leaves ↦ (count, omega arith, refl, leaves)
+        ])
+        (λ choice (place, before, named, leaves). elim (cases_lt place count) [
+          | inl early ↦ inl (place, early, named, leaves)
+          | inr past ↦ inr (subst (λ (place : ℕ). LeavesPlace rows tops place choice)
+              (let last : place ≡ count = omega (arith, past, before) in last) leaves)
+        ])
+        is
+
     -- the first edge that leaves the fragment of one place more
-    pub AreChoices-more : (count : ℕ) (choices : List (Option Choice)) (found result : Option
-        Choice)
+    pub AreChoices-more : (count : ℕ) (choices : List (Option Choice)) (result : Option Choice)
         → top_at tops count < length rows → AreChoices rows tops count choices
-        → IsFirstOf (LeavesPlace rows tops count) found
-        → IsEarlier (get_or choices (top_at tops count) None) found result
+        → IsFirstOf (LeavesTop rows tops (count + 1) (top_at tops count)) result
         → AreChoices rows tops (count + 1) (set choices (top_at tops count) result)
-    AreChoices-more count choices found result inside old is earlier = record {
+    AreChoices-more count choices result inside old is = record {
       each = length-set choices (top_at tops count) result ∙ old.each;
       first = λ top within. elim (cases_eq top (top_at tops count)) [
         | inr apart ↦ subst (IsFirstOf (LeavesTop rows tops (count + 1) top))
@@ -262,22 +324,6 @@ module _ (rows : List NodeRow) where
             (get_or (set choices (top_at tops count) result) top None)) (sym same)
             (subst (IsFirstOf (LeavesTop rows tops (count + 1) (top_at tops count)))
             (sym (get_or-set_same choices (top_at tops count) result None
-            (omega (arith, inside, old.each))))
-            (IsFirstOf-same (λ choice. LeavesTop rows tops count (top_at tops count) choice
-            ⊎ LeavesPlace rows tops count choice) (LeavesTop rows tops (count + 1) (top_at tops
-            count))
-            result
-            (λ choice such. elim such [
-              | inl (place, before, named, leaves) ↦ (place, omega (arith, before), named, leaves)
-              | inr leaves ↦ (count, omega arith, refl, leaves)
-            ])
-            (λ choice (place, before, named, leaves). elim (cases_lt place count) [
-              | inl early ↦ inl (place, early, named, leaves)
-              | inr past ↦ inr (subst (λ (place : ℕ). LeavesPlace rows tops place choice)
-                  (let last : place ≡ count = omega (arith, past, before) in last) leaves)
-            ])
-            (IsFirstOf-either (LeavesTop rows tops count (top_at tops count))
-            (LeavesPlace rows tops count) (get_or choices (top_at tops count) None) found result
-            (old.first (top_at tops count) inside) is earlier)))
+            (omega (arith, inside, old.each)))) is)
       ];
     }

@@ -2,7 +2,7 @@
 
 ghost use Rattle.std.specs.Prelude.{◌≡◌, true, false};
 ghost use Rattle.pls_facts.specs.Precedes.{IsAtMost};
-ghost use Rattle.pls_boruvka.specs.inner.Choices.{IsEarlier, key_of};
+ghost use Rattle.pls_boruvka.specs.inner.Choices.{IsEarlier, IsLighter, key_of};
 
 // An edge at a port: its weight, its ends by their identities, the smaller first, and the place of
 // the end that points at the other, if one does.
@@ -12,6 +12,16 @@ pub(crate) struct Choice {
     pub(crate) child: Option<usize>,
     pub(crate) a: u32,
     pub(crate) b: u32,
+}
+
+// Whether there is an edge, and it weighs less than this.
+pub(crate) fn is_lighter(one: Option<Choice>, weight: u32) -> bool
+    ensures { result ≡ true → IsLighter one weight }
+{
+    match one {
+        Some(first) => first.weight < weight,
+        None => false,
+    }
 }
 
 // The earlier of two edges, where there are two.

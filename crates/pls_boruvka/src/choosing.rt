@@ -1,10 +1,10 @@
 //! The first edge that leaves each fragment: one pass over all ports.
 
-ghost use Rattle.std.specs.Prelude.{◌≡◌, ◌<◌, All, None, length, replicate, IfOk};
-ghost use Rattle.pls_boruvka.specs.inner.Choices.{AreChoices, ChildOf, IsFirstOf, LeavesPlace, choice_at};
+ghost use Rattle.std.specs.Prelude.{◌≡◌, ◌<◌, ◌+◌, All, None, length, replicate, IfOk};
+ghost use Rattle.pls_boruvka.specs.inner.Choices.{AreChoices, ChildOf, IsFirstOf, LeavesTop, choice_at, top_at};
 ghost use Rattle.pls_boruvka.specs.inner.Tops.{AreParents};
 
-use crate::choice::{Choice, earlier};
+use crate::choice::{Choice, earlier, is_lighter};
 use pls_base::NoMemory;
 use pls_graph::Network;
 use pls_model::Port;
@@ -25,7 +25,7 @@ pub(crate) fn choices_of(
     let mut choices = no_choices(alloc, net.len())?;
     for place in 0..net.len() {
         let top = tops[place];
-        choices[top] = earlier(choices[top], first_at(net, parents, tops, place));
+        choices[top] = first_with(net, parents, tops, place, choices[top]);
     }
     Ok(choices)
 }
@@ -37,26 +37,31 @@ fn no_choices(alloc: Global, count: usize) -> Result<Vec<Option<Choice>>, NoMemo
     Ok(vec![in alloc; None; count]?)
 }
 
-// The first of the edges at a node that leave its fragment.
-fn first_at(
+// The first of the edges that leave a fragment, with those at a node of it, from the first of those
+// at the nodes before. What is heavier than the first so far is passed.
+fn first_with(
     net: &Network,
     parents: &[Option<usize>],
     tops: &[usize],
     place: usize,
+    before: Option<Choice>,
 ) -> Option<Choice>
     requires parents { AreParents net.now parents.now }
     requires each { length tops.now ≡ length net.now }
     requires within { place < length net.now }
-    ensures { IsFirstOf (LeavesPlace net.now tops.now place) result }
+    requires before { IsFirstOf (LeavesTop net.now tops.now place (top_at tops.now place)) before }
+    ensures { IsFirstOf (LeavesTop net.now tops.now (place + 1) (top_at tops.now place)) result }
 {
     let (id, _) = net.node(place);
     let places = net.places(place);
-    let mut first = None;
+    let mut first = before;
     for (p, port) in net.ports(place).iter().enumerate() {
         let other = places[p] as usize;
         if tops[other] != tops[place] {
-            let child = child_of(parents, place, other);
-            first = earlier(first, Some(choice_at(id, *port, child)));
+            if !is_lighter(first, port.weight) {
+                let child = child_of(parents, place, other);
+                first = earlier(first, Some(choice_at(id, *port, child)));
+            }
         }
     }
     first

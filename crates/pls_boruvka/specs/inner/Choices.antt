@@ -85,6 +85,11 @@ pub record AreChoices (rows : List NodeRow) (tops : List ℕ) (count : ℕ)
   pub first : (top : ℕ) → top < length rows
       → IsFirstOf (LeavesTop rows tops count top) (slice_index_or choices top None)
 
+-- there is an edge, and it weighs less than this
+abbrev pub IsLighter : Option Choice → ℕ → Type 0
+IsLighter None weight = ⊥
+IsLighter (Some one) weight = one.weight < weight
+
 -- the earlier of two edges, where there are two
 abbrev pub IsEarlier : Option Choice → Option Choice → Option Choice → Type 0
 IsEarlier None other result = result ≡ other

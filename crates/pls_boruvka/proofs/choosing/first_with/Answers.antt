@@ -7,11 +7,19 @@ use Rattle.pls_model.specs.declared.row.NodeRow.{NodeRow}
 use Rattle.pls_graph.specs.Places.{named_places, place_in}
 use Rattle.pls_graph.proofs.Finds.{from_option_map}
 use Rattle.pls_facts.specs.SpanningTree.{edge_at}
-use Rattle.pls_boruvka.specs.inner.Choices.{ChildOf, IsChoice, IsFirstOf, LeavesAt, choice_at}
-use Rattle.pls_boruvka.proofs.Firsts.{LeavesAt-all, LeavesAt-inside, LeavesAt-more}
+use Rattle.pls_boruvka.specs.declared.choice.Choice.{Choice}
+use Rattle.pls_boruvka.specs.inner.Choices.{ChildOf, IsChoice, IsFirstOf, LeavesTop, choice_at, top_at}
+use Rattle.pls_boruvka.proofs.Firsts.{LeavesTop-next, OrAt, OrAt-all, OrAt-inside, OrAt-lighter, OrAt-more, OrAt-none}
 use Rattle.pls_boruvka.proofs.Pointing.{IsChoice-at}
-use Rattle.pls_boruvka.proofs.choosing.first_at.Goals.{then-tops-other, else-tops-other}
-use Rattle.pls_boruvka.proofs.choosing.first_at.Goals as goal
+use Rattle.pls_boruvka.proofs.choosing.first_with.Goals.{then-tops-other+else-not-is_lighter, then-tops-other+then-not-is_lighter, else-tops-other}
+use Rattle.pls_boruvka.proofs.choosing.first_with.Goals as goal
+
+pub loop-p-init : goal.loop-p-init
+loop-p-init c =
+    let rows = c.args.net.now in
+    let tops = c.args.tops.now in
+    OrAt-none rows tops c.args.place (LeavesTop rows tops c.args.place (top_at tops c.args.place))
+    c.args.before c.requires.before
 
 pub loop-p-preserved : goal.loop-p-preserved
 loop-p-preserved c =
@@ -19,6 +27,7 @@ loop-p-preserved c =
     let tops = c.args.tops.now in
     let place = c.args.place in
     let ports = c.ports-port-items.result.now in
+    let Old : Choice → Type 0 = LeavesTop rows tops place (top_at tops place) in
     let places = c.places-places.result.now in
     let p = c.loop-p.p in
     let none : Port = record { nbr = 0; weight = 0 } in
@@ -41,7 +50,7 @@ loop-p-preserved c =
     ap (λ (places : List ℕ). get_or places p 0) beside_ports
     ∙ get_or-map (λ (port : Port). place_in rows port.nbr) ports p none 0 c.loop-p-test.true in
     elim c.if-tops-other.branch [
-      | then-tops-other w ↦ rw w.first-is (LeavesAt-more rows tops place p row port at has
+      | then-tops-other+then-not-is_lighter w ↦ rw w.first-is (OrAt-more rows tops place Old p row port at has
           (λ same. w.if-tops-other.true (ap (λ (other : ℕ). get_or tops other 0) spot ∙ same))
           c.loop-p.first w.earlier-first.result w.choice_at.result c.loop-p.invariant
           (subst (IsChoice rows (edge_at row port))
@@ -52,7 +61,11 @@ loop-p-preserved c =
           (subst (λ (other : ℕ). ChildOf c.args.parents.now place other w.child_of-child.result)
           spot w.child_of-child.ensures)))
           w.earlier-first.ensures)
-      | else-tops-other w ↦ rw w.first-is (LeavesAt-inside rows tops place p row port at has
+      | then-tops-other+else-not-is_lighter w ↦ rw w.first-is (OrAt-lighter rows tops place Old p row
+          port at has (λ same. w.if-tops-other.true
+          (ap (λ (other : ℕ). get_or tops other 0) spot ∙ same)) c.loop-p.first
+          (w.is_lighter.ensures w.if-not-is_lighter.false) c.loop-p.invariant)
+      | else-tops-other w ↦ rw w.first-is (OrAt-inside rows tops place Old p row port at has
           (sym (ap (λ (other : ℕ). get_or tops other 0) spot) ∙ w.if-tops-other.false)
           c.loop-p.first c.loop-p.invariant)
     ]
@@ -60,14 +73,18 @@ loop-p-preserved c =
 pub returns : goal.returns
 returns c =
     let rows = c.args.net.now in
+    let tops = c.args.tops.now in
+    let place = c.args.place in
+    let Old : Choice → Type 0 = LeavesTop rows tops place (top_at tops place) in
     let ports = c.ports-port-items.result.now in
-    let (row, at, is) : (row : NodeRow) × (slice_get rows c.args.place ≡ Some row)
+    let (row, at, is) : (row : NodeRow) × (slice_get rows place ≡ Some row)
     × (row.ports ≡ ports) =
-    from_option_map (λ (row : NodeRow). row.ports) (slice_get rows c.args.place) ports
+    from_option_map (λ (row : NodeRow). row.ports) (slice_get rows place) ports
     c.ports-port-items.ensures in
     let many = ap length is in
     let all : c.loop-p.p ≡ length row.ports =
     omega (arith, many, c.loop-p-test.false, c.loop-p.auto.p-end) in
-    LeavesAt-all rows c.args.tops.now c.args.place row at c.loop-p.first
-    (subst (λ (count : ℕ). IsFirstOf (LeavesAt rows c.args.tops.now c.args.place count)
-    c.loop-p.first) all c.loop-p.invariant)
+    LeavesTop-next rows tops place c.loop-p.first
+    (OrAt-all rows tops place Old row at c.loop-p.first
+    (subst (λ (count : ℕ). IsFirstOf (OrAt rows tops place Old count) c.loop-p.first) all
+    c.loop-p.invariant))
