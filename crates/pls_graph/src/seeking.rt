@@ -1,6 +1,6 @@
 //! Nodes by their identities.
 
-ghost use Rattle.std.specs.Prelude.{◌≡◌, ◌≤◌, ◌==◌, List, length, map, option_map, position, None, Some, IfNone, IfSome, true};
+ghost use Rattle.std.specs.Prelude.{◌≡◌, ◌<◌, ◌≤◌, ◌==◌, List, length, map, option_map, position, None, Some, IfNone, IfSome, true};
 ghost use Rattle.std.specs.List.{position_or_len};
 ghost use Rattle.std.specs.Option.{is_some};
 ghost use Rattle.pls_model.specs.Configuration.{out_of_order};
@@ -29,12 +29,16 @@ pub(crate) fn order(nodes: &[Node]) -> Option<BuildError>
 }
 
 /// The place of an identity among nodes whose identities rise. It is looked for between the places
-/// that the identities at both ends leave: where there are no gaps that is one place.
+/// that the identities at both ends leave, and first at the first of these: where there are no gaps
+/// that is the only one.
 pub(crate) fn place_among(nodes: &[Node], id: u32) -> Option<usize>
     requires { AreRising nodes.now }
     ensures { result ≡ position (λ node. id == node.id) nodes.now }
 {
     let (start, stop) = bounds_of(nodes, id)?;
+    if nodes[start].id == id {
+        return Some(start);
+    }
     let found = nodes[start..stop].binary_search_by_key(&id, |node| node.id);
     match found {
         Ok(place) => Some(start + place),
@@ -46,7 +50,7 @@ pub(crate) fn place_among(nodes: &[Node], id: u32) -> Option<usize>
 // further from an end than its identity is from the one there. `None` where it is beyond the ends.
 fn bounds_of(nodes: &[Node], id: u32) -> Option<(usize, usize)>
     requires { AreRising nodes.now }
-    ensures order { IfSome result (λ bounds. bounds.0 ≤ bounds.1) }
+    ensures some { IfSome result (λ bounds. bounds.0 < bounds.1) }
     ensures within { IfSome result (λ bounds. bounds.1 ≤ length nodes.now) }
     ensures between { IfSome result (λ bounds. IsBetween id bounds.0 bounds.1 nodes.now) }
     ensures none { IfNone result (position (λ node. id == node.id) nodes.now ≡ None) }
