@@ -17,7 +17,7 @@ use pls_model::{Port, State};
 use std::alloc::{AllocError, Global};
 
 // The most ports of each row where ports are looked for one by one.
-const FEW_PORTS: usize = 16;
+const FEW_PORTS: usize = 8;
 
 /// Whether each row passes the tests. `false` says nothing.
 pub(crate) fn are_sound(alloc: Global, table: &Table) -> Result<bool, AllocError>
