@@ -8,6 +8,9 @@ ghost use Rattle.pls_report.specs.inner.Pieces.{outcome_tail};
 use pls_base::write_decimal;
 use pls_model::Verdict;
 
+/// So many bytes have room for the line of a node that has decided.
+pub(crate) const LINE_ROOM: usize = 80;
+
 /// Writes the line of a node that has decided to a place, and answers where it ends.
 pub(crate) fn line_at(into: &mut [u8], at: usize, id: u32, verdict: Verdict) -> usize
     requires { at + 80 ≤ length into.old }
@@ -52,10 +55,20 @@ fn number_at(into: &mut [u8], at: usize, number: u64) -> usize
         into[at] = b'0' + number as u8;
         return at + 1;
     }
-    let mut digits = [0; 20];
-    let count = write_decimal(number, &mut digits);
-    bytes_at(into, at, &digits);
-    at + count
+    at + put_decimal(number, &mut into[at..])
+}
+
+// Writes a number to the front of some bytes, and answers how many digits there are.
+fn put_decimal(number: u64, into: &mut [u8]) -> usize
+    requires { 20 ≤ length into.old }
+    ensures length { length into.new ≡ length into.old }
+    ensures within { result ≤ 20 }
+    ensures digits { take result into.new ≡ decimal number }
+{
+    match into.first_chunk_mut::<20>() {
+        Some(room) => write_decimal(number, room),
+        None => unreachable!(),
+    }
 }
 
 /// Copies bytes to a place, and answers where they end.

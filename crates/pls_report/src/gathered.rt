@@ -5,7 +5,7 @@ ghost use Rattle.pls_sim.specs.declared.outcome.Outcome.TheVariants.{Decided};
 ghost use Rattle.pls_report.specs.Report.{node_line};
 ghost use Rattle.pls_report.specs.inner.Pieces.{Writes};
 
-use crate::decided::{bytes_at, line_at};
+use crate::decided::{LINE_ROOM, bytes_at, line_at};
 use pls_base::{Fault, Sink, write_all};
 use pls_model::Verdict;
 use std::marker::Model;
@@ -67,7 +67,7 @@ impl Gathered {
             result [] }
         ensures room { OnOk result (length self.new + 80 ≤ 4096) }
     {
-        if self.count + 80 <= ROOM {
+        if self.count + LINE_ROOM <= ROOM {
             return Ok(());
         }
         self.flush(sink)

@@ -1,6 +1,7 @@
-use Rattle.std.proofs.Common.{◌+◌, ◌++◌, ◌∙◌, List, ℕ, ap, arith, sym, take}
+use Rattle.std.proofs.Common.{◌≡◌, ◌+◌, ◌-◌, ◌++◌, ◌∙◌, List, ℕ, ap, arith, drop, length, refl, sym, take}
 use Rattle.std.proofs.lemmas.Fmt.{decimal_digit}
-use Rattle.std.proofs.lemmas.List.{take_more_set}
+use Rattle.std.proofs.lemmas.List.{length-drop, take_more_set, take_rest}
+use Rattle.std.proofs.lemmas.Slice.{take-put_mid}
 use Rattle.pls_report.proofs.Texts.{front_behind}
 use Rattle.pls_report.proofs.decided.number_at.Goals as goal
 
@@ -14,8 +15,13 @@ returns-then-number-lt10-clause-number c =
 
 pub returns-clause-number : goal.returns-clause-number
 returns-clause-number c =
-    front_behind c.args.into.now c.bytes_at.new.into c.write_decimal-count.new.into c.args.at
-    c.write_decimal-count.result (omega (arith, c.requires)) (omega arith)
-    c.bytes_at.ensures.bytes
-    ∙ ap (λ (digits : List ℕ). take c.args.at c.args.into.now ++ digits)
-    c.write_decimal-count.ensures.digits
+    let into = c.args.into.now in
+    let at = c.args.at in
+    let rest = c.put_decimal.new.into in
+    let long : length rest ≡ length into - at =
+    c.put_decimal.ensures.length ∙ ap (length {A = ℕ}) (take_rest into at) ∙ length-drop at into in
+    front_behind into _ rest at c.put_decimal.result (omega (arith, c.requires))
+    (omega (arith, c.requires, c.put_decimal.ensures.within, long))
+    (take-put_mid at (length into - at) into rest (at + length rest) refl
+    (omega (arith, c.requires)))
+    ∙ ap (λ (digits : List ℕ). take at into ++ digits) c.put_decimal.ensures.digits
