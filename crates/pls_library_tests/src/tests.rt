@@ -8,3 +8,25 @@ mod labelfile;
 mod lines;
 mod netfile;
 mod views;
+
+use pls_base::TextError;
+use pls_graph::Network;
+use pls_netfile::read_network;
+use std::alloc::Global;
+use std::test::Fail;
+
+// The network of a text.
+fn network(alloc: Global, text: &str) -> Result<Network, Fail> {
+    match read_network(alloc, text.as_bytes()) {
+        Ok(net) => Ok(net),
+        Err(_) => Err(Fail::from("refused")),
+    }
+}
+
+// The line where a text is not of its form, and 0 where that is not what is wrong with it.
+fn line_of<T>(read: &Result<T, TextError>) -> u64 {
+    match read {
+        Err(TextError::Form(line)) => *line,
+        _ => 0,
+    }
+}

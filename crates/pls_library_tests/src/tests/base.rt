@@ -1,59 +1,88 @@
 //! Streams and decimals.
 
 use pls_base::{
-    Fault, MemSink, MemSource, ReadError, StdSink, StdSource, read_all, read_decimal, write_all,
-    write_decimal,
+    Fault, MemSink, MemSource, ReadError, Sink, Source, StdSink, StdSource, read_all, read_decimal,
+    write_all, write_decimal,
 };
+use std::alloc::Global;
 use std::io::{self, ErrorKind, Read};
 use std::test::Fail;
 
+// All that is left of a source, if it is no more than so many bytes.
+fn read<S: Source>(alloc: Global, source: &mut S, most: u32) -> Result<Vec<u8>, ReadError> {
+    read_all(alloc, source, u64::from(most))
+}
+
+// Writes the bytes to a sink.
+fn write<K: Sink>(sink: &mut K, bytes: &[u8]) -> Result<(), Fault> {
+    write_all(sink, bytes)
+}
+
 #[test]
-fn a_read_and_a_write_fail_in_mid_stream(rt: HostRuntime) -> Result<(), Fail> {
+fn a_read_fails_in_mid_stream(rt: HostRuntime) -> Result<(), Fail> {
     let alloc = rt.alloc();
-    let bytes = b"abcd".to_vec(alloc)?;
-    let mut source = MemSource::new(bytes, 1, vec![in alloc; 3]?);
-    assert_eq!(rt; read_all(alloc, &mut source, 9), Err(ReadError::Fault));
-    assert_eq!(rt; read_all(alloc, &mut source, 1), Err(ReadError::TooLong));
-    assert_eq!(rt;
-        read_all(alloc, &mut source, 0)?.len(),
-        0,
+    let mut source = MemSource::new(b"abcd".to_vec(alloc)?, 1, vec![in alloc; 3]?);
+    assert!(rt;
+        read(alloc, &mut source, 9) == Err(ReadError::Fault),
+        "a fault"
+    );
+    assert!(rt;
+        read(alloc, &mut source, 1) == Err(ReadError::TooLong),
+        "too long"
+    );
+    assert!(rt;
+        read(alloc, &mut source, 0)?.is_empty(),
         "all four bytes are gone"
     );
-
-    let mut sink = MemSink::new(alloc, 4, 2, vec![in alloc; 2]?)?;
-    assert_eq!(rt; write_all(&mut sink, b"abc"), Err(Fault));
-    assert_eq!(rt; write_all(&mut sink, b"de"), Ok(()));
-    assert_eq!(rt;
-        write_all(&mut sink, b"f"),
-        Err(Fault),
-        "there is room for four bytes"
-    );
-    assert_eq!(rt; sink.bytes(), b"abde".as_slice());
     Ok(())
 }
 
 #[test]
-fn decimals_at_their_edges(rt: HostRuntime) -> Result<(), Fail> {
-    let cases = [
-        ("0", 0, Some(0)),
-        ("9", 8, None),
-        ("10", 10, Some(10)),
-        ("00", 9, None),
-        ("+1", 9, None),
-        ("", 9, None),
-        ("18446744073709551615", u64::MAX, Some(u64::MAX)),
-        ("18446744073709551616", u64::MAX, None),
-    ];
-    for (text, most, number) in cases {
-        assert_eq!(rt; read_decimal(text.as_bytes(), most), number, "{text}");
-    }
-    for text in ["0", "9", "10", "18446744073709551615"] {
-        let number = read_decimal(text.as_bytes(), u64::MAX).ok_or("a number")?;
-        let mut digits = [0; 20];
-        let count = write_decimal(number, &mut digits);
-        assert_eq!(rt; &digits[..count], text.as_bytes());
-    }
+fn a_write_fails_in_mid_stream(rt: HostRuntime) -> Result<(), Fail> {
+    let alloc = rt.alloc();
+    let mut sink = MemSink::new(alloc, 4, 2, vec![in alloc; 2]?)?;
+    assert!(rt; write(&mut sink, b"abc").is_err(), "a fault");
+    assert!(rt; write(&mut sink, b"de").is_ok(), "all is well");
+    assert!(rt;
+        write(&mut sink, b"f").is_err(),
+        "there is room for four bytes"
+    );
+    assert!(rt; sink.bytes() == b"abde".as_slice(), "what was written");
     Ok(())
+}
+
+// Texts, the greatest number that is allowed, and the number that is read.
+const DECIMALS: &[(&str, u64, Option<u64>)] = &[
+    ("0", 0, Some(0)),
+    ("9", 8, None),
+    ("10", 10, Some(10)),
+    ("00", 9, None),
+    ("+1", 9, None),
+    ("", 9, None),
+    ("18446744073709551615", u64::MAX, Some(u64::MAX)),
+    ("18446744073709551616", u64::MAX, None),
+];
+
+// Whether a number is written as this text.
+fn is_written(number: u64, text: &str) -> bool {
+    let mut digits = [0; 20];
+    let count = write_decimal(number, &mut digits);
+    &digits[..count] == text.as_bytes()
+}
+
+#[test]
+fn decimals_at_their_edges(rt: HostRuntime) {
+    for (text, most, number) in DECIMALS {
+        assert!(rt; read_decimal(text.as_bytes(), *most) == *number, "{text}");
+    }
+    for (number, text) in [
+        (0, "0"),
+        (9, "9"),
+        (10, "10"),
+        (u64::MAX, "18446744073709551615"),
+    ] {
+        assert!(rt; is_written(number, text), "{text}");
+    }
 }
 
 /// A reader that gives one byte, and fails from then on.
@@ -77,19 +106,20 @@ impl Read for BreaksOff {
 fn readers_and_writers_of_std(rt: HostRuntime) -> Result<(), Fail> {
     let alloc = rt.alloc();
     let mut whole = StdSource::new(b"hello".as_slice());
-    let read = read_all(alloc, &mut whole, 5)?;
-    assert_eq!(rt; read.as_slice(), b"hello".as_slice());
+    assert!(rt;
+        read(alloc, &mut whole, 5)?.as_slice() == b"hello".as_slice(),
+        "all"
+    );
     let mut broken = StdSource::new(BreaksOff { gave: false });
-    assert_eq!(rt; read_all(alloc, &mut broken, 5), Err(ReadError::Fault));
+    assert!(rt;
+        read(alloc, &mut broken, 5) == Err(ReadError::Fault),
+        "a fault"
+    );
 
     let mut written = [0; 5];
     let mut sink = StdSink::new(written.as_mut_slice());
-    assert_eq!(rt; write_all(&mut sink, b"hel"), Ok(()));
-    assert_eq!(rt;
-        write_all(&mut sink, b"lo!"),
-        Err(Fault),
-        "the slice is full"
-    );
-    assert_eq!(rt; written, *b"hello");
+    assert!(rt; write(&mut sink, b"hel").is_ok(), "there is room");
+    assert!(rt; write(&mut sink, b"lo!").is_err(), "the slice is full");
+    assert!(rt; written == *b"hello", "what was written");
     Ok(())
 }

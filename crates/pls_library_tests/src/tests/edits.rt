@@ -1,10 +1,10 @@
 //! Networks that are edited: all edits of all small networks are compared with a plain program that
 //! keeps nodes and ports in two lists.
 
-ghost use Rattle.std.specs.Prelude.{◌≡◌, ◌<◌, length, IfOk};
+ghost use Rattle.std.specs.Prelude.{◌<◌, length};
 
-use pls_graph::{EditError, Network, Port, State};
-use pls_netfile::{read_network, write_network};
+use super::network;
+use pls_graph::{EditError, Network, State};
 use std::alloc::{AllocError, Global};
 use std::test::Fail;
 
@@ -31,7 +31,7 @@ struct Plain {
 }
 
 // An edit of a network.
-#[derive(Clone, Copy, Debug)]
+#[derive(Clone, Copy)]
 enum Edit {
     State(u32, Option<u32>),
     Weight(u32, u32),
@@ -169,23 +169,18 @@ impl Plain {
     }
 
     // The text of the network.
-    fn text(&self, alloc: Global) -> Result<Vec<u8>, AllocError> {
-        let mut text = b"network\n".to_vec(alloc)?;
+    fn text(&self, alloc: Global) -> Result<String, AllocError> {
+        let mut text = String::from_str(alloc, "network\n")?;
         for node in &self.nodes {
-            let id = node.id;
-            let line = match node.up {
-                None => format!(in alloc; "node {id} - 0 0\n")?,
-                Some(up) => format!(in alloc; "node {id} {up} 0 0\n")?,
-            };
-            text.extend_from_slice(line.as_bytes())?;
+            text.push_str(line_of(alloc, *node)?.as_str())?;
             for port in &self.ports {
-                if port.owner == id {
-                    let line = format!(in alloc; "port {} {}\n", port.nbr, port.weight)?;
-                    text.extend_from_slice(line.as_bytes())?;
+                if port.owner == node.id {
+                    let (nbr, weight) = (port.nbr, port.weight);
+                    text.push_str(format!(in alloc; "port {nbr} {weight}\n")?.as_str())?;
                 }
             }
         }
-        text.extend_from_slice(b"end\n")?;
+        text.push_str("end\n")?;
         Ok(text)
     }
 
@@ -195,6 +190,15 @@ impl Plain {
             nodes: self.nodes.as_slice().to_vec(alloc)?,
             ports: self.ports.as_slice().to_vec(alloc)?,
         })
+    }
+}
+
+// The line of a node.
+fn line_of(alloc: Global, node: PlainNode) -> Result<String, AllocError> {
+    let id = node.id;
+    match node.up {
+        None => format!(in alloc; "node {id} - 0 0\n"),
+        Some(up) => format!(in alloc; "node {id} {up} 0 0\n"),
     }
 }
 
@@ -237,41 +241,69 @@ fn is_one_name(nodes: u32, pointers: u32) -> bool {
     }
 }
 
-// All edits that are tried, of nodes that are there and of others.
-fn edits(alloc: Global) -> Result<Vec<Edit>, AllocError> {
-    let mut edits = Vec::new(alloc);
-    for id in 0..7 {
-        edits.push(Edit::Join(id))?;
-        edits.push(Edit::Leave(id))?;
+// How many edits are tried first.
+const EDITS: u32 = 78;
+
+// The first edit that is tried of this number, of nodes that are there and of others.
+fn first_edit(number: u32) -> Edit {
+    let (i, j) = (number.wrapping_shr(2) & 3, number.wrapping_shr(4) & 3);
+    if number >= 71 {
+        return Edit::Leave(number - 71);
     }
-    for a in [1, 2, 3, 5] {
-        for b in [1, 2, 3, 5] {
-            edits.push(Edit::Weight(a, b))?;
-            edits.push(Edit::Link(a, b))?;
-            edits.push(Edit::Unlink(a, b))?;
-        }
-        for up in [None, Some(0), Some(1), Some(2)] {
-            edits.push(Edit::State(a, up))?;
-        }
+    if number >= 64 {
+        return Edit::Join(number - 64);
     }
-    Ok(edits)
+    match number & 3 {
+        0 => Edit::Weight(end(i), end(j)),
+        1 => Edit::Link(end(i), end(j)),
+        2 => Edit::Unlink(end(i), end(j)),
+        _ => Edit::State(end(i), j.checked_sub(1)),
+    }
 }
 
-// How many edits of a network, and then of what these made, end otherwise than in the plain
-// program.
-fn differences(alloc: Global, plain: &Plain, edits: &[Edit], more: &[Edit]) -> Result<u32, Fail> {
+// An end of an edge that is edited.
+fn end(number: u32) -> u32 {
+    match number {
+        0 => 1,
+        1 => 2,
+        2 => 3,
+        _ => 5,
+    }
+}
+
+// The edits that are tried behind each: where it left a range with room, or at another place, these
+// use it.
+const MORE: &[Edit] = &[
+    Edit::Link(1, 5),
+    Edit::Join(4),
+    Edit::Unlink(3, 1),
+    Edit::Link(4, 3),
+    Edit::Weight(5, 1),
+    Edit::Leave(4),
+    Edit::Unlink(1, 5),
+    Edit::Link(3, 1),
+    Edit::Leave(5),
+    Edit::State(3, Some(0)),
+];
+
+// Whether an edit of a network, and then each of the others, ends as in the plain program.
+fn ends_alike(alloc: Global, plain: &Plain, text: &str, first: Edit) -> Result<bool, Fail> {
+    let mut net = network(alloc, text)?;
+    let mut plain = plain.again(alloc)?;
+    let mut alike = agree(&mut net, &mut plain, first)?;
+    for next in MORE {
+        alike &= agree(&mut net, &mut plain, *next)?;
+    }
+    Ok(alike)
+}
+
+// How many edits of a network, with those behind them, end otherwise than in the plain program.
+fn differences(alloc: Global, plain: &Plain) -> Result<u32, Fail> {
     let text = plain.text(alloc)?;
     let mut wrong = 0_u32;
-    for first in edits {
-        let mut net = match read_network(alloc, &text) {
-            Ok(net) => net,
-            Err(_) => return Err(Fail::from("refused")),
-        };
-        let mut plain = plain.again(alloc)?;
-        wrong = wrong.saturating_add(u32::from(!agree(&mut net, &mut plain, *first)?));
-        for next in more {
-            wrong = wrong.saturating_add(u32::from(!agree(&mut net, &mut plain, *next)?));
-        }
+    for number in 0..EDITS {
+        let alike = ends_alike(alloc, plain, text.as_str(), first_edit(number))?;
+        wrong = wrong.saturating_add(u32::from(!alike));
     }
     Ok(wrong)
 }
@@ -320,57 +352,42 @@ fn are_same(net: &Network, i: usize, plain: &Plain, id: u32) -> bool
     ports.next().is_none()
 }
 
-#[test]
-fn all_edits_of_all_small_networks(rt: HostRuntime) -> Result<(), Fail> {
-    let alloc = rt.alloc();
-    let edits = edits(alloc)?;
-    // Where an edit left a range with room, or at another place, these use it.
-    let more = [
-        Edit::Link(1, 5),
-        Edit::Join(4),
-        Edit::Unlink(3, 1),
-        Edit::Link(4, 3),
-        Edit::Weight(5, 1),
-        Edit::Leave(4),
-        Edit::Unlink(1, 5),
-        Edit::Link(3, 1),
-        Edit::Leave(5),
-        Edit::State(3, Some(0)),
-    ];
+// How many networks of so many nodes with these edges were tried, all of whose edits end as they
+// should.
+fn tried(alloc: Global, nodes: u32, edges: u32) -> Result<u32, Fail> {
     let mut tried = 0_u32;
-    for (nodes, sets) in [(1, 1), (2, 2), (3, 8)] {
-        for edges in 0..sets {
-            for pointers in 0..64 {
-                if is_one_name(nodes, pointers)
-                    && let Some(plain) = small(alloc, nodes, edges, pointers)?
-                {
-                    let wrong = differences(alloc, &plain, edits.as_slice(), more.as_slice())?;
-                    assert_eq!(rt;
-                        wrong,
-                        0,
-                        "{nodes} nodes, edges {edges}, pointers {pointers}"
-                    );
-                    tried = tried.saturating_add(1);
-                }
-            }
+    for pointers in 0..64 {
+        if is_one_name(nodes, pointers)
+            && let Some(plain) = small(alloc, nodes, edges, pointers)?
+            && differences(alloc, &plain)? == 0
+        {
+            tried = tried.saturating_add(1);
         }
     }
-    assert_eq!(rt; tried, 82, "small networks");
-    Ok(())
+    Ok(tried)
 }
 
+// Of each number of nodes the sets of edges, one bit a pair, and how many choices of pointers there
+// are: of each node none, or one of its ports.
+const NETWORKS: &[(u32, u32, u32)] = &[
+    (1, 0, 1),
+    (2, 0, 1),
+    (2, 1, 4),
+    (3, 0, 1),
+    (3, 1, 4),
+    (3, 2, 4),
+    (3, 3, 12),
+    (3, 4, 4),
+    (3, 5, 12),
+    (3, 6, 12),
+    (3, 7, 27),
+];
+
 #[test]
-fn a_node_joins_and_leaves(rt: HostRuntime) -> Result<(), Fail> {
-    let pair = b"network\nnode 1 - 0 0\nport 2 1\nnode 2 0 0 0\nport 1 1\nend\n";
-    let mut net = match read_network(rt.alloc(), pair) {
-        Ok(net) => net,
-        Err(_) => return Err(Fail::from("refused")),
-    };
-    assert_eq!(rt; net.join(9, 0, 0), Ok(()));
-    assert_eq!(rt; net.leave(9), Ok(()));
-    assert_eq!(rt;
-        write_network(rt.alloc(), &net)?.as_slice(),
-        pair.as_slice()
-    );
+fn all_edits_of_all_small_networks(rt: HostRuntime) -> Result<(), Fail> {
+    for (nodes, edges, networks) in NETWORKS {
+        let tried = tried(rt.alloc(), *nodes, *edges)?;
+        assert!(rt; tried == *networks, "{nodes} nodes, edges {edges}: {tried}");
+    }
     Ok(())
 }

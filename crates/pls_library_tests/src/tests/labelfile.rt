@@ -1,100 +1,107 @@
 //! Texts of labels for a network of three nodes: what is read, and why others are refused.
 
+use super::{line_of, network};
 use pls_base::TextError;
 use pls_graph::Network;
 use pls_labelfile::{read_labels, write_labels, written_is_read};
-use pls_netfile::read_network;
 use std::alloc::Global;
 use std::test::Fail;
 
-// The network of the nodes 1, 20 and 21, without edges.
-fn three_nodes(alloc: Global) -> Result<Network, TextError> {
-    read_network(
-        alloc,
-        b"network\nnode 1 - 0 0\nnode 20 - 0 0\nnode 21 - 0 0\nend\n",
-    )
+// The nodes 1, 20 and 21, without edges.
+const THREE: &str = "network\nnode 1 - 0 0\nnode 20 - 0 0\nnode 21 - 0 0\nend\n";
+
+// The text of the labels that a text is read as.
+fn written(alloc: Global, net: &Network, text: &[u8]) -> Result<Vec<u8>, Fail> {
+    let labels = read_labels(alloc, text, net)?;
+    Ok(write_labels(alloc, net, &labels)?)
 }
 
-// Why a text is refused.
-fn refusal(alloc: Global, text: &[u8], net: &Network) -> Option<TextError> {
-    read_labels(alloc, text, net).err()
+// How many labels are read of the text of those that a text is read as, and their bits together.
+fn read_again(alloc: Global, net: &Network, text: &[u8]) -> Result<(usize, u64), Fail> {
+    let labels = read_labels(alloc, text, net)?;
+    let again = written_is_read(alloc, net, &labels)?;
+    Ok((again.len(), again.total()))
 }
 
 #[test]
 fn the_text_that_was_read_is_written(rt: HostRuntime) -> Result<(), Fail> {
-    let net = three_nodes(rt.alloc())?;
+    let net = network(rt.alloc(), THREE)?;
     let text = b"labels\nlabel 1 17 318d80\nlabel 20 0 -\nlabel 21 1 00\nend\n".as_slice();
-    let labels = read_labels(rt.alloc(), text, &net)?;
-    assert_eq!(rt; (labels.len(), labels.total()), (3, 18));
-    let written = write_labels(rt.alloc(), &net, &labels)?;
-    assert!(rt; written.as_slice() == text, "the text that was read");
-    let again = written_is_read(rt.alloc(), &net, &labels)?;
-    assert_eq!(rt; (again.len(), again.total()), (3, 18));
+    assert!(rt;
+        written(rt.alloc(), &net, text)?.as_slice() == text,
+        "the text"
+    );
+    assert!(rt;
+        read_again(rt.alloc(), &net, text)? == (3, 18),
+        "read again"
+    );
     Ok(())
 }
 
+// Texts that are no labels', and the first faulty line of each.
+const FAULTY: &[(&str, u64)] = &[
+    ("", 1),
+    ("labels", 1),
+    ("label 1 0 -\n", 1),
+    ("labels \nend\n", 1),
+    ("labels\n", 2),
+    ("labels\nend", 2),
+    ("labels\n\nend\n", 2),
+    ("labels\nlabel 1 0\nend\n", 2),
+    ("labels\nlabel 1 0 \nend\n", 2),
+    ("labels\nlabel 1 0 - \nend\n", 2),
+    ("labels\nlabel  1 0 -\nend\n", 2),
+    ("labels\nlabel 01 0 -\nend\n", 2),
+    ("labels\nlabel 4294967296 0 -\nend\n", 2),
+    ("labels\nlabel 1 268435457 00\nend\n", 2),
+    ("labels\nlabel 1 0 00\nend\n", 2),
+    ("labels\nlabel 1 1 -\nend\n", 2),
+    ("labels\nlabel 1 1 8\nend\n", 2),
+    ("labels\nlabel 1 1 8000\nend\n", 2),
+    ("labels\nlabel 1 1 40\nend\n", 2),
+    ("labels\nlabel 1 4 F0\nend\n", 2),
+    ("labels\nlabel 1 0 -\nlabel 20 0 -", 3),
+    ("labels\nlabel 20 0 -\nlabel 1 0 x\nend\n", 3),
+    (
+        "labels\nlabel 1 0 -\nlabel 20 0 -\nlabel 21 0 -\nend\n\n",
+        6,
+    ),
+    (
+        "labels\nlabel 1 0 -\nlabel 20 0 -\nlabel 21 0 -\nend\nend\n",
+        6,
+    ),
+];
+
+// The first label that is not that of a node of the three: a text, and its line.
+const OTHER: &[(&str, u64)] = &[
+    ("labels\nend\n", 2),
+    ("labels\nlabel 20 0 -\nlabel 1 0 -\nlabel 21 0 -\nend\n", 2),
+    ("labels\nlabel 1 0 -\nlabel 1 0 -\nend\n", 3),
+    ("labels\nlabel 1 0 -\nlabel 20 0 -\nend\n", 4),
+    (
+        "labels\nlabel 1 0 -\nlabel 20 0 -\nlabel 21 0 -\nlabel 22 0 -\nend\n",
+        5,
+    ),
+];
+
 #[test]
-fn the_first_line_that_is_not_of_the_form_is_named(rt: HostRuntime) -> Result<(), Fail> {
-    let net = three_nodes(rt.alloc())?;
-    let rows = [
-        ("", 1),
-        ("labels", 1),
-        ("label 1 0 -\n", 1),
-        ("labels \nend\n", 1),
-        ("labels\n", 2),
-        ("labels\nend", 2),
-        ("labels\n\nend\n", 2),
-        ("labels\nlabel 1 0\nend\n", 2),
-        ("labels\nlabel 1 0 \nend\n", 2),
-        ("labels\nlabel 1 0 - \nend\n", 2),
-        ("labels\nlabel  1 0 -\nend\n", 2),
-        ("labels\nlabel 01 0 -\nend\n", 2),
-        ("labels\nlabel 4294967296 0 -\nend\n", 2),
-        ("labels\nlabel 1 268435457 00\nend\n", 2),
-        ("labels\nlabel 1 0 00\nend\n", 2),
-        ("labels\nlabel 1 1 -\nend\n", 2),
-        ("labels\nlabel 1 1 8\nend\n", 2),
-        ("labels\nlabel 1 1 8000\nend\n", 2),
-        ("labels\nlabel 1 1 40\nend\n", 2),
-        ("labels\nlabel 1 4 F0\nend\n", 2),
-        ("labels\nlabel 1 0 -\nlabel 20 0 -", 3),
-        ("labels\nlabel 20 0 -\nlabel 1 0 x\nend\n", 3),
-        (
-            "labels\nlabel 1 0 -\nlabel 20 0 -\nlabel 21 0 -\nend\n\n",
-            6,
-        ),
-        (
-            "labels\nlabel 1 0 -\nlabel 20 0 -\nlabel 21 0 -\nend\nend\n",
-            6,
-        ),
-    ];
-    for (text, line) in rows {
-        let error = refusal(rt.alloc(), text.as_bytes(), &net);
-        assert!(rt;
-            error == Some(TextError::Form(line)),
-            "line {line} of {text}"
-        );
+fn the_first_faulty_line_is_named(rt: HostRuntime) -> Result<(), Fail> {
+    let net = network(rt.alloc(), THREE)?;
+    for (text, line) in FAULTY {
+        let read = read_labels(rt.alloc(), text.as_bytes(), &net);
+        assert!(rt; line_of(&read) == *line, "line {line} of {text}");
     }
     Ok(())
 }
 
 #[test]
 fn the_first_label_of_another_node_is_named(rt: HostRuntime) -> Result<(), Fail> {
-    let net = three_nodes(rt.alloc())?;
-    let rows = [
-        ("labels\nend\n", 2),
-        ("labels\nlabel 20 0 -\nlabel 1 0 -\nlabel 21 0 -\nend\n", 2),
-        ("labels\nlabel 1 0 -\nlabel 1 0 -\nend\n", 3),
-        ("labels\nlabel 1 0 -\nlabel 20 0 -\nend\n", 4),
-        (
-            "labels\nlabel 1 0 -\nlabel 20 0 -\nlabel 21 0 -\nlabel 22 0 -\nend\n",
-            5,
-        ),
-    ];
-    for (text, place) in rows {
-        let error = refusal(rt.alloc(), text.as_bytes(), &net);
-        let named = TextError::Sense { number: 20, place };
-        assert!(rt; error == Some(named), "line {place} of {text}");
+    let net = network(rt.alloc(), THREE)?;
+    for (text, place) in OTHER {
+        let (number, place) = (20, *place);
+        let read = read_labels(rt.alloc(), text.as_bytes(), &net);
+        let due = TextError::Sense { number, place };
+        assert!(rt; read.err() == Some(due), "line {place} of {text}");
     }
     Ok(())
 }

@@ -1,6 +1,6 @@
 //! Lines of numbers, and an input in two parts with the first faulty line of the whole.
 
-use pls_base::TextError;
+use super::line_of;
 use pls_labelfile::LabelsText;
 use pls_lines::{
     Both, Count, bytes_before, number_before, one_number, read_list, read_whole, two_numbers,
@@ -13,98 +13,116 @@ use std::test::Fail;
 // A network, labels and a schedule.
 type Three<'a> = Both<NetworkText<'a>, Both<LabelsText<'a>, ScheduleText<'a>>>;
 
+// Texts, and the number up to 1000 that is read before a blank.
+const NUMBERS: &[(&str, Option<u64>)] = &[
+    ("0 x", Some(0)),
+    ("407 x", Some(407)),
+    ("18 ", Some(18)),
+    ("407", None),
+    ("007 x", None),
+    ("00 x", None),
+    ("1001 x", None),
+    (" x", None),
+];
+
 #[test]
 fn numbers_are_read_up_to_their_end(rt: HostRuntime) {
-    let rows: [(&str, Option<u64>); 8] = [
-        ("0 x", Some(0)),
-        ("407 x", Some(407)),
-        ("18 ", Some(18)),
-        ("407", None),
-        ("007 x", None),
-        ("00 x", None),
-        ("1001 x", None),
-        (" x", None),
-    ];
-    for (text, number) in rows {
+    for (text, number) in NUMBERS {
         let read = number_before(text.as_bytes(), b' ', 1000).map(|parts| parts.0);
-        assert_eq!(rt; read, number, "the number of {text}");
+        assert!(rt; read == *number, "the number of {text}");
+    }
+}
+
+// Lines of a word and one number up to 9, or of another word and two, and the number that is read, or
+// the two as one of two digits.
+const LINES: &[(&str, Option<u64>)] = &[
+    ("arrive 3\nrest", Some(3)),
+    ("arrive 3 \nrest", None),
+    ("arrived 3\nrest", None),
+    ("emit 3 9\nrest", Some(39)),
+    ("emit 3 10\nrest", None),
+    ("emit 3\nrest", None),
+];
+
+// What is read of a line, if `rest` is left.
+fn read_line(line: &[u8]) -> Option<u64> {
+    let (number, rest) = match one_number(line, b"arrive", 9) {
+        Some(read) => read,
+        None => match two_numbers(line, b"emit", 9) {
+            Some((one, two, rest)) => (one.saturating_mul(10).saturating_add(two), rest),
+            None => return None,
+        },
+    };
+    if rest == b"rest".as_slice() {
+        Some(number)
+    } else {
+        None
     }
 }
 
 #[test]
 fn lines_of_a_word_and_numbers(rt: HostRuntime) {
-    let rest = b"rest".as_slice();
-    assert_eq!(rt;
-        one_number(b"arrive 3\nrest", b"arrive", 9),
-        Some((3, rest))
-    );
-    assert_eq!(rt; one_number(b"arrive 3 \nrest", b"arrive", 9), None);
-    assert_eq!(rt; one_number(b"arrived 3\nrest", b"arrive", 9), None);
-    assert_eq!(rt;
-        two_numbers(b"emit 3 9\nrest", b"emit", 9),
-        Some((3, 9, rest))
-    );
-    assert_eq!(rt; two_numbers(b"emit 3 10\nrest", b"emit", 9), None);
-    assert_eq!(rt; two_numbers(b"emit 3\nrest", b"emit", 9), None);
-    assert_eq!(rt;
-        bytes_before(b"abc\nrest", 3, b'\n'),
-        Some((b"abc".as_slice(), rest))
-    );
-    assert_eq!(rt; bytes_before(b"abcd\nrest", 3, b'\n'), None);
-    assert_eq!(rt; bytes_before(b"ab", 3, b'\n'), None);
+    for (line, number) in LINES {
+        assert!(rt; read_line(line.as_bytes()) == *number, "the line {line}");
+    }
 }
 
 #[test]
-fn parts_in_turn_name_the_first_faulty_line(rt: HostRuntime) -> Result<(), Fail> {
-    let rows = [
-        ("network\nnode 1 - 0 0\nend\nlabels\nend\n", 0),
-        ("network\nnode 1 - 0\nend\nlabel\nend\n", 2),
-        ("network\nnode 1 - 0 0\nend\nlabel\nend\n", 4),
-        ("network\nnode 1 - 0 0\nend\nlabels\nlabel 1\nend\n", 5),
-        ("network\nnode 1 - 0 0\nend\nlabels\nend\nlabel 1 0 -\n", 6),
-        ("network\nnode 1 - 0 0\nend\nlabels\nend", 5),
-        ("network\nnode 1 - 0 0\nend\n", 4),
-    ];
-    for (text, line) in rows {
-        let named = match read_whole::<Both<NetworkText<'_>, LabelsText<'_>>>(text.as_bytes()) {
-            Err(TextError::Form(number)) => number,
-            _ => 0,
-        };
-        assert_eq!(rt; named, line, "the fault of {text}");
+fn bytes_up_to_the_end_of_a_line(rt: HostRuntime) {
+    let rest = b"rest".as_slice();
+    let due = Some((b"abc".as_slice(), rest));
+    assert!(rt; bytes_before(b"abc\nrest", 3, b'\n') == due, "three bytes");
+    assert!(rt; bytes_before(b"abcd\nrest", 3, b'\n').is_none(), "too many");
+    assert!(rt; bytes_before(b"ab", 3, b'\n').is_none(), "no end");
+}
+
+// Networks with labels, and the first faulty line, 0 where there is none.
+const TWO_PARTS: &[(&str, u64)] = &[
+    ("network\nnode 1 - 0 0\nend\nlabels\nend\n", 0),
+    ("network\nnode 1 - 0\nend\nlabel\nend\n", 2),
+    ("network\nnode 1 - 0 0\nend\nlabel\nend\n", 4),
+    ("network\nnode 1 - 0 0\nend\nlabels\nlabel 1\nend\n", 5),
+    ("network\nnode 1 - 0 0\nend\nlabels\nend\nlabel 1 0 -\n", 6),
+    ("network\nnode 1 - 0 0\nend\nlabels\nend", 5),
+    ("network\nnode 1 - 0 0\nend\n", 4),
+];
+
+#[test]
+fn parts_in_turn_name_the_first_faulty_line(rt: HostRuntime) {
+    for (text, line) in TWO_PARTS {
+        let read = read_whole::<Both<NetworkText<'_>, LabelsText<'_>>>(text.as_bytes());
+        assert!(rt; line_of(&read) == *line, "line {line} of {text}");
+    }
+}
+
+// Schedules behind a network and labels of six lines, and the first faulty line of the whole.
+const THREE_PARTS: &[(&str, u64)] = &[
+    ("schedule\nemit 1 0\narrive 0\nrestart 1\nend\n", 0),
+    ("schedule\nend\n", 0),
+    ("schedule\nemit 1\nend\n", 8),
+    ("schedule\nemit 1 0\narrive\nend\n", 9),
+    ("schedule\nend\nemit 1 0\n", 9),
+    ("schedules\nend\n", 7),
+    ("", 7),
+];
+
+// The first faulty line of a schedule behind a network and labels.
+fn fault_of(alloc: Global, schedule: &str) -> Result<u64, Fail> {
+    let text = format!(in alloc;
+        "network\nnode 1 - 0 0\nend\nlabels\nlabel 1 0 -\nend\n{schedule}"
+    )?;
+    Ok(line_of(&read_whole::<Three<'_>>(text.as_bytes())))
+}
+
+#[test]
+fn three_parts_name_the_first_faulty_line(rt: HostRuntime) -> Result<(), Fail> {
+    for (schedule, line) in THREE_PARTS {
+        assert!(rt;
+            fault_of(rt.alloc(), schedule)? == *line,
+            "line {line} of {schedule}"
+        );
     }
     Ok(())
-}
-
-#[test]
-fn three_parts_name_the_first_faulty_line(rt: HostRuntime) {
-    let network = "network\nnode 1 - 0 0\nend\n";
-    let labels = "labels\nlabel 1 0 -\nend\n";
-    let rows = [
-        ("schedule\nemit 1 0\narrive 0\nrestart 1\nend\n", 0),
-        ("schedule\nend\n", 0),
-        ("schedule\nemit 1\nend\n", 8),
-        ("schedule\nemit 1 0\narrive\nend\n", 9),
-        ("schedule\nend\nemit 1 0\n", 9),
-        ("schedules\nend\n", 7),
-        ("", 7),
-    ];
-    for (schedule, line) in rows {
-        let named = match three(rt.alloc(), [network, labels, schedule]) {
-            Err(TextError::Form(number)) => number,
-            _ => 0,
-        };
-        assert_eq!(rt; named, line, "the fault of {schedule}");
-    }
-}
-
-// The scan of three parts behind each other, and what counts of the last are told.
-fn three(alloc: Global, parts: [&str; 3]) -> Result<u64, TextError> {
-    let mut text = String::new(alloc);
-    for part in parts {
-        text.push_str(part)?;
-    }
-    let whole = read_whole::<Three<'_>>(text.as_str().as_bytes())?;
-    Ok(whole.second.second.events())
 }
 
 #[test]

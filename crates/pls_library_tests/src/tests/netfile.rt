@@ -1,52 +1,48 @@
 //! Texts of networks: the first faulty line of each, refusals, and texts that are read.
 
+use super::{line_of, network};
 use pls_base::TextError;
+use pls_graph::Network;
 use pls_lines::Lines;
-use pls_netfile::{
-    NetworkText, read_network, read_written, scan_network, write_network, write_read,
-};
+use pls_netfile::{read_network, read_written, scan_network, write_network, write_read};
+use std::alloc::Global;
 use std::test::Fail;
 
-const PAIR: &[u8] =
-    b"network\nnode 1 - 0 5\nport 20 7\nnode 20 0 3 4611686018427387904\nport 1 7\nend\n";
+// A network of two nodes.
+const PAIR: &str = "network\nnode 1 - 0 5\nport 20 7\nnode 20 0 3 4611686018427387904\n\
+                    port 1 7\nend\n";
 
-// The scan of a text from its first line.
-fn scan(text: &[u8]) -> Result<NetworkText<'_>, TextError> {
-    scan_network(&mut Lines::new(text))
-}
+// Texts that are no network's, and the first faulty line of each.
+const FAULTY: &[(&str, u64)] = &[
+    ("", 1),
+    ("network", 1),
+    ("networks\n", 1),
+    ("network \nnode 1 - 0 0\nend\n", 1),
+    ("network\r\nnode 1 - 0 0\nend\n", 1),
+    ("network\n", 2),
+    ("network\nend\n", 2),
+    ("network\nport 2 7\nend\n", 2),
+    ("network\nnode 1 - 0 0", 2),
+    ("network\nnode  1 - 0 0\nend\n", 2),
+    ("network\nnode 01 - 0 0\nend\n", 2),
+    ("network\nnode 4294967296 - 0 0\nend\n", 2),
+    ("network\nnode 1 4294967296 0 0\nend\n", 2),
+    ("network\nnode 1 - 4294967296 0\nend\n", 2),
+    ("network\nnode 1 - 0 4611686018427387905\nend\n", 2),
+    ("network\nnode 1 - 0 0 \nend\n", 2),
+    ("network\nnode 1 - 0 0\n", 3),
+    ("network\nnode 1 - 0 0\nend", 3),
+    ("network\nnode 1 - 0 0\n\nend\n", 3),
+    ("network\nnode 1 - 0 0\nport 2 4294967296\nend\n", 3),
+    ("network\nnode 1 - 0 0\nport 2\nend\n", 3),
+    ("network\nnode 1 - 0 0\nport 2 7\nNode 2 - 0 0\nend\n", 4),
+];
 
 #[test]
 fn the_first_faulty_line_is_named(rt: HostRuntime) {
-    let texts: [(&[u8], u64); 22] = [
-        (b"", 1),
-        (b"network", 1),
-        (b"networks\n", 1),
-        (b"network \nnode 1 - 0 0\nend\n", 1),
-        (b"network\r\nnode 1 - 0 0\nend\n", 1),
-        (b"network\n", 2),
-        (b"network\nend\n", 2),
-        (b"network\nport 2 7\nend\n", 2),
-        (b"network\nnode 1 - 0 0", 2),
-        (b"network\nnode  1 - 0 0\nend\n", 2),
-        (b"network\nnode 01 - 0 0\nend\n", 2),
-        (b"network\nnode 4294967296 - 0 0\nend\n", 2),
-        (b"network\nnode 1 4294967296 0 0\nend\n", 2),
-        (b"network\nnode 1 - 4294967296 0\nend\n", 2),
-        (b"network\nnode 1 - 0 4611686018427387905\nend\n", 2),
-        (b"network\nnode 1 - 0 0 \nend\n", 2),
-        (b"network\nnode 1 - 0 0\n", 3),
-        (b"network\nnode 1 - 0 0\nend", 3),
-        (b"network\nnode 1 - 0 0\n\nend\n", 3),
-        (b"network\nnode 1 - 0 0\nport 2 4294967296\nend\n", 3),
-        (b"network\nnode 1 - 0 0\nport 2\nend\n", 3),
-        (b"network\nnode 1 - 0 0\nport 2 7\nNode 2 - 0 0\nend\n", 4),
-    ];
-    for (text, line) in texts {
-        let named = match scan(text) {
-            Err(TextError::Form(number)) => number,
-            _ => 0,
-        };
-        assert_eq!(rt; named, line, "at the fault of line {line}");
+    for (text, line) in FAULTY {
+        let read = scan_network(&mut Lines::new(text.as_bytes()));
+        assert!(rt; line_of(&read) == *line, "line {line} of {text}");
     }
 }
 
@@ -61,45 +57,58 @@ fn a_part_is_scanned_and_the_rest_left(rt: HostRuntime) -> Result<(), Fail> {
     Ok(())
 }
 
-#[test]
-fn what_is_read_is_written_again(rt: HostRuntime) -> Result<(), Fail> {
-    let network = read_network(rt.alloc(), PAIR)?;
-    assert_eq!(rt; network.len(), 2);
-    assert_eq!(rt; network.place_of(20), Some(1));
-    assert_eq!(rt; write_network(rt.alloc(), &network)?.as_slice(), PAIR);
-    assert_eq!(rt; write_read(rt.alloc(), PAIR)?.as_slice(), PAIR);
-    assert_eq!(rt; read_written(rt.alloc(), &network)?.len(), 2);
-    Ok(())
+// The text of the network that a text is read as.
+fn written(alloc: Global, text: &str) -> Result<Vec<u8>, Fail> {
+    Ok(write_network(alloc, &network(alloc, text)?)?)
+}
+
+// The same in one call.
+fn written_at_once(alloc: Global, text: &str) -> Result<Vec<u8>, Fail> {
+    Ok(write_read(alloc, text.as_bytes())?)
+}
+
+// How many nodes are read of the text of a network.
+fn read_again(alloc: Global, net: &Network) -> Result<usize, Fail> {
+    Ok(read_written(alloc, net)?.len())
 }
 
 #[test]
-fn each_refusal_has_its_number(rt: HostRuntime) {
-    let texts: [(&[u8], u8, u64); 7] = [
-        (b"network\nnode 2 - 0 0\nnode 2 - 0 0\nend\n", 10, 2),
-        (b"network\nnode 2 - 0 0\nport 2 1\nend\n", 11, 2),
-        (
-            b"network\nnode 1 - 0 0\nport 2 1\nport 2 1\nnode 2 - 0 0\nend\n",
-            12,
-            1,
-        ),
-        (b"network\nnode 1 - 0 0\nport 3 1\nend\n", 13, 1),
-        (
-            b"network\nnode 1 - 0 0\nport 2 1\nnode 2 - 0 0\nend\n",
-            14,
-            1,
-        ),
-        (
-            b"network\nnode 1 - 0 0\nport 2 1\nnode 2 - 0 0\nport 1 2\nend\n",
-            15,
-            1,
-        ),
-        (b"network\nnode 1 0 0 0\nend\n", 16, 1),
-    ];
-    for (text, number, place) in texts {
-        let refusal = match read_network(rt.alloc(), text) {
-            Err(TextError::Sense { number, place }) => (number, place),
-            _ => (0, 0),
-        };
-        assert_eq!(rt; refusal, (number, place));
+fn what_is_read_is_written_again(rt: HostRuntime) -> Result<(), Fail> {
+    let pair = PAIR.as_bytes();
+    let net = network(rt.alloc(), PAIR)?;
+    assert!(rt; net.place_of(20) == Some(1), "the second node");
+    assert!(rt; read_again(rt.alloc(), &net)? == 2, "two nodes");
+    assert!(rt; written(rt.alloc(), PAIR)?.as_slice() == pair, "the text");
+    assert!(rt;
+        written_at_once(rt.alloc(), PAIR)?.as_slice() == pair,
+        "in one call"
+    );
+    Ok(())
+}
+
+// Texts of what is no network, the number of the refusal, and the place.
+const REFUSED: &[(&str, u8, u64)] = &[
+    ("node 2 - 0 0\nnode 2 - 0 0\n", 10, 2),
+    ("node 2 - 0 0\nport 2 1\n", 11, 2),
+    ("node 1 - 0 0\nport 2 1\nport 2 1\nnode 2 - 0 0\n", 12, 1),
+    ("node 1 - 0 0\nport 3 1\n", 13, 1),
+    ("node 1 - 0 0\nport 2 1\nnode 2 - 0 0\n", 14, 1),
+    ("node 1 - 0 0\nport 2 1\nnode 2 - 0 0\nport 1 2\n", 15, 1),
+    ("node 1 0 0 0\n", 16, 1),
+];
+
+// Why a network of these lines is refused.
+fn refusal(alloc: Global, lines: &str) -> Result<Option<TextError>, Fail> {
+    let text = format!(in alloc; "network\n{lines}end\n")?;
+    Ok(read_network(alloc, text.as_bytes()).err())
+}
+
+#[test]
+fn each_refusal_has_its_number(rt: HostRuntime) -> Result<(), Fail> {
+    for (text, number, place) in REFUSED {
+        let (number, place) = (*number, *place);
+        let due = Some(TextError::Sense { number, place });
+        assert!(rt; refusal(rt.alloc(), text)? == due, "{number} of {text}");
     }
+    Ok(())
 }

@@ -1,9 +1,12 @@
 //! Labels in one store, and views of a node with many ports.
 
 use super::bits::{bits_of, zeros_and_ones};
-use pls_bits::{from_hex, spells_bits};
-use pls_netfile::read_network;
+use super::network;
+use pls_base::NoMemory;
+use pls_bits::{BitBuf, from_hex, spells_bits};
+use pls_graph::Network;
 use pls_view::{LabelRoom, LabelStore, View};
+use std::alloc::Global;
 use std::test::Fail;
 
 // A node with nine neighbours, more than a view has room for without memory.
@@ -17,87 +20,85 @@ const STAR: &str = "network\nnode 0 - 0 0\nport 1 10\nport 2 20\nport 3 30\nport
 fn two_words_are_placed_without_memory(rt: HostRuntime) -> Result<(), Fail> {
     let ones = zeros_and_ones(rt.alloc(), 0, 64)?;
     let half = zeros_and_ones(rt.alloc(), 32, 32)?;
-    assert!(rt;
-        ones.len() == 64 && half.len() == 64,
-        "two labels of 64 bits"
-    );
+    assert!(rt; ones.len() == 64 && half.len() == 64, "64 bits each");
     let mut room = LabelRoom::blank(rt.alloc(), 3)?;
     room.reserve(128)?;
     room.replace_spare(0, ones.bits());
     room.replace_spare(1, half.bits());
     assert!(rt; room.bits(0).equal(ones.bits()), "the first label");
     assert!(rt; room.bits(1).equal(half.bits()), "the second label");
-    assert!(rt; room.bits(2).is_empty(), "the third label");
-    assert_eq!(rt; room.total(), 128, "the bits of all");
+    assert!(rt; room.bits(2).is_empty() && room.total() == 128, "the third");
     Ok(())
+}
+
+// Replaces the label at a place, and tells whether it stands there then.
+fn stands_at(store: &mut LabelStore, place: usize, label: &BitBuf) -> Result<bool, NoMemory> {
+    if place >= store.len() {
+        return Ok(false);
+    }
+    store.replace(place, label)?;
+    Ok(store.bits(place).equal(label.bits()))
 }
 
 #[test]
 fn one_label_is_replaced_often(rt: HostRuntime) -> Result<(), Fail> {
     let mut store = LabelStore::blank(rt.alloc(), 3)?;
     let last = bits_of(rt.alloc(), "101")?;
-    assert_eq!(rt; store.len(), 3, "three labels");
-    store.replace(2, &last)?;
+    assert!(rt; stands_at(&mut store, 2, &last)?, "the last label");
     for len in 0..200 {
         let label = zeros_and_ones(rt.alloc(), len, 1)?;
-        assert_eq!(rt; store.len(), 3, "three labels");
-        store.replace(0, &label)?;
-        assert!(rt;
-            store.bits(0).equal(label.bits()),
-            "the label of {len} zeros"
-        );
+        assert!(rt; stands_at(&mut store, 0, &label)?, "a label of {len} zeros");
     }
-    assert_eq!(rt; store.len(), 3, "three labels");
-    assert!(rt; store.bits(2).equal(last.bits()), "the last label");
+    assert!(rt;
+        store.len() == 3 && store.bits(2).equal(last.bits()),
+        "the last"
+    );
     assert!(rt; store.with_room().spare() < 3200, "room for few more words");
     Ok(())
 }
 
-#[test]
-fn a_view_of_nine_ports(rt: HostRuntime) -> Result<(), Fail> {
-    let net = read_network(rt.alloc(), STAR.as_bytes())?;
-    let mut labels = LabelStore::blank(rt.alloc(), net.len())?;
-    for place in 0..net.len() {
-        assert_eq!(rt; labels.len(), net.len(), "a label for each node");
-        let label = zeros_and_ones(rt.alloc(), place, 1)?;
-        labels.replace(place, &label)?;
+// Whether the view of the first node shows nine ports: the one of number k, from 1, has the weight
+// ten times k, and a label of k zeros and a one.
+fn shows_nine(alloc: Global, net: &Network, labels: &LabelStore) -> Result<bool, Fail> {
+    if net.len() == 0 || labels.len() != net.len() {
+        return Ok(false);
     }
-    assert!(rt;
-        net.len() > 0 && labels.len() == net.len(),
-        "a label for each node"
-    );
-    let view = View::of(rt.alloc(), &net, &labels, 0)?;
-    assert_eq!(rt; view.degree(), 9, "nine ports");
+    let view = View::of(alloc, net, labels, 0)?;
     let mut number: usize = 0;
     for port in view.ports.iter() {
         number = number.saturating_add(1);
-        assert_eq!(rt;
-            port.weight as usize,
-            number.saturating_mul(10),
-            "port {number}"
-        );
-        let label = zeros_and_ones(rt.alloc(), number, 1)?;
-        assert!(rt;
-            port.label.equal(label.bits()),
-            "the label at port {number}"
-        );
+        let label = zeros_and_ones(alloc, number, 1)?;
+        if port.weight as usize != number.saturating_mul(10) || !port.label.equal(label.bits()) {
+            return Ok(false);
+        }
     }
+    Ok(number == 9 && view.degree() == 9)
+}
+
+#[test]
+fn a_view_of_nine_ports(rt: HostRuntime) -> Result<(), Fail> {
+    let net = network(rt.alloc(), STAR)?;
+    let mut labels = LabelStore::blank(rt.alloc(), net.len())?;
+    for place in 0..10 {
+        let label = zeros_and_ones(rt.alloc(), place, 1)?;
+        assert!(rt; stands_at(&mut labels, place, &label)?, "label {place}");
+    }
+    assert!(rt; shows_nine(rt.alloc(), &net, &labels)?, "nine ports");
     Ok(())
 }
 
 #[test]
 fn hex_digits_are_put_without_memory(rt: HostRuntime) -> Result<(), Fail> {
-    let digits = "0123456789abcdef88";
-    let wanted = from_hex(rt.alloc(), 69, digits.as_bytes())?;
+    let digits = "0123456789abcdef88".as_bytes();
+    let wanted = from_hex(rt.alloc(), 69, digits)?;
     let mut room = LabelRoom::blank(rt.alloc(), 2)?;
     room.reserve(128)?;
+    assert!(rt; spells_bits(69, digits), "69 bits");
+    room.replace_spare_hex(1, 69, digits);
     assert!(rt;
-        spells_bits(69, digits.as_bytes()),
-        "{digits} spell 69 bits"
+        room.bits(0).is_empty() && room.total() == 69,
+        "the first label"
     );
-    room.replace_spare_hex(1, 69, digits.as_bytes());
-    assert!(rt; room.bits(0).is_empty(), "the first label");
     assert!(rt; room.bits(1).equal(wanted.bits()), "the second label");
-    assert_eq!(rt; room.total(), 69, "the bits of both");
     Ok(())
 }
