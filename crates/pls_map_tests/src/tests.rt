@@ -80,8 +80,24 @@ fn ring(alloc: Global, mark: u32) -> Result<Network, Fail> {
     network(alloc, text.as_str())
 }
 
-// Labels of some stores: those of the first are numbered from 0, and those of each other behind
+// The label of a number: those of the first store are numbered from 0, and those of each other behind
 // these, as many as `each`. A greater number is that of an empty label.
+fn numbered(
+    alloc: Global,
+    stores: &[LabelStore],
+    each: usize,
+    number: usize,
+) -> Result<BitBuf, NoMemory> {
+    let mut label = BitBuf::new(alloc);
+    let place = number.checked_rem(each).unwrap_or(0);
+    match stores.get(number.checked_div(each).unwrap_or(0)) {
+        Some(store) if place < store.len() => label.append(store.bits(place))?,
+        _ => {}
+    }
+    Ok(label)
+}
+
+// Labels of some stores, by their numbers.
 fn chosen(
     alloc: Global,
     stores: &[LabelStore],
@@ -90,12 +106,7 @@ fn chosen(
 ) -> Result<LabelStore, Fail> {
     let mut labels = LabelStore::blank(alloc, numbers.len())?;
     for (i, number) in numbers.iter().enumerate() {
-        let mut label = BitBuf::new(alloc);
-        let place = number.checked_rem(each).unwrap_or(0);
-        match stores.get(number.checked_div(each).unwrap_or(0)) {
-            Some(store) if place < store.len() => label.append(store.bits(place))?,
-            _ => {}
-        }
+        let label = numbered(alloc, stores, each, *number)?;
         if i < labels.len() {
             labels.replace(i, &label)?;
         }
@@ -138,51 +149,81 @@ fn rule_of(verdict: Verdict) -> u8 {
     }
 }
 
+// The labels of the row, and those of another network behind them.
+fn both(alloc: Global, text: &str) -> Result<Vec<LabelStore>, Fail> {
+    let mut stores = Vec::new(alloc);
+    stores.push(map_labels::<Gamma>(alloc, &network(alloc, ROW)?)?)?;
+    stores.push(map_labels::<Gamma>(alloc, &network(alloc, text)?)?)?;
+    Ok(stores)
+}
+
+// Another network, the greatest diameter, the numbers of the labels that the row gets, and the rules
+// by which its nodes reject: its own maps, too many edges between nodes, another mark, another degree,
+// two parts, another node's label, no label, two maps.
+const NAMED: &[(&str, u32, [usize; 4], [u8; 4])] = &[
+    (ROW, 3, [0, 1, 2, 3], [0, 0, 0, 0]),
+    (ROW, 2, [0, 1, 2, 3], [7, 7, 7, 7]),
+    (MARKED, 3, [4, 5, 6, 7], [0, 0, 6, 0]),
+    (ROUND, 3, [4, 5, 6, 7], [6, 0, 0, 6]),
+    (PARTS, 3, [4, 5, 6, 7], [5, 5, 5, 5]),
+    (ROW, 3, [1, 0, 2, 3], [3, 3, 6, 0]),
+    (ROW, 3, [0, 9, 2, 3], [2, 1, 2, 0]),
+    (MARKED, 3, [0, 1, 2, 7], [0, 0, 4, 4]),
+];
+
 #[test]
 fn each_rule_is_named(rt: HostRuntime) -> Result<(), Fail> {
     let net = network(rt.alloc(), ROW)?;
-    for (name, text, most, numbers, expected) in [
-        ("its own maps", ROW, 3, [0, 1, 2, 3], [0, 0, 0, 0]),
-        ("too many edges", ROW, 2, [0, 1, 2, 3], [7, 7, 7, 7]),
-        ("another mark", MARKED, 3, [4, 5, 6, 7], [0, 0, 6, 0]),
-        ("another degree", ROUND, 3, [4, 5, 6, 7], [6, 0, 0, 6]),
-        ("two parts", PARTS, 3, [4, 5, 6, 7], [5, 5, 5, 5]),
-        ("another's label", ROW, 3, [1, 0, 2, 3], [3, 3, 6, 0]),
-        ("no label", ROW, 3, [0, 9, 2, 3], [2, 1, 2, 0]),
-        ("two maps", MARKED, 3, [0, 1, 2, 7], [0, 0, 4, 4]),
-    ] {
-        let other = network(rt.alloc(), text)?;
-        let mut stores = Vec::new(rt.alloc());
-        stores.push(map_labels::<Gamma>(rt.alloc(), &net)?)?;
-        stores.push(map_labels::<Gamma>(rt.alloc(), &other)?)?;
-        let labels = chosen(rt.alloc(), &stores, 4, numbers.as_slice())?;
-        let found = rules(rt.alloc(), &scheme(most), &net, &labels)?;
-        assert_eq!(rt; found.as_slice(), expected.as_slice(), "{name}");
+    for (text, most, numbers, due) in NAMED {
+        let stores = both(rt.alloc(), text)?;
+        let labels = chosen(rt.alloc(), &stores, 4, numbers)?;
+        let found = rules(rt.alloc(), &scheme(*most), &net, &labels)?;
+        assert!(rt;
+            found.as_slice() == due.as_slice(),
+            "{most}, labels of {text}"
+        );
     }
     Ok(())
 }
+
+// The numbers of the labels that a ring gets, the rule by which its nodes reject, and how many maps
+// are decided: one map, two in turn, five, each twice.
+const DECIDED: &[([usize; 10], u8, u32)] = &[
+    ([0, 1, 2, 3, 4, 5, 6, 7, 8, 9], 0, 1),
+    ([0, 11, 2, 13, 4, 15, 6, 17, 8, 19], 4, 2),
+    ([30, 11, 42, 3, 24, 45, 26, 7, 18, 39], 4, 5),
+];
 
 #[test]
 fn a_map_is_decided_once(rt: HostRuntime) -> Result<(), Fail> {
     let net = ring(rt.alloc(), 0)?;
     let stores = rings(rt.alloc())?;
-    for (name, numbers, rule, asked) in [
-        ("one map", [0, 1, 2, 3, 4, 5, 6, 7, 8, 9], 0, 1),
-        ("two in turn", [0, 11, 2, 13, 4, 15, 6, 17, 8, 19], 4, 2),
-        (
-            "five, each twice",
-            [30, 11, 42, 3, 24, 45, 26, 7, 18, 39],
-            4,
-            5,
-        ),
-    ] {
-        let labels = chosen(rt.alloc(), &stores, 10, numbers.as_slice())?;
+    for (numbers, rule, asked) in DECIDED {
+        let labels = chosen(rt.alloc(), &stores, 10, numbers)?;
         let scheme = scheme(5);
         let found = rules(rt.alloc(), &scheme, &net, &labels)?;
-        assert_eq!(rt; found.as_slice(), [rule; 10].as_slice(), "{name}");
-        assert_eq!(rt; scheme.property.asked.get(), asked, "{name}");
+        assert!(rt; found.as_slice() == [*rule; 10].as_slice(), "{asked} maps");
+        assert!(rt; scheme.property.asked.get() == *asked, "{asked} maps");
     }
     Ok(())
+}
+
+// The number of the rule by which each node rejects, view by view.
+fn rules_singly(
+    alloc: Global,
+    scheme: &MapOf<Counted, Gamma>,
+    net: &Network,
+    labels: &LabelStore,
+) -> Result<Vec<u8>, Fail> {
+    let mut rules = Vec::new(alloc);
+    for i in 0..net.len() {
+        if labels.len() == net.len() {
+            let view = View::of(alloc, net, labels, i)?;
+            let verdict = scheme.verify(alloc, &view, &mut Steps::new())?;
+            rules.push(rule_of(verdict))?;
+        }
+    }
+    Ok(rules)
 }
 
 #[test]
@@ -192,16 +233,9 @@ fn a_view_is_judged_as_in_the_round(rt: HostRuntime) -> Result<(), Fail> {
     let labels = chosen(rt.alloc(), &stores, 10, &[0, 1, 12, 3, 4, 6, 5, 7, 99, 9])?;
     let scheme = scheme(5);
     let found = rules(rt.alloc(), &scheme, &net, &labels)?;
-    let mut singly = Vec::new(rt.alloc());
-    for i in 0..net.len() {
-        if labels.len() == net.len() {
-            let view = View::of(rt.alloc(), &net, &labels, i)?;
-            let verdict = scheme.verify(rt.alloc(), &view, &mut Steps::new())?;
-            singly.push(rule_of(verdict))?;
-        }
-    }
-    let expected = [0, 4, 4, 4, 6, 3, 3, 2, 1, 2];
-    assert_eq!(rt; found.as_slice(), expected.as_slice(), "in the round");
-    assert_eq!(rt; singly.as_slice(), expected.as_slice(), "view by view");
+    let singly = rules_singly(rt.alloc(), &scheme, &net, &labels)?;
+    let due = [0, 4, 4, 4, 6, 3, 3, 2, 1, 2];
+    assert!(rt; found.as_slice() == due.as_slice(), "in the round");
+    assert!(rt; singly.as_slice() == due.as_slice(), "view by view");
     Ok(())
 }
