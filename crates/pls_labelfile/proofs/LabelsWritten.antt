@@ -19,16 +19,19 @@ lines_so_far rows labels count =
 
 -- a text with the words of a label's line behind it
 pub line_written : (old : List ℕ) (id len : ℕ) (word : List ℕ)
-    → ((((old ++ (codes "label " ++ decimal id)) ++ (codes " " ++ decimal len)) ++ 32 ∷ []) ++ word)
+    → ((((((old ++ codes "label ") ++ decimal id) ++ 32 ∷ []) ++ decimal len) ++ 32 ∷ []) ++ word)
     ++ 10 ∷ [] ≡ old ++ text_of (label_of_words id len word ∷ [])
 line_written old id len word =
-    let first : List ℕ = codes "label " ++ decimal id in
-    let second : List ℕ = codes " " ++ decimal len in
-    let rest : List ℕ = 32 ∷ word in
+    let first : List ℕ = old ++ codes "label " in
+    let second : List ℕ = (first ++ decimal id) ++ 32 ∷ [] in
+    let rest : List ℕ = decimal len ++ 32 ∷ word in
     ap (λ (text : List ℕ). text ++ 10 ∷ [])
-    (append_assoc ((old ++ first) ++ second) (32 ∷ []) word
-    ∙ append_assoc (old ++ first) second rest ∙ append_assoc old first (second ++ rest))
-    ∙ append_assoc old (first ++ (second ++ rest)) (10 ∷ [])
+    (append_assoc (second ++ decimal len) (32 ∷ []) word
+    ∙ append_assoc second (decimal len) (32 ∷ word)
+    ∙ append_assoc (first ++ decimal id) (32 ∷ []) rest
+    ∙ append_assoc first (decimal id) (32 ∷ rest)
+    ∙ append_assoc old (codes "label ") (decimal id ++ 32 ∷ rest))
+    ∙ append_assoc old (codes "label " ++ (decimal id ++ 32 ∷ rest)) (10 ∷ [])
 
 -- the word for some bits
 pub word_of_some : (bits : List Bool) → (bits ≡ [] → ⊥) → hex_word bits ≡ hex_digits bits

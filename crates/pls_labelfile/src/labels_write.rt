@@ -42,8 +42,10 @@ fn write_label(text: &mut Vec<u8>, id: u32, bits: &Bits<'_>) -> Result<(), NoMem
         ++ text_of (label_line (record { id = id; bits = bits.now }) ∷ [])) }
     ensures small { id < 2 ^ 32 }
 {
-    write_number(text, b"label ", id as u64)?;
-    write_number(text, b" ", bits.len() as u64)?;
+    text.extend_from_slice(b"label ")?;
+    write_number(text, id as u64)?;
+    text.push(b' ')?;
+    write_number(text, bits.len() as u64)?;
     text.push(b' ')?;
     write_word(text, bits)?;
     text.push(b'\n')?;
@@ -61,13 +63,12 @@ fn write_word(text: &mut Vec<u8>, bits: &Bits<'_>) -> Result<(), NoMemory>
     bits.append_hex_to(text)
 }
 
-// Writes bytes and then a number behind a text.
-fn write_number(text: &mut Vec<u8>, bytes: &[u8], number: u64) -> Result<(), NoMemory>
-    ensures { OnOk result (text.new.items ≡ text.old.items ++ (bytes.now ++ decimal number)) }
+// Writes a number behind a text.
+fn write_number(text: &mut Vec<u8>, number: u64) -> Result<(), NoMemory>
+    ensures { OnOk result (text.new.items ≡ text.old.items ++ decimal number) }
 {
     let mut digits = [0; 20];
     let count = write_decimal(number, &mut digits);
-    text.extend_from_slice(bytes)?;
     text.extend_from_slice(&digits[..count])?;
     Ok(())
 }
