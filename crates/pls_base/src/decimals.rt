@@ -1,6 +1,6 @@
 //! Numbers in decimal.
 
-ghost use Rattle.std.specs.Prelude.{◌≡◌, ◌+◌, ◌*◌, ◌^◌, ◌<◌, ◌≤◌, ◌↔◌, IfNone, IfSome, IsTrue, decimal, length, slice_index, take};
+ghost use Rattle.std.specs.Prelude.{◌≡◌, ◌+◌, ◌*◌, ◌/◌, ◌^◌, ◌<◌, ◌≤◌, ◌↔◌, IfNone, IfSome, IsTrue, decimal, length, slice_index, take};
 ghost use Rattle.std.specs.Char.{digit_value};
 ghost use Rattle.std.specs.Str.Parse.{AllDigits, digits_value};
 ghost use Rattle.pls_base.specs.Decimal.{IsDecimal, IsNoDecimal};
@@ -64,18 +64,58 @@ pub fn write_decimal(value: u64, into: &mut [u8; 20]) -> usize
     put_digits(value, into)
 }
 
-// Writes the digits of a number into the front of a slice that has room for them.
-#[tactic(auto, using(crate::proofs::Numerals::one_digit, crate::proofs::Numerals::one_more_digit))]
+// Writes the digits of a number into the front of a slice that has room for them, two at a time.
+#[tactic(auto, using(crate::proofs::Numerals::one_more_digit))]
 fn put_digits(value: u64, into: &mut [u8]) -> usize
     requires { length (decimal value) ≤ length into.old }
     ensures digits { IsDecimal (take result into.new) value }
     ensures count { result ≡ length (decimal value) }
 {
-    if value < 10 {
-        into[0] = b'0' + value as u8;
-        return 1;
+    if value < 100 {
+        return put_few(value, into);
     }
-    let front = put_digits(value / 10, into);
+    let front = put_digits(value / 100, into);
+    let next = put_last(value / 10, front, into);
+    put_last(value, next, into)
+}
+
+// Writes the digits of a number below a hundred.
+#[tactic(auto, using(crate::proofs::Numerals::one_digit, crate::proofs::Numerals::one_more_digit))]
+fn put_few(value: u64, into: &mut [u8]) -> usize
+    requires few { value < 100 }
+    requires room { length (decimal value) ≤ length into.old }
+    ensures digits { IsDecimal (take result into.new) value }
+    ensures count { result ≡ length (decimal value) }
+{
+    if value < 10 {
+        return put_one(value, into);
+    }
+    let front = put_one(value / 10, into);
+    put_last(value, front, into)
+}
+
+// Writes the digit of a number below ten.
+#[tactic(auto, using(crate::proofs::Numerals::one_digit))]
+fn put_one(value: u64, into: &mut [u8]) -> usize
+    requires one { value < 10 }
+    requires room { 1 ≤ length into.old }
+    ensures digits { IsDecimal (take result into.new) value }
+    ensures count { result ≡ length (decimal value) }
+{
+    into[0] = b'0' + value as u8;
+    1
+}
+
+// Writes the last digit of a number behind its others.
+#[tactic(auto, using(crate::proofs::Numerals::one_more_digit))]
+fn put_last(value: u64, front: usize, into: &mut [u8]) -> usize
+    requires several { 10 ≤ value }
+    requires others { IsDecimal (take front into.old) (value / 10) }
+    requires front { front ≡ length (decimal (value / 10)) }
+    requires room { length (decimal value) ≤ length into.old }
+    ensures digits { IsDecimal (take result into.new) value }
+    ensures count { result ≡ length (decimal value) }
+{
     into[front] = b'0' + (value % 10) as u8;
     front + 1
 }
