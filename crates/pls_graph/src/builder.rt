@@ -99,7 +99,7 @@ impl NetworkBuilder {
         if let Some(refusal) = table.order() {
             return Err(refusal);
         }
-        table.find_places();
+        table.find_places(alloc);
         check(alloc, &table)?;
         let ports = count_ports(&table);
         Ok(Network {

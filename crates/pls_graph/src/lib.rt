@@ -18,6 +18,7 @@ mod builder;
 mod editing;
 mod edits;
 mod gaps;
+mod guesses;
 mod incoming;
 mod index;
 mod marking;

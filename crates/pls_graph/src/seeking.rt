@@ -11,8 +11,12 @@ ghost use Rattle.pls_graph.specs.inner.Gaps.{IsGap};
 ghost use Rattle.pls_graph.specs.inner.Ranges.{rows_at};
 ghost use Rattle.pls_graph.specs.inner.Seeking.{AreRising, IsBetween};
 
+use crate::guesses::Guesses;
 use crate::table::Node;
 use pls_model::{BuildError, Port};
+
+// How many nodes from a guessed place on are looked at.
+const NEAR: usize = 8;
 
 /// The first node whose identity is not above that of the node before it, as a refusal.
 pub(crate) fn order(nodes: &[Node]) -> Option<BuildError>
@@ -74,9 +78,36 @@ pub(crate) fn gap_among(nodes: &[Node], id: u32) -> Option<usize>
     nodes.binary_search_by_key(&id, |node| node.id).err()
 }
 
+// The place of an identity among nodes whose identities rise, looked for first where it is guessed.
+fn place_guessed(nodes: &[Node], guesses: &Guesses, id: u32) -> Option<usize>
+    requires { AreRising nodes.now }
+    ensures { result ≡ position (λ node. id == node.id) nodes.now }
+{
+    if let Some(place) = place_without_gaps(nodes, id) {
+        return Some(place);
+    }
+    if let Some(place) = place_near(nodes, id, guesses.place(id)) {
+        return Some(place);
+    }
+    place_among(nodes, id)
+}
+
+// The place of an identity that stands at a place or closely behind it; `None` for every other.
+fn place_near(nodes: &[Node], id: u32, from: usize) -> Option<usize>
+    requires { AreRising nodes.now }
+    ensures { IfSome result (λ place. position (λ node. id == node.id) nodes.now ≡ Some place) }
+{
+    for place in from..from.saturating_add(NEAR) {
+        if place < nodes.len() && nodes[place].id == id {
+            return Some(place);
+        }
+    }
+    None
+}
+
 /// Puts beside each port the place of the node that it names, or the number of nodes where it names
 /// none.
-pub(crate) fn fill_places(nodes: &[Node], ports: &[Port], places: &mut Vec<u32>)
+pub(crate) fn fill_places(nodes: &[Node], guesses: &Guesses, ports: &[Port], places: &mut Vec<u32>)
     requires rising { AreRising nodes.now }
     requires few { length nodes.now ≤ MAX_NODES }
     requires both { length places.old.items ≡ length ports.now }
@@ -84,6 +115,7 @@ pub(crate) fn fill_places(nodes: &[Node], ports: &[Port], places: &mut Vec<u32>)
         ports.now }
 {
     for (k, port) in ports.iter().enumerate() {
-        places[k] = place_among(nodes, port.nbr).unwrap_or(nodes.len()) as u32;
+        let place = place_guessed(nodes, guesses, port.nbr);
+        places[k] = place.unwrap_or(nodes.len()) as u32;
     }
 }

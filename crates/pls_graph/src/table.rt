@@ -11,6 +11,7 @@ ghost use Rattle.pls_graph.specs.Places.{places_in};
 ghost use Rattle.pls_graph.specs.Rows.{gaining};
 ghost use Rattle.pls_graph.specs.inner.Gaps.{IsGap};
 
+use crate::guesses::Guesses;
 use crate::ranges::{push_both, range_at_end};
 use crate::seeking::{fill_places, gap_among, order, place_among};
 use pls_model::{BuildError, NodePorts, NodeRow, Port, State};
@@ -164,14 +165,16 @@ impl Table {
     }
 
     /// Puts beside each row the places of the nodes that its ports name.
-    pub(crate) fn find_places(&mut self)
+    pub(crate) fn find_places(&mut self, alloc: Global)
         requires order { out_of_order self.old.rows ≡ None }
         requires few { length self.old.rows ≤ MAX_NODES }
         ensures rows { self.new.rows ≡ self.old.rows }
         ensures places { self.new.places ≡ places_in self.old.rows }
     {
+        let guesses = Guesses::of(alloc, self.nodes.as_slice());
         fill_places(
             self.nodes.as_slice(),
+            &guesses,
             self.ports.as_slice(),
             &mut self.places,
         );

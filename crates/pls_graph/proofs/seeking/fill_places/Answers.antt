@@ -19,7 +19,7 @@ loop-k-preserved c =
     let place : Port → ℕ = λ port. position_or_len (λ (node : Node). port.nbr == node.id) nodes in
     let within : k < length places = let same = c.loop-k.invariant.0 in omega arith in
     let is : c.unwrap_or.result ≡ place (get_or ports k none) = c.unwrap_or.ensures
-    ∙ ap (λ (found : Option ℕ). unwrap_or found (length nodes)) c.place_among.ensures
+    ∙ ap (λ (found : Option ℕ). unwrap_or found (length nodes)) c.place_guessed-place.ensures
     ∙ found_or_all (λ (node : Node). (get_or ports k none).nbr == node.id) nodes in (
       length-set places k c.unwrap_or.result ∙ c.loop-k.invariant.0,
       take_more_set places k c.unwrap_or.result within
