@@ -1,4 +1,5 @@
-//! Where to look first for identities that have gaps. Nothing is claimed of it: who asks looks there.
+//! Where to look first for identities that have gaps. Nothing is claimed of it: who asks looks
+//! there.
 
 use crate::incoming::{narrow, put_mark};
 use crate::table::Node;

@@ -7,6 +7,7 @@ ghost use Rattle.std.specs.Option.{is_some};
 ghost use Rattle.pls_model.specs.Configuration.{out_of_order, row_of};
 ghost use Rattle.pls_model.specs.declared.limits.TheConstants.{MAX_NODES};
 ghost use Rattle.pls_model.specs.declared.refusal.BuildError.TheVariants.{Order};
+ghost use Rattle.pls_graph.specs.declared.table.Node.{Node};
 ghost use Rattle.pls_graph.specs.Places.{places_in};
 ghost use Rattle.pls_graph.specs.Rows.{gaining};
 ghost use Rattle.pls_graph.specs.inner.Gaps.{IsGap};
@@ -226,21 +227,13 @@ impl Table {
             let end = node.start + node.count;
             self.ports[end] = port;
             self.places[end] = place;
-            self.nodes[i] = Node {
-                count: node.count + 1,
-                ..node
-            };
+            set_range(&mut self.nodes, i, node.start, node.count + 1, node.room);
             return Ok(());
         }
         let start = range_at_end(&mut self.ports, &mut self.places, node.start, node.count)?;
         push_both(&mut self.ports, &mut self.places, port, place)?;
         let count = node.count + 1;
-        self.nodes[i] = Node {
-            start,
-            count,
-            room: count,
-            ..node
-        };
+        set_range(&mut self.nodes, i, start, count, count);
         Ok(())
     }
 
@@ -278,4 +271,16 @@ impl Table {
         }
         Ok(())
     }
+}
+
+// Gives a node another range.
+fn set_range(nodes: &mut Vec<Node>, i: usize, start: usize, count: usize, room: usize)
+    requires { i < length nodes.old.items }
+    ensures { (node : Node) → slice_get nodes.old.items i ≡ Some node → nodes.new.items
+        ≡ slice_set nodes.old.items i (record node { start = start; count = count; room = room }) }
+{
+    let node = &mut nodes[i];
+    node.start = start;
+    node.count = count;
+    node.room = room;
 }
