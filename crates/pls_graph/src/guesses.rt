@@ -5,8 +5,8 @@ use crate::incoming::{narrow, put_mark};
 use crate::table::Node;
 use std::alloc::{AllocError, Global};
 
-/// The span of the identities, cut into as many parts of one width as there are nodes: for each part
-/// the place of its first node. No part where they have no gaps or memory is short.
+/// The span of the identities, cut into at most as many parts of one width as there are nodes: for
+/// each part the place of its first node. No part where they have no gaps or memory is short.
 #[derive(Drop)]
 pub(crate) struct Guesses {
     first: u32,
