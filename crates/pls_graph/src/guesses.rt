@@ -17,28 +17,28 @@ pub(crate) struct Guesses {
 impl Guesses {
     /// The guesses of nodes whose identities rise.
     pub(crate) fn of(alloc: Global, nodes: &[Node]) -> Guesses {
-        match Guesses::of_gaps(alloc, nodes) {
+        let first = nodes.first().map_or(0, |node| node.id);
+        match Guesses::of_gaps(alloc, first, nodes) {
             Ok(guesses) => guesses,
-            Err(_) => Guesses::none(alloc),
+            Err(_) => Guesses::none(alloc, first),
         }
     }
 
     // No part.
-    fn none(alloc: Global) -> Guesses {
+    fn none(alloc: Global, first: u32) -> Guesses {
         Guesses {
-            first: 0,
+            first,
             width: 1,
             places: Vec::new(alloc),
         }
     }
 
     // The guesses, unless memory is short.
-    fn of_gaps(alloc: Global, nodes: &[Node]) -> Result<Guesses, AllocError> {
-        let first = nodes.first().map_or(0, |node| node.id);
+    fn of_gaps(alloc: Global, first: u32, nodes: &[Node]) -> Result<Guesses, AllocError> {
         let last = nodes.last().map_or(0, |node| node.id);
         let span = last.saturating_sub(first);
         if (span as usize) < nodes.len() {
-            return Ok(Guesses::none(alloc));
+            return Ok(Guesses::none(alloc, first));
         }
         let many = narrow(nodes.len());
         let width = span.checked_div(many).unwrap_or(0).saturating_add(1);
@@ -68,8 +68,12 @@ impl Guesses {
             .unwrap_or(0) as usize
     }
 
-    /// The place from which an identity is looked for.
+    /// The place from which an identity is looked for: that of the first node of its part, or,
+    /// where there are no parts, as far behind the first node as it is above that one's.
     pub(crate) fn place(&self, id: u32) -> usize {
+        if self.places.is_empty() {
+            return id.wrapping_sub(self.first) as usize;
+        }
         match self.places.get(self.part(id)) {
             Some(place) => *place as usize,
             None => usize::MAX,

@@ -83,9 +83,6 @@ fn place_guessed(nodes: &[Node], guesses: &Guesses, id: u32) -> Option<usize>
     requires { AreRising nodes.now }
     ensures { result ≡ position (λ node. id == node.id) nodes.now }
 {
-    if let Some(place) = place_without_gaps(nodes, id) {
-        return Some(place);
-    }
     if let Some(place) = place_near(nodes, id, guesses.place(id)) {
         return Some(place);
     }
