@@ -62,6 +62,7 @@ impl Guesses {
     }
 
     // The part in which an identity lies.
+    #[inline(always)]
     fn part(&self, id: u32) -> usize {
         id.wrapping_sub(self.first)
             .checked_div(self.width)
@@ -70,6 +71,7 @@ impl Guesses {
 
     /// The place from which an identity is looked for: that of the first node of its part, or,
     /// where there are no parts, as far behind the first node as it is above that one's.
+    #[inline(always)]
     pub(crate) fn place(&self, id: u32) -> usize {
         if self.places.is_empty() {
             return id.wrapping_sub(self.first) as usize;

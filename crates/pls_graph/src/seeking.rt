@@ -52,6 +52,7 @@ pub(crate) fn place_among(nodes: &[Node], id: u32) -> Option<usize>
 
 // From which place on and up to which one the node of an identity must stand, if there is one: no
 // further from an end than its identity is from the one there. `None` where it is beyond the ends.
+#[inline(always)]
 fn bounds_of(nodes: &[Node], id: u32) -> Option<(usize, usize)>
     requires { AreRising nodes.now }
     ensures some { IfSome result (λ bounds. bounds.0 < bounds.1) }
@@ -90,6 +91,7 @@ fn place_guessed(nodes: &[Node], guesses: &Guesses, id: u32) -> Option<usize>
 }
 
 // The place of an identity that stands at a place or closely behind it; `None` for every other.
+#[inline(always)]
 fn place_near(nodes: &[Node], id: u32, from: usize) -> Option<usize>
     requires { AreRising nodes.now }
     ensures { IfSome result (λ place. position (λ node. id == node.id) nodes.now ≡ Some place) }
