@@ -1,5 +1,8 @@
 //! Tests of schemes and searches.
 
+ghost use Rattle.pls_model.specs.Walk.{IsConnected};
+ghost use Rattle.std.specs.Prelude.{IfOk};
+
 mod boruvka;
 mod combinations;
 mod distances;
@@ -11,6 +14,11 @@ mod schemes;
 mod small;
 mod spanning;
 mod weighed;
+
+use pls_graph::{Network, connected};
+use pls_netfile::read_network;
+use std::alloc::Global;
+use std::test::Fail;
 
 // Two nodes without an edge.
 const APART: &str = "network\nnode 1 - 0 0\nnode 2 - 0 0\nend\n";
@@ -37,3 +45,22 @@ const TRIANGLE: &str = "network\nnode 1 - 0 0\nport 2 7\nport 3 7\nnode 2 0 0 0\
 // than the two that are pointed along.
 const HEAVY: &str = "network\nnode 1 - 0 0\nport 2 2\nport 3 1\nnode 2 0 0 0\nport 1 2\nport 3 2\n\
                      node 3 1 0 0\nport 1 1\nport 2 2\nend\n";
+
+// The network of a text.
+fn network(alloc: Global, text: &str) -> Result<Network, Fail> {
+    match read_network(alloc, text.as_bytes()) {
+        Ok(net) => Ok(net),
+        Err(_) => Err(Fail::from("refused")),
+    }
+}
+
+// The connected network of a text.
+fn joined(alloc: Global, text: &str) -> Result<Network, Fail>
+    ensures { IfOk result (λ net. IsConnected net) }
+{
+    let net = network(alloc, text)?;
+    if connected(alloc, &net)?.is_some() {
+        return Err(Fail::from("in parts"));
+    }
+    Ok(net)
+}

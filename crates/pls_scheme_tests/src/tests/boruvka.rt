@@ -1,23 +1,14 @@
 //! Borůvka's levels of small trees, and the names of fragments.
 
-use super::{ALONE, HEAVY, RING, TRIANGLE};
+use super::{ALONE, HEAVY, RING, TRIANGLE, network};
 use pls_bits::Gamma;
 use pls_boruvka::{LevelList, boruvka_levels, fragments};
 use pls_graph::{Network, connected};
-use pls_netfile::read_network;
 use pls_pointer::Tree;
 use pls_scheme::Property;
 use pls_search::pointer_depths;
 use std::alloc::{AllocError, Global};
 use std::test::Fail;
-
-// The network of a text.
-fn network(alloc: Global, text: &str) -> Result<Network, Fail> {
-    match read_network(alloc, text.as_bytes()) {
-        Ok(net) => Ok(net),
-        Err(_) => Err(Fail::from("refused")),
-    }
-}
 
 // Of each node its levels, a line each: fragment, weight and ends, and a bar behind each level.
 fn text_of(alloc: Global, lists: &[LevelList]) -> Result<String, AllocError> {
@@ -55,37 +46,44 @@ fn names_of(alloc: Global, net: &Network, joined: &[bool]) -> Result<Vec<u32>, F
     Ok(fragments(alloc, net, joined)?)
 }
 
+// Networks, and the levels of their nodes.
+const LEVELS: &[(&str, &str)] = &[
+    (ALONE, "\n"),
+    (TRIANGLE, "1 7 1 2|\n2 7 1 2|\n3 7 2 3|\n"),
+    (HEAVY, "lighter"),
+    (
+        RING,
+        "1 1 1 2|1 5 2 3|\n2 1 1 2|1 5 2 3|\n3 1 3 4|3 5 2 3|\n4 1 3 4|3 5 2 3|\n",
+    ),
+];
+
 #[test]
 fn levels_of_small_trees(rt: HostRuntime) -> Result<(), Fail> {
-    let cases = [
-        ("alone", ALONE, "\n"),
-        ("a tie", TRIANGLE, "1 7 1 2|\n2 7 1 2|\n3 7 2 3|\n"),
-        ("lighter", HEAVY, "lighter"),
-        (
-            "two levels",
-            RING,
-            "1 1 1 2|1 5 2 3|\n2 1 1 2|1 5 2 3|\n3 1 3 4|3 5 2 3|\n4 1 3 4|3 5 2 3|\n",
-        ),
-    ];
-    for (name, text, due) in cases {
+    for (text, due) in LEVELS {
         let net = network(rt.alloc(), text)?;
-        assert_eq!(rt; levels_of(rt.alloc(), &net)?.as_str(), due, "{name}");
+        assert!(rt;
+            levels_of(rt.alloc(), &net)?.as_str() == *due,
+            "levels of {text}"
+        );
     }
     Ok(())
 }
 
+// Which nodes of the ring are joined to the one that they point at, and the names of the fragments:
+// none, those of pairs, the root too, the last two.
+const FRAGMENTS: &[([bool; 4], [u32; 4])] = &[
+    ([false, false, false, false], [1, 2, 3, 4]),
+    ([false, true, false, true], [1, 1, 3, 3]),
+    ([true, true, true, true], [1, 1, 1, 1]),
+    ([false, false, true, true], [1, 2, 2, 2]),
+];
+
 #[test]
 fn fragments_are_named_by_the_ends_of_chains(rt: HostRuntime) -> Result<(), Fail> {
     let net = network(rt.alloc(), RING)?;
-    let cases = [
-        ("none", [false, false, false, false], [1, 2, 3, 4]),
-        ("pairs", [false, true, false, true], [1, 1, 3, 3]),
-        ("the root too", [true, true, true, true], [1, 1, 1, 1]),
-        ("the last", [false, false, true, true], [1, 2, 2, 2]),
-    ];
-    for (name, joined, due) in cases {
-        let names = names_of(rt.alloc(), &net, &joined)?;
-        assert_eq!(rt; names.as_slice(), due.as_slice(), "{name}");
+    for (joined, due) in FRAGMENTS {
+        let names = names_of(rt.alloc(), &net, joined)?;
+        assert!(rt; names.as_slice() == due.as_slice(), "names of four");
     }
     Ok(())
 }

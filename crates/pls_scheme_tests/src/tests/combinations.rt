@@ -1,15 +1,11 @@
 //! Schemes joined by `and` and `or`, and expressions of them as texts.
 
-ghost use Rattle.std.specs.Prelude.{IfOk};
-ghost use Rattle.pls_model.specs.Walk.{IsConnected};
-
+use super::joined;
 use pls_base::Steps;
 use pls_bits::Gamma;
 use pls_colour::{Acyclic, Bipartite};
 use pls_combine::{Both, OneOf, SchemeError, print_scheme, read_scheme};
-use pls_graph::{Network, connected};
 use pls_labelfile::read_labels;
-use pls_netfile::read_network;
 use pls_pointer::Tree;
 use pls_scheme::{Checker, Scheme, Verdict, are_accepted};
 use std::alloc::Global;
@@ -22,16 +18,6 @@ const PAIR: &str = "network\nnode 1 - 0 0\nport 2 1\nnode 2 - 0 0\nport 1 1\nend
 const TRIANGLE: &str = "network\nnode 1 - 0 0\nport 2 7\nport 3 7\nnode 2 - 0 0\nport 1 7\n\
                         port 3 7\nnode 3 - 0 0\nport 1 7\nport 2 7\nend\n";
 
-// A connected network of this text.
-fn network(alloc: Global, text: &str) -> Result<Network, Fail>
-    ensures { IfOk result (λ net. IsConnected net) }
-{
-    match read_network(alloc, text.as_bytes()) {
-        Ok(net) if connected(alloc, &net)?.is_none() => Ok(net),
-        _ => Err(Fail::from("refused")),
-    }
-}
-
 // The labels of a scheme on two nodes, in hex, its bound there, and whether all accept them.
 fn marks_as<S: Scheme>(
     alloc: Global,
@@ -39,7 +25,7 @@ fn marks_as<S: Scheme>(
     texts: [&str; 2],
     bound: u64,
 ) -> Result<bool, Fail> {
-    let net = network(alloc, PAIR)?;
+    let net = joined(alloc, PAIR)?;
     let Some(labels) = scheme.mark(alloc, &net)? else {
         return Err(Fail::from("not marked"));
     };
@@ -79,21 +65,23 @@ fn text_marks_as(alloc: Global, text: &str, texts: [&str; 2], bound: u64) -> Res
     }
 }
 
+// Expressions, the labels of two nodes, and the bound.
+const MARKED: &[(&str, [&str; 2], u64)] = &[
+    ("and(bipartite,acyclic)", ["48", "54"], 7),
+    ("or(and(bipartite,acyclic),tree)", ["24", "2a"], 8),
+    ("or(tree,bipartite)", ["80", "c0"], 7),
+    ("map(diameter:1)", ["4d74d3e920", "6d74d3e920"], 40),
+    (
+        "or(map(tree),map(or(mst,bipartite)))",
+        ["a6ba69f490", "b6ba69f490"],
+        41,
+    ),
+];
+
 #[test]
 fn expressions_mark_as_what_they_say(rt: HostRuntime) -> Result<(), Fail> {
-    let cases = [
-        ("and(bipartite,acyclic)", ["48", "54"], 7),
-        ("or(and(bipartite,acyclic),tree)", ["24", "2a"], 8),
-        ("or(tree,bipartite)", ["80", "c0"], 7),
-        ("map(diameter:1)", ["4d74d3e920", "6d74d3e920"], 40),
-        (
-            "or(map(tree),map(or(mst,bipartite)))",
-            ["a6ba69f490", "b6ba69f490"],
-            41,
-        ),
-    ];
-    for (text, labels, bound) in cases {
-        assert!(rt; text_marks_as(rt.alloc(), text, labels, bound)?, "{text}");
+    for (text, labels, bound) in MARKED {
+        assert!(rt; text_marks_as(rt.alloc(), text, *labels, *bound)?, "{text}");
     }
     Ok(())
 }
@@ -112,59 +100,63 @@ fn refusal(alloc: Global, text: &str) -> Result<Option<SchemeError>, Fail> {
     }
 }
 
+// Texts, and why they are refused, or `None` where they are not.
+const TEXTS: &[(&str, Option<SchemeError>)] = &[
+    ("leader", None),
+    ("spt", None),
+    (
+        "and(tree,or(tree,and(tree,or(tree,and(tree,or(tree,and(tree,spt)))))))",
+        None,
+    ),
+    (
+        "and(and(and(tree,tree),and(tree,tree)),and(and(tree,tree),and(tree,tree)))",
+        None,
+    ),
+    ("", Some(SchemeError::NotAScheme)),
+    ("trees", Some(SchemeError::NotAScheme)),
+    ("and(tree,)", Some(SchemeError::NotAScheme)),
+    ("and(tree,tree", Some(SchemeError::NotAScheme)),
+    ("and(tree, tree)", Some(SchemeError::NotAScheme)),
+    ("map(tree)", None),
+    ("map(diameter:0)", None),
+    ("or(map(and(or(bridgeless,spt),diameter:32767)),mst)", None),
+    ("map(diameter:32768)", Some(SchemeError::NotAScheme)),
+    ("map(diameter:01)", Some(SchemeError::NotAScheme)),
+    ("map(diameter:)", Some(SchemeError::NotAScheme)),
+    ("map(and(tree,diameter:1x))", Some(SchemeError::NotAScheme)),
+    ("map(map(tree))", Some(SchemeError::NotAScheme)),
+    ("bridgeless", Some(SchemeError::NotAScheme)),
+    (
+        "map(and(tree,or(tree,and(tree,or(tree,and(tree,or(tree,and(tree,spt))))))))",
+        Some(SchemeError::TooDeep),
+    ),
+    (
+        "and(tree,map(or(or(or(mst,spt),or(mst,spt)),or(or(mst,spt),or(mst,spt)))))",
+        Some(SchemeError::TooMany),
+    ),
+    (
+        "and(and(and(and(and(and(and(and(",
+        Some(SchemeError::TooDeep),
+    ),
+    ("))))))))((((((((", Some(SchemeError::TooDeep)),
+    ("()()()()()()()()", Some(SchemeError::NotAScheme)),
+    (
+        "and(and(and(tree,tree),and(tree,tree)),and(and(tree,tree),and(tree,and(tree,tree))))",
+        Some(SchemeError::TooMany),
+    ),
+];
+
 #[test]
 fn texts_are_read_and_printed_or_refused(rt: HostRuntime) -> Result<(), Fail> {
-    let deep = "and(tree,or(tree,and(tree,or(tree,and(tree,or(tree,and(tree,spt)))))))";
-    let cases = [
-        ("leader", None),
-        ("spt", None),
-        (deep, None),
-        (
-            "and(and(and(tree,tree),and(tree,tree)),and(and(tree,tree),and(tree,tree)))",
-            None,
-        ),
-        ("", Some(SchemeError::NotAScheme)),
-        ("trees", Some(SchemeError::NotAScheme)),
-        ("and(tree,)", Some(SchemeError::NotAScheme)),
-        ("and(tree,tree", Some(SchemeError::NotAScheme)),
-        ("and(tree, tree)", Some(SchemeError::NotAScheme)),
-        ("map(tree)", None),
-        ("map(diameter:0)", None),
-        ("or(map(and(or(bridgeless,spt),diameter:32767)),mst)", None),
-        ("map(diameter:32768)", Some(SchemeError::NotAScheme)),
-        ("map(diameter:01)", Some(SchemeError::NotAScheme)),
-        ("map(diameter:)", Some(SchemeError::NotAScheme)),
-        ("map(and(tree,diameter:1x))", Some(SchemeError::NotAScheme)),
-        ("map(map(tree))", Some(SchemeError::NotAScheme)),
-        ("bridgeless", Some(SchemeError::NotAScheme)),
-        (
-            "map(and(tree,or(tree,and(tree,or(tree,and(tree,or(tree,and(tree,spt))))))))",
-            Some(SchemeError::TooDeep),
-        ),
-        (
-            "and(tree,map(or(or(or(mst,spt),or(mst,spt)),or(or(mst,spt),or(mst,spt)))))",
-            Some(SchemeError::TooMany),
-        ),
-        (
-            "and(and(and(and(and(and(and(and(",
-            Some(SchemeError::TooDeep),
-        ),
-        ("))))))))((((((((", Some(SchemeError::TooDeep)),
-        ("()()()()()()()()", Some(SchemeError::NotAScheme)),
-        (
-            "and(and(and(tree,tree),and(tree,tree)),and(and(tree,tree),and(tree,and(tree,tree))))",
-            Some(SchemeError::TooMany),
-        ),
-    ];
-    for (text, wanted) in cases {
-        assert!(rt; refusal(rt.alloc(), text)? == wanted, "{text}");
+    for (text, wanted) in TEXTS {
+        assert!(rt; refusal(rt.alloc(), text)? == *wanted, "{text}");
     }
     Ok(())
 }
 
 // The verdict of the first of three nodes under these labels, each its length and its digits.
 fn first_verdict(alloc: Global, text: &str, labels: [&str; 3]) -> Result<Verdict, Fail> {
-    let net = network(alloc, TRIANGLE)?;
+    let net = joined(alloc, TRIANGLE)?;
     let Ok(scheme) = read_scheme::<Gamma>(alloc, text) else {
         return Err(Fail::from("not read"));
     };
@@ -182,23 +174,24 @@ fn first_verdict(alloc: Global, text: &str, labels: [&str; 3]) -> Result<Verdict
     }
 }
 
+// The labels of three nodes, and the leaf and the rule by which the first rejects.
+const REJECTED: &[([&str; 3], u8, u8)] = &[
+    (["0 -", "1 00", "1 00"], 0, 1),
+    (["2 00", "0 -", "1 00"], 0, 2),
+    (["2 00", "1 00", "1 80"], 0, 3),
+    (["2 00", "2 00", "2 40"], 1, 3),
+    (["3 c0", "3 80", "3 c0"], 0, 3),
+    (["3 c0", "3 c0", "3 e0"], 3, 3),
+];
+
 #[test]
 fn rejections_name_the_leaf(rt: HostRuntime) -> Result<(), Fail> {
     let text = "or(bipartite,or(acyclic,bipartite))";
-    let cases = [
-        (["0 -", "1 00", "1 00"], 0, 1),
-        (["2 00", "0 -", "1 00"], 0, 2),
-        (["2 00", "1 00", "1 80"], 0, 3),
-        (["2 00", "2 00", "2 40"], 1, 3),
-        (["3 c0", "3 80", "3 c0"], 0, 3),
-        (["3 c0", "3 c0", "3 e0"], 3, 3),
-    ];
-    for (labels, leaf, rule) in cases {
-        let verdict = first_verdict(rt.alloc(), text, labels)?;
-        assert!(rt;
-            verdict == Verdict::Reject { leaf, rule },
-            "leaf {leaf}, rule {rule}"
-        );
+    for (labels, leaf, rule) in REJECTED {
+        let (leaf, rule) = (*leaf, *rule);
+        let verdict = first_verdict(rt.alloc(), text, *labels)?;
+        let due = Verdict::Reject { leaf, rule };
+        assert!(rt; verdict == due, "leaf {leaf}, rule {rule}");
     }
     Ok(())
 }

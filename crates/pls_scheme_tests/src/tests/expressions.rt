@@ -3,16 +3,15 @@
 
 ghost use Rattle.pls_model.specs.Walk.{IsConnected};
 
-use super::distances::joined;
+use super::joined;
 use super::small::{
-    Small, are_joined, has, is_acyclic, is_bipartite, is_forest, is_tree, marks, reached, text_of,
-    with,
+    SETS, Small, are_joined, has, is_acyclic, is_bipartite, is_forest, is_tree, marks, reached,
+    text_of, with,
 };
 use pls_bits::Gamma;
 use pls_combine::read_scheme;
 use pls_graph::Network;
 use std::alloc::Global;
-use std::process::Abort;
 use std::test::Fail;
 
 // Whether the edges join the nodes without any one of them too.
@@ -25,29 +24,35 @@ fn is_within(net: Small, most: u32) -> bool {
     (0..4).all(|node| node >= net.nodes || reached(net.edges, node, most).count_ones() == net.nodes)
 }
 
-// Expressions, and whether a network has the property of each, by plain programs.
-fn expected(net: Small) -> [(&'static str, bool); 9] {
+// The expressions that are tried.
+const EXPRESSIONS: &[&str] = &[
+    "and(tree,bipartite)",
+    "or(tree,acyclic)",
+    "and(forest,or(bipartite,acyclic))",
+    "map(bridgeless)",
+    "map(diameter:1)",
+    "map(diameter:2)",
+    "and(tree,map(bridgeless))",
+    "or(bipartite,map(diameter:1))",
+    "map(and(tree,bridgeless))",
+];
+
+// Whether a network has the property of each of them, by plain programs, in their order.
+fn expected(net: Small) -> [bool; 9] {
     let tree = is_tree(net);
-    let forest = is_forest(net);
     let bipartite = is_bipartite(net);
     let acyclic = is_acyclic(net);
     let bridgeless = is_bridgeless(net);
     [
-        ("and(tree,bipartite)", tree && bipartite),
-        ("or(tree,acyclic)", tree || acyclic),
-        (
-            "and(forest,or(bipartite,acyclic))",
-            forest && (bipartite || acyclic),
-        ),
-        ("map(bridgeless)", bridgeless),
-        ("map(diameter:1)", is_within(net, 1)),
-        ("map(diameter:2)", is_within(net, 2)),
-        ("and(tree,map(bridgeless))", tree && bridgeless),
-        (
-            "or(bipartite,map(diameter:1))",
-            bipartite || is_within(net, 1),
-        ),
-        ("map(and(tree,bridgeless))", tree && bridgeless),
+        tree && bipartite,
+        tree || acyclic,
+        is_forest(net) && (bipartite || acyclic),
+        bridgeless,
+        is_within(net, 1),
+        is_within(net, 2),
+        tree && bridgeless,
+        bipartite || is_within(net, 1),
+        tree && bridgeless,
     ]
 }
 
@@ -61,9 +66,20 @@ fn text_marks(alloc: Global, text: &str, net: &Network) -> Result<bool, Fail>
     }
 }
 
-// Asserts of the networks of so many nodes with these edges and all pointers that each expression
-// marks those that it should; how many they are.
-fn assert_marked(rt: &impl Abort, alloc: Global, nodes: u32, edges: u32) -> Result<u32, Fail> {
+// Whether each expression marks a network where it should.
+fn are_marked(alloc: Global, net: Small) -> Result<bool, Fail> {
+    let read = joined(alloc, text_of(alloc, net)?.as_str())?;
+    for (text, due) in EXPRESSIONS.iter().zip(expected(net).iter()) {
+        if text_marks(alloc, text, &read)? != *due {
+            return Ok(false);
+        }
+    }
+    Ok(true)
+}
+
+// How many networks of so many nodes with these edges and all pointers are marked as they should be;
+// all are to be.
+fn tried(alloc: Global, nodes: u32, edges: u32) -> Result<u32, Fail> {
     let mut tried = 0_u32;
     for pointers in 0..256 {
         let net = Small {
@@ -72,10 +88,8 @@ fn assert_marked(rt: &impl Abort, alloc: Global, nodes: u32, edges: u32) -> Resu
             pointers,
         };
         if net.is_proper() {
-            let read = joined(alloc, &text_of(alloc, net)?)?;
-            for (text, due) in expected(net) {
-                let found = text_marks(alloc, text, &read)?;
-                assert_eq!(rt; found, due, "{text}, {nodes} nodes, {edges}, {pointers}");
+            if !are_marked(alloc, net)? {
+                return Err(Fail::from("marked otherwise"));
             }
             tried = tried.saturating_add(1);
         }
@@ -85,15 +99,14 @@ fn assert_marked(rt: &impl Abort, alloc: Global, nodes: u32, edges: u32) -> Resu
 
 #[test]
 fn expressions_on_all_small_networks(rt: HostRuntime) -> Result<(), Fail> {
-    let mut tried = 0_u32;
-    for (nodes, sets) in [(1, 1), (2, 2), (3, 8), (4, 64)] {
-        for edges in 0..sets {
-            if are_joined(edges, nodes) {
-                let more = assert_marked(&rt, rt.alloc(), nodes, edges)?;
-                tried = tried.saturating_add(more);
+    let mut all = 0_u32;
+    for (nodes, sets) in SETS {
+        for edges in 0..*sets {
+            if are_joined(edges, *nodes) {
+                all = all.saturating_add(tried(rt.alloc(), *nodes, edges)?);
             }
         }
     }
-    assert_eq!(rt; tried, 2855, "connected networks with pointers");
+    assert!(rt; all == 2855, "connected networks with pointers");
     Ok(())
 }

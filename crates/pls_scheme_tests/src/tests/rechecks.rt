@@ -1,13 +1,13 @@
 //! Nodes that join a network and leave it again while it is rechecked.
 
+use super::network;
 use pls_base::Steps;
 use pls_colour::Bipartite;
 use pls_graph::EditError;
 use pls_labelfile::{read_labels, write_labels};
-use pls_netfile::{read_network, write_network};
+use pls_netfile::write_network;
 use pls_recheck::{Counted, Edit, Judge, Recheck, Tally};
 use std::alloc::Global;
-use std::process::Abort;
 use std::test::Fail;
 
 // Two linked nodes.
@@ -16,58 +16,81 @@ const PAIR: &str = "network\nnode 1 - 0 0\nport 2 3\nnode 2 0 0 0\nport 1 3\nend
 // A colouring of them.
 const COLOURS: &str = "labels\nlabel 1 1 00\nlabel 2 1 80\nend\n";
 
-// The text of the network and its labels.
-fn texts<J: Judge>(alloc: Global, recheck: &Recheck<J>) -> Result<(Vec<u8>, Vec<u8>), Fail> {
+// Whether the network and its labels are as at first.
+fn is_as_at_first<J: Judge>(alloc: Global, recheck: &Recheck<J>) -> Result<bool, Fail> {
     let labels = write_labels(alloc, recheck.network(), recheck.labels())?;
-    Ok((write_network(alloc, recheck.network())?, labels))
+    let net = write_network(alloc, recheck.network())?;
+    Ok(net.as_slice() == PAIR.as_bytes() && labels.as_slice() == COLOURS.as_bytes())
 }
 
-// Node 9 joins and leaves again: all is as it was, with as many nodes touched.
-fn joins_and_leaves<J: Judge>(
-    rt: &impl Abort,
-    alloc: Global,
-    recheck: &mut Recheck<J>,
-    touched: u32,
-) -> Result<(), Fail> {
-    let before = texts(alloc, recheck)?;
-    assert_eq!(rt; recheck.touched(), touched);
+// How many nodes are touched, and how many there are, if some verdict is not ready.
+fn waiting<J: Judge>(recheck: &Recheck<J>) -> Option<(u32, usize)> {
+    match recheck.verdicts() {
+        None => Some((recheck.touched(), recheck.network().len())),
+        Some(_) => None,
+    }
+}
+
+// Node 9 joins.
+fn join<J: Judge>(recheck: &mut Recheck<J>) -> Result<(), EditError> {
     recheck.apply(&Edit::Join {
         id: 9,
         mark: 0,
         num: 0,
-    })?;
-    assert_eq!(rt; recheck.touched(), touched.saturating_add(1));
-    assert_eq!(rt; recheck.network().len(), 3);
-    assert!(rt; recheck.verdicts().is_none());
-    recheck.apply(&Edit::Leave { id: 9 })?;
-    assert_eq!(rt; recheck.touched(), touched);
-    let after = texts(alloc, recheck)?;
-    assert_eq!(rt; after.0, before.0);
-    assert_eq!(rt; after.1, before.1);
-    Ok(())
+    })
+}
+
+// Node 9 leaves.
+fn leave<J: Judge>(recheck: &mut Recheck<J>) -> Result<(), EditError> {
+    recheck.apply(&Edit::Leave { id: 9 })
+}
+
+// Whether all is as at first, with so many nodes touched, after node 9 joined and left again.
+fn joins_and_leaves<J: Judge>(
+    alloc: Global,
+    recheck: &mut Recheck<J>,
+    touched: u32,
+) -> Result<bool, Fail> {
+    let before = recheck.touched();
+    join(recheck)?;
+    let between = waiting(recheck);
+    leave(recheck)?;
+    Ok(
+        before == touched
+            && between == Some((touched.saturating_add(1), 3))
+            && recheck.touched() == touched
+            && is_as_at_first(alloc, recheck)?,
+    )
+}
+
+// How many verdicts there are after a round that judges so many nodes.
+fn verdicts<J: Judge>(alloc: Global, recheck: &mut Recheck<J>) -> Result<(u32, usize), Fail> {
+    let judged = recheck.round(alloc, &mut Steps::new())?;
+    match recheck.verdicts() {
+        Some(found) => Ok((judged, found.len())),
+        None => Err(Fail::from("a node is touched")),
+    }
 }
 
 #[test]
 fn a_node_joins_and_leaves(rt: HostRuntime) -> Result<(), Fail> {
     let alloc = rt.alloc();
-    let Ok(net) = read_network(alloc, PAIR.as_bytes()) else {
-        return Err(Fail::from("network refused"));
-    };
-    let Ok(labels) = read_labels(alloc, COLOURS.as_bytes(), &net) else {
-        return Err(Fail::from("labels refused"));
-    };
+    let net = network(alloc, PAIR)?;
+    let labels = read_labels(alloc, COLOURS.as_bytes(), &net)?;
     let mut tally = Tally::new();
-    let mut steps = Steps::new();
     let judge = Counted::new(Bipartite::new(), &mut tally);
     let mut recheck = Recheck::start(alloc, net, labels, judge)?;
-    joins_and_leaves(&rt, alloc, &mut recheck, 2)?;
-    assert_eq!(rt; recheck.round(alloc, &mut steps)?, 2);
-    joins_and_leaves(&rt, alloc, &mut recheck, 0)?;
-    match recheck.verdicts() {
-        Some(found) => assert_eq!(rt; found.len(), 2),
-        None => return Err(Fail::from("a node is touched")),
-    }
+    assert!(rt;
+        joins_and_leaves(alloc, &mut recheck, 2)?,
+        "before the round"
+    );
+    assert!(rt; verdicts(alloc, &mut recheck)? == (2, 2), "the first round");
+    assert!(rt; joins_and_leaves(alloc, &mut recheck, 0)?, "behind it");
+    assert!(rt;
+        verdicts(alloc, &mut recheck)? == (0, 2),
+        "a round that asks for none"
+    );
     recheck.finish();
-    assert_eq!(rt; tally.number(), 2);
+    assert!(rt; tally.number() == 2, "two nodes were judged");
     Ok(())
 }

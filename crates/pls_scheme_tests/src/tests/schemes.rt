@@ -3,14 +3,14 @@
 ghost use Rattle.std.specs.Prelude.{◌+◌, ◌≤◌, IfOk};
 ghost use Rattle.pls_model.specs.Walk.{IsConnected};
 
+use super::joined;
 use crate::IndependentSet;
 use pls_base::{NoMemory, Steps};
 use pls_bits::Gamma;
-use pls_graph::{Network, connected};
-use pls_netfile::read_network;
+use pls_graph::Network;
 use pls_pointer::{Forest, Tree};
 use pls_scheme::{Checker, Scheme, Verdict, are_accepted};
-use pls_view::View;
+use pls_view::{LabelStore, View};
 use std::alloc::Global;
 use std::test::Fail;
 
@@ -73,19 +73,38 @@ fn row(alloc: Global, marks: [u32; 3]) -> Result<Network, Fail>
          node 3 0 {} 0\nport 2 2\nend\n",
         marks[0], marks[1], marks[2]
     )?;
-    match read_network(alloc, text.as_bytes()) {
-        Ok(net) if connected(alloc, &net)?.is_none() => Ok(net),
-        _ => Err(Fail::from("refused")),
+    joined(alloc, &text)
+}
+
+// Whether all nodes accept the labels, and how many steps were counted.
+fn accepts<V: Checker>(
+    alloc: Global,
+    checker: &V,
+    net: &Network,
+    labels: &LabelStore,
+) -> Result<(bool, u64), NoMemory> {
+    let mut steps = Steps::new();
+    if labels.len() != net.len() {
+        return Ok((false, 0));
+    }
+    let accepted = are_accepted(alloc, checker, net, labels, &mut steps)?;
+    Ok((accepted, steps.number()))
+}
+
+// The labels of a tree.
+fn tree_labels(alloc: Global, net: &Network) -> Result<LabelStore, Fail>
+    requires { IsConnected net.now }
+{
+    match Tree::<Gamma>::new().mark(alloc, net)? {
+        Some(labels) => Ok(labels),
+        None => Err(Fail::from("no tree")),
     }
 }
 
 #[test]
 fn pairs_of_pairs_judge(rt: HostRuntime) -> Result<(), Fail> {
     let net = row(rt.alloc(), [0, 0, 0])?;
-    let tree = Tree::<Gamma>::new();
-    let Some(labels) = tree.mark(rt.alloc(), &net)? else {
-        return Err(Fail::from("no tree"));
-    };
+    let labels = tree_labels(rt.alloc(), &net)?;
     let trees = Pair {
         first: Pair {
             first: Tree::<Gamma>::new(),
@@ -103,36 +122,36 @@ fn pairs_of_pairs_judge(rt: HostRuntime) -> Result<(), Fail> {
             second: Tree::<Gamma>::new(),
         },
     };
-    let mut steps = Steps::new();
-    assert!(rt;
-        are_accepted(rt.alloc(), &trees, &net, &labels, &mut steps)?,
-        "trees"
-    );
-    assert!(rt;
-        !are_accepted(rt.alloc(), &mixed, &net, &labels, &mut steps)?,
-        "a forest too"
-    );
-    assert_eq!(rt; steps.number(), 6, "one step a node");
+    let trees = accepts(rt.alloc(), &trees, &net, &labels)?;
+    assert!(rt; trees == (true, 3), "trees, and one step a node");
+    let mixed = accepts(rt.alloc(), &mixed, &net, &labels)?;
+    assert!(rt; mixed == (false, 3), "a forest too");
     Ok(())
+}
+
+// The marks of three nodes in a row, and the bits of all labels where they are a maximal independent
+// set.
+const MARKS: &[([u32; 3], Option<u64>)] = &[
+    ([1, 0, 1], Some(7)),
+    ([0, 1, 0], Some(5)),
+    ([5, 1, 2], Some(11)),
+    ([1, 1, 0], None),
+    ([1, 0, 0], None),
+    ([0, 0, 0], None),
+];
+
+// The bits of all labels of three nodes with these marks, where they are marked.
+fn marked_bits(alloc: Global, marks: [u32; 3]) -> Result<Option<u64>, Fail> {
+    let net = row(alloc, marks)?;
+    let marked = IndependentSet::<Gamma>::new().mark(alloc, &net)?;
+    Ok(marked.map(|labels| labels.total()))
 }
 
 #[test]
 fn maximal_independent_sets_are_marked(rt: HostRuntime) -> Result<(), Fail> {
-    let scheme = IndependentSet::<Gamma>::new();
-    // The marks of three nodes in a row, and the bits of all labels where they are such a set.
-    for (marks, bits) in [
-        ([1, 0, 1], Some(7)),
-        ([0, 1, 0], Some(5)),
-        ([5, 1, 2], Some(11)),
-        ([1, 1, 0], None),
-        ([1, 0, 0], None),
-        ([0, 0, 0], None),
-    ] {
-        let net = row(rt.alloc(), marks)?;
-        let marked = scheme.mark(rt.alloc(), &net)?;
-        assert_eq!(rt;
-            marked.map(|labels| labels.total()),
-            bits,
+    for (marks, bits) in MARKS {
+        assert!(rt;
+            marked_bits(rt.alloc(), *marks)? == *bits,
             "marks {}",
             marks[0]
         );

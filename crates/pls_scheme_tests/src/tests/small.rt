@@ -4,11 +4,11 @@
 
 ghost use Rattle.pls_model.specs.Walk.{IsConnected};
 
+use super::joined;
 use pls_base::Steps;
 use pls_bits::Gamma;
 use pls_colour::{Acyclic, Bipartite};
-use pls_graph::{Network, connected};
-use pls_netfile::read_network;
+use pls_graph::Network;
 use pls_pointer::{Forest, Tree};
 use pls_scheme::{Scheme, certifies};
 use std::alloc::{AllocError, Global};
@@ -177,22 +177,21 @@ fn closes(edges: u32, a: u32, b: u32, c: u32) -> bool {
 }
 
 // The text of a network.
-pub(super) fn text_of(alloc: Global, net: Small) -> Result<Vec<u8>, AllocError> {
-    let mut text = b"network\n".to_vec(alloc)?;
+pub(super) fn text_of(alloc: Global, net: Small) -> Result<String, AllocError> {
+    let mut text = String::from_str(alloc, "network\n")?;
     for node in 0..net.nodes.min(4) {
         let line = match net.pointer(node) {
             0 => format!(in alloc; "node {node} - 0 0\n")?,
             up => format!(in alloc; "node {node} {} 0 0\n", up - 1)?,
         };
-        text.extend_from_slice(line.as_bytes())?;
+        text.push_str(line.as_str())?;
         for nbr in 0..net.nodes.min(4) {
             if Small::joins(net.edges, node, nbr) {
-                let line = format!(in alloc; "port {nbr} 1\n")?;
-                text.extend_from_slice(line.as_bytes())?;
+                text.push_str(format!(in alloc; "port {nbr} 1\n")?.as_str())?;
             }
         }
     }
-    text.extend_from_slice(b"end\n")?;
+    text.push_str("end\n")?;
     Ok(text)
 }
 
@@ -211,24 +210,22 @@ pub(super) fn marks<S: Scheme>(alloc: Global, scheme: &S, net: &Network) -> Resu
     }
 }
 
-// Which schemes mark a network: tree, forest, bipartite, acyclic.
-fn marked(alloc: Global, net: &Network) -> Result<[bool; 4], Fail> {
-    if connected(alloc, net)?.is_some() {
-        return Err(Fail::from("in parts"));
-    }
-    Ok([
-        marks(alloc, &Tree::<Gamma>::new(), net)?,
-        marks(alloc, &Forest::<Gamma>::new(), net)?,
-        marks(alloc, &Bipartite::new(), net)?,
-        marks(alloc, &Acyclic::<Gamma>::new(), net)?,
-    ])
+// Whether the schemes mark a network as the plain programs decide.
+fn is_as_decided(alloc: Global, net: Small) -> Result<bool, Fail> {
+    let text = text_of(alloc, net)?;
+    let read = joined(alloc, text.as_str())?;
+    Ok(
+        marks(alloc, &Tree::<Gamma>::new(), &read)? == is_tree(net)
+            && marks(alloc, &Forest::<Gamma>::new(), &read)? == is_forest(net)
+            && marks(alloc, &Bipartite::new(), &read)? == is_bipartite(net)
+            && marks(alloc, &Acyclic::<Gamma>::new(), &read)? == is_acyclic(net),
+    )
 }
 
-// The networks of so many nodes with these edges and all pointers: how many there are, and of how
-// many the schemes decide other than the plain programs.
-fn compare(alloc: Global, nodes: u32, edges: u32) -> Result<(u32, u32), Fail> {
+// How many networks of so many nodes with these edges and all pointers are as they should be; all
+// are to be.
+fn tried(alloc: Global, nodes: u32, edges: u32) -> Result<u32, Fail> {
     let mut tried = 0_u32;
-    let mut wrong = 0_u32;
     for pointers in 0..256 {
         let net = Small {
             nodes,
@@ -236,37 +233,28 @@ fn compare(alloc: Global, nodes: u32, edges: u32) -> Result<(u32, u32), Fail> {
             pointers,
         };
         if net.is_proper() {
-            let text = text_of(alloc, net)?;
-            let read = match read_network(alloc, &text) {
-                Ok(read) => read,
-                Err(_) => return Err(Fail::from("refused")),
-            };
-            let plain = [
-                is_tree(net),
-                is_forest(net),
-                is_bipartite(net),
-                is_acyclic(net),
-            ];
+            if !is_as_decided(alloc, net)? {
+                return Err(Fail::from("decided otherwise"));
+            }
             tried = tried.saturating_add(1);
-            wrong = wrong.saturating_add(u32::from(marked(alloc, &read)? != plain));
         }
     }
-    Ok((tried, wrong))
+    Ok(tried)
 }
+
+// So many nodes have so many sets of edges.
+pub(super) const SETS: &[(u32, u32)] = &[(1, 1), (2, 2), (3, 8), (4, 64)];
 
 #[test]
 fn properties_of_all_small_networks(rt: HostRuntime) -> Result<(), Fail> {
-    let mut tried = 0_u32;
-    // So many nodes have so many sets of edges.
-    for (nodes, sets) in [(1, 1), (2, 2), (3, 8), (4, 64)] {
-        for edges in 0..sets {
-            if are_joined(edges, nodes) {
-                let (more, wrong) = compare(rt.alloc(), nodes, edges)?;
-                assert_eq!(rt; wrong, 0, "{nodes} nodes, edges {edges}");
-                tried = tried.saturating_add(more);
+    let mut all = 0_u32;
+    for (nodes, sets) in SETS {
+        for edges in 0..*sets {
+            if are_joined(edges, *nodes) {
+                all = all.saturating_add(tried(rt.alloc(), *nodes, edges)?);
             }
         }
     }
-    assert_eq!(rt; tried, 2855, "connected networks with pointers");
+    assert!(rt; all == 2855, "connected networks with pointers");
     Ok(())
 }

@@ -2,13 +2,10 @@
 //! and all pointers, of four nodes all that make a tree, decided as plain programs do that try all
 //! walks and all sets of edges.
 
-ghost use Rattle.pls_model.specs.Walk.{IsConnected};
-
-use super::distances::joined;
-use super::small::{Small, are_joined, has, is_tree, marks, pair, pointed};
+use super::joined;
+use super::small::{SETS, Small, are_joined, has, is_tree, marks, pair, pointed};
 use pls_bits::Gamma;
 use pls_distance::Spt;
-use pls_graph::Network;
 use pls_mst::Mst;
 use std::alloc::{AllocError, Global};
 use std::test::Fail;
@@ -93,42 +90,62 @@ impl Weighed {
     }
 
     // The text of the network.
-    fn text(self, alloc: Global) -> Result<Vec<u8>, AllocError> {
-        let mut text = b"network\n".to_vec(alloc)?;
+    fn text(self, alloc: Global) -> Result<String, AllocError> {
+        let mut text = String::from_str(alloc, "network\n")?;
         for node in 0..self.net.nodes.min(4) {
             let line = match self.net.pointer(node) {
                 0 => format!(in alloc; "node {node} - 0 0\n")?,
                 up => format!(in alloc; "node {node} {} 0 0\n", up - 1)?,
             };
-            text.extend_from_slice(line.as_bytes())?;
+            text.push_str(line.as_str())?;
             for nbr in 0..self.net.nodes.min(4) {
                 if Small::joins(self.net.edges, node, nbr) {
                     let weight = self.weight(node, nbr);
-                    let line = format!(in alloc; "port {nbr} {weight}\n")?;
-                    text.extend_from_slice(line.as_bytes())?;
+                    text.push_str(format!(in alloc; "port {nbr} {weight}\n")?.as_str())?;
                 }
             }
         }
-        text.extend_from_slice(b"end\n")?;
+        text.push_str("end\n")?;
         Ok(text)
     }
 }
 
-// Which schemes mark a network: spt, mst.
-fn marked(alloc: Global, net: &Network) -> Result<[bool; 2], Fail>
-    requires { IsConnected net.now }
-{
-    Ok([
-        marks(alloc, &Spt::<Gamma>::new(), net)?,
-        marks(alloc, &Mst::<Gamma>::new(), net)?,
-    ])
+// Whether the schemes mark a network as the plain programs decide.
+fn is_as_decided(alloc: Global, weighed: Weighed) -> Result<bool, Fail> {
+    let text = weighed.text(alloc)?;
+    let read = joined(alloc, text.as_str())?;
+    Ok(
+        marks(alloc, &Spt::<Gamma>::new(), &read)? == weighed.is_shortest()
+            && marks(alloc, &Mst::<Gamma>::new(), &read)? == weighed.is_lightest(),
+    )
 }
 
-// The networks of so many nodes with these edges, each choice of weights, and pointers: how many are
-// tried, and of how many the schemes decide other than the plain programs.
-fn compare(alloc: Global, nodes: u32, edges: u32) -> Result<(u32, u32), Fail> {
+// How many choices of weights a network has, with each of which it is as it should be; with all it
+// is to be.
+fn tried_weights(alloc: Global, net: Small) -> Result<u32, Fail> {
     let mut tried = 0_u32;
-    let mut wrong = 0_u32;
+    for second in 0..64 {
+        // Pairs without edge have no weight, so each network is tried once.
+        if second & !net.edges == 0 {
+            let weights = (0, 1);
+            let weighed = Weighed {
+                net,
+                second,
+                weights,
+            };
+            if !is_as_decided(alloc, weighed)? {
+                return Err(Fail::from("decided otherwise"));
+            }
+            tried = tried.saturating_add(1);
+        }
+    }
+    Ok(tried)
+}
+
+// How many networks of so many nodes with these edges, choices of weights and pointers are as they
+// should be.
+fn tried(alloc: Global, nodes: u32, edges: u32) -> Result<u32, Fail> {
+    let mut tried = 0_u32;
     for pointers in 0..256 {
         let net = Small {
             nodes,
@@ -137,34 +154,19 @@ fn compare(alloc: Global, nodes: u32, edges: u32) -> Result<(u32, u32), Fail> {
         };
         // Of four nodes those are tried whose pointers make a tree: no weights make one of others.
         if net.is_proper() && (nodes < 4 || is_tree(net)) {
-            for second in 0..64 {
-                // Pairs without edge have no weight, so each network is tried once.
-                if second & !edges == 0 {
-                    let weighed = Weighed {
-                        net,
-                        second,
-                        weights: (0, 1),
-                    };
-                    let read = joined(alloc, &weighed.text(alloc)?)?;
-                    let plain = [weighed.is_shortest(), weighed.is_lightest()];
-                    tried = tried.saturating_add(1);
-                    wrong = wrong.saturating_add(u32::from(marked(alloc, &read)? != plain));
-                }
-            }
+            tried = tried.saturating_add(tried_weights(alloc, net)?);
         }
     }
-    Ok((tried, wrong))
+    Ok(tried)
 }
 
 #[test]
 fn trees_of_all_small_weighed_networks(rt: HostRuntime) -> Result<(), Fail> {
-    let mut tried = 0_u32;
-    for (nodes, sets) in [(1, 1), (2, 2), (3, 8), (4, 64)] {
-        for edges in 0..sets {
-            if are_joined(edges, nodes) {
-                let (more, wrong) = compare(rt.alloc(), nodes, edges)?;
-                assert_eq!(rt; wrong, 0, "{nodes} nodes, edges {edges}");
-                tried = tried.saturating_add(more);
+    let mut all = 0_u32;
+    for (nodes, sets) in SETS {
+        for edges in 0..*sets {
+            if are_joined(edges, *nodes) {
+                all = all.saturating_add(tried(rt.alloc(), *nodes, edges)?);
             }
         }
     }
@@ -172,6 +174,6 @@ fn trees_of_all_small_weighed_networks(rt: HostRuntime) -> Result<(), Fail> {
     // a root and a spanning tree, in 16 trees, 3 rings, 12 with a triangle, 6 of five edges, one of six.
     let small = 1 + 2 * 4 + 3 * 4 * 12 + 8 * 27;
     let four = 8 * 16 * 4 + 16 * (3 * 16 + 12 * 12) + 32 * 6 * 32 + 64 * 64;
-    assert_eq!(rt; tried, small + four, "networks");
+    assert!(rt; all == small + four, "networks");
     Ok(())
 }
