@@ -10,7 +10,8 @@ mod trees;
 mod trial;
 
 use crate::run_in_memory;
-use pls_base::Status;
+use pls_app::{Tally, run};
+use pls_base::{MemSink, MemSource, NoMemory, Status};
 use std::alloc::Global;
 use std::process::Abort;
 use std::test::Fail;
@@ -42,6 +43,34 @@ const RING: &str = "network\nnode 1 - 0 0\nport 2 1\nport 4 5\nnode 2 0 0 0\npor
 // A worked example: a scheme, an input in two parts, and the text and the status that are due.
 type Example<'t> = (&'t str, [&'t str; 2], (&'t str, Status));
 
+// Whether a run on these words and this input ends in this status, and wrote this text.
+fn ends_as<'w>(
+    alloc: Global,
+    words: &[&'w str],
+    input: &str,
+    text: &str,
+    status: Status,
+) -> Result<bool, NoMemory> {
+    let (end, sink) = run_in_memory(alloc, words, input.as_bytes().to_vec(alloc)?)?;
+    Ok(end == status && sink.bytes() == text.as_bytes())
+}
+
+// The same of a run whose reads and writes are of one byte, and of which the read and the write of
+// these numbers fail, or none where a number is 0.
+fn ends_by_bytes<'w>(
+    alloc: Global,
+    words: &[&'w str],
+    input: &str,
+    [failing_read, failing_write]: [u64; 2],
+    (text, status): (&str, Status),
+) -> Result<bool, NoMemory> {
+    let bytes = input.as_bytes().to_vec(alloc)?;
+    let mut source = MemSource::new(bytes, 1, vec![in alloc; failing_read]?);
+    let mut sink = MemSink::new(alloc, 1000, 1, vec![in alloc; failing_write]?)?;
+    let end = run(alloc, words, &mut source, &mut sink, &mut Tally::new());
+    Ok(end == status && sink.bytes() == text.as_bytes())
+}
+
 // Runs a command on each example, and asserts its text and its status.
 fn assert_runs<'t>(
     rt: &impl Abort,
@@ -50,15 +79,9 @@ fn assert_runs<'t>(
     examples: &[Example<'t>],
 ) -> Result<(), Fail> {
     for (scheme, [front, back], (text, status)) in examples {
-        let mut bytes = front.as_bytes().to_vec(alloc)?;
-        bytes.extend_from_slice(back.as_bytes())?;
-        let (end, sink) = run_in_memory(alloc, &[command, *scheme], bytes)?;
-        assert_eq!(rt;
-            sink.bytes(),
-            text.as_bytes(),
-            "{command} {scheme} of {front}{back}"
-        );
-        assert_eq!(rt; end, *status, "{command} {scheme} of {front}{back}");
+        let input = format!(in alloc; "{front}{back}")?;
+        let well = ends_as(alloc, &[command, *scheme], &input, text, *status)?;
+        assert!(rt; well, "{command} {scheme} of {input}");
     }
     Ok(())
 }

@@ -1,24 +1,21 @@
 //! Worked examples of expressions of schemes, of the words of the program, and of reports in JSON.
 
-use super::{COLOURS, PAIR, RING, assert_runs};
-use crate::run_in_memory;
+use super::{COLOURS, PAIR, RING, assert_runs, ends_as};
 use pls_base::Status;
 use std::alloc::Global;
 use std::process::Abort;
 use std::test::Fail;
 
 // Runs words on an input, and asserts the text and the status.
-fn assert_run<'w, 'i, 'd>(
+fn assert_run<'w>(
     rt: &impl Abort,
     alloc: Global,
     words: &[&'w str],
-    input: &'i str,
-    due: (&'d str, Status),
+    input: &str,
+    (text, status): (&str, Status),
 ) -> Result<(), Fail> {
-    let (text, status) = due;
-    let (end, sink) = run_in_memory(alloc, words, input.as_bytes().to_vec(alloc)?)?;
-    assert_eq!(rt; sink.bytes(), text.as_bytes(), "{text} from {input}");
-    assert_eq!(rt; end, status, "{text} from {input}");
+    let well = ends_as(alloc, words, input, text, status)?;
+    assert!(rt; well, "{text} from {input}");
     Ok(())
 }
 

@@ -1,7 +1,6 @@
 //! Worked examples of edits, and of rounds in which touched nodes are judged again.
 
-use super::{COLOURS, PAIR};
-use crate::run_in_memory;
+use super::{COLOURS, PAIR, ends_as};
 use pls_app::{Bench, run};
 use pls_base::{MemSink, NoMemory, Status, Steps, SureSource};
 use pls_model::Verdict;
@@ -41,9 +40,8 @@ fn assert_edits<'t>(
 ) -> Result<(), Fail> {
     for (edits, text, status) in cases {
         let input = format!(in alloc; "{PAIR}{COLOURS}edits\n{edits}end\n")?;
-        let (end, sink) = run_in_memory(alloc, &["recheck", "bipartite"], input.into_bytes())?;
-        assert_eq!(rt; sink.bytes(), text.as_bytes(), "{edits}");
-        assert_eq!(rt; end, *status, "{edits}");
+        let well = ends_as(alloc, &["recheck", "bipartite"], &input, text, *status)?;
+        assert!(rt; well, "{edits}");
     }
     Ok(())
 }
@@ -52,9 +50,11 @@ fn assert_edits<'t>(
 fn rounds_judge_touched_nodes_alone(rt: HostRuntime) -> Result<(), Fail> {
     let alloc = rt.alloc();
     let input = format!(in alloc; "{STAR}{STAR_COLOURS}{STAR_EDITS}")?;
-    let (end, sink) = run_in_memory(alloc, &["recheck", "bipartite"], input.into_bytes())?;
-    assert_eq!(&rt; sink.bytes(), STAR_ROUNDS.as_bytes(), "the star");
-    assert_eq!(&rt; end, Status::No, "the star");
+    let words = ["recheck", "bipartite"];
+    assert!(rt;
+        ends_as(alloc, &words, &input, STAR_ROUNDS, Status::No)?,
+        "the star"
+    );
     Ok(())
 }
 
@@ -124,24 +124,28 @@ impl Bench for Refusing {
     }
 }
 
+// Whether the rounds of the star end in this status with this text, where the bench answers the
+// question of this number with want of memory.
+fn star_ends_as(alloc: Global, refuses: u64, text: &str, status: Status) -> Result<bool, Fail> {
+    let input = format!(in alloc; "{STAR}{STAR_COLOURS}{STAR_EDITS}")?;
+    let mut source = SureSource::new(input.into_bytes());
+    let mut sink = MemSink::new(alloc, 65_536, 65_536, Vec::new(alloc))?;
+    let questions = Steps::new();
+    let mut bench = Refusing { questions, refuses };
+    let words = ["recheck", "bipartite"];
+    let end = run(alloc, &words, &mut source, &mut sink, &mut bench);
+    Ok(end == status && sink.bytes() == text.as_bytes())
+}
+
 #[test]
 fn each_verdict_is_that_of_the_bench(rt: HostRuntime) -> Result<(), Fail> {
-    let alloc = rt.alloc();
-    for refuses in 1..13 {
-        let input = format!(in alloc; "{STAR}{STAR_COLOURS}{STAR_EDITS}")?;
-        let mut source = SureSource::new(input.into_bytes());
-        let mut sink = MemSink::new(alloc, 65_536, 65_536, Vec::new(alloc))?;
-        let questions = Steps::new();
-        let mut bench = Refusing { questions, refuses };
-        let words = ["recheck", "bipartite"];
-        let end = run(alloc, &words, &mut source, &mut sink, &mut bench);
-        let (text, status) = if refuses < 12 {
-            ("", Status::NoMemory)
-        } else {
-            (STAR_ROUNDS, Status::No)
-        };
-        assert_eq!(&rt; sink.bytes(), text.as_bytes(), "question {refuses}");
-        assert_eq!(&rt; end, status, "question {refuses}");
+    for refuses in 1..12 {
+        let well = star_ends_as(rt.alloc(), refuses, "", Status::NoMemory)?;
+        assert!(rt; well, "question {refuses}");
     }
+    assert!(rt;
+        star_ends_as(rt.alloc(), 12, STAR_ROUNDS, Status::No)?,
+        "eleven questions"
+    );
     Ok(())
 }

@@ -1,7 +1,6 @@
 //! Worked examples of inputs that are refused.
 
-use super::{APART, COLOURS, PAIR, assert_runs};
-use crate::run_in_memory;
+use super::{APART, COLOURS, PAIR, assert_runs, ends_as};
 use pls_base::Status;
 use std::test::Fail;
 
@@ -70,14 +69,15 @@ fn what_is_no_network_part_is_refused(rt: HostRuntime) -> Result<(), Fail> {
 #[test]
 fn one_node_too_many_is_a_limit(rt: HostRuntime) -> Result<(), Fail> {
     let alloc = rt.alloc();
-    let mut bytes = b"network\n".to_vec(alloc)?;
+    let mut input = String::from_str(alloc, "network\n")?;
     for id in 0..32_769 {
-        let line = format!(in alloc; "node {id} - 0 0\n")?;
-        bytes.extend_from_slice(line.as_bytes())?;
+        input.push_str(format!(in alloc; "node {id} - 0 0\n")?.as_str())?;
     }
-    bytes.extend_from_slice(b"end\n")?;
-    let (end, sink) = run_in_memory(alloc, &["mark", "tree"], bytes)?;
-    assert_eq!(rt; sink.bytes(), b"limit nodes\n".as_slice());
-    assert_eq!(rt; end, Status::Limit);
+    input.push_str("end\n")?;
+    let words = ["mark", "tree"];
+    assert!(rt;
+        ends_as(alloc, &words, &input, "limit nodes\n", Status::Limit)?,
+        "a limit"
+    );
     Ok(())
 }

@@ -1,9 +1,7 @@
 //! Worked examples of rounds that are played from a schedule.
 
-use super::{APART, COLOURS, PAIR, ROW};
-use crate::run_in_memory;
-use pls_app::{Tally, run};
-use pls_base::{MemSink, MemSource, Status};
+use super::{APART, COLOURS, PAIR, ROW, ends_as, ends_by_bytes};
+use pls_base::Status;
 use std::alloc::Global;
 use std::process::Abort;
 use std::test::Fail;
@@ -18,13 +16,8 @@ fn assert_plays<'t>(
     let [network, labels] = parts;
     for (events, text, status) in cases {
         let input = format!(in alloc; "{network}{labels}schedule\n{events}end\n")?;
-        let (end, sink) = run_in_memory(alloc, &["simulate", "bipartite"], input.into_bytes())?;
-        assert_eq!(rt;
-            sink.bytes(),
-            text.as_bytes(),
-            "{events} behind {network}{labels}"
-        );
-        assert_eq!(rt; end, *status, "{events} behind {network}{labels}");
+        let well = ends_as(alloc, &["simulate", "bipartite"], &input, text, *status)?;
+        assert!(rt; well, "{events} behind {network}{labels}");
     }
     Ok(())
 }
@@ -85,25 +78,15 @@ fn the_first_event_that_does_not_apply_is_refused(rt: HostRuntime) -> Result<(),
 #[test]
 fn reads_and_writes_of_a_played_round_fail(rt: HostRuntime) -> Result<(), Fail> {
     let alloc = rt.alloc();
+    let input = format!(in alloc; "{PAIR}{COLOURS}schedule\nend\n")?;
     let text = "node 1 waiting 0\nnode 2 waiting 0\nrejecting 0 waiting 2\n";
-    let cases = [
-        (0, 0, text, Status::No),
-        (3, 0, "", Status::ReadFault),
-        (0, 20, "node 1 waiting 0\nno", Status::WriteFault),
-    ];
-    for (failing_read, failing_write, text, status) in cases {
-        let input = format!(in alloc; "{PAIR}{COLOURS}schedule\nend\n")?;
-        let mut source = MemSource::new(input.into_bytes(), 1, vec![in alloc; failing_read]?);
-        let mut sink = MemSink::new(alloc, 1000, 1, vec![in alloc; failing_write]?)?;
-        let end = run(
-            alloc,
-            &["simulate", "bipartite"],
-            &mut source,
-            &mut sink,
-            &mut Tally::new(),
-        );
-        assert_eq!(rt; sink.bytes(), text.as_bytes());
-        assert_eq!(rt; end, status);
+    for (failing, due) in [
+        ([0, 0], (text, Status::No)),
+        ([3, 0], ("", Status::ReadFault)),
+        ([0, 20], ("node 1 waiting 0\nno", Status::WriteFault)),
+    ] {
+        let well = ends_by_bytes(alloc, &["simulate", "bipartite"], &input, failing, due)?;
+        assert!(rt; well, "a fault at {} or {}", failing[0], failing[1]);
     }
     Ok(())
 }
@@ -111,14 +94,15 @@ fn reads_and_writes_of_a_played_round_fail(rt: HostRuntime) -> Result<(), Fail> 
 #[test]
 fn one_event_too_many_is_a_limit(rt: HostRuntime) -> Result<(), Fail> {
     let alloc = rt.alloc();
-    let mut bytes = PAIR.as_bytes().to_vec(alloc)?;
-    bytes.extend_from_slice(b"labels\nend\nschedule\n")?;
+    let mut input = format!(in alloc; "{PAIR}labels\nend\nschedule\n")?;
     for _ in 0..1_048_577 {
-        bytes.extend_from_slice(b"arrive 1\n")?;
+        input.push_str("arrive 1\n")?;
     }
-    bytes.extend_from_slice(b"end\n")?;
-    let (end, sink) = run_in_memory(alloc, &["simulate", "tree"], bytes)?;
-    assert_eq!(rt; sink.bytes(), b"limit events\n".as_slice());
-    assert_eq!(rt; end, Status::Limit);
+    input.push_str("end\n")?;
+    let words = ["simulate", "tree"];
+    assert!(rt;
+        ends_as(alloc, &words, &input, "limit events\n", Status::Limit)?,
+        "a limit"
+    );
     Ok(())
 }
