@@ -1,6 +1,6 @@
 //! Labels of combinations, put together from those of the parts.
 
-ghost use Rattle.std.specs.Prelude.{◌≡◌, ℕ, ◌≤◌, ◌∷◌, length, IfOk};
+ghost use Rattle.std.specs.Prelude.{◌≡◌, ℕ, ◌≤◌, ◌∷◌, [], length, replicate, IfOk, OnOk};
 ghost use Rattle.pls_bits.specs.declared.num_code.TheConstants.{MAX_CODED};
 ghost use Rattle.pls_scheme.specs.Marked.{answered};
 ghost use Rattle.pls_combine.specs.Joined.{EachJoined, joined_at, joined_bits, longest_both};
@@ -13,6 +13,9 @@ use pls_scheme::code_length;
 use pls_view::LabelStore;
 use std::alloc::Global;
 
+// The greatest number of bits for which room is asked, 2^61.
+const MOST: u64 = 2_305_843_009_213_693_952;
+
 // The label of a conjunction whose parts are these. The one error is want of memory, by which a
 // first part too long for a code goes too.
 pub(crate) fn joined_bits<C: NumCode>(
@@ -24,17 +27,45 @@ pub(crate) fn joined_bits<C: NumCode>(
     ensures coded { IfOk result (λ bits. length front.entry ≤ MAX_CODED) }
     ensures fits { IfOk result (λ bits. IsWord (length bits)) }
 {
+    let mut bits = BitBuf::new(alloc);
+    put_joined::<C>(&mut bits, front, back)?;
+    Ok(bits)
+}
+
+// Puts the label of a conjunction whose parts are these in the place of the bits. The one error is
+// that of `joined_bits`.
+fn put_joined<C: NumCode>(
+    bits: &mut BitBuf,
+    front: Bits<'_>,
+    back: Bits<'_>,
+) -> Result<(), NoMemory>
+    ensures bits { OnOk result (bits.new ≡ joined_bits C.code front.entry back.entry) }
+    ensures coded { OnOk result (length front.entry ≤ MAX_CODED) }
+    ensures fits { OnOk result (IsWord (length bits.new)) }
+{
     let len = front.len() as u64;
     if len > MAX_CODED {
         return Err(NoMemory);
     }
-    let mut bits = BitBuf::new(alloc);
-    C::write(&mut bits, len)?;
+    bits.clear();
+    C::write(bits, len)?;
     bits.append(front)?;
     bits.append(back)?;
     // How many bits there are fits into a word.
     bits.len();
-    Ok(bits)
+    Ok(())
+}
+
+// So many empty labels, with room for so many bits, and two words more for each.
+fn blank_for(alloc: Global, count: usize, bits: u64) -> Result<LabelStore, NoMemory>
+    ensures { IfOk result (λ labels. labels ≡ replicate count []) }
+{
+    let mut labels = LabelStore::blank(alloc, count)?;
+    let more = (count as u64).saturating_mul(128);
+    labels
+        .with_room()
+        .reserve(bits.saturating_add(more).min(MOST))?;
+    Ok(labels)
 }
 
 // The labels of a conjunction whose parts are these. The one error is want of memory.
@@ -49,9 +80,11 @@ pub(crate) fn joined_labels<C: NumCode>(
     ensures fit { IfOk result
         (λ labels. AllFit (joined_at C.code fronts.now backs.now) (length fronts.now)) }
 {
-    let mut labels = LabelStore::blank(alloc, fronts.len())?;
+    let bits = fronts.total().saturating_add(backs.total());
+    let mut labels = blank_for(alloc, fronts.len(), bits)?;
+    let mut label = BitBuf::new(alloc);
     for i in 0..fronts.len() {
-        let label = joined_bits::<C>(alloc, fronts.bits(i), backs.bits(i))?;
+        put_joined::<C>(&mut label, fronts.bits(i), backs.bits(i))?;
         labels.replace(i, &label)?;
     }
     Ok(labels)
@@ -76,9 +109,10 @@ pub(crate) fn tagged_labels(
     ensures tagged { IfOk result (EachTagged tag rests.now) }
     ensures fit { IfOk result (λ labels. AllFit (tagged_at tag rests.now) (length rests.now)) }
 {
-    let mut labels = LabelStore::blank(alloc, rests.len())?;
+    let mut labels = blank_for(alloc, rests.len(), rests.total())?;
+    let mut label = BitBuf::new(alloc);
     for i in 0..rests.len() {
-        let label = tagged_bits(alloc, tag, rests.bits(i))?;
+        put_tagged(&mut label, tag, rests.bits(i))?;
         labels.replace(i, &label)?;
     }
     Ok(labels)
@@ -90,11 +124,21 @@ pub(crate) fn tagged_bits(alloc: Global, tag: bool, rest: Bits<'_>) -> Result<Bi
     ensures fits { IfOk result (λ bits. IsWord (length bits)) }
 {
     let mut bits = BitBuf::new(alloc);
+    put_tagged(&mut bits, tag, rest)?;
+    Ok(bits)
+}
+
+// Puts a label behind a tag in the place of the bits. The one error is want of memory.
+fn put_tagged(bits: &mut BitBuf, tag: bool, rest: Bits<'_>) -> Result<(), NoMemory>
+    ensures bits { OnOk result (bits.new ≡ tag ∷ rest.entry) }
+    ensures fits { OnOk result (IsWord (length bits.new)) }
+{
+    bits.clear();
     bits.push(tag)?;
     bits.append(rest)?;
     // How many bits there are fits into a word.
     bits.len();
-    Ok(bits)
+    Ok(())
 }
 
 // The bound of a disjunction, from those of its parts.

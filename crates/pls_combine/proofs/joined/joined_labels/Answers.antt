@@ -17,7 +17,7 @@ pub loop-i-preserved : goal.loop-i-preserved
 loop-i-preserved g c =
     let made = joined_at g.C.NumCode.code c.args.fronts.now c.args.backs.now in
     let i = c.loop-i.i in
-    let label = c.in_ok-label.label in
+    let label = c.put_joined.new.bits in
     let set_is : c.replace.new.self ≡ set c.loop-i.labels i label =
     c.in_ok-replace.ensures.replaced in
     let front : get_or c.args.fronts.now i [] ≡ c.bits.result =
@@ -25,7 +25,7 @@ loop-i-preserved g c =
     let back : get_or c.args.backs.now i [] ≡ c.bits-in-loop-i.result =
     get_or_from_slice_get c.args.backs.now i c.bits-in-loop-i.result [] c.bits-in-loop-i.ensures in
     let here : label ≡ made i =
-    c.in_ok-label.ensures.bits
+    c.in_ok-put_joined.ensures.bits
     ∙ joined_here g.C.NumCode.code c.args.fronts.now c.args.backs.now i c.bits.result
     c.bits-in-loop-i.result front back in
     record {
@@ -35,9 +35,9 @@ loop-i-preserved g c =
           (omega (arith, c.loop-i.invariant.each, c.loop-i-test.true)) here
           c.loop-i.invariant.label);
       coded = before_more (λ place. length (get_or c.args.fronts.now place []) ≤ MAX_CODED) i
-          (rw front c.in_ok-label.ensures.coded) c.loop-i.invariant.coded;
+          (rw front c.in_ok-put_joined.ensures.coded) c.loop-i.invariant.coded;
       fit = before_more (λ place. IsWord (length (made place))) i
-          (subst (λ (bits : List Bool). IsWord (length bits)) here c.in_ok-label.ensures.fits) c.loop-i.invariant.fit;
+          (subst (λ (bits : List Bool). IsWord (length bits)) here c.in_ok-put_joined.ensures.fits) c.loop-i.invariant.fit;
     }
 
 pub returns-clause-joined : goal.returns-clause-joined

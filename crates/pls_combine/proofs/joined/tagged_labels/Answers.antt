@@ -10,12 +10,12 @@ pub loop-i-preserved : goal.loop-i-preserved
 loop-i-preserved c =
     let made = tagged_at c.args.tag c.args.rests.now in
     let i = c.loop-i.i in
-    let label = c.in_ok-label.label in
+    let label = c.put_tagged.new.bits in
     let set_is : c.replace.new.self ≡ set c.loop-i.labels i label =
     c.in_ok-replace.ensures.replaced in
     let rest : get_or c.args.rests.now i [] ≡ c.bits.result =
     get_or_from_slice_get c.args.rests.now i c.bits.result [] c.bits.ensures in
-    let here : label ≡ made i = c.in_ok-label.ensures.bits ∙ rw rest refl in
+    let here : label ≡ made i = c.in_ok-put_tagged.ensures.bits ∙ rw rest refl in
     record {
       each = ap length set_is ∙ length-set c.loop-i.labels i label ∙ c.loop-i.invariant.each;
       label = rw set_is
@@ -23,7 +23,7 @@ loop-i-preserved c =
           (omega (arith, c.loop-i.invariant.each, c.loop-i-test.true)) here
           c.loop-i.invariant.label);
       fit = before_more (λ place. IsWord (length (made place))) i
-          (subst (λ (bits : List Bool). IsWord (length bits)) here c.in_ok-label.ensures.fits) c.loop-i.invariant.fit;
+          (subst (λ (bits : List Bool). IsWord (length bits)) here c.in_ok-put_tagged.ensures.fits) c.loop-i.invariant.fit;
     }
 
 pub returns-clause-tagged : goal.returns-clause-tagged
