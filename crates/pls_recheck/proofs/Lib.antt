@@ -10,3 +10,4 @@ pub mod Carried
 pub mod Carrying
 pub mod Noted
 pub mod Around
+pub mod Remembered

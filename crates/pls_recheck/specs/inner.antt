@@ -1,1 +1,2 @@
+pub mod AtPlace
 pub mod Flags

@@ -39,9 +39,18 @@ impl Watched {
             Edit::Weight { a, b, weight } => self.set_weight(*a, *b, *weight),
             Edit::Link { a, b, weight } => self.link(*a, *b, *weight),
             Edit::Unlink { a, b } => self.unlink(*a, *b),
-            Edit::Join { id, mark, num } => self.join(*id, *mark, *num),
-            Edit::Leave { id } => self.leave(*id),
-            Edit::Label { id, bits } => self.set_label(*id, bits),
+            Edit::Join { id, mark, num } => {
+                self.join(*id, *mark, *num)?;
+                Ok(())
+            }
+            Edit::Leave { id } => {
+                self.leave(*id)?;
+                Ok(())
+            }
+            Edit::Label { id, bits } => {
+                self.set_label(*id, bits)?;
+                Ok(())
+            }
         }
     }
 

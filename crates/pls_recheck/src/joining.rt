@@ -6,6 +6,7 @@ ghost use Rattle.pls_model.specs.declared.verdict.Verdict.{Verdict};
 ghost use Rattle.pls_model.specs.declared.verdict.Verdict.TheVariants.{Accept};
 ghost use Rattle.pls_graph.specs.Edits.{SaysEdit, joined, join_refusal, leave_refusal, left};
 ghost use Rattle.pls_model.specs.Configuration.{IsNetwork};
+ghost use Rattle.pls_graph.specs.Places.{place_in};
 ghost use Rattle.pls_view.specs.Seen.{Seen};
 ghost use Rattle.pls_edits.specs.Edited.{place_for};
 ghost use Rattle.pls_edits.specs.declared.edit.Edit.TheVariants.{Join, Leave};
@@ -19,10 +20,12 @@ use pls_model::Verdict;
 use pls_view::LabelStore;
 
 impl Watched {
-    // Puts a node in, without ports and pointer and with an empty label.
-    pub(crate) fn join(&mut self, id: u32, mark: u32, num: u64) -> Result<(), EditError>
+    // Puts a node in, without ports and pointer and with an empty label, and gives its place.
+    pub(crate) fn join(&mut self, id: u32, mark: u32, num: u64) -> Result<usize, EditError>
         requires { num ≤ MAX_NUM }
         ensures ok { OnOk result (self.new ≡ after (Join id mark num) self.old) }
+        ensures place { IfOk result (λ place. place ≡ place_for self.old.network id) }
+        ensures within { IfOk result (λ place. place ≤ length self.old.labels) }
         ensures allowed { OnOk result (join_refusal self.old.network id ≡ None) }
         ensures refused { IfErr result
             (λ error. SaysEdit (join_refusal self.old.network id) error) }
@@ -37,12 +40,14 @@ impl Watched {
         put_flag(&mut self.flags, i, true);
         put_flag(&mut self.around, i, false);
         put_verdict(&mut self.kept, i);
-        Ok(())
+        Ok(i)
     }
 
-    // Takes a node without ports away, with its label.
-    pub(crate) fn leave(&mut self, id: u32) -> Result<(), EditError>
+    // Takes a node without ports away, with its label, and gives the place where it stood.
+    pub(crate) fn leave(&mut self, id: u32) -> Result<usize, EditError>
         ensures ok { OnOk result (self.new ≡ after (Leave id) self.old) }
+        ensures place { IfOk result (λ place. place ≡ place_in self.old.network id) }
+        ensures within { IfOk result (λ place. place < length self.old.labels) }
         ensures allowed { OnOk result (leave_refusal self.old.network id ≡ None) }
         ensures refused { IfErr result
             (λ error. leave_refusal self.old.network id ≡ Some error) }
@@ -60,7 +65,7 @@ impl Watched {
         self.flags.remove(i);
         self.around.remove(i);
         self.kept.remove(i);
-        Ok(())
+        Ok(i)
     }
 }
 

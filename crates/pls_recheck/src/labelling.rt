@@ -1,9 +1,10 @@
 //! Labels of what is watched.
 
-ghost use Rattle.std.specs.Prelude.{◌≡◌, All, slice_get, ◌<◌, ◌-◌, ◌^◌, length, min, nat_lt, slice_set, None, OnErr, OnOk, IfErr, Some};
+ghost use Rattle.std.specs.Prelude.{◌≡◌, All, slice_get, ◌<◌, ◌-◌, ◌^◌, length, min, nat_lt, slice_set, None, OnErr, OnOk, IfErr, IfOk, Some};
 ghost use Rattle.pls_model.specs.declared.row.NodeRow.{NodeRow};
 ghost use Rattle.pls_model.specs.declared.verdict.Verdict.{Verdict};
 ghost use Rattle.pls_graph.specs.Edits.{SaysEdit};
+ghost use Rattle.pls_graph.specs.Places.{place_in};
 ghost use Rattle.pls_view.specs.Labels.{bits_together};
 ghost use Rattle.pls_view.specs.Seen.{Seen};
 ghost use Rattle.pls_edits.specs.Edited.{label_refusal, most_bits};
@@ -22,9 +23,11 @@ use pls_view::LabelStore;
 const MOST_BITS: u64 = 268_435_456;
 
 impl Watched {
-    // Gives a node the label.
-    pub(crate) fn set_label(&mut self, id: u32, bits: &BitBuf) -> Result<(), EditError>
+    // Gives a node the label, and gives its place.
+    pub(crate) fn set_label(&mut self, id: u32, bits: &BitBuf) -> Result<usize, EditError>
         ensures ok { OnOk result (self.new ≡ after (Label id bits.now) self.old) }
+        ensures place { IfOk result (λ place. place ≡ place_in self.old.network id) }
+        ensures within { IfOk result (λ place. place < length self.old.labels) }
         ensures allowed { OnOk result
             (label_refusal self.old.network self.old.labels id bits.now ≡ None) }
         ensures refused { IfErr result
@@ -44,7 +47,7 @@ impl Watched {
             return Err(EditError::NoMemory);
         };
         touch_around(&self.net, i, &mut self.flags, &mut self.around);
-        Ok(())
+        Ok(i)
     }
 }
 

@@ -14,12 +14,17 @@
 #![tactic(auto)]
 
 mod applying;
+mod asks;
 mod bench;
+mod by_memory;
 mod counted;
 mod joining;
 mod judge;
 mod labelling;
+mod monitor;
+mod placed;
 mod recheck;
+mod remembering;
 mod rounds;
 mod tally;
 mod watched;
@@ -28,6 +33,7 @@ pub use bench::Bench;
 pub use counted::Counted;
 pub use judge::Judge;
 pub use pls_edits::{Edit, EditError};
+pub use monitor::Monitor;
 pub use recheck::Recheck;
 pub use tally::Tally;
 pub use watched::Watched;

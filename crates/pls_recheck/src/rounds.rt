@@ -9,12 +9,13 @@ ghost use Rattle.pls_scheme.specs.Judging.{round_by};
 ghost use Rattle.pls_recheck.specs.Watch.{EndsEarly, IsCurrent};
 ghost use Rattle.pls_recheck.specs.inner.Flags.{AreCurrent, cleared, marked};
 
+use crate::asks::{Asks, ByView};
 use crate::judge::Judge;
 use crate::watched::Watched;
 use pls_base::{NoMemory, Steps};
 use pls_graph::Network;
 use pls_model::Verdict;
-use pls_view::{LabelStore, View};
+use pls_view::LabelStore;
 use std::alloc::Global;
 
 impl Watched {
@@ -42,6 +43,33 @@ impl Watched {
         ensures refused { OnErr result (EndsEarly self.old.touched self.new.touched
             (J.spent judge.old) (J.spent judge.new) steps.old steps.new) }
     {
+        self.round_by(alloc, &ByView, judge, steps)
+    }
+
+    // Asks once for each touched node and for no other, as `round` does.
+    pub(crate) fn round_by<C, A: Asks<C>>(
+        &mut self,
+        alloc: Global,
+        asks: &A,
+        counter: &mut C,
+        steps: &mut Steps,
+    ) -> Result<u32, NoMemory>
+        requires fits { A.fits asks.now self.old.labels }
+        requires current { IsCurrent (A.judge asks.now counter.old) self.old }
+        ensures network { self.new.network ≡ self.old.network }
+        ensures labels { self.new.labels ≡ self.old.labels }
+        ensures current { IsCurrent (A.judge asks.now counter.old) self.new }
+        ensures judge { A.judge asks.now counter.new ≡ A.judge asks.now counter.old }
+        ensures over { A.over asks.now counter.new ≡ A.over asks.now counter.old }
+        ensures number { IfOk result (λ checked. checked ≡ length self.old.touched) }
+        ensures none { OnOk result (self.new.touched ≡ []) }
+        ensures spent { IfOk result
+            (λ checked. A.spent asks.now counter.new
+            ≡ up_by checked (A.spent asks.now counter.old)) }
+        ensures steps { IfOk result (λ checked. steps.new ≡ up_by checked steps.old) }
+        ensures refused { OnErr result (EndsEarly self.old.touched self.new.touched
+            (A.spent asks.now counter.old) (A.spent asks.now counter.new) steps.old steps.new) }
+    {
         // A network is valid.
         self.net.len();
         forget_all(&mut self.around);
@@ -51,7 +79,8 @@ impl Watched {
             &self.labels,
             &mut self.flags,
             &mut self.kept,
-            judge,
+            asks,
+            counter,
             steps,
         )
     }
@@ -80,41 +109,43 @@ fn forget_all(around: &mut Vec<bool>)
     }
 }
 
-// Judges the nodes that are flagged, and takes their flags back.
-fn judge_flagged<J: Judge>(
+// Asks about the nodes that are flagged, and takes their flags back.
+fn judge_flagged<C, A: Asks<C>>(
     alloc: Global,
     net: &Network,
     labels: &LabelStore,
     flags: &mut Vec<bool>,
     kept: &mut Vec<(u32, Verdict)>,
-    judge: &mut J,
+    asks: &A,
+    counter: &mut C,
     steps: &mut Steps,
 ) -> Result<u32, NoMemory>
     requires a_label { length labels.now ≡ length net.now }
     requires a_flag { length flags.old.items ≡ length net.now }
     requires a_verdict { length kept.old.items ≡ length net.now }
-    requires current { AreCurrent (J.judge judge.old) net.now labels.now flags.old.items
+    requires fits { A.fits asks.now labels.now }
+    requires current { AreCurrent (A.judge asks.now counter.old) net.now labels.now flags.old.items
         kept.old.items }
     ensures a_flag { length flags.new.items ≡ length net.now }
     ensures a_verdict { length kept.new.items ≡ length net.now }
-    ensures current { AreCurrent (J.judge judge.old) net.now labels.now flags.new.items
+    ensures current { AreCurrent (A.judge asks.now counter.old) net.now labels.now flags.new.items
         kept.new.items }
-    ensures judge { J.judge judge.new ≡ J.judge judge.old }
-    ensures over { J.over judge.new ≡ J.over judge.old }
+    ensures judge { A.judge asks.now counter.new ≡ A.judge asks.now counter.old }
+    ensures over { A.over asks.now counter.new ≡ A.over asks.now counter.old }
     ensures number { IfOk result
         (λ checked. checked ≡ length (marked (ids_of net.now) flags.old.items)) }
     ensures none { OnOk result (marked (ids_of net.now) flags.new.items ≡ []) }
     ensures spent { IfOk result
-        (λ checked. J.spent judge.new ≡ up_by checked (J.spent judge.old)) }
+        (λ checked. A.spent asks.now counter.new ≡ up_by checked (A.spent asks.now counter.old)) }
     ensures steps { IfOk result (λ checked. steps.new ≡ up_by checked steps.old) }
     ensures refused { OnErr result (EndsEarly (marked (ids_of net.now) flags.old.items)
-        (marked (ids_of net.now) flags.new.items) (J.spent judge.old) (J.spent judge.new)
-        steps.old steps.new) }
+        (marked (ids_of net.now) flags.new.items) (A.spent asks.now counter.old)
+        (A.spent asks.now counter.new) steps.old steps.new) }
 {
     let mut checked = 0;
     for i in 0..net.len() {
         if flags[i] {
-            let found = judge_at(alloc, net, labels, i, judge, steps)?;
+            let found = asks.ask_at(alloc, net, labels, i, counter, steps)?;
             answered(flags, kept, i, found);
             checked += 1;
         }
@@ -131,30 +162,4 @@ fn answered(flags: &mut Vec<bool>, kept: &mut Vec<(u32, Verdict)>, i: usize, fou
 {
     flags[i] = false;
     kept[i] = found;
-}
-
-// The identity of the node at place i, and its verdict.
-fn judge_at<J: Judge>(
-    alloc: Global,
-    net: &Network,
-    labels: &LabelStore,
-    i: usize,
-    judge: &mut J,
-    steps: &mut Steps,
-) -> Result<(u32, Verdict), NoMemory>
-    requires a_label { length labels.now ≡ length net.now }
-    requires within { i < length net.now }
-    ensures judged { IfOk result (λ found. (view : Seen)
-        → slice_get (views net.now labels.now) i ≡ Some view
-        → found ≡ (view.id, J.judge judge.old view)) }
-    ensures judge { J.judge judge.new ≡ J.judge judge.old }
-    ensures over { J.over judge.new ≡ J.over judge.old }
-    ensures spent { OnOk result (J.spent judge.new ≡ up_by 1 (J.spent judge.old)) }
-    ensures steps { OnOk result (steps.new ≡ up_by 1 steps.old) }
-    ensures early { OnErr result (((J.spent judge.new ≡ J.spent judge.old) × (steps.new ≡ steps.old))
-        ⊎ ((J.spent judge.new ≡ up_by 1 (J.spent judge.old)) × (steps.new ≡ up_by 1 steps.old))) }
-{
-    let view = View::of(alloc, net, labels, i)?;
-    let verdict = judge.verify(alloc, &view, steps)?;
-    Ok((view.id, verdict))
 }

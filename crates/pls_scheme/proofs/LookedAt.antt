@@ -1,8 +1,9 @@
 -- Labels that were looked at, at the places of a node and of its neighbours.
-use Rattle.std.proofs.Common.{◌≡◌, ◌∙◌, ◌<◌, ℕ, ◌==◌, Bool, List, length, map, get_or, position, slice_get, Option, Some, None, option_map, refl, sym, ap, subst, arith}
+use Rattle.std.proofs.Common.{◌≡◌, ◌∙◌, ◌<◌, ℕ, ◌==◌, All, Bool, IfSome, List, length, map, get_or, position, slice_get, Option, Some, None, option_map, refl, sym, ap, subst, arith}
 use Rattle.std.specs.Option.{option_and_then}
+use Rattle.std.proofs.Math.ListN.{get_or-map}
 use Rattle.std.proofs.lemmas.List.{length-map}
-use Rattle.std.proofs.lemmas.Option.{same_Some, slice_get-get_or, slice_get-map, slice_get_read, slice_get_within}
+use Rattle.std.proofs.lemmas.Option.{get_or_from_slice_get, same_Some, slice_get-get_or, slice_get-map, slice_get_read, slice_get_within}
 use Rattle.pls_model.specs.declared.row.State.{State}
 use Rattle.pls_model.specs.declared.row.Port.{Port}
 use Rattle.pls_model.specs.declared.row.NodeRow.{NodeRow}
@@ -55,6 +56,20 @@ looked_there {L} {G} read glance labels looked are place bits entry at is =
     (sym has ∙ ap (λ (looked : List (Option G)). slice_get looked place) are
     ∙ slice_get-map (seen_in read glance) labels place
     ∙ ap (option_map (seen_in read glance)) at)
+
+-- what is kept at a place is what is seen in the label there
+pub kept_at : {G E : Type 0} (kept : E → Option G) (looked : List E) (place : ℕ) (entry : E)
+    → entry ≡ get_or looked place entry → kept entry ≡ get_or (map kept looked) place (kept entry)
+kept_at kept looked place entry is = ap kept is ∙ sym (get_or-map kept looked place entry)
+
+pub kept_there : {L G E : Type 0} (read : List Bool → Option L) (glance : L → G)
+    (kept : E → Option G) (labels : List (List Bool)) (looked : List E)
+    → AreLooked read glance labels (map kept looked)
+    → (place : ℕ) (bits : List Bool) (entry : E) → slice_get labels place ≡ Some bits
+    → entry ≡ get_or looked place entry → kept entry ≡ seen_in read glance bits
+kept_there read glance kept labels looked are place bits entry at is =
+    looked_there read glance labels (map kept looked) are place bits (kept entry) at
+    (kept_at kept looked place entry is)
 
 -- the port of a view shows the label at the place of the neighbour
 pub port_shown : (rows : List NodeRow) (labels : List (List Bool)) (ports : List Port) (p : ℕ)
@@ -120,3 +135,46 @@ module _ (rows : List NodeRow) (net : IsNetwork rows) (i : ℕ) (ports : List Po
       ∙ sym (ap (option_and_then (λ (port : SeenPort). seen_in read glance port.label))
       (port_shown rows labels ports up port (get_or places up 0) bits port_at
       (port_placed up port port_at) bits_at))
+
+  -- so is a pointer where there is one
+  pub pointer_some : (state : State)
+      → option_map (λ (row : NodeRow). row.state) (slice_get rows i) ≡ Some state
+      → IfSome state.up (λ up. up < length places)
+  pointer_some state state_is = by state.up refl
+    where
+      by : (up : Option ℕ) → state.up ≡ up → IfSome up (λ up. up < length places)
+      by None is = tt
+      by (Some up) is = place_for_port up (pointer_port state up state_is is)
+
+  -- and what is kept there is what is seen above
+  pub above_kept : {L G E : Type 0} (read : List Bool → Option L) (glance : L → G)
+      (kept : E → Option G) (labels : List (List Bool)) (looked : List E)
+      → AreLooked read glance labels (map kept looked) → length labels ≡ length rows
+      → All (λ place. place < length rows) places → (state : State)
+      → option_map (λ (row : NodeRow). row.state) (slice_get rows i) ≡ Some state
+      → option_and_then kept (option_and_then (slice_get looked)
+      (option_and_then (slice_get places) state.up))
+      ≡ seen_above read glance (map (seen_port (label_of rows labels)) ports) state.up
+  above_kept {L} {G} {E} read glance kept labels looked are each inside state state_is =
+      by state.up refl
+    where
+      by : (up : Option ℕ) → state.up ≡ up
+          → option_and_then kept (option_and_then (slice_get looked)
+          (option_and_then (slice_get places) up))
+          ≡ seen_above read glance (map (seen_port (label_of rows labels)) ports) up
+      by None is = refl
+      by (Some up) is =
+          let within = pointer_port state up state_is is in
+          let here = place_for_port up within in
+          let place = get_or places up 0 in
+          let below : place < length rows = inside up 0 here in
+          let many : length looked ≡ length labels =
+          sym (length-map looked kept) ∙ ap (λ (looked : List (Option G)). length looked) are
+          ∙ length-map labels (seen_in read glance) in
+          let (entry, at) : (entry : E) × (slice_get looked place ≡ Some entry)
+          = item_at looked place (omega (arith, many, each, below)) in
+          ap (λ (place : Option ℕ). option_and_then kept (option_and_then (slice_get looked) place))
+          (slice_get-get_or places up 0 here)
+          ∙ ap (option_and_then kept) at
+          ∙ above_there read glance labels (map kept looked) are each up within below (kept entry)
+          (kept_at kept looked place entry (sym (get_or_from_slice_get looked place entry entry at)))

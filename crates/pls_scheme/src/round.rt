@@ -1,12 +1,14 @@
 //! A round in which each label is looked at once, for all the nodes that see it.
 
-ghost use Rattle.std.specs.Prelude.{◌≡◌, ◌<◌, length, slice_get, Some, IfOk};
+ghost use Rattle.std.specs.Prelude.{◌≡◌, ◌<◌, All, length, map, slice_get, Some, IfOk, IfSome};
+ghost use Rattle.std.specs.Option.{option_and_then, option_copied};
 ghost use Rattle.pls_view.specs.Seen.{Seen, views};
 ghost use Rattle.pls_scheme.specs.Judging.{RoseByAtMost, verdicts_by};
 ghost use Rattle.pls_scheme.specs.Reading.{judge_by};
 ghost use Rattle.pls_scheme.specs.inner.Looks.{AreLooked};
 
 use crate::in_place::{JudgesInPlace, Looked};
+use crate::memory::Kept;
 use pls_base::{NoMemory, Steps};
 use pls_graph::Network;
 use pls_model::Verdict;
@@ -31,7 +33,7 @@ pub(crate) fn verdicts_of<R: JudgesInPlace>(
     let mut verdicts = Vec::with_capacity(alloc, net.len())?;
     for i in 0..net.len() {
         steps.tick();
-        verdicts.push(verdict_at(rules, net, labels, &looked, i))?;
+        verdicts.push(verdict_at(rules, net, labels, looked.as_slice(), i))?;
     }
     Ok(verdicts)
 }
@@ -52,16 +54,17 @@ fn look_at_all<R: JudgesInPlace>(
     Ok(looked)
 }
 
-// The verdict of the node at a place, where the labels were looked at.
-fn verdict_at<R: JudgesInPlace>(
+// The verdict of the node at a place, by what is kept of each label.
+pub(crate) fn verdict_at<R: JudgesInPlace, E: Kept<R::Glance>>(
     rules: &R,
     net: &Network,
     labels: &LabelStore,
-    looked: &[Option<R::Glance>],
+    looked: &[E],
     i: usize,
 ) -> Verdict
     requires each { length labels.now ≡ length net.now }
-    requires looked { AreLooked R.Layout.said (R.glance rules.now) labels.now looked.now }
+    requires looked { AreLooked R.Layout.said (R.glance rules.now) labels.now
+        (map E.kept looked.now) }
     requires within { i < length net.now }
     ensures { (view : Seen) → slice_get (views net.now labels.now) i ≡ Some view
         → result ≡ judge_by R.Layout.said (R.rules rules.now) view }
@@ -70,7 +73,7 @@ fn verdict_at<R: JudgesInPlace>(
     let ports = net.ports(i);
     let places = net.places(i);
     let bits = labels.bits(i);
-    let Some(glance) = &looked[i] else {
+    let Some(glance) = looked[i].glance() else {
         return Verdict::Reject { leaf: 1, rule: 1 };
     };
     let own = Looked {
@@ -81,7 +84,7 @@ fn verdict_at<R: JudgesInPlace>(
     for (p, port) in ports.iter().enumerate() {
         let place = places[p] as usize;
         let bits = labels.bits(place);
-        let Some(glance) = &looked[place] else {
+        let Some(glance) = looked[place].glance() else {
             return Verdict::Reject { leaf: 1, rule: 2 };
         };
         let label = Looked {
@@ -90,9 +93,24 @@ fn verdict_at<R: JudgesInPlace>(
         };
         tally = rules.pass(state.up, &own, tally, p, port.weight, &label);
     }
-    let above = match state.up {
-        Some(up) => looked[places[up as usize] as usize].as_ref(),
-        None => None,
-    };
+    let above = glance_above(looked, places, state.up);
     rules.close(id, state, &own, above, tally)
+}
+
+// What is kept of the label at the place of the neighbour at this port, if the pointer names one.
+#[inline(always)]
+fn glance_above<'a, G, E: Kept<G>>(
+    looked: &'a [E],
+    places: &[u32],
+    up: Option<u32>,
+) -> Option<&'a G>
+    requires pointer { IfSome up (λ up. up < length places.now) }
+    requires within { All (λ place. place < length looked.now) places.now }
+    ensures { option_copied result ≡ option_and_then E.kept (option_and_then (slice_get looked.now)
+        (option_and_then (slice_get places.now) up)) }
+{
+    match up {
+        Some(up) => looked[places[up as usize] as usize].glance(),
+        None => None,
+    }
 }

@@ -54,7 +54,7 @@ pub loop-i-preserved : goal.loop-i-preserved
 loop-i-preserved g c =
     let flags = c.args.flags.now.items in
     let i = c.loop-i.i in
-    let judge = g.J.Judge.judge c.args.judge.now in
+    let judge = g.A.Asks.judge c.args.asks.now c.args.counter.now in
     let within : i < length flags = omega (arith, c.loop-i-test.true, c.len-i-end.ensures.len, c.requires.a_flag) in
     let at = flag_was i flags c.loop-i.flags.items c.index.result.now c.loop-i.invariant.flags
     within c.index.ensures in
@@ -78,12 +78,12 @@ loop-i-preserved g c =
                 (current_more judge c.args.net.now c.args.labels.now c.loop-i.flags.items
                 c.loop-i.kept.items c.loop-i.invariant.current i w.in_ok-found.found
                 (omega (arith, c.loop-i-test.true, c.len-i-end.ensures.len, c.loop-i.invariant.many))
-                (λ view shown. judged_same (g.J.Judge.judge c.loop-i.judge) judge
+                (λ view shown. judged_same (g.A.Asks.judge c.args.asks.now c.loop-i.counter) judge
                 c.loop-i.invariant.judge w.in_ok-found.found view
                 (w.in_ok-found.ensures.judged view shown))));
-            judge = ap g.J.Judge.judge w.judge-is ∙ w.in_ok-found.ensures.judge
+            judge = ap (g.A.Asks.judge c.args.asks.now) w.counter-is ∙ w.in_ok-found.ensures.judge
                 ∙ c.loop-i.invariant.judge;
-            over = ap g.J.Judge.over w.judge-is ∙ w.in_ok-found.ensures.over ∙ c.loop-i.invariant.over;
+            over = ap (g.A.Asks.over c.args.asks.now) w.counter-is ∙ w.in_ok-found.ensures.over ∙ c.loop-i.invariant.over;
             checked = omega (
               arith,
               w.checked-is,
@@ -92,7 +92,7 @@ loop-i-preserved g c =
             );
             spent = omega (
               arith,
-              ap g.J.Judge.spent w.judge-is,
+              ap (g.A.Asks.spent c.args.asks.now) w.counter-is,
               w.in_ok-found.ensures.spent,
               c.loop-i.invariant.spent,
               w.checked-is,
@@ -120,8 +120,8 @@ loop-i-preserved g c =
                 (subst (λ (kept : List (ℕ × Verdict)). AreCurrent judge c.args.net.now
                 c.args.labels.now c.loop-i.flags.items kept) (sym kept_now)
                 c.loop-i.invariant.current);
-            judge = ap g.J.Judge.judge w.judge-is ∙ c.loop-i.invariant.judge;
-            over = ap g.J.Judge.over w.judge-is ∙ c.loop-i.invariant.over;
+            judge = ap (g.A.Asks.judge c.args.asks.now) w.counter-is ∙ c.loop-i.invariant.judge;
+            over = ap (g.A.Asks.over c.args.asks.now) w.counter-is ∙ c.loop-i.invariant.over;
             checked = omega (
               arith,
               w.checked-is,
@@ -130,7 +130,7 @@ loop-i-preserved g c =
             );
             spent = omega (
               arith,
-              ap g.J.Judge.spent w.judge-is,
+              ap (g.A.Asks.spent c.args.asks.now) w.counter-is,
               c.loop-i.invariant.spent,
               w.checked-is,
             );
@@ -161,3 +161,9 @@ pub returns-clause-a_flag : goal.returns-clause-a_flag
 returns-clause-a_flag g c =
     ap length c.loop-i.invariant.flags ∙ length-cleared c.loop-i.i c.args.flags.now.items
     ∙ c.requires.a_flag
+
+pub answered-requires-clause-flag : goal.answered-requires-clause-flag
+answered-requires-clause-flag g c =
+    let many = ap length c.loop-i.invariant.flags in
+    let same = length-cleared c.loop-i.i c.args.flags.now.items in
+    omega (arith, many, same, c.loop-i-test.true, c.len-i-end.ensures.len, c.requires.a_flag)

@@ -7,10 +7,10 @@ abbrev pub invariant-loop-i : goal.invariant-loop-i
 invariant-loop-i g l = record {
   flags : l.flags.items ≡ cleared l.i l.fn.flags.items;
   many : length l.kept.items ≡ length l.net;
-  current : AreCurrent (g.J.Judge.judge l.fn.judge) l.net l.labels l.flags.items l.kept.items;
-  judge : g.J.Judge.judge l.judge ≡ g.J.Judge.judge l.fn.judge;
-  over : g.J.Judge.over l.judge ≡ g.J.Judge.over l.fn.judge;
+  current : AreCurrent (g.A.Asks.judge l.asks l.fn.counter) l.net l.labels l.flags.items l.kept.items;
+  judge : g.A.Asks.judge l.asks l.counter ≡ g.A.Asks.judge l.asks l.fn.counter;
+  over : g.A.Asks.over l.asks l.counter ≡ g.A.Asks.over l.asks l.fn.counter;
   checked : l.checked ≡ set_among l.i l.fn.flags.items;
-  spent : g.J.Judge.spent l.judge ≡ up_by l.checked (g.J.Judge.spent l.fn.judge);
+  spent : g.A.Asks.spent l.asks l.counter ≡ up_by l.checked (g.A.Asks.spent l.asks l.fn.counter);
   steps : l.steps ≡ up_by l.checked l.fn.steps;
 }

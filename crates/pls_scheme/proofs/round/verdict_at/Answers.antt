@@ -1,4 +1,4 @@
-use Rattle.std.proofs.Common.{◌≡◌, ◌∙◌, List, Some, get_or, slice_get, refl, sym, ap, subst}
+use Rattle.std.proofs.Common.{◌≡◌, ◌∙◌, arith, length, List, Some, get_or, slice_get, refl, sym, ap, subst}
 use Rattle.std.specs.Option.{option_copied}
 use Rattle.std.proofs.lemmas.List.{length-map}
 use Rattle.std.proofs.lemmas.Option.{slice_get-get_or}
@@ -7,11 +7,10 @@ use Rattle.pls_model.specs.declared.verdict.Verdict.TheVariants.{Reject}
 use Rattle.pls_view.specs.Seen.{Seen, SeenPort, label_of, seen_port}
 use Rattle.pls_view.proofs.Views.{placed}
 use Rattle.pls_scheme.specs.Reading.{judge_by}
-use Rattle.pls_scheme.specs.inner.Looks.{seen_above}
-use Rattle.pls_scheme.proofs.LookedAt.{above_there, is_shown, looked_there, place_for_port, pointer_port, port_placed, port_shown, shown_from}
+use Rattle.pls_scheme.specs.inner.Looks.{seen_above, seen_in}
+use Rattle.pls_scheme.proofs.LookedAt.{above_kept, is_shown, kept_there, place_for_port, pointer_some, port_placed, port_shown, shown_from}
 use Rattle.pls_scheme.proofs.Passing.{pass_more, pass_opened, passed, unopened, unpassed}
 use Rattle.pls_scheme.proofs.round.verdict_at.Goals as goal
-use Rattle.pls_scheme.proofs.round.verdict_at.Goals.{in-Some-up, in-None}
 
 pub returns-in_default : goal.returns-in_default
 returns-in_default g c view at =
@@ -29,7 +28,7 @@ returns-in_default g c view at =
     c.bits-bits.ensures at)
     (unopened said glance (g.R.JudgesInPlace.gathered c.args.rules.now)
     (shown_from rows labels node.0 node.1 bits c.ports-ports.result.now) rules
-    (sym c.in_default.is ∙ looked_there said glance labels c.args.looked.now c.requires.looked
+    (ap option_copied (sym c.in_default.is) ∙ c.glance.ensures ∙ kept_there said glance g.E.Kept.kept labels c.args.looked.now c.requires.looked
     c.args.i bits c.index-looked-i.result c.bits-bits.ensures c.index-looked-i.is))
 
 pub loop-p-init : goal.loop-p-init
@@ -40,8 +39,8 @@ loop-p-init g c =
     let bits = c.bits-bits.result in
     pass_opened said glance (g.R.JudgesInPlace.gathered c.args.rules.now)
     (shown_from c.args.net.now c.args.labels.now node.0 node.1 bits c.ports-ports.result.now)
-    c.in-Some.glance c.open-tally.result
-    (sym c.in-Some.is ∙ looked_there said glance c.args.labels.now c.args.looked.now
+    c.in-Some.glance.now c.open-tally.result
+    (ap option_copied (sym c.in-Some.is) ∙ c.glance.ensures ∙ kept_there said glance g.E.Kept.kept c.args.labels.now c.args.looked.now
     c.requires.looked c.args.i bits c.index-looked-i.result c.bits-bits.ensures
     c.index-looked-i.is)
     (λ label same. c.open-tally.ensures node.0 node.1 label same)
@@ -52,8 +51,8 @@ bounds-places-p g c =
     c.ports-ports.ensures c.places-places.result.now c.places-places.ensures.places c.loop-p.p
     c.loop-p-test.true
 
-pub returns-in_default-looked : goal.returns-in_default-looked
-returns-in_default-looked g c view at =
+pub returns-in_default-glance : goal.returns-in_default-glance
+returns-in_default-glance g c view at =
     let rows = c.args.net.now in
     let labels = c.args.labels.now in
     let said = g.R.Layout.Layout.said in
@@ -81,7 +80,7 @@ returns-in_default-looked g c view at =
     (port_placed rows c.node-id.ensures.valid c.args.i ports c.ports-ports.ensures
     c.places-places.result.now c.places-places.ensures.places p port port_at)
     c.bits-bits-in-loop-p.ensures)
-    (sym c.in_default-looked.is ∙ looked_there said glance labels c.args.looked.now
+    (ap option_copied (sym c.in_default-glance.is) ∙ c.glance-in-loop-p.ensures ∙ kept_there said glance g.E.Kept.kept labels c.args.looked.now
     c.requires.looked place there c.index-looked-place.result c.bits-bits-in-loop-p.ensures
     c.index-looked-place.is))
 
@@ -103,29 +102,35 @@ loop-p-preserved g c =
     let shows : SeenPort = record { weight = port.weight; label = there } in
     pass_more said glance (g.R.JudgesInPlace.gathered c.args.rules.now)
     (shown_from rows labels node.0 node.1 bits ports) p c.loop-p.tally c.pass-tally.result shows
-    c.in-Some.glance c.in-Some-looked.glance c.loop-p.invariant
+    c.in-Some.glance.now c.in-Some-glance.glance.now c.loop-p.invariant
     (port_shown rows labels ports p port place there port_at
     (port_placed rows c.node-id.ensures.valid c.args.i ports c.ports-ports.ensures
     c.places-places.result.now c.places-places.ensures.places p port port_at)
     c.bits-bits-in-loop-p.ensures)
-    (sym c.in-Some.is ∙ looked_there said glance labels c.args.looked.now c.requires.looked
+    (ap option_copied (sym c.in-Some.is) ∙ c.glance.ensures ∙ kept_there said glance g.E.Kept.kept labels c.args.looked.now c.requires.looked
     c.args.i bits c.index-looked-i.result c.bits-bits.ensures c.index-looked-i.is)
-    (sym c.in-Some-looked.is ∙ looked_there said glance labels c.args.looked.now
+    (ap option_copied (sym c.in-Some-glance.is) ∙ c.glance-in-loop-p.ensures ∙ kept_there said glance g.E.Kept.kept labels c.args.looked.now
     c.requires.looked place there c.index-looked-place.result c.bits-bits-in-loop-p.ensures
     c.index-looked-place.is)
     (λ mine theirs so_far many own_read own_same port_read port_same is.
     c.pass-tally.ensures node.0 node.1 mine theirs so_far refl many own_read own_same port_read
     port_same is)
 
-pub bounds-places-up : goal.bounds-places-up
-bounds-places-up g c =
-    let rows = c.args.net.now in
-    place_for_port rows c.node-id.ensures.valid c.args.i c.ports-ports.result.now
+pub glance_above-above-requires-clause-pointer : goal.glance_above-above-requires-clause-pointer
+glance_above-above-requires-clause-pointer g c =
+    pointer_some c.args.net.now c.node-id.ensures.valid c.args.i c.ports-ports.result.now
     c.ports-ports.ensures c.places-places.result.now c.places-places.ensures.places
-    c.in-Some-up.up
-    (pointer_port rows c.node-id.ensures.valid c.args.i c.ports-ports.result.now
-    c.ports-ports.ensures c.places-places.result.now c.places-places.ensures.places
-    c.node-id.result.1 c.in-Some-up.up c.node-id.ensures.state c.in-Some-up.is)
+    c.node-id.result.1 c.node-id.ensures.state
+
+pub glance_above-above-requires-clause-within : goal.glance_above-above-requires-clause-within
+glance_above-above-requires-clause-within g c = λ p none within.
+    let many : length c.args.looked.now ≡ length c.args.labels.now =
+    sym (length-map c.args.looked.now g.E.Kept.kept)
+    ∙ ap length c.requires.looked
+    ∙ length-map c.args.labels.now (seen_in g.R.Layout.Layout.said
+    (g.R.JudgesInPlace.glance c.args.rules.now)) in
+    let inside = c.places-places.ensures.within p none within in
+    omega (arith, many, c.requires.each, inside)
 
 pub returns : goal.returns
 returns g c view at =
@@ -139,24 +144,12 @@ returns g c view at =
     let ports : List Port = c.ports-ports.result.now in
     let places = c.places-places.result.now in
     let shown : Seen = shown_from rows labels node.0 node.1 bits ports in
-    let above : option_copied c.match-state.above ≡ seen_above said glance shown.ports node.1.up =
-    elim c.match-state.branch [
-      | in-Some-up w ↦
-          let within = pointer_port rows c.node-id.ensures.valid c.args.i ports
-          c.ports-ports.ensures places c.places-places.ensures.places node.1 w.in-Some-up.up
-          c.node-id.ensures.state w.in-Some-up.is in
-          ap option_copied w.above-is ∙ w.as_ref-above.ensures.value
-          ∙ above_there rows c.node-id.ensures.valid c.args.i ports c.ports-ports.ensures
-          places c.places-places.ensures.places said glance labels c.args.looked.now
-          c.requires.looked c.requires.each w.in-Some-up.up within
-          (c.places-places.ensures.within w.in-Some-up.up 0
-          (place_for_port rows c.node-id.ensures.valid c.args.i ports c.ports-ports.ensures
-          places c.places-places.ensures.places w.in-Some-up.up within))
-          w.index-looked-places.result w.index-looked-places.is
-          ∙ ap (seen_above said glance shown.ports) (sym w.in-Some-up.is)
-      | in-None w ↦ ap option_copied w.above-is
-          ∙ ap (seen_above said glance shown.ports) (sym w.in-None.is)
-    ] in
+    let above : option_copied c.glance_above-above.result ≡ seen_above said glance shown.ports node.1.up =
+    c.glance_above-above.ensures
+    ∙ above_kept rows c.node-id.ensures.valid c.args.i ports c.ports-ports.ensures places
+    c.places-places.ensures.places said glance g.E.Kept.kept labels c.args.looked.now
+    c.requires.looked c.requires.each c.places-places.ensures.within node.1
+    c.node-id.ensures.state in
     let over = c.loop-p-test.false in
     subst (λ (view : Seen). c.close.result ≡ judge_by said rules view)
     (is_shown rows labels c.args.i node.0 node.1 bits ports view
@@ -164,8 +157,8 @@ returns g c view at =
     (placed rows c.node-id.ensures.valid c.args.i node.0 c.node-id.ensures.id)
     c.bits-bits.ensures at)
     (passed said glance (g.R.JudgesInPlace.gathered c.args.rules.now) shown rules c.loop-p.p
-    c.loop-p.tally c.in-Some.glance (option_copied c.match-state.above) c.close.result
+    c.loop-p.tally c.in-Some.glance.now (option_copied c.glance_above-above.result) c.close.result
     (rw (length-map ports (seen_port (label_of rows labels))) over) c.loop-p.invariant
-    (sym c.in-Some.is ∙ looked_there said glance labels c.args.looked.now c.requires.looked
+    (ap option_copied (sym c.in-Some.is) ∙ c.glance.ensures ∙ kept_there said glance g.E.Kept.kept labels c.args.looked.now c.requires.looked
     c.args.i bits c.index-looked-i.result c.bits-bits.ensures c.index-looked-i.is) above
     (λ own read own_read same above is. c.close.ensures own read own_read same above is))

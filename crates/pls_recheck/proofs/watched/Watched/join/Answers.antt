@@ -125,3 +125,10 @@ returns-clause-current c = λ judge current.
       c.reserve-3.ensures.items,
     ) refl) judge
     (subst (λ (now : Snapshot). IsCurrent judge now) (sym c.self.view_is) current)
+
+pub returns-clause-within : goal.returns-clause-within
+returns-clause-within c =
+    let fits = place_inside c.self.inside.net c.in_ok-i.ensures.was_valid c.args.id c.args.mark
+    c.args.num c.in_ok-i.ensures.allowed in
+    let same = ap (λ (now : Snapshot). length now.labels) c.self.view_is in
+    omega (arith, fits, c.in_ok-i.ensures.place, same, c.self.invariant.a_label)

@@ -1,0 +1,56 @@
+//! A bench that is asked about a checker at a place.
+
+ghost use Rattle.std.specs.Prelude.{◌≡◌};
+
+use crate::asks::Asks;
+use crate::bench::Bench;
+use crate::placed::{OfOne, Placed};
+use pls_base::{NoMemory, Steps};
+use pls_graph::Network;
+use pls_model::Verdict;
+use pls_scheme::{Memory, Remembers};
+use pls_view::{LabelStore, View};
+use std::alloc::Global;
+
+/// A checker with what it remembers of each label: a bench is asked about this checker at the
+/// place of the node.
+#[derive(Drop)]
+pub(crate) struct ByMemory<'a, K: Remembers> {
+    pub(crate) checker: &'a K,
+    pub(crate) memories: &'a [Memory<K::Glance>],
+}
+
+impl<'a, K: Remembers, B: Bench> Asks<B> for ByMemory<'a, K> {
+    ghost use Rattle.std.specs.Prelude.{◌≡◌, map};
+
+    ghost judge = { λ asks _. K.judge asks.checker.now };
+
+    ghost spent = { λ _ bench. B.asked bench };
+
+    ghost over = { λ _ _. 0 };
+
+    ghost fits = { λ asks labels. asks.memories.now ≡ map (K.told asks.checker.now) labels };
+
+    fn ask_at(
+        &self,
+        alloc: Global,
+        net: &Network,
+        labels: &LabelStore,
+        i: usize,
+        counter: &mut B,
+        steps: &mut Steps,
+    ) -> Result<(u32, Verdict), NoMemory> {
+        let view = View::of(alloc, net, labels, i)?;
+        let placed = OfOne {
+            one: Placed {
+                checker: self.checker,
+                net,
+                labels,
+                memories: self.memories,
+                i,
+            },
+        };
+        let verdict = counter.ask(alloc, &placed, &view, steps)?;
+        Ok((view.id, verdict))
+    }
+}
