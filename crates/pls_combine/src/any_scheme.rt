@@ -1,11 +1,12 @@
 //! An expression of schemes as a scheme.
 
-ghost use Rattle.std.specs.Prelude.{◌≡◌, ◌≤◌};
-ghost use Rattle.pls_combine.specs.Expression.{IsSmall, leaves_of};
+ghost use Rattle.std.specs.Prelude.{◌≡◌, ◌≤◌, IfSome};
+ghost use Rattle.pls_combine.specs.Expression.{Basic, IsSmall, leaves_of};
 ghost use Rattle.pls_combine.specs.inner.Trees.{expression_of};
 
 use crate::named::Named;
 use crate::rounds::node_by_node;
+use crate::scheme_name::SchemeName;
 use crate::scheme_tree::{
     SchemeTree, bound_of, decide_tree, leaves_of, lends_of, mark_tree, verify_tree,
 };
@@ -46,6 +47,16 @@ impl<C> AnyScheme<C> {
         ensures { result ≡ expression_of tree }
     {
         AnyScheme { tree }
+    }
+
+    /// The name, where the expression is one.
+    pub fn name(&self) -> Option<SchemeName>
+        ensures { IfSome result (λ name. self.now ≡ Basic name) }
+    {
+        match &self.tree {
+            SchemeTree::Basic(name) => Some(*name),
+            _ => None,
+        }
     }
 
     // The expression.

@@ -34,6 +34,7 @@ mod part_rules;
 mod parts;
 mod property_fronts;
 mod property_text;
+mod remembering;
 mod rounds;
 mod scheme_error;
 mod scheme_name;
