@@ -8,6 +8,7 @@ mod EventLines
 mod Found
 mod Inputs
 mod LimitsPassed
+mod Lonely
 mod Made
 mod OneAnswer
 mod OneRefusal

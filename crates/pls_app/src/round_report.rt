@@ -1,6 +1,7 @@
 //! The report of a round.
 
-ghost use Rattle.std.specs.Prelude.{◌≡◌, ◌↔◌, IfErr, IfOk, IfSome, IsTrue, OnOk, None, length};
+ghost use Rattle.std.specs.Prelude.{◌≡◌, ◌↔◌, ◌==◌, IfErr, IfOk, IfSome, IsTrue, OnOk, None, length};
+ghost use Rattle.std.specs.List.{list_any};
 ghost use Rattle.pls_model.specs.Configuration.{IsNetwork};
 ghost use Rattle.pls_model.specs.Walk.{IsConnected};
 ghost use Rattle.pls_app.specs.Reports.{is_well};
@@ -49,8 +50,24 @@ pub(crate) fn is_connected(alloc: Global, net: &Network) -> Result<bool, NoMemor
     requires { IsNetwork net.now }
     ensures { IfOk result (λ yes. IsTrue yes ↔ IsConnected net.now) }
 {
+    // Between edits some node often has no port, and then no search is needed.
+    if net.len() > 1 && has_lonely_node(net) {
+        return Ok(false);
+    }
     match connected(alloc, net)? {
         None => Ok(true),
         Some(_) => Ok(false),
     }
+}
+
+// Whether some node has no port.
+fn has_lonely_node(net: &Network) -> bool
+    ensures { result ≡ list_any (λ row. length row.ports == 0) net.now }
+{
+    for i in 0..net.len() {
+        if net.ports(i).is_empty() {
+            return true;
+        }
+    }
+    false
 }
