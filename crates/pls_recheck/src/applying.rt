@@ -99,8 +99,7 @@ impl Watched {
     {
         self.net.len();
         self.net.link(a, b, weight)?;
-        touch_ends(&self.net, a, b, &mut self.flags);
-        clear_ends(&self.net, a, b, &mut self.around);
+        unsettle_ends(&self.net, a, b, &mut self.flags, &mut self.around);
         Ok(())
     }
 
@@ -116,8 +115,7 @@ impl Watched {
     {
         self.net.len();
         self.net.unlink(a, b)?;
-        touch_ends(&self.net, a, b, &mut self.flags);
-        clear_ends(&self.net, a, b, &mut self.around);
+        unsettle_ends(&self.net, a, b, &mut self.flags, &mut self.around);
         Ok(())
     }
 }
@@ -146,24 +144,32 @@ pub(crate) fn touch(net: &Network, id: u32, flags: &mut Vec<bool>)
     }
 }
 
-// Takes the flags of both ends of an edge back.
-fn clear_ends(net: &Network, a: u32, b: u32, flags: &mut Vec<bool>)
-    requires { length flags.old.items ≡ length net.now }
-    ensures cleared { ClearsSome (λ node. (a == node) || (b == node)) net.now flags.old.items
+// Touches both ends of an edge whose neighbours changed.
+fn unsettle_ends(net: &Network, a: u32, b: u32, flags: &mut Vec<bool>, around: &mut Vec<bool>)
+    requires a_flag { length flags.old.items ≡ length net.now }
+    requires a_note { length around.old.items ≡ length net.now }
+    ensures valid { IsNetwork net.now }
+    ensures touched { MarksMore (λ node. (a == node) || (b == node)) net.now flags.old.items
         flags.new.items }
+    ensures cleared { ClearsSome (λ node. (a == node) || (b == node)) net.now around.old.items
+        around.new.items }
 {
-    clear(net, a, flags);
-    clear(net, b, flags);
+    unsettle(net, a, flags, around);
+    unsettle(net, b, flags, around);
 }
 
-// Takes the flag of a node back.
-fn clear(net: &Network, id: u32, flags: &mut Vec<bool>)
-    requires { length flags.old.items ≡ length net.now }
-    ensures cleared { ClearsSome (λ node. id == node) net.now flags.old.items flags.new.items }
+// Touches a node whose neighbours changed.
+fn unsettle(net: &Network, id: u32, flags: &mut Vec<bool>, around: &mut Vec<bool>)
+    requires a_flag { length flags.old.items ≡ length net.now }
+    requires a_note { length around.old.items ≡ length net.now }
+    ensures valid { IsNetwork net.now }
+    ensures touched { MarksMore (λ node. id == node) net.now flags.old.items flags.new.items }
+    ensures cleared { ClearsSome (λ node. id == node) net.now around.old.items around.new.items }
 {
     // A network is valid.
     net.len();
     if let Some(i) = net.place_of(id) {
-        flags[i] = false;
+        flags[i] = true;
+        around[i] = false;
     }
 }

@@ -34,13 +34,13 @@ impl<'a, K: Remembers, B: Bench> Asks<B> for ByMemory<'a, K> {
     fn ask_at(
         &self,
         alloc: Global,
+        view: &View<'_>,
         net: &Network,
         labels: &LabelStore,
         i: usize,
         counter: &mut B,
         steps: &mut Steps,
-    ) -> Result<(u32, Verdict), NoMemory> {
-        let view = View::of(alloc, net, labels, i)?;
+    ) -> Result<Verdict, NoMemory> {
         let placed = OfOne {
             one: Placed {
                 checker: self.checker,
@@ -50,7 +50,6 @@ impl<'a, K: Remembers, B: Bench> Asks<B> for ByMemory<'a, K> {
                 i,
             },
         };
-        let verdict = counter.ask(alloc, &placed, &view, steps)?;
-        Ok((view.id, verdict))
+        counter.ask(alloc, &placed, view, steps)
     }
 }

@@ -15,7 +15,7 @@ use crate::watched::Watched;
 use pls_base::{NoMemory, Steps};
 use pls_graph::Network;
 use pls_model::Verdict;
-use pls_view::LabelStore;
+use pls_view::{LabelStore, View};
 use std::alloc::Global;
 
 impl Watched {
@@ -110,10 +110,10 @@ fn forget_all(around: &mut Vec<bool>)
 }
 
 // Asks about the nodes that are flagged, and takes their flags back.
-fn judge_flagged<C, A: Asks<C>>(
+fn judge_flagged<'a, C, A: Asks<C>>(
     alloc: Global,
     net: &Network,
-    labels: &LabelStore,
+    labels: &'a LabelStore,
     flags: &mut Vec<bool>,
     kept: &mut Vec<(u32, Verdict)>,
     asks: &A,
@@ -143,9 +143,10 @@ fn judge_flagged<C, A: Asks<C>>(
         (A.spent asks.now counter.new) steps.old steps.new) }
 {
     let mut checked = 0;
+    let mut view = View::blank(alloc);
     for i in 0..net.len() {
         if flags[i] {
-            let found = asks.ask_at(alloc, net, labels, i, counter, steps)?;
+            let found = judge_at(alloc, &mut view, net, labels, i, asks, counter, steps)?;
             answered(flags, kept, i, found);
             checked += 1;
         }
@@ -162,4 +163,38 @@ fn answered(flags: &mut Vec<bool>, kept: &mut Vec<(u32, Verdict)>, i: usize, fou
 {
     flags[i] = false;
     kept[i] = found;
+}
+
+// Turns the view to the node at place i, and asks about it: its identity, and its verdict. Where
+// there is an answer, the count and the steps rise by one, and where not, by one at most.
+#[inline(always)]
+fn judge_at<'a, C, A: Asks<C>>(
+    alloc: Global,
+    view: &mut View<'a>,
+    net: &Network,
+    labels: &'a LabelStore,
+    i: usize,
+    asks: &A,
+    counter: &mut C,
+    steps: &mut Steps,
+) -> Result<(u32, Verdict), NoMemory>
+    requires a_label { length labels.now ≡ length net.now }
+    requires within { i < length net.now }
+    requires fits { A.fits asks.now labels.now }
+    ensures judged { IfOk result (λ found. (view : Seen)
+        → slice_get (views net.now labels.now) i ≡ Some view
+        → found ≡ (view.id, A.judge asks.now counter.old view)) }
+    ensures judge { A.judge asks.now counter.new ≡ A.judge asks.now counter.old }
+    ensures over { A.over asks.now counter.new ≡ A.over asks.now counter.old }
+    ensures spent { OnOk result
+        (A.spent asks.now counter.new ≡ up_by 1 (A.spent asks.now counter.old)) }
+    ensures steps { OnOk result (steps.new ≡ up_by 1 steps.old) }
+    ensures early { OnErr result
+        (((A.spent asks.now counter.new ≡ A.spent asks.now counter.old) × (steps.new ≡ steps.old))
+        ⊎ ((A.spent asks.now counter.new ≡ up_by 1 (A.spent asks.now counter.old))
+        × (steps.new ≡ up_by 1 steps.old))) }
+{
+    view.turn_to(net, labels, i)?;
+    let verdict = asks.ask_at(alloc, view, net, labels, i, counter, steps)?;
+    Ok((view.id, verdict))
 }

@@ -18,7 +18,7 @@ invariant_of-self-2 c =
     let old = c.self.inside.flags.items in
     let around = c.self.inside.around.items in
     let network = c.unlink.new.self in
-    let new = c.touch_ends.new.flags.items in
+    let new = c.unsettle_ends.new.flags.items in
     let passes : ℕ → Bool = λ node. (c.args.a == node) || (c.args.b == node) in
     let ids : ids_of network ≡ ids_of rows =
     ap ids_of c.in_ok-unlink.ensures.ok ∙ ids_of_ends losing (λ id row. refl) c.args.a c.args.b rows in
@@ -26,10 +26,10 @@ invariant_of-self-2 c =
     subst (λ (network : List NodeRow). Stays passes rows network) (sym c.in_ok-unlink.ensures.ok)
     (ends_stay losing (λ id row. refl) c.args.a c.args.b rows) in
     kept_after rows network c.self.inside.labels c.self.inside.kept.items ids old new around
-    c.clear_ends.new.flags.items passes c.touch_ends.ensures.touched
-    (noted_after rows network ids old new around c.clear_ends.new.flags.items passes
-    c.touch_ends.ensures.touched c.clear_ends.ensures.cleared.as_many
-    (noted_stay rows network around c.clear_ends.new.flags.items passes stays c.clear_ends.ensures.cleared)
+    c.unsettle_ends.new.around.items passes c.unsettle_ends.ensures.touched
+    (noted_after rows network ids old new around c.unsettle_ends.new.around.items passes
+    c.unsettle_ends.ensures.touched c.unsettle_ends.ensures.cleared.as_many
+    (noted_stay rows network around c.unsettle_ends.new.around.items passes stays c.unsettle_ends.ensures.cleared)
     c.self.invariant.noted) c.self.invariant
 
 pub returns-clause-ok : goal.returns-clause-ok
@@ -39,7 +39,7 @@ returns-clause-ok c =
     let old = c.self.inside.flags.items in
     let kept = c.self.inside.kept.items in
     let network = c.unlink.new.self in
-    let new = c.touch_ends.new.flags.items in
+    let new = c.unsettle_ends.new.flags.items in
     let edit : Edit = Unlink c.args.a c.args.b in
     let before : Snapshot = record {
       network = rows;
@@ -51,9 +51,9 @@ returns-clause-ok c =
     ap ids_of c.in_ok-unlink.ensures.ok ∙ ids_of_ends losing (λ id row. refl) c.args.a c.args.b rows in
     snapshot_after edit before network labels (marked (ids_of network) new)
     refl c.in_ok-unlink.ensures.ok refl
-    (touched_now rows network c.len.ensures.valid c.touch_ends.ensures.valid labels labels ids old new
+    (touched_now rows network c.len.ensures.valid c.unsettle_ends.ensures.valid labels labels ids old new
     c.self.invariant.a_flag (same_many rows network ids old c.self.invariant.a_flag)
-    (λ node. (c.args.a == node) || (c.args.b == node)) c.touch_ends.ensures.touched kept)
+    (λ node. (c.args.a == node) || (c.args.b == node)) c.unsettle_ends.ensures.touched kept)
     ∙ ap (after edit) c.self.view_is
 
 pub returns-clause-current : goal.returns-clause-current
@@ -68,8 +68,8 @@ returns-clause-current c = λ judge current.
     let stays : Stays passes rows network =
     subst (λ (network : List NodeRow). Stays passes rows network) (sym c.in_ok-unlink.ensures.ok)
     (ends_stay losing (λ id row. refl) c.args.a c.args.b rows) in
-    current_now rows network c.len.ensures.valid c.touch_ends.ensures.valid labels labels ids old
-    c.touch_ends.new.flags.items c.self.invariant.a_flag
-    (same_many rows network ids old c.self.invariant.a_flag) passes c.touch_ends.ensures.touched
+    current_now rows network c.len.ensures.valid c.unsettle_ends.ensures.valid labels labels ids old
+    c.unsettle_ends.new.flags.items c.self.invariant.a_flag
+    (same_many rows network ids old c.self.invariant.a_flag) passes c.unsettle_ends.ensures.touched
     c.self.inside.kept.items (stays_alike passes rows network labels ids stays) judge
     (subst (λ (now : Snapshot). IsCurrent judge now) (sym c.self.view_is) current)
