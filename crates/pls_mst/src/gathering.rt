@@ -12,6 +12,7 @@ ghost use Rattle.pls_mst.specs.inner.Glance.{glance_of};
 use crate::comparing::{Between, Compared, compare_levels};
 use crate::glance::{MstGlance, names_all};
 use crate::label::MstHead;
+use crate::placing::is_root;
 use pls_bits::NumCode;
 use pls_model::State;
 use pls_scheme::{Looked, is_one_more};
@@ -95,9 +96,8 @@ impl Gathered {
         let head = &own.glance.head;
         let points = state.up.is_some();
         let names = points || names_all::<C>(own);
-        let is_root = head.depth == 0 && (head.root == u64::from(id) && head.parent == head.own);
         [
-            head.own == u64::from(id) && ((points || is_root) && self.follows),
+            head.own == u64::from(id) && ((points || is_root(id, head)) && self.follows),
             self.agrees,
             names && self.shares,
             self.least,
@@ -146,7 +146,7 @@ pub(crate) fn edge_to(pointer: bool, weight: u32, mine: &MstHead, theirs: &MstHe
 
 // Whether a node is one deeper than another, which is its parent.
 #[inline(always)]
-fn follows_above(own: &MstHead, above: &MstHead) -> bool
+pub(crate) fn follows_above(own: &MstHead, above: &MstHead) -> bool
     ensures { result ≡ (own.now.depth == above.now.depth + 1 && own.now.parent == above.now.own) }
 {
     is_one_more(own.depth, above.depth) && own.parent == above.own

@@ -21,6 +21,7 @@ mod label;
 mod layout;
 mod mst;
 mod mst_scheme;
+mod placing;
 mod reading;
 
 pub use comparing::{Between, Compared};

@@ -5,6 +5,7 @@
 use crate::gathering::{Gathered, with_port};
 use crate::glance::{MstGlance, glance_at};
 use crate::layout::MstLayout;
+use crate::placing::is_placed;
 use pls_bits::{Bits, NumCode};
 use pls_model::{State, Verdict};
 use pls_scheme::{Basic, Judgement, JudgesInPlace, Looked, judged_from};
@@ -63,6 +64,20 @@ impl<C: NumCode> JudgesInPlace for MstRules<C> {
         label: &Looked<'_, MstGlance>,
     ) -> Gathered {
         with_port::<C>(up, own, tally, place, weight, label)
+    }
+
+    fn settled(
+        &self,
+        id: u32,
+        state: State,
+        own: &Looked<'_, MstGlance>,
+        above: Option<&MstGlance>,
+    ) -> Option<Verdict> {
+        if is_placed(id, state, &own.glance.head, above) {
+            None
+        } else {
+            Some(Verdict::Reject { leaf: 1, rule: 3 })
+        }
     }
 
     fn close(

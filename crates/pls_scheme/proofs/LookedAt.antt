@@ -14,7 +14,7 @@ use Rattle.pls_graph.proofs.Placed.{pointer_within}
 use Rattle.pls_facts.proofs.Lists.{item_at}
 use Rattle.pls_view.specs.Seen.{Seen, SeenPort, label_of, seen_port, views}
 use Rattle.pls_view.proofs.Views.{label_at, view_by_parts}
-use Rattle.pls_scheme.specs.inner.Looks.{AreLooked, seen_above, seen_in}
+use Rattle.pls_scheme.specs.inner.Looks.{AreLooked, kept_at_port, seen_above, seen_in}
 
 -- the view of a node of this identity, state and label, with these ports
 abbrev pub shown_from : List NodeRow → List (List Bool) → ℕ → State → List Bool → List Port → Seen
@@ -87,6 +87,11 @@ port_shown rows labels ports p port place bits at placed has =
 module _ (rows : List NodeRow) (net : IsNetwork rows) (i : ℕ) (ports : List Port)
     (ports_is : option_map (λ (row : NodeRow). row.ports) (slice_get rows i) ≡ Some ports)
     (places : List ℕ) (places_is : places ≡ beside rows i) where
+  -- there are as many places as ports
+  pub places_for_ports : length places ≡ length ports
+  places_for_ports =
+      ap (λ (places : List ℕ). length places) places_is ∙ beside_many rows net i ports ports_is
+
   -- there is a place for each port
   pub place_for_port : (p : ℕ) → p < length ports → p < length places
   place_for_port p within =
@@ -178,3 +183,36 @@ module _ (rows : List NodeRow) (net : IsNetwork rows) (i : ℕ) (ports : List Po
           ∙ ap (option_and_then kept) at
           ∙ above_there read glance labels (map kept looked) are each up within below (kept entry)
           (kept_at kept looked place entry (sym (get_or_from_slice_get looked place entry entry at)))
+
+  -- what is kept of the label at the place of a port's neighbour is what is seen at the port
+  pub read_there : {L G E : Type 0} (read : List Bool → Option L) (glance : L → G)
+      (kept : E → Option G) (labels : List (List Bool)) (looked : List E)
+      → AreLooked read glance labels (map kept looked) → length labels ≡ length rows
+      → All (λ place. place < length rows) places → (p : ℕ) (shows : SeenPort)
+      → slice_get (map (seen_port (label_of rows labels)) ports) p ≡ Some shows
+      → kept_at_port kept looked places p ≡ seen_in read glance shows.label
+  read_there {L} {G} {E} read glance kept labels looked are each inside p shows at =
+      let none : Port = record { nbr = 0; weight = 0 } in
+      let port : Port = get_or ports p none in
+      let within : p < length ports =
+      let many = length-map ports (seen_port (label_of rows labels)) in
+      let below = slice_get_within (map (seen_port (label_of rows labels)) ports) p shows at in
+      omega (arith, many, below) in
+      let port_at : slice_get ports p ≡ Some port = slice_get-get_or ports p none within in
+      let place = get_or places p 0 in
+      let below : place < length rows = inside p 0 (place_for_port p within) in
+      let many : length looked ≡ length labels =
+      sym (length-map looked kept) ∙ ap (λ (looked : List (Option G)). length looked) are
+      ∙ length-map labels (seen_in read glance) in
+      let (bits, bits_at) : (bits : List Bool) × (slice_get labels place ≡ Some bits)
+      = item_at labels place (omega (arith, each, below)) in
+      let (entry, entry_at) : (entry : E) × (slice_get looked place ≡ Some entry)
+      = item_at looked place (omega (arith, many, each, below)) in
+      let is : SeenPort = record { weight = port.weight; label = bits } in
+      let same : is ≡ shows = same_Some is shows
+      (sym (port_shown rows labels ports p port place bits port_at (port_placed p port port_at)
+      bits_at) ∙ at) in
+      ap (option_and_then kept) entry_at
+      ∙ kept_there read glance kept labels looked are place bits entry bits_at
+      (sym (get_or_from_slice_get looked place entry entry entry_at))
+      ∙ ap (λ (shows : SeenPort). seen_in read glance shows.label) same

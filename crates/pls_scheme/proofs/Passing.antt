@@ -1,10 +1,11 @@
 -- Passes over the ports of a node, in which each label is looked at once.
-use Rattle.std.proofs.Common.{◌≡◌, ◌∙◌, ℕ, ◌≤◌, zero, suc, ◌+◌, ◌++◌, Bool, true, false, if◌then◌else◌, List, [], ◌∷◌, length, take, slice_get, Option, Some, None, option_map, refl, sym, ap, arith, length-append}
-use Rattle.std.specs.Option.{option_and_then}
+use Rattle.std.proofs.Common.{◌≡◌, ◌∙◌, ℕ, ◌<◌, ◌≤◌, zero, suc, ◌+◌, ◌++◌, Bool, true, false, if◌then◌else◌, List, [], ◌∷◌, length, take, slice_get, Option, Some, None, option_map, refl, sym, ap, arith, length-append, subst}
+use Rattle.std.specs.Option.{is_some, option_and_then}
 use Rattle.std.proofs.lemmas.List.{length-take-le, take_all, take_more}
 use Rattle.std.proofs.lemmas.Option.{get_or_from_slice_get, same_Some, slice_get_within}
 use Rattle.pls_model.specs.declared.verdict.Verdict.{Verdict}
 use Rattle.pls_model.specs.declared.verdict.Verdict.TheVariants.{Reject}
+use Rattle.pls_facts.proofs.Lists.{item_at}
 use Rattle.pls_view.specs.Seen.{Seen, SeenPort}
 use Rattle.pls_scheme.specs.Judging.{judged_from}
 use Rattle.pls_scheme.specs.Reading.{Read, ReadPort, is_pointer, judge_by, label_above, port_with, read_port, read_ports, reading}
@@ -235,3 +236,37 @@ module _ {L G T : Type 0} (read : List Bool → Option L) (glance : L → G) (ga
         (glance_is read glance view.own all.own seen all.own_read own_seen)
         (above_is ∙ above_read read glance view.ports all.ports whole view.state.up) all.is
         ∙ sym (judged_by_rules read tests view all.own all.ports all.own_read whole)
+
+-- where the own label and those of the ports before a place can be read, these are read
+module _ {L G : Type 0} (read : List Bool → Option L) (glance : L → G) (view : Seen) (seen : G)
+    (own : Some seen ≡ seen_in read glance view.own) where
+  pub read_to : (place : ℕ) → place ≤ length view.ports
+      → ((k : ℕ) (port : SeenPort) → k < place → slice_get view.ports k ≡ Some port
+      → is_some (seen_in read glance port.label) ≡ true)
+      → IsPassed {T = Unit {0}} read glance (λ _. tt) view place tt
+  read_to zero within each =
+      pass_opened {T = Unit {0}} read glance (λ _. tt) view seen tt own (λ label same. refl)
+  read_to (suc place) within each =
+      let (port, at) : (port : SeenPort) × (slice_get view.ports place ≡ Some port) =
+      item_at view.ports place (omega (arith, within)) in
+      let (there, is) : (there : G) × (Some there ≡ seen_in read glance port.label) =
+      there_is (seen_in read glance port.label) (each place port (omega arith) at) in
+      subst (λ (n : ℕ). IsPassed {T = Unit {0}} read glance (λ _. tt) view n tt) (omega arith)
+      (pass_more {T = Unit {0}} read glance (λ _. tt) view place tt tt port seen there
+      (read_to place (omega (arith, within)) (λ k port below. each k port (omega (arith, below))))
+      at own is (λ mine theirs ports many one two three four five. refl))
+    where
+      there_is : (found : Option G) → is_some found ≡ true → (there : G) × (Some there ≡ found)
+      there_is None some = absurd (cc)
+      there_is (Some there) some = (there, refl)
+
+  -- and where some port cannot be read, rule 2 fails
+  pub unread : (tests : Read L → List Bool) (place : ℕ) (port : SeenPort)
+      → slice_get view.ports place ≡ Some port → None ≡ seen_in read glance port.label
+      → Reject 1 2 ≡ judge_by read tests view
+  unread tests place port at is =
+      let (mine, mine_read, same) : (label : L) × (read view.own ≡ Some label)
+      × (glance label ≡ seen) = looked_at read glance view.own seen own in
+      sym (rejected_by_2 read tests view mine mine_read (read_ports-unread read view.ports place port
+      at (ap (option_map (λ (label : L). port_with port.weight label))
+      (unlooked read glance port.label is))))

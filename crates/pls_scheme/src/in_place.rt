@@ -1,6 +1,6 @@
 //! Rules that are tried in one pass over the ports of a node.
 
-ghost use Rattle.std.specs.Prelude.{◌≡◌, ℕ, ◌++◌, ◌∷◌, [], List, length, Some, option_map};
+ghost use Rattle.std.specs.Prelude.{◌≡◌, ℕ, ◌++◌, ◌∷◌, [], List, length, Some, IfSome, option_map};
 ghost use Rattle.std.specs.Option.{option_copied};
 ghost use Rattle.pls_model.specs.declared.row.State.{State};
 ghost use Rattle.pls_scheme.specs.Judging.{judged_from};
@@ -64,6 +64,28 @@ pub trait JudgesInPlace: Judgement {
             → tally ≡ gathered self.now (reading id state mine ports)
             → result ≡ gathered self.now
             (reading id state mine (ports ++ port_with weight theirs ∷ [])) };
+
+    /// The verdict, where it is settled by the node's own label and by the one above, at the port
+    /// that the node points at, whatever the other neighbours say: then no other label has to be
+    /// looked into. `None` says nothing.
+    #[inline(always)]
+    fn settled(
+        &self,
+        _id: u32,
+        _state: State,
+        _own: &Looked<'_, Self::Glance>,
+        _above: Option<&Self::Glance>,
+    ) -> Option<Verdict>
+        ensures { (label : Self.Layout.Label) (ports : List (ReadPort Self.Layout.Label))
+            → Self.Layout.said _own.now.bits.now ≡ Some label
+            → glance self.now label ≡ _own.now.glance.now
+            → option_copied _above.entry ≡ option_map (glance self.now)
+            (label_above ports _state.up)
+            → IfSome result (λ verdict. verdict
+            ≡ judged_from 3 (Self.rules self.now (reading _id _state label ports))) }
+    {
+        None
+    }
 
     /// The verdict by what was gathered and by the label above, at the port that the node points at,
     /// if it points at one: a rejection by the first rule that fails, or acceptance.

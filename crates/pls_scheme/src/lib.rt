@@ -43,6 +43,7 @@ mod remembers;
 mod round;
 mod rules;
 mod scheme;
+mod settling;
 mod view_judged;
 
 pub use basic::{Basic, Ruled};

@@ -9,6 +9,7 @@ ghost use Rattle.pls_scheme.specs.inner.Looks.{AreLooked};
 
 use crate::in_place::{JudgesInPlace, Looked};
 use crate::memory::Kept;
+use crate::settling::settled_at;
 use pls_base::{NoMemory, Steps};
 use pls_graph::Network;
 use pls_model::Verdict;
@@ -69,6 +70,27 @@ pub(crate) fn verdict_at<R: JudgesInPlace, E: Kept<R::Glance>>(
     ensures { (view : Seen) → slice_get (views net.now labels.now) i ≡ Some view
         → result ≡ judge_by R.Layout.said (R.rules rules.now) view }
 {
+    match settled_at(rules, net, labels, looked, i) {
+        Some(verdict) => verdict,
+        None => verdict_by_all(rules, net, labels, looked, i),
+    }
+}
+
+// The same, by what is kept of the label at each of its ports.
+fn verdict_by_all<R: JudgesInPlace, E: Kept<R::Glance>>(
+    rules: &R,
+    net: &Network,
+    labels: &LabelStore,
+    looked: &[E],
+    i: usize,
+) -> Verdict
+    requires each { length labels.now ≡ length net.now }
+    requires looked { AreLooked R.Layout.said (R.glance rules.now) labels.now
+        (map E.kept looked.now) }
+    requires within { i < length net.now }
+    ensures { (view : Seen) → slice_get (views net.now labels.now) i ≡ Some view
+        → result ≡ judge_by R.Layout.said (R.rules rules.now) view }
+{
     let (id, state) = net.node(i);
     let ports = net.ports(i);
     let places = net.places(i);
@@ -99,7 +121,7 @@ pub(crate) fn verdict_at<R: JudgesInPlace, E: Kept<R::Glance>>(
 
 // What is kept of the label at the place of the neighbour at this port, if the pointer names one.
 #[inline(always)]
-fn glance_above<'a, G, E: Kept<G>>(
+pub(crate) fn glance_above<'a, G, E: Kept<G>>(
     looked: &'a [E],
     places: &[u32],
     up: Option<u32>,

@@ -10,7 +10,7 @@ use Rattle.pls_scheme.specs.Reading.{judge_by}
 use Rattle.pls_scheme.specs.inner.Looks.{seen_above, seen_in}
 use Rattle.pls_scheme.proofs.LookedAt.{above_kept, is_shown, kept_there, place_for_port, pointer_some, port_placed, port_shown, shown_from}
 use Rattle.pls_scheme.proofs.Passing.{pass_more, pass_opened, passed, unopened, unpassed}
-use Rattle.pls_scheme.proofs.round.verdict_at.Goals as goal
+use Rattle.pls_scheme.proofs.round.verdict_by_all.Goals as goal
 
 pub returns-in_default : goal.returns-in_default
 returns-in_default g c view at =

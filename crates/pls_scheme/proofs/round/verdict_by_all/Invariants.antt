@@ -1,6 +1,6 @@
 use Rattle.pls_scheme.proofs.LookedAt.{shown_from}
 use Rattle.pls_scheme.proofs.Passing.{IsPassed}
-use Rattle.pls_scheme.proofs.round.verdict_at.Given as goal
+use Rattle.pls_scheme.proofs.round.verdict_by_all.Given as goal
 
 -- the ports before this place are read
 abbrev pub invariant-loop-p : goal.invariant-loop-p

@@ -1,0 +1,66 @@
+//! Verdicts for which few labels have to be looked into.
+
+ghost use Rattle.std.specs.Prelude.{◌≡◌, ◌<◌, ℕ, All, is_some, length, map, slice_get, true, None, Some, IfSome, IsFalse, IsTrue};
+ghost use Rattle.pls_view.specs.Seen.{Seen, views};
+ghost use Rattle.pls_scheme.specs.Reading.{judge_by};
+ghost use Rattle.pls_scheme.specs.inner.Looks.{AreLooked, kept_at_port};
+
+use crate::in_place::{JudgesInPlace, Looked};
+use crate::memory::Kept;
+use crate::round::glance_above;
+use pls_graph::Network;
+use pls_model::Verdict;
+use pls_view::LabelStore;
+
+// The verdict of the node at a place, where all labels at its ports can be read and the rules are
+// settled by its own label and the one above. `None` says nothing.
+#[inline(always)]
+pub(crate) fn settled_at<R: JudgesInPlace, E: Kept<R::Glance>>(
+    rules: &R,
+    net: &Network,
+    labels: &LabelStore,
+    looked: &[E],
+    i: usize,
+) -> Option<Verdict>
+    requires each { length labels.now ≡ length net.now }
+    requires looked { AreLooked R.Layout.said (R.glance rules.now) labels.now
+        (map E.kept looked.now) }
+    requires within { i < length net.now }
+    ensures { IfSome result (λ verdict. (view : Seen)
+        → slice_get (views net.now labels.now) i ≡ Some view
+        → verdict ≡ judge_by R.Layout.said (R.rules rules.now) view) }
+{
+    let (id, state) = net.node(i);
+    let ports = net.ports(i);
+    let places = net.places(i);
+    let bits = labels.bits(i);
+    let glance = looked[i].glance()?;
+    let own = Looked {
+        bits: &bits,
+        glance,
+    };
+    let above = glance_above(looked, places, state.up);
+    let verdict = rules.settled(id, state, &own, above)?;
+    if are_read(looked, places) {
+        Some(verdict)
+    } else {
+        Some(Verdict::Reject { leaf: 1, rule: 2 })
+    }
+}
+
+// Whether each label at these places can be read.
+#[inline(always)]
+fn are_read<G, E: Kept<G>>(looked: &[E], places: &[u32]) -> bool
+    requires { All (λ place. place < length looked.now) places.now }
+    ensures read { IsTrue result → (p : ℕ) → p < length places.now
+        → is_some (kept_at_port E.kept looked.now places.now p) ≡ true }
+    ensures unread { IsFalse result → (p : ℕ) × (p < length places.now)
+        × (kept_at_port E.kept looked.now places.now p ≡ None) }
+{
+    for p in 0..places.len() {
+        if looked[places[p] as usize].glance().is_none() {
+            return false;
+        }
+    }
+    true
+}
