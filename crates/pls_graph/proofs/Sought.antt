@@ -1,6 +1,7 @@
 -- What a search for an identity says, and which refusals follow.
-use Rattle.std.proofs.Common.{◌≡◌, ◌≢◌, ◌∙◌, ℕ, ◌+◌, ◌-◌, ◌≤◌, [], ◌∷◌, is_some, true, false, cond, Bool, ◌==◌, List, length, position, Option, Some, None, refl, sym, ap, subst, arith, slice_get, nat_lt, get_or, option_map}
+use Rattle.std.proofs.Common.{◌≡◌, ◌≢◌, ◌∙◌, ℕ, ◌+◌, ◌-◌, ◌≤◌, [], ◌∷◌, is_some, true, false, cond, Bool, ◌==◌, ◌||◌, List, length, position, Option, Some, None, refl, sym, ap, subst, arith, slice_get, nat_lt, get_or, option_map}
 use Rattle.std.specs.List.{position_or_len, find}
+use Rattle.std.specs.Option.{is_none}
 use Rattle.std.proofs.lemmas.Bool.{eqb-true, eqb-false, ltb-true, ltb-false}
 use Rattle.std.proofs.lemmas.Option.{same_Some, get_or_from_slice_get, slice_get-get_or, slice_get_past}
 use Rattle.std.proofs.lemmas.List.Folds.{find_at}
@@ -169,13 +170,14 @@ module _ (rows : List NodeRow) (a b : ℕ) where
   unlink_absent_first none = rw none refl
 
   module _ (row : NodeRow) (found : row_of rows a ≡ Some row) where
-    pub unlink_absent_second : row_of rows b ≡ None → unlink_refusal rows a b ≡ Some Absent
-    unlink_absent_second none = rw (found, none) refl
+    pub unlink_apart : is_some (port_to row b) ≡ false → unlink_refusal rows a b ≡ Some Absent
+    unlink_apart free = rw (found, free) (by (is_none (row_of rows b)))
+      where
+        by : (absent : Bool) → cause (absent || true) Absent ≡ Some Absent
+        by true = refl
+        by false = refl
 
     module _ (other : NodeRow) (there : row_of rows b ≡ Some other) where
-      pub unlink_apart : is_some (port_to row b) ≡ false → unlink_refusal rows a b ≡ Some Absent
-      unlink_apart free = rw (found, there, free) refl
-
       pub unlink_allowed : is_some (port_to row b) ≡ true → unlink_refusal rows a b ≡ None
       unlink_allowed names = rw (found, there, names) refl
 

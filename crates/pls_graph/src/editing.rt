@@ -177,12 +177,10 @@ impl Network {
         let Some(i) = self.place_of(a) else {
             return Err(EditError::Absent);
         };
-        let Some(j) = self.place_of(b) else {
-            return Err(EditError::Absent);
-        };
         let Some(p) = port_number(self.ports(i), b) else {
             return Err(EditError::Absent);
         };
+        let j = self.places(i)[p] as usize;
         let Some(q) = port_number(self.ports(j), a) else {
             // Each port has one back.
             return Err(EditError::Absent);
