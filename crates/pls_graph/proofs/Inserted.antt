@@ -1,5 +1,6 @@
 -- The ranges of nodes, their rows and places, where a node comes or goes.
 use Rattle.std.proofs.Common.{◌≡◌, ◌≢◌, ◌∙◌, ℕ, zero, suc, ◌+◌, ◌<◌, ◌≤◌, ◌⊎◌, inl, inr, All, min, nat_lt, cond, Bool, true, false, List, [], ◌∷◌, ◌++◌, insert, remove, map, length, take, drop, slice_get, Some, refl, sym, ap, arith}
+use Rattle.std.proofs.lemmas.Bool.{lt-ltb}
 use Rattle.std.proofs.lemmas.Option.{same_Some}
 use Rattle.std.proofs.lemmas.List.{drop-map, take-map, take_all, drop_all, append-nil}
 use Rattle.indexmap.proofs.SetLemmas.{map-insert, map-remove}
@@ -159,6 +160,33 @@ all_within come (places ∷ all) few = rw (
       within_is come place (few 0 0 (omega arith)),
       one places (λ k d within. few (suc k) d (omega arith)),
     ) refl
+
+-- where a row comes last, no place changes
+pub unmoved : (come : ℕ) (all : List (List ℕ))
+    → All (λ (places : List ℕ). All (λ (k : ℕ). k < come) places) all
+    → places_with come (all ++ [] ∷ []) ≡ all ++ [] ∷ []
+unmoved come [] below = refl
+unmoved come (places ∷ all) below = rw (
+  each places (below 0 places (omega arith)),
+  unmoved come all (λ k d within. below (suc k) d (omega arith)),
+) refl
+  where
+    each : (places : List ℕ) → All (λ (k : ℕ). k < come) places
+        → map (place_with come) places ≡ places
+    each [] below = refl
+    each (place ∷ places) below = rw (
+      lt-ltb place come (below 0 0 (omega arith)),
+      each places (λ k d within. below (suc k) d (omega arith)),
+    ) refl
+
+-- an item that comes last stands behind the others
+pub insert_last : {X : Type 0} (xs : List X) (i : ℕ) (x : X) → i ≡ length xs
+    → insert xs i x ≡ xs ++ x ∷ []
+insert_last [] zero x last = refl
+insert_last [] (suc i) x last = absurd (omega arith)
+insert_last (first ∷ xs) zero x last = absurd (omega arith)
+insert_last (first ∷ xs) (suc i) x last =
+    ap (λ (xs : List _). first ∷ xs) (insert_last xs i x (omega arith))
 
 -- a list that was lent and is given back
 pub given_back : {X : Type 0} (xs ys : List X) (n : ℕ) → n ≡ length xs → length ys ≡ length xs

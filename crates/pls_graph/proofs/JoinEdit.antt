@@ -201,14 +201,12 @@ module _ (rows : List NodeRow) (net : IsNetwork rows) (i id mark num : ℕ) (gap
       rw (one, all_renamed some (λ k p other port here has. apart (suc k) p other port here has)) refl
 
   -- the places of neighbours are those of nodes
-  pub all_small : All (λ (places : List ℕ). All (λ (k : ℕ). k < MAX_NODES) places) (places_in rows)
-  all_small = All-map (λ (places : List ℕ). All (λ (k : ℕ). k < MAX_NODES) places)
+  pub all_small : All (λ (places : List ℕ). All (λ (k : ℕ). k < length rows) places) (places_in rows)
+  all_small = All-map (λ (places : List ℕ). All (λ (k : ℕ). k < length rows) places)
       (λ (row : NodeRow). named_places rows row.ports) rows
-      (All-at (λ (row : NodeRow). All (λ (k : ℕ). k < MAX_NODES) (named_places rows row.ports)) rows
-      (λ k row at p d inside. let small : get_or (named_places rows row.ports) p d < length rows =
-      subst (All (λ (k : ℕ). k < length rows)) (beside_row rows net k row at)
-      (beside_within rows net k (slice_get_within rows k row at)) p d inside in
-      omega (arith, small, room)))
+      (All-at (λ (row : NodeRow). All (λ (k : ℕ). k < length rows) (named_places rows row.ports)) rows
+      (λ k row at. subst (All (λ (k : ℕ). k < length rows)) (beside_row rows net k row at)
+      (beside_within rows net k (slice_get_within rows k row at))))
 
   pub joined_places : places_in (insert rows i new) ≡ places_with i (insert (places_in rows) i [])
   joined_places =

@@ -84,7 +84,7 @@ impl Table {
     pub(crate) fn insert(&mut self, i: usize, id: u32, state: State) -> Result<(), AllocError>
         requires within { i ≤ length self.old.rows }
         requires few { length self.old.rows ≤ MAX_NODES }
-        requires places { All (λ places. All (λ place. place < MAX_NODES) places)
+        requires places { All (λ places. All (λ place. place < length self.old.rows) places)
             self.old.places }
         ensures rows { OnOk result (self.new.rows
             ≡ insert self.old.rows i (record { id = id; state = state; ports = [] })) }
@@ -92,6 +92,10 @@ impl Table {
             ≡ places_with i (insert self.old.places i [])) }
         ensures unchanged { OnErr result (self.new ≡ self.old) }
     {
+        if i == self.len() {
+            // No place is behind it.
+            return self.add_node(id, state);
+        }
         let start = self.ports.len();
         let node = Node {
             id,

@@ -35,7 +35,7 @@ insert-requires-clause-places c =
     let room : length rows < MAX_NODES = let few = c.if-len-ge-MAX_NODES.false in
     let is = c.len.ensures.len in let same = ap (λ (rows : List NodeRow). length rows) view in
     omega arith in
-    subst (All (λ (places : List ℕ). All (λ (k : ℕ). k < MAX_NODES) places)) (sym c.self.invariant.0)
+    subst (All (λ (places : List ℕ). All (λ (k : ℕ). k < length rows) places)) (sym c.self.invariant.0)
     (all_small rows c.self.invariant.1 i c.args.id c.args.mark c.args.num gap none c.requires room)
 
 pub returns-clause-ok : goal.returns-clause-ok

@@ -5,7 +5,8 @@ use Rattle.pls_graph.specs.declared.table.Node.{Node}
 use Rattle.pls_graph.specs.inner.Placed.{Placed}
 use Rattle.pls_graph.specs.inner.Gaps.{place_within, places_with}
 use Rattle.pls_graph.specs.inner.Ranges.{AreRanges, row_at, rows_at, places_at}
-use Rattle.pls_graph.proofs.Inserted.{given_back, inserted_places, inserted_rows, ranges_insert}
+use Rattle.pls_graph.proofs.Inserted.{given_back, insert_last, inserted_places, inserted_rows, ranges_insert, unmoved}
+use Rattle.pls_graph.proofs.Undone.{whenever}
 use Rattle.pls_graph.proofs.table.Table.insert.Goals as goal
 
 pub invariant_of-self-2 : goal.invariant_of-self-2
@@ -52,5 +53,19 @@ returns-clause-places c =
     ap (λ (all : List ℕ). places_at all c.insert.new.self.items) (back ∙ opened)
     ∙ ap (places_at (map (place_within i) places)) c.in_ok-insert.ensures.items
     ∙ inserted_places nodes ports places i new refl
-    (subst (All (λ (all : List ℕ). All (λ (k : ℕ). k < MAX_NODES) all)) (sym (ap (λ (t : Placed). t.places) c.self.view_is)) c.requires.places)
+    (subst (All (λ (all : List ℕ). All (λ (k : ℕ). k < MAX_NODES) all)) (sym (ap (λ (t : Placed). t.places) c.self.view_is))
+    (λ k d within p e inside. let below = c.requires.places k d within p e inside in let few = c.requires.few in omega arith))
     ∙ ap (λ (t : Placed). places_with i (insert t.places i [])) c.self.view_is
+
+pub returns-then-i-len-clause-places : goal.returns-then-i-len-clause-places
+returns-then-i-len-clause-places c =
+    let i = c.args.i in
+    let old = c.args.self.now in
+    let many = c.len.ensures.rows in
+    let listed = c.len.ensures.places in
+    let is = c.if-i-len.true in
+    let below : All (λ (places : List ℕ). All (λ (k : ℕ). k < i) places) old.places =
+    λ k d within p e inside. let few = c.requires.places k d within p e inside in omega arith in
+    whenever c.add_node.result c.add_node.ensures.places (λ says. says
+    ∙ sym (unmoved i old.places below)
+    ∙ ap (places_with i) (sym (insert_last old.places i [] (omega arith))))
