@@ -15,12 +15,7 @@ use pls_model::State;
 
 // Whether the label of a node with this identity and state, of which this stands in front of the
 // levels, places it in the tree, where this is the label above.
-pub(crate) fn is_placed(
-    id: u32,
-    state: State,
-    own: &MstHead,
-    above: Option<&MstGlance>,
-) -> bool
+pub(crate) fn is_placed(id: u32, state: State, own: &MstHead, above: Option<&MstGlance>) -> bool
     ensures { (mine : MstLabel) (ports : List (ReadPort MstLabel)) → head_said mine ≡ own.now
         → option_copied above.entry ≡ option_map glance_of (label_above ports state.up)
         → result ≡ is_placed_in_tree (reading id state mine ports) }

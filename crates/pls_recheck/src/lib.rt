@@ -6,7 +6,8 @@
 //! may change; [`Watched::round`] asks a [`Judge`] once for each touched node and for no other.
 //! Where no node is touched, [`Watched::verdicts`] are those of a full round. A [`Judge`] is lent
 //! to each round: [`Counted`] judges as a checker does by asking a [`Bench`], which counts the
-//! questions. A [`Recheck`] keeps its judge, and its verdicts are those of that judge.
+//! questions. A [`Recheck`] keeps its judge, and its verdicts are those of that judge. A [`Monitor`]
+//! keeps a checker that remembers what each label says, and lends a bench to each round.
 //!
 //! Definitions stand in `specs/`: `Watch` has the snapshot and what it means that its verdicts are
 //! current, `After` what an edit makes of it. What an edit makes of a network and its labels, which
@@ -32,8 +33,8 @@ mod watched;
 pub use bench::Bench;
 pub use counted::Counted;
 pub use judge::Judge;
-pub use pls_edits::{Edit, EditError};
 pub use monitor::Monitor;
+pub use pls_edits::{Edit, EditError};
 pub use recheck::Recheck;
 pub use tally::Tally;
 pub use watched::Watched;

@@ -12,7 +12,8 @@
 //! or [`JudgesInPlace`] over labels that are kept at a glance), its property and what labels are
 //! right ([`Marker`]).
 //! [`Basic`] makes the scheme of it, [`Ruled`] of [`Rules`]. Other schemes implement [`Checker`],
-//! [`Property`] and [`Scheme`] themselves.
+//! [`Property`] and [`Scheme`] themselves. A checker that [`Remembers`] judges a node by a
+//! [`Memory`] of each label, as [`Basic`] does.
 //!
 //! Definitions stand in `specs/`: `Judging` has verdicts and rounds, `Reading` what a node reads,
 //! `Theorem` what makes rules and a marker a scheme, `Marked` marked labels, `SchemeLaws` the laws.

@@ -25,11 +25,7 @@ pub trait Remembers: Checker {
     ghost told: { Self → List Bool → Option Self.Glance };
 
     /// What is remembered of a label. The one error is want of memory.
-    fn remember(
-        &self,
-        alloc: Global,
-        bits: &Bits<'_>,
-    ) -> Result<Memory<Self::Glance>, NoMemory>
+    fn remember(&self, alloc: Global, bits: &Bits<'_>) -> Result<Memory<Self::Glance>, NoMemory>
         ensures { IfOk result (λ memory. memory ≡ told self.now bits.now) };
 
     /// The verdict of the node at place `i` on its view, by the memories of all labels. The one
@@ -57,11 +53,7 @@ impl<R: JudgesInPlace> Remembers for Basic<R> {
 
     ghost told = { λ s. seen_in R.Layout.said (R.glance s.rules) };
 
-    fn remember(
-        &self,
-        alloc: Global,
-        bits: &Bits<'_>,
-    ) -> Result<Memory<Self::Glance>, NoMemory> {
+    fn remember(&self, alloc: Global, bits: &Bits<'_>) -> Result<Memory<Self::Glance>, NoMemory> {
         Memory::of(alloc, self.rules.look(bits))
     }
 

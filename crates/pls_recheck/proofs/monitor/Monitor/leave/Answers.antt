@@ -6,8 +6,7 @@ use Rattle.pls_recheck.proofs.monitor.Monitor.leave.Goals as goal
 pub invariant_of-self-2 : goal.invariant_of-self-2
 invariant_of-self-2 g c =
     let told = g.K.Remembers.told c.self.inside.checker in
-    let labels = c.self.inside.core.labels in
-    (
+    let labels = c.self.inside.core.labels in (
       c.in_ok-i.ensures.current (g.K.Checker.judge c.self.inside.checker) c.self.invariant.0,
       c.remove.ensures.items
           ∙ ap (λ (memories : List (Option _)). remove memories c.in_ok-i.i) c.self.invariant.1

@@ -7,8 +7,7 @@ pub invariant_of-self-2 : goal.invariant_of-self-2
 invariant_of-self-2 g c =
     let told = g.K.Remembers.told c.self.inside.checker in
     let labels = c.self.inside.core.labels in
-    let i = c.in_ok-i.i in
-    (
+    let i = c.in_ok-i.i in (
       c.in_ok-i.ensures.current (g.K.Checker.judge c.self.inside.checker) c.self.invariant.0,
       ap (λ (memories : List (Option _)). set memories i c.in-Ok.memory) c.self.invariant.1
           ∙ ap (λ (memory : Option _). set (map told labels) i memory)

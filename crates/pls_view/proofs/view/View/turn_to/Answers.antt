@@ -14,12 +14,12 @@ invariant_of-self-2 c =
 pub returns : goal.returns
 returns c = record {
   shows =
-    view_by_parts c.args.net.now c.args.labels.now c.args.i c.node-id.result.0 c.node-id.result.1
-    c.ports.result.now c.bits-self-inside.result _ c.node-id.ensures.id c.node-id.ensures.state
-    c.ports.ensures
-    (label_at c.args.net.now c.args.labels.now c.node-id.result.0 c.args.i
-    c.bits-self-inside.result
-    (placed c.args.net.now c.node-id.ensures.valid c.args.i c.node-id.result.0
-    c.node-id.ensures.id) c.bits-self-inside.ensures)
-    c.in-Ok.ensures.shown;
+      view_by_parts c.args.net.now c.args.labels.now c.args.i c.node-id.result.0 c.node-id.result.1
+      c.ports.result.now c.bits-self-inside.result _ c.node-id.ensures.id c.node-id.ensures.state
+      c.ports.ensures
+      (label_at c.args.net.now c.args.labels.now c.node-id.result.0 c.args.i
+      c.bits-self-inside.result
+      (placed c.args.net.now c.node-id.ensures.valid c.args.i c.node-id.result.0
+      c.node-id.ensures.id) c.bits-self-inside.ensures)
+      c.in-Ok.ensures.shown;
 }
