@@ -9,7 +9,7 @@ ghost use Rattle.pls_boruvka.specs.inner.Choices.{IsEarlier, IsLighter, key_of};
 #[derive(Clone, Copy)]
 pub(crate) struct Choice {
     pub(crate) weight: u32,
-    pub(crate) child: Option<usize>,
+    pub(crate) child: Option<u32>,
     pub(crate) a: u32,
     pub(crate) b: u32,
 }

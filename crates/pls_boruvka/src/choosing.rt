@@ -1,7 +1,8 @@
 //! The first edge that leaves each fragment: one pass over all ports.
 
-ghost use Rattle.std.specs.Prelude.{◌≡◌, ◌<◌, ◌+◌, All, None, length, replicate, IfOk};
+ghost use Rattle.std.specs.Prelude.{◌≡◌, ◌<◌, ◌≤◌, ◌+◌, All, None, length, replicate, IfOk};
 ghost use Rattle.pls_boruvka.specs.inner.Choices.{AreChoices, ChildOf, IsFirstOf, LeavesTop, choice_at, top_at};
+ghost use Rattle.pls_model.specs.declared.limits.TheConstants.{MAX_NODES};
 ghost use Rattle.pls_boruvka.specs.inner.Tops.{AreParents};
 
 use crate::choice::{Choice, earlier, is_lighter};
@@ -68,22 +69,23 @@ fn first_with(
 }
 
 // Of two places the one that points at the other, if one does.
-fn child_of(parents: &[Option<usize>], place: usize, other: usize) -> Option<usize>
+fn child_of(parents: &[Option<usize>], place: usize, other: usize) -> Option<u32>
     requires within { place < length parents.now }
     requires inside { other < length parents.now }
+    requires few { length parents.now ≤ MAX_NODES }
     ensures { ChildOf parents.now place other result }
 {
     if parents[place] == Some(other) {
-        Some(place)
+        Some(place as u32)
     } else if parents[other] == Some(place) {
-        Some(other)
+        Some(other as u32)
     } else {
         None
     }
 }
 
 // The edge at a port of the node with this identity.
-fn choice_at(id: u32, port: Port, child: Option<usize>) -> Choice
+fn choice_at(id: u32, port: Port, child: Option<u32>) -> Choice
     ensures { result ≡ choice_at id port child }
 {
     Choice {

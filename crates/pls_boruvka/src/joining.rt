@@ -4,17 +4,18 @@ ghost use Rattle.std.specs.Prelude.{◌≡◌, ◌<◌, All, length, map, IfOk, 
 ghost use Rattle.pls_boruvka.specs.inner.Chosen.{AreChildrenWithin, AreChosen, IsChosen, IsUnpointed, JoinChildren, SomeUnpointed, said_at, said_by};
 
 use crate::choice::Choice;
-use crate::level::{Level, LevelList};
+use crate::level::LevelList;
+use crate::short_level::ShortLevel;
 use pls_base::NoMemory;
 use pls_graph::Network;
 use std::alloc::Global;
 
 // What a level says of a node, and the place of the end of its chosen edge that points at the
 // other.
-#[derive(Clone, Copy)]
+#[derive(Drop)]
 pub(crate) struct Chosen {
-    pub(crate) level: Level,
-    pub(crate) child: usize,
+    pub(crate) level: ShortLevel,
+    pub(crate) child: u32,
 }
 
 // For each node what the level says of it; `None` where some chosen edge is not a pointed one.
@@ -49,12 +50,7 @@ fn chosen_at(net: &Network, top: usize, choice: Option<Choice>) -> Option<Chosen
 {
     let choice = choice?;
     let child = choice.child?;
-    let level = Level {
-        fragment: u64::from(net.node(top).0),
-        weight: u64::from(choice.weight),
-        a: u64::from(choice.a),
-        b: u64::from(choice.b),
-    };
+    let level = ShortLevel::of(net.node(top).0, choice.weight, choice.a, choice.b);
     Some(Chosen { level, child })
 }
 
@@ -64,7 +60,7 @@ pub(crate) fn join(joined: &mut [bool], all: &[Chosen])
     ensures { JoinChildren all.now (length all.now) joined.old joined.new }
 {
     for chosen in all {
-        joined[chosen.child] = true;
+        joined[chosen.child as usize] = true;
     }
 }
 
@@ -92,7 +88,7 @@ fn list_at(alloc: Global, rounds: &[Vec<Chosen>], place: usize) -> Result<LevelL
 {
     let mut levels = Vec::with_capacity(alloc, rounds.len())?;
     for all in rounds {
-        levels.push(all[place].level)?;
+        levels.push(all[place].level.whole())?;
     }
     Ok(LevelList::from_vec(levels))
 }

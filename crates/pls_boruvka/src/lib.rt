@@ -14,6 +14,7 @@ mod fragment_names;
 mod joining;
 mod level;
 mod level_laws;
+mod short_level;
 mod tops;
 
 pub use boruvka::boruvka_levels;
