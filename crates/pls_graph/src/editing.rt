@@ -107,7 +107,9 @@ impl Network {
             mark,
             num,
         };
+        let last = i == self.len();
         self.table.insert(i, id, state)?;
+        self.hints.open(id, i, last);
         Ok(())
     }
 
@@ -131,6 +133,7 @@ impl Network {
             return Err(EditError::Last);
         }
         self.table.remove(i);
+        self.hints.close(i);
         Ok(())
     }
 

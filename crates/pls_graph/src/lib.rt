@@ -19,6 +19,7 @@ mod editing;
 mod edits;
 mod gaps;
 mod guesses;
+mod hints;
 mod incoming;
 mod index;
 mod marking;

@@ -7,6 +7,7 @@ ghost use Rattle.pls_graph.specs.Places.{beside};
 ghost use Rattle.pls_graph.specs.Size.{size_of};
 
 use crate::builder::NetworkBuilder;
+use crate::hints::Hints;
 use crate::index::ports_of;
 use crate::size::{Size, size_of_rows};
 use crate::table::Table;
@@ -21,6 +22,8 @@ pub struct Network {
     pub(crate) table: Table,
     // How many ports there are.
     pub(crate) ports: usize,
+    // Where an identity is looked for first.
+    pub(crate) hints: Hints,
     // Where memory for edits is taken from.
     pub(crate) alloc: Global,
 }
@@ -81,7 +84,17 @@ impl Network {
     pub fn place_of(&self, id: u32) -> Option<usize>
         ensures { result ≡ position (λ row. id == row.id) self.now }
     {
-        self.table.place_of(id)
+        self.table.place_of(self.hints.place(id), id)
+    }
+
+    /// Notes where each identity stands, so that edits find it without a search. Where identities
+    /// are spread wide or there is no memory for it they search still. The network stays.
+    pub fn note_places(&mut self)
+        ensures { self.new ≡ self.old }
+    {
+        if let Ok(hints) = self.table.hints(self.alloc) {
+            self.hints = hints;
+        }
     }
 
     /// The identity and the state of the node at place i.

@@ -32,10 +32,10 @@ pub(crate) fn order(nodes: &[Node]) -> Option<BuildError>
     None
 }
 
-/// The place of an identity among nodes whose identities rise. It is looked for between the places
-/// that the identities at both ends leave, and first at the first of these: where there are no gaps
-/// that is the only one.
-pub(crate) fn place_among(nodes: &[Node], id: u32) -> Option<usize>
+// The place of an identity among nodes whose identities rise. It is looked for between the places
+// that the identities at both ends leave, and first at the first of these: where there are no gaps
+// that is the only one.
+fn place_among(nodes: &[Node], id: u32) -> Option<usize>
     requires { AreRising nodes.now }
     ensures { result ≡ position (λ node. id == node.id) nodes.now }
 {
@@ -48,6 +48,18 @@ pub(crate) fn place_among(nodes: &[Node], id: u32) -> Option<usize>
         Ok(place) => Some(start + place),
         Err(_) => None,
     }
+}
+
+/// The place of an identity among nodes whose identities rise, looked for first at a hint.
+#[inline(always)]
+pub(crate) fn place_hinted(nodes: &[Node], hint: usize, id: u32) -> Option<usize>
+    requires { AreRising nodes.now }
+    ensures { result ≡ position (λ node. id == node.id) nodes.now }
+{
+    if hint < nodes.len() && nodes[hint].id == id {
+        return Some(hint);
+    }
+    place_among(nodes, id)
 }
 
 // From which place on and up to which one the node of an identity must stand, if there is one: no

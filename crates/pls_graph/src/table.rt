@@ -13,8 +13,9 @@ ghost use Rattle.pls_graph.specs.Rows.{gaining};
 ghost use Rattle.pls_graph.specs.inner.Gaps.{IsGap};
 
 use crate::guesses::Guesses;
+use crate::hints::Hints;
 use crate::ranges::{push_both, range_at_end};
-use crate::seeking::{fill_places, gap_among, order, place_among};
+use crate::seeking::{fill_places, gap_among, order, place_hinted};
 use pls_model::{BuildError, NodePorts, NodeRow, Port, State};
 use std::alloc::{AllocError, Global};
 use std::marker::Model;
@@ -147,12 +148,18 @@ impl Table {
         order(self.nodes.as_slice())
     }
 
-    /// The place of an identity, or `None` where no node has it.
-    pub(crate) fn place_of(&self, id: u32) -> Option<usize>
+    /// The place of an identity, which is looked for first at a hint, or `None` where no node has
+    /// it.
+    pub(crate) fn place_of(&self, hint: usize, id: u32) -> Option<usize>
         requires { out_of_order self.now.rows ≡ None }
         ensures { result ≡ position (λ row. id == row.id) self.now.rows }
     {
-        place_among(self.nodes.as_slice(), id)
+        place_hinted(self.nodes.as_slice(), hint, id)
+    }
+
+    /// Where the identities of the nodes stand.
+    pub(crate) fn hints(&self, alloc: Global) -> Result<Hints, AllocError> {
+        Hints::of(alloc, self.nodes.as_slice())
     }
 
     /// The place at which an identity would stand that is new; `None` where a node has it.

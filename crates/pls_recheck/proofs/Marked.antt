@@ -146,3 +146,9 @@ id_at_view rows labels k view at = by (slice_get rows k) refl
         slice_get-map (λ (row : NodeRow). row.id) rows k
         ∙ ap (option_map (λ (row : NodeRow). row.id)) is
         ∙ ap (λ (view : Seen). Some view.id) same
+
+-- none of so many notes is set
+pub none_is_set : (n k : ℕ) → slice_get (replicate n false) k ≡ Some true → ⊥
+none_is_set zero k set = absurd (cc (set))
+none_is_set (suc n) zero set = absurd (cc (set))
+none_is_set (suc n) (suc k) set = none_is_set n k set

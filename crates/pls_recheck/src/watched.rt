@@ -49,7 +49,20 @@ impl Model for Watched {
 impl Watched {
     /// The network with these labels, one a node, and all nodes touched. The one error is want of
     /// memory.
-    pub fn start(alloc: Global, net: Network, labels: LabelStore) -> Result<Watched, NoMemory>
+    pub fn start(alloc: Global, mut net: Network, labels: LabelStore) -> Result<Watched, NoMemory>
+        requires { length labels ≡ length net }
+        ensures network { IfOk result (λ watched. watched.network ≡ net) }
+        ensures labels { IfOk result (λ watched. watched.labels ≡ labels) }
+        ensures all { IfOk result (λ watched. watched.touched ≡ ids_of net) }
+        ensures current { IfOk result
+            (λ watched. (judge : Seen → Verdict) → IsCurrent judge watched) }
+    {
+        net.note_places();
+        Watched::begin(alloc, net, labels)
+    }
+
+    // The same, of a network as it is.
+    fn begin(alloc: Global, net: Network, labels: LabelStore) -> Result<Watched, NoMemory>
         requires { length labels ≡ length net }
         ensures network { IfOk result (λ watched. watched.network ≡ net) }
         ensures labels { IfOk result (λ watched. watched.labels ≡ labels) }
