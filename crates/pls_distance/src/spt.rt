@@ -72,6 +72,8 @@ impl<C: NumCode> JudgesInPlace for SptRules<C> {
 
     type Glance = SptLabel;
 
+    type Memory = Option<SptLabel>;
+
     type Tally = Gathered;
 
     ghost glance = { λ _ label. label };

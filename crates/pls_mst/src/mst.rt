@@ -8,7 +8,7 @@ use crate::layout::MstLayout;
 use crate::placing::is_placed;
 use pls_bits::{Bits, NumCode};
 use pls_model::{State, Verdict};
-use pls_scheme::{Basic, Judgement, JudgesInPlace, Looked, judged_from};
+use pls_scheme::{Basic, Boxed, Judgement, JudgesInPlace, Looked, judged_from};
 use std::marker::PhantomData;
 
 /// The scheme of spanning trees of least weight, whose labels are written in the number code `C`.
@@ -39,6 +39,8 @@ impl<C: NumCode> JudgesInPlace for MstRules<C> {
     ghost use Rattle.pls_mst.specs.inner.Glance.{glance_of};
 
     type Glance = MstGlance;
+
+    type Memory = Boxed<MstGlance>;
 
     type Tally = Gathered;
 

@@ -8,7 +8,7 @@ use crate::placed::{OfOne, Placed};
 use pls_base::{NoMemory, Steps};
 use pls_graph::Network;
 use pls_model::Verdict;
-use pls_scheme::{Memory, Remembers};
+use pls_scheme::Remembers;
 use pls_view::{LabelStore, View};
 use std::alloc::Global;
 
@@ -17,7 +17,7 @@ use std::alloc::Global;
 #[derive(Drop)]
 pub(crate) struct ByMemory<'a, K: Remembers> {
     pub(crate) checker: &'a K,
-    pub(crate) memories: &'a [Memory<K::Glance>],
+    pub(crate) memories: &'a [K::Memory],
 }
 
 impl<'a, K: Remembers, B: Bench> Asks<B> for ByMemory<'a, K> {

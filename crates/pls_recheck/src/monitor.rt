@@ -15,7 +15,7 @@ use pls_base::{NoMemory, Steps};
 use pls_edits::{Edit, EditError};
 use pls_graph::Network;
 use pls_model::Verdict;
-use pls_scheme::{Memory, Remembers};
+use pls_scheme::Remembers;
 use pls_view::LabelStore;
 use std::alloc::Global;
 use std::marker::Model;
@@ -28,7 +28,7 @@ pub struct Monitor<K: Remembers> {
     pub(crate) checker: K,
     pub(crate) core: Watched,
     // For each node what is remembered of its label.
-    pub(crate) memories: Vec<Memory<K::Glance>>,
+    pub(crate) memories: Vec<K::Memory>,
 }
 
 impl<K: Remembers> Model for Monitor<K> {
@@ -141,7 +141,7 @@ fn remember_all<K: Remembers>(
     alloc: Global,
     checker: &K,
     labels: &LabelStore,
-) -> Result<Vec<Memory<K::Glance>>, NoMemory>
+) -> Result<Vec<K::Memory>, NoMemory>
     ensures { IfOk result (λ memories. memories.items ≡ map (K.told checker.now) labels.now) }
 {
     let mut memories = Vec::with_capacity(alloc, labels.len())?;

@@ -8,7 +8,7 @@ ghost use Rattle.pls_recheck.specs.inner.AtPlace.{view_at};
 use pls_base::{NoMemory, Steps};
 use pls_graph::Network;
 use pls_model::Verdict;
-use pls_scheme::{Checker, Memory, Remembers};
+use pls_scheme::{Checker, Remembers};
 use pls_view::{LabelStore, View};
 use std::alloc::Global;
 
@@ -40,7 +40,7 @@ pub(crate) struct Placed<'a, K: Remembers> {
     pub(crate) checker: &'a K,
     pub(crate) net: &'a Network,
     pub(crate) labels: &'a LabelStore,
-    pub(crate) memories: &'a [Memory<K::Glance>],
+    pub(crate) memories: &'a [K::Memory],
     pub(crate) i: usize,
     ghost each: { length labels.now ≡ length net.now },
     ghost remembered: { memories.now ≡ map (K.told checker.now) labels.now },

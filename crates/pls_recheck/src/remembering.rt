@@ -11,7 +11,7 @@ ghost use Rattle.pls_recheck.specs.Rechecked.{edited_with};
 use crate::monitor::Monitor;
 use pls_bits::{BitBuf, Bits};
 use pls_edits::{Edit, EditError};
-use pls_scheme::{Memory, Remembers};
+use pls_scheme::Remembers;
 use std::alloc::Global;
 
 impl<K: Remembers> Monitor<K> {
@@ -103,7 +103,7 @@ impl<K: Remembers> Monitor<K> {
 }
 
 // Puts a memory in at place i.
-fn put_memory<G: Drop>(memories: &mut Vec<Memory<G>>, i: usize, memory: Memory<G>)
+fn put_memory<M: Drop>(memories: &mut Vec<M>, i: usize, memory: M)
     requires within { i ≤ length memories.old.items }
     requires room { length memories.old.items < vec_capacity memories.old }
     ensures { memories.new.items ≡ insert memories.old.items i memory }

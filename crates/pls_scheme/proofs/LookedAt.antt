@@ -1,5 +1,5 @@
 -- Labels that were looked at, at the places of a node and of its neighbours.
-use Rattle.std.proofs.Common.{◌≡◌, ◌∙◌, ◌<◌, ℕ, ◌==◌, All, Bool, IfSome, List, length, map, get_or, position, slice_get, Option, Some, None, option_map, refl, sym, ap, subst, arith}
+use Rattle.std.proofs.Common.{◌≡◌, ◌∙◌, ◌<◌, ℕ, ◌==◌, All, Bool, IfSome, List, length, map, get_or, position, slice_get, Option, Some, None, option_map, refl, sym, ap, subst, arith, [], ◌∷◌}
 use Rattle.std.specs.Option.{option_and_then}
 use Rattle.std.proofs.Math.ListN.{get_or-map}
 use Rattle.std.proofs.lemmas.List.{length-map}
@@ -70,6 +70,15 @@ pub kept_there : {L G E : Type 0} (read : List Bool → Option L) (glance : L �
 kept_there read glance kept labels looked are place bits entry at is =
     looked_there read glance labels (map kept looked) are place bits (kept entry) at
     (kept_at kept looked place entry is)
+
+-- what keeps what is seen in each label shows it
+pub looked_kept : {G E : Type 0} (kept : E → Option G) (keeping : Option G → E)
+    (seen : List Bool → Option G) → ((glance : Option G) → kept (keeping glance) ≡ glance)
+    → (labels : List (List Bool))
+    → map kept (map (λ bits. keeping (seen bits)) labels) ≡ map seen labels
+looked_kept kept keeping seen law [] = refl
+looked_kept kept keeping seen law (bits ∷ labels) =
+    rw (law (seen bits), looked_kept kept keeping seen law labels) refl
 
 -- the port of a view shows the label at the place of the neighbour
 pub port_shown : (rows : List NodeRow) (labels : List (List Bool)) (ports : List Port) (p : ℕ)

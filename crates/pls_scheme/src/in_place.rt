@@ -7,6 +7,7 @@ ghost use Rattle.pls_scheme.specs.Judging.{judged_from};
 ghost use Rattle.pls_scheme.specs.Reading.{Read, ReadPort, label_above, port_with, reading};
 
 use crate::judgement::Judgement;
+use crate::memory::Kept;
 use pls_bits::Bits;
 use pls_model::{State, Verdict};
 
@@ -24,6 +25,9 @@ pub struct Looked<'a, G> {
 pub trait JudgesInPlace: Judgement {
     /// What is kept of a label at a glance. What does not fit there is read where it lies.
     type Glance: Drop;
+
+    /// How a glance is kept from round to round.
+    type Memory: Kept<Self::Glance> + Drop;
 
     /// What is gathered in a pass over the ports.
     type Tally: Drop;

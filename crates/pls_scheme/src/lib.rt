@@ -12,8 +12,8 @@
 //! or [`JudgesInPlace`] over labels that are kept at a glance), its property and what labels are
 //! right ([`Marker`]).
 //! [`Basic`] makes the scheme of it, [`Ruled`] of [`Rules`]. Other schemes implement [`Checker`],
-//! [`Property`] and [`Scheme`] themselves. A checker that [`Remembers`] judges a node by a
-//! [`Memory`] of each label, as [`Basic`] does.
+//! [`Property`] and [`Scheme`] themselves. A checker that [`Remembers`] judges a node by a memory
+//! of each label, as [`Basic`] does by what is [`Kept`] of it, in place or [`Boxed`].
 //!
 //! Definitions stand in `specs/`: `Judging` has verdicts and rounds, `Reading` what a node reads,
 //! `Theorem` what makes rules and a marker a scheme, `Marked` marked labels, `SchemeLaws` the laws.
@@ -59,7 +59,7 @@ pub use labels::labels_of;
 pub use layout::{Layout, ReadsInPlace};
 pub use length::{code_length, codes_length};
 pub use marker::Marker;
-pub use memory::Memory;
+pub use memory::{Boxed, Kept};
 pub use numbers::{append_numbers, read_numbers};
 pub use once::Once;
 pub use pls_model::Verdict;

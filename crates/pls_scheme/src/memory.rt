@@ -7,33 +7,57 @@ use pls_base::NoMemory;
 use std::alloc::Global;
 use std::marker::Model;
 
-/// What is kept of a label: what it says at a glance, or that it cannot be read.
-pub(crate) trait Kept<G> {
+/// What is kept of a label: what it says at a glance, or that it cannot be read. An `Option` keeps
+/// a small glance where it stands, and [`Boxed`] a large one elsewhere.
+pub trait Kept<G> {
     // What it says, or `None` where it cannot be read.
     ghost kept: { Self → Option G };
+
+    // What keeps this.
+    ghost keeping: { Option G → Self };
+
+    /// Keeps what a label says at a glance. The one error is want of memory.
+    fn keep(alloc: Global, glance: Option<G>) -> Result<Self, NoMemory>
+        ensures { IfOk result (λ memory. memory ≡ keeping glance) };
 
     /// What the label says at a glance, or `None` where it cannot be read.
     fn glance(&self) -> Option<&G>
         ensures { option_copied result ≡ kept self.now };
+
+    // What is kept is what was to be.
+    ghost kept_law: { (glance : Option G) → kept (keeping glance) ≡ glance };
 }
 
-impl<G> Kept<G> for Option<G> {
+impl<G: Drop> Kept<G> for Option<G> {
+    ghost use Rattle.std.specs.Prelude.{refl};
+
     ghost kept = { λ glance. glance };
+
+    ghost keeping = { λ glance. glance };
+
+    #[inline(always)]
+    fn keep(_alloc: Global, glance: Option<G>) -> Result<Self, NoMemory>
+        ensures { IfOk result (λ memory. memory ≡ glance) }
+    {
+        Ok(glance)
+    }
 
     #[inline(always)]
     fn glance(&self) -> Option<&G> {
         self.as_ref()
     }
+
+    ghost kept_law = { λ _. refl };
 }
 
 /// What a label says at a glance, or `None` where it cannot be read, in a place of its own: to move
-/// a memory is to move a pointer. Seen as what the label says.
+/// it is to move a pointer. Seen as what the label says.
 #[derive(Drop)]
-pub struct Memory<G> {
+pub struct Boxed<G> {
     glance: Option<Box<G>>,
 }
 
-impl<G> Model for Memory<G> {
+impl<G> Model for Boxed<G> {
     ghost use Rattle.std.specs.Prelude.{Option, option_map};
 
     ghost Value = { Option G };
@@ -41,21 +65,22 @@ impl<G> Model for Memory<G> {
     ghost view = { λ memory. option_map (λ glance. glance.value) memory.glance };
 }
 
-impl<G: Drop> Memory<G> {
-    /// Keeps what a label says. The one error is want of memory.
-    pub fn of(alloc: Global, glance: Option<G>) -> Result<Memory<G>, NoMemory>
+impl<G: Drop> Kept<G> for Boxed<G> {
+    ghost use Rattle.std.specs.Prelude.{refl};
+
+    ghost kept = { λ memory. memory };
+
+    ghost keeping = { λ glance. glance };
+
+    fn keep(alloc: Global, glance: Option<G>) -> Result<Self, NoMemory>
         ensures { IfOk result (λ memory. memory ≡ glance) }
     {
         let glance = match glance {
             Some(glance) => Some(Box::new(alloc, glance)?),
             None => None,
         };
-        Ok(Memory { glance })
+        Ok(Boxed { glance })
     }
-}
-
-impl<G> Kept<G> for Memory<G> {
-    ghost kept = { λ memory. memory };
 
     #[inline(always)]
     fn glance(&self) -> Option<&G> {
@@ -64,4 +89,6 @@ impl<G> Kept<G> for Memory<G> {
             None => None,
         }
     }
+
+    ghost kept_law = { λ _. refl };
 }

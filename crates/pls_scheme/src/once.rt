@@ -31,6 +31,8 @@ impl<R: Judgement> Judgement for Once<R> {
 impl<R: Rules> JudgesInPlace for Once<R> {
     type Glance = <R::Layout as Layout>::Label;
 
+    type Memory = Option<<R::Layout as Layout>::Label>;
+
     type Tally = R::Tally;
 
     ghost glance = { λ _ label. label };

@@ -1,12 +1,12 @@
 //! Verifiers that remember what each label says.
 
-ghost use Rattle.std.specs.Prelude.{◌≡◌, ◌<◌, Bool, List, Option, Some, IfOk, length, map, slice_get};
+ghost use Rattle.std.specs.Prelude.{◌≡◌, ◌<◌, Bool, List, Some, IfOk, length, map, slice_get};
 ghost use Rattle.pls_view.specs.Seen.{Seen, views};
 
 use crate::basic::Basic;
 use crate::checker::Checker;
 use crate::in_place::JudgesInPlace;
-use crate::memory::Memory;
+use crate::memory::Kept;
 use crate::round::verdict_at;
 use pls_base::NoMemory;
 use pls_bits::Bits;
@@ -18,14 +18,14 @@ use std::alloc::Global;
 /// A verifier that judges a node by what it remembers of the labels, so that a label is read once
 /// however often its neighbours are judged.
 pub trait Remembers: Checker {
-    /// What is remembered of a label that can be read.
-    type Glance: Drop;
+    /// What is remembered of a label.
+    type Memory: Drop;
 
     // What is remembered of a label.
-    ghost told: { Self → List Bool → Option Self.Glance };
+    ghost told: { Self → List Bool → Self.Memory };
 
     /// What is remembered of a label. The one error is want of memory.
-    fn remember(&self, alloc: Global, bits: &Bits<'_>) -> Result<Memory<Self::Glance>, NoMemory>
+    fn remember(&self, alloc: Global, bits: &Bits<'_>) -> Result<Self::Memory, NoMemory>
         ensures { IfOk result (λ memory. memory ≡ told self.now bits.now) };
 
     /// The verdict of the node at place `i` on its view, by the memories of all labels. The one
@@ -35,7 +35,7 @@ pub trait Remembers: Checker {
         alloc: Global,
         net: &Network,
         labels: &LabelStore,
-        memories: &[Memory<Self::Glance>],
+        memories: &[Self::Memory],
         i: usize,
     ) -> Result<Verdict, NoMemory>
         requires each { length labels.now ≡ length net.now }
@@ -49,12 +49,12 @@ pub trait Remembers: Checker {
 impl<R: JudgesInPlace> Remembers for Basic<R> {
     ghost use Rattle.pls_scheme.specs.inner.Looks.{seen_in};
 
-    type Glance = R::Glance;
+    type Memory = R::Memory;
 
-    ghost told = { λ s. seen_in R.Layout.said (R.glance s.rules) };
+    ghost told = { λ s bits. R.Memory.keeping (seen_in R.Layout.said (R.glance s.rules) bits) };
 
-    fn remember(&self, alloc: Global, bits: &Bits<'_>) -> Result<Memory<Self::Glance>, NoMemory> {
-        Memory::of(alloc, self.rules.look(bits))
+    fn remember(&self, alloc: Global, bits: &Bits<'_>) -> Result<Self::Memory, NoMemory> {
+        R::Memory::keep(alloc, self.rules.look(bits))
     }
 
     fn verdict_at(
@@ -62,7 +62,7 @@ impl<R: JudgesInPlace> Remembers for Basic<R> {
         _alloc: Global,
         net: &Network,
         labels: &LabelStore,
-        memories: &[Memory<Self::Glance>],
+        memories: &[Self::Memory],
         i: usize,
     ) -> Result<Verdict, NoMemory> {
         Ok(verdict_at(&self.rules, net, labels, memories, i))

@@ -1,4 +1,4 @@
-use Rattle.std.proofs.Common.{◌∙◌, ℕ, List, Option, [], ap, insert, map, sym}
+use Rattle.std.proofs.Common.{◌∙◌, ℕ, List, [], ap, insert, map, sym}
 use Rattle.pls_recheck.specs.Watch.{Snapshot}
 use Rattle.pls_recheck.proofs.Remembered.{map_insert}
 use Rattle.pls_recheck.proofs.monitor.Monitor.join.Goals as goal
@@ -10,9 +10,9 @@ invariant_of-self-2 g c =
     let i = c.in_ok-i.i in (
       c.in_ok-i.ensures.current (g.K.Checker.judge c.self.inside.checker) c.self.invariant.0,
       c.put_memory.ensures
-          ∙ ap (λ (memories : List (Option _)). insert memories i c.in-Ok.memory)
+          ∙ ap (λ (memories : List _). insert memories i c.in-Ok.memory)
           (c.reserve.ensures.items ∙ c.self.invariant.1)
-          ∙ ap (λ (memory : Option _). insert (map told labels) i memory)
+          ∙ ap (λ (memory : _). insert (map told labels) i memory)
           (c.in-Ok.ensures ∙ ap told c.default.ensures)
           ∙ map_insert told labels i []
           ∙ ap (λ (i : ℕ). map told (insert labels i [])) c.in_ok-i.ensures.place
