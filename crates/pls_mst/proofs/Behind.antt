@@ -19,6 +19,11 @@ module _ (takes : List Bool → Option (ℕ × List Bool)) where
   AreBehind count bits rest =
       (more : ℕ) → is_some (levels_in takes (count + more) bits) ≡ is_some (levels_in takes more rest)
 
+  -- behind none stand the bits
+  pub behind_none : (bits : List Bool) → AreBehind 0 bits bits
+  behind_none bits more =
+      let same : 0 + more ≡ more = omega arith in ap (are_so_many bits) same
+
   -- behind one level more stands what is left when it is read
   pub behind_more : (count : ℕ) (bits rest : List Bool) (level : Level) (left : List Bool)
       → AreBehind count bits rest → level_off takes rest ≡ Some (level, left)

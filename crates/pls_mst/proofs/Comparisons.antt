@@ -9,13 +9,12 @@ use Rattle.pls_boruvka.specs.Boruvka.{chosen_edge}
 use Rattle.pls_boruvka.specs.declared.level.Level.{Level}
 use Rattle.pls_mst.specs.declared.comparing.Between.{Between}
 use Rattle.pls_mst.specs.declared.comparing.Compared.{Compared}
-use Rattle.pls_mst.specs.declared.glance.TheConstants.{FRONT}
 use Rattle.pls_mst.specs.Labels.{level_off}
 use Rattle.pls_mst.specs.Rules.{chose_least, is_chosen_between, is_named_or_shared}
 use Rattle.pls_mst.specs.inner.Comparing.{both_compared, compared, edge_between}
-use Rattle.pls_mst.specs.inner.Glance.{front_of}
+use Rattle.pls_mst.specs.inner.Glance.{all_whole, front_of, kept_in}
 use Rattle.pls_mst.specs.inner.Reading.{levels_off}
-use Rattle.pls_mst.proofs.Fronts.{front_of-take}
+use Rattle.pls_mst.proofs.Fronts.{front_of-take, kept_in-few}
 
 -- of these three
 abbrev three : Bool → Bool → Bool → Compared
@@ -123,22 +122,26 @@ module _ (between : Between) (own : ℕ) where
       ∙ or_assoc chosen first.chosen rest.chosen)
 
   -- one level more at the end
-  pub compared-last : (place : ℕ) (mine theirs : List Level) (d : Level) (found with_it : Compared)
-      → place < length mine → place < length theirs
+  pub compared-last : (place : ℕ) (mine theirs : List Level) (d here there : Level)
+      (found with_it : Compared) → place < length mine → place < length theirs
+      → here ≡ get_or mine place d → there ≡ get_or theirs place d
       → found ≡ compared between own (take place mine) (take place theirs)
-      → with_it.shares ≡ (found.shares
-      && is_named_or_shared own (get_or mine place d) (get_or theirs place d))
-      → with_it.least ≡ (found.least && chose_least (edge_between between) between.outside
-      (get_or mine place d) (get_or theirs place d))
-      → with_it.chosen ≡ (found.chosen || is_chosen_between (edge_between between)
-      (get_or mine place d) (get_or theirs place d))
+      → with_it.shares ≡ (found.shares && is_named_or_shared own here there)
+      → with_it.least ≡ (found.least
+      && chose_least (edge_between between) between.outside here there)
+      → with_it.chosen ≡ (found.chosen || is_chosen_between (edge_between between) here there)
       → with_it ≡ compared between own (take (place + 1) mine) (take (place + 1) theirs)
-  compared-last place mine theirs d found with_it mine_has theirs_has is shares least chosen =
-      let here : Level = get_or mine place d in
-      let there : Level = get_or theirs place d in
+  compared-last place mine theirs d here there found with_it mine_has theirs_has here_is there_is
+      is shares least chosen =
       let many : length (take place mine) ≡ length (take place theirs) =
       length-take-le place mine (omega (arith, mine_has))
       ∙ sym (length-take-le place theirs (omega (arith, theirs_has))) in
+      let mine_more : take place mine ++ here ∷ [] ≡ take (place + 1) mine =
+      ap (λ (last : Level). take place mine ++ last ∷ []) here_is
+      ∙ sym (take_more mine place d mine_has) in
+      let theirs_more : take place theirs ++ there ∷ [] ≡ take (place + 1) theirs =
+      ap (λ (last : Level). take place theirs ++ last ∷ []) there_is
+      ∙ sym (take_more theirs place d theirs_has) in
       same_Compared with_it
       (both_compared found (compared between own (here ∷ []) (there ∷ [])))
       (shares ∙ ap (λ (b : Bool). found.shares && b) (and_true (is_named_or_shared own here there)))
@@ -150,9 +153,8 @@ module _ (between : Between) (own : ℕ) where
       both_compared found (compared between own (here ∷ []) (there ∷ []))) is
       ∙ sym (compared-append (take place mine) (take place theirs) (here ∷ []) (there ∷ []) many)
       ∙ ap (λ (mine : List Level). compared between own mine (take place theirs ++ there ∷ []))
-      (sym (take_more mine place d mine_has))
-      ∙ ap (compared between own (take (place + 1) mine))
-      (sym (take_more theirs place d theirs_has))
+      mine_more
+      ∙ ap (compared between own (take (place + 1) mine)) theirs_more
 
   -- only so many levels count as both have
   compared-take : (count : ℕ) (mine theirs : List Level)
@@ -163,52 +165,54 @@ module _ (between : Between) (own : ℕ) where
       ap (beside_said between own) (zip-take count mine theirs is)
 
   -- what the first levels say, as they are kept, and those behind them
-  module _ (mine theirs : List Level) (count : ℕ) (is : count ≡ min (length mine) (length theirs))
-    where
-      -- of so many
-      front_said : (first : ℕ) → first ≤ FRONT → first ≤ count
-          → compared between own (take first (front_of mine)) (take first (front_of theirs))
-          ≡ compared between own (take first mine) (take first theirs)
-      front_said first few there =
-          ap (λ (mine : List Level). compared between own mine (take first (front_of theirs)))
-          (front_of-take first mine few (omega (arith, there, is)))
-          ∙ ap (compared between own (take first mine))
-          (front_of-take first theirs few (omega (arith, there, is)))
+  module _ (mine theirs : List Level) (count first : ℕ)
+      (is : count ≡ min (length mine) (length theirs)) (mine_kept : first ≤ kept_in mine)
+      (theirs_kept : first ≤ kept_in theirs) where
+    -- no more are kept than both have
+    within : first ≤ count
+    within =
+        omega (arith, is, mine_kept, theirs_kept, kept_in-few mine, kept_in-few theirs)
 
-      -- where there are no others
-      pub all_in_front : (first : ℕ) → first ≡ min count FRONT → count ≤ FRONT
-          → compared between own (take first (front_of mine)) (take first (front_of theirs))
-          ≡ compared between own mine theirs
-      all_in_front first first_is few =
-          front_said first (omega (arith, first_is)) (omega (arith, first_is))
-          ∙ compared-take first mine theirs (omega (arith, first_is, few, is))
+    -- of so many
+    front_said : compared between own (take first (all_whole (front_of mine)))
+        (take first (all_whole (front_of theirs)))
+        ≡ compared between own (take first mine) (take first theirs)
+    front_said =
+        ap (λ (mine : List Level).
+        compared between own mine (take first (all_whole (front_of theirs))))
+        (front_of-take first mine mine_kept)
+        ∙ ap (compared between own (take first mine)) (front_of-take first theirs theirs_kept)
 
-      -- where there are
-      pub front_and_behind : (first : ℕ) → first ≡ min count FRONT → FRONT ≤ count
-          → both_compared
-          (compared between own (take first (front_of mine)) (take first (front_of theirs)))
-          (compared between own (take (count - FRONT) (drop FRONT mine))
-          (take (count - FRONT) (drop FRONT theirs))) ≡ compared between own mine theirs
-      front_and_behind first first_is more =
-          let full : first ≡ FRONT = omega (arith, first_is, more) in
-          let mine_left = length-drop FRONT mine in
-          let theirs_left = length-drop FRONT theirs in
-          let many : length (take FRONT mine) ≡ length (take FRONT theirs) =
-          length-take-le FRONT mine (omega (arith, is, more))
-          ∙ sym (length-take-le FRONT theirs (omega (arith, is, more))) in
-          ap (λ (found : Compared). both_compared found
-          (compared between own (take (count - FRONT) (drop FRONT mine))
-          (take (count - FRONT) (drop FRONT theirs))))
-          (front_said first (omega (arith, first_is)) (omega (arith, first_is))
-          ∙ ap (λ (first : ℕ). compared between own (take first mine) (take first theirs)) full)
-          ∙ ap (both_compared (compared between own (take FRONT mine) (take FRONT theirs)))
-          (compared-take (count - FRONT) (drop FRONT mine) (drop FRONT theirs)
-          (omega (arith, is, more, mine_left, theirs_left)))
-          ∙ sym (compared-append (take FRONT mine) (take FRONT theirs) (drop FRONT mine)
-          (drop FRONT theirs) many)
-          ∙ ap (λ (mine : List Level). compared between own mine
-          (take FRONT theirs ++ drop FRONT theirs)) (take-append-drop FRONT mine)
-          ∙ ap (compared between own mine) (take-append-drop FRONT theirs)
+    -- where there are no others
+    pub all_in_front : count ≤ first
+        → compared between own (take first (all_whole (front_of mine)))
+        (take first (all_whole (front_of theirs))) ≡ compared between own mine theirs
+    all_in_front few =
+        front_said ∙ compared-take first mine theirs (omega (arith, within, few, is))
+
+    -- where there are
+    pub front_and_behind : both_compared
+        (compared between own (take first (all_whole (front_of mine)))
+        (take first (all_whole (front_of theirs))))
+        (compared between own (take (count - first) (drop first mine))
+        (take (count - first) (drop first theirs))) ≡ compared between own mine theirs
+    front_and_behind =
+        let mine_left = length-drop first mine in
+        let theirs_left = length-drop first theirs in
+        let many : length (take first mine) ≡ length (take first theirs) =
+        length-take-le first mine (omega (arith, is, within))
+        ∙ sym (length-take-le first theirs (omega (arith, is, within))) in
+        ap (λ (found : Compared). both_compared found
+        (compared between own (take (count - first) (drop first mine))
+        (take (count - first) (drop first theirs)))) front_said
+        ∙ ap (both_compared (compared between own (take first mine) (take first theirs)))
+        (compared-take (count - first) (drop first mine) (drop first theirs)
+        (omega (arith, is, within, mine_left, theirs_left)))
+        ∙ sym (compared-append (take first mine) (take first theirs) (drop first mine)
+        (drop first theirs) many)
+        ∙ ap (λ (mine : List Level). compared between own mine
+        (take first theirs ++ drop first theirs)) (take-append-drop first mine)
+        ∙ ap (compared between own mine) (take-append-drop first theirs)
 
   -- levels that are the same say no more: each fragment is that of both
   compared-same : (levels : List Level) → compared between own levels levels ≡ three true true false

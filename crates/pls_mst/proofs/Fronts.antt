@@ -1,36 +1,47 @@
 -- The first levels of a label, as they are kept at a glance.
-use Rattle.std.proofs.Common.{◌≡◌, ◌∙◌, ℕ, suc, ◌+◌, ◌-◌, ◌≤◌, ◌<◌, ◌&&◌, ◌++◌, inl, inr, min, true, Bool, List, length, take, drop, replicate, set, Option, Some, None, option_map, is_some, IfSome, IfNone, sym, ap, arith, append_assoc}
-use Rattle.std.specs.List.{list_all}
+use Rattle.std.proofs.Common.{◌≡◌, ◌∙◌, ℕ, suc, ◌+◌, ◌-◌, ◌≤◌, ◌<◌, ◌&&◌, [], ◌∷◌, ◌++◌, inl, inr, min, true, false, Bool, List, length, map, get_or, take, drop, replicate, set, Option, Some, None, option_map, is_some, IfSome, IfNone, refl, subst, sym, ap, arith}
+use Rattle.std.specs.List.{list_all, prefix_len}
 use Rattle.std.proofs.lemmas.Bool.{cases_lt}
-use Rattle.std.proofs.lemmas.List.{append-nil, drop-drop, drop-replicate, drop-set-lt, length-take-le, take-append-drop, take-append-le, take-replicate, take-take, take_all}
+use Rattle.std.proofs.lemmas.List.{drop-drop, drop-replicate, drop-set-lt, drop_more, get_or-map, get_or-take, length-drop, length-map, length-replicate, length-set, length-take, length-take-le, map-id, map_more, take-append-drop, take-append-le, take-map, take-replicate, take-take, take_more_set}
 use Rattle.std.proofs.lemmas.List.Folds.{list_all-append}
+use Rattle.std.proofs.lemmas.List.Sums.{prefix_len-le-length, prefix_len_is}
 use Rattle.std.proofs.lemmas.Option.{same_Some}
+use Rattle.std.proofs.lemmas.Simd.{map-map}
 use Rattle.std.proofs.Math.Seq.{take-append-add}
 use Rattle.pls_boruvka.specs.declared.level.Level.{Level}
 use Rattle.pls_mst.specs.declared.glance.MstGlance.{MstGlance}
 use Rattle.pls_mst.specs.declared.glance.TheConstants.{FRONT}
+use Rattle.pls_mst.specs.declared.kept_level.KeptLevel.{KeptLevel}
 use Rattle.pls_mst.specs.declared.label.MstHead.{MstHead}
 use Rattle.pls_mst.specs.Labels.{head_off, level_off, levels_in, mst_label}
-use Rattle.pls_mst.specs.inner.Glance.{front_of, glance_of, no_level}
+use Rattle.pls_mst.specs.inner.Glance.{IsFront, all_whole, front_of, glance_of, kept_in, no_level}
+use Rattle.pls_mst.specs.inner.KeptLevel.{fits, kept_of, whole}
 use Rattle.pls_mst.specs.inner.Reading.{levels_off}
 use Rattle.pls_mst.specs.laws.LabelLaws.{split_levels}
 use Rattle.pls_mst.proofs.Behind.{a_label}
-use Rattle.pls_mst.proofs.Levels.{levels_off-all}
+use Rattle.pls_mst.proofs.Levels.{levels_off-all, levels_off-next}
+
+-- a level where there is none
+abbrev pub blank : Level
+blank = whole no_level
+
+-- so many of these levels are kept in a front of so much room, and the rest stands behind them
+pub record IsKept (most place : ℕ) (front : List KeptLevel) (levels rest : List Level) : Type 0
+  where
+    pub many : place ≤ length levels
+    pub long : length front ≡ most
+    pub kept : take place front ≡ map kept_of (take place levels)
+    pub empty : drop place front ≡ replicate (most - place) no_level
+    pub fit : (i : ℕ) → i < place → fits (get_or levels i blank) ≡ true
+    pub left : drop place levels ≡ rest
 
 module _ (most : ℕ) where
   -- so many levels, and behind them what stands where there is none
-  abbrev filled : List Level → List Level
+  abbrev filled : List KeptLevel → List KeptLevel
   filled levels = take most (levels ++ replicate most no_level)
 
-  -- where so many are in front, it is those
-  filled-full : (front rest : List Level) → length front ≡ most → front ≡ filled (front ++ rest)
-  filled-full front rest long =
-      sym (ap (take most) (append_assoc front rest (replicate most no_level))
-      ∙ take-append-le most front (rest ++ replicate most no_level) (omega (arith, long))
-      ∙ take_all most front (omega (arith, long)))
-
   -- where there are fewer, it is those and what stands where there is none
-  filled-few : (place : ℕ) (front : List Level) → place ≤ most → length front ≡ most
+  filled-few : (place : ℕ) (front : List KeptLevel) → place ≤ most → length front ≡ most
       → drop place front ≡ replicate (most - place) no_level → front ≡ filled (take place front)
   filled-few place front within long left =
       let few : length (take place front) ≡ place =
@@ -38,19 +49,19 @@ module _ (most : ℕ) where
       let all : most ≡ length (take place front) + (most - place) = omega (arith, few, within) in
       sym (ap (λ (count : ℕ). take count (take place front ++ replicate most no_level)) all
       ∙ take-append-add (take place front) (replicate most no_level) (most - place)
-      ∙ ap (λ (rest : List Level). take place front ++ rest)
+      ∙ ap (λ (rest : List KeptLevel). take place front ++ rest)
       (take-replicate (most - place) most no_level (omega arith) ∙ sym left)
       ∙ take-append-drop place front)
 
   -- of the first that are kept so many are those of all
-  filled-take : (count : ℕ) (levels : List Level) → count ≤ most → count ≤ length levels
+  filled-take : (count : ℕ) (levels : List KeptLevel) → count ≤ most → count ≤ length levels
       → take count (filled levels) ≡ take count levels
   filled-take count levels few there =
       take-take count most (levels ++ replicate most no_level) few
       ∙ take-append-le count levels (replicate most no_level) there
 
   -- one place more is filled
-  filled-next : (place : ℕ) (front : List Level) (level : Level) → place < most
+  filled-next : (place : ℕ) (front : List KeptLevel) (level : KeptLevel) → place < most
       → drop place front ≡ replicate (most - place) no_level
       → drop (place + 1) (set front place level) ≡ replicate (most - (place + 1)) no_level
   filled-next place front level within left =
@@ -60,17 +71,152 @@ module _ (most : ℕ) where
       ∙ ap (drop 1) left ∙ drop-replicate 1 (most - place) no_level
       ∙ ap (λ (count : ℕ). replicate count no_level) less
 
--- of the first levels that are kept so many are those of all
-pub front_of-take : (count : ℕ) (levels : List Level) → count ≤ FRONT → count ≤ length levels
-    → take count (front_of levels) ≡ take count levels
+  -- one level more is kept
+  kept-next : (place : ℕ) (front : List KeptLevel) (levels : List Level) (level : Level)
+      (rest : List Level) (short : KeptLevel) → place < most
+      → IsKept most place front levels (level ∷ rest) → fits level ≡ true → short ≡ kept_of level
+      → IsKept most (place + 1) (set front place short) levels rest
+  kept-next place front levels level rest short within was fit is =
+      let more : place < length levels =
+      omega (arith, length-drop place levels, ap length was.left) in
+      let both : get_or levels place blank ∷ drop (place + 1) levels ≡ level ∷ rest =
+      sym (drop_more levels place blank more) ∙ was.left in
+      let here : get_or levels place blank ≡ level =
+      ap (λ (list : List Level). get_or list 0 blank) both in
+      record {
+        many = omega (arith, more);
+        long = length-set front place short ∙ was.long;
+        kept = take_more_set front place short (omega (arith, within, was.long))
+            ∙ ap (λ (done : List KeptLevel). done ++ short ∷ []) was.kept
+            ∙ ap (λ (last : KeptLevel). map kept_of (take place levels) ++ last ∷ [])
+            (is ∙ ap kept_of (sym here))
+            ∙ sym (map_more kept_of levels place blank more);
+        empty = filled-next place front short within was.empty;
+        fit = λ i less. elim (cases_lt i place) [
+          | inl before ↦ was.fit i before
+          | inr not_before ↦
+              let last : i ≡ place = omega (arith, less, not_before) in
+              ap (λ (i : ℕ). fits (get_or levels i blank)) last ∙ ap fits here ∙ fit
+        ];
+        left = ap (drop 1) both;
+      }
+
+  -- where all that fit are kept
+  module _ (place : ℕ) (front : List KeptLevel) (levels rest : List Level)
+      (is : IsKept most place front levels rest) (within : place ≤ most)
+      (ends : place < most → place < length levels → fits (get_or levels place blank) ≡ false)
+    where
+      -- it is so many
+      kept-count : prefix_len fits (take most levels) ≡ place
+      kept-count =
+          let some : length (take most levels) ≡ min most (length levels) =
+          length-take most levels in
+          prefix_len_is fits (take most levels) place blank (omega (arith, some, within, is.many))
+          (λ i less. ap fits (get_or-take most levels i blank (omega (arith, less, within)))
+          ∙ is.fit i less)
+          (λ less. ap fits (get_or-take most levels place blank (omega (arith, some, less)))
+          ∙ ends (omega (arith, some, less)) (omega (arith, some, less)))
+
+      -- it is the front
+      kept-front : front ≡ filled (map kept_of (take place levels))
+      kept-front = filled-few place front within is.long is.empty ∙ ap filled is.kept
+
+-- levels that were kept are the same in full
+whole-kept : (levels : List Level) → map whole (map kept_of levels) ≡ levels
+whole-kept levels = map-map whole kept_of levels ∙ map-id levels
+
+-- no more are kept than there is room for
+pub kept_in-most : (levels : List Level) → kept_in levels ≤ FRONT
+unfolding kept_in
+kept_in-most levels =
+    omega (arith, prefix_len-le-length fits (take FRONT levels), length-take FRONT levels)
+
+-- nor more than there are
+pub kept_in-few : (levels : List Level) → kept_in levels ≤ length levels
+unfolding kept_in
+kept_in-few levels =
+    omega (arith, prefix_len-le-length fits (take FRONT levels), length-take FRONT levels)
+
+-- a level of a front in full
+pub all_whole-at : (front : List KeptLevel) (place : ℕ) → place < length front
+    → whole (get_or front place no_level) ≡ get_or (all_whole front) place blank
+all_whole-at front place within = sym (get_or-map whole front place no_level blank within)
+
+-- of the first that are kept so many are those of all
+pub front_of-take : (count : ℕ) (levels : List Level) → count ≤ kept_in levels
+    → take count (all_whole (front_of levels)) ≡ take count levels
 unfolding front_of
-front_of-take count levels few there = filled-take FRONT count levels few there
+front_of-take count levels few =
+    let kept : ℕ = kept_in levels in
+    let shorts : List KeptLevel = map kept_of (take kept levels) in
+    let many : length shorts ≡ kept = length-map (take kept levels) kept_of
+    ∙ length-take-le kept levels (kept_in-few levels) in
+    take-map whole count (front_of levels)
+    ∙ ap (map whole) (filled-take FRONT count shorts (omega (arith, few, kept_in-most levels))
+    (omega (arith, few, many)) ∙ take-map kept_of count (take kept levels))
+    ∙ whole-kept (take count (take kept levels)) ∙ take-take count kept levels few
+
+-- of levels that all are left none is kept
+pub front-none : (levels rest : List Level) → levels ≡ rest
+    → IsKept FRONT 0 (replicate FRONT no_level) levels rest
+front-none levels rest same = record {
+  many = omega arith;
+  long = length-replicate FRONT no_level;
+  kept = refl;
+  empty = refl;
+  fit = λ i less. absurd (omega (arith, less));
+  left = same;
+}
 
 -- one level more is kept
-pub front-next : (place : ℕ) (front : List Level) (level : Level) → place < FRONT
-    → drop place front ≡ replicate (FRONT - place) no_level
-    → drop (place + 1) (set front place level) ≡ replicate (FRONT - (place + 1)) no_level
-front-next place front level within left = filled-next FRONT place front level within left
+pub front-next : (place : ℕ) (front : List KeptLevel) (levels : List Level) (level : Level)
+    (rest : List Level) (short : KeptLevel) → place < FRONT
+    → IsKept FRONT place front levels (level ∷ rest) → fits level ≡ true → short ≡ kept_of level
+    → IsKept FRONT (place + 1) (set front place short) levels rest
+front-next place front levels level rest short = kept-next FRONT place front levels level rest short
+
+-- where all that fit are kept
+module _ (place : ℕ) (front : List KeptLevel) (levels rest : List Level)
+    (is : IsKept FRONT place front levels rest) (within : place ≤ FRONT)
+    (ends : place < FRONT → place < length levels → fits (get_or levels place blank) ≡ false) where
+  -- it is so many
+  count_is : place ≡ kept_in levels
+  unfolding kept_in
+  count_is = sym (kept-count FRONT place front levels rest is within ends)
+
+  -- it is the front
+  front_is : front ≡ front_of levels
+  unfolding front_of
+  front_is = kept-front FRONT place front levels rest is within ends
+      ∙ ap (λ (kept : ℕ). filled FRONT (map kept_of (take kept levels))) count_is
+
+  -- it is both
+  all_kept : IsFront place front levels
+  all_kept = (count_is, front_is)
+
+-- where no levels are left
+pub none_left : (place : ℕ) (front : List KeptLevel) (levels rest : List Level)
+    → IsKept FRONT place front levels rest → place ≤ FRONT → (place < FRONT → rest ≡ [])
+    → IsFront place front levels
+none_left place front levels rest is within none =
+    all_kept place front levels rest is within (λ less there. absurd (omega (
+      arith,
+      there,
+      length-drop place levels,
+      ap length is.left,
+      ap length (none less),
+    )))
+
+-- where the next does not fit
+pub none_fits : (place : ℕ) (front : List KeptLevel) (levels : List Level) (level : Level)
+    (rest : List Level) → IsKept FRONT place front levels (level ∷ rest) → place ≤ FRONT
+    → fits level ≡ false → IsFront place front levels
+none_fits place front levels level rest is within not =
+    all_kept place front levels (level ∷ rest) is within (λ less there.
+    let here : get_or levels place blank ≡ level =
+    ap (λ (list : List Level). get_or list 0 blank)
+    (sym (drop_more levels place blank there) ∙ is.left) in
+    ap fits here ∙ not)
 
 -- whether all are is whether the first and the others are
 pub list_all-split : {X : Type 0} (test : X → Bool) (count : ℕ) (items : List X)
@@ -79,43 +225,38 @@ list_all-split test count items = ap (list_all test) (sym (take-append-drop coun
     ∙ list_all-append test (take count items) (drop count items)
 
 module _ (takes : List Bool → Option (ℕ × List Bool)) where
-  -- what is kept when the first levels were read
-  pub front_read : (place count : ℕ) (front levels : List Level) (rest : List Bool)
-      → length front ≡ FRONT → place ≡ min count FRONT
-      → drop place front ≡ replicate (FRONT - place) no_level
-      → levels ≡ take place front ++ levels_off takes (count - place) rest → front ≡ front_of levels
-  unfolding front_of
-  front_read place count front levels rest long first left all = elim (cases_lt place FRONT) [
-    | inl less ↦
-        let none : count - place ≡ 0 = omega (arith, first, less) in
-        let few : levels ≡ take place front =
-        all ∙ ap (λ (count : ℕ). take place front ++ levels_off takes count rest) none
-        ∙ append-nil (take place front) in
-        filled-few FRONT place front (omega (arith, less)) long left
-        ∙ ap (filled FRONT) (sym few)
-    | inr full ↦
-        let whole : take place front ≡ front = take_all place front (omega (arith, full, long)) in
-        filled-full FRONT front (levels_off takes (count - place) rest) long
-        ∙ ap (filled FRONT) (sym (all
-        ∙ ap (λ (front : List Level). front ++ levels_off takes (count - place) rest) whole))
-  ]
+  -- a level that is read comes first of those that are left
+  pub next_read : (place count : ℕ) (front : List KeptLevel) (levels : List Level)
+      (old : List Bool) (level : Level) (new : List Bool) → place < count
+      → level_off takes old ≡ Some (level, new)
+      → IsKept FRONT place front levels (levels_off takes (count - place) old)
+      → IsKept FRONT place front levels (level ∷ levels_off takes (count - (place + 1)) new)
+  next_read place count front levels old level new less next is =
+      let left : ℕ = count - (place + 1) in
+      let one : count - place ≡ suc left = omega (arith, less) in
+      subst (IsKept FRONT place front levels)
+      (ap (λ (count : ℕ). levels_off takes count old) one
+      ∙ levels_off-next takes left old level new next) is
 
   -- what is kept of a label, by what was read of it
-  pub glance_there : (bits : List Bool) (head : MstHead) (rest : List Bool) (front : List Level)
-      → head_off takes bits ≡ Some (head, rest) → is_some (levels_in takes head.count rest) ≡ true
-      → front ≡ front_of (levels_off takes head.count rest)
-      → Some (record { head = head; front = front }) ≡ option_map glance_of (mst_label takes bits)
-  glance_there bits head rest front is there kept =
+  pub glance_there : (bits : List Bool) (head : MstHead) (rest : List Bool) (kept : ℕ)
+      (front : List KeptLevel) → head_off takes bits ≡ Some (head, rest)
+      → is_some (levels_in takes head.count rest) ≡ true
+      → IsFront kept front (levels_off takes head.count rest)
+      → Some (record { head = head; kept = kept; front = front })
+      ≡ option_map glance_of (mst_label takes bits)
+  glance_there bits head rest kept front is there (kept_is, front_is) =
       let (label, read, said, levels) = a_label takes bits head rest is there in
       let many : length label.levels ≡ head.count = ap (λ (head : MstHead). head.count) said in
-      let same : front ≡ front_of label.levels = kept
-      ∙ ap front_of (levels_off-all takes rest label.levels head.count levels many) in
-      let glance : MstGlance = record { head = head; front = front } in
-      let both : glance ≡ glance_of label =
-      ap (λ (front : List Level). let glance : MstGlance = record { head = head; front = front } in
-      glance) same
-      ∙ ap (λ (head : MstHead). let glance : MstGlance =
-      record { head = head; front = front_of label.levels } in glance) (sym said) in
+      let all : levels_off takes head.count rest ≡ label.levels =
+      levels_off-all takes rest label.levels head.count levels many in
+      let glance : MstHead → ℕ → List KeptLevel → MstGlance =
+      λ head kept front. record { head = head; kept = kept; front = front } in
+      let both : glance head kept front ≡ glance_of label =
+      ap (λ (kept : ℕ). glance head kept front) (kept_is ∙ ap kept_in all)
+      ∙ ap (glance head (kept_in label.levels)) (front_is ∙ ap front_of all)
+      ∙ ap (λ (head : MstHead). glance head (kept_in label.levels) (front_of label.levels))
+      (sym said) in
       ap Some both ∙ sym (ap (option_map glance_of) read)
 
   -- a call that reads the level that comes next leaves the others

@@ -1,29 +1,31 @@
 -- What two labels say together that were looked at, and what one of them says.
 use Rattle.std.proofs.Common.{◌≡◌, ◌∙◌, ℕ, ◌-◌, ◌≤◌, ◌==◌, ◌&&◌, min, Bool, true, false, List, length, take, drop, Option, Some, sym, ap, arith}
 use Rattle.std.specs.List.{list_all}
-use Rattle.std.proofs.lemmas.List.{length-drop, take_all}
+use Rattle.std.proofs.lemmas.List.{length-drop, take-map, take_all}
+use Rattle.std.proofs.lemmas.List.Folds.{list_all-map}
 use Rattle.pls_boruvka.specs.declared.level.Level.{Level}
 use Rattle.pls_mst.specs.declared.comparing.Between.{Between}
 use Rattle.pls_mst.specs.declared.comparing.Compared.{Compared}
 use Rattle.pls_mst.specs.declared.glance.MstGlance.{MstGlance}
-use Rattle.pls_mst.specs.declared.glance.TheConstants.{FRONT}
+use Rattle.pls_mst.specs.declared.kept_level.KeptLevel.{KeptLevel}
 use Rattle.pls_mst.specs.declared.label.MstLabel.{MstLabel}
 use Rattle.pls_mst.specs.Labels.{levels_in}
 use Rattle.pls_mst.specs.Rules.{names_all_fragments}
 use Rattle.pls_mst.specs.inner.Comparing.{both_compared, compared}
-use Rattle.pls_mst.specs.inner.Glance.{front_of, glance_of}
+use Rattle.pls_mst.specs.inner.Glance.{all_whole, front_of, glance_of, kept_in}
+use Rattle.pls_mst.specs.inner.KeptLevel.{whole}
 use Rattle.pls_mst.specs.inner.Reading.{levels_off}
 use Rattle.pls_mst.proofs.Comparisons.{all_in_front, front_and_behind}
-use Rattle.pls_mst.proofs.Fronts.{front_of-take, list_all-split}
+use Rattle.pls_mst.proofs.Fronts.{front_of-take, kept_in-few, list_all-split}
 use Rattle.pls_mst.proofs.Levels.{levels_off-take}
 
 -- what the levels of two labels say together, by what is kept of them
 module _ (between : Between) (own other : MstLabel) (mine theirs : MstGlance) (shared first : ℕ)
     (found : Compared) (own_is : glance_of own ≡ mine) (other_is : glance_of other ≡ theirs)
     (shared_is : shared ≡ min mine.head.count theirs.head.count)
-    (first_is : first ≡ min shared FRONT)
-    (found_is : found ≡ compared between mine.head.own (take first mine.front)
-    (take first theirs.front)) where
+    (mine_kept : first ≤ mine.kept) (theirs_kept : first ≤ theirs.kept)
+    (found_is : found ≡ compared between mine.head.own (take first (all_whole mine.front))
+    (take first (all_whole theirs.front))) where
   -- as many as both have
   both_have : shared ≡ min (length own.levels) (length other.levels)
   both_have =
@@ -33,58 +35,69 @@ module _ (between : Between) (own other : MstLabel) (mine theirs : MstGlance) (s
       ap (λ (glance : MstGlance). glance.head.count) other_is in
       omega (arith, shared_is, own_count, other_count)
 
+  -- so many are kept of each
+  own_kept : first ≤ kept_in own.levels
+  own_kept = omega (arith, mine_kept, ap (λ (glance : MstGlance). glance.kept) own_is)
+
+  other_kept : first ≤ kept_in other.levels
+  other_kept = omega (arith, theirs_kept, ap (λ (glance : MstGlance). glance.kept) other_is)
+
+  -- the first levels of a list, as they are kept
+  abbrev kept_first : List Level → List Level
+  kept_first levels = take first (all_whole (front_of levels))
+
   -- what those in front say
-  in_front : found ≡ compared between own.own (take first (front_of own.levels))
-      (take first (front_of other.levels))
+  in_front : found
+      ≡ compared between own.own (kept_first own.levels) (kept_first other.levels)
   in_front = found_is
-      ∙ ap (λ (glance : MstGlance). compared between glance.head.own (take first glance.front)
-      (take first theirs.front)) (sym own_is)
-      ∙ ap (λ (glance : MstGlance). compared between own.own (take first (front_of own.levels))
-      (take first glance.front)) (sym other_is)
+      ∙ ap (λ (glance : MstGlance). compared between glance.head.own
+      (take first (all_whole glance.front)) (take first (all_whole theirs.front))) (sym own_is)
+      ∙ ap (λ (glance : MstGlance). compared between own.own (kept_first own.levels)
+      (take first (all_whole glance.front))) (sym other_is)
 
   -- where there are no others
-  pub looked_in_front : shared ≤ FRONT → found ≡ compared between own.own own.levels other.levels
+  pub looked_in_front : shared ≤ first → found ≡ compared between own.own own.levels other.levels
   looked_in_front few =
       in_front
-      ∙ all_in_front between own.own own.levels other.levels shared both_have first first_is few
+      ∙ all_in_front between own.own own.levels other.levels shared first both_have own_kept
+      other_kept few
 
   -- where others are read behind them
   pub looked_behind : (takes : List Bool → Option (ℕ × List Bool)) (here there : List Bool)
-      (all : Compared) → FRONT ≤ shared
-      → (FRONT ≤ length own.levels
-      → levels_in takes (length own.levels - FRONT) here ≡ Some (drop FRONT own.levels))
-      → (FRONT ≤ length other.levels
-      → levels_in takes (length other.levels - FRONT) there ≡ Some (drop FRONT other.levels))
+      (all : Compared)
+      → (first ≤ length own.levels
+      → levels_in takes (length own.levels - first) here ≡ Some (drop first own.levels))
+      → (first ≤ length other.levels
+      → levels_in takes (length other.levels - first) there ≡ Some (drop first other.levels))
       → all ≡ both_compared found (compared between mine.head.own
-      (levels_off takes (shared - FRONT) here) (levels_off takes (shared - FRONT) there))
+      (levels_off takes (shared - first) here) (levels_off takes (shared - first) there))
       → all ≡ compared between own.own own.levels other.levels
-  looked_behind takes here there all more here_is there_is all_is =
-      let left : ℕ = shared - FRONT in
-      let mine_off : levels_off takes left here ≡ take left (drop FRONT own.levels) =
-      levels_off-take takes left (length own.levels - FRONT) here (drop FRONT own.levels)
-      (here_is (omega (arith, more, both_have))) (omega (arith, both_have)) in
-      let theirs_off : levels_off takes left there ≡ take left (drop FRONT other.levels) =
-      levels_off-take takes left (length other.levels - FRONT) there (drop FRONT other.levels)
-      (there_is (omega (arith, more, both_have))) (omega (arith, both_have)) in
+  looked_behind takes here there all here_is there_is all_is =
+      let left : ℕ = shared - first in
+      let mine_off : levels_off takes left here ≡ take left (drop first own.levels) =
+      levels_off-take takes left (length own.levels - first) here (drop first own.levels)
+      (here_is (omega (arith, own_kept, kept_in-few own.levels))) (omega (arith, both_have)) in
+      let theirs_off : levels_off takes left there ≡ take left (drop first other.levels) =
+      levels_off-take takes left (length other.levels - first) there (drop first other.levels)
+      (there_is (omega (arith, other_kept, kept_in-few other.levels)))
+      (omega (arith, both_have)) in
+      let front : Compared =
+      compared between own.own (kept_first own.levels) (kept_first other.levels) in
       all_is
       ∙ ap (λ (glance : MstGlance). both_compared found (compared between glance.head.own
       (levels_off takes left here) (levels_off takes left there))) (sym own_is)
       ∙ ap (λ (found : Compared). both_compared found (compared between own.own
       (levels_off takes left here) (levels_off takes left there))) in_front
-      ∙ ap (λ (behind : List Level). both_compared
-      (compared between own.own (take first (front_of own.levels))
-      (take first (front_of other.levels)))
+      ∙ ap (λ (behind : List Level). both_compared front
       (compared between own.own behind (levels_off takes left there))) mine_off
-      ∙ ap (λ (behind : List Level). both_compared
-      (compared between own.own (take first (front_of own.levels))
-      (take first (front_of other.levels)))
-      (compared between own.own (take left (drop FRONT own.levels)) behind)) theirs_off
-      ∙ front_and_behind between own.own own.levels other.levels shared both_have first first_is
-      more
+      ∙ ap (λ (behind : List Level). both_compared front
+      (compared between own.own (take left (drop first own.levels)) behind)) theirs_off
+      ∙ front_and_behind between own.own own.levels other.levels shared first both_have own_kept
+      other_kept
 
 -- whether the fragments of a label have the node's name, by what is kept of it
 module _ (own : MstLabel) (glance : MstGlance) (first : ℕ) (first_has : Bool)
-    (is : glance_of own ≡ glance) (first_is : first ≡ min glance.head.count FRONT)
+    (is : glance_of own ≡ glance) (first_kept : first ≤ glance.kept)
     (has_is : first_has ≡ list_all (λ level. level.fragment == glance.head.own)
     (take first glance.front)) where
   -- the fragment of a level has the node's name
@@ -94,13 +107,18 @@ module _ (own : MstLabel) (glance : MstGlance) (first : ℕ) (first_has : Bool)
   many : length own.levels ≡ glance.head.count
   many = ap (λ (glance : MstGlance). glance.head.count) is
 
+  -- so many are kept of it
+  kept : first ≤ kept_in own.levels
+  kept = omega (arith, first_kept, ap (λ (glance : MstGlance). glance.kept) is)
+
   -- so it is with those in front
   first_named : first_has ≡ list_all named (take first own.levels)
   first_named = has_is
-      ∙ ap (λ (glance : MstGlance). list_all (λ (level : Level). level.fragment == glance.head.own)
-      (take first glance.front)) (sym is)
+      ∙ ap (λ (glance : MstGlance). list_all (λ (level : KeptLevel).
+      level.fragment == glance.head.own) (take first glance.front)) (sym is)
+      ∙ sym (list_all-map named whole (take first (front_of own.levels)))
       ∙ ap (list_all named)
-      (front_of-take first own.levels (omega (arith, first_is)) (omega (arith, first_is, many)))
+      (sym (take-map whole first (front_of own.levels)) ∙ front_of-take first own.levels kept)
 
   -- one in front has another
   pub none_named : first_has ≡ false → false ≡ names_all_fragments own
@@ -109,30 +127,27 @@ module _ (own : MstLabel) (glance : MstGlance) (first : ℕ) (first_has : Bool)
       ∙ sym (list_all-split named first own.levels)
 
   -- all are in front
-  pub first_are_all : glance.head.count ≤ FRONT → first_has ≡ names_all_fragments own
+  pub first_are_all : glance.head.count ≤ first → first_has ≡ names_all_fragments own
   first_are_all few = first_named
-      ∙ ap (list_all named) (take_all first own.levels (omega (arith, first_is, few, many)))
+      ∙ ap (list_all named) (take_all first own.levels (omega (arith, few, many)))
 
   -- others are read behind them
   pub others_named : (takes : List Bool → Option (ℕ × List Bool)) (rest : List Bool) (all : Bool)
-      → first_has ≡ true → FRONT ≤ glance.head.count
-      → (FRONT ≤ length own.levels
-      → levels_in takes (length own.levels - FRONT) rest ≡ Some (drop FRONT own.levels))
+      → first_has ≡ true
+      → (first ≤ length own.levels
+      → levels_in takes (length own.levels - first) rest ≡ Some (drop first own.levels))
       → all ≡ list_all (λ level. level.fragment == glance.head.own)
-      (levels_off takes (glance.head.count - FRONT) rest)
+      (levels_off takes (glance.head.count - first) rest)
       → all ≡ names_all_fragments own
-  others_named takes rest all have more rest_is all_is =
-      let full : first ≡ FRONT = omega (arith, first_is, more) in
-      let left : ℕ = length own.levels - FRONT in
-      let off : levels_off takes left rest ≡ drop FRONT own.levels =
-      levels_off-take takes left left rest (drop FRONT own.levels)
-      (rest_is (omega (arith, more, many))) (omega arith)
-      ∙ take_all left (drop FRONT own.levels) (omega (arith, length-drop FRONT own.levels)) in
+  others_named takes rest all have rest_is all_is =
+      let left : ℕ = length own.levels - first in
+      let off : levels_off takes left rest ≡ drop first own.levels =
+      levels_off-take takes left left rest (drop first own.levels)
+      (rest_is (omega (arith, kept, kept_in-few own.levels))) (omega arith)
+      ∙ take_all left (drop first own.levels) (omega (arith, length-drop first own.levels)) in
       all_is
       ∙ ap (λ (glance : MstGlance). list_all (λ (level : Level). level.fragment == glance.head.own)
-      (levels_off takes (glance.head.count - FRONT) rest)) (sym is)
+      (levels_off takes (glance.head.count - first) rest)) (sym is)
       ∙ ap (list_all named) off
-      ∙ ap (λ (b : Bool). b && list_all named (drop FRONT own.levels)) (sym have ∙ first_named)
-      ∙ ap (λ (first : ℕ). list_all named (take first own.levels)
-      && list_all named (drop FRONT own.levels)) full
-      ∙ sym (list_all-split named FRONT own.levels)
+      ∙ ap (λ (b : Bool). b && list_all named (drop first own.levels)) (sym have ∙ first_named)
+      ∙ sym (list_all-split named first own.levels)

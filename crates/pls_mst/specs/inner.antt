@@ -1,5 +1,6 @@
 -- What private functions say to each other.
 pub mod Reading
+pub mod KeptLevel
 pub mod Glance
 pub mod Comparing
 pub mod Gathering

@@ -8,10 +8,11 @@ ghost use Rattle.pls_mst.specs.declared.label.MstLabel.{MstLabel};
 ghost use Rattle.pls_mst.specs.Labels.{mst_label};
 ghost use Rattle.pls_mst.specs.Rules.{chose_least, is_at_most, is_chosen_between, is_named_or_shared};
 ghost use Rattle.pls_mst.specs.inner.Comparing.{both_compared, compared, edge_between};
-ghost use Rattle.pls_mst.specs.inner.Glance.{glance_of};
+ghost use Rattle.pls_mst.specs.inner.Glance.{all_whole, glance_of};
 ghost use Rattle.pls_mst.specs.inner.Reading.{levels_off};
 
 use crate::glance::{FRONT, MstGlance, behind_front, in_front};
+use crate::kept_level::KeptLevel;
 use crate::reading::read_level;
 use pls_bits::{Cursor, NumCode};
 use pls_boruvka::Level;
@@ -53,30 +54,32 @@ pub(crate) fn compare_levels<C: NumCode>(
         → glance_of other ≡ theirs.now.glance.now
         → result ≡ compared between.now own.own own.levels other.levels }
 {
-    let MstGlance { head, front } = mine.glance;
-    let shared = head.count.min(theirs.glance.head.count);
-    let first = in_front(shared);
+    let MstGlance { head, kept, front } = mine.glance;
+    let first = in_front((*kept).min(theirs.glance.kept));
     let found = compare_fronts(front, &theirs.glance.front, first, between, head.own);
-    if shared <= FRONT as u64 {
+    let shared = head.count.min(theirs.glance.head.count);
+    let past = first as u64;
+    if shared <= past {
         return found;
     }
-    let mut here = behind_front::<C>(mine.bits);
-    let mut there = behind_front::<C>(theirs.bits);
-    let left = shared - FRONT as u64;
+    let mut here = behind_front::<C>(mine.bits, first);
+    let mut there = behind_front::<C>(theirs.bits, first);
+    let left = shared - past;
     compare_behind::<C>(found, &mut here, &mut there, left, between, head.own)
 }
 
 // What the first levels of a node and of a neighbour say together, so many of them.
 #[inline(always)]
 fn compare_fronts(
-    mine: &[Level; FRONT],
-    theirs: &[Level; FRONT],
+    mine: &[KeptLevel; FRONT],
+    theirs: &[KeptLevel; FRONT],
     count: usize,
     between: &Between,
     own: u64,
 ) -> Compared
     requires { count ≤ FRONT }
-    ensures { result ≡ compared between.now own (take count mine.now) (take count theirs.now) }
+    ensures { result ≡ compared between.now own (take count (all_whole mine.now))
+        (take count (all_whole theirs.now)) }
 {
     let mut found = Compared {
         shares: true,
@@ -84,7 +87,9 @@ fn compare_fronts(
         chosen: false,
     };
     for place in 0..count {
-        found = with_level(found, between, own, &mine[place], &theirs[place]);
+        let here = mine[place].whole();
+        let there = theirs[place].whole();
+        found = with_level(found, between, own, &here, &there);
     }
     found
 }

@@ -6,30 +6,44 @@ ghost use Rattle.std.specs.Option.{is_some};
 ghost use Rattle.pls_mst.specs.declared.label.MstLabel.{MstLabel};
 ghost use Rattle.pls_mst.specs.Labels.{levels_in, mst_label};
 ghost use Rattle.pls_mst.specs.Rules.{names_all_fragments};
-ghost use Rattle.pls_mst.specs.inner.Glance.{front_of, glance_of};
+ghost use Rattle.pls_mst.specs.inner.Glance.{IsFront, glance_of};
 ghost use Rattle.pls_mst.specs.inner.Reading.{levels_off};
 
+use crate::kept_level::KeptLevel;
 use crate::label::MstHead;
 use crate::reading::{all_have, are_levels, levels_of, read_head, read_level};
 use pls_bits::{Bits, Cursor, NumCode};
-use pls_boruvka::Level;
 use pls_scheme::Looked;
 
-/// How many levels are kept. A right label has no more than the logarithm to the base 2 of the
-/// number of nodes, so these are all of it wherever there are fewer than 131,072 nodes.
-pub const FRONT: usize = 16;
+/// How many levels are kept at most. A right label has no more than the logarithm to the base 2 of
+/// the number of nodes, so these are all of it wherever there are fewer than 512 nodes, and in most
+/// networks of up to 32,768. Further levels are read where they lie.
+pub const FRONT: usize = 8;
 
 /// What is kept of a label at a glance.
 #[derive(Clone, Copy, Debug, PartialEq, Eq)]
 pub struct MstGlance {
     /// What stands in front of the levels.
     pub head: MstHead,
-    /// The first levels, and behind them, where there are fewer, levels of zeros.
-    pub front: [Level; FRONT],
+    /// How many of the first levels are kept: those before the first with a number of 2^32 or
+    /// more, which no right label has, and `FRONT` at most.
+    pub kept: u64,
+    /// These levels, and behind them, where there are fewer than `FRONT`, levels of zeros.
+    pub front: [KeptLevel; FRONT],
+}
+
+// The first of some levels.
+struct Front {
+    // How many are kept.
+    kept: u64,
+    // These, and behind them levels of zeros.
+    levels: [KeptLevel; FRONT],
+    // How many levels stand behind those that were read.
+    left: u64,
 }
 
 // What stands where there is no level.
-const NO_LEVEL: Level = Level {
+const NO_LEVEL: KeptLevel = KeptLevel {
     fragment: 0,
     weight: 0,
     a: 0,
@@ -42,31 +56,49 @@ pub(crate) fn glance_at<C: NumCode>(bits: &Bits<'_>) -> Option<MstGlance>
 {
     let mut cursor = bits.cursor();
     let head = read_head::<C>(&mut cursor)?;
-    let front = read_front::<C>(&mut cursor, head.count)?;
-    if are_levels::<C>(&mut cursor, head.count.saturating_sub(FRONT as u64)) {
-        Some(MstGlance { head, front })
+    let Front { kept, levels, left } = read_front::<C>(&mut cursor, head.count)?;
+    if are_levels::<C>(&mut cursor, left) {
+        Some(MstGlance {
+            head,
+            kept,
+            front: levels,
+        })
     } else {
         None
     }
 }
 
-// The first of so many levels, which the cursor moves past, or `None` where one of them is missing.
-fn read_front<C: NumCode>(cursor: &mut Cursor<'_>, count: u64) -> Option<[Level; FRONT]>
+// The first of so many levels that are kept, or `None` where one that is read is missing. The
+// cursor moves past those that are read: the ones that are kept, and one that does not fit.
+fn read_front<C: NumCode>(cursor: &mut Cursor<'_>, count: u64) -> Option<Front>
     ensures found { IfSome result
-        (λ front. front ≡ front_of (levels_off C.takes count cursor.old)) }
-    ensures left { IfSome result (λ _. is_some (levels_in C.takes count cursor.old)
-        ≡ is_some (levels_in C.takes (count - FRONT) cursor.new)) }
+        (λ front. IsFront front.kept front.levels (levels_off C.takes count cursor.old)) }
+    ensures left { IfSome result (λ front. is_some (levels_in C.takes count cursor.old)
+        ≡ is_some (levels_in C.takes front.left cursor.new)) }
     ensures none { IfNone result (is_some (levels_in C.takes count cursor.old) ≡ false) }
 {
-    let mut front = [NO_LEVEL; FRONT];
+    let mut levels = [NO_LEVEL; FRONT];
     let first = in_front(count);
     for place in 0..first {
-        front[place] = read_level::<C>(cursor)?;
+        let level = read_level::<C>(cursor)?;
+        let kept = place as u64;
+        let Some(short) = KeptLevel::of(&level) else {
+            return Some(Front {
+                kept,
+                levels,
+                left: count - kept - 1,
+            });
+        };
+        levels[place] = short;
     }
-    Some(front)
+    Some(Front {
+        kept: first as u64,
+        levels,
+        left: count - first as u64,
+    })
 }
 
-// How many of so many levels are kept.
+// How many of so many levels have room.
 #[inline(always)]
 pub(crate) fn in_front(count: u64) -> usize
     ensures { result ≡ min count FRONT }
@@ -74,14 +106,14 @@ pub(crate) fn in_front(count: u64) -> usize
     count.min(FRONT as u64) as usize
 }
 
-// A cursor behind the first levels of a label that has so many.
-pub(crate) fn behind_front<'a, C: NumCode>(bits: &Bits<'a>) -> Cursor<'a>
+// A cursor behind the first levels of a label, so many of them.
+pub(crate) fn behind_front<'a, C: NumCode>(bits: &Bits<'a>, first: usize) -> Cursor<'a>
     ensures { (label : MstLabel) → mst_label C.takes bits.now ≡ Some label
-        → FRONT ≤ length label.levels
-        → levels_in C.takes (length label.levels - FRONT) result ≡ Some (drop FRONT label.levels) }
+        → first ≤ length label.levels
+        → levels_in C.takes (length label.levels - first) result ≡ Some (drop first label.levels) }
 {
     let mut cursor = levels_of::<C>(bits);
-    for _ in 0..FRONT {
+    for _ in 0..first {
         read_level::<C>(&mut cursor);
     }
     cursor
@@ -92,26 +124,27 @@ pub(crate) fn names_all<C: NumCode>(label: &Looked<'_, MstGlance>) -> bool
     ensures { (own : MstLabel) → mst_label C.takes label.now.bits.now ≡ Some own
         → glance_of own ≡ label.now.glance.now → result ≡ names_all_fragments own }
 {
-    let MstGlance { head, front } = label.glance;
-    let first = in_front(head.count);
+    let MstGlance { head, kept, front } = label.glance;
+    let first = in_front(*kept);
     if !front_has(front, first, head.own) {
         return false;
     }
-    if head.count <= FRONT as u64 {
+    let past = first as u64;
+    if head.count <= past {
         return true;
     }
-    let mut cursor = behind_front::<C>(label.bits);
-    all_have::<C>(&mut cursor, head.count - FRONT as u64, head.own)
+    let mut cursor = behind_front::<C>(label.bits, first);
+    all_have::<C>(&mut cursor, head.count - past, head.own)
 }
 
-// Whether the first levels, so many, have this fragment.
+// Whether the first levels that are kept, so many, have this fragment.
 #[inline(always)]
-fn front_has(front: &[Level; FRONT], count: usize, fragment: u64) -> bool
+fn front_has(front: &[KeptLevel; FRONT], count: usize, fragment: u64) -> bool
     requires { count ≤ FRONT }
     ensures { result ≡ list_all (λ level. level.fragment == fragment) (take count front.now) }
 {
     for place in 0..count {
-        if front[place].fragment != fragment {
+        if u64::from(front[place].fragment) != fragment {
             return false;
         }
     }

@@ -1,16 +1,28 @@
-use Rattle.std.proofs.Common.{arith}
-use Rattle.pls_mst.specs.inner.Glance.{no_level}
+use Rattle.std.proofs.Common.{◌∙◌, ◌<◌, ℕ, length, arith}
+use Rattle.std.proofs.lemmas.List.{length-map}
+use Rattle.pls_mst.specs.inner.Glance.{all_whole}
+use Rattle.pls_mst.specs.inner.KeptLevel.{whole}
 use Rattle.pls_mst.proofs.Comparisons.{compared-last}
+use Rattle.pls_mst.proofs.Fronts.{all_whole-at, blank}
 use Rattle.pls_mst.proofs.comparing.compare_fronts.Goals as goal
 
 pub loop-place-preserved : goal.loop-place-preserved
 loop-place-preserved c =
+    let place : ℕ = c.loop-place.place in
+    let mine = c.args.mine.now in
+    let theirs = c.args.theirs.now in
+    let mine_has : place < length mine =
+    omega (arith, c.told-mine, c.requires, c.loop-place-test.true) in
+    let theirs_has : place < length theirs =
+    omega (arith, c.told-theirs, c.requires, c.loop-place-test.true) in
     record {
       within = omega (arith, c.loop-place-test.true);
-      so_far = compared-last c.args.between.now c.args.own c.loop-place.place c.args.mine.now
-          c.args.theirs.now no_level c.loop-place.found c.with_level-found.result
-          (omega (arith, c.told-mine, c.requires, c.loop-place-test.true))
-          (omega (arith, c.told-theirs, c.requires, c.loop-place-test.true))
+      so_far = compared-last c.args.between.now c.args.own place (all_whole mine)
+          (all_whole theirs) blank c.whole-here.result c.whole-there.result c.loop-place.found
+          c.with_level-found.result (omega (arith, mine_has, length-map mine whole))
+          (omega (arith, theirs_has, length-map theirs whole))
+          (c.whole-here.ensures ∙ all_whole-at mine place mine_has)
+          (c.whole-there.ensures ∙ all_whole-at theirs place theirs_has)
           c.loop-place.invariant.so_far c.with_level-found.ensures.shares
           c.with_level-found.ensures.least c.with_level-found.ensures.chosen;
     }

@@ -1,7 +1,6 @@
 use Rattle.std.proofs.Common.{◌≡◌, ◌∙◌, ◌+◌, ◌-◌, ℕ, suc, drop, length, List, Some, subst, sym, ap, arith}
 use Rattle.std.proofs.lemmas.List.{drop-drop}
 use Rattle.pls_boruvka.specs.declared.level.Level.{Level}
-use Rattle.pls_mst.specs.declared.glance.TheConstants.{FRONT}
 use Rattle.pls_mst.specs.Labels.{levels_in}
 use Rattle.pls_mst.proofs.Fronts.{levels_left}
 use Rattle.pls_mst.proofs.glance.behind_front.Goals as goal
@@ -24,7 +23,7 @@ loop-preserved g c =
 
 pub returns : goal.returns
 returns g c label read many =
-    let ends : c.loop.counter ≡ FRONT =
+    let ends : c.loop.counter ≡ c.args.first =
     omega (arith, c.loop.invariant.within, c.loop-test.false) in
     subst (λ (count : ℕ). levels_in g.C.NumCode.takes (length label.levels - count) c.loop.cursor
     ≡ Some (drop count label.levels)) ends (c.loop.invariant.left label read many)

@@ -9,7 +9,6 @@ returns-then-are_levels g c =
     let front : head_off takes c.args.bits.now ≡ Some (c.in_ok-head.head, c.read_head.new.cursor) =
     ap (head_off takes) (sym c.cursor-cursor.ensures) ∙ c.in_ok-head.ensures.found in
     let there : is_some (levels_in takes c.in_ok-head.head.count c.read_head.new.cursor) ≡ true =
-    c.in_ok-front.ensures.left ∙ rw (sym c.saturating_sub.ensures)
-    (sym c.are_levels.ensures ∙ c.if-are_levels.true) in
+    c.in_ok-kept.ensures.left ∙ sym c.are_levels.ensures ∙ c.if-are_levels.true in
     glance_there takes c.args.bits.now c.in_ok-head.head c.read_head.new.cursor
-    c.in_ok-front.front front there c.in_ok-front.ensures.found
+    c.in_ok-kept.field-0.kept c.in_ok-kept.field-0.levels front there c.in_ok-kept.ensures.found

@@ -1,53 +1,101 @@
-use Rattle.std.proofs.Common.{◌≡◌, ◌∙◌, ◌+◌, ◌-◌, ◌++◌, ◌∷◌, [], ℕ, suc, List, take, slice_set, sym, ap, arith, append_assoc}
-use Rattle.std.proofs.lemmas.List.{length-set, take_more_set}
+use Rattle.std.proofs.Common.{◌≡◌, ◌∙◌, ◌+◌, ◌-◌, ◌<◌, ℕ, List, is_some, sym, ap, arith}
 use Rattle.pls_boruvka.specs.declared.level.Level.{Level}
+use Rattle.pls_mst.specs.Labels.{levels_in}
+use Rattle.pls_mst.specs.inner.Glance.{IsFront}
 use Rattle.pls_mst.specs.inner.Reading.{levels_off}
-use Rattle.pls_mst.proofs.Behind.{behind_more, none_behind}
-use Rattle.pls_mst.proofs.Fronts.{front-next, front_read}
-use Rattle.pls_mst.proofs.Levels.{levels_off-next}
+use Rattle.pls_mst.proofs.Behind.{behind_all, behind_more, behind_none, none_behind}
+use Rattle.pls_mst.proofs.Fronts.{front-next, front-none, next_read, none_fits, none_left}
 use Rattle.pls_mst.proofs.glance.read_front.Goals as goal
 
-pub returns-in_err-front-clause-none : goal.returns-in_err-front-clause-none
-returns-in_err-front-clause-none g c =
+pub loop-place-init : goal.loop-place-init
+loop-place-init g c =
+    let takes = g.C.NumCode.takes in
+    let bits = c.args.cursor.now in
+    let all : c.args.count ≡ c.args.count - 0 = omega arith in
+    record {
+      within = omega arith;
+      kept = front-none (levels_off takes c.args.count bits)
+          (levels_off takes (c.args.count - 0) bits)
+          (ap (λ (count : ℕ). levels_off takes count bits) all);
+      behind = behind_none takes bits;
+    }
+
+pub returns-in_err-level-clause-none : goal.returns-in_err-level-clause-none
+returns-in_err-level-clause-none g c =
     let takes = g.C.NumCode.takes in
     rw c.from_residual.ensures
     (none_behind takes c.loop-place.place c.args.count c.args.cursor.now c.loop-place.cursor
     c.loop-place.invariant.behind (omega (arith, c.loop-place-test.true, c.in_front-first.ensures))
-    c.in_err-front.ensures.none)
+    c.in_err-level.ensures.none)
+
+pub returns-in_default-clause-found : goal.returns-in_default-clause-found
+returns-in_default-clause-found g c =
+    let takes = g.C.NumCode.takes in
+    let place : ℕ = c.loop-place.place in
+    let levels : List Level = levels_off takes c.args.count c.args.cursor.now in
+    let new = c.read_level.new.cursor in
+    none_fits place c.loop-place.levels levels c.in_ok-level.level
+    (levels_off takes (c.args.count - (place + 1)) new)
+    (next_read takes place c.args.count c.loop-place.levels levels c.loop-place.cursor
+    c.in_ok-level.level new (omega (arith, c.loop-place-test.true, c.in_front-first.ensures))
+    c.in_ok-level.ensures.found c.loop-place.invariant.kept)
+    (omega (arith, c.loop-place-test.true, c.in_front-first.ensures)) c.in_default.ensures.none
+
+pub returns-in_default-clause-left : goal.returns-in_default-clause-left
+returns-in_default-clause-left g c =
+    let takes = g.C.NumCode.takes in
+    let place : ℕ = c.loop-place.place in
+    let new = c.read_level.new.cursor in
+    let less : place < c.args.count =
+    omega (arith, c.loop-place-test.true, c.in_front-first.ensures) in
+    let same : c.args.count - (place + 1) ≡ c.args.count - place - 1 = omega arith in
+    behind_all takes (place + 1) c.args.count c.args.cursor.now new
+    (behind_more takes place c.args.cursor.now c.loop-place.cursor c.in_ok-level.level new
+    c.loop-place.invariant.behind c.in_ok-level.ensures.found) (omega (arith, less))
+    ∙ ap (λ (count : ℕ). is_some (levels_in takes count new)) same
 
 pub loop-place-preserved : goal.loop-place-preserved
 loop-place-preserved g c =
     let takes = g.C.NumCode.takes in
     let place : ℕ = c.loop-place.place in
-    let front : List Level = c.loop-place.front in
-    let level : Level = c.in_ok-front.field-0 in
-    let before = c.loop-place.invariant in
-    let left : ℕ = c.args.count - (place + 1) in
-    let one : c.args.count - place ≡ suc left =
+    let levels : List Level = levels_off takes c.args.count c.args.cursor.now in
+    let new = c.read_level.new.cursor in
+    let less : place < c.args.count =
     omega (arith, c.loop-place-test.true, c.in_front-first.ensures) in
-    let rest : List Level = levels_off takes left c.read_level.new.cursor in
-    let more : take (place + 1) (slice_set front place level) ≡ take place front ++ level ∷ [] =
-    take_more_set front place level
-    (omega (arith, before.long, c.loop-place-test.true, c.in_front-first.ensures)) in
     record {
       within = omega (arith, c.loop-place-test.true);
-      long = length-set front place level ∙ before.long;
-      left = front-next place front level
-          (omega (arith, c.loop-place-test.true, c.in_front-first.ensures)) before.left;
-      all = before.all
-          ∙ ap (λ (count : ℕ). take place front ++ levels_off takes count c.loop-place.cursor) one
-          ∙ ap (λ (more : List Level). take place front ++ more) (levels_off-next takes left
-          c.loop-place.cursor level c.read_level.new.cursor c.in_ok-front.ensures.found)
-          ∙ sym (append_assoc (take place front) (level ∷ []) rest)
-          ∙ ap (λ (first : List Level). first ++ rest) (sym more);
-      behind = behind_more takes place c.args.cursor.now c.loop-place.cursor level
-          c.read_level.new.cursor before.behind c.in_ok-front.ensures.found;
+      kept = front-next place c.loop-place.levels levels c.in_ok-level.level
+          (levels_off takes (c.args.count - (place + 1)) new) c.in-Some.short
+          (omega (arith, c.loop-place-test.true, c.in_front-first.ensures))
+          (next_read takes place c.args.count c.loop-place.levels levels c.loop-place.cursor
+          c.in_ok-level.level new less c.in_ok-level.ensures.found c.loop-place.invariant.kept)
+          c.in-Some.ensures.fits c.in-Some.ensures.found;
+      behind = behind_more takes place c.args.cursor.now c.loop-place.cursor c.in_ok-level.level
+          new c.loop-place.invariant.behind c.in_ok-level.ensures.found;
     }
 
 pub returns-clause-found : goal.returns-clause-found
 returns-clause-found g c =
-    let before = c.loop-place.invariant in
-    front_read g.C.NumCode.takes c.loop-place.place c.args.count c.loop-place.front
-    (levels_off g.C.NumCode.takes c.args.count c.args.cursor.now) c.loop-place.cursor before.long
-    (omega (arith, before.within, c.loop-place-test.false, c.in_front-first.ensures)) before.left
-    before.all
+    let takes = g.C.NumCode.takes in
+    let place : ℕ = c.loop-place.place in
+    let levels : List Level = levels_off takes c.args.count c.args.cursor.now in
+    let left : List Level = levels_off takes (c.args.count - place) c.loop-place.cursor in
+    let first : c.in_front-first.result ≡ place =
+    omega (arith, c.loop-place.invariant.within, c.loop-place-test.false) in
+    let front : IsFront place c.loop-place.levels levels =
+    none_left place c.loop-place.levels levels left c.loop-place.invariant.kept
+    (omega (arith, first, c.in_front-first.ensures))
+    (λ less. let none : c.args.count - place ≡ 0 =
+    omega (arith, less, first, c.in_front-first.ensures) in
+    ap (λ (count : ℕ). levels_off takes count c.loop-place.cursor) none) in
+    (first ∙ front.0, front.1)
+
+pub returns-clause-left : goal.returns-clause-left
+returns-clause-left g c =
+    let takes = g.C.NumCode.takes in
+    let first : c.in_front-first.result ≡ c.loop-place.place =
+    omega (arith, c.loop-place.invariant.within, c.loop-place-test.false) in
+    behind_all takes c.loop-place.place c.args.count c.args.cursor.now c.loop-place.cursor
+    c.loop-place.invariant.behind (omega (arith, first, c.in_front-first.ensures))
+    ∙ ap (λ (count : ℕ). is_some (levels_in takes (c.args.count - count) c.loop-place.cursor))
+    (sym first)
