@@ -18,7 +18,7 @@ use Rattle.pls_scheme.specs.Judging.{AllAccept, round_by}
 use Rattle.pls_sim.specs.declared.event.Event.{Event}
 use Rattle.pls_sim.specs.declared.outcome.Outcome.{Outcome}
 use Rattle.pls_sim.specs.declared.outcome.Outcome.TheVariants.{Decided}
-use Rattle.pls_sim.specs.Schedule.{outcome_after, outcome_of, unheard}
+use Rattle.pls_sim.specs.Schedule.{outcome_after, outcome_of, played_by, unheard}
 use Rattle.pls_report.specs.Report.{all_accept, all_verdicts_accept, is_accepting}
 use Rattle.pls_app.specs.declared.command.Command.{Command}
 use Rattle.pls_app.specs.declared.command.Command.TheVariants.{With}
@@ -31,7 +31,7 @@ use Rattle.pls_combine.specs.Expression.{Expression, HasProperty, judge_of}
 use Rattle.pls_combine.specs.laws.ExpressionLaws.{expression_sound}
 use Rattle.pls_app.specs.Command.{Checks, IsCheck, parts_of}
 use Rattle.pls_app.specs.Input.{Input, IsInput}
-use Rattle.pls_app.specs.Answer.{Answer, Answers, TaskYields, decided_by, played_by, refusal_status, report, task_outcomes}
+use Rattle.pls_app.specs.Answer.{Answer, Answers, TaskYields, decided_by, refusal_status, report, task_outcomes}
 use Rattle.pls_app.specs.Run.{IsJudged, Lacks, Proves, SomeRejects}
 
 -- a verdict that is decided and accepting accepts

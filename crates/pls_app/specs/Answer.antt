@@ -11,10 +11,9 @@ use Rattle.pls_model.specs.Configuration.{ids_of}
 use Rattle.pls_lines.specs.Text.{line_of, text_of}
 use Rattle.pls_labelfile.specs.LabelsText.{labels_text, named}
 use Rattle.pls_view.specs.Seen.{Seen, views}
-use Rattle.pls_sim.specs.declared.event.Event.{Event}
 use Rattle.pls_sim.specs.declared.outcome.Outcome.{Outcome}
 use Rattle.pls_sim.specs.declared.outcome.Outcome.TheVariants.{Decided}
-use Rattle.pls_sim.specs.Schedule.{outcome_of}
+use Rattle.pls_sim.specs.Schedule.{played_by}
 use Rattle.pls_report.specs.Report.{all_accept, report_text}
 use Rattle.pls_app.specs.declared.command.Command.{Command}
 use Rattle.pls_app.specs.declared.command.Command.TheVariants.{With}
@@ -78,12 +77,6 @@ bounded number = record {
 -- what becomes of the nodes in a round in which each sees all of its neighbours
 abbrev pub decided_by : (Seen → Verdict) → List NodeRow → List (List Bool) → List (ℕ × Outcome)
 decided_by judge rows labels = map (λ view. (view.id, Decided (judge view))) (views rows labels)
-
--- what becomes of the nodes in a round that is played from a schedule
-abbrev pub played_by : (Seen → Verdict) → List NodeRow → List (List Bool) → List Event
-    → List (ℕ × Outcome)
-played_by judge rows labels events =
-    map (λ row. (row.id, outcome_of judge rows labels events row)) rows
 
 -- the outcomes that a task with a scheme reports, and so a command
 abbrev pub task_outcomes : Task → Expression → Input → List (ℕ × Outcome)

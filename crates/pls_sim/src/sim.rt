@@ -5,7 +5,7 @@ ghost use Rattle.pls_model.specs.declared.row.NodeRow.{NodeRow};
 ghost use Rattle.pls_model.specs.declared.row.Port.{Port};
 ghost use Rattle.pls_view.specs.Seen.{views};
 ghost use Rattle.pls_scheme.specs.Judging.{RoseByAtMost};
-ghost use Rattle.pls_sim.specs.Schedule.{has_heard, outcomes_by, unheard};
+ghost use Rattle.pls_sim.specs.Schedule.{has_heard, outcome_after, outcomes_by, played_by, unheard};
 ghost use Rattle.pls_sim.specs.Applying.{event_refusal, taking};
 
 use crate::event::Event;
@@ -212,6 +212,42 @@ impl<'n> Sim<'n> {
         }
         let verdict = verdict_at(alloc, self.net, i, checker, labels, steps)?;
         Ok(Outcome::Decided(verdict))
+    }
+
+    /// What has become of each node, with its identity, in the order of the nodes, as
+    /// [`Sim::outcome`] says. The checker judges all nodes in one round, those that wait too. The one
+    /// error is want of memory.
+    pub fn outcomes<K: Checker>(
+        &self,
+        alloc: Global,
+        checker: &K,
+        labels: &LabelStore,
+        steps: &mut Steps,
+    ) -> Result<Vec<(u32, Outcome)>, NoMemory>
+        requires lengths { length labels.now ≡ length self.now.network }
+        ensures outcomes { IfOk result (λ rows. rows.items ≡ played_by (K.judge checker.now)
+            self.now.network labels.now self.now.events) }
+        ensures few_steps { RoseByAtMost (length self.now.network) steps.old steps.new }
+    {
+        let verdicts = checker.round(alloc, self.net, labels, steps)?;
+        let mut rows = Vec::with_capacity(alloc, verdicts.len())?;
+        for (i, verdict) in verdicts.iter().enumerate() {
+            rows.push((self.net.node(i).0, self.outcome_after(alloc, i, *verdict)?))?;
+        }
+        Ok(rows)
+    }
+
+    // The outcome of the node at place i, where this is the verdict on its view.
+    fn outcome_after(&self, alloc: Global, i: usize, verdict: Verdict) -> Result<Outcome, NoMemory>
+        requires { i < length self.now.network }
+        ensures { IfOk result (λ outcome. (row : NodeRow) → slice_get self.now.network i ≡ Some row
+            → outcome ≡ outcome_after (unheard self.now.network self.now.events row) verdict) }
+    {
+        let numbers = self.unheard(alloc, i)?;
+        if numbers.is_empty() {
+            return Ok(Outcome::Decided(verdict));
+        }
+        Ok(Outcome::Waiting(PortNumbers { numbers }))
     }
 }
 
