@@ -2,7 +2,7 @@
 
 ghost use Rattle.std.specs.Prelude.{◌≡◌, ℕ, ◌+◌, ◌<◌, ◌≤◌, ◌^◌, [], ◌∷◌, All, is_some, not, length, option_map, IfOk, IfSome, OnOk, None, true};
 ghost use Rattle.pls_bits.specs.Gamma.{gamma_takes};
-ghost use Rattle.pls_combine.specs.Expression.{Expression, IsSmall, judge_of};
+ghost use Rattle.pls_combine.specs.Expression.{Expression, judge_of};
 ghost use Rattle.pls_edits.specs.Edited.{FitsNum, edit_refusal};
 ghost use Rattle.pls_edits.specs.EditsText.{FitsEdit};
 ghost use Rattle.pls_view.specs.Seen.{Seen};
@@ -43,8 +43,7 @@ pub(crate) fn recheck<B: Bench>(
     input: Input,
     bench: &mut B,
 ) -> Result<Answer, NoMemory>
-    requires input { IsReadOf Shape.Edited input }
-    requires small { IsSmall scheme }
+    requires { IsReadOf Shape.Edited input }
     ensures does { IfOk result (λ answer. Does Task.Recheck scheme (said input) answer) }
     ensures answered { IfOk result (λ answer. IsAnswered answer.status) }
     ensures rechecked { IfOk result (λ answer. RecheckedIn scheme (said input) answer.status

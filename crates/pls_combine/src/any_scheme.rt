@@ -1,6 +1,7 @@
 //! An expression of schemes as a scheme.
 
-ghost use Rattle.std.specs.Prelude.{◌≡◌, ◌≤◌, IfSome};
+ghost use Rattle.std.specs.Prelude.{◌≡◌, ◌≢◌, ◌≤◌, IfNone, IfSome};
+ghost use Rattle.pls_combine.specs.declared.scheme_name.SchemeName.{SchemeName};
 ghost use Rattle.pls_combine.specs.Expression.{Basic, IsSmall, leaves_of};
 ghost use Rattle.pls_combine.specs.inner.Trees.{expression_of};
 
@@ -51,11 +52,14 @@ impl<C> AnyScheme<C> {
 
     /// The name, where the expression is one.
     pub fn name(&self) -> Option<SchemeName>
-        ensures { IfSome result (λ name. self.now ≡ Basic name) }
+        ensures some { IfSome result (λ name. self.now ≡ Basic name) }
+        ensures none { IfNone result ((name : SchemeName) → self.now ≢ Basic name) }
     {
         match &self.tree {
             SchemeTree::Basic(name) => Some(*name),
-            _ => None,
+            SchemeTree::Map(_) => None,
+            SchemeTree::And(_, _) => None,
+            SchemeTree::Or(_, _) => None,
         }
     }
 
