@@ -1,6 +1,6 @@
 //! Labels of combinations, put together from those of the parts.
 
-ghost use Rattle.std.specs.Prelude.{◌≡◌, ℕ, ◌≤◌, ◌∷◌, [], length, replicate, IfOk, OnOk};
+ghost use Rattle.std.specs.Prelude.{◌≡◌, ℕ, ◌≤◌, ◌∷◌, length, IfOk, OnOk};
 ghost use Rattle.pls_bits.specs.declared.num_code.TheConstants.{MAX_CODED};
 ghost use Rattle.pls_scheme.specs.Marked.{answered};
 ghost use Rattle.pls_combine.specs.Joined.{EachJoined, joined_at, joined_bits, longest_both};
@@ -12,9 +12,6 @@ use pls_bits::{BitBuf, Bits, MAX_CODED, NumCode};
 use pls_scheme::code_length;
 use pls_view::LabelStore;
 use std::alloc::Global;
-
-// The greatest number of bits for which room is asked, 2^61.
-const MOST: u64 = 2_305_843_009_213_693_952;
 
 // The label of a conjunction whose parts are these. The one error is want of memory, by which a
 // first part too long for a code goes too.
@@ -56,18 +53,6 @@ fn put_joined<C: NumCode>(
     Ok(())
 }
 
-// So many empty labels, with room for so many bits, and two words more for each.
-fn blank_for(alloc: Global, count: usize, bits: u64) -> Result<LabelStore, NoMemory>
-    ensures { IfOk result (λ labels. labels ≡ replicate count []) }
-{
-    let mut labels = LabelStore::blank(alloc, count)?;
-    let more = (count as u64).saturating_mul(128);
-    labels
-        .with_room()
-        .reserve(bits.saturating_add(more).min(MOST))?;
-    Ok(labels)
-}
-
 // The labels of a conjunction whose parts are these. The one error is want of memory.
 pub(crate) fn joined_labels<C: NumCode>(
     alloc: Global,
@@ -81,7 +66,8 @@ pub(crate) fn joined_labels<C: NumCode>(
         (λ labels. AllFit (joined_at C.code fronts.now backs.now) (length fronts.now)) }
 {
     let bits = fronts.total().saturating_add(backs.total());
-    let mut labels = blank_for(alloc, fronts.len(), bits)?;
+    let codes = (fronts.len() as u64).saturating_mul(64);
+    let mut labels = LabelStore::blank_for(alloc, fronts.len(), bits.saturating_add(codes))?;
     let mut label = BitBuf::new(alloc);
     for i in 0..fronts.len() {
         put_joined::<C>(&mut label, fronts.bits(i), backs.bits(i))?;
@@ -109,7 +95,8 @@ pub(crate) fn tagged_labels(
     ensures tagged { IfOk result (EachTagged tag rests.now) }
     ensures fit { IfOk result (λ labels. AllFit (tagged_at tag rests.now) (length rests.now)) }
 {
-    let mut labels = blank_for(alloc, rests.len(), rests.total())?;
+    let bits = rests.total().saturating_add(rests.len() as u64);
+    let mut labels = LabelStore::blank_for(alloc, rests.len(), bits)?;
     let mut label = BitBuf::new(alloc);
     for i in 0..rests.len() {
         put_tagged(&mut label, tag, rests.bits(i))?;

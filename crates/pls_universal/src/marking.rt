@@ -22,8 +22,10 @@ pub fn map_labels<C: NumCode>(alloc: Global, net: &Network) -> Result<LabelStore
         IsMarkedBy (IsMapLabel C.code) (map_says net.now) net.now labels) }
 {
     let map = write_map::<C>(alloc, net)?;
-    let mut labels = LabelStore::blank(alloc, net.len())?;
     let mut label = BitBuf::new(alloc);
+    let bits = (map.len() as u64).saturating_add(64);
+    let all = bits.saturating_mul(net.len() as u64);
+    let mut labels = LabelStore::blank_for(alloc, net.len(), all)?;
     for i in 0..net.len() {
         put_label::<C>(&mut label, net.node(i).0, map.bits())?;
         labels.replace(i, &label)?;
