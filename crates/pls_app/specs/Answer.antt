@@ -33,7 +33,7 @@ pub record Answer : Type 0 where
   pub status : Status
   pub text : List ℕ
 
--- the answer to words that are no command
+-- the answer to words that are neither a command nor a trial
 abbrev pub usage : Answer
 usage = record { status = Usage; text = text_of (codes "usage" ∷ []) }
 
@@ -44,7 +44,7 @@ refusal_status (Limit quantity) = OverLimit
 refusal_status (Sense number place) = Refused
 refusal_status NoMemory = OutOfMemory
 
--- the line that says a refusal; want of memory has none
+-- the line that says a refusal; want of memory has none, and no input is refused for it
 abbrev pub refusal_line : TextError → List ℕ
 refusal_line (Form line) = line_of (codes "refused" ∷ codes "form" ∷ codes "at" ∷ decimal line ∷ [])
 refusal_line (Limit quantity) = line_of (codes "limit" ∷ quantity_text quantity ∷ [])

@@ -73,7 +73,7 @@ ReportInput judge input reports =
 abbrev pub is_well : Report → Bool
 is_well report = all_verdicts_accept report.verdicts && report.connected
 
--- it is so in the last round
+-- it is so in the last round; there is always one
 abbrev pub ends_well : List Report → Bool
 ends_well [] = true
 ends_well (report ∷ []) = is_well report

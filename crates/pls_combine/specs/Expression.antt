@@ -85,7 +85,8 @@ judge_of takes (Or first second) view =
 abbrev pub IsMapMarked : (ℕ → List Bool) → List NodeRow → List (List Bool) → Type 0
 IsMapMarked code rows labels = IsMarkedBy (IsMapLabel code) (map_says rows) rows labels
 
--- the labels are those of a connected network with the property
+-- each label says what is right for its node: on a connected network with the property there is one
+-- list of such labels, and else nothing follows
 abbrev pub IsMarked : (ℕ → List Bool) → Expression → List NodeRow → List (List Bool) → Type 0
 IsMarked code (Basic name) rows labels = IsNamedMarked code name rows labels
 IsMarked code (Map property) rows labels = IsMapMarked code rows labels

@@ -55,7 +55,8 @@ judge_named takes Count view = judge_count takes view
 judge_named takes ShortestPathTree view = judge_spt takes view
 judge_named takes MinimumSpanningTree view = judge_mst takes view
 
--- the labels are those of a connected network with the property
+-- each label says what is right for its node: on a connected network with the property there is one
+-- list of such labels, and else nothing follows
 abbrev pub IsNamedMarked : (ℕ → List Bool) → SchemeName → List NodeRow
     → List (List Bool) → Type 0
 IsNamedMarked code Tree rows labels = IsTreeMarked code rows labels

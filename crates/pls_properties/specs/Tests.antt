@@ -22,7 +22,7 @@ walks_within edges (suc most) v u =
 abbrev pub any_two : (ℕ → ℕ → Bool) → List ℕ → Bool
 any_two test nodes = list_all (λ u. list_all (test u) nodes) nodes
 
--- at most so many edges lie between any two nodes
+-- any two nodes are joined by a walk of at most so many edges
 abbrev pub diameter_test : ℕ → List NodeRow → Bool
 diameter_test most rows = any_two (λ u v. walks_within (edges_of rows) most v u) (ids_of rows)
 

@@ -25,8 +25,8 @@ IsCurrent judge now =
     (place : ℕ) (view : Seen) → slice_get (views now.network now.labels) place ≡ Some view
     → is_among now.touched view.id ≡ false → slice_get now.kept place ≡ Some (view.id, judge view)
 
--- a round that lacked memory: the first nodes were checked, but not all, and the judge and the
--- counter of steps rose by as many, or by one more
+-- a round that lacked memory: the first nodes were checked, but not all, and the judge's count and
+-- the counter of steps rose by as many, or by one more
 pub record EndsEarly (touched left : List ℕ) (spent spent_then steps steps_then : ℕ) : Type 0 where
   pub checked : ℕ
   pub not_all : checked < length touched

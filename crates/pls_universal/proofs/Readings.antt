@@ -2,7 +2,7 @@
 use Rattle.std.proofs.Common.{◌≡◌, ℕ, suc, ◌++◌, Bool, List, [], ◌∷◌, Option, Some, None, option_map, refl, sym, ap, append_assoc}
 use Rattle.std.proofs.lemmas.List.{append-nil}
 use Rattle.pls_universal.specs.declared.map.MapRow.{MapRow}
-use Rattle.pls_universal.specs.inner.Reading.{many_off, map_off, row_off, with_item}
+use Rattle.pls_universal.specs.Taking.{many_off, map_off, row_off, with_item}
 
 -- what was read, and what is still to come
 abbrev pub behind : {X : Type 0} → List X → Option (List X × List Bool)

@@ -2,7 +2,7 @@
 use Rattle.std.specs.Prelude.{ℕ, Bool, List, [], ◌∷◌, Option, Some, None, option_map, option_and_then}
 use Rattle.pls_universal.specs.declared.map.MapLabel.{MapLabel}
 use Rattle.pls_universal.specs.declared.map.MapRow.{MapRow}
-use Rattle.pls_universal.specs.inner.Reading.{map_off}
+use Rattle.pls_universal.specs.Taking.{map_off}
 
 -- the map, where nothing is behind it
 abbrev pub to_the_end : List MapRow × List Bool → Option (List MapRow)

@@ -3,7 +3,7 @@
 ghost use Rattle.std.specs.Prelude.{◌≡◌, List, None, Some, IfSome, IfNone, IfOk};
 ghost use Rattle.pls_universal.specs.declared.map.MapRow.{MapRow};
 ghost use Rattle.pls_universal.specs.Map.{IsMap};
-ghost use Rattle.pls_universal.specs.inner.Reading.{many_off, port_off, row_off};
+ghost use Rattle.pls_universal.specs.Taking.{many_off, port_off, row_off};
 
 use crate::map::{MapRow, PortList, RowList};
 use pls_base::NoMemory;

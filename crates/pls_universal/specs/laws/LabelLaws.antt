@@ -8,7 +8,7 @@ use Rattle.pls_universal.specs.declared.map.MapLabel.{MapLabel}
 use Rattle.pls_universal.specs.declared.map.MapRow.{MapRow}
 use Rattle.pls_universal.specs.Map.{IsMap, numbers_of_label, numbers_of_map}
 use Rattle.pls_universal.specs.Reading.{label_with, map_in, map_label, to_the_end}
-use Rattle.pls_universal.specs.inner.Reading.{many_off, row_off}
+use Rattle.pls_universal.specs.Taking.{many_off, row_off}
 use Rattle.pls_universal.specs.laws.MapLaws.{map_only, map_read}
 use Rattle.pls_universal.specs.laws.NumberLaws.{Small}
 

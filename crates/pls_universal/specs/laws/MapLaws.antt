@@ -10,7 +10,7 @@ use Rattle.pls_scheme.specs.Numbers.{AreCoded, codes_of}
 use Rattle.pls_scheme.specs.laws.CodeLaws.{at_places-all}
 use Rattle.pls_universal.specs.declared.map.MapRow.{MapRow}
 use Rattle.pls_universal.specs.Map.{IsMap, numbers_of_map, numbers_of_port, numbers_of_row}
-use Rattle.pls_universal.specs.inner.Reading.{many_off, map_off, port_off, row_off, row_with}
+use Rattle.pls_universal.specs.Taking.{many_off, map_off, port_off, row_off, row_with}
 use Rattle.pls_universal.specs.laws.NumberLaws.{AreInFront, IsExact, Small, in_front_both, in_front_first, in_front_rest, many_only, many_read, same_parts}
 
 -- a number alone

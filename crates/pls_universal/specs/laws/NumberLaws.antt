@@ -7,7 +7,7 @@ use Rattle.std.proofs.lemmas.List.Concat.{flat_map-cons}
 use Rattle.std.proofs.lemmas.List.Elements.{All-append, All-cons, All-head, All-nil, All-tail}
 use Rattle.pls_bits.specs.declared.num_code.TheConstants.{MAX_CODED}
 use Rattle.pls_scheme.specs.Numbers.{AreCoded, codes_of}
-use Rattle.pls_universal.specs.inner.Reading.{many_off, with_item}
+use Rattle.pls_universal.specs.Taking.{many_off, with_item}
 
 abbrev pub Small : ℕ → Type 0
 Small number = number ≤ MAX_CODED

@@ -1,6 +1,6 @@
 use Rattle.std.proofs.Common.{◌≡◌, ◌∙◌, List, Bool, None, Some, IfNone, IfSome, sym, ap, subst, []}
 use Rattle.pls_universal.specs.Map.{IsMap}
-use Rattle.pls_universal.specs.inner.Reading.{many_off, map_off, row_off}
+use Rattle.pls_universal.specs.Taking.{many_off, map_off, row_off}
 use Rattle.pls_universal.specs.laws.NumberLaws.{same_parts}
 use Rattle.pls_universal.specs.laws.MapLaws.{map_only, map_read}
 use Rattle.pls_universal.proofs.Readings.{map_off-is}

@@ -1,5 +1,5 @@
 use Rattle.std.proofs.Common.{◌≡◌, ◌∙◌, ◌+◌, ◌-◌, ℕ, suc, sym, ap, arith}
-use Rattle.pls_universal.specs.inner.Reading.{many_off, port_off}
+use Rattle.pls_universal.specs.Taking.{many_off, port_off}
 use Rattle.pls_universal.proofs.Readings.{behind, behind-next, behind-none}
 use Rattle.pls_universal.proofs.reading.read_ports.Goals as goal
 

@@ -1,5 +1,5 @@
 use Rattle.std.proofs.Common.{◌≡◌, ◌-◌, ◌≤◌}
-use Rattle.pls_universal.specs.inner.Reading.{many_off, port_off}
+use Rattle.pls_universal.specs.Taking.{many_off, port_off}
 use Rattle.pls_universal.proofs.Readings.{behind}
 use Rattle.pls_universal.proofs.reading.read_ports.Given as goal
 

@@ -1,5 +1,5 @@
 use Rattle.std.proofs.Common.{◌≡◌, ◌∙◌, ◌+◌, ◌-◌, ℕ, suc, None, Some, IfNone, IfSome, sym, ap, subst, arith}
-use Rattle.pls_universal.specs.inner.Reading.{many_off, row_off}
+use Rattle.pls_universal.specs.Taking.{many_off, row_off}
 use Rattle.pls_universal.proofs.Readings.{behind, behind-next, behind-none}
 use Rattle.pls_universal.proofs.reading.read_rows.Goals as goal
 

@@ -1,4 +1,4 @@
--- What is read off the front of bits: numbers, ports, records and lists of them.
+-- What stands in front of bits, and the bits behind it: numbers, ports, records and lists of them.
 use Rattle.std.specs.Prelude.{ℕ, zero, suc, Bool, List, [], ◌∷◌, get_or, Option, Some, option_map, option_and_then}
 use Rattle.pls_universal.specs.declared.map.MapRow.{MapRow}
 
