@@ -10,6 +10,7 @@ pub mod JoinedChains
 pub mod Leaving
 pub mod NextLevel
 pub mod Rounds
+pub mod Kept
 pub mod Unjoined
 pub mod Begun
 pub mod OneAnswer

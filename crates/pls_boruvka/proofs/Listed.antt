@@ -1,6 +1,6 @@
 -- Lists that are filled from the front, of which each item is right for its place.
-use Rattle.std.proofs.Common.{◌≡◌, ◌∙◌, ℕ, ◌<◌, inl, inr, List, [], ◌∷◌, ◌++◌, take, drop, length, get_or, sym, ap, subst, arith, length-append}
-use Rattle.std.proofs.Math.Seq.{get_or-append_seam, take-append_seam}
+use Rattle.std.proofs.Common.{◌≡◌, ◌∙◌, ℕ, ◌<◌, inl, inr, List, [], ◌∷◌, ◌++◌, length, get_or, sym, subst, arith, length-append}
+use Rattle.std.proofs.Math.Seq.{get_or-append_seam}
 use Rattle.std.proofs.lemmas.Bool.{cases_lt}
 use Rattle.std.proofs.lemmas.List.{get_or_append_left}
 use Rattle.std.proofs.lemmas.Option.{get_or_from_slice_get, slice_get-get_or, slice_get_within}
@@ -35,9 +35,3 @@ module _ {X : Type 0} (Right : ℕ → X → Type 0) where
         ∙ subst (λ (place' : ℕ). get_or (xs ++ x ∷ []) place' x ≡ y) (sym last) here in
         subst (Right place) is (subst (λ (place' : ℕ). Right place' x) (sym many ∙ last) right)
   ]
-
--- what was written back to a whole vector
-pub written_back : {X : Type 0} (new items : List X) (size : ℕ) → length new ≡ size
-    → new ≡ take size (new ++ drop (length new) items)
-written_back new items size many = sym (take-append_seam new (drop (length new) items))
-    ∙ ap (λ (size : ℕ). take size (new ++ drop (length new) items)) many

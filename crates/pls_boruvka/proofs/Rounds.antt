@@ -3,7 +3,7 @@ use Rattle.std.proofs.Common.{◌≡◌, ◌∙◌, ℕ, ◌<◌, List, [], ◌�
 use Rattle.std.specs.List.{range_with_len}
 use Rattle.std.proofs.lemmas.List.{map-append}
 use Rattle.std.proofs.lemmas.List.FromFn.{get_or-map-range_with_len, length-map-range_with_len, length-range_with_len}
-use Rattle.std.proofs.lemmas.Option.{get_or_from_slice_get, slice_get_within}
+use Rattle.std.proofs.lemmas.Option.{get_or_from_slice_get, slice_get-get_or, slice_get_within}
 use Rattle.std.proofs.lemmas.Simd.{splat_is_map}
 use Rattle.pls_boruvka.specs.declared.joining.Chosen.{Chosen}
 use Rattle.pls_boruvka.specs.declared.level.Level.{Level}
@@ -25,6 +25,14 @@ said_there : (rounds : List (List Chosen)) (count place : ℕ) → place < count
     → get_or (said_by rounds count) place [] ≡ said_at rounds place
 said_there rounds count place within =
     get_or-map-range_with_len (said_at rounds) 0 count place place [] within (omega arith)
+
+-- they stand at that place
+pub said_by-at : (rounds : List (List Chosen)) (count place : ℕ) → place < count
+    → slice_get (said_by rounds count) place ≡ Some (said_at rounds place)
+said_by-at rounds count place within =
+    slice_get-get_or (said_by rounds count) place []
+    (omega (arith, within, length-map-range_with_len (said_at rounds) 0 count))
+    ∙ ap Some (said_there rounds count place within)
 
 -- a round adds a level to each
 pub said_by-more : (rounds : List (List Chosen)) (all : List Chosen) (count : ℕ)

@@ -2,3 +2,4 @@
 pub mod Tops
 pub mod Choices
 pub mod Chosen
+pub mod Kept

@@ -8,10 +8,10 @@ ghost use Rattle.pls_facts.specs.SpanningTree.{IsSpanningTree, IsTree, pointed_e
 ghost use Rattle.pls_boruvka.specs.Boruvka.{AreLevelLists};
 ghost use Rattle.pls_boruvka.specs.inner.Chosen.{AreOne, SomeApart};
 
-use crate::choosing::choices_of;
-use crate::joining::{chosen_of, join, lists_of};
-use crate::level::LevelList;
-use crate::tops::{parents_of, tops_of};
+use crate::choosing::{choices_of, no_choices};
+use crate::joining::{chosen_of, join};
+use crate::level_lists::LevelLists;
+use crate::tops::{none_noted, parents_of, tops_with};
 use pls_base::NoMemory;
 use pls_graph::Network;
 use std::alloc::Global;
@@ -19,12 +19,12 @@ use std::alloc::Global;
 /// The levels of each node, in the order of the nodes, or `None` where some spanning tree is
 /// lighter than the pointed edges. There are at most log2 n levels of n nodes, and each takes one
 /// pass over nodes and ports. The one error is want of memory.
-pub fn boruvka_levels(alloc: Global, net: &Network) -> Result<Option<Vec<LevelList>>, NoMemory>
+pub fn boruvka_levels(alloc: Global, net: &Network) -> Result<Option<LevelLists>, NoMemory>
     requires tree { IsTree net.now }
     ensures levels { IfOk result (λ found. IfSome found (λ lists.
-        AreLevelLists net.now lists.items)) }
+        AreLevelLists net.now lists)) }
     ensures few { IfOk result (λ found. IfSome found (λ lists.
-        All (λ list. 2 ^ length list ≤ length net.now) lists.items)) }
+        All (λ list. 2 ^ length list ≤ length net.now) lists)) }
     ensures lightest { IfOk result (λ found. IfSome found (λ lists.
         IsLightest (edges_of net.now) (pointed_edges net.now) (ids_of net.now))) }
     ensures lighter { IfOk result (λ found. IfNone found ((other : List Edge)
@@ -36,16 +36,18 @@ pub fn boruvka_levels(alloc: Global, net: &Network) -> Result<Option<Vec<LevelLi
     let parents = parents.as_slice();
     let mut joined = none_joined(alloc, net.len())?;
     let joined = joined.as_mut_slice();
+    let mut noted = none_noted(alloc, net.len())?;
+    let noted = noted.as_mut_slice();
+    let mut choices = no_choices(alloc, net.len())?;
+    let choices = choices.as_mut_slice();
     loop {
-        let tops = tops_of(alloc, parents, joined)?;
+        let tops = tops_with(alloc, parents, joined, noted)?;
         let tops = tops.as_slice();
         if are_one(tops) {
-            let rounds = rounds.as_slice();
-            let lists = lists_of(alloc, net.len(), rounds)?;
+            let lists = LevelLists::of_rounds(alloc, rounds, net.len())?;
             return Ok(Some(lists));
         }
-        let choices = choices_of(alloc, net, parents, tops)?;
-        let choices = choices.as_slice();
+        choices_of(net, parents, tops, choices);
         let Some(all) = chosen_of(alloc, net, tops, choices)? else {
             return Ok(None);
         };
@@ -55,7 +57,7 @@ pub fn boruvka_levels(alloc: Global, net: &Network) -> Result<Option<Vec<LevelLi
 }
 
 // Whether all tops are the same.
-fn are_one(tops: &[usize]) -> bool
+fn are_one(tops: &[u32]) -> bool
     requires { 0 < length tops.now }
     ensures one { result ≡ true → AreOne tops.now }
     ensures apart { result ≡ false → SomeApart tops.now }

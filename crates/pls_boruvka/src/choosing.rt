@@ -1,8 +1,7 @@
 //! The first edge that leaves each fragment: one pass over all ports.
 
-ghost use Rattle.std.specs.Prelude.{◌≡◌, ◌<◌, ◌≤◌, ◌+◌, All, None, length, replicate, IfOk};
+ghost use Rattle.std.specs.Prelude.{◌≡◌, ◌<◌, ◌≤◌, ◌+◌, All, length, IfOk};
 ghost use Rattle.pls_boruvka.specs.inner.Choices.{AreChoices, ChildOf, IsFirstOf, LeavesTop, choice_at, top_at};
-ghost use Rattle.pls_model.specs.declared.limits.TheConstants.{MAX_NODES};
 ghost use Rattle.pls_boruvka.specs.inner.Tops.{AreParents};
 
 use crate::choice::{Choice, earlier, is_lighter};
@@ -11,29 +10,30 @@ use pls_graph::Network;
 use pls_model::Port;
 use std::alloc::Global;
 
-// At the top of each fragment the first edge that leaves it, if any does.
+// Puts at the top of each fragment the first edge that leaves it, if any does, in memory that is
+// written anew.
 pub(crate) fn choices_of(
-    alloc: Global,
     net: &Network,
-    parents: &[Option<usize>],
-    tops: &[usize],
-) -> Result<Vec<Option<Choice>>, NoMemory>
+    parents: &[Option<u32>],
+    tops: &[u32],
+    choices: &mut [Option<Choice>],
+)
     requires parents { AreParents net.now parents.now }
     requires each { length tops.now ≡ length net.now }
     requires within { All (λ top. top < length net.now) tops.now }
-    ensures { IfOk result (λ choices. AreChoices net.now tops.now (length net.now) choices.items) }
+    requires room { length choices.old ≡ length net.now }
+    ensures { AreChoices net.now tops.now (length net.now) choices.new }
 {
-    let mut choices = no_choices(alloc, net.len())?;
+    choices.fill(None);
     for place in 0..net.len() {
-        let top = tops[place];
+        let top = tops[place] as usize;
         choices[top] = first_with(net, parents, tops, place, choices[top]);
     }
-    Ok(choices)
 }
 
 // Nothing found at so many tops.
-fn no_choices(alloc: Global, count: usize) -> Result<Vec<Option<Choice>>, NoMemory>
-    ensures { IfOk result (λ choices. choices.items ≡ replicate count None) }
+pub(crate) fn no_choices(alloc: Global, count: usize) -> Result<Vec<Option<Choice>>, NoMemory>
+    ensures { IfOk result (λ choices. length choices.items ≡ count) }
 {
     Ok(vec![in alloc; None; count]?)
 }
@@ -42,8 +42,8 @@ fn no_choices(alloc: Global, count: usize) -> Result<Vec<Option<Choice>>, NoMemo
 // at the nodes before. What is heavier than the first so far is passed.
 fn first_with(
     net: &Network,
-    parents: &[Option<usize>],
-    tops: &[usize],
+    parents: &[Option<u32>],
+    tops: &[u32],
     place: usize,
     before: Option<Choice>,
 ) -> Option<Choice>
@@ -57,10 +57,10 @@ fn first_with(
     let places = net.places(place);
     let mut first = before;
     for (p, port) in net.ports(place).iter().enumerate() {
-        let other = places[p] as usize;
-        if tops[other] != tops[place] {
+        let other = places[p];
+        if tops[other as usize] != tops[place] {
             if !is_lighter(first, port.weight) {
-                let child = child_of(parents, place, other);
+                let child = child_of(parents, place as u32, other);
                 first = earlier(first, Some(choice_at(id, *port, child)));
             }
         }
@@ -69,16 +69,15 @@ fn first_with(
 }
 
 // Of two places the one that points at the other, if one does.
-fn child_of(parents: &[Option<usize>], place: usize, other: usize) -> Option<u32>
+fn child_of(parents: &[Option<u32>], place: u32, other: u32) -> Option<u32>
     requires within { place < length parents.now }
     requires inside { other < length parents.now }
-    requires few { length parents.now ≤ MAX_NODES }
     ensures { ChildOf parents.now place other result }
 {
-    if parents[place] == Some(other) {
-        Some(place as u32)
-    } else if parents[other] == Some(place) {
-        Some(other as u32)
+    if parents[place as usize] == Some(other) {
+        Some(place)
+    } else if parents[other as usize] == Some(place) {
+        Some(other)
     } else {
         None
     }

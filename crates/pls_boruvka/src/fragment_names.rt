@@ -20,7 +20,7 @@ pub fn fragments(alloc: Global, net: &Network, joined: &[bool]) -> Result<Vec<u3
     let parents = parents_of(alloc, net)?;
     let tops = tops_of(alloc, parents.as_slice(), joined)?;
     for top in &tops {
-        names.push(net.node(*top).0)?;
+        names.push(net.node(*top as usize).0)?;
     }
     Ok(names)
 }

@@ -4,7 +4,6 @@ ghost use Rattle.std.specs.Prelude.{◌≡◌, ◌<◌, All, length, map, IfOk, 
 ghost use Rattle.pls_boruvka.specs.inner.Chosen.{AreChildrenWithin, AreChosen, IsChosen, IsUnpointed, JoinChildren, SomeUnpointed, said_at, said_by};
 
 use crate::choice::Choice;
-use crate::level::LevelList;
 use crate::short_level::ShortLevel;
 use pls_base::NoMemory;
 use pls_graph::Network;
@@ -22,7 +21,7 @@ pub(crate) struct Chosen {
 pub(crate) fn chosen_of(
     alloc: Global,
     net: &Network,
-    tops: &[usize],
+    tops: &[u32],
     choices: &[Option<Choice>],
 ) -> Result<Option<Vec<Chosen>>, NoMemory>
     requires each { length tops.now ≡ length net.now }
@@ -34,7 +33,8 @@ pub(crate) fn chosen_of(
 {
     let mut all = Vec::with_capacity(alloc, net.len())?;
     for top in tops {
-        let Some(chosen) = chosen_at(net, *top, choices[*top]) else {
+        let top = *top as usize;
+        let Some(chosen) = chosen_at(net, top, choices[top]) else {
             return Ok(None);
         };
         all.push(chosen)?;
@@ -62,33 +62,4 @@ pub(crate) fn join(joined: &mut [bool], all: &[Chosen])
     for chosen in all {
         joined[chosen.child as usize] = true;
     }
-}
-
-// For each of so many places the levels of the node there, in memory that they fill.
-pub(crate) fn lists_of(
-    alloc: Global,
-    count: usize,
-    rounds: &[Vec<Chosen>],
-) -> Result<Vec<LevelList>, NoMemory>
-    requires each { All (λ all. length all.items ≡ count) rounds.now }
-    ensures { IfOk result (λ lists. lists.items
-        ≡ said_by (map (λ all. all.items) rounds.now) count) }
-{
-    let mut lists = Vec::with_capacity(alloc, count)?;
-    for place in 0..count {
-        lists.push(list_at(alloc, rounds, place)?)?;
-    }
-    Ok(lists)
-}
-
-// The levels of the node at a place.
-fn list_at(alloc: Global, rounds: &[Vec<Chosen>], place: usize) -> Result<LevelList, NoMemory>
-    requires within { All (λ all. place < length all.items) rounds.now }
-    ensures { IfOk result (λ list. list ≡ said_at (map (λ all. all.items) rounds.now) place) }
-{
-    let mut levels = Vec::with_capacity(alloc, rounds.len())?;
-    for all in rounds {
-        levels.push(all[place].level.whole())?;
-    }
-    Ok(LevelList::from_vec(levels))
 }

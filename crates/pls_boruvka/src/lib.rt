@@ -14,10 +14,14 @@ mod fragment_names;
 mod joining;
 mod level;
 mod level_laws;
+mod level_list;
+mod level_lists;
 mod short_level;
 mod tops;
 
 pub use boruvka::boruvka_levels;
 pub use fragment_names::fragments;
-pub use level::{Level, LevelList};
+pub use level::Level;
 pub use level_laws::fragments_and_levels;
+pub use level_list::LevelList;
+pub use level_lists::LevelLists;

@@ -1,8 +1,9 @@
 //! The tops of fragments: where chains end that follow joined pointers alone. Each chain is walked
 //! to its end, or to a place whose top is known, and then walked again to note the top along it.
 
-ghost use Rattle.std.specs.Prelude.{◌≡◌, ◌<◌, All, length, IfOk};
-ghost use Rattle.pls_boruvka.specs.inner.Tops.{AreParents, AreTops, AreNotedTops, HasDepths, IsTop, up_of};
+ghost use Rattle.std.specs.Prelude.{◌≡◌, ◌<◌, ◌≤◌, length, IfOk};
+ghost use Rattle.pls_boruvka.specs.inner.Tops.{AreParents, AreTops, AreNotedTops, HasDepths, IsParent, IsTop, up_of};
+ghost use Rattle.pls_model.specs.declared.limits.TheConstants.{MAX_NODES};
 
 use pls_base::NoMemory;
 use pls_graph::Network;
@@ -10,45 +11,79 @@ use pls_search::pointed_place;
 use std::alloc::Global;
 
 // For each place the place that its node points at, or `None` where it points at none.
-pub(crate) fn parents_of(alloc: Global, net: &Network) -> Result<Vec<Option<usize>>, NoMemory>
+pub(crate) fn parents_of(alloc: Global, net: &Network) -> Result<Vec<Option<u32>>, NoMemory>
     ensures { IfOk result (λ parents. AreParents net.now parents.items) }
 {
     let mut parents = Vec::with_capacity(alloc, net.len())?;
     for place in 0..net.len() {
-        parents.push(pointed_place(net, place))?;
+        parents.push(parent_of(net, place))?;
     }
     Ok(parents)
+}
+
+// The place that the node at a place points at.
+fn parent_of(net: &Network, place: usize) -> Option<u32>
+    requires within { place < length net.now }
+    requires few { length net.now ≤ MAX_NODES }
+    ensures { IsParent net.now place result }
+{
+    match pointed_place(net, place) {
+        Some(parent) => Some(parent as u32),
+        None => None,
+    }
 }
 
 // For each place the top of its chain.
 pub(crate) fn tops_of(
     alloc: Global,
-    parents: &[Option<usize>],
+    parents: &[Option<u32>],
     joined: &[bool],
-) -> Result<Vec<usize>, NoMemory>
+) -> Result<Vec<u32>, NoMemory>
     requires each { length joined.now ≡ length parents.now }
+    requires few { length parents.now ≤ MAX_NODES }
     requires falls { HasDepths parents.now }
     ensures { IfOk result (λ tops. AreTops parents.now joined.now tops.items) }
 {
-    let mut noted = vec![in alloc; None; parents.len()]?;
+    let mut noted = none_noted(alloc, parents.len())?;
+    tops_with(alloc, parents, joined, noted.as_mut_slice())
+}
+
+// No top of so many places.
+pub(crate) fn none_noted(alloc: Global, count: usize) -> Result<Vec<Option<u32>>, NoMemory>
+    ensures { IfOk result (λ noted. length noted.items ≡ count) }
+{
+    Ok(vec![in alloc; None; count]?)
+}
+
+// For each place the top of its chain, where they are noted in memory that is written anew.
+pub(crate) fn tops_with(
+    alloc: Global,
+    parents: &[Option<u32>],
+    joined: &[bool],
+    noted: &mut [Option<u32>],
+) -> Result<Vec<u32>, NoMemory>
+    requires each { length joined.now ≡ length parents.now }
+    requires room { length noted.old ≡ length parents.now }
+    requires few { length parents.now ≤ MAX_NODES }
+    requires falls { HasDepths parents.now }
+    ensures tops { IfOk result (λ tops. AreTops parents.now joined.now tops.items) }
+    ensures room { length noted.new ≡ length noted.old }
+{
+    noted.fill(None);
     let mut tops = Vec::with_capacity(alloc, parents.len())?;
     for place in 0..parents.len() {
-        let top = top_from(parents, joined, noted.as_slice(), place);
-        note_top(parents, joined, noted.as_mut_slice(), place, top);
+        let top = top_from(parents, joined, noted, place);
+        note_top(parents, joined, noted, place, top);
         tops.push(top)?;
     }
     Ok(tops)
 }
 
 // The top of a place.
-fn top_from(
-    parents: &[Option<usize>],
-    joined: &[bool],
-    noted: &[Option<usize>],
-    start: usize,
-) -> usize
+fn top_from(parents: &[Option<u32>], joined: &[bool], noted: &[Option<u32>], start: usize) -> u32
     requires within { start < length parents.now }
     requires each { length joined.now ≡ length parents.now }
+    requires few { length parents.now ≤ MAX_NODES }
     requires falls { HasDepths parents.now }
     requires noted { AreNotedTops parents.now joined.now noted.now }
     ensures { IsTop parents.now joined.now start result }
@@ -59,19 +94,19 @@ fn top_from(
             return top;
         }
         match joined_parent(parents, joined, place) {
-            Some(parent) => place = parent,
-            None => return place,
+            Some(parent) => place = parent as usize,
+            None => return place as u32,
         }
     }
 }
 
 // Notes the top of a place for it and for those that its chain leads to, up to one that is noted.
 fn note_top(
-    parents: &[Option<usize>],
+    parents: &[Option<u32>],
     joined: &[bool],
-    noted: &mut [Option<usize>],
+    noted: &mut [Option<u32>],
     start: usize,
-    top: usize,
+    top: u32,
 )
     requires within { start < length parents.now }
     requires each { length joined.now ≡ length parents.now }
@@ -86,12 +121,12 @@ fn note_top(
         let Some(parent) = joined_parent(parents, joined, place) else {
             return;
         };
-        place = parent;
+        place = parent as usize;
     }
 }
 
 // The parent of a place that is joined to it.
-fn joined_parent(parents: &[Option<usize>], joined: &[bool], place: usize) -> Option<usize>
+fn joined_parent(parents: &[Option<u32>], joined: &[bool], place: usize) -> Option<u32>
     requires within { place < length parents.now }
     requires each { length joined.now ≡ length parents.now }
     ensures { result ≡ up_of parents.now joined.now place }

@@ -4,6 +4,7 @@ pub mod Bounds
 pub mod Fits
 pub mod Leaves
 pub mod Verdicts
+pub mod JudgedParts
 pub mod Marking
 pub mod Joining
 pub mod Refusals

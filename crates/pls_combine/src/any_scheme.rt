@@ -6,7 +6,7 @@ ghost use Rattle.pls_combine.specs.Expression.{Basic, IsSmall, leaves_of};
 ghost use Rattle.pls_combine.specs.inner.Trees.{expression_of};
 
 use crate::named::Named;
-use crate::rounds::node_by_node;
+use crate::rounds::round_of;
 use crate::scheme_name::SchemeName;
 use crate::scheme_tree::{
     SchemeTree, bound_of, decide_tree, leaves_of, lends_of, mark_tree, verify_tree,
@@ -16,7 +16,7 @@ use pls_bits::{BitBuf, Bits, NumCode};
 use pls_graph::{Network, Size};
 use pls_model::Verdict;
 use pls_scheme::{Checker, Property, Scheme};
-use pls_view::{LabelStore, View};
+use pls_view::{LabelStore, Labels, View};
 use std::alloc::Global;
 use std::marker::Model;
 
@@ -107,17 +107,17 @@ impl<C: NumCode> Checker for AnyScheme<C> {
         verify_tree::<C>(alloc, self.tree(), view)
     }
 
-    fn round(
+    fn round<L: Labels>(
         &self,
         alloc: Global,
         net: &Network,
-        labels: &LabelStore,
+        labels: &L,
         steps: &mut Steps,
     ) -> Result<Vec<Verdict>, NoMemory> {
         match self.tree() {
             SchemeTree::Basic(name) => Named::<C>::new(*name).round(alloc, net, labels, steps),
             SchemeTree::Map(universal) => universal.round(alloc, net, labels, steps),
-            tree => node_by_node::<C>(alloc, tree, net, labels, steps),
+            tree => round_of::<C, L>(alloc, tree, net, labels, steps),
         }
     }
 

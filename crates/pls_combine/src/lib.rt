@@ -7,7 +7,8 @@
 //!
 //! [`Both`] and [`OneOf`] are the conjunction and the disjunction of any two schemes, by the laws of
 //! the traits alone. A node lends each part of a view to the scheme of the part
-//! ([`FirstPart`], [`SecondPart`], [`Rest`]) and copies no label.
+//! ([`FirstPart`], [`SecondPart`], [`Rest`]) and copies no label. A round of an expression parts all
+//! labels once and judges the parts each in a round of its own.
 //!
 //! [`AnyScheme`] is an expression of names and of `map(P)` as a scheme, seen as the expression
 //! (`specs/Expression`: `HasProperty`, `judge_of`, `IsMarked`, `longest_of`, by its cases), which
@@ -31,6 +32,8 @@ mod named;
 mod one_of;
 mod one_of_scheme;
 mod part_rules;
+mod part_verdicts;
+mod parted;
 mod parts;
 mod property_fronts;
 mod property_text;

@@ -14,7 +14,7 @@ use pls_model::Verdict;
 use pls_mst::Mst;
 use pls_pointer::{Forest, Tree};
 use pls_scheme::{Checker, Property, Scheme};
-use pls_view::{LabelStore, View};
+use pls_view::{LabelStore, Labels, View};
 use std::alloc::Global;
 use std::marker::PhantomData;
 
@@ -79,11 +79,11 @@ impl<C: NumCode> Checker for Named<C> {
         }
     }
 
-    fn round(
+    fn round<L: Labels>(
         &self,
         alloc: Global,
         net: &Network,
-        labels: &LabelStore,
+        labels: &L,
         steps: &mut Steps,
     ) -> Result<Vec<Verdict>, NoMemory> {
         match self.name {

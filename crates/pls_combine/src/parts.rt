@@ -1,6 +1,6 @@
 //! The parts of labels of combinations.
 
-ghost use Rattle.std.specs.Prelude.{◌≡◌};
+ghost use Rattle.std.specs.Prelude.{◌≡◌, drop};
 ghost use Rattle.pls_combine.specs.Parts.{is_tagged, parts_of, tag_of};
 
 use pls_bits::{Bits, NumCode};
@@ -86,9 +86,7 @@ impl Narrow for Rest {
     ghost narrowed = { λ bits. drop 1 bits };
 
     fn narrow<'a>(&self, bits: Bits<'a>) -> Bits<'a> {
-        let mut cursor = bits.cursor();
-        cursor.bit();
-        cursor.rest()
+        untagged(&bits)
     }
 }
 
@@ -100,6 +98,15 @@ pub(crate) fn parts<'a, C: NumCode>(bits: &Bits<'a>) -> Option<(Bits<'a>, Bits<'
     let count = C::read(&mut cursor)?;
     let first = cursor.take(count)?;
     Some((first, cursor.rest()))
+}
+
+// What stands behind the first bit, lent.
+pub(crate) fn untagged<'a>(bits: &Bits<'a>) -> Bits<'a>
+    ensures { result ≡ drop 1 bits.now }
+{
+    let mut cursor = bits.cursor();
+    cursor.bit();
+    cursor.rest()
 }
 
 // The tag of a label of a disjunction.

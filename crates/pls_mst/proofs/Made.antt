@@ -3,7 +3,6 @@ use Rattle.std.proofs.Common.{◌≡◌, ◌∙◌, ℕ, ◌+◌, ◌++◌, List
 use Rattle.std.specs.Option.{option_map_or}
 use Rattle.std.proofs.lemmas.List.{get_or-map, length-map}
 use Rattle.std.proofs.lemmas.Option.{get_or_from_slice_get, slice_get-get_or, slice_get-map, slice_get_within}
-use Rattle.std.proofs.Math.Seq.{get_or-append_seam}
 use Rattle.pls_model.specs.declared.row.Port.{Port}
 use Rattle.pls_model.specs.declared.row.NodeRow.{NodeRow}
 use Rattle.pls_model.specs.Configuration.{IsNetwork}
@@ -21,23 +20,18 @@ use Rattle.pls_mst.specs.inner.Making.{AreMade, IsMadeAt, label_from}
 
 module _ (rows : List NodeRow) (root : ℕ) (depths : List ℕ) (lists : List (List Level)) where
   -- one label more
-  pub made_more : (done : List (List Level)) (levels : List Level) (rest : List (List Level))
-      (count : ℕ) (labels : List MstLabel) (label : MstLabel) → done ++ levels ∷ rest ≡ lists
-      → count ≡ length done
+  pub made_more : (levels : List Level) (count : ℕ) (labels : List MstLabel) (label : MstLabel)
+      → slice_get lists count ≡ Some levels
       → ((row : NodeRow) → slice_get rows count ≡ Some row
       → label ≡ label_from root row (get_or depths count 0) levels)
       → AreMade rows root depths lists count labels
       → AreMade rows root depths lists (count + 1) (labels ++ label ∷ [])
-  made_more done levels rest count labels label all many is made = record {
+  made_more levels count labels label here is made = record {
     each = let each = made.each in omega (arith, length-append labels (label ∷ []), each);
     label = Each-push (IsMadeAt rows root depths lists) labels count label made.each made.label
-        (λ row at. is row at ∙ ap (label_from root row (get_or depths count 0)) here);
+        (λ row at. is row at ∙ ap (label_from root row (get_or depths count 0))
+        (sym (get_or_from_slice_get lists count levels [] here)));
   }
-    where
-      here : levels ≡ get_or lists count []
-      here = sym (get_or-append_seam done levels rest [])
-          ∙ ap (λ (place : ℕ). get_or (done ++ levels ∷ rest) place []) (sym many)
-          ∙ ap (λ (lists : List (List Level)). get_or lists count []) all
 
   -- labels that are made of what is right are right
   pub made_right : IsNetwork rows → IsOnly points_at_none rows root → AreDepths rows depths

@@ -51,11 +51,18 @@ impl<C: NumCode> Layout for MstLayout<C> {
     }
 
     fn append(bits: &mut BitBuf, label: &MstLabel) -> Result<(), NoMemory> {
-        let levels = label.levels.as_slice();
-        let count = levels.len() as u64;
-        let front = [label.root, label.own, label.parent, label.depth, count];
+        let levels = &label.levels;
+        let count = levels.len();
+        let front = [
+            label.root,
+            label.own,
+            label.parent,
+            label.depth,
+            count as u64,
+        ];
         append_numbers::<C>(bits, &front)?;
-        for level in levels {
+        for i in 0..count {
+            let level = levels.at(i);
             let numbers = [level.fragment, level.weight, level.a, level.b];
             append_numbers::<C>(bits, &numbers)?;
         }

@@ -9,7 +9,7 @@ use crate::label::MstLabel;
 use crate::mst::MstRules;
 use pls_base::NoMemory;
 use pls_bits::NumCode;
-use pls_boruvka::{LevelList, boruvka_levels};
+use pls_boruvka::{LevelList, LevelLists, boruvka_levels};
 use pls_facts::is_valid;
 use pls_graph::{Network, Size};
 use pls_pointer::root_and_depths;
@@ -46,7 +46,7 @@ impl<C: NumCode> Marker for MstRules<C> {
         let Some(lists) = boruvka_levels(alloc, net)? else {
             return Ok(None);
         };
-        let labels = make_labels(alloc, net, root, &depths, lists)?;
+        let labels = make_labels(alloc, net, root, &depths, &lists)?;
         Ok(Some(labels))
     }
 
@@ -65,18 +65,17 @@ fn make_labels(
     net: &Network,
     root: u32,
     depths: &[u32],
-    lists: Vec<LevelList>,
+    lists: &LevelLists,
 ) -> Result<Vec<MstLabel>, NoMemory>
     requires deep { length depths.now ≡ length net.now }
-    requires levels { length lists.items ≡ length net.now }
+    requires levels { length lists.now ≡ length net.now }
     ensures { IfOk result (λ labels.
-        AreMade net.now root depths.now lists.items (length net.now) labels.items) }
+        AreMade net.now root depths.now lists.now (length net.now) labels.items) }
 {
     let mut labels = Vec::with_capacity(alloc, net.len())?;
-    let mut place = 0;
-    for levels in lists {
+    for place in 0..net.len() {
+        let levels = lists.at(place)?;
         labels.push(label_at(net, place, root, depths[place], levels))?;
-        place += 1;
     }
     Ok(labels)
 }

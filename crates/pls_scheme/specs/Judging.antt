@@ -7,7 +7,8 @@ use Rattle.pls_model.specs.declared.verdict.Verdict.TheVariants.{Accept, Reject}
 use Rattle.pls_base.specs.Steps.{up_by}
 use Rattle.pls_view.specs.Seen.{Seen, views}
 
--- the verdict of rules tried in order, the first of which has this number: the first that fails
+-- the verdict of rules tried in order, the first of which has this number: a rejection by the first
+-- that fails, which names leaf 1, the only one of a basic scheme
 abbrev pub judged_from : ℕ → List Bool → Verdict
 judged_from number [] = Accept
 judged_from number (holds ∷ others) = if holds then judged_from (number + 1) others

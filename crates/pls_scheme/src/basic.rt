@@ -15,7 +15,7 @@ use pls_bits::{BitBuf, Bits};
 use pls_facts::is_valid;
 use pls_graph::{Network, Size};
 use pls_model::Verdict;
-use pls_view::{LabelStore, View};
+use pls_view::{LabelStore, Labels, View};
 use std::alloc::Global;
 
 /// A basic scheme, by rules that are tried in place and a marker: a verifier of one leaf that takes
@@ -71,11 +71,11 @@ impl<R: JudgesInPlace> Checker for Basic<R> {
         Ok(judged(&self.rules, view))
     }
 
-    fn round(
+    fn round<L: Labels>(
         &self,
         alloc: Global,
         net: &Network,
-        labels: &LabelStore,
+        labels: &L,
         steps: &mut Steps,
     ) -> Result<Vec<Verdict>, NoMemory> {
         verdicts_of(alloc, &self.rules, net, labels, steps)

@@ -2,7 +2,7 @@
 //! ([`Property`]), and the two together with a marker and a layout of labels ([`Scheme`]), as in
 //! Korman, Kutten and Peleg, "Proof labeling schemes", Distributed Computing 22 (2010).
 //!
-//! The meanings (`judge`, `holds`, `layout`, `marked`, `bound`) are definitions over views and
+//! The meanings (`judge`, `holds`, `layout`, `marked`, `longest`) are definitions over views and
 //! rows; the calls answer them, and the laws say that a scheme is sound, that its labels have one
 //! spelling, and that a network is marked in one way. Code over any scheme rests on these texts
 //! alone.

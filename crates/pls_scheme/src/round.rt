@@ -13,21 +13,21 @@ use crate::settling::settled_at;
 use pls_base::{NoMemory, Steps};
 use pls_graph::Network;
 use pls_model::Verdict;
-use pls_view::LabelStore;
+use pls_view::Labels;
 use std::alloc::Global;
 
 // The verdict of each node on its view, in the order of the nodes. It adds at most one step a node.
 // The one error is want of memory.
-pub(crate) fn verdicts_of<R: JudgesInPlace>(
+pub(crate) fn verdicts_of<R: JudgesInPlace, L: Labels>(
     alloc: Global,
     rules: &R,
     net: &Network,
-    labels: &LabelStore,
+    labels: &L,
     steps: &mut Steps,
 ) -> Result<Vec<Verdict>, NoMemory>
-    requires { length labels.now ≡ length net.now }
+    requires { length (L.listed labels.now) ≡ length net.now }
     ensures verdicts { IfOk result (λ found. found.items
-        ≡ verdicts_by (judge_by R.Layout.said (R.rules rules.now)) net.now labels.now) }
+        ≡ verdicts_by (judge_by R.Layout.said (R.rules rules.now)) net.now (L.listed labels.now)) }
     ensures few_steps { RoseByAtMost (length net.now) steps.old steps.new }
 {
     let looked = look_at_all(alloc, rules, labels)?;
@@ -40,13 +40,13 @@ pub(crate) fn verdicts_of<R: JudgesInPlace>(
 }
 
 // What each label says at a glance, or `None` where it cannot be read.
-fn look_at_all<R: JudgesInPlace>(
+fn look_at_all<R: JudgesInPlace, L: Labels>(
     alloc: Global,
     rules: &R,
-    labels: &LabelStore,
+    labels: &L,
 ) -> Result<Vec<Option<R::Glance>>, NoMemory>
     ensures { IfOk result
-        (λ looked. AreLooked R.Layout.said (R.glance rules.now) labels.now looked.items) }
+        (λ looked. AreLooked R.Layout.said (R.glance rules.now) (L.listed labels.now) looked.items) }
 {
     let mut looked = Vec::with_capacity(alloc, labels.len())?;
     for i in 0..labels.len() {
@@ -56,18 +56,18 @@ fn look_at_all<R: JudgesInPlace>(
 }
 
 // The verdict of the node at a place, by what is kept of each label.
-pub(crate) fn verdict_at<R: JudgesInPlace, E: Kept<R::Glance>>(
+pub(crate) fn verdict_at<R: JudgesInPlace, L: Labels, E: Kept<R::Glance>>(
     rules: &R,
     net: &Network,
-    labels: &LabelStore,
+    labels: &L,
     looked: &[E],
     i: usize,
 ) -> Verdict
-    requires each { length labels.now ≡ length net.now }
-    requires looked { AreLooked R.Layout.said (R.glance rules.now) labels.now
+    requires each { length (L.listed labels.now) ≡ length net.now }
+    requires looked { AreLooked R.Layout.said (R.glance rules.now) (L.listed labels.now)
         (map E.kept looked.now) }
     requires within { i < length net.now }
-    ensures { (view : Seen) → slice_get (views net.now labels.now) i ≡ Some view
+    ensures { (view : Seen) → slice_get (views net.now (L.listed labels.now)) i ≡ Some view
         → result ≡ judge_by R.Layout.said (R.rules rules.now) view }
 {
     match settled_at(rules, net, labels, looked, i) {
@@ -77,18 +77,18 @@ pub(crate) fn verdict_at<R: JudgesInPlace, E: Kept<R::Glance>>(
 }
 
 // The same, by what is kept of the label at each of its ports.
-fn verdict_by_all<R: JudgesInPlace, E: Kept<R::Glance>>(
+fn verdict_by_all<R: JudgesInPlace, L: Labels, E: Kept<R::Glance>>(
     rules: &R,
     net: &Network,
-    labels: &LabelStore,
+    labels: &L,
     looked: &[E],
     i: usize,
 ) -> Verdict
-    requires each { length labels.now ≡ length net.now }
-    requires looked { AreLooked R.Layout.said (R.glance rules.now) labels.now
+    requires each { length (L.listed labels.now) ≡ length net.now }
+    requires looked { AreLooked R.Layout.said (R.glance rules.now) (L.listed labels.now)
         (map E.kept looked.now) }
     requires within { i < length net.now }
-    ensures { (view : Seen) → slice_get (views net.now labels.now) i ≡ Some view
+    ensures { (view : Seen) → slice_get (views net.now (L.listed labels.now)) i ≡ Some view
         → result ≡ judge_by R.Layout.said (R.rules rules.now) view }
 {
     let (id, state) = net.node(i);

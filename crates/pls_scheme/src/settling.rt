@@ -10,24 +10,24 @@ use crate::memory::Kept;
 use crate::round::glance_above;
 use pls_graph::Network;
 use pls_model::Verdict;
-use pls_view::LabelStore;
+use pls_view::Labels;
 
 // The verdict of the node at a place, where all labels at its ports can be read and the rules are
 // settled by its own label and the one above. `None` says nothing.
 #[inline(always)]
-pub(crate) fn settled_at<R: JudgesInPlace, E: Kept<R::Glance>>(
+pub(crate) fn settled_at<R: JudgesInPlace, L: Labels, E: Kept<R::Glance>>(
     rules: &R,
     net: &Network,
-    labels: &LabelStore,
+    labels: &L,
     looked: &[E],
     i: usize,
 ) -> Option<Verdict>
-    requires each { length labels.now ≡ length net.now }
-    requires looked { AreLooked R.Layout.said (R.glance rules.now) labels.now
+    requires each { length (L.listed labels.now) ≡ length net.now }
+    requires looked { AreLooked R.Layout.said (R.glance rules.now) (L.listed labels.now)
         (map E.kept looked.now) }
     requires within { i < length net.now }
     ensures { IfSome result (λ verdict. (view : Seen)
-        → slice_get (views net.now labels.now) i ≡ Some view
+        → slice_get (views net.now (L.listed labels.now)) i ≡ Some view
         → verdict ≡ judge_by R.Layout.said (R.rules rules.now) view) }
 {
     let (id, state) = net.node(i);

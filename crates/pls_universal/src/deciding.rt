@@ -16,7 +16,7 @@ use pls_base::NoMemory;
 use pls_bits::{Bits, NumCode};
 use pls_model::Verdict;
 use pls_scheme::Layout;
-use pls_view::{LabelStore, View};
+use pls_view::{Labels, View};
 use std::alloc::Global;
 use std::collections::BTreeMap;
 
@@ -62,23 +62,23 @@ impl DecidedMaps {
 
     // The number of an equal map. That of the map that came last is looked at first, so that where
     // all labels have one map, nothing is looked up. The one error is want of memory.
-    fn seek<C: NumCode>(
+    fn seek<C: NumCode, L: Labels>(
         &self,
         alloc: Global,
-        labels: &LabelStore,
+        labels: &L,
         map: &Bits<'_>,
     ) -> Result<Option<usize>, NoMemory>
-        requires { All (λ map. map.place < length labels.now) self.now.maps.items }
+        requires { All (λ map. map.place < length (L.listed labels.now)) self.now.maps.items }
         ensures { IfOk result (λ found. IfSome found
-            (IsNumberOfMap C.takes labels.now self.now map.now)) }
+            (IsNumberOfMap C.takes (L.listed labels.now) self.now map.now)) }
     {
         let last = self.maps.len().saturating_sub(1);
-        if self.is_number::<C>(labels, last, map) {
+        if self.is_number::<C, L>(labels, last, map) {
             return Ok(Some(last));
         }
         let words = words_of(alloc, map)?;
         if let Some(number) = self.numbers.get(words.as_slice()) {
-            if self.is_number::<C>(labels, *number, map) {
+            if self.is_number::<C, L>(labels, *number, map) {
                 return Ok(Some(*number));
             }
         }
@@ -86,9 +86,9 @@ impl DecidedMaps {
     }
 
     // Whether the map with this number is there and equal to this one.
-    fn is_number<C: NumCode>(&self, labels: &LabelStore, number: usize, map: &Bits<'_>) -> bool
-        requires { All (λ map. map.place < length labels.now) self.now.maps.items }
-        ensures { OnTrue result (IsNumberOfMap C.takes labels.now self.now map.now number) }
+    fn is_number<C: NumCode, L: Labels>(&self, labels: &L, number: usize, map: &Bits<'_>) -> bool
+        requires { All (λ map. map.place < length (L.listed labels.now)) self.now.maps.items }
+        ensures { OnTrue result (IsNumberOfMap C.takes (L.listed labels.now) self.now map.now number) }
     {
         match self.maps.get(number) {
             Some(known) => has_map::<C>(&labels.bits(known.place), map),
@@ -98,18 +98,18 @@ impl DecidedMaps {
 
     // The number of the map of the label, which stands at place `i`, or `None` where the label
     // cannot be read. A map that is new is read and decided. The one error is want of memory.
-    fn number_of<P: Tested, C: NumCode>(
+    fn number_of<P: Tested, C: NumCode, L: Labels>(
         &mut self,
         alloc: Global,
         property: &P,
-        labels: &LabelStore,
+        labels: &L,
         i: usize,
         label: &Bits<'_>,
     ) -> Result<Option<usize>, NoMemory>
-        requires at { slice_get labels.now i ≡ Some label.now }
-        requires decided { AreDecided C.takes (P.test property.now) labels.now self.old }
+        requires at { slice_get (L.listed labels.now) i ≡ Some label.now }
+        requires decided { AreDecided C.takes (P.test property.now) (L.listed labels.now) self.old }
         ensures decided { OnOk result
-            (AreDecided C.takes (P.test property.now) labels.now self.new) }
+            (AreDecided C.takes (P.test property.now) (L.listed labels.now) self.new) }
         ensures number { IfOk result (λ found. IfSome found
             (IsNumberOf C.takes (P.test property.now) self.new label.now)) }
         ensures none { IfOk result (λ found. IfNone found (map_label C.takes label.now ≡ None)) }
@@ -117,7 +117,7 @@ impl DecidedMaps {
         let Some((_, map)) = parts::<C>(label) else {
             return Ok(None);
         };
-        if let Some(known) = self.seek::<C>(alloc, labels, &map)? {
+        if let Some(known) = self.seek::<C, L>(alloc, labels, &map)? {
             return Ok(Some(known));
         }
         let Some(read) = MapLayout::<C>::read(alloc, label)? else {
@@ -157,22 +157,22 @@ fn has_map<C: NumCode>(label: &Bits<'_>, map: &Bits<'_>) -> bool
 
 // The verdict on the view of the node at place `i`, whose map is decided now unless it was before.
 // The one error is want of memory.
-pub(crate) fn verdict_at<P: Tested, C: NumCode>(
+pub(crate) fn verdict_at<P: Tested, C: NumCode, L: Labels>(
     alloc: Global,
     property: &P,
-    labels: &LabelStore,
+    labels: &L,
     decided: &mut DecidedMaps,
     i: usize,
     view: &View<'_>,
 ) -> Result<Verdict, NoMemory>
-    requires at { slice_get labels.now i ≡ Some view.now.own }
-    requires decided { AreDecided C.takes (P.test property.now) labels.now decided.old }
+    requires at { slice_get (L.listed labels.now) i ≡ Some view.now.own }
+    requires decided { AreDecided C.takes (P.test property.now) (L.listed labels.now) decided.old }
     ensures decided { OnOk result
-        (AreDecided C.takes (P.test property.now) labels.now decided.new) }
+        (AreDecided C.takes (P.test property.now) (L.listed labels.now) decided.new) }
     ensures verdict { IfOk result (λ verdict. verdict
         ≡ judge_by (map_label C.takes) (map_rules (P.test property.now)) view.now) }
 {
-    let Some(number) = decided.number_of::<P, C>(alloc, property, labels, i, &view.own)? else {
+    let Some(number) = decided.number_of::<P, C, L>(alloc, property, labels, i, &view.own)? else {
         return Ok(Verdict::Reject { leaf: 1, rule: 1 });
     };
     let verdict = verdict_on::<C>(alloc, &decided.maps[number].stated, view)?;

@@ -16,7 +16,7 @@ use pls_facts::is_valid;
 use pls_graph::{Network, Size};
 use pls_model::Verdict;
 use pls_scheme::{Checker, Layout, Property, Scheme};
-use pls_view::{LabelStore, View};
+use pls_view::{LabelStore, Labels, View};
 use std::alloc::Global;
 use std::marker::PhantomData;
 
@@ -82,11 +82,11 @@ impl<P: Tested, C: NumCode> Checker for MapOf<P, C> {
         Ok(verdict)
     }
 
-    fn round(
+    fn round<L: Labels>(
         &self,
         alloc: Global,
         net: &Network,
-        labels: &LabelStore,
+        labels: &L,
         steps: &mut Steps,
     ) -> Result<Vec<Verdict>, NoMemory> {
         is_valid(net);
@@ -95,7 +95,7 @@ impl<P: Tested, C: NumCode> Checker for MapOf<P, C> {
         for i in 0..net.len() {
             let view = View::of(alloc, net, labels, i)?;
             steps.tick();
-            let verdict = verdict_at::<P, C>(
+            let verdict = verdict_at::<P, C, L>(
                 alloc,
                 &self.property,
                 labels,

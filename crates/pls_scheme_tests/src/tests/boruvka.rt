@@ -2,19 +2,21 @@
 
 use super::{ALONE, HEAVY, RING, TRIANGLE, network};
 use pls_bits::Gamma;
-use pls_boruvka::{LevelList, boruvka_levels, fragments};
+use pls_boruvka::{LevelLists, boruvka_levels, fragments};
 use pls_graph::{Network, connected};
 use pls_pointer::Tree;
 use pls_scheme::Property;
 use pls_search::pointer_depths;
-use std::alloc::{AllocError, Global};
+use std::alloc::Global;
 use std::test::Fail;
 
 // Of each node its levels, a line each: fragment, weight and ends, and a bar behind each level.
-fn text_of(alloc: Global, lists: &[LevelList]) -> Result<String, AllocError> {
+fn text_of(alloc: Global, lists: &LevelLists) -> Result<String, Fail> {
     let mut text = String::new(alloc);
-    for list in lists {
-        for level in list.as_slice() {
+    for place in 0..lists.len() {
+        let list = lists.at(place)?;
+        for i in 0..list.len() {
+            let level = list.at(i);
             let part = format!(in alloc;
                 "{} {} {} {}|",
                 level.fragment, level.weight, level.a, level.b
@@ -33,7 +35,7 @@ fn levels_of(alloc: Global, net: &Network) -> Result<String, Fail> {
         return Err(Fail::from("no tree"));
     }
     match boruvka_levels(alloc, net)? {
-        Some(lists) => Ok(text_of(alloc, lists.as_slice())?),
+        Some(lists) => text_of(alloc, &lists),
         None => Ok(format!(in alloc; "lighter")?),
     }
 }

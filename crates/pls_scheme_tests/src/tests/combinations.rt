@@ -8,6 +8,7 @@ use pls_combine::{Both, OneOf, SchemeError, print_scheme, read_scheme};
 use pls_labelfile::read_labels;
 use pls_pointer::Tree;
 use pls_scheme::{Checker, Scheme, Verdict, are_accepted};
+use pls_view::View;
 use std::alloc::Global;
 use std::test::Fail;
 
@@ -154,7 +155,8 @@ fn texts_are_read_and_printed_or_refused(rt: HostRuntime) -> Result<(), Fail> {
     Ok(())
 }
 
-// The verdict of the first of three nodes under these labels, each its length and its digits.
+// The verdict of the first of three nodes under these labels, each its length and its digits, in a
+// round, which is that on its view alone.
 fn first_verdict(alloc: Global, text: &str, labels: [&str; 3]) -> Result<Verdict, Fail> {
     let net = joined(alloc, TRIANGLE)?;
     let Ok(scheme) = read_scheme::<Gamma>(alloc, text) else {
@@ -168,13 +170,16 @@ fn first_verdict(alloc: Global, text: &str, labels: [&str; 3]) -> Result<Verdict
         return Err(Fail::from("labels refused"));
     };
     let verdicts = scheme.round(alloc, &net, &store, &mut Steps::new())?;
+    let view = View::of(alloc, &net, &store, 0)?;
+    let alone = scheme.verify(alloc, &view, &mut Steps::new())?;
     match verdicts.first() {
-        Some(verdict) => Ok(*verdict),
+        Some(verdict) if *verdict == alone => Ok(alone),
+        Some(_) => Err(Fail::from("another verdict on the view alone")),
         None => Err(Fail::from("no node")),
     }
 }
 
-// The labels of three nodes, and the leaf and the rule by which the first rejects.
+// The labels of three nodes, and the leaf and the rule by which the first rejects a disjunction.
 const REJECTED: &[([&str; 3], u8, u8)] = &[
     (["0 -", "1 00", "1 00"], 0, 1),
     (["2 00", "0 -", "1 00"], 0, 2),
@@ -184,14 +189,26 @@ const REJECTED: &[([&str; 3], u8, u8)] = &[
     (["3 c0", "3 c0", "3 e0"], 3, 3),
 ];
 
+// The same for a conjunction.
+const BOTH_REJECTED: &[([&str; 3], u8, u8)] = &[
+    (["0 -", "5 40", "5 40"], 0, 1),
+    (["5 40", "0 -", "5 40"], 0, 2),
+    (["5 40", "5 48", "5 58"], 1, 3),
+    (["5 40", "5 50", "5 50"], 2, 3),
+    (["5 40", "5 58", "4 50"], 2, 2),
+];
+
 #[test]
 fn rejections_name_the_leaf(rt: HostRuntime) -> Result<(), Fail> {
-    let text = "or(bipartite,or(acyclic,bipartite))";
-    for (labels, leaf, rule) in REJECTED {
-        let (leaf, rule) = (*leaf, *rule);
-        let verdict = first_verdict(rt.alloc(), text, *labels)?;
-        let due = Verdict::Reject { leaf, rule };
-        assert!(rt; verdict == due, "leaf {leaf}, rule {rule}");
+    let one_of = "or(bipartite,or(acyclic,bipartite))";
+    let both = "and(bipartite,bipartite)";
+    for (text, rows) in [(one_of, REJECTED), (both, BOTH_REJECTED)] {
+        for (labels, leaf, rule) in rows {
+            let (leaf, rule) = (*leaf, *rule);
+            let verdict = first_verdict(rt.alloc(), text, *labels)?;
+            let due = Verdict::Reject { leaf, rule };
+            assert!(rt; verdict == due, "{text}: leaf {leaf}, rule {rule}");
+        }
     }
     Ok(())
 }

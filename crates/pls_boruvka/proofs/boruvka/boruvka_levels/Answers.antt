@@ -5,7 +5,6 @@ use Rattle.pls_model.specs.declared.row.NodeRow.{NodeRow}
 use Rattle.pls_boruvka.specs.declared.joining.Chosen.{Chosen}
 use Rattle.pls_boruvka.specs.declared.level.Level.{Level}
 use Rattle.pls_boruvka.specs.Boruvka.{AreLevelLists}
-use Rattle.pls_boruvka.specs.inner.Choices.{AreChoices}
 use Rattle.pls_boruvka.specs.inner.Chosen.{AreChosen, SomeUnpointed, said_by}
 use Rattle.pls_boruvka.specs.inner.Tops.{AreParents, AreTops, HasDepths}
 use Rattle.pls_boruvka.proofs.Begun.{AreLevelLists-begun, IsBegun, IsBegun-more, IsBegun-none, IsLightest-begun, children_begun, few_begun, fewer_unjoined, lighter_begun, tops_within}
@@ -18,8 +17,8 @@ use Rattle.pls_boruvka.proofs.boruvka.boruvka_levels.Goals as goal
 abbrev lists_by : List NodeRow → List (Vec Chosen Global) → List (List Level)
 lists_by rows rounds = said_by (map (λ all. all.items) rounds) (length rows)
 
-pub loop-joined-init : goal.loop-joined-init
-loop-joined-init c =
+pub loop-choices-init : goal.loop-choices-init
+loop-choices-init c =
     let rows = c.args.net.now in
     let falses : c.as_mut_slice-joined.result.now ≡ replicate (length rows) false =
     c.as_mut_slice-joined.ensures.value ∙ c.in_ok-joined.ensures
@@ -33,13 +32,17 @@ loop-joined-init c =
           (lists_by rows c.new-rounds.result.items)) (sym falses)
           (subst (IsBegun rows (replicate (length rows) false)) (sym lists)
           (IsBegun-none rows c.len.ensures.valid c.requires.tree));
+      noted = ap length c.as_mut_slice-noted.ensures.value ∙ c.in_ok-noted.ensures
+          ∙ c.len-2.ensures.len;
+      choices = ap length c.as_mut_slice-choices.ensures.value ∙ c.in_ok-choices.ensures
+          ∙ c.len-3.ensures.len;
     }
 
-pub tops_of-requires-clause-falls : goal.tops_of-requires-clause-falls
-tops_of-requires-clause-falls c =
+pub tops_with-requires-clause-falls : goal.tops_with-requires-clause-falls
+tops_with-requires-clause-falls c =
     let rows = c.args.net.now in
     let valid = c.len.ensures.valid in
-    let begun = c.loop-joined.invariant.begun in
+    let begun = c.loop-choices.invariant.begun in
     subst HasDepths (sym c.as_slice-parents.ensures.value)
     (HasDepths-rows rows valid c.in_ok-parents.parents.items c.in_ok-parents.ensures begun.depth
     (Falls-chains rows valid begun.depth begun.deep) (depth_few rows valid begun.depth begun.deep))
@@ -48,77 +51,74 @@ pub returns-then-are_one-clause-levels : goal.returns-then-are_one-clause-levels
 returns-then-are_one-clause-levels c =
     let rows = c.args.net.now in
     let parents = c.as_slice-parents.result.now in
-    let flags = c.loop-joined.joined in
+    let flags = c.loop-choices.joined in
     let tops = c.as_slice-tops.result.now in
     subst (AreLevelLists rows)
     (sym (c.in_ok-lists.ensures
-    ∙ ap (λ (count : ℕ). said_by (map (λ (all : Vec Chosen Global). all.items) c.as_slice-rounds.result.now) count) c.len-then-are_one.ensures.len
-    ∙ ap (lists_by rows) c.as_slice-rounds.ensures.value))
+    ∙ ap (λ (count : ℕ). said_by (map (λ (all : Vec Chosen Global). all.items) c.loop-choices.rounds.items) count) c.len-then-are_one.ensures.len))
     (AreLevelLists-begun rows c.len.ensures.valid parents flags tops
     (subst (AreParents rows) (sym c.as_slice-parents.ensures.value) c.in_ok-parents.ensures)
-    (subst (AreTops parents flags) (sym c.as_slice-tops.ensures.value) c.in_ok-tops.ensures)
-    c.requires.tree (lists_by rows c.loop-joined.rounds.items) c.loop-joined.invariant.begun
+    (subst (AreTops parents flags) (sym c.as_slice-tops.ensures.value) c.in_ok-tops.ensures.tops)
+    c.requires.tree (lists_by rows c.loop-choices.rounds.items) c.loop-choices.invariant.begun
     (c.if-are_one.ensures.one refl))
 
 pub returns-then-are_one-clause-few : goal.returns-then-are_one-clause-few
 returns-then-are_one-clause-few c =
     let rows = c.args.net.now in
     let parents = c.as_slice-parents.result.now in
-    let flags = c.loop-joined.joined in
+    let flags = c.loop-choices.joined in
     let tops = c.as_slice-tops.result.now in
     subst (λ (lists : List (List Level)). All (λ list. 2 ^ length list ≤ length rows) lists)
     (sym (c.in_ok-lists.ensures
-    ∙ ap (λ (count : ℕ). said_by (map (λ (all : Vec Chosen Global). all.items) c.as_slice-rounds.result.now) count) c.len-then-are_one.ensures.len
-    ∙ ap (lists_by rows) c.as_slice-rounds.ensures.value))
+    ∙ ap (λ (count : ℕ). said_by (map (λ (all : Vec Chosen Global). all.items) c.loop-choices.rounds.items) count) c.len-then-are_one.ensures.len))
     (few_begun rows c.len.ensures.valid parents flags tops
     (subst (AreParents rows) (sym c.as_slice-parents.ensures.value) c.in_ok-parents.ensures)
-    (subst (AreTops parents flags) (sym c.as_slice-tops.ensures.value) c.in_ok-tops.ensures)
-    c.requires.tree (lists_by rows c.loop-joined.rounds.items) c.loop-joined.invariant.begun
+    (subst (AreTops parents flags) (sym c.as_slice-tops.ensures.value) c.in_ok-tops.ensures.tops)
+    c.requires.tree (lists_by rows c.loop-choices.rounds.items) c.loop-choices.invariant.begun
     (c.if-are_one.ensures.one refl))
 
 pub returns-then-are_one-clause-lightest : goal.returns-then-are_one-clause-lightest
 returns-then-are_one-clause-lightest c =
     let rows = c.args.net.now in
     let parents = c.as_slice-parents.result.now in
-    let flags = c.loop-joined.joined in
+    let flags = c.loop-choices.joined in
     let tops = c.as_slice-tops.result.now in
     IsLightest-begun rows c.len.ensures.valid parents flags tops
     (subst (AreParents rows) (sym c.as_slice-parents.ensures.value) c.in_ok-parents.ensures)
-    (subst (AreTops parents flags) (sym c.as_slice-tops.ensures.value) c.in_ok-tops.ensures)
-    c.requires.tree (lists_by rows c.loop-joined.rounds.items) c.loop-joined.invariant.begun
+    (subst (AreTops parents flags) (sym c.as_slice-tops.ensures.value) c.in_ok-tops.ensures.tops)
+    c.requires.tree (lists_by rows c.loop-choices.rounds.items) c.loop-choices.invariant.begun
     (c.if-are_one.ensures.one refl)
 
 pub choices_of-requires-clause-within : goal.choices_of-requires-clause-within
 choices_of-requires-clause-within c =
     let rows = c.args.net.now in
     let parents = c.as_slice-parents.result.now in
-    let flags = c.loop-joined.joined in
+    let flags = c.loop-choices.joined in
     tops_within rows c.len.ensures.valid parents flags c.as_slice-tops.result.now
     (subst (AreParents rows) (sym c.as_slice-parents.ensures.value) c.in_ok-parents.ensures)
-    (subst (AreTops parents flags) (sym c.as_slice-tops.ensures.value) c.in_ok-tops.ensures)
+    (subst (AreTops parents flags) (sym c.as_slice-tops.ensures.value) c.in_ok-tops.ensures.tops)
 
 pub chosen_of-requires-clause-within : goal.chosen_of-requires-clause-within
 chosen_of-requires-clause-within c =
     let rows = c.args.net.now in
     let parents = c.as_slice-parents.result.now in
-    let flags = c.loop-joined.joined in
+    let flags = c.loop-choices.joined in
     tops_within rows c.len.ensures.valid parents flags c.as_slice-tops.result.now
     (subst (AreParents rows) (sym c.as_slice-parents.ensures.value) c.in_ok-parents.ensures)
-    (subst (AreTops parents flags) (sym c.as_slice-tops.ensures.value) c.in_ok-tops.ensures)
+    (subst (AreTops parents flags) (sym c.as_slice-tops.ensures.value) c.in_ok-tops.ensures.tops)
 
 pub returns-in_default-clause-lighter : goal.returns-in_default-clause-lighter
 returns-in_default-clause-lighter c =
     let rows = c.args.net.now in
     let parents = c.as_slice-parents.result.now in
-    let flags = c.loop-joined.joined in
+    let flags = c.loop-choices.joined in
     let tops = c.as_slice-tops.result.now in
-    let choices = c.as_slice-choices.result.now in
+    let choices = c.choices_of.new.choices in
     lighter_begun rows c.len.ensures.valid c.requires.tree parents flags tops
     (subst (AreParents rows) (sym c.as_slice-parents.ensures.value) c.in_ok-parents.ensures)
-    (subst (AreTops parents flags) (sym c.as_slice-tops.ensures.value) c.in_ok-tops.ensures)
+    (subst (AreTops parents flags) (sym c.as_slice-tops.ensures.value) c.in_ok-tops.ensures.tops)
     (c.if-are_one.ensures.apart refl) choices
-    (subst (AreChoices rows tops (length rows)) (sym c.as_slice-choices.ensures.value)
-    c.in_ok-choices.ensures) (lists_by rows c.loop-joined.rounds.items) c.loop-joined.invariant.begun
+    c.choices_of.ensures (lists_by rows c.loop-choices.rounds.items) c.loop-choices.invariant.begun
     (subst (λ (found : Option (Vec Chosen Global)). IfNone found (SomeUnpointed tops choices))
     c.in_default.is c.in_ok-all.ensures.unpointed)
 
@@ -126,9 +126,9 @@ pub join-requires : goal.join-requires
 join-requires c =
     let rows = c.args.net.now in
     let parents = c.as_slice-parents.result.now in
-    let flags = c.loop-joined.joined in
+    let flags = c.loop-choices.joined in
     let tops = c.as_slice-tops.result.now in
-    let choices = c.as_slice-choices.result.now in
+    let choices = c.choices_of.new.choices in
     let all = c.as_slice.result.now in
     let chosen : AreChosen rows tops choices all = subst (AreChosen rows tops choices)
     (sym c.as_slice.ensures.value)
@@ -137,19 +137,18 @@ join-requires c =
     record {
       within = children_begun rows c.len.ensures.valid c.requires.tree parents flags tops
           (subst (AreParents rows) (sym c.as_slice-parents.ensures.value) c.in_ok-parents.ensures)
-          (subst (AreTops parents flags) (sym c.as_slice-tops.ensures.value) c.in_ok-tops.ensures)
+          (subst (AreTops parents flags) (sym c.as_slice-tops.ensures.value) c.in_ok-tops.ensures.tops)
           (c.if-are_one.ensures.apart refl) choices
-          (subst (AreChoices rows tops (length rows)) (sym c.as_slice-choices.ensures.value)
-          c.in_ok-choices.ensures) (lists_by rows c.loop-joined.rounds.items) c.loop-joined.invariant.begun all chosen;
+          c.choices_of.ensures (lists_by rows c.loop-choices.rounds.items) c.loop-choices.invariant.begun all chosen;
     }
 
-pub loop-joined-smaller : goal.loop-joined-smaller
-loop-joined-smaller c =
+pub loop-choices-smaller : goal.loop-choices-smaller
+loop-choices-smaller c =
     let rows = c.args.net.now in
     let parents = c.as_slice-parents.result.now in
-    let flags = c.loop-joined.joined in
+    let flags = c.loop-choices.joined in
     let tops = c.as_slice-tops.result.now in
-    let choices = c.as_slice-choices.result.now in
+    let choices = c.choices_of.new.choices in
     let all = c.as_slice.result.now in
     let chosen : AreChosen rows tops choices all = subst (AreChosen rows tops choices)
     (sym c.as_slice.ensures.value)
@@ -157,28 +156,27 @@ loop-joined-smaller c =
     (λ all. AreChosen rows tops choices all.items)) c.in-Some.is c.in_ok-all.ensures.chosen) in
     fewer_unjoined rows c.len.ensures.valid c.requires.tree parents flags tops
     (subst (AreParents rows) (sym c.as_slice-parents.ensures.value) c.in_ok-parents.ensures)
-    (subst (AreTops parents flags) (sym c.as_slice-tops.ensures.value) c.in_ok-tops.ensures)
+    (subst (AreTops parents flags) (sym c.as_slice-tops.ensures.value) c.in_ok-tops.ensures.tops)
     (c.if-are_one.ensures.apart refl) choices
-    (subst (AreChoices rows tops (length rows)) (sym c.as_slice-choices.ensures.value)
-    c.in_ok-choices.ensures) (lists_by rows c.loop-joined.rounds.items) c.loop-joined.invariant.begun all chosen
+    c.choices_of.ensures (lists_by rows c.loop-choices.rounds.items) c.loop-choices.invariant.begun all chosen
     c.join.new.joined
     c.join.ensures
 
-pub loop-joined-preserved : goal.loop-joined-preserved
-loop-joined-preserved c =
+pub loop-choices-preserved : goal.loop-choices-preserved
+loop-choices-preserved c =
     let rows = c.args.net.now in
     let parents = c.as_slice-parents.result.now in
-    let flags = c.loop-joined.joined in
+    let flags = c.loop-choices.joined in
     let tops = c.as_slice-tops.result.now in
-    let choices = c.as_slice-choices.result.now in
+    let choices = c.choices_of.new.choices in
     let all = c.as_slice.result.now in
     let chosen : AreChosen rows tops choices all = subst (AreChosen rows tops choices)
     (sym c.as_slice.ensures.value)
     (subst (λ (found : Option (Vec Chosen Global)). IfSome found
     (λ all. AreChosen rows tops choices all.items)) c.in-Some.is c.in_ok-all.ensures.chosen) in
-    let rounds = c.loop-joined.rounds.items in
+    let rounds = c.loop-choices.rounds.items in
     let vec_items : Vec Chosen Global → List Chosen = λ all. all.items in
-    let each = c.loop-joined.invariant.each in
+    let each = c.loop-choices.invariant.each in
     let many : length c.in-Some.all.items ≡ length rows =
     sym (ap length c.as_slice.ensures.value) ∙ chosen.each in
     let is : all ≡ c.in-Some.all.items = c.as_slice.ensures.value in
@@ -196,9 +194,10 @@ loop-joined-preserved c =
           (All-nil (λ all. length all.items ≡ length rows))));
       begun = IsBegun-more rows c.len.ensures.valid c.requires.tree parents flags tops
           (subst (AreParents rows) (sym c.as_slice-parents.ensures.value) c.in_ok-parents.ensures)
-          (subst (AreTops parents flags) (sym c.as_slice-tops.ensures.value) c.in_ok-tops.ensures)
+          (subst (AreTops parents flags) (sym c.as_slice-tops.ensures.value) c.in_ok-tops.ensures.tops)
           (c.if-are_one.ensures.apart refl) choices
-          (subst (AreChoices rows tops (length rows)) (sym c.as_slice-choices.ensures.value)
-          c.in_ok-choices.ensures) (lists_by rows rounds) c.loop-joined.invariant.begun all chosen
+          c.choices_of.ensures (lists_by rows rounds) c.loop-choices.invariant.begun all chosen
           c.join.new.joined c.join.ensures _ added;
+      noted = c.in_ok-tops.ensures.room ∙ c.loop-choices.invariant.noted;
+      choices = c.choices_of.ensures.each;
     }

@@ -4,11 +4,13 @@ use Rattle.pls_boruvka.proofs.Begun.{IsBegun}
 use Rattle.pls_boruvka.proofs.Unjoined.{unjoined}
 use Rattle.pls_boruvka.proofs.boruvka.boruvka_levels.Given as goal
 
-abbrev pub invariant-loop-joined : goal.invariant-loop-joined
-invariant-loop-joined l = record {
+abbrev pub invariant-loop-choices : goal.invariant-loop-choices
+invariant-loop-choices l = record {
   each : All (λ all. length all.items ≡ length l.net) l.rounds.items;
   begun : IsBegun l.net l.joined (said_by (map (λ all. all.items) l.rounds.items) (length l.net));
+  noted : length l.noted ≡ length l.net;
+  choices : length l.choices ≡ length l.net;
 }
 
-abbrev pub decreases-loop-joined : goal.decreases-loop-joined
-decreases-loop-joined l = unjoined l.joined
+abbrev pub decreases-loop-choices : goal.decreases-loop-choices
+decreases-loop-choices l = unjoined l.joined

@@ -7,13 +7,10 @@ pub loop-place-preserved : goal.loop-place-preserved
 loop-place-preserved c =
     let parents = c.loop-place.parents.items in
     let place = c.loop-place.place in
-    let found = c.pointed_place.result in
+    let found = c.parent_of.result in
     let (many, right) = c.loop-place.invariant in
     let all = c.in_ok-push.ensures.items in (
       let size = ap length all in omega (arith, size, many, length-append parents (found ∷ [])),
       subst (Each (IsParent c.args.net.now)) (sym all)
-          (Each-push (IsParent c.args.net.now) parents place found many right record {
-            points = c.pointed_place.ensures.to;
-            within = c.pointed_place.ensures.within;
-          }),
+          (Each-push (IsParent c.args.net.now) parents place found many right c.parent_of.ensures),
     )

@@ -7,5 +7,5 @@ pub loop-i-preserved : goal.loop-i-preserved
 loop-i-preserved g c =
     c.in_ok-push.ensures.items
     ∙ map-take_more (seen_in g.R.Layout.Layout.said (g.R.JudgesInPlace.glance c.args.rules.now))
-    c.args.labels.now c.loop-i.i c.bits.result c.loop-i.looked.items c.look.result
+    (g.L.Labels.listed c.args.labels.now) c.loop-i.i c.bits.result c.loop-i.looked.items c.look.result
     c.loop-i.invariant c.bits.ensures c.look.ensures

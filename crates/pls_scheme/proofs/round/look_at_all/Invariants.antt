@@ -6,4 +6,4 @@ use Rattle.pls_scheme.proofs.round.look_at_all.Given as goal
 abbrev pub invariant-loop-i : goal.invariant-loop-i
 invariant-loop-i g l =
     l.looked.items ≡ map (seen_in g.R.Layout.Layout.said (g.R.JudgesInPlace.glance l.rules))
-    (take l.i l.labels)
+    (take l.i (g.L.Labels.listed l.labels))

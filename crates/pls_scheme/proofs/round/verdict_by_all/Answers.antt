@@ -15,7 +15,7 @@ use Rattle.pls_scheme.proofs.round.verdict_by_all.Goals as goal
 pub returns-in_default : goal.returns-in_default
 returns-in_default g c view at =
     let rows = c.args.net.now in
-    let labels = c.args.labels.now in
+    let labels = g.L.Labels.listed c.args.labels.now in
     let said = g.R.Layout.Layout.said in
     let glance = g.R.JudgesInPlace.glance c.args.rules.now in
     let rules = g.R.Judgement.rules c.args.rules.now in
@@ -38,9 +38,9 @@ loop-p-init g c =
     let node = c.node-id.result in
     let bits = c.bits-bits.result in
     pass_opened said glance (g.R.JudgesInPlace.gathered c.args.rules.now)
-    (shown_from c.args.net.now c.args.labels.now node.0 node.1 bits c.ports-ports.result.now)
+    (shown_from c.args.net.now (g.L.Labels.listed c.args.labels.now) node.0 node.1 bits c.ports-ports.result.now)
     c.in-Some.glance.now c.open-tally.result
-    (ap option_copied (sym c.in-Some.is) ∙ c.glance.ensures ∙ kept_there said glance g.E.Kept.kept c.args.labels.now c.args.looked.now
+    (ap option_copied (sym c.in-Some.is) ∙ c.glance.ensures ∙ kept_there said glance g.E.Kept.kept (g.L.Labels.listed c.args.labels.now) c.args.looked.now
     c.requires.looked c.args.i bits c.index-looked-i.result c.bits-bits.ensures
     c.index-looked-i.is)
     (λ label same. c.open-tally.ensures node.0 node.1 label same)
@@ -54,7 +54,7 @@ bounds-places-p g c =
 pub returns-in_default-glance : goal.returns-in_default-glance
 returns-in_default-glance g c view at =
     let rows = c.args.net.now in
-    let labels = c.args.labels.now in
+    let labels = g.L.Labels.listed c.args.labels.now in
     let said = g.R.Layout.Layout.said in
     let glance = g.R.JudgesInPlace.glance c.args.rules.now in
     let rules = g.R.Judgement.rules c.args.rules.now in
@@ -87,7 +87,7 @@ returns-in_default-glance g c view at =
 pub loop-p-preserved : goal.loop-p-preserved
 loop-p-preserved g c =
     let rows = c.args.net.now in
-    let labels = c.args.labels.now in
+    let labels = g.L.Labels.listed c.args.labels.now in
     let said = g.R.Layout.Layout.said in
     let glance = g.R.JudgesInPlace.glance c.args.rules.now in
     let node = c.node-id.result in
@@ -124,10 +124,10 @@ glance_above-above-requires-clause-pointer g c =
 
 pub glance_above-above-requires-clause-within : goal.glance_above-above-requires-clause-within
 glance_above-above-requires-clause-within g c = λ p none within.
-    let many : length c.args.looked.now ≡ length c.args.labels.now =
+    let many : length c.args.looked.now ≡ length (g.L.Labels.listed c.args.labels.now) =
     sym (length-map c.args.looked.now g.E.Kept.kept)
     ∙ ap length c.requires.looked
-    ∙ length-map c.args.labels.now (seen_in g.R.Layout.Layout.said
+    ∙ length-map (g.L.Labels.listed c.args.labels.now) (seen_in g.R.Layout.Layout.said
     (g.R.JudgesInPlace.glance c.args.rules.now)) in
     let inside = c.places-places.ensures.within p none within in
     omega (arith, many, c.requires.each, inside)
@@ -135,7 +135,7 @@ glance_above-above-requires-clause-within g c = λ p none within.
 pub returns : goal.returns
 returns g c view at =
     let rows = c.args.net.now in
-    let labels = c.args.labels.now in
+    let labels = g.L.Labels.listed c.args.labels.now in
     let said = g.R.Layout.Layout.said in
     let glance = g.R.JudgesInPlace.glance c.args.rules.now in
     let rules = g.R.Judgement.rules c.args.rules.now in

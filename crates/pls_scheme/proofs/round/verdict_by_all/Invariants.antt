@@ -7,4 +7,4 @@ abbrev pub invariant-loop-p : goal.invariant-loop-p
 invariant-loop-p g l =
     IsPassed g.R.Layout.Layout.said (g.R.JudgesInPlace.glance l.rules)
     (g.R.JudgesInPlace.gathered l.rules)
-    (shown_from l.net l.labels l.id l.state l.own.bits.now l.ports) l.p l.tally
+    (shown_from l.net (g.L.Labels.listed l.labels) l.id l.state l.own.bits.now l.ports) l.p l.tally

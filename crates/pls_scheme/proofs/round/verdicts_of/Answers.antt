@@ -8,7 +8,7 @@ use Rattle.pls_scheme.proofs.round.verdicts_of.Goals as goal
 pub loop-i-preserved : goal.loop-i-preserved
 loop-i-preserved g c =
     let rows = c.args.net.now in
-    let labels = c.args.labels.now in
+    let labels = g.L.Labels.listed c.args.labels.now in
     let within = c.loop-i-test.true in
     let many : length (views rows labels) ≡ length rows =
     length-map rows (seen (label_of rows labels)) in

@@ -7,6 +7,6 @@ use Rattle.pls_scheme.proofs.round.verdicts_of.Given as goal
 abbrev pub invariant-loop-i : goal.invariant-loop-i
 invariant-loop-i g l = record {
   verdicts : l.verdicts.items ≡ map (judge_by g.R.Layout.Layout.said
-      (g.R.Judgement.rules l.rules)) (take l.i (views l.net l.labels));
+      (g.R.Judgement.rules l.rules)) (take l.i (views l.net (g.L.Labels.listed l.labels)));
   steps : l.steps ≡ up_by l.i l.fn.steps;
 }

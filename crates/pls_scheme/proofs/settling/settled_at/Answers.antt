@@ -20,20 +20,20 @@ glance_above-above-requires-clause-pointer g c =
 
 pub glance_above-above-requires-clause-within : goal.glance_above-above-requires-clause-within
 glance_above-above-requires-clause-within g c = λ p none within.
-    let many : length c.args.looked.now ≡ length c.args.labels.now =
+    let many : length c.args.looked.now ≡ length (g.L.Labels.listed c.args.labels.now) =
     sym (length-map c.args.looked.now g.E.Kept.kept)
     ∙ ap length c.requires.looked
-    ∙ length-map c.args.labels.now (seen_in g.R.Layout.Layout.said
+    ∙ length-map (g.L.Labels.listed c.args.labels.now) (seen_in g.R.Layout.Layout.said
     (g.R.JudgesInPlace.glance c.args.rules.now)) in
     let inside = c.places-places.ensures.within p none within in
     omega (arith, many, c.requires.each, inside)
 
 pub are_read-requires : goal.are_read-requires
 are_read-requires g c = λ p none within.
-    let many : length c.args.looked.now ≡ length c.args.labels.now =
+    let many : length c.args.looked.now ≡ length (g.L.Labels.listed c.args.labels.now) =
     sym (length-map c.args.looked.now g.E.Kept.kept)
     ∙ ap length c.requires.looked
-    ∙ length-map c.args.labels.now (seen_in g.R.Layout.Layout.said
+    ∙ length-map (g.L.Labels.listed c.args.labels.now) (seen_in g.R.Layout.Layout.said
     (g.R.JudgesInPlace.glance c.args.rules.now)) in
     let inside = c.places-places.ensures.within p none within in
     omega (arith, many, c.requires.each, inside)
@@ -41,7 +41,7 @@ are_read-requires g c = λ p none within.
 pub returns-then-are_read : goal.returns-then-are_read
 returns-then-are_read g c view at =
     let rows = c.args.net.now in
-    let labels = c.args.labels.now in
+    let labels = g.L.Labels.listed c.args.labels.now in
     let said = g.R.Layout.Layout.said in
     let glance = g.R.JudgesInPlace.glance c.args.rules.now in
     let rules = g.R.Judgement.rules c.args.rules.now in
@@ -84,7 +84,7 @@ returns-then-are_read g c view at =
 pub returns-else-are_read : goal.returns-else-are_read
 returns-else-are_read g c view at =
     let rows = c.args.net.now in
-    let labels = c.args.labels.now in
+    let labels = g.L.Labels.listed c.args.labels.now in
     let said = g.R.Layout.Layout.said in
     let glance = g.R.JudgesInPlace.glance c.args.rules.now in
     let rules = g.R.Judgement.rules c.args.rules.now in

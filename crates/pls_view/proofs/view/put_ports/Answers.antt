@@ -8,13 +8,13 @@ use Rattle.pls_graph.proofs.Beside.{beside_many, beside_port}
 use Rattle.pls_view.proofs.view.put_ports.Goals as goal
 
 pub returns-clause-shown : goal.returns-clause-shown
-returns-clause-shown c =
+returns-clause-shown g c =
     c.loop-port.invariant.seen
-    ∙ ap (map (seen_port (label_of c.args.net.now c.args.labels.now)))
+    ∙ ap (map (seen_port (label_of c.args.net.now (g.L.Labels.listed c.args.labels.now))))
     (take_all c.loop-port.port-index c.args.named.now c.loop-port-test.false)
 
 pub returns-in_err-push-clause-small : goal.returns-in_err-push-clause-small
-returns-in_err-push-clause-small c = λ roomy few.
+returns-in_err-push-clause-small g c = λ roomy few.
     let ports = c.args.named.now in
     let seen : length c.loop-port.ports.items ≡ length (take c.loop-port.port-index ports) =
     rw (length-map, length-map) at (ap length c.loop-port.invariant.seen) in
@@ -24,7 +24,7 @@ returns-in_err-push-clause-small c = λ roomy few.
     (omega (arith, seen, count, few, roomy, c.loop-port.invariant.room))))
 
 pub bounds-places-p : goal.bounds-places-p
-bounds-places-p c =
+bounds-places-p g c =
     let rows = c.args.net.now in
     let many = beside_many rows c.len.ensures.valid c.args.i c.args.named.now c.requires.named in
     let listed = ap length c.places-places.ensures.places in
@@ -32,7 +32,7 @@ bounds-places-p c =
     let within = c.loop-port-test.true in omega arith
 
 pub port_view-requires-clause-at : goal.port_view-requires-clause-at
-port_view-requires-clause-at c =
+port_view-requires-clause-at g c =
     let rows = c.args.net.now in
     let ports = c.args.named.now in
     let index = c.loop-port.port-index in

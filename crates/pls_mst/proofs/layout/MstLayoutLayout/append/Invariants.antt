@@ -5,7 +5,7 @@ use Rattle.pls_mst.specs.Labels.{numbers_of_level}
 use Rattle.pls_mst.proofs.layout.MstLayoutLayout.append.Given as goal
 
 -- behind the numbers in front the codes of the levels so far
-abbrev pub invariant-loop-level : goal.invariant-loop-level
-invariant-loop-level g l =
+abbrev pub invariant-loop-i : goal.invariant-loop-i
+invariant-loop-i g l =
     l.bits ≡ l.initial.bits
-    ++ codes_of g.C.NumCode.code (flat_map numbers_of_level (take l.level-index l.label.levels))
+    ++ codes_of g.C.NumCode.code (flat_map numbers_of_level (take l.i l.label.levels))

@@ -10,7 +10,7 @@ returns-clause-right g c =
     let deep = rw c.in-Some.is at (c.in_ok-root.ensures.depths) in
     let are = rw c.in-Some-2.is at (c.in_ok-lists.ensures.levels) in
     let labels = c.in_ok-labels.labels.items in
-    made_right rows c.in-Some.root c.in-Some.depths.items c.in-Some-2.lists.items
+    made_right rows c.in-Some.root c.in-Some.depths.items c.in-Some-2.lists
     c.root_and_depths.ensures.valid only deep are labels
-    (subst (λ (depths : List ℕ). AreMade rows c.in-Some.root depths c.in-Some-2.lists.items
+    (subst (λ (depths : List ℕ). AreMade rows c.in-Some.root depths c.in-Some-2.lists
     (length rows) labels) c.deref.ensures.value c.in_ok-labels.ensures)

@@ -9,7 +9,7 @@ use Rattle.pls_universal.proofs.deciding.DecidedMaps.number_of.Goals as goal
 pub returns-in-Some-2-clause-number : goal.returns-in-Some-2-clause-number
 returns-in-Some-2-clause-number g c =
     let takes = g.C.NumCode.takes in
-    let labels = c.args.labels.now in
+    let labels = g.L.Labels.listed c.args.labels.now in
     let map = c.in-Some.map in
     let is : IsNumberOfMap takes labels c.args.self.now map c.in-Some-2.known =
     subst (λ found. IfSome found (IsNumberOfMap takes labels c.args.self.now map)) c.in-Some-2.is
@@ -30,7 +30,7 @@ returns-clause-decided g c =
       stated = subst (λ rows. IsStated test rows c.in_ok-stated.stated) c.as_slice.ensures
           c.in_ok-stated.ensures;
     } in
-    one-decided takes test c.args.labels.now c.args.self.now c.requires.decided c.put.new.self
+    one-decided takes test (g.L.Labels.listed c.args.labels.now) c.args.self.now c.requires.decided c.put.new.self
     map c.args.label.now c.in_ok-number.ensures.maps c.requires.at found
 
 pub returns-clause-number : goal.returns-clause-number
@@ -47,5 +47,5 @@ returns-clause-number g c =
           c.in_ok-stated.ensures;
     } in
     subst (IsNumberOf takes test c.put.new.self c.args.label.now) (sym c.in_ok-number.ensures.number)
-    (one-number takes test c.args.labels.now c.args.self.now c.requires.decided c.put.new.self
+    (one-number takes test (g.L.Labels.listed c.args.labels.now) c.args.self.now c.requires.decided c.put.new.self
     map c.args.label.now c.in_ok-number.ensures.maps c.requires.at found)

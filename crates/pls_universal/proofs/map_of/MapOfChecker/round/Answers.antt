@@ -12,12 +12,12 @@ loop-i-init g c = record {
   verdicts = c.in_ok-verdicts.ensures.items;
   steps = omega arith;
   decided = c.new-decided.ensures g.C.NumCode.takes (g.P.Tested.test c.args.self.now.property)
-      c.args.labels.now;
+      (g.L.Labels.listed c.args.labels.now);
 }
 
 pub verdict_at-requires-clause-at : goal.verdict_at-requires-clause-at
 verdict_at-requires-clause-at g c =
-    own_at c.args.net.now c.args.labels.now c.loop-i.i c.in_ok-view.view c.is_valid.ensures
+    own_at c.args.net.now (g.L.Labels.listed c.args.labels.now) c.loop-i.i c.in_ok-view.view c.is_valid.ensures
     c.requires (omega (arith, c.loop-i-test.true, c.len-i-end.ensures.len))
     c.in_ok-view.ensures.shows
 
@@ -43,7 +43,7 @@ loop-i-preserved g c = record {
       c.in_ok-push.ensures.items
       ∙ map-take_more (judge_by (map_label g.C.NumCode.takes)
       (map_rules (g.P.Tested.test c.args.self.now.property)))
-      (views c.args.net.now c.args.labels.now) c.loop-i.i _ c.loop-i.verdicts.items
+      (views c.args.net.now (g.L.Labels.listed c.args.labels.now)) c.loop-i.i _ c.loop-i.verdicts.items
       c.in_ok-verdict.verdict c.loop-i.invariant.verdicts c.in_ok-view.ensures.shows
       c.in_ok-verdict.ensures.verdict;
   steps = omega (arith, c.tick.ensures, c.loop-i.invariant.steps);

@@ -12,7 +12,7 @@ abbrev pub invariant-loop-i : goal.invariant-loop-i
 invariant-loop-i g l = record {
   verdicts : l.verdicts.items
       ≡ map (judge_by (map_label g.C.NumCode.takes) (map_rules (g.P.Tested.test l.self.property)))
-      (take l.i (views l.net l.labels));
+      (take l.i (views l.net (g.L.Labels.listed l.labels)));
   steps : l.steps ≡ up_by l.i l.fn.steps;
-  decided : AreDecided g.C.NumCode.takes (g.P.Tested.test l.self.property) l.labels l.decided;
+  decided : AreDecided g.C.NumCode.takes (g.P.Tested.test l.self.property) (g.L.Labels.listed l.labels) l.decided;
 }

@@ -1,0 +1,64 @@
+//! The levels of all nodes.
+
+ghost use Rattle.std.specs.Prelude.{◌≡◌, ◌<◌, length, map, slice_get, IfOk, Some};
+ghost use Rattle.pls_boruvka.specs.inner.Chosen.{said_by};
+
+use crate::joining::Chosen;
+use crate::level_list::LevelList;
+use pls_base::NoMemory;
+use std::alloc::Global;
+use std::marker::Model;
+use std::rc::Rc;
+
+/// The levels of each node, in the order of the nodes, seen as the list of their lists.
+#[derive(Drop)]
+pub struct LevelLists {
+    // What each round said of every node.
+    rounds: Rc<Vec<Vec<Chosen>>>,
+    // How many nodes there are.
+    count: usize,
+}
+
+impl Model for LevelLists {
+    ghost use Rattle.std.specs.Prelude.{List, map};
+    ghost use Rattle.pls_boruvka.specs.declared.level.Level.{Level};
+    ghost use Rattle.pls_boruvka.specs.inner.Chosen.{said_by};
+
+    ghost Value = { List (List Level) };
+
+    ghost view = { λ lists. said_by (map (λ all. all.items) lists.rounds.value.items) lists.count };
+}
+
+impl LevelLists {
+    // What these rounds say of so many nodes. The one error is want of memory.
+    pub(crate) fn of_rounds(
+        alloc: Global,
+        rounds: Vec<Vec<Chosen>>,
+        count: usize,
+    ) -> Result<LevelLists, NoMemory>
+        ensures { IfOk result (λ lists.
+            lists ≡ said_by (map (λ all. all.items) rounds.items) count) }
+    {
+        match Rc::new(alloc, rounds) {
+            Ok(rounds) => Ok(LevelLists { rounds, count }),
+            Err(_) => Err(NoMemory),
+        }
+    }
+
+    /// How many nodes there are.
+    pub fn len(&self) -> usize
+        ensures { result ≡ length self.now }
+    {
+        self.count
+    }
+
+    /// The levels of the node at a place, which lie where the others lie. The one error is want of
+    /// memory.
+    pub fn at(&self, place: usize) -> Result<LevelList, NoMemory>
+        requires { place < length self.now }
+        ensures { IfOk result (λ list. slice_get self.now place ≡ Some list) }
+    {
+        let rounds = self.rounds.clone()?;
+        Ok(LevelList::of_rounds(rounds, place))
+    }
+}
