@@ -28,12 +28,12 @@ use Rattle.pls_graph.proofs.Members.{Contains-first}
 use Rattle.pls_graph.proofs.Placed.{smallest_first}
 use Rattle.pls_app.specs.declared.shape.Shape.{Shape}
 use Rattle.pls_app.specs.declared.shape.Shape.TheVariants.{Network, Labelled, Scheduled, Edited}
-use Rattle.pls_app.specs.Input.{AreLabels, Input, IsInput, IsReadable, net_labels_text}
+use Rattle.pls_app.specs.Input.{AreFewLabels, Input, IsInput, IsReadable, net_labels_text}
 use Rattle.pls_app.specs.Order.{Parts, edits_behind, events_behind, labels_behind, parts_text}
 
 -- the labels of an input fit
 pub parts_fit : (rows : List NodeRow) (labels : List (List Bool)) → IsReadable rows
-    → AreLabels rows labels → All FitsLabel (named (ids_of rows) labels)
+    → AreFewLabels rows labels → All FitsLabel (named (ids_of rows) labels)
 parts_fit rows labels readable labelled = net_labels_fit rows labels readable.ranges labelled.few
 
 -- an error that is a refusal is the refusal
@@ -137,7 +137,7 @@ one_apart rows id other one two = by (nat_lt id other) (nat_lt other id) refl re
 
 -- the same labels stand behind the same rows
 same_labels : (rows others : List NodeRow) (one other : List (List Bool)) (x y : List ℕ)
-    → rows ≡ others → AreRows rows → AreRows others → AreLabels rows one → AreLabels others other
+    → rows ≡ others → AreRows rows → AreRows others → AreFewLabels rows one → AreFewLabels others other
     → net_labels_text rows one ++ x ≡ net_labels_text others other ++ y
     → (one ≡ other) × (x ≡ y)
 same_labels rows others one other x y same ranges range mine theirs is =

@@ -21,7 +21,7 @@ use Rattle.pls_app.specs.declared.shape.Shape.{Shape}
 use Rattle.pls_app.specs.declared.shape.Shape.TheVariants.{Network, Labelled, Scheduled, Edited}
 use Rattle.pls_app.specs.declared.input.Texts.{Texts}
 use Rattle.pls_app.specs.declared.limits.TheConstants.{MAX_INPUT}
-use Rattle.pls_app.specs.Input.{AreEvents, AreFewEdits, AreLabels, HasLines, Input, IsInput, IsReadable, first_event_line, net_labels_text}
+use Rattle.pls_app.specs.Input.{AreFewEvents, AreFewEdits, AreFewLabels, HasLines, Input, IsInput, IsReadable, first_event_line, net_labels_text}
 use Rattle.pls_app.specs.Order.{heading_of}
 use Rattle.pls_app.specs.inner.Scanned.{AreBuilt, AreEditsListed, AreListed, IsBuilt, IsScanned, TellsBehind, TellsEvents, TellsLast, TellsLastEdits, TellsSome, TellsSomeEdits, first_line_of, lines_behind}
 use Rattle.pls_app.proofs.Inputs.{alone_parts, edited_parts, few_bits, labelled_parts, scheduled_parts, some_of}
@@ -69,7 +69,7 @@ some_edits rows labels (Some written) edits found some tells = (written, refl, r
 -- the labels that were built of a text are its labels, one for each node
 record AreRead (rows : List NodeRow) (store : List (List Bool))
     (labels : List NamedLabel) : Type 0 where
-  are : AreLabels rows store
+  are : AreFewLabels rows store
   back : named (ids_of rows) store ≡ labels
 
 read_labels : (rows net : List NodeRow) (written : WrittenLabels) (labels : List NamedLabel)
@@ -156,7 +156,7 @@ module _ (bytes : List ℕ) (texts : Texts) (net : List NodeRow) (store : List (
 
   -- the events of parts that have them
   events_read : (shape : Shape) (made : Made shape) (found : List Event)
-      → made.scanned.parts.events ≡ Some found → (list ≡ found) × AreEvents list
+      → made.scanned.parts.events ≡ Some found → (list ≡ found) × AreFewEvents list
   events_read shape made found some =
       let parts = made.scanned.parts in
       let text = some_events parts.rows parts.labels texts.schedule parts.events found some
@@ -165,7 +165,7 @@ module _ (bytes : List ℕ) (texts : Texts) (net : List NodeRow) (store : List (
       let few : IfSome (Some text.0) (λ text. text.events ≤ MAX_EVENTS) = rw text.1 at made.few in
       let same = listed found text.2.tells in (
         same,
-        subst AreEvents (sym same) (record {
+        subst AreFewEvents (sym same) (record {
           ranges = text.2.tells.fits;
           few = few_events text.0 found text.2.count few;
         }),

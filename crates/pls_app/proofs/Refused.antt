@@ -20,10 +20,10 @@ use Rattle.pls_sim.specs.declared.limits.TheConstants.{MAX_EVENTS}
 use Rattle.pls_sim.specs.ScheduleText.{FitsEvent, IsEventsRefusal, WrittenSchedule}
 use Rattle.pls_edits.specs.declared.edit_line.EditLine.{EditLine}
 use Rattle.pls_edits.specs.declared.limits.TheConstants.{MAX_LINES, MAX_ROUNDS}
-use Rattle.pls_edits.specs.EditsText.{AreEdits, AreFew, HasTooMany, IsEditsRefusal, WrittenEdits, rounds_of}
+use Rattle.pls_edits.specs.EditsText.{AreEdits, AreFew, HasTooManyLines, IsEditsRefusal, WrittenEdits, rounds_of}
 use Rattle.pls_app.specs.declared.shape.Shape.{Shape}
 use Rattle.pls_app.specs.declared.input.Texts.{Texts}
-use Rattle.pls_app.specs.Input.{AreLabels}
+use Rattle.pls_app.specs.Input.{AreFewLabels}
 use Rattle.pls_app.specs.Order.{IsApart, IsFirstRefusal, Parts, RefusesParts, heading_of, lines_in, misfit_in, refusals_in}
 use Rattle.pls_app.specs.inner.Scanned.{AreBuilt, AreEditsUnlisted, AreRefused, AreUnlisted, IsScanned, TellsEvents, TellsSome, TellsSomeEdits, limits_in}
 use Rattle.pls_app.proofs.Inputs.{refusal_is}
@@ -239,7 +239,7 @@ labelled rows labels events edits = record {
 -- such parts with few lines are refused by nothing before 17
 pub labelled_unrefused : (rows : List NodeRow) (labels : List (List Bool))
     (events : Option (List Event)) (edits : Option (List EditLine)) → IsNetwork rows
-    → AreLabels rows labels → AreFewLines (labelled rows labels events edits)
+    → AreFewLabels rows labels → AreFewLines (labelled rows labels events edits)
     → first_of (refusals_in (labelled rows labels events edits)) ≡ None
 labelled_unrefused rows labels events edits net labelled_so few =
     let ids : List ℕ = ids_of rows in
@@ -277,7 +277,7 @@ events_unlisted shape bytes texts error scanned none unlisted =
         unlisted_few events error few (unlisted events tells.tells)
 
 -- few edits are not too many
-too_many : {error : TextError} (edits : List EditLine) → AreFew edits → HasTooMany edits error → ⊥
+too_many : {error : TextError} (edits : List EditLine) → AreFew edits → HasTooManyLines edits error → ⊥
 too_many edits few many = elim many [
   | inl events ↦ omega (arith, events.1, few.events)
   | inr rounds ↦ omega (arith, rounds.2, few.rounds)

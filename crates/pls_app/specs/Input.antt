@@ -31,12 +31,12 @@ pub record IsReadable (rows : List NodeRow) : Type 0 where
   pub ranges : AreRows rows
 
 -- the labels are one for each node, within the limit on their bits
-pub record AreLabels (rows : List NodeRow) (labels : List (List Bool)) : Type 0 where
+pub record AreFewLabels (rows : List NodeRow) (labels : List (List Bool)) : Type 0 where
   pub each : length labels ≡ length rows
   pub few : bits_together labels ≤ MAX_BITS
 
 -- the numbers of the events can stand in a text, and there are not too many of them
-pub record AreEvents (events : List Event) : Type 0 where
+pub record AreFewEvents (events : List Event) : Type 0 where
   pub ranges : All FitsEvent events
   pub few : length events ≤ MAX_EVENTS
 
@@ -49,11 +49,11 @@ pub record AreFewEdits (edits : List EditLine) : Type 0 where
 abbrev pub IsFilled : Shape → Input → Type 0
 IsFilled Network input = (input.labels ≡ []) × (input.events ≡ []) × (input.edits ≡ [])
 IsFilled Labelled input =
-    AreLabels input.rows input.labels × (input.events ≡ []) × (input.edits ≡ [])
+    AreFewLabels input.rows input.labels × (input.events ≡ []) × (input.edits ≡ [])
 IsFilled Scheduled input =
-    AreLabels input.rows input.labels × AreEvents input.events × (input.edits ≡ [])
+    AreFewLabels input.rows input.labels × AreFewEvents input.events × (input.edits ≡ [])
 IsFilled Edited input =
-    AreLabels input.rows input.labels × (input.events ≡ []) × AreFewEdits input.edits
+    AreFewLabels input.rows input.labels × (input.events ≡ []) × AreFewEdits input.edits
 
 -- the text of the labels of a network
 abbrev pub net_labels_text : List NodeRow → List (List Bool) → List ℕ

@@ -8,9 +8,11 @@ ghost use Rattle.pls_app.specs.Run.{IsAnswered};
 
 use crate::round_report::RoundReport;
 use pls_base::{NoMemory, Status, TextError};
+use pls_graph::Network;
 use pls_json::json_report;
 use pls_report::all_accept;
 use pls_sim::Outcome;
+use pls_view::LabelStore;
 use std::alloc::Global;
 use std::marker::Model;
 
@@ -28,6 +30,11 @@ pub(crate) enum Content {
     Known(&'static [u8]),
     /// A text that was made.
     Written(Vec<u8>),
+    /// The labels of a network, which become text as they are written.
+    Labels {
+        net: Network,
+        labels: LabelStore,
+    },
     /// A report, which becomes text as it is written.
     Report {
         simulated: bool,

@@ -17,7 +17,7 @@ use pls_base::{NoMemory, Quantity, Status, TextError};
 use pls_bits::Gamma;
 use pls_combine::AnyScheme;
 use pls_graph::Network;
-use pls_labelfile::{MAX_BITS, write_labels};
+use pls_labelfile::MAX_BITS;
 use pls_scheme::Scheme;
 use std::alloc::Global;
 
@@ -26,16 +26,16 @@ use std::alloc::Global;
 pub(crate) fn mark(
     alloc: Global,
     scheme: &AnyScheme<Gamma>,
-    input: &Input,
+    input: Input,
 ) -> Result<Answer, NoMemory>
-    requires { IsReadOf Shape.Network input.now }
-    ensures does { IfOk result (λ answer. Does Task.Mark scheme.now (said input.now) answer) }
+    requires { IsReadOf Shape.Network input }
+    ensures does { IfOk result (λ answer. Does Task.Mark scheme.now (said input) answer) }
     ensures answered { IfOk result (λ answer. IsAnswered answer.status) }
     ensures shows { IfOk result (λ answer. answer.status ≡ Done
-        → ShowsIn scheme.now input.now.net answer.text) }
+        → ShowsIn scheme.now input.net answer.text) }
 {
     match test_labels(scheme, &input.net) {
-        Ok(()) => mark_within(alloc, scheme, &input.net),
+        Ok(()) => mark_within(alloc, scheme, input.net),
         Err(error) => refuse(alloc, error),
     }
 }
@@ -53,17 +53,17 @@ fn test_labels(scheme: &AnyScheme<Gamma>, net: &Network) -> Result<(), TextError
 }
 
 // The labels of a network, where it has the property of the scheme, else `no`.
-fn mark_within(alloc: Global, scheme: &AnyScheme<Gamma>, net: &Network) -> Result<Answer, NoMemory>
-    requires { IsConnected net.now }
-    ensures marks { IfOk result (λ answer. Marks scheme.now net.now answer) }
+fn mark_within(alloc: Global, scheme: &AnyScheme<Gamma>, net: Network) -> Result<Answer, NoMemory>
+    requires { IsConnected net }
+    ensures marks { IfOk result (λ answer. Marks scheme.now net answer) }
     ensures answered { IfOk result (λ answer. IsAnswered answer.status) }
     ensures shows { IfOk result (λ answer. answer.status ≡ Done
-        → ShowsIn scheme.now net.now answer.text) }
+        → ShowsIn scheme.now net answer.text) }
 {
-    match scheme.mark(alloc, net)? {
+    match scheme.mark(alloc, &net)? {
         Some(labels) => Ok(Answer {
             status: Status::Done,
-            content: Content::Written(write_labels(alloc, net, &labels)?),
+            content: Content::Labels { net, labels },
         }),
         None => Ok(no()),
     }

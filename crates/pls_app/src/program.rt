@@ -18,6 +18,7 @@ use crate::request::{Request, read_request};
 use crate::round_report::RoundReport;
 use crate::trial::trial;
 use pls_base::{Fault, NoMemory, Sink, Source, Status, write_all};
+use pls_labelfile::put_labels;
 use pls_recheck::Bench;
 use pls_report::{write_report, write_round};
 use std::alloc::Global;
@@ -26,7 +27,7 @@ use std::alloc::Global;
 /// takes its text. `bench` answers for the nodes that `recheck` judges. The answer is the status with
 /// which the process ends.
 ///
-/// The text is whole before its first byte is written, and writing takes no memory.
+/// What the text says is known before its first byte is written, and writing takes no memory.
 pub fn run<'w, S: Source, K: Sink, B: Bench>(
     alloc: Global,
     words: &'w [&'w str],
@@ -120,6 +121,7 @@ fn write_content<K: Sink>(sink: &mut K, content: &Content) -> Result<(), Fault>
     match content {
         Content::Known(text) => write_all(sink, text),
         Content::Written(text) => write_all(sink, text),
+        Content::Labels { net, labels } => put_labels(net, labels, sink),
         Content::Report { simulated, rows } => write_report(rows, *simulated, sink),
         Content::Rounds(reports) => write_rounds(reports, sink),
     }

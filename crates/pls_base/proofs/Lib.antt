@@ -1,2 +1,3 @@
 pub mod Consumed
 pub mod Numerals
+pub mod Written

@@ -1,4 +1,5 @@
 pub mod Decimal
+pub mod Gathered
 pub mod OverStd
 pub mod Plan
 pub mod Quantity

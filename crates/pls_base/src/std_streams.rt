@@ -92,6 +92,13 @@ impl<W: Write> StdSink<W> {
             faults: Steps::new(),
         }
     }
+
+    /// The writer, with what it has taken.
+    pub fn into_writer(self) -> W
+        ensures { result ≡ self.over }
+    {
+        self.writer
+    }
 }
 
 impl<W: Write> Sink for StdSink<W> {

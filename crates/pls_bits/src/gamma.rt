@@ -1,7 +1,7 @@
 //! The gamma code of numbers.
 
-ghost use Rattle.std.specs.Prelude.{◌≡◌, ◌≤◌, ◌<◌, ◌+◌, ◌-◌, ◌/◌, ◌%◌, ◌^◌, ◌==◌, ◌++◌, Bool, List, Option, ℕ, Some, None, IfSome, IfNone, length, replicate, false};
-ghost use Rattle.pls_bits.specs.Gamma.{behind_one, digits, floor_log, gamma_code, gamma_takes, number_from};
+ghost use Rattle.std.specs.Prelude.{◌≡◌, ◌≤◌, ◌<◌, ◌+◌, ◌-◌, ◌/◌, ◌==◌, Option, Some, None, length};
+ghost use Rattle.pls_bits.specs.Gamma.{floor_log, gamma_code, gamma_takes};
 ghost use Rattle.pls_bits.specs.declared.num_code.TheConstants.{MAX_CODED};
 ghost use Rattle.pls_bits.specs.laws.GammaLaws.{gamma_code-grows, gamma_takes-code, gamma_takes-only, gamma_short};
 

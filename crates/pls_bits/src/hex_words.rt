@@ -1,6 +1,6 @@
 //! Hex digits as words of bits, sixteen digits a word.
 
-ghost use Rattle.std.specs.Prelude.{◌≡◌, ◌≤◌, ◌+◌, ◌*◌, ◌/◌, ◌%◌, ◌++◌, Bool, IsOk, List, OnErr, OnOk, drop, length, replicate, take, true};
+ghost use Rattle.std.specs.Prelude.{◌≡◌, ◌≤◌, ◌+◌, ◌*◌, ◌/◌, ◌++◌, Bool, IsOk, List, OnErr, OnOk, drop, length, replicate, take, true};
 ghost use Rattle.std.specs.List.{list_all};
 ghost use Rattle.std.specs.Vec.{vec_capacity};
 ghost use Rattle.pls_bits.specs.Hex.{Spells, hex_digits, is_lower_digit};

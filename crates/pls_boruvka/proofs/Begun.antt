@@ -20,7 +20,7 @@ use Rattle.pls_facts.proofs.Trees.{NoneReturns-IsTree}
 use Rattle.pls_boruvka.specs.declared.choice.Choice.{Choice}
 use Rattle.pls_boruvka.specs.declared.joining.Chosen.{Chosen}
 use Rattle.pls_boruvka.specs.declared.level.Level.{Level}
-use Rattle.pls_boruvka.specs.Boruvka.{AreChainLengths, AreLevelLists, AreLevels, AreLevelsFrom, chosen_edge, chosen_edges}
+use Rattle.pls_boruvka.specs.Boruvka.{AreChainLengths, AreLevelLists, AreBoruvkaLevels, AreBoruvkaLevelsFrom, chosen_edge, chosen_edges}
 use Rattle.pls_boruvka.specs.Fragments.{JoinedChainEnds}
 use Rattle.pls_boruvka.specs.inner.Choices.{AreChoices, top_at}
 use Rattle.pls_boruvka.specs.inner.Chosen.{AreChildrenWithin, AreChosen, AreOne, JoinChildren, SomeApart, SomeUnpointed, no_chosen}
@@ -50,9 +50,9 @@ pub record IsBegun (rows : List NodeRow) (flags : List Bool) (lists : List (List
   pub sized : length flags ≡ length rows
   pub marked : AreFlags rows flags joined
   pub levels : List (ℕ → Level)
-  pub onward : (rest : List (ℕ → Level)) → AreLevelsFrom (edges_of rows)
+  pub onward : (rest : List (ℕ → Level)) → AreBoruvkaLevelsFrom (edges_of rows)
       (ComesBefore (pointed_edges rows)) (ids_of rows) depth joined rest
-      → AreLevels rows depth (levels ++ rest)
+      → AreBoruvkaLevels rows depth (levels ++ rest)
   pub in_tree : (level : ℕ → Level) (u : ℕ) → Contains levels level → Contains (ids_of rows) u
       → Contains (pointed_edges rows) (chosen_edge (level u))
   pub said : lists ≡ map (said_of levels) rows
@@ -140,8 +140,8 @@ module _ (rows : List NodeRow) (net : IsNetwork rows) where
           (λ u v u_in v_in. ap (id_at rows) (one (place_in rows u) (place_before u u_in)
           ∙ sym (one (place_in rows v) (place_before v v_in))))
 
-      all_levels : AreLevels rows begun.depth begun.levels
-      all_levels = subst (AreLevels rows begun.depth) (append-nil begun.levels)
+      all_levels : AreBoruvkaLevels rows begun.depth begun.levels
+      all_levels = subst (AreBoruvkaLevels rows begun.depth) (append-nil begun.levels)
           (begun.onward [] all_joined)
 
       pub AreLevelLists-begun : AreLevelLists rows lists
@@ -258,7 +258,7 @@ module _ (rows : List NodeRow) (net : IsNetwork rows) where
               all chosen flags begun.joined begun.marked
               (ends_at_name parents flags tops linked topped) newer joins;
           levels = begun.levels ++ level ∷ [];
-          onward = λ rest follow. subst (AreLevels rows begun.depth)
+          onward = λ rest follow. subst (AreBoruvkaLevels rows begun.depth)
               (sym (append_assoc begun.levels (level ∷ []) rest))
               (begun.onward (level ∷ rest) (
                 IsLevelOf-chosen rows net is_tree begun.depth falls tops each within choices are

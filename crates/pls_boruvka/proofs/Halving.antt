@@ -12,7 +12,7 @@ use Rattle.pls_graph.proofs.Members.{Contains-cons_cases, Contains-filter, Conta
 use Rattle.pls_facts.specs.SpanningTree.{AreDistinct}
 use Rattle.pls_facts.specs.Lightest.{IsGraph}
 use Rattle.pls_boruvka.specs.declared.level.Level.{Level}
-use Rattle.pls_boruvka.specs.Boruvka.{AreLevelsFrom, IsLevelOf, chosen_edge, chosen_edges}
+use Rattle.pls_boruvka.specs.Boruvka.{AreBoruvkaLevelsFrom, IsLevelOf, chosen_edge, chosen_edges}
 use Rattle.pls_boruvka.specs.Fragments.{AreFragments}
 use Rattle.pls_facts.proofs.Distinct.{AreDistinct-cons, AreDistinct-nil}
 use Rattle.pls_facts.proofs.Fewer.{AreDistinct-append, AreDistinct-map, length-part}
@@ -228,7 +228,7 @@ module _ (edges : List Edge) (nodes : List ℕ) (graph : IsGraph edges nodes)
 
   -- two to the number of levels is at most the number of fragments of the first
   many_named : (joined : List Edge) (level : ℕ → Level) (levels : List (ℕ → Level)) (u : ℕ)
-      → Contains nodes u → AreLevelsFrom edges Before nodes depth joined (level ∷ levels)
+      → Contains nodes u → AreBoruvkaLevelsFrom edges Before nodes depth joined (level ∷ levels)
       → 2 ^ length (level ∷ levels) ≤ length (named (λ v. (level v).fragment))
   many_named joined level [] u in' are = two_named joined level are.0 u in'
   many_named joined level (next ∷ levels) u in' are =
@@ -238,7 +238,7 @@ module _ (edges : List Edge) (nodes : List ℕ) (graph : IsGraph edges nodes)
 
   -- and so at most the number of nodes
   pub few_levels : (joined : List Edge) (levels : List (ℕ → Level)) (u : ℕ) → Contains nodes u
-      → AreLevelsFrom edges Before nodes depth joined levels → 2 ^ length levels ≤ length nodes
+      → AreBoruvkaLevelsFrom edges Before nodes depth joined levels → 2 ^ length levels ≤ length nodes
   few_levels joined [] u in' are = omega (arith, in'.1)
   few_levels joined (level ∷ levels) u in' are =
       let many = many_named joined level levels u in' are in

@@ -7,7 +7,7 @@ use Rattle.pls_facts.specs.SpanningTree.{IsSpanningTree}
 use Rattle.pls_facts.specs.Lightest.{IsFirstLeaving, IsGraph, IsLightest}
 use Rattle.pls_facts.specs.EdgeOrder.{ComesBefore}
 use Rattle.pls_boruvka.specs.declared.level.Level.{Level}
-use Rattle.pls_boruvka.specs.Boruvka.{AreLevelsFrom, chosen_edge, chosen_edges}
+use Rattle.pls_boruvka.specs.Boruvka.{AreBoruvkaLevelsFrom, chosen_edge, chosen_edges}
 use Rattle.pls_facts.proofs.Chosen.{Contains-joining}
 use Rattle.pls_facts.proofs.CutRule.{IsLightest-first}
 use Rattle.pls_facts.proofs.Decided.{cases_Edge}
@@ -22,7 +22,7 @@ module _ (edges tree : List Edge) (nodes : List ℕ) (graph : IsGraph edges node
 
   -- each tree edge that is not there at first is the first that leaves some fragment
   first_from : (joined : List Edge) (levels : List (ℕ → Level))
-      → AreLevelsFrom edges (ComesBefore tree) nodes depth joined levels → ChosenIn levels
+      → AreBoruvkaLevelsFrom edges (ComesBefore tree) nodes depth joined levels → ChosenIn levels
       → ((edge : Edge) → Contains joined edge → Contains tree edge) → (edge : Edge)
       → Contains tree edge → (Contains joined edge → ⊥)
       → (inside : ℕ → Bool) × IsFirstLeaving edges (ComesBefore tree) inside edge
@@ -61,7 +61,7 @@ module _ (edges tree : List Edge) (nodes : List ℕ) (graph : IsGraph edges node
 
   -- no spanning tree is lighter
   pub IsLightest-levels : (levels : List (ℕ → Level))
-      → AreLevelsFrom edges (ComesBefore tree) nodes depth [] levels → ChosenIn levels
+      → AreBoruvkaLevelsFrom edges (ComesBefore tree) nodes depth [] levels → ChosenIn levels
       → IsLightest edges tree nodes
   IsLightest-levels levels are chosen =
       IsLightest-first (ComesBefore tree) (ComesBefore-order tree) edges tree nodes graph spans

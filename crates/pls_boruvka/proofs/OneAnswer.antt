@@ -13,7 +13,7 @@ use Rattle.pls_facts.proofs.EdgeKeys.{ComesBefore-order}
 use Rattle.pls_facts.proofs.Pointed.{id_of_row, row_from_id}
 use Rattle.pls_facts.proofs.PortEdges.{IsGraph-network}
 use Rattle.pls_boruvka.specs.declared.level.Level.{Level}
-use Rattle.pls_boruvka.specs.Boruvka.{AreLevelLists, AreLevelsFrom, IsLevelOf, chosen_edge, chosen_edges}
+use Rattle.pls_boruvka.specs.Boruvka.{AreLevelLists, AreBoruvkaLevelsFrom, IsLevelOf, chosen_edge, chosen_edges}
 use Rattle.pls_boruvka.specs.Fragments.{AreFragments}
 use Rattle.pls_boruvka.proofs.NextLevel.{IsFirstLeaving-same}
 
@@ -110,8 +110,8 @@ module _ (edges : List Edge) (nodes : List ℕ) (graph : IsGraph edges nodes)
 
   -- what levels say of a node is one
   one_levels : (joined : List Edge) (levels others : List (ℕ → Level))
-      → AreLevelsFrom edges Before nodes depth joined levels
-      → AreLevelsFrom edges Before nodes other_depth joined others
+      → AreBoruvkaLevelsFrom edges Before nodes depth joined levels
+      → AreBoruvkaLevelsFrom edges Before nodes other_depth joined others
       → (u : ℕ) → Contains nodes u → map (λ level. level u) levels ≡ map (λ level. level u) others
   one_levels joined [] [] one two u in' = refl
   one_levels joined [] (other ∷ others) one two u in' =
@@ -124,7 +124,7 @@ module _ (edges : List Edge) (nodes : List ℕ) (graph : IsGraph edges nodes)
       (λ v v_in. ap chosen_edge (sym (one_level joined level other one.0 two.0 v v_in))) in
       let rest = one_levels (joined ++ chosen_edges level nodes) levels others one.1
       (subst (λ (chosen : List Edge).
-      AreLevelsFrom edges Before nodes other_depth (joined ++ chosen) others) next two.1) u in' in
+      AreBoruvkaLevelsFrom edges Before nodes other_depth (joined ++ chosen) others) next two.1) u in' in
       rw (one_level joined level other one.0 two.0 u in', rest) refl
 
 -- right lists of levels are equal

@@ -31,17 +31,17 @@ pub record IsLevelOf (edges joined : List Edge) (Before : Edge → Edge → Type
 
 -- levels from these edges on: after each, its chosen edges join too; after the last, all nodes are
 -- joined
-abbrev pub AreLevelsFrom : List Edge → (Edge → Edge → Type 0) → List ℕ → (ℕ → ℕ)
+abbrev pub AreBoruvkaLevelsFrom : List Edge → (Edge → Edge → Type 0) → List ℕ → (ℕ → ℕ)
     → List Edge → List (ℕ → Level) → Type 0
-AreLevelsFrom edges Before nodes depth joined [] = JoinAll joined nodes
-AreLevelsFrom edges Before nodes depth joined (level ∷ levels) =
+AreBoruvkaLevelsFrom edges Before nodes depth joined [] = JoinAll joined nodes
+AreBoruvkaLevelsFrom edges Before nodes depth joined (level ∷ levels) =
     IsLevelOf edges joined Before nodes depth level
-    × AreLevelsFrom edges Before nodes depth (joined ++ chosen_edges level nodes) levels
+    × AreBoruvkaLevelsFrom edges Before nodes depth (joined ++ chosen_edges level nodes) levels
 
 -- the levels of a configuration whose pointers are a spanning tree: edges come before each other by
 -- weight, at one weight those of the tree first, then by their ends; at first no edge joins
-abbrev pub AreLevels : List NodeRow → (ℕ → ℕ) → List (ℕ → Level) → Type 0
-AreLevels rows depth levels = AreLevelsFrom (edges_of rows) (ComesBefore (pointed_edges rows))
+abbrev pub AreBoruvkaLevels : List NodeRow → (ℕ → ℕ) → List (ℕ → Level) → Type 0
+AreBoruvkaLevels rows depth levels = AreBoruvkaLevelsFrom (edges_of rows) (ComesBefore (pointed_edges rows))
     (ids_of rows) depth [] levels
 
 -- the depth of each node is the number of pointers of its chain
@@ -54,5 +54,5 @@ pub record AreLevelLists (rows : List NodeRow) (lists : List (List Level)) : Typ
   pub depth : ℕ → ℕ
   pub levels : List (ℕ → Level)
   pub deep : AreChainLengths rows depth
-  pub are : AreLevels rows depth levels
+  pub are : AreBoruvkaLevels rows depth levels
   pub said : lists ≡ map (λ row. map (λ level. level row.id) levels) rows

@@ -1,6 +1,6 @@
 //! The first edge that leaves each fragment: one pass over all ports.
 
-ghost use Rattle.std.specs.Prelude.{◌≡◌, ◌<◌, ◌≤◌, ◌+◌, All, length, IfOk};
+ghost use Rattle.std.specs.Prelude.{◌≡◌, ◌<◌, ◌+◌, All, length, IfOk};
 ghost use Rattle.pls_boruvka.specs.inner.Choices.{AreChoices, ChildOf, IsFirstOf, LeavesTop, choice_at, top_at};
 ghost use Rattle.pls_boruvka.specs.inner.Tops.{AreParents};
 

@@ -1,7 +1,7 @@
 //! What a level says of each node, and the pointers that its chosen edges join.
 
-ghost use Rattle.std.specs.Prelude.{◌≡◌, ◌<◌, All, length, map, IfOk, IfSome, IfNone};
-ghost use Rattle.pls_boruvka.specs.inner.Chosen.{AreChildrenWithin, AreChosen, IsChosen, IsUnpointed, JoinChildren, SomeUnpointed, said_at, said_by};
+ghost use Rattle.std.specs.Prelude.{◌≡◌, ◌<◌, All, length, IfOk, IfSome, IfNone};
+ghost use Rattle.pls_boruvka.specs.inner.Chosen.{AreChildrenWithin, AreChosen, IsChosen, IsUnpointed, JoinChildren, SomeUnpointed};
 
 use crate::choice::Choice;
 use crate::short_level::ShortLevel;

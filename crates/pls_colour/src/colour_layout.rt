@@ -1,6 +1,6 @@
 //! Labels that are one colour.
 
-ghost use Rattle.std.specs.Prelude.{◌≡◌, ◌∷◌, []};
+ghost use Rattle.std.specs.Prelude.{◌∷◌, []};
 
 use pls_base::NoMemory;
 use pls_bits::{BitBuf, Bits};

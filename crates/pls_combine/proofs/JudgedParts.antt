@@ -1,33 +1,22 @@
 -- Verdicts of combinations in a round, by what is known of all labels and by the verdicts on parts.
-use Rattle.std.proofs.Common.{◌≡◌, ◌∙◌, ◌+◌, ◌++◌, ◌<◌, All, ℕ, suc, Bool, true, false, List, [], ◌∷◌, drop, length, map, take, get_or, slice_get, Option, Some, None, option_map, unwrap_or, refl, sym, ap, subst, arith}
+use Rattle.std.proofs.Common.{◌≡◌, ◌∙◌, All, ℕ, suc, Bool, true, false, List, [], ◌∷◌, drop, length, map, get_or, slice_get, Option, Some, option_map, unwrap_or, refl, sym, ap, subst, arith}
 use Rattle.std.specs.List.{list_all}
-use Rattle.std.specs.Option.{is_some, option_and_then}
-use Rattle.std.proofs.lemmas.List.{length-map, take_more}
+use Rattle.std.specs.Option.{is_some}
 use Rattle.std.proofs.lemmas.List.Elements.{All-map}
-use Rattle.std.proofs.lemmas.Option.{get_or_from_slice_get, same_Some, slice_get-map, slice_get_within}
+use Rattle.std.proofs.lemmas.Option.{get_or_from_slice_get, slice_get-map}
 use Rattle.pls_model.specs.declared.row.NodeRow.{NodeRow}
 use Rattle.pls_model.specs.declared.verdict.Verdict.{Verdict}
 use Rattle.pls_model.specs.Configuration.{IsNetwork}
 use Rattle.pls_graph.specs.Places.{beside}
-use Rattle.pls_graph.proofs.Beside.{beside_many, beside_within}
-use Rattle.pls_facts.proofs.Lists.{item_at}
-use Rattle.pls_view.specs.Seen.{Seen, SeenPort, label_of, narrow_by, seen, seen_port, views}
+use Rattle.pls_view.specs.Seen.{Seen, SeenPort, narrow_by, views}
 use Rattle.pls_view.proofs.Narrowed.{views-narrowed}
+use Rattle.pls_view.proofs.Views.{own_at, port_shows, ports_beside}
 use Rattle.pls_scheme.specs.Judging.{LeafWithin, verdicts_by}
-use Rattle.pls_scheme.specs.inner.Looks.{seen_in}
-use Rattle.pls_scheme.proofs.LookedAt.{read_there}
-use Rattle.pls_universal.proofs.KnownMaps.{own_at}
 use Rattle.pls_combine.specs.Combined.{judge_both, judge_one_of, raised}
 use Rattle.pls_combine.specs.Expression.{And, Expression, Or, judge_of, leaves_of}
 use Rattle.pls_combine.specs.laws.ExpressionLaws.{expression_leaf}
 use Rattle.pls_combine.specs.Parts.{first_part, has_parts, is_tagged, second_part, tag_of}
 use Rattle.pls_combine.specs.inner.Rounds.{all_true, both_verdict, one_of_verdict}
-
--- one more item is taken
-pub take_one_more : {X : Type 0} (xs : List X) (i : ℕ) (x : X) (done : List X) → done ≡ take i xs
-    → slice_get xs i ≡ Some x → done ++ x ∷ [] ≡ take (i + 1) xs
-take_one_more xs i x done so_far at =
-    rw (so_far, take_more xs i x (slice_get_within xs i x at), get_or_from_slice_get xs i x x at) refl
 
 -- two lists that pass two tests item by item pass them alike
 same_all : {X Y : Type 0} (p : X → Bool) (q : Y → Bool) (xs : List X) (ys : List Y)
@@ -44,55 +33,33 @@ same_all p q (x ∷ xs) (y ∷ ys) many each =
     )
     refl
 
--- what is kept as it is can be had again
-there : (found : Option Bool) (is : Bool) → option_and_then Some found ≡ Some is → found ≡ Some is
-there None is same = absurd (cc)
-there (Some other) is same = same
-
-marked : (f : List Bool → Bool) (labels : List (List Bool))
-    → map Some (map f labels) ≡ map (seen_in (λ bits. Some (f bits)) (λ (is : Bool). is)) labels
-marked f [] = refl
-marked f (bits ∷ labels) = rw (marked f labels) refl
+-- what is known of all labels is known of that at a place
+known_at : {K : Type 0} (f : List Bool → K) (labels : List (List Bool)) (known : List K)
+    → known ≡ map f labels → (place : ℕ) (bits : List Bool) → slice_get labels place ≡ Some bits
+    → slice_get known place ≡ Some (f bits)
+known_at f labels known is place bits here =
+    ap (λ known. slice_get known place) is ∙ slice_get-map f labels place ∙ ap (option_map f) here
 
 module _ (rows : List NodeRow) (net : IsNetwork rows) (labels : List (List Bool))
     (each : length labels ≡ length rows) (i : ℕ) (view : Seen)
     (at : slice_get (views rows labels) i ≡ Some view) where
-  within : i < length rows
-  within =
-      let many = length-map rows (seen (label_of rows labels)) in
-      let below = slice_get_within (views rows labels) i view at in
-      omega (arith, many, below)
-
   -- what is known of the label at the place is known of the own one
   pub own_known : {K : Type 0} (f : List Bool → K) (known : List K) → known ≡ map f labels
       → slice_get known i ≡ Some (f view.own)
   own_known f known is =
-      ap (λ known. slice_get known i) is
-      ∙ slice_get-map f labels i
-      ∙ ap (option_map f) (own_at rows labels i view net each within at)
+      known_at f labels known is i view.own (own_at rows net labels each i view at)
 
   -- what is known of all labels at the neighbours' places is known of those at the ports
   pub ports_known : (f : List Bool → Bool) (marks : List Bool) → marks ≡ map f labels
       → all_true marks (beside rows i) ≡ list_all (λ port. f port.label) view.ports
   ports_known f marks is =
-      let (row, at_row) : (row : NodeRow) × (slice_get rows i ≡ Some row) = item_at rows i within in
-      let label : ℕ → List Bool = label_of rows labels in
-      let same : seen label row ≡ view = same_Some (seen label row) view
-      (sym (slice_get-map (seen label) rows i ∙ ap (option_map (seen label)) at_row) ∙ at) in
-      let ports_is : option_map (λ (row : NodeRow). row.ports) (slice_get rows i) ≡ Some row.ports =
-      ap (option_map (λ (row : NodeRow). row.ports)) at_row in
-      let many : length (beside rows i) ≡ length (map (seen_port label) row.ports) =
-      beside_many rows net i row.ports ports_is ∙ sym (length-map row.ports (seen_port label)) in
       same_all (λ place. unwrap_or (slice_get marks place) false) (λ (port : SeenPort). f port.label)
-      (beside rows i) (map (seen_port label) row.ports) many
+      (beside rows i) view.ports (ports_beside rows net labels each i view at)
       (λ k place shows at_place at_port.
       ap (λ (found : Option Bool). unwrap_or found false)
       (ap (slice_get marks) (sym (get_or_from_slice_get (beside rows i) k place 0 at_place))
-      ∙ there (slice_get marks (get_or (beside rows i) k 0)) (f shows.label)
-      (read_there rows net i row.ports ports_is (beside rows i) refl (λ bits. Some (f bits))
-      (λ (is : Bool). is) Some labels marks (ap (map Some) is ∙ marked f labels) each
-      (beside_within rows net i within) k shows at_port)))
-      ∙ ap (λ (view : Seen). list_all (λ port. f port.label) view.ports) same
+      ∙ known_at f labels marks is (get_or (beside rows i) k 0) shows.label
+      (port_shows rows net labels each i view at k shows at_port)))
 
   -- the verdict at the place in a round of parts is that on the part of the view
   pub part_judged : (judge : Seen → Verdict) (narrowed : List Bool → List Bool)

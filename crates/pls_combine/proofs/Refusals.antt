@@ -7,7 +7,7 @@ use Rattle.std.proofs.lemmas.Option.{same_Some}
 use Rattle.pls_combine.specs.declared.scheme_error.SchemeError.{SchemeError}
 use Rattle.pls_combine.specs.declared.scheme_error.SchemeError.TheVariants.{NoMemory, NotAScheme, TooDeep, TooMany}
 use Rattle.pls_combine.specs.Expression.{Expression, IsSmall, IsWritable, depth_of, names_of}
-use Rattle.pls_combine.specs.ExpressionText.{HasTooMany, IsNoExpression, IsNoScheme, IsTooDeep, deepest, expression_text}
+use Rattle.pls_combine.specs.ExpressionText.{HasTooManyNames, IsNoExpression, IsNoScheme, IsTooDeep, deepest, expression_text}
 use Rattle.pls_combine.specs.inner.Fronts.{Front, alone}
 use Rattle.pls_combine.specs.inner.ExpressionFronts.{counted, expression_front, expression_in, names_in, refusal_of}
 use Rattle.pls_combine.specs.laws.DepthLaws.{deep_text}
@@ -53,7 +53,7 @@ names_in-is text = by (expression_front 7 text)
 data Case (text : List ℕ) : Type 0 where
   Deep : IsTooDeep text → refusal_of text ≡ Some TooDeep → Case text
   Other : IsNoExpression text → refusal_of text ≡ Some NotAScheme → Case text
-  Many : HasTooMany text → refusal_of text ≡ Some TooMany → Case text
+  Many : HasTooManyNames text → refusal_of text ≡ Some TooMany → Case text
   Small : (scheme : Expression) → text ≡ expression_text scheme → IsSmall scheme
       → expression_in text ≡ Some scheme → refusal_of text ≡ None → Case text
 
@@ -145,10 +145,10 @@ other_cause text = by (case_of text)
       λ none. absurd (none.other scheme small.writable written),
     )
 
-pub many_cause : (text : List ℕ) → (refusal_of text ≡ Some TooMany) ↔ HasTooMany text
+pub many_cause : (text : List ℕ) → (refusal_of text ≡ Some TooMany) ↔ HasTooManyNames text
 many_cause text = by (case_of text)
   where
-    by : Case text → (refusal_of text ≡ Some TooMany) ↔ HasTooMany text
+    by : Case text → (refusal_of text ≡ Some TooMany) ↔ HasTooManyNames text
     by (Deep deep is) =
         (λ also. no_other _ _ _ is also (λ e. absurd (cc)), λ many. absurd (many.shallow deep))
     by (Other other is) = (

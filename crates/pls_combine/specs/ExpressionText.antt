@@ -35,7 +35,7 @@ pub record IsNoExpression (text : List ℕ) : Type 0 where
   pub other : (scheme : Expression) → IsWritable scheme → text ≡ expression_text scheme → ⊥
 
 -- they do not, and the text is that of an expression of more than 8 names
-pub record HasTooMany (text : List ℕ) : Type 0 where
+pub record HasTooManyNames (text : List ℕ) : Type 0 where
   pub shallow : IsTooDeep text → ⊥
   pub scheme : Expression
   pub writable : IsWritable scheme

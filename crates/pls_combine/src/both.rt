@@ -1,8 +1,8 @@
 //! The conjunction of two schemes: how a node judges.
 
-ghost use Rattle.std.specs.Prelude.{◌≡◌, ◌+◌, ◌≤◌, ◌-◌, true, false, length, IsOk, IfOk};
+ghost use Rattle.std.specs.Prelude.{◌≡◌, ◌+◌, ◌≤◌, ◌-◌, true, length};
 ghost use Rattle.pls_scheme.specs.Judging.{LeafWithin};
-ghost use Rattle.pls_combine.specs.Combined.{else_second, raised};
+ghost use Rattle.pls_combine.specs.Combined.{raised};
 
 use crate::part_rules::lacks_parts;
 use crate::parts::{FirstPart, SecondPart};

@@ -1,6 +1,6 @@
 //! A named scheme over a code of numbers: what the scheme of that name does.
 
-ghost use Rattle.std.specs.Prelude.{◌≡◌, ◌↔◌, length, IfOk, IsTrue};
+ghost use Rattle.std.specs.Prelude.{◌≡◌, ◌↔◌, IfOk, IsTrue};
 ghost use Rattle.pls_combine.specs.Named.{IsNamedLabel};
 
 use crate::scheme_name::SchemeName;

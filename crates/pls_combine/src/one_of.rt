@@ -1,6 +1,6 @@
 //! The disjunction of two schemes: how a node judges.
 
-ghost use Rattle.std.specs.Prelude.{◌≡◌, ◌+◌, ◌≤◌, true, false, length, IsOk, IfOk};
+ghost use Rattle.std.specs.Prelude.{◌≡◌, ◌+◌, ◌≤◌, true};
 ghost use Rattle.pls_combine.specs.Combined.{raised};
 
 use crate::both::raised;

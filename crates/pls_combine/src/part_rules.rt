@@ -1,7 +1,7 @@
 //! The rules of leaf 0, by which a node that judges a combination tests that each label of its view
 //! has its parts.
 
-ghost use Rattle.std.specs.Prelude.{◌≡◌, ℕ, true, false, IfSome, IfNone, IfOk, IfErr};
+ghost use Rattle.std.specs.Prelude.{◌≡◌, ℕ, true, IfSome, IfNone, IfOk, IfErr};
 ghost use Rattle.std.specs.List.{list_all};
 ghost use Rattle.std.specs.Option.{is_some};
 ghost use Rattle.pls_view.specs.Seen.{Seen, EachFits};

@@ -1,6 +1,6 @@
 //! Expressions of properties at the front of a text.
 
-ghost use Rattle.std.specs.Prelude.{◌≡◌, IfOk, IfSome, length, option_map};
+ghost use Rattle.std.specs.Prelude.{◌≡◌, IfOk, IfSome, option_map};
 ghost use Rattle.pls_property.specs.Held.{property_of};
 ghost use Rattle.pls_property.specs.PropertyExpression.{names_of};
 ghost use Rattle.pls_combine.specs.inner.Fronts.{seen};

@@ -1,11 +1,11 @@
 //! Expressions of schemes as texts.
 
-ghost use Rattle.std.specs.Prelude.{◌≡◌, ◌≤◌, ◌↔◌, ◌⊎◌, ◌++◌, Bool, true, IfOk, IfErr, OnOk, Some, nat_lt};
+ghost use Rattle.std.specs.Prelude.{◌≡◌, ◌≤◌, ◌↔◌, ◌⊎◌, ◌++◌, true, IfOk, IfErr, OnOk, Some, nat_lt};
 ghost use Rattle.std.specs.Option.{is_some};
 ghost use Rattle.std.specs.Result.{IsErrOf};
 ghost use Rattle.std.specs.String.{string_bytes};
 ghost use Rattle.pls_combine.specs.Expression.{IsSmall};
-ghost use Rattle.pls_combine.specs.ExpressionText.{HasTooMany, IsNoExpression, IsNoScheme, IsTooDeep, deepest, depth_after, expression_text};
+ghost use Rattle.pls_combine.specs.ExpressionText.{HasTooManyNames, IsNoExpression, IsNoScheme, IsTooDeep, deepest, depth_after, expression_text};
 ghost use Rattle.pls_combine.specs.inner.ExpressionFronts.{expression_in, names_in, refusal_of};
 ghost use Rattle.pls_combine.specs.inner.Trees.{expression_of};
 
@@ -34,7 +34,7 @@ pub fn read_scheme<C: NumCode>(alloc: Global, text: &str) -> Result<AnyScheme<C>
     ensures small { IfOk result (λ scheme. IsSmall scheme) }
     ensures too_deep { IsErrOf result SchemeError.TooDeep ↔ IsTooDeep text.now }
     ensures not_a_scheme { IsErrOf result SchemeError.NotAScheme ↔ IsNoExpression text.now }
-    ensures too_many { IsErrOf result SchemeError.TooMany ↔ HasTooMany text.now }
+    ensures too_many { IsErrOf result SchemeError.TooMany ↔ HasTooManyNames text.now }
     ensures refused { IfErr result (λ error.
         (error ≡ SchemeError.NoMemory) ⊎ IsNoScheme text.now) }
 {

@@ -1,6 +1,6 @@
 //! The tests of pointers pass exactly where the properties hold.
 
-ghost use Rattle.std.specs.Prelude.{◌≡◌, ◌↔◌, IsTrue};
+ghost use Rattle.std.specs.Prelude.{◌↔◌, IsTrue};
 ghost use Rattle.pls_facts.specs.Pointer.{NoneReturns};
 ghost use Rattle.pls_facts.specs.ShortestPath.{IsShortestPathTree};
 ghost use Rattle.pls_facts.specs.SpanningTree.{IsTree};

@@ -1,7 +1,7 @@
 //! The tests of marks and numbers, and those that try all lists, pass exactly where the properties
 //! hold.
 
-ghost use Rattle.std.specs.Prelude.{◌≡◌, ◌↔◌, IsTrue};
+ghost use Rattle.std.specs.Prelude.{◌↔◌, IsTrue};
 ghost use Rattle.pls_facts.specs.Leader.{HasOneLeader};
 ghost use Rattle.pls_facts.specs.NodeCount.{AreCounted};
 ghost use Rattle.pls_facts.specs.Bipartite.{IsBipartite};

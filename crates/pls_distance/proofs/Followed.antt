@@ -33,7 +33,7 @@ use Rattle.pls_facts.proofs.ShortestPaths.{distances_fall, shortest_by_numbers}
 use Rattle.pls_facts.proofs.Weights.{FallsByWeight, RisesByWeight, chain_weighs, distances_rise, port_weighs}
 use Rattle.pls_distance.specs.declared.spt.SptLabel.{SptLabel}
 use Rattle.pls_distance.specs.Spt.{far_says, spt_says}
-use Rattle.pls_distance.specs.inner.Following.{AreFollowed, AreLabels, IsFollowed, far}
+use Rattle.pls_distance.specs.inner.Following.{AreFollowed, AreLabelsSoFar, IsFollowed, far}
 
 -- of the port that is pointed at, it is enough
 pub followed_at : (rows : List NodeRow) (net : IsNetwork rows) (place : ℕ) (state : State)
@@ -81,11 +81,11 @@ followed_none rows net place state at none found row number port here row_up has
     ∙ row_up in absurd (cc)
 
 -- so many labels, and one more
-pub AreLabels-more : (root : ℕ) (depths : List ℕ) (found : List (Option ℕ)) (labels : List SptLabel)
-    (count : ℕ) (label : SptLabel) → AreLabels root depths found labels count
+pub AreLabelsSoFar-more : (root : ℕ) (depths : List ℕ) (found : List (Option ℕ)) (labels : List SptLabel)
+    (count : ℕ) (label : SptLabel) → AreLabelsSoFar root depths found labels count
     → label ≡ far_says root (get_or depths count 0) (far found count)
-    → AreLabels root depths found (labels ++ label ∷ []) (count + 1)
-AreLabels-more root depths found labels count label old is = record {
+    → AreLabelsSoFar root depths found (labels ++ label ∷ []) (count + 1)
+AreLabelsSoFar-more root depths found labels count label old is = record {
   each = let each = old.each in omega (arith, length-append labels (label ∷ []));
   label = λ place other at. elim (cases_eq place (length labels)) [
     | inl last ↦
@@ -177,7 +177,7 @@ module _ (rows : List NodeRow) (net : IsNetwork rows) (joined : IsConnected rows
       → row.state.up ≡ None → row.id ≡ root.id) → (depths : List ℕ) → AreDepths rows depths
       → ((row : NodeRow) → Contains rows row → (last depth : ℕ) → IsChainOf rows row.id last depth
       → last ≡ root.id)
-      → (labels : List SptLabel) → AreLabels root.id depths found labels (length depths)
+      → (labels : List SptLabel) → AreLabelsSoFar root.id depths found labels (length depths)
       → AreRight (spt_says rows) rows labels
   labels_right followed only depths deep ends labels made = record {
     each = made.each ∙ deep.each;
@@ -293,9 +293,9 @@ module _ (rows : List NodeRow) (net : IsNetwork rows) (joined : IsConnected rows
 
   -- then labels of them are right
   pub followed_right : AreFollowed rows found → (labels : List SptLabel)
-      → AreLabels id depths found labels (length depths) → AreRight (spt_says rows) rows labels
+      → AreLabelsSoFar id depths found labels (length depths) → AreRight (spt_says rows) rows labels
   followed_right followed labels made =
       labels_right rows net joined place found are root.0 root.1 followed
       (λ row in' none. only.named row in' (is_root-None row none) ∙ sym root.2) depths deep ends
       labels
-      (subst (λ (id : ℕ). AreLabels id depths found labels (length depths)) (sym root.2) made)
+      (subst (λ (id : ℕ). AreLabelsSoFar id depths found labels (length depths)) (sym root.2) made)

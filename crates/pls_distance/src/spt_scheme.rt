@@ -1,7 +1,7 @@
 //! How networks whose pointers make a shortest-path tree are labelled.
 
 ghost use Rattle.std.specs.Prelude.{◌≡◌, ◌↔◌, ◌<◌, length, IfOk, IsTrue};
-ghost use Rattle.pls_distance.specs.inner.Following.{AreFollowed, AreLabels, IsFollowed};
+ghost use Rattle.pls_distance.specs.inner.Following.{AreFollowed, AreLabelsSoFar, IsFollowed};
 
 use crate::farther::is_farther_by;
 use crate::spt::{SptLabel, SptRules};
@@ -96,7 +96,7 @@ fn labels_of(
 ) -> Result<Vec<SptLabel>, NoMemory>
     requires { length found.now ≡ length depths.now }
     ensures { IfOk result (λ labels.
-        AreLabels root depths.now found.now labels.items (length depths.now)) }
+        AreLabelsSoFar root depths.now found.now labels.items (length depths.now)) }
 {
     let mut labels = Vec::new(alloc);
     for (place, depth) in depths.iter().enumerate() {

@@ -130,8 +130,8 @@ pub record PassesEdits (old new : Left) (written : WrittenEdits) : Type 0 where
   pub rounds : written.rounds ≡ counted (rounds_of list)
 
 -- there are more lines than the limit, or else more rounds than theirs
-abbrev pub HasTooMany : List EditLine → TextError → Type 0
-HasTooMany lines error =
+abbrev pub HasTooManyLines : List EditLine → TextError → Type 0
+HasTooManyLines lines error =
     ((error ≡ Limit Events) × (MAX_LINES < length lines))
     ⊎ ((error ≡ Limit Rounds) × (length lines ≤ MAX_LINES)
     × (MAX_ROUNDS < length (rounds_of lines)))
@@ -144,4 +144,4 @@ pub record AreFew (lines : List EditLine) : Type 0 where
 -- why the lines of a text are refused: there are too many, or there was no memory
 abbrev pub IsEditsRefusal : List EditLine → TextError → Type 0
 IsEditsRefusal lines NoMemory = AreFew lines
-IsEditsRefusal lines error = HasTooMany lines error
+IsEditsRefusal lines error = HasTooManyLines lines error

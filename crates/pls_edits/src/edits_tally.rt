@@ -1,6 +1,6 @@
 //! The edits part as a list of lines.
 
-ghost use Rattle.std.specs.Prelude.{◌≡◌, ◌∷◌, ◌++◌, List, []};
+ghost use Rattle.std.specs.Prelude.{◌≡◌, List, []};
 ghost use Rattle.std.specs.Bool.{OnFalse, OnTrue};
 ghost use Rattle.pls_lines.specs.ListPart.{Begun};
 ghost use Rattle.pls_edits.specs.EditsText.{AreEdits};

@@ -1,6 +1,6 @@
 //! The text of edits: scanned without memory, and read as the list of its lines.
 
-ghost use Rattle.std.specs.Prelude.{◌≡◌, ◌<◌, ◌≤◌, ◌+◌, ◌^◌, List, length, IfErr, IfOk, OnErr};
+ghost use Rattle.std.specs.Prelude.{◌≡◌, ◌<◌, ◌+◌, ◌^◌, List, IfErr, IfOk, OnErr};
 ghost use Rattle.pls_lines.specs.Lines.{IsFormFault};
 ghost use Rattle.pls_lines.specs.ListPart.{Remains};
 ghost use Rattle.pls_edits.specs.EditsText.{AreFew, FitsEdit, IsEditsPart, IsEditsRefusal, PassesEdits, TellsEdits, edit_line};

@@ -94,6 +94,15 @@ module _ {X : Type 0} where
         (x, Contains-later first xs x in', passes)
   ]
 
+  -- one more item is taken
+  pub take_one_more : (xs : List X) (i : ℕ) (x : X) (done : List X) → done ≡ take i xs
+      → slice_get xs i ≡ Some x → done ++ x ∷ [] ≡ take (i + 1) xs
+  take_one_more xs i x done so_far at = rw (
+    so_far,
+    take_more xs i x (slice_get_within xs i x at),
+    get_or_from_slice_get xs i x x at,
+  ) refl
+
 module _ {X Y : Type 0} where
   -- one more item is mapped
   pub map-take_more : (f : X → Y) (xs : List X) (i : ℕ) (x : X) (done : List Y) (y : Y)

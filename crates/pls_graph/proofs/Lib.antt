@@ -41,3 +41,5 @@ mod Shaped
 mod Spread
 mod Inserted
 mod EditSteps
+mod WaysBack
+mod Counted

@@ -3,6 +3,7 @@ pub mod Placed
 pub mod Seeking
 pub mod Sound
 pub mod Gaps
+pub mod Incoming
 pub mod Dropping
 pub mod Search
 pub mod Ways

@@ -1,7 +1,6 @@
 //! The edits of a network. One that is refused changes nothing.
 
 ghost use Rattle.std.specs.Prelude.{◌≡◌, ◌≤◌, ◌==◌, position, slice_get, None, Some, IfOk, IfErr, IfSome, IfNone, OnOk, OnErr, false};
-ghost use Rattle.std.specs.List.{list_any};
 ghost use Rattle.pls_model.specs.declared.row.NodeRow.{NodeRow};
 ghost use Rattle.pls_model.specs.Configuration.{row_of};
 ghost use Rattle.pls_model.specs.declared.limits.TheConstants.{MAX_NUM};

@@ -1,6 +1,6 @@
 //! A network, and how rows become one.
 
-ghost use Rattle.std.specs.Prelude.{◌≡◌, ◌<◌, ◌≤◌, ◌==◌, All, length, position, slice_get, option_map, None, Some, IfOk, IfErr, OnOk};
+ghost use Rattle.std.specs.Prelude.{◌≡◌, ◌<◌, ◌==◌, All, length, position, slice_get, option_map, None, Some, IfOk, IfErr, OnOk};
 ghost use Rattle.pls_model.specs.Configuration.{IsNetwork, refusal_of, AreWithinLimits};
 ghost use Rattle.pls_graph.specs.Build.{IsRefusal};
 ghost use Rattle.pls_graph.specs.Places.{beside};

@@ -9,11 +9,12 @@ ghost use Rattle.pls_model.specs.declared.limits.TheConstants.{MAX_NODES};
 ghost use Rattle.pls_model.specs.declared.refusal.BuildError.TheVariants.{Order};
 ghost use Rattle.pls_graph.specs.inner.Gaps.{IsGap};
 ghost use Rattle.pls_graph.specs.inner.Ranges.{rows_at};
-ghost use Rattle.pls_graph.specs.inner.Seeking.{AreRising, IsBetween};
+ghost use Rattle.pls_graph.specs.inner.Seeking.{AreConsecutive, AreRising, IsBetween};
 
 use crate::guesses::Guesses;
 use crate::table::Node;
 use pls_model::{BuildError, Port};
+use std::alloc::Global;
 
 // How many nodes from a guessed place on are looked at.
 const NEAR: usize = 8;
@@ -118,7 +119,66 @@ fn place_near(nodes: &[Node], id: u32, from: usize) -> Option<usize>
 
 /// Puts beside each port the place of the node that it names, or the number of nodes where it names
 /// none.
-pub(crate) fn fill_places(nodes: &[Node], guesses: &Guesses, ports: &[Port], places: &mut Vec<u32>)
+pub(crate) fn fill_places(alloc: Global, nodes: &[Node], ports: &[Port], places: &mut Vec<u32>)
+    requires rising { AreRising nodes.now }
+    requires few { length nodes.now ≤ MAX_NODES }
+    requires both { length places.old.items ≡ length ports.now }
+    ensures { places.new.items ≡ map (λ port. position_or_len (λ node. port.nbr == node.id) nodes.now)
+        ports.now }
+{
+    match first_without_gaps(nodes) {
+        Some(first) => count_places(nodes, first, ports, places),
+        None => seek_places(nodes, &Guesses::of(alloc, nodes), ports, places),
+    }
+}
+
+// The first identity of nodes whose identities rise, where they have no gaps.
+fn first_without_gaps(nodes: &[Node]) -> Option<u32>
+    requires { AreRising nodes.now }
+    ensures { IfSome result (λ first. AreConsecutive first nodes.now) }
+{
+    let first = nodes.first()?;
+    let last = nodes.last()?;
+    let above = last.id.checked_sub(first.id)? as usize;
+    if above < nodes.len() {
+        Some(first.id)
+    } else {
+        None
+    }
+}
+
+// Puts beside each port the place of the node that it names, among nodes whose identities are the
+// numbers from `first` on.
+fn count_places(nodes: &[Node], first: u32, ports: &[Port], places: &mut Vec<u32>)
+    requires rising { AreRising nodes.now }
+    requires consecutive { AreConsecutive first nodes.now }
+    requires few { length nodes.now ≤ MAX_NODES }
+    requires both { length places.old.items ≡ length ports.now }
+    ensures { places.new.items ≡ map (λ port. position_or_len (λ node. port.nbr == node.id) nodes.now)
+        ports.now }
+{
+    for (k, port) in ports.iter().enumerate() {
+        places[k] = place_counted(nodes, first, port.nbr) as u32;
+    }
+}
+
+// The place of an identity among nodes whose identities are the numbers from `first` on, or the
+// number of nodes where none has it.
+#[inline(always)]
+fn place_counted(nodes: &[Node], first: u32, id: u32) -> usize
+    requires rising { AreRising nodes.now }
+    requires consecutive { AreConsecutive first nodes.now }
+    ensures place { result ≡ position_or_len (λ node. id == node.id) nodes.now }
+    ensures within { result ≤ length nodes.now }
+{
+    match id.checked_sub(first) {
+        Some(above) => (above as usize).min(nodes.len()),
+        None => nodes.len(),
+    }
+}
+
+// Puts beside each port the place of the node that it names, looked for first where it is guessed.
+fn seek_places(nodes: &[Node], guesses: &Guesses, ports: &[Port], places: &mut Vec<u32>)
     requires rising { AreRising nodes.now }
     requires few { length nodes.now ≤ MAX_NODES }
     requires both { length places.old.items ≡ length ports.now }

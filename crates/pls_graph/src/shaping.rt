@@ -1,6 +1,6 @@
 //! How the nodes of a table and their ports change in place.
 
-ghost use Rattle.std.specs.Prelude.{◌≡◌, ℕ, ◌<◌, ◌≤◌, ◌-◌, ◌++◌, [], ◌∷◌, List, All, Some, insert, length, remove, slice_get, slice_set, take, OnOk, OnErr, IfOk};
+ghost use Rattle.std.specs.Prelude.{◌≡◌, ℕ, ◌<◌, ◌≤◌, ◌-◌, [], List, All, Some, insert, length, remove, slice_get, slice_set, take, OnOk, OnErr, IfOk};
 ghost use Rattle.pls_model.specs.declared.row.Port.{Port};
 ghost use Rattle.pls_model.specs.declared.row.NodeRow.{NodeRow};
 ghost use Rattle.pls_model.specs.declared.limits.TheConstants.{MAX_NODES};

@@ -12,7 +12,6 @@ ghost use Rattle.pls_graph.specs.Places.{places_in};
 ghost use Rattle.pls_graph.specs.Rows.{gaining};
 ghost use Rattle.pls_graph.specs.inner.Gaps.{IsGap};
 
-use crate::guesses::Guesses;
 use crate::hints::Hints;
 use crate::ranges::{push_both, range_at_end};
 use crate::seeking::{fill_places, gap_among, order, place_hinted};
@@ -179,10 +178,9 @@ impl Table {
         ensures rows { self.new.rows ≡ self.old.rows }
         ensures places { self.new.places ≡ places_in self.old.rows }
     {
-        let guesses = Guesses::of(alloc, self.nodes.as_slice());
         fill_places(
+            alloc,
             self.nodes.as_slice(),
-            &guesses,
             self.ports.as_slice(),
             &mut self.places,
         );

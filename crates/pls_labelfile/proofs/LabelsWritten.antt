@@ -1,52 +1,57 @@
 -- The text of labels, written line by line.
-use Rattle.std.proofs.Common.{◌≡◌, ℕ, ◌+◌, ◌<◌, ◌≤◌, ◌^◌, zero, suc, Bool, List, [], ◌∷◌, ◌++◌, map, take, length, Some, codes, decimal, refl, sym, ◌∙◌, ap, subst, slice_get, option_map, append_assoc, add-one, arith}
-use Rattle.std.specs.List.{All, sum_by}
+use Rattle.std.proofs.Common.{◌≡◌, ℕ, ◌+◌, ◌<◌, ◌≤◌, ◌^◌, zero, suc, Bool, List, [], ◌∷◌, ◌++◌, ◌*◌, drop, map, min, take, length, Some, codes, decimal, refl, sym, ◌∙◌, ap, subst, slice_get, option_map, append_assoc, add-one, arith}
+use Rattle.std.specs.List.{All}
 use Rattle.std.proofs.lemmas.List.Elements.{All-push}
-use Rattle.std.proofs.lemmas.List.{map_push, length-map, take_all}
+use Rattle.std.proofs.Math.Seq.{take-add}
+use Rattle.std.proofs.lemmas.List.{length-map, map-append, map_push}
 use Rattle.std.proofs.lemmas.Option.{slice_get-map}
 use Rattle.pls_model.specs.declared.row.NodeRow.{NodeRow}
 use Rattle.pls_model.specs.Configuration.{ids_of}
 use Rattle.pls_lines.specs.Text.{text_of}
 use Rattle.pls_lines.specs.laws.Fronts.{text_of-append}
 use Rattle.pls_bits.specs.Hex.{hex_digits}
-use Rattle.pls_labelfile.specs.LabelsText.{NamedLabel, FitsLabel, hex_word, label_line, label_of_words, labels_text, named}
-use Rattle.pls_labelfile.proofs.Named.{each_short, named-take, named-all, named_fit}
+use Rattle.pls_labelfile.specs.LabelsText.{NamedLabel, hex_word, label_line, label_of_words, labels_text, named}
+use Rattle.pls_labelfile.specs.laws.LabelLaws.{words_behind}
+use Rattle.pls_labelfile.proofs.Named.{named-none, named-split, named-take}
 
 -- the lines of a labels part up to the labels of the first nodes
 abbrev pub lines_so_far : List NodeRow → List (List Bool) → ℕ → List (List ℕ)
 lines_so_far rows labels count =
     codes "labels" ∷ map label_line (named (take count (ids_of rows)) (take count labels))
 
--- a text with the words of a label's line behind it
-pub line_written : (old : List ℕ) (id len : ℕ) (word : List ℕ)
-    → ((((((old ++ codes "label ") ++ decimal id) ++ 32 ∷ []) ++ decimal len) ++ 32 ∷ []) ++ word)
-    ++ 10 ∷ [] ≡ old ++ text_of (label_of_words id len word ∷ [])
-line_written old id len word =
-    let first : List ℕ = old ++ codes "label " in
-    let second : List ℕ = (first ++ decimal id) ++ 32 ∷ [] in
-    let rest : List ℕ = decimal len ++ 32 ∷ word in
-    ap (λ (text : List ℕ). text ++ 10 ∷ [])
-    (append_assoc (second ++ decimal len) (32 ∷ []) word
-    ∙ append_assoc second (decimal len) (32 ∷ word)
-    ∙ append_assoc (first ++ decimal id) (32 ∷ []) rest
-    ∙ append_assoc first (decimal id) (32 ∷ rest)
-    ∙ append_assoc old (codes "label ") (decimal id ++ 32 ∷ rest))
-    ∙ append_assoc old (codes "label " ++ (decimal id ++ 32 ∷ rest)) (10 ∷ [])
+-- the lines of a labels part behind those
+abbrev pub lines_behind : List NodeRow → List (List Bool) → ℕ → List (List ℕ)
+lines_behind rows labels count =
+    map label_line (named (drop count (ids_of rows)) (drop count labels)) ++ codes "end" ∷ []
+
+-- the pieces of a label's line
+pub line_written : (id len : ℕ) (word : List ℕ)
+    → (codes "label " ++ decimal id)
+    ++ ((codes " " ++ decimal len) ++ (codes " " ++ (word ++ codes "\n")))
+    ≡ text_of (label_of_words id len word ∷ [])
+line_written id len word = sym (words_behind id len word [])
 
 -- the word for some bits
 pub word_of_some : (bits : List Bool) → (bits ≡ [] → ⊥) → hex_word bits ≡ hex_digits bits
 word_of_some [] some = absurd (some refl)
 word_of_some (bit ∷ bits) some = refl
 
+-- the digits of one word more
+pub digits_more : (digits more : List ℕ) (k : ℕ) → more ≡ take 16 (drop (16 * k) digits)
+    → take (16 * k) digits ++ more ≡ take (16 * (k + 1)) digits
+digits_more digits more k is =
+    let next : 16 * (k + 1) ≡ 16 * k + 16 = omega arith in
+    ap (λ (more : List ℕ). take (16 * k) digits ++ more) is
+    ∙ sym (take-add (16 * k) 16 digits) ∙ ap (λ (n : ℕ). take n digits) (sym next)
+
 -- the line of one label more
 pub one_line_more : (rows : List NodeRow) (labels : List (List Bool)) (place id : ℕ)
-    (bits : List Bool) (old new : List ℕ)
-    → option_map (λ row. row.id) (slice_get rows place) ≡ Some id
+    (bits : List Bool) → option_map (λ row. row.id) (slice_get rows place) ≡ Some id
     → slice_get labels place ≡ Some bits
-    → old ≡ text_of (lines_so_far rows labels place)
-    → new ≡ old ++ text_of (label_line (record { id = id; bits = bits }) ∷ [])
-    → new ≡ text_of (lines_so_far rows labels (place + 1))
-one_line_more rows labels place id bits old new id_at bits_at so_far more =
+    → text_of (lines_so_far rows labels place)
+    ++ text_of (label_line (record { id = id; bits = bits }) ∷ [])
+    ≡ text_of (lines_so_far rows labels (place + 1))
+one_line_more rows labels place id bits id_at bits_at =
     let label : NamedLabel = record { id = id; bits = bits } in
     let ids_at : slice_get (ids_of rows) place ≡ Some id =
     slice_get-map (λ (row : NodeRow). row.id) rows place ∙ id_at in
@@ -57,23 +62,31 @@ one_line_more rows labels place id bits old new id_at bits_at so_far more =
     (sym (map_push label_line front label)
     ∙ ap (map label_line) (sym (named-take (ids_of rows) labels place id bits ids_at bits_at)
     ∙ ap (λ (n : ℕ). named (take n (ids_of rows)) (take n labels)) (sym (add-one place)))) in
-    more ∙ ap (λ (text : List ℕ). text ++ text_of (label_line label ∷ [])) so_far
-    ∙ sym (text_of-append (lines_so_far rows labels place) (label_line label ∷ []))
-    ∙ ap text_of lines
+    sym (text_of-append (lines_so_far rows labels place) (label_line label ∷ [])) ∙ ap text_of lines
 
--- all lines and `end`
-pub whole_text : (rows : List NodeRow) (labels : List (List Bool)) (count : ℕ) (old new : List ℕ)
-    → length rows ≤ count
-    → length labels ≡ length rows → old ≡ text_of (lines_so_far rows labels count)
-    → new ≡ old ++ text_of (codes "end" ∷ [])
-    → new ≡ labels_text (named (ids_of rows) labels)
-whole_text rows labels count old new all long so_far more =
-    let labels_are =
-    named-all (ids_of rows) labels count (omega (arith, length-map rows (λ row. row.id)))
-    (omega arith) in
-    more ∙ ap (λ (text : List ℕ). text ++ text_of (codes "end" ∷ [])) so_far
-    ∙ sym (text_of-append (lines_so_far rows labels count) (codes "end" ∷ []))
-    ∙ ap labels_text labels_are
+-- the lines up to some labels and those behind them
+pub whole_text : (rows : List NodeRow) (labels : List (List Bool)) (count : ℕ)
+    → text_of (lines_so_far rows labels count) ++ text_of (lines_behind rows labels count)
+    ≡ labels_text (named (ids_of rows) labels)
+whole_text rows labels count =
+    let ids = ids_of rows in
+    let front = named (take count ids) (take count labels) in
+    let back = named (drop count ids) (drop count labels) in
+    sym (text_of-append (lines_so_far rows labels count) (lines_behind rows labels count))
+    ∙ ap (λ (lines : List (List ℕ)). text_of (codes "labels" ∷ lines))
+    (sym (append_assoc (map label_line front) (map label_line back) (codes "end" ∷ []))
+    ∙ ap (λ (lines : List (List ℕ)). lines ++ codes "end" ∷ [])
+    (sym (map-append label_line front back)
+    ∙ ap (map label_line) (named-split ids labels count)))
+
+-- no line of a label is behind the last of the nodes or of the labels
+pub none_behind : (rows : List NodeRow) (labels : List (List Bool)) (count : ℕ)
+    → min (length rows) (length labels) ≤ count
+    → lines_behind rows labels count ≡ codes "end" ∷ []
+none_behind rows labels count all =
+    ap (λ (labels : List NamedLabel). map label_line labels ++ codes "end" ∷ [])
+    (named-none (ids_of rows) labels count
+    (omega (arith, all, length-map rows (λ row. row.id))))
 
 -- ---- the identities that were written are small
 
@@ -95,12 +108,3 @@ one_small_more rows place id id_at so_far small =
     (sym (ap (λ (n : ℕ). take n (ids_of rows)) (add-one place)
     ∙ take_next (ids_of rows) place id ids_at))
     (All-push (λ id. id < 2 ^ 32) (take place (ids_of rows)) id so_far small)
-
-pub all_small : (rows : List NodeRow) (labels : List (List Bool)) (count : ℕ) → length rows ≤ count
-    → All (λ id. id < 2 ^ 32) (take count (ids_of rows)) → sum_by length labels ≤ 2 ^ 28
-    → All FitsLabel (named (ids_of rows) labels)
-all_small rows labels count all small few =
-    named_fit (ids_of rows) labels
-    (subst (All (λ id. id < 2 ^ 32))
-    (take_all count (ids_of rows) (omega (arith, length-map rows (λ row. row.id)))) small)
-    (each_short labels (2 ^ 28) few)

@@ -1,7 +1,7 @@
 -- Labels of nodes in order, each with the identity of its node.
-use Rattle.std.proofs.Common.{◌≡◌, ℕ, ◌<◌, ◌≤◌, ◌^◌, zero, suc, nat_lt, Bool, false, List, [], ◌∷◌, ◌++◌, take, length, Some, None, refl, sym, ◌∙◌, ap, slice_get, arith}
+use Rattle.std.proofs.Common.{◌≡◌, ℕ, ◌<◌, ◌≤◌, ◌^◌, zero, suc, nat_lt, Bool, false, List, [], ◌∷◌, ◌++◌, drop, min, take, length, Some, None, refl, sym, ◌∙◌, ap, slice_get, arith}
 use Rattle.std.specs.List.{All, sum_by}
-use Rattle.std.proofs.lemmas.List.{take_all, length-map}
+use Rattle.std.proofs.lemmas.List.{length-map}
 use Rattle.std.proofs.lemmas.List.Sums.{sum_by-cons}
 use Rattle.std.proofs.lemmas.List.Elements.{All-nil, All-cons, All-head, All-tail}
 use Rattle.std.proofs.lemmas.Bool.{le-ltb}
@@ -90,11 +90,30 @@ named-take (x ∷ ids) (y ∷ labels) (suc i) id bits p q =
     ap (λ (others : List NamedLabel). record { id = x; bits = y } ∷ others)
     (named-take ids labels i id bits p q)
 
--- all labels
-pub named-all : (ids : List ℕ) (labels : List (List Bool)) (i : ℕ) → length ids ≤ i
-    → length labels ≤ i
-    → named (take i ids) (take i labels) ≡ named ids labels
-named-all ids labels i p q = rw (take_all i ids p, take_all i labels q) refl
+-- no labels are named as none
+named-bare : (ids : List ℕ) → named ids [] ≡ []
+named-bare [] = refl
+named-bare (id ∷ ids) = refl
+
+-- the first of the labels and the others
+pub named-split : (ids : List ℕ) (labels : List (List Bool)) (i : ℕ)
+    → named (take i ids) (take i labels) ++ named (drop i ids) (drop i labels) ≡ named ids labels
+named-split ids labels zero = refl
+named-split [] labels (suc i) = refl
+named-split (id ∷ ids) [] (suc i) = named-bare (drop i ids)
+named-split (id ∷ ids) (bits ∷ labels) (suc i) =
+    ap (λ (others : List NamedLabel). record { id = id; bits = bits } ∷ others)
+    (named-split ids labels i)
+
+-- none is behind the last of the identities or of the labels
+pub named-none : (ids : List ℕ) (labels : List (List Bool)) (i : ℕ)
+    → min (length ids) (length labels) ≤ i → named (drop i ids) (drop i labels) ≡ []
+named-none [] labels zero all = refl
+named-none (id ∷ ids) [] zero all = refl
+named-none (id ∷ ids) (bits ∷ labels) zero all = absurd (omega (arith, all))
+named-none [] labels (suc i) all = refl
+named-none (id ∷ ids) [] (suc i) all = named-bare (drop i ids)
+named-none (id ∷ ids) (bits ∷ labels) (suc i) all = named-none ids labels i (omega (arith, all))
 
 -- no label has more bits than all of them
 pub each_short : (labels : List (List Bool)) (most : ℕ) → sum_by length labels ≤ most

@@ -1,19 +1,24 @@
 //! The text of labels, written.
 
-ghost use Rattle.std.specs.Prelude.{◌≡◌, ◌≤◌, ◌<◌, ◌^◌, ◌++◌, [], ◌∷◌, decimal, length, All, IfOk, OnOk};
+ghost use Rattle.std.specs.Prelude.{◌≡◌, ◌≤◌, ◌<◌, ◌^◌, ◌-◌, ℕ, [], ◌∷◌, length, All, IfOk, MatchResult, OnErr, OnOk};
+ghost use Rattle.std.specs.Io.KnownBytes.{Appends};
+ghost use Rattle.pls_base.specs.Gathered.{Writes};
+ghost use Rattle.pls_base.specs.Streams.{AppendsPart, Rose, StaysSure};
 ghost use Rattle.pls_model.specs.Configuration.{ids_of};
+ghost use Rattle.pls_bits.specs.Hex.{hex_digits};
 ghost use Rattle.pls_lines.specs.Text.{text_of};
 ghost use Rattle.pls_labelfile.specs.LabelsText.{FitsLabel, hex_word, label_line, labels_text, named};
 ghost use Rattle.pls_labelfile.specs.declared.limits.TheConstants.{MAX_BITS};
 ghost use Rattle.pls_view.specs.Labels.{bits_together};
 
-use pls_base::{NoMemory, write_decimal};
+use pls_base::{Fault, Gathered, NoMemory, Sink, StdSink};
 use pls_bits::Bits;
 use pls_graph::Network;
 use pls_view::LabelStore;
 use std::alloc::Global;
 
-/// The text of a labels part with these labels of the nodes of a network, in their order.
+/// The text of a labels part with these labels of the nodes of a network, in their order. The one
+/// error is want of memory.
 pub fn write_labels(alloc: Global, net: &Network, labels: &LabelStore) -> Result<Vec<u8>, NoMemory>
     requires { length labels.now ≡ length net.now }
     ensures text { IfOk result (λ text.
@@ -21,54 +26,109 @@ pub fn write_labels(alloc: Global, net: &Network, labels: &LabelStore) -> Result
     ensures fits { OnOk result (bits_together labels.now ≤ MAX_BITS
         → All FitsLabel (named (ids_of net.now) labels.now)) }
 {
-    let mut text = Vec::with_capacity(alloc, room_for(net.len(), labels.total()))?;
-    text.extend_from_slice(b"labels\n")?;
-    for place in 0..net.len() {
-        write_label(&mut text, net.node(place).0, &labels.bits(place))?;
+    of_32_bits(net);
+    let mut sink = StdSink::new(Vec::new(alloc));
+    match put_labels(net, labels, &mut sink) {
+        Ok(()) => Ok(sink.into_writer()),
+        Err(Fault) => Err(NoMemory),
     }
-    text.extend_from_slice(b"end\n")?;
-    Ok(text)
 }
 
-// How many bytes the text may need: four bits a digit, and what a line has beside its digits.
-fn room_for(nodes: usize, bits: u64) -> usize {
-    let lines = nodes.saturating_add(1).saturating_mul(32);
-    lines.saturating_add((bits / 4) as usize)
-}
-
-// Writes the line of one label behind a text.
-fn write_label(text: &mut Vec<u8>, id: u32, bits: &Bits<'_>) -> Result<(), NoMemory>
-    ensures text { OnOk result (text.new.items ≡ text.old.items
-        ++ text_of (label_line (record { id = id; bits = bits.now }) ∷ [])) }
-    ensures small { id < 2 ^ 32 }
+// The identities of nodes are below 2^32.
+fn of_32_bits(net: &Network)
+    ensures { All (λ id. id < 2 ^ 32) (ids_of net.now) }
 {
-    text.extend_from_slice(b"label ")?;
-    write_number(text, id as u64)?;
-    text.push(b' ')?;
-    write_number(text, bits.len() as u64)?;
-    text.push(b' ')?;
-    write_word(text, bits)?;
-    text.push(b'\n')?;
-    Ok(())
+    for place in 0..net.len() {
+        is_small(net.node(place).0);
+    }
 }
 
-// Writes the word for the bits of a label behind a text.
-fn write_word(text: &mut Vec<u8>, bits: &Bits<'_>) -> Result<(), NoMemory>
-    ensures { OnOk result (text.new.items ≡ text.old.items ++ hex_word bits.now) }
+// A number of 32 bits is below 2^32.
+fn is_small(number: u32)
+    ensures { number < 2 ^ 32 }
+{}
+
+/// Writes the text of a labels part with these labels of the nodes of a network, in their order, up
+/// to the last node or the last label. It takes no memory.
+///
+/// `Fault` comes only where the sink's count of faults rose in this call; the sink has then taken a
+/// front of the text, but not all. A sink that is sure of so many bytes takes all.
+pub fn put_labels<K: Sink>(net: &Network, labels: &LabelStore, sink: &mut K) -> Result<(), Fault>
+    ensures all { OnOk result (Appends (K.taken sink.old) (K.taken sink.new)
+        (labels_text (named (ids_of net.now) labels.now))) }
+    ensures part { OnErr result (AppendsPart (K.taken sink.old) (K.taken sink.new)
+        (labels_text (named (ids_of net.now) labels.now))) }
+    ensures fault { OnErr result (Rose (K.faults sink.old) (K.faults sink.new)) }
+    ensures never_falls { K.faults sink.old ≤ K.faults sink.new }
+    ensures sure { (most : ℕ) → K.IsSureOf sink.old most
+        → length (labels_text (named (ids_of net.now) labels.now)) ≤ most
+        → MatchResult result (λ _. StaysSure (K.IsSureOf sink.new)
+        (most - length (labels_text (named (ids_of net.now) labels.now))) (K.faults sink.old)
+        (K.faults sink.new)) (λ _. ⊥) }
+{
+    let mut gathered = Gathered::new();
+    put_lines(net, labels, sink, &mut gathered)?;
+    gathered.flush(sink)
+}
+
+// Writes the lines of the part.
+fn put_lines<K: Sink>(
+    net: &Network,
+    labels: &LabelStore,
+    sink: &mut K,
+    gathered: &mut Gathered,
+) -> Result<(), Fault>
+    ensures { Writes gathered.old gathered.new (K.taken sink.old) (K.taken sink.new)
+        (K.faults sink.old) (K.faults sink.new) (K.IsSureOf sink.old) (K.IsSureOf sink.new)
+        result (labels_text (named (ids_of net.now) labels.now)) }
+{
+    gathered.put(sink, b"labels\n")?;
+    let count = net.len().min(labels.len());
+    for place in 0..count {
+        put_label(sink, gathered, net.node(place).0, &labels.bits(place))?;
+    }
+    gathered.put(sink, b"end\n")
+}
+
+// Writes the line of one label.
+fn put_label<K: Sink>(
+    sink: &mut K,
+    gathered: &mut Gathered,
+    id: u32,
+    bits: &Bits<'_>,
+) -> Result<(), Fault>
+    ensures { Writes gathered.old gathered.new (K.taken sink.old) (K.taken sink.new)
+        (K.faults sink.old) (K.faults sink.new) (K.IsSureOf sink.old) (K.IsSureOf sink.new)
+        result (text_of (label_line (record { id = id; bits = bits.now }) ∷ [])) }
+{
+    gathered.put_numbered(sink, b"label ", id as u64)?;
+    gathered.put_numbered(sink, b" ", bits.len() as u64)?;
+    gathered.put(sink, b" ")?;
+    put_word(sink, gathered, bits)?;
+    gathered.put(sink, b"\n")
+}
+
+// Writes the word for the bits of a label.
+fn put_word<K: Sink>(sink: &mut K, gathered: &mut Gathered, bits: &Bits<'_>) -> Result<(), Fault>
+    ensures { Writes gathered.old gathered.new (K.taken sink.old) (K.taken sink.new)
+        (K.faults sink.old) (K.faults sink.new) (K.IsSureOf sink.old) (K.IsSureOf sink.new)
+        result (hex_word bits.now) }
 {
     if bits.is_empty() {
-        text.push(b'-')?;
-        return Ok(());
+        return gathered.put(sink, b"-");
     }
-    bits.append_hex_to(text)
+    put_digits(sink, gathered, bits)
 }
 
-// Writes a number behind a text.
-fn write_number(text: &mut Vec<u8>, number: u64) -> Result<(), NoMemory>
-    ensures { OnOk result (text.new.items ≡ text.old.items ++ decimal number) }
+// Writes the hex digits of some bits.
+fn put_digits<K: Sink>(sink: &mut K, gathered: &mut Gathered, bits: &Bits<'_>) -> Result<(), Fault>
+    ensures { Writes gathered.old gathered.new (K.taken sink.old) (K.taken sink.new)
+        (K.faults sink.old) (K.faults sink.new) (K.IsSureOf sink.old) (K.IsSureOf sink.new)
+        result (hex_digits bits.now) }
 {
-    let mut digits = [0; 20];
-    let count = write_decimal(number, &mut digits);
-    text.extend_from_slice(&digits[..count])?;
+    for k in 0..bits.len().div_ceil(64) {
+        let (digits, count) = bits.hex_word(k);
+        gathered.put_front(sink, &digits, count)?;
+    }
     Ok(())
 }

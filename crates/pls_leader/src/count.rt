@@ -29,7 +29,6 @@ pub struct CountLabel {
 }
 
 impl OfNumbers<6> for CountLabel {
-    ghost use Rattle.std.specs.Prelude.{refl};
     ghost use Rattle.pls_leader.specs.Count.{count_label, numbers_of_count};
     ghost use Rattle.pls_leader.specs.laws.CountNumbers.{count_numbers};
 

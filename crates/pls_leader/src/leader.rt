@@ -1,6 +1,6 @@
 //! The rules of the scheme `leader`: the label is the root's identity and the node's depth.
 
-ghost use Rattle.std.specs.Prelude.{◌≡◌, ◌==◌, ◌||◌, Bool};
+ghost use Rattle.std.specs.Prelude.{◌≡◌, ◌==◌, ◌||◌};
 ghost use Rattle.std.specs.Bool.{beq};
 
 use crate::rooted::is_0_at_root_alone;

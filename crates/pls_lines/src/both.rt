@@ -1,6 +1,5 @@
 //! Two parts, one after the other, as one part; and so as many as there are.
 
-ghost use Rattle.std.specs.Prelude.{◌≡◌};
 ghost use Rattle.pls_lines.specs.Fault.{Then};
 ghost use Rattle.pls_lines.specs.Part.{PassesBoth};
 ghost use Rattle.pls_lines.specs.laws.BothLaws.{both_are_part};

@@ -1,8 +1,6 @@
 //! Parts that are any items of a kind under a heading of one word.
 
-ghost use Rattle.std.specs.Prelude.{◌≡◌, ℕ, List, [], All};
-ghost use Rattle.std.specs.Bool.{OnFalse, OnTrue};
-ghost use Rattle.pls_lines.specs.ListPart.{Begun};
+ghost use Rattle.std.specs.Prelude.{◌≡◌, ℕ, List, All};
 ghost use Rattle.pls_lines.specs.Counted.{IsHeadingWord, counted};
 
 use crate::line_kind::LineKind;

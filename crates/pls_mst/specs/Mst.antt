@@ -7,7 +7,7 @@ use Rattle.pls_graph.specs.declared.size.Size.{Size}
 use Rattle.pls_scheme.specs.Length.{codes_length}
 use Rattle.pls_scheme.specs.Marked.{IsMarkedBy}
 use Rattle.pls_facts.specs.Pointer.{IsChainOf, pointed_port}
-use Rattle.pls_boruvka.specs.Boruvka.{AreChainLengths, AreLevels}
+use Rattle.pls_boruvka.specs.Boruvka.{AreChainLengths, AreBoruvkaLevels}
 use Rattle.pls_boruvka.specs.declared.level.Level.{Level}
 use Rattle.pls_mst.specs.declared.label.MstLabel.{MstLabel}
 use Rattle.pls_mst.specs.Labels.{IsMstLabel}
@@ -17,7 +17,7 @@ pub record AreLevelsOf (rows : List NodeRow) (id : ℕ) (list : List Level) : Ty
   pub depth : ℕ → ℕ
   pub levels : List (ℕ → Level)
   pub deep : AreChainLengths rows depth
-  pub are : AreLevels rows depth levels
+  pub are : AreBoruvkaLevels rows depth levels
   pub said : list ≡ map (λ level. level id) levels
 
 -- the label of a node: the root is the node without pointer, the parent is the node that the node

@@ -1,6 +1,6 @@
 //! The levels of a node and those of a neighbour, side by side.
 
-ghost use Rattle.std.specs.Prelude.{◌≡◌, ℕ, ◌≤◌, ◌==◌, nat_lt, ◌&&◌, ◌||◌, take, Some};
+ghost use Rattle.std.specs.Prelude.{◌≡◌, ◌≤◌, ◌==◌, nat_lt, ◌&&◌, ◌||◌, take, Some};
 ghost use Rattle.pls_facts.specs.EdgeOrder.{edge_key, is_same_edge};
 ghost use Rattle.pls_boruvka.specs.Boruvka.{chosen_edge};
 ghost use Rattle.pls_mst.specs.declared.glance.TheConstants.{FRONT};

@@ -1,6 +1,6 @@
 //! Whether a node is placed in the tree, by its own label and the one above.
 
-ghost use Rattle.std.specs.Prelude.{◌≡◌, ℕ, ◌==◌, ◌+◌, ◌&&◌, List, option_map, true};
+ghost use Rattle.std.specs.Prelude.{◌≡◌, ◌==◌, ◌+◌, ◌&&◌, List, option_map, true};
 ghost use Rattle.std.specs.Option.{option_copied, option_map_or};
 ghost use Rattle.pls_scheme.specs.Reading.{ReadPort, label_above, reading};
 ghost use Rattle.pls_mst.specs.declared.label.MstLabel.{MstLabel};

@@ -1,6 +1,6 @@
 //! The two properties as functions from rows to a truth value.
 
-ghost use Rattle.std.specs.Prelude.{◌≡◌, ◌↔◌, ℕ, IsTrue};
+ghost use Rattle.std.specs.Prelude.{◌↔◌, ℕ, IsTrue};
 ghost use Rattle.pls_properties.specs.Diameter.{HasDiameter};
 ghost use Rattle.pls_properties.specs.Bridgeless.{IsBridgeless};
 ghost use Rattle.pls_properties.specs.Tests.{bridgeless_test, diameter_test};

@@ -3,7 +3,7 @@
 ghost use Rattle.std.specs.Prelude.{◌≡◌, ◌≤◌, ◌==◌, ◌||◌, length, None, OnErr, OnOk, IfErr, Some};
 ghost use Rattle.pls_model.specs.declared.limits.TheConstants.{MAX_NUM};
 ghost use Rattle.pls_model.specs.declared.verdict.Verdict.{Verdict};
-ghost use Rattle.pls_model.specs.Configuration.{IsNetwork, ids_of};
+ghost use Rattle.pls_model.specs.Configuration.{IsNetwork};
 ghost use Rattle.pls_graph.specs.Edits.{SaysEdit, link_refusal, state_refusal, unlink_refusal, weight_refusal};
 ghost use Rattle.pls_view.specs.Seen.{Seen};
 ghost use Rattle.pls_edits.specs.Edited.{FitsNum, RefusesWith, edit_refusal};

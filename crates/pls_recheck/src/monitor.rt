@@ -1,11 +1,9 @@
 //! A network and its labels with a checker that remembers what they say.
 
-ghost use Rattle.std.specs.Prelude.{◌≡◌, ◌≤◌, [], length, map, None, IfErr, IfNone, IfOk, IfSome, OnErr, OnOk};
+ghost use Rattle.std.specs.Prelude.{◌≡◌, ◌≤◌, [], length, map, None, IfNone, IfOk, IfSome, OnErr, OnOk};
 ghost use Rattle.pls_model.specs.Configuration.{ids_of};
 ghost use Rattle.pls_base.specs.Steps.{up_by};
-ghost use Rattle.pls_edits.specs.Edited.{FitsNum, RefusesWith, edit_refusal};
 ghost use Rattle.pls_scheme.specs.Judging.{round_by};
-ghost use Rattle.pls_recheck.specs.Rechecked.{edited_with};
 ghost use Rattle.pls_recheck.specs.Watch.{EndsEarly};
 
 use crate::bench::Bench;

@@ -1,6 +1,6 @@
 //! Rounds in which the touched nodes are judged.
 
-ghost use Rattle.std.specs.Prelude.{◌≡◌, ◌<◌, ◌≤◌, [], ◌⊎◌, false, List, length, slice_set, slice_get, IfOk, IfNone, IfSome, OnErr, OnOk, Some};
+ghost use Rattle.std.specs.Prelude.{◌≡◌, ◌<◌, ◌≤◌, [], ◌⊎◌, false, length, slice_set, slice_get, IfOk, IfNone, IfSome, OnErr, OnOk, Some};
 ghost use Rattle.pls_model.specs.declared.verdict.Verdict.{Verdict};
 ghost use Rattle.pls_model.specs.Configuration.{ids_of};
 ghost use Rattle.pls_base.specs.Steps.{up_by};

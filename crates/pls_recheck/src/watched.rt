@@ -1,6 +1,6 @@
 //! A network and its labels while they are edited.
 
-ghost use Rattle.std.specs.Prelude.{◌≡◌, ℕ, length, replicate, IfOk};
+ghost use Rattle.std.specs.Prelude.{◌≡◌, length, replicate, IfOk};
 ghost use Rattle.pls_model.specs.declared.verdict.Verdict.{Verdict};
 ghost use Rattle.pls_model.specs.Configuration.{ids_of};
 ghost use Rattle.pls_view.specs.Seen.{Seen};

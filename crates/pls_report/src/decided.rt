@@ -1,25 +1,38 @@
-//! The line of a node that has decided, put together where it is to stand.
+//! The line of a node that has decided, put together where there is room for it.
 
 ghost use Rattle.std.specs.Prelude.{◌≡◌, ◌≤◌, ◌+◌, ◌++◌, ◌∷◌, [], codes, decimal, length, take};
+ghost use Rattle.pls_base.specs.Gathered.{Writes};
 ghost use Rattle.pls_sim.specs.declared.outcome.Outcome.TheVariants.{Decided};
 ghost use Rattle.pls_report.specs.Report.{node_line};
 ghost use Rattle.pls_report.specs.inner.Pieces.{outcome_tail};
 
-use pls_base::write_decimal;
+use pls_base::{Fault, Gathered, Sink, write_decimal};
 use pls_model::Verdict;
 
-/// So many bytes have room for the line of a node that has decided.
-pub(crate) const LINE_ROOM: usize = 80;
-
-/// Writes the line of a node that has decided to a place, and answers where it ends.
-pub(crate) fn line_at(into: &mut [u8], at: usize, id: u32, verdict: Verdict) -> usize
-    requires { at + 80 ≤ length into.old }
-    ensures length { length into.new ≡ length into.old }
-    ensures within { result ≤ at + 80 }
-    ensures line { take result into.new
-        ≡ take at into.old ++ (node_line (id, Decided verdict) ++ 10 ∷ []) }
+/// Writes the line of a node that has decided.
+pub(crate) fn put_decided<K: Sink>(
+    sink: &mut K,
+    gathered: &mut Gathered,
+    id: u32,
+    verdict: Verdict,
+) -> Result<(), Fault>
+    ensures { Writes gathered.old gathered.new (K.taken sink.old) (K.taken sink.new)
+        (K.faults sink.old) (K.faults sink.new) (K.IsSureOf sink.old) (K.IsSureOf sink.new)
+        result (node_line (id, Decided verdict) ++ 10 ∷ []) }
 {
-    let word = bytes_at(into, at, b"node ");
+    let mut line = [0; 80];
+    let count = line_in(&mut line, id, verdict);
+    gathered.put_front(sink, &line, count)
+}
+
+// Puts the line of a node that has decided into the front of some bytes, and answers how long it is.
+fn line_in(into: &mut [u8], id: u32, verdict: Verdict) -> usize
+    requires { 80 ≤ length into.old }
+    ensures within { result ≤ 80 }
+    ensures length { length into.new ≡ length into.old }
+    ensures line { take result into.new ≡ node_line (id, Decided verdict) ++ 10 ∷ [] }
+{
+    let word = bytes_at(into, 0, b"node ");
     let named = number_at(into, word, id as u64);
     tail_at(into, named, verdict)
 }
@@ -71,8 +84,8 @@ fn put_decimal(number: u64, into: &mut [u8]) -> usize
     }
 }
 
-/// Copies bytes to a place, and answers where they end.
-pub(crate) fn bytes_at(into: &mut [u8], at: usize, bytes: &[u8]) -> usize
+// Copies bytes to a place, and answers where they end.
+fn bytes_at(into: &mut [u8], at: usize, bytes: &[u8]) -> usize
     requires { at + length bytes.now ≤ length into.old }
     ensures length { length into.new ≡ length into.old }
     ensures end { result ≡ at + length bytes.now }

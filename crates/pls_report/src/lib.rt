@@ -8,7 +8,6 @@
 
 mod counting;
 mod decided;
-mod gathered;
 mod pieces;
 mod report;
 mod round;

@@ -2,15 +2,16 @@
 
 ghost use Rattle.std.specs.Prelude.{ℕ, ◌≤◌, ◌-◌, ◌++◌, ◌∷◌, [], codes, length, MatchResult, OnErr, OnOk};
 ghost use Rattle.std.specs.Io.KnownBytes.{Appends};
+ghost use Rattle.pls_base.specs.Gathered.{Writes};
 ghost use Rattle.pls_base.specs.Streams.{AppendsPart, Rose, StaysSure};
 ghost use Rattle.pls_sim.specs.declared.outcome.Outcome.TheVariants.{Waiting};
 ghost use Rattle.pls_report.specs.Report.{closing_line, node_line, report_text, waiting};
-ghost use Rattle.pls_report.specs.inner.Pieces.{Writes, spaced, waiting_tail};
+ghost use Rattle.pls_report.specs.inner.Pieces.{spaced, waiting_tail};
 
 use crate::counting;
-use crate::gathered::Gathered;
-use crate::pieces::{put_both, put_spaced};
-use pls_base::{Fault, Sink};
+use crate::decided::put_decided;
+use crate::pieces::put_spaced;
+use pls_base::{Fault, Gathered, Sink};
 use pls_sim::Outcome;
 
 /// Writes the report of nodes, each with its identity and its outcome: a line for each, in their
@@ -71,7 +72,7 @@ fn write_node<K: Sink>(
         (node_line (id, outcome.now) ++ 10 ∷ []) }
 {
     match outcome {
-        Outcome::Decided(verdict) => gathered.put_line(sink, id, *verdict),
+        Outcome::Decided(verdict) => put_decided(sink, gathered, id, *verdict),
         Outcome::Waiting(ports) => write_waiting_node(sink, gathered, id, ports.as_slice()),
     }
 }
@@ -88,7 +89,7 @@ fn write_waiting_node<K: Sink>(
         result
         (node_line (id, Waiting ports.now) ++ 10 ∷ []) }
 {
-    put_both(sink, gathered, b"node ", id as u64)?;
+    gathered.put_numbered(sink, b"node ", id as u64)?;
     write_ports(sink, gathered, ports)?;
     gathered.put(sink, b"\n")
 }
@@ -115,12 +116,7 @@ fn write_closing<K: Sink>(
         result
         (closing_line simulated rows.now ++ 10 ∷ []) }
 {
-    put_both(
-        sink,
-        gathered,
-        b"rejecting ",
-        counting::rejecting(rows) as u64,
-    )?;
+    gathered.put_numbered(sink, b"rejecting ", counting::rejecting(rows) as u64)?;
     write_waiting(rows, simulated, sink, gathered)?;
     gathered.put(sink, b"\n")
 }
@@ -140,5 +136,5 @@ fn write_waiting<K: Sink>(
     if !simulated {
         return Ok(());
     }
-    put_both(sink, gathered, b" waiting ", counting::waiting(rows) as u64)
+    gathered.put_numbered(sink, b" waiting ", counting::waiting(rows) as u64)
 }

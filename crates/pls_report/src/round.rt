@@ -2,14 +2,14 @@
 
 ghost use Rattle.std.specs.Prelude.{◌≡◌, ℕ, ◌≤◌, ◌-◌, ◌++◌, codes, decimal, length, MatchResult, OnErr, OnOk};
 ghost use Rattle.std.specs.Io.KnownBytes.{Appends};
+ghost use Rattle.pls_base.specs.Gathered.{Writes};
 ghost use Rattle.pls_base.specs.Streams.{AppendsPart, Rose, StaysSure};
-ghost use Rattle.pls_report.specs.Report.{round_line, round_text};
-ghost use Rattle.pls_report.specs.inner.Pieces.{Writes, connected_tail};
+ghost use Rattle.pls_report.specs.Report.{round_text};
+ghost use Rattle.pls_report.specs.inner.Pieces.{connected_tail};
 
 use crate::counting::rejecting_verdicts;
-use crate::gathered::Gathered;
-use crate::pieces::put_both;
-use pls_base::{Fault, Sink};
+use crate::decided::put_decided;
+use pls_base::{Fault, Gathered, Sink};
 use pls_model::Verdict;
 
 /// Writes the report of a round in which touched nodes were judged again: a line for each node, with
@@ -56,7 +56,7 @@ fn write_decided<K: Sink>(
         result (round_text number checked connected rows.now) }
 {
     for (id, verdict) in rows {
-        gathered.put_line(sink, *id, *verdict)?;
+        put_decided(sink, gathered, *id, *verdict)?;
     }
     let rejecting = rejecting_verdicts(rows);
     write_numbers(number, checked, connected, rejecting as u64, sink, gathered)
@@ -76,9 +76,9 @@ fn write_numbers<K: Sink>(
         result (((codes "round " ++ decimal number) ++ ((codes " checked " ++ decimal checked)
         ++ (connected_tail connected ++ decimal rejecting))) ++ codes "\n") }
 {
-    put_both(sink, gathered, b"round ", number as u64)?;
-    put_both(sink, gathered, b" checked ", checked as u64)?;
-    put_both(sink, gathered, connected_words(connected), rejecting)?;
+    gathered.put_numbered(sink, b"round ", number as u64)?;
+    gathered.put_numbered(sink, b" checked ", checked as u64)?;
+    gathered.put_numbered(sink, connected_words(connected), rejecting)?;
     gathered.put(sink, b"\n")
 }
 

@@ -1,19 +1,19 @@
 -- Labels that were looked at, at the places of a node and of its neighbours.
-use Rattle.std.proofs.Common.{◌≡◌, ◌∙◌, ◌<◌, ℕ, ◌==◌, All, Bool, IfSome, List, length, map, get_or, position, slice_get, Option, Some, None, option_map, refl, sym, ap, subst, arith, [], ◌∷◌}
+use Rattle.std.proofs.Common.{◌≡◌, ◌∙◌, ◌<◌, ℕ, ◌==◌, Bool, IfSome, List, length, map, get_or, position, slice_get, Option, Some, None, option_map, refl, sym, ap, subst, arith, [], ◌∷◌}
 use Rattle.std.specs.Option.{option_and_then}
-use Rattle.std.proofs.Math.ListN.{get_or-map}
 use Rattle.std.proofs.lemmas.List.{length-map}
-use Rattle.std.proofs.lemmas.Option.{get_or_from_slice_get, same_Some, slice_get-get_or, slice_get-map, slice_get_read, slice_get_within}
+use Rattle.std.proofs.lemmas.Option.{get_or_from_slice_get, same_Some, slice_get-get_or, slice_get-map}
 use Rattle.pls_model.specs.declared.row.State.{State}
 use Rattle.pls_model.specs.declared.row.Port.{Port}
 use Rattle.pls_model.specs.declared.row.NodeRow.{NodeRow}
 use Rattle.pls_model.specs.Configuration.{IsNetwork}
 use Rattle.pls_graph.specs.Places.{beside}
 use Rattle.pls_graph.proofs.Beside.{beside_many, beside_port}
+use Rattle.pls_graph.proofs.Finds.{from_option_map}
 use Rattle.pls_graph.proofs.Placed.{pointer_within}
 use Rattle.pls_facts.proofs.Lists.{item_at}
 use Rattle.pls_view.specs.Seen.{Seen, SeenPort, label_of, seen_port, views}
-use Rattle.pls_view.proofs.Views.{label_at, view_by_parts}
+use Rattle.pls_view.proofs.Views.{label_at, port_at, view_by_parts}
 use Rattle.pls_scheme.specs.inner.Looks.{AreLooked, kept_at_port, seen_above, seen_in}
 
 -- the view of a node of this identity, state and label, with these ports
@@ -40,36 +40,31 @@ is_shown rows labels i id state own ports view id_is state_is ports_is placed ow
     (map (seen_port (label_of rows labels)) ports) id_is state_is ports_is
     (label_at rows labels id i own placed own_at) refl) ∙ at)
 
--- what is kept of the label at a place is what is seen in it
-pub looked_there : {L G : Type 0} (read : List Bool → Option L) (glance : L → G)
-    (labels : List (List Bool)) (looked : List (Option G)) → AreLooked read glance labels looked
-    → (place : ℕ) (bits : List Bool) (entry : Option G) → slice_get labels place ≡ Some bits
-    → entry ≡ get_or looked place entry → entry ≡ seen_in read glance bits
-looked_there {L} {G} read glance labels looked are place bits entry at is =
-    let many : length looked ≡ length labels =
-    ap (λ (looked : List (Option G)). length looked) are
-    ∙ length-map labels (seen_in read glance) in
-    let within = slice_get_within labels place bits at in
-    let has : slice_get looked place ≡ Some entry =
-    slice_get_read looked (length looked) place entry refl (omega (arith, many, within)) is in
-    same_Some entry (seen_in read glance bits)
-    (sym has ∙ ap (λ (looked : List (Option G)). slice_get looked place) are
-    ∙ slice_get-map (seen_in read glance) labels place
-    ∙ ap (option_map (seen_in read glance)) at)
+module _ {L G E : Type 0} (read : List Bool → Option L) (glance : L → G) (kept : E → Option G)
+    (labels : List (List Bool)) (looked : List E)
+    (are : AreLooked read glance labels (map kept looked)) (place : ℕ) (bits : List Bool) where
+  -- at the place of a label stands what is seen in it
+  entry_there : slice_get labels place ≡ Some bits
+      → (entry : E) × (slice_get looked place ≡ Some entry) × (kept entry ≡ seen_in read glance bits)
+  entry_there at =
+      from_option_map kept (slice_get looked place) (seen_in read glance bits)
+      (sym (slice_get-map kept looked place)
+      ∙ ap (λ (looked : List (Option G)). slice_get looked place) are
+      ∙ slice_get-map (seen_in read glance) labels place
+      ∙ ap (option_map (seen_in read glance)) at)
 
--- what is kept at a place is what is seen in the label there
-pub kept_at : {G E : Type 0} (kept : E → Option G) (looked : List E) (place : ℕ) (entry : E)
-    → entry ≡ get_or looked place entry → kept entry ≡ get_or (map kept looked) place (kept entry)
-kept_at kept looked place entry is = ap kept is ∙ sym (get_or-map kept looked place entry)
+  kept_of : slice_get labels place ≡ Some bits
+      → option_and_then kept (slice_get looked place) ≡ seen_in read glance bits
+  kept_of at =
+      let (entry, here, same) = entry_there at in
+      ap (option_and_then kept) here ∙ same
 
-pub kept_there : {L G E : Type 0} (read : List Bool → Option L) (glance : L → G)
-    (kept : E → Option G) (labels : List (List Bool)) (looked : List E)
-    → AreLooked read glance labels (map kept looked)
-    → (place : ℕ) (bits : List Bool) (entry : E) → slice_get labels place ≡ Some bits
-    → entry ≡ get_or looked place entry → kept entry ≡ seen_in read glance bits
-kept_there read glance kept labels looked are place bits entry at is =
-    looked_there read glance labels (map kept looked) are place bits (kept entry) at
-    (kept_at kept looked place entry is)
+  -- what is kept of it is what is seen in the label
+  pub kept_there : (entry : E) → slice_get labels place ≡ Some bits
+      → entry ≡ get_or looked place entry → kept entry ≡ seen_in read glance bits
+  kept_there entry at is =
+      let (other, here, same) = entry_there at in
+      ap kept (is ∙ get_or_from_slice_get looked place other entry here) ∙ same
 
 -- what keeps what is seen in each label shows it
 pub looked_kept : {G E : Type 0} (kept : E → Option G) (keeping : Option G → E)
@@ -132,25 +127,7 @@ module _ (rows : List NodeRow) (net : IsNetwork rows) (i : ℕ) (ports : List Po
           (pointer_within rows net i row at up
           (ap (λ (state : State). state.up) state_same ∙ up_is))
 
-  -- what is kept of the label at the place of the node above is seen above
-  pub above_there : {L G : Type 0} (read : List Bool → Option L) (glance : L → G)
-      (labels : List (List Bool)) (looked : List (Option G)) → AreLooked read glance labels looked
-      → length labels ≡ length rows → (up : ℕ) → up < length ports
-      → get_or places up 0 < length rows
-      → (entry : Option G) → entry ≡ get_or looked (get_or places up 0) entry
-      → entry ≡ seen_above read glance (map (seen_port (label_of rows labels)) ports) (Some up)
-  above_there read glance labels looked are each up within inside entry is =
-      let none : Port = record { nbr = 0; weight = 0 } in
-      let port : Port = get_or ports up none in
-      let port_at : slice_get ports up ≡ Some port = slice_get-get_or ports up none within in
-      let (bits, bits_at) : (bits : List Bool) × (slice_get labels (get_or places up 0) ≡ Some bits)
-      = item_at labels (get_or places up 0) (omega (arith, inside, each)) in
-      looked_there read glance labels looked are (get_or places up 0) bits entry bits_at is
-      ∙ sym (ap (option_and_then (λ (port : SeenPort). seen_in read glance port.label))
-      (port_shown rows labels ports up port (get_or places up 0) bits port_at
-      (port_placed up port port_at) bits_at))
-
-  -- so is a pointer where there is one
+  -- and so of a place
   pub pointer_some : (state : State)
       → option_map (λ (row : NodeRow). row.state) (slice_get rows i) ≡ Some state
       → IfSome state.up (λ up. up < length places)
@@ -160,68 +137,38 @@ module _ (rows : List NodeRow) (net : IsNetwork rows) (i : ℕ) (ports : List Po
       by None is = tt
       by (Some up) is = place_for_port up (pointer_port state up state_is is)
 
-  -- and what is kept there is what is seen above
-  pub above_kept : {L G E : Type 0} (read : List Bool → Option L) (glance : L → G)
-      (kept : E → Option G) (labels : List (List Bool)) (looked : List E)
-      → AreLooked read glance labels (map kept looked) → length labels ≡ length rows
-      → All (λ place. place < length rows) places → (state : State)
-      → option_map (λ (row : NodeRow). row.state) (slice_get rows i) ≡ Some state
-      → option_and_then kept (option_and_then (slice_get looked)
-      (option_and_then (slice_get places) state.up))
-      ≡ seen_above read glance (map (seen_port (label_of rows labels)) ports) state.up
-  above_kept {L} {G} {E} read glance kept labels looked are each inside state state_is =
-      by state.up refl
-    where
-      by : (up : Option ℕ) → state.up ≡ up
-          → option_and_then kept (option_and_then (slice_get looked)
-          (option_and_then (slice_get places) up))
-          ≡ seen_above read glance (map (seen_port (label_of rows labels)) ports) up
-      by None is = refl
-      by (Some up) is =
-          let within = pointer_port state up state_is is in
-          let here = place_for_port up within in
-          let place = get_or places up 0 in
-          let below : place < length rows = inside up 0 here in
-          let many : length looked ≡ length labels =
-          sym (length-map looked kept) ∙ ap (λ (looked : List (Option G)). length looked) are
-          ∙ length-map labels (seen_in read glance) in
-          let (entry, at) : (entry : E) × (slice_get looked place ≡ Some entry)
-          = item_at looked place (omega (arith, many, each, below)) in
-          ap (λ (place : Option ℕ). option_and_then kept (option_and_then (slice_get looked) place))
-          (slice_get-get_or places up 0 here)
-          ∙ ap (option_and_then kept) at
-          ∙ above_there read glance labels (map kept looked) are each up within below (kept entry)
-          (kept_at kept looked place entry (sym (get_or_from_slice_get looked place entry entry at)))
+  module _ {L G E : Type 0} (read : List Bool → Option L) (glance : L → G) (kept : E → Option G)
+      (labels : List (List Bool)) (looked : List E)
+      (are : AreLooked read glance labels (map kept looked)) (each : length labels ≡ length rows) where
+    -- what is kept of the label at the place of a port's neighbour is what is seen at the port
+    pub read_there : (p : ℕ) (shows : SeenPort)
+        → slice_get (map (seen_port (label_of rows labels)) ports) p ≡ Some shows
+        → kept_at_port kept looked places p ≡ seen_in read glance shows.label
+    read_there p shows at =
+        kept_of read glance kept labels looked are (get_or places p 0) shows.label
+        (ap (λ (places : List ℕ). slice_get labels (get_or places p 0)) places_is
+        ∙ port_at rows net labels each i ports ports_is p shows at)
 
-  -- what is kept of the label at the place of a port's neighbour is what is seen at the port
-  pub read_there : {L G E : Type 0} (read : List Bool → Option L) (glance : L → G)
-      (kept : E → Option G) (labels : List (List Bool)) (looked : List E)
-      → AreLooked read glance labels (map kept looked) → length labels ≡ length rows
-      → All (λ place. place < length rows) places → (p : ℕ) (shows : SeenPort)
-      → slice_get (map (seen_port (label_of rows labels)) ports) p ≡ Some shows
-      → kept_at_port kept looked places p ≡ seen_in read glance shows.label
-  read_there {L} {G} {E} read glance kept labels looked are each inside p shows at =
-      let none : Port = record { nbr = 0; weight = 0 } in
-      let port : Port = get_or ports p none in
-      let within : p < length ports =
-      let many = length-map ports (seen_port (label_of rows labels)) in
-      let below = slice_get_within (map (seen_port (label_of rows labels)) ports) p shows at in
-      omega (arith, many, below) in
-      let port_at : slice_get ports p ≡ Some port = slice_get-get_or ports p none within in
-      let place = get_or places p 0 in
-      let below : place < length rows = inside p 0 (place_for_port p within) in
-      let many : length looked ≡ length labels =
-      sym (length-map looked kept) ∙ ap (λ (looked : List (Option G)). length looked) are
-      ∙ length-map labels (seen_in read glance) in
-      let (bits, bits_at) : (bits : List Bool) × (slice_get labels place ≡ Some bits)
-      = item_at labels place (omega (arith, each, below)) in
-      let (entry, entry_at) : (entry : E) × (slice_get looked place ≡ Some entry)
-      = item_at looked place (omega (arith, many, each, below)) in
-      let is : SeenPort = record { weight = port.weight; label = bits } in
-      let same : is ≡ shows = same_Some is shows
-      (sym (port_shown rows labels ports p port place bits port_at (port_placed p port port_at)
-      bits_at) ∙ at) in
-      ap (option_and_then kept) entry_at
-      ∙ kept_there read glance kept labels looked are place bits entry bits_at
-      (sym (get_or_from_slice_get looked place entry entry entry_at))
-      ∙ ap (λ (shows : SeenPort). seen_in read glance shows.label) same
+    -- and of the label of the node above what is seen above
+    pub above_kept : (state : State)
+        → option_map (λ (row : NodeRow). row.state) (slice_get rows i) ≡ Some state
+        → option_and_then kept (option_and_then (slice_get looked)
+        (option_and_then (slice_get places) state.up))
+        ≡ seen_above read glance (map (seen_port (label_of rows labels)) ports) state.up
+    above_kept state state_is = by state.up refl
+      where
+        by : (up : Option ℕ) → state.up ≡ up
+            → option_and_then kept (option_and_then (slice_get looked)
+            (option_and_then (slice_get places) up))
+            ≡ seen_above read glance (map (seen_port (label_of rows labels)) ports) up
+        by None is = refl
+        by (Some up) is =
+            let shown : List SeenPort = map (seen_port (label_of rows labels)) ports in
+            let within = pointer_port state up state_is is in
+            let many : length shown ≡ length ports = length-map ports (seen_port (label_of rows labels)) in
+            let (shows, at) : (shows : SeenPort) × (slice_get shown up ≡ Some shows) =
+            item_at shown up (omega (arith, within, many)) in
+            ap (λ (place : Option ℕ). option_and_then kept (option_and_then (slice_get looked) place))
+            (slice_get-get_or places up 0 (place_for_port up within))
+            ∙ read_there up shows at
+            ∙ sym (ap (option_and_then (λ (port : SeenPort). seen_in read glance port.label)) at)

@@ -1,6 +1,6 @@
 //! Whether rules hold where labels say something, before anything is written.
 
-ghost use Rattle.std.specs.Prelude.{◌≡◌, ◌↔◌, ℕ, ◌<◌, List, length, map, slice_get, Some, IsTrue};
+ghost use Rattle.std.specs.Prelude.{◌≡◌, ◌↔◌, ℕ, ◌<◌, length, map, slice_get, Some, IsTrue};
 ghost use Rattle.pls_model.specs.declared.row.NodeRow.{NodeRow};
 ghost use Rattle.pls_graph.specs.Places.{named_places};
 ghost use Rattle.pls_scheme.specs.Judging.{judged_from};

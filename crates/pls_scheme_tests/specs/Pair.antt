@@ -1,5 +1,5 @@
 -- Two verdicts on one view.
-use Rattle.std.specs.Prelude.{ℕ, ◌+◌, ◌≤◌}
+use Rattle.std.specs.Prelude.{ℕ, ◌+◌}
 use Rattle.std.proofs.Common.{arith}
 use Rattle.pls_model.specs.declared.verdict.Verdict.{Verdict}
 use Rattle.pls_model.specs.declared.verdict.Verdict.TheVariants.{Accept, Reject}

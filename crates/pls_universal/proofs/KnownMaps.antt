@@ -1,13 +1,8 @@
 -- Maps that were decided, and labels that have one of them.
-use Rattle.std.proofs.Common.{◌≡◌, ◌∙◌, ◌<◌, ◌+◌, ◌++◌, ℕ, zero, suc, inl, inr, Bool, List, [], ◌∷◌, length, option_map, slice_get, Option, Some, refl, sym, ap, subst, arith, length-append}
+use Rattle.std.proofs.Common.{◌≡◌, ◌∙◌, ◌<◌, ◌+◌, ◌++◌, ℕ, zero, suc, inl, inr, Bool, List, [], ◌∷◌, length, slice_get, Option, Some, refl, sym, ap, subst, arith, length-append}
 use Rattle.std.proofs.lemmas.Bool.{cases_lt}
-use Rattle.std.proofs.lemmas.Option.{same_Some, slice_get-map, slice_get_within}
+use Rattle.std.proofs.lemmas.Option.{same_Some, slice_get_within}
 use Rattle.pls_model.specs.declared.row.NodeRow.{NodeRow}
-use Rattle.pls_model.specs.Configuration.{IsNetwork}
-use Rattle.pls_graph.proofs.Placed.{place_of_row}
-use Rattle.pls_view.specs.Seen.{Seen, label_of, seen, views}
-use Rattle.pls_view.proofs.Views.{label_at}
-use Rattle.pls_facts.proofs.Lists.{item_at}
 use Rattle.pls_universal.specs.declared.deciding.DecidedMap.{DecidedMap}
 use Rattle.pls_universal.specs.declared.deciding.DecidedMaps.{DecidedMaps}
 use Rattle.pls_universal.specs.declared.map.MapRow.{MapRow}
@@ -96,19 +91,3 @@ module _ (takes : List Bool → Option (ℕ × List Bool)) (test : List NodeRow 
       at = rw maps (here-behind old.maps.items map);
       found = found;
     }
-
--- the own label of a view is that of its node
-pub own_at : (rows : List NodeRow) (labels : List (List Bool)) (i : ℕ) (view : Seen)
-    → IsNetwork rows → length labels ≡ length rows → i < length rows
-    → slice_get (views rows labels) i ≡ Some view → slice_get labels i ≡ Some view.own
-own_at rows labels i view net each within shows =
-    let (row, at) : (row : NodeRow) × (slice_get rows i ≡ Some row) = item_at rows i within in
-    let (bits, has) : (bits : List Bool) × (slice_get labels i ≡ Some bits) =
-    item_at labels i (omega (arith, each, within)) in
-    let own : label_of rows labels row.id ≡ bits =
-    label_at rows labels row.id i bits (place_of_row rows net i row at) has in
-    let same : seen (label_of rows labels) row ≡ view = same_Some (seen (label_of rows labels) row)
-    view
-    (sym (slice_get-map (seen (label_of rows labels)) rows i
-    ∙ ap (option_map (seen (label_of rows labels))) at) ∙ shows) in
-    has ∙ ap Some (sym own ∙ ap (λ (view : Seen). view.own) same)

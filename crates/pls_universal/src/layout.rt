@@ -1,6 +1,6 @@
 //! How labels of the universal scheme are written.
 
-ghost use Rattle.std.specs.Prelude.{◌≡◌, OnOk};
+ghost use Rattle.std.specs.Prelude.{OnOk};
 ghost use Rattle.std.specs.List.{flat_map};
 ghost use Rattle.pls_scheme.specs.Numbers.{AreCoded};
 ghost use Rattle.pls_universal.specs.Map.{numbers_of_label, numbers_of_port, numbers_of_row};

@@ -1,6 +1,6 @@
 //! The labels with the map of a network.
 
-ghost use Rattle.std.specs.Prelude.{◌≡◌, List, length, IfOk, OnOk};
+ghost use Rattle.std.specs.Prelude.{List, IfOk, OnOk};
 ghost use Rattle.pls_scheme.specs.Marked.{IsMarkedBy};
 ghost use Rattle.pls_scheme.specs.Numbers.{AreCodesOf};
 ghost use Rattle.pls_universal.specs.declared.map.MapRow.{MapRow};

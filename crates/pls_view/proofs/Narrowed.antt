@@ -1,14 +1,16 @@
 -- Views under labels that are parts of others, and what holds of each label that a node sees.
-use Rattle.std.proofs.Common.{◌≡◌, ◌∙◌, ℕ, ◌==◌, ◌<◌, Bool, List, [], ◌∷◌, length, map, get_or, position, Option, Some, None, option_map, All, Contains, refl, sym, ap, subst, arith}
+use Rattle.std.proofs.Common.{◌≡◌, ◌∙◌, ℕ, ◌==◌, Bool, List, [], ◌∷◌, length, map, get_or, position, Option, Some, None, option_map, All, Contains, refl, sym, ap, subst}
 use Rattle.std.specs.Prelude.{slice_get, unwrap_or, option_and_then}
-use Rattle.std.proofs.lemmas.Option.{slice_get-get_or, slice_get-map, slice_get_within}
+use Rattle.std.proofs.lemmas.Option.{get_or_from_slice_get, slice_get-get_or, slice_get-map, slice_get_within}
 use Rattle.std.proofs.lemmas.List.Elements.{All-map}
 use Rattle.pls_model.specs.declared.row.NodeRow.{NodeRow}
 use Rattle.pls_model.specs.declared.row.Port.{Port}
-use Rattle.pls_model.specs.Configuration.{IsNetwork, row_of}
+use Rattle.pls_model.specs.Configuration.{IsNetwork}
 use Rattle.pls_graph.proofs.Members.{place_from_Contains}
-use Rattle.pls_graph.proofs.Placed.{neighbour_found, place_of_row, row_place}
-use Rattle.pls_view.proofs.Views.{label_at}
+use Rattle.pls_graph.specs.Places.{beside}
+use Rattle.pls_graph.proofs.Beside.{beside_port}
+use Rattle.pls_graph.proofs.Placed.{place_of_row}
+use Rattle.pls_view.proofs.Views.{label_stands}
 use Rattle.pls_view.specs.Seen.{EachFits, SeenPort, label_of, narrow_by, narrow_port, seen, seen_port, views}
 
 module _ (narrowed : List Bool → List Bool) (empty : narrowed [] ≡ []) where
@@ -60,30 +62,22 @@ module _ (narrowed : List Bool → List Bool) (empty : narrowed [] ≡ []) where
 -- what holds of each label holds of that of each node of a network, and so of each that a node sees
 module _ (rows : List NodeRow) (net : IsNetwork rows) (labels : List (List Bool))
     (each : length labels ≡ length rows) (P : List Bool → Type 0) (all : All P labels) where
-  at_row : (i : ℕ) (row : NodeRow) → slice_get rows i ≡ Some row → P (label_of rows labels row.id)
-  at_row i row at =
-      let within : i < length labels = omega (arith, slice_get_within rows i row at, each) in
-      subst P (sym (label_at rows labels row.id i (get_or labels i [])
-      (place_of_row rows net i row at) (slice_get-get_or labels i [] within)))
-      (all i [] within)
-
-  at_port : (i : ℕ) (row : NodeRow) → slice_get rows i ≡ Some row → (p : ℕ) (port : Port)
-      → slice_get row.ports p ≡ Some port → P (label_of rows labels port.nbr)
-  at_port i row at p port has =
-      let other : (other : NodeRow) × (row_of rows port.nbr ≡ Some other) =
-      neighbour_found rows net i row at p port has in
-      let there : (j : ℕ) × (slice_get rows j ≡ Some other.0) × (port.nbr ≡ other.0.id) =
-      row_place rows net port.nbr other.0 other.1 in
-      subst (λ (id : ℕ). P (label_of rows labels id)) (sym there.2) (at_row there.0 other.0 there.1)
+  placed_fits : (id i : ℕ) → position (λ row. id == row.id) rows ≡ Some i → P (label_of rows labels id)
+  placed_fits id i place =
+      let stands = label_stands rows labels each id i place in
+      subst P (get_or_from_slice_get labels i (label_of rows labels id) [] stands)
+      (all i [] (slice_get_within labels i (label_of rows labels id) stands))
 
   pub seen_fits : (row : NodeRow) → Contains rows row
       → EachFits P (seen (label_of rows labels) row)
   seen_fits row in' =
       let place : (i : ℕ) × (slice_get rows i ≡ Some row) = place_from_Contains rows row in' in
       record {
-        own = at_row place.0 row place.1;
+        own = placed_fits row.id place.0 (place_of_row rows net place.0 row place.1);
         ports = All-map (λ (port : SeenPort). P port.label) (seen_port (label_of rows labels))
             row.ports
-            (λ p d within. at_port place.0 row place.1 p (get_or row.ports p d)
-            (slice_get-get_or row.ports p d within));
+            (λ p d within. placed_fits (get_or row.ports p d).nbr (get_or (beside rows place.0) p 0)
+            (beside_port rows net place.0 p row.ports (get_or row.ports p d) 0
+            (ap (option_map (λ (row : NodeRow). row.ports)) place.1)
+            (slice_get-get_or row.ports p d within)));
       }

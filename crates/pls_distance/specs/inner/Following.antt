@@ -23,7 +23,7 @@ abbrev pub AreFollowed : List NodeRow → List (Option ℕ) → Type 0
 AreFollowed rows found = (place : ℕ) → IsFollowed rows found place
 
 -- a label for each depth, with the root and the distance at its place
-pub record AreLabels (root : ℕ) (depths : List ℕ) (found : List (Option ℕ))
+pub record AreLabelsSoFar (root : ℕ) (depths : List ℕ) (found : List (Option ℕ))
     (labels : List SptLabel) (count : ℕ) : Type 0 where
   pub each : length labels ≡ count
   pub label : (place : ℕ) (label : SptLabel) → slice_get labels place ≡ Some label

@@ -1,9 +1,9 @@
 //! Texts of labels for a network of three nodes: what is read, and why others are refused.
 
 use super::{line_of, network};
-use pls_base::TextError;
+use pls_base::{Fault, MemSink, TextError};
 use pls_graph::Network;
-use pls_labelfile::{read_labels, write_labels, written_is_read};
+use pls_labelfile::{put_labels, read_labels, write_labels, written_is_read};
 use std::alloc::Global;
 use std::test::Fail;
 
@@ -35,6 +35,39 @@ fn the_text_that_was_read_is_written(rt: HostRuntime) -> Result<(), Fail> {
         read_again(rt.alloc(), &net, text)? == (3, 18),
         "read again"
     );
+    Ok(())
+}
+
+// The text of labels of the three nodes, the first of 20,000 bits.
+fn long_text(alloc: Global) -> Result<String, Fail> {
+    let mut text = String::new(alloc);
+    text.push_str("labels\nlabel 1 20000 ")?;
+    for _ in 0..500 {
+        text.push_str("0123456789")?;
+    }
+    text.push_str("\nlabel 20 0 -\nlabel 21 0 -\nend\n")?;
+    Ok(text)
+}
+
+#[test]
+fn a_long_text_is_written_in_pieces(rt: HostRuntime) -> Result<(), Fail> {
+    let net = network(rt.alloc(), THREE)?;
+    let long = long_text(rt.alloc())?;
+    let text = long.as_bytes();
+    let labels = read_labels(rt.alloc(), text, &net)?;
+    let mut whole = MemSink::new(rt.alloc(), 5100, 4096, Vec::new(rt.alloc()))?;
+    let mut torn = MemSink::new(rt.alloc(), 5100, 4096, vec![in rt.alloc(); 2]?)?;
+    assert!(rt;
+        put_labels(&net, &labels, &mut whole).is_ok(),
+        "all is taken"
+    );
+    assert!(rt; whole.bytes() == text, "the text");
+    assert!(rt;
+        put_labels(&net, &labels, &mut torn) == Err(Fault),
+        "the second write fails"
+    );
+    assert!(rt; text.starts_with(torn.bytes()), "a front of the text");
+    assert!(rt; torn.bytes().len() == 4085, "all that the first write had");
     Ok(())
 }
 

@@ -15,7 +15,7 @@ use Rattle.pls_facts.proofs.Decided.{cases_Edge}
 use Rattle.pls_facts.proofs.Distinct.{decide_Contains}
 use Rattle.pls_facts.proofs.EdgeKeys.{ComesBefore-order, before_outside}
 use Rattle.pls_facts.proofs.PortEdges.{IsGraph-network}
-use Rattle.pls_boruvka.specs.Boruvka.{AreLevelsFrom, IsLevelOf, chosen_edge, chosen_edges}
+use Rattle.pls_boruvka.specs.Boruvka.{AreBoruvkaLevelsFrom, IsLevelOf, chosen_edge, chosen_edges}
 use Rattle.pls_boruvka.specs.declared.level.Level.{Level}
 use Rattle.pls_mst.specs.laws.Fragments.{no_level}
 
@@ -46,9 +46,9 @@ module _ (rows : List NodeRow) (net : IsNetwork rows) (is_tree : IsTree rows)
         IsLevelOf (edges_of rows) joined (ComesBefore tree) (ids_of rows) depth level
 
     -- levels from some joined edges on
-    abbrev AreLevels : List Edge → List (ℕ → Level) → Type 0
-    AreLevels joined levels =
-        AreLevelsFrom (edges_of rows) (ComesBefore tree) (ids_of rows) depth joined levels
+    abbrev AreBoruvkaLevels : List Edge → List (ℕ → Level) → Type 0
+    AreBoruvkaLevels joined levels =
+        AreBoruvkaLevelsFrom (edges_of rows) (ComesBefore tree) (ids_of rows) depth joined levels
 
     module _ (joined : List Edge) (level : ℕ → Level) (is : IsLevel joined level) where
       -- its chosen edges are edges of the tree
@@ -139,7 +139,7 @@ module _ (rows : List NodeRow) (net : IsNetwork rows) (is_tree : IsTree rows)
       pub is : IsLevel joined level
 
     pub stage : (joined : List Edge) (levels : List (ℕ → Level)) → AreOfTree joined
-        → AreLevels joined levels → (i : ℕ) → i < length levels → IsStage (get_or levels i blank)
+        → AreBoruvkaLevels joined levels → (i : ℕ) → i < length levels → IsStage (get_or levels i blank)
     stage joined [] below are i within = absurd (omega (arith, within))
     stage joined (level ∷ levels) below are zero within =
         record { joined = joined; below = below; is = are.0 }
@@ -157,7 +157,7 @@ module _ (rows : List NodeRow) (net : IsNetwork rows) (is_tree : IsTree rows)
 
     -- so it is with each tree edge that is not joined at first
     pub somewhere : (joined : List Edge) (levels : List (ℕ → Level)) → AreOfTree joined
-        → AreLevels joined levels → (edge : Edge) → Contains tree edge
+        → AreBoruvkaLevels joined levels → (edge : Edge) → Contains tree edge
         → (Contains joined edge → ⊥) → IsChosenOn levels edge
     somewhere joined [] below are edge in' out =
         absurd (out (Contains-joining (edges_of rows) tree (ids_of rows) is_tree.spanning

@@ -21,7 +21,7 @@ use Rattle.pls_scheme.specs.Numbers.{AreCoded, AreCodesOf}
 use Rattle.pls_scheme.specs.Theorem.{AreWords}
 use Rattle.pls_scheme.proofs.Fitting.{AreWithin, within_fits}
 use Rattle.pls_facts.proofs.PortEdges.{IsGraph-network}
-use Rattle.pls_boruvka.specs.Boruvka.{AreLevelsFrom, chosen_edge, chosen_edges}
+use Rattle.pls_boruvka.specs.Boruvka.{AreBoruvkaLevelsFrom, chosen_edge, chosen_edges}
 use Rattle.pls_boruvka.specs.declared.level.Level.{Level}
 use Rattle.pls_mst.specs.declared.label.MstLabel.{MstLabel}
 use Rattle.pls_mst.specs.Labels.{AreOrdered, IsMstLabel, IsMstWritable, numbers_of_level, numbers_of_mst}
@@ -105,16 +105,16 @@ module _ (rows : List NodeRow) (net : IsNetwork rows) (words : AreWords (size_of
   module _ (Before : Edge → Edge → Type 0) (depth : ℕ → ℕ) (u : ℕ)
       (known : Contains (ids_of rows) u)
     where
-      abbrev AreLevels : List Edge → List (ℕ → Level) → Type 0
-      AreLevels joined levels =
-          AreLevelsFrom (edges_of rows) Before (ids_of rows) depth joined levels
+      abbrev AreBoruvkaLevels : List Edge → List (ℕ → Level) → Type 0
+      AreBoruvkaLevels joined levels =
+          AreBoruvkaLevelsFrom (edges_of rows) Before (ids_of rows) depth joined levels
 
       -- what levels say of a node
       abbrev said : List (ℕ → Level) → List Level
       said levels = map (λ level. level u) levels
 
       -- the numbers of levels are within their limits
-      pub levels_within : (joined : List Edge) (levels : List (ℕ → Level)) → AreLevels joined levels
+      pub levels_within : (joined : List Edge) (levels : List (ℕ → Level)) → AreBoruvkaLevels joined levels
           → AreWithin (flat_map numbers_of_level (said levels)) (limits_of size (length levels))
           × AreOrdered (said levels)
       levels_within joined [] are = (tt, All-nil (λ (level : Level). level.a < level.b))

@@ -19,7 +19,7 @@ use Rattle.pls_facts.proofs.Neighbours.{neighbour_row}
 use Rattle.pls_facts.proofs.Pointed.{id_of_row, next-row, row_from_id}
 use Rattle.pls_facts.proofs.PointedEdges.{Joins-edge_at, edge_at_listed}
 use Rattle.pls_facts.proofs.PortEdges.{IsAtPort}
-use Rattle.pls_boruvka.specs.Boruvka.{AreLevels, chosen_edge}
+use Rattle.pls_boruvka.specs.Boruvka.{AreBoruvkaLevels, chosen_edge}
 use Rattle.pls_boruvka.specs.declared.level.Level.{Level}
 use Rattle.pls_mst.specs.declared.label.MstLabel.{MstLabel}
 use Rattle.pls_mst.specs.laws.ChosenLevels.{IsChosenOn, IsStage, blank, chosen_by_end, chosen_in, one_chosen, somewhere, stage}
@@ -48,7 +48,7 @@ module _ (rows : List NodeRow) (net : IsNetwork rows) (is_tree : IsTree rows)
     (at_root : (row : NodeRow) → Contains rows row → row.state.up ≡ None → depth row.id ≡ 0)
     (first : ℕ)
     (root_named : (row : NodeRow) → Contains rows row → row.state.up ≡ None → first ≡ row.id)
-    (levels : List (ℕ → Level)) (are : AreLevels rows depth levels)
+    (levels : List (ℕ → Level)) (are : AreBoruvkaLevels rows depth levels)
     (say : ℕ → MstLabel) (said : AreSaid rows say first depth levels) where
   abbrev tree : List Edge
   tree = pointed_edges rows

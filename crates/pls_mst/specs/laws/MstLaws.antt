@@ -25,7 +25,7 @@ use Rattle.pls_facts.proofs.Neighbours.{id_within, neighbour_row}
 use Rattle.pls_facts.proofs.Pointed.{id_of_row}
 use Rattle.pls_facts.proofs.PortEdges.{IsGraph-network}
 use Rattle.pls_facts.proofs.Roots.{a_root, one_root_of}
-use Rattle.pls_boruvka.specs.Boruvka.{AreChainLengths, AreLevelLists, AreLevels}
+use Rattle.pls_boruvka.specs.Boruvka.{AreChainLengths, AreLevelLists, AreBoruvkaLevels}
 use Rattle.pls_boruvka.specs.declared.level.Level.{Level}
 use Rattle.pls_boruvka.proofs.Halving.{few_levels}
 use Rattle.pls_boruvka.proofs.OneAnswer.{one_answer}
@@ -62,7 +62,7 @@ module _ (rows : List NodeRow) (net : IsNetwork rows) where
   -- levels that are of a node are what any levels of the rows say of it
   same_levels : (row : NodeRow) → Contains rows row → (list : List Level)
       → AreLevelsOf rows row.id list → (depth : ℕ → ℕ) (levels : List (ℕ → Level))
-      → AreChainLengths rows depth → AreLevels rows depth levels
+      → AreChainLengths rows depth → AreBoruvkaLevels rows depth levels
       → list ≡ map (λ level. level row.id) levels
   same_levels row in' list of depth levels deep are =
       let (place, at) : (place : ℕ) × (slice_get rows place ≡ Some row) =
@@ -81,7 +81,7 @@ module _ (rows : List NodeRow) (net : IsNetwork rows) where
       say levels row = map (λ level. level row.id) levels
 
       lists_of : (depth : ℕ → ℕ) (levels : List (ℕ → Level)) → AreChainLengths rows depth
-          → AreLevels rows depth levels → AreLevelLists rows (map (say levels) rows)
+          → AreBoruvkaLevels rows depth levels → AreLevelLists rows (map (say levels) rows)
       lists_of depth levels deep are =
           record { depth = depth; levels = levels; deep = deep; are = are; said = refl }
 
@@ -103,7 +103,7 @@ mst_met rows net joined holds say right row in' =
     levels : List (ℕ → Level)
     levels = some.levels
 
-    are : AreLevels rows depth levels
+    are : AreBoruvkaLevels rows depth levels
     are = some.are
 
     falls : Falls rows depth

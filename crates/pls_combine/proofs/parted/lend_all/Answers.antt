@@ -1,5 +1,5 @@
 use Rattle.std.proofs.Common.{◌∙◌}
-use Rattle.pls_combine.proofs.JudgedParts.{take_one_more}
+use Rattle.pls_facts.proofs.Lists.{take_one_more}
 use Rattle.pls_combine.proofs.parted.lend_all.Goals as goal
 
 pub loop-i-preserved : goal.loop-i-preserved

@@ -1,6 +1,6 @@
 use Rattle.std.proofs.Common.{◌≡◌, ◌∙◌, None, Some, inr, sym, ap, refl, subst}
 use Rattle.pls_combine.specs.declared.scheme_error.SchemeError.TheVariants.{NotAScheme, TooDeep, TooMany}
-use Rattle.pls_combine.specs.ExpressionText.{HasTooMany, IsNoExpression, IsTooDeep, expression_text}
+use Rattle.pls_combine.specs.ExpressionText.{HasTooManyNames, IsNoExpression, IsTooDeep, expression_text}
 use Rattle.pls_combine.specs.Expression.{IsSmall}
 use Rattle.pls_combine.specs.inner.ExpressionFronts.{refusal_of}
 use Rattle.pls_combine.specs.inner.Trees.{expression_of}
@@ -48,7 +48,7 @@ returns-in-Some-clause-too_many g c =
     let same = c.as_bytes-bytes.ensures.value in
     let told : Some c.in-Some.error ≡ refusal_of c.args.text.now =
     sym c.in-Some.is ∙ c.refusal_of.ensures ∙ ap refusal_of same in
-    told_cause c.args.text.now TooMany (HasTooMany c.args.text.now) (many_cause c.args.text.now)
+    told_cause c.args.text.now TooMany (HasTooManyNames c.args.text.now) (many_cause c.args.text.now)
     c.in-Some.error told
 
 pub returns-in_err-tree_in-in-None-clause-too_many :
@@ -57,7 +57,7 @@ returns-in_err-tree_in-in-None-clause-too_many g c =
     let same = c.as_bytes-bytes.ensures.value in
     let kept : None ≡ refusal_of c.args.text.now =
     sym c.in-None.is ∙ c.refusal_of.ensures ∙ ap refusal_of same in
-    kept_cause c.args.text.now TooMany (HasTooMany c.args.text.now) (many_cause c.args.text.now)
+    kept_cause c.args.text.now TooMany (HasTooManyNames c.args.text.now) (many_cause c.args.text.now)
     c.from_residual.result kept (memory_not_many c.from_residual.result c.from_residual.ensures.1)
 
 pub returns-in_ok-tree_in-in-None-clause-too_many :
@@ -66,7 +66,7 @@ returns-in_ok-tree_in-in-None-clause-too_many g c =
     let same = c.as_bytes-bytes.ensures.value in
     let kept : None ≡ refusal_of c.args.text.now =
     sym c.in-None.is ∙ c.refusal_of.ensures ∙ ap refusal_of same in
-    kept_cause c.args.text.now TooMany (HasTooMany c.args.text.now) (many_cause c.args.text.now) _ kept
+    kept_cause c.args.text.now TooMany (HasTooManyNames c.args.text.now) (many_cause c.args.text.now) _ kept
     (λ is. absurd (cc))
 
 pub returns-in-Some-clause-refused : goal.returns-in-Some-clause-refused

@@ -1,7 +1,8 @@
 use Rattle.std.proofs.Common.{◌++◌, List, ℕ, codes, decimal, subst}
 use Rattle.pls_report.specs.Report.{rejecting, waiting}
-use Rattle.pls_report.specs.inner.Pieces.{Writes, WroteFront, waiting_tail}
-use Rattle.pls_report.proofs.Written.{both, failed, front_first, front_later, wrote_both}
+use Rattle.pls_base.specs.Gathered.{Writes, WroteFront}
+use Rattle.pls_report.specs.inner.Pieces.{waiting_tail}
+use Rattle.pls_base.proofs.Written.{both, failed, front_first, front_later, wrote_both}
 use Rattle.pls_report.proofs.Texts.{closing_text}
 use Rattle.pls_report.proofs.report.write_closing.Goals as goal
 
@@ -10,17 +11,17 @@ returns g c =
     let rows = c.args.rows.now in
     let tail = waiting_tail c.args.simulated (waiting rows) in
     let front : List ℕ = codes "rejecting " ++ decimal (rejecting rows) in
-    let one = rw c.rejecting.ensures at c.in_ok-put_both.ensures in
+    let one = rw c.rejecting.ensures at c.in_ok-put_numbered.ensures in
     subst (Writes _ _ _ _ _ _ _ _ c.put.result) (closing_text c.args.simulated rows)
     (both _ _ _ _ c.put.result (front ++ tail) (codes "\n")
     (wrote_both front tail one c.in_ok-write_waiting.ensures) c.put.ensures)
 
-pub returns-in_err-put_both : goal.returns-in_err-put_both
-returns-in_err-put_both g c =
+pub returns-in_err-put_numbered : goal.returns-in_err-put_numbered
+returns-in_err-put_numbered g c =
     let rows = c.args.rows.now in
     let tail = waiting_tail c.args.simulated (waiting rows) in
     let front : List ℕ = codes "rejecting " ++ decimal (rejecting rows) in
-    let one = rw c.rejecting.ensures at c.in_err-put_both.ensures in
+    let one = rw c.rejecting.ensures at c.in_err-put_numbered.ensures in
     failed _ _ c.from_residual.result _ c.from_residual.ensures.0
     (subst (WroteFront _ _ _ _ _ _) (closing_text c.args.simulated rows)
     (front_first (front ++ tail) (codes "\n") (front_first front tail one)))
@@ -30,7 +31,7 @@ returns-in_err-write_waiting g c =
     let rows = c.args.rows.now in
     let tail = waiting_tail c.args.simulated (waiting rows) in
     let front : List ℕ = codes "rejecting " ++ decimal (rejecting rows) in
-    let one = rw c.rejecting.ensures at c.in_ok-put_both.ensures in
+    let one = rw c.rejecting.ensures at c.in_ok-put_numbered.ensures in
     failed _ _ c.from_residual-in_err-write_waiting.result _ c.from_residual-in_err-write_waiting.ensures.0
     (subst (WroteFront _ _ _ _ _ _) (closing_text c.args.simulated rows)
     (front_first (front ++ tail) (codes "\n")

@@ -2,8 +2,8 @@ use Rattle.std.proofs.Common.{◌∙◌, ◌+◌, ◌++◌, ◌∷◌, [], List,
 use Rattle.pls_lines.specs.Text.{text_of}
 use Rattle.pls_sim.specs.declared.outcome.Outcome.{Outcome}
 use Rattle.pls_report.specs.Report.{closing_line, node_line}
-use Rattle.pls_report.specs.inner.Pieces.{Writes, Wrote, WroteFront}
-use Rattle.pls_report.proofs.Written.{both, failed, front_first, front_later, wrote_both}
+use Rattle.pls_base.specs.Gathered.{Writes, Wrote, WroteFront}
+use Rattle.pls_base.proofs.Written.{both, failed, front_first, front_later, wrote_both}
 use Rattle.pls_report.proofs.Texts.{lines_closed, lines_more, lines_rest}
 use Rattle.pls_report.proofs.report.write_lines.Goals as goal
 

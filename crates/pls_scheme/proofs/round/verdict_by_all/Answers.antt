@@ -148,8 +148,7 @@ returns g c view at =
     c.glance_above-above.ensures
     ∙ above_kept rows c.node-id.ensures.valid c.args.i ports c.ports-ports.ensures places
     c.places-places.ensures.places said glance g.E.Kept.kept labels c.args.looked.now
-    c.requires.looked c.requires.each c.places-places.ensures.within node.1
-    c.node-id.ensures.state in
+    c.requires.looked c.requires.each node.1 c.node-id.ensures.state in
     let over = c.loop-p-test.false in
     subst (λ (view : Seen). c.close.result ≡ judge_by said rules view)
     (is_shown rows labels c.args.i node.0 node.1 bits ports view

@@ -58,8 +58,7 @@ returns-then-are_read g c view at =
     c.glance_above-above.ensures
     ∙ above_kept rows c.node-id.ensures.valid c.args.i ports c.ports-ports.ensures places
     c.places-places.ensures.places said glance g.E.Kept.kept labels c.args.looked.now
-    c.requires.looked c.requires.each c.places-places.ensures.within node.1
-    c.node-id.ensures.state in
+    c.requires.looked c.requires.each node.1 c.node-id.ensures.state in
     subst (λ (view : Seen). c.in_ok-verdict.verdict ≡ judge_by said rules view)
     (is_shown rows labels c.args.i node.0 node.1 bits ports view
     c.node-id.ensures.id c.node-id.ensures.state c.ports-ports.ensures
@@ -72,7 +71,7 @@ returns-then-are_read g c view at =
     (λ k port below there.
     ap is_some (sym (read_there rows c.node-id.ensures.valid c.args.i ports c.ports-ports.ensures
     places c.places-places.ensures.places said glance g.E.Kept.kept labels c.args.looked.now
-    c.requires.looked c.requires.each c.places-places.ensures.within k port there))
+    c.requires.looked c.requires.each k port there))
     ∙ c.are_read.ensures.read c.if-are_read.true k
     (place_for_port rows c.node-id.ensures.valid c.args.i ports c.ports-ports.ensures places
     c.places-places.ensures.places k
@@ -110,4 +109,4 @@ returns-else-are_read g c view at =
     (unread said glance shown c.in_ok-glance.glance.now own rules p port there
     (sym none ∙ read_there rows c.node-id.ensures.valid c.args.i ports c.ports-ports.ensures
     places c.places-places.ensures.places said glance g.E.Kept.kept labels c.args.looked.now
-    c.requires.looked c.requires.each c.places-places.ensures.within p port there))
+    c.requires.looked c.requires.each p port there))

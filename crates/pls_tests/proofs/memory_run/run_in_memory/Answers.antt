@@ -1,4 +1,4 @@
-use Rattle.std.proofs.Common.{◌≡◌, Some, ap, inr, arith}
+use Rattle.std.proofs.Common.{Some, ap, inr, arith}
 use Rattle.pls_tests.proofs.memory_run.run_in_memory.Goals as goal
 
 pub returns-clause-text : goal.returns-clause-text

@@ -1,38 +1,44 @@
-use Rattle.std.proofs.Common.{◌≡◌, ◌+◌, ◌*◌, ◌∙◌, arith, drop}
-use Rattle.std.proofs.lemmas.List.{take_rest}
-use Rattle.pls_bits.proofs.PaddedText.{all_digits, no_word, one_word_more}
+use Rattle.std.proofs.Common.{◌*◌, ◌++◌, ◌∙◌, List, ℕ, ap, append-nil, arith, sym}
+use Rattle.std.proofs.lemmas.List.{length-take, take_all}
+use Rattle.pls_bits.specs.Hex.{hex_digits}
+use Rattle.pls_bits.proofs.PaddedText.{one_word_more}
+use Rattle.pls_bits.proofs.Text.{length-hex_digits}
 use Rattle.pls_bits.proofs.bits.Bits.append_hex_to.Goals as goal
 
 pub loop-k-init : goal.loop-k-init
 loop-k-init c = record {
-  text = no_word c.reserve.new.self.items c.args.self.now;
+  text = sym (append-nil c.reserve.new.self.items);
   long = omega arith;
   room = omega (arith, c.in_ok-reserve.ensures.ok);
 }
 
 pub loop-k-preserved : goal.loop-k-preserved
 loop-k-preserved c =
-    let bits = c.args.self.now in
-    let k = c.loop-k.k in
-    let rest : c.cursor.result ≡ drop (64 * k) bits =
-    c.cursor.ensures ∙ c.cut.ensures ∙ rw c.len-len.ensures (take_rest bits (64 * k)) in record {
-      text = rw (c.in_ok-extend_from_slice.ensures.items, c.word_digits.ensures)
-          (one_word_more c.reserve.new.self.items c.loop-k.text.items bits k c.peek-word.result
-          (omega (arith, c.loop-k-test.true, c.len-len.ensures, c.div_ceil-words.ensures))
-          (rw (← rest) c.peek-word.ensures) c.loop-k.invariant.text);
-      long = omega (arith, c.in_ok-extend_from_slice.ensures.len, c.loop-k.invariant.long);
+    let digits = c.hex_word-count.ensures.digits in record {
+      text = c.in_ok-extend_from_slice.ensures.items
+          ∙ one_word_more c.reserve.new.self.items c.loop-k.text.items _
+          (hex_digits c.args.self.now) c.loop-k.k c.loop-k.invariant.text digits;
+      long = omega (
+        arith,
+        c.in_ok-extend_from_slice.ensures.len,
+        c.loop-k.invariant.long,
+        c.hex_word-count.ensures.within,
+        length-take c.hex_word-count.result.1 c.hex_word-count.result.0,
+      );
       room = omega (arith, c.in_ok-extend_from_slice.ensures.capacity, c.loop-k.invariant.room);
     }
 
 pub returns-clause-appended : goal.returns-clause-appended
 returns-clause-appended c =
-    let bits = c.args.self.now in
-    let words = c.div_ceil-words.ensures in
-    let len = c.len-len.ensures in
+    let digits = hex_digits c.args.self.now in
+    let all =
+    take_all (16 * c.loop-k.k) digits
+    (omega (
+      arith,
+      length-hex_digits c.args.self.now,
+      c.loop-k-test.false,
+      c.len.ensures,
+      c.div_ceil-words.ensures,
+    )) in
     let text = rw c.in_ok-reserve.ensures.items at c.loop-k.invariant.text in
-    let end = c.len.result + 2 * c.byte_count_of.result in
-    c.truncate.ensures.items
-    ∙ all_digits c.args.text.now.items c.loop-k.text.items bits c.loop-k.k end
-    (omega (arith, c.len.ensures, c.byte_count_of.ensures, len))
-    (omega (arith, c.loop-k-test.false, words, len))
-    (omega (arith, c.loop-k.auto.k-end, words, len)) text
+    text ∙ ap (λ (digits : List ℕ). c.args.text.now.items ++ digits) all

@@ -1,6 +1,6 @@
 use Rattle.std.proofs.Common.{◌≡◌, ◌∙◌, ◌==◌, ℕ, List, Option, None, Some, true, false, length, position, sym, subst}
 use Rattle.pls_model.specs.declared.row.NodeRow.{NodeRow}
-use Rattle.pls_distance.specs.inner.Following.{AreFollowed, AreLabels}
+use Rattle.pls_distance.specs.inner.Following.{AreFollowed, AreLabelsSoFar}
 use Rattle.pls_distance.proofs.Followed.{followed_right, followed_shortest, root_place, shortest_followed}
 use Rattle.pls_distance.proofs.spt_scheme.SptRulesMarker.right_labels.Goals as goal
 
@@ -58,11 +58,11 @@ returns-clause-right g c =
     let followed : AreFollowed rows found =
     subst (AreFollowed rows) c.deref.ensures.value
     (c.follow_pointers.ensures.0 c.if-not-follow_pointers.false) in
-    let made : AreLabels c.in-Some.root c.in-Some.depths.items found c.in_ok-labels.labels.items
+    let made : AreLabelsSoFar c.in-Some.root c.in-Some.depths.items found c.in_ok-labels.labels.items
     (length c.in-Some.depths.items) =
-    subst (λ (found : List (Option ℕ)). AreLabels c.in-Some.root c.in-Some.depths.items found
+    subst (λ (found : List (Option ℕ)). AreLabelsSoFar c.in-Some.root c.in-Some.depths.items found
     c.in_ok-labels.labels.items (length c.in-Some.depths.items)) c.deref-3.ensures.value
-    (subst (λ (depths : List ℕ). AreLabels c.in-Some.root depths c.deref-3.result.now
+    (subst (λ (depths : List ℕ). AreLabelsSoFar c.in-Some.root depths c.deref-3.result.now
     c.in_ok-labels.labels.items (length depths)) c.deref-2.ensures.value c.in_ok-labels.ensures) in
     followed_right rows c.root_and_depths.ensures.valid c.requires tree c.in-Some.root only
     c.in-Some.depths.items deep c.in-Some-place_of.place is found c.in_ok-found.ensures

@@ -1,10 +1,10 @@
 use Rattle.std.proofs.Common.{◌∙◌, ◌+◌, arith}
 use Rattle.pls_view.specs.Seen.{views}
+use Rattle.pls_view.proofs.Views.{own_at}
 use Rattle.pls_facts.proofs.Lists.{map-take_more}
 use Rattle.pls_scheme.specs.Reading.{judge_by}
 use Rattle.pls_universal.specs.Reading.{map_label}
 use Rattle.pls_universal.specs.Rules.{map_rules}
-use Rattle.pls_universal.proofs.KnownMaps.{own_at}
 use Rattle.pls_universal.proofs.map_of.MapOfChecker.round.Goals as goal
 
 pub loop-i-init : goal.loop-i-init
@@ -17,9 +17,8 @@ loop-i-init g c = record {
 
 pub verdict_at-requires-clause-at : goal.verdict_at-requires-clause-at
 verdict_at-requires-clause-at g c =
-    own_at c.args.net.now (g.L.Labels.listed c.args.labels.now) c.loop-i.i c.in_ok-view.view c.is_valid.ensures
-    c.requires (omega (arith, c.loop-i-test.true, c.len-i-end.ensures.len))
-    c.in_ok-view.ensures.shows
+    own_at c.args.net.now c.is_valid.ensures (g.L.Labels.listed c.args.labels.now) c.requires c.loop-i.i
+    c.in_ok-view.view c.in_ok-view.ensures.shows
 
 pub returns-in_err-verdict-clause-few_steps : goal.returns-in_err-verdict-clause-few_steps
 returns-in_err-verdict-clause-few_steps g c =

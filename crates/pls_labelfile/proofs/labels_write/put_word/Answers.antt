@@ -1,7 +1,7 @@
 use Rattle.pls_labelfile.proofs.LabelsWritten.{word_of_some}
-use Rattle.pls_labelfile.proofs.labels_write.write_word.Goals as goal
+use Rattle.pls_labelfile.proofs.labels_write.put_word.Goals as goal
 
 pub returns : goal.returns
-returns c =
+returns g c =
     rw (word_of_some c.args.bits.now (λ none. let no = c.if-is_empty.ensures.1 none in cc no))
-    c.append_hex_to.ensures.appended
+    c.put_digits.ensures

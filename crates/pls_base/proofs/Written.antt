@@ -6,7 +6,7 @@ use Rattle.std.proofs.KnownBytes.{Appends-trans}
 use Rattle.std.proofs.Math.Seq.{take-append-add}
 use Rattle.std.proofs.lemmas.List.{take-append-le}
 use Rattle.pls_base.specs.Streams.{AppendsPart, Rose, StaysSure}
-use Rattle.pls_report.specs.inner.Pieces.{Writes, Wrote, WroteFront}
+use Rattle.pls_base.specs.Gathered.{Writes, Wrote, WroteFront}
 
 appends_nothing : (old : Option (List ℕ)) → Appends old old []
 appends_nothing None = tt

@@ -1,6 +1,6 @@
 use Rattle.std.proofs.Common.{◌∙◌, []}
-use Rattle.pls_report.proofs.Written.{alone, both}
-use Rattle.pls_report.proofs.gathered.Gathered.put.Goals as goal
+use Rattle.pls_base.proofs.Written.{alone, both}
+use Rattle.pls_base.proofs.gathered.Gathered.put.Goals as goal
 
 pub returns : goal.returns
 returns g c =

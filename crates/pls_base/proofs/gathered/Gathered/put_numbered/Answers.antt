@@ -1,6 +1,6 @@
 use Rattle.std.proofs.Common.{decimal}
-use Rattle.pls_report.proofs.Written.{both, failed, front_first}
-use Rattle.pls_report.proofs.pieces.put_both.Goals as goal
+use Rattle.pls_base.proofs.Written.{both, failed, front_first}
+use Rattle.pls_base.proofs.gathered.Gathered.put_numbered.Goals as goal
 
 pub returns : goal.returns
 returns g c =
