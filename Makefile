@@ -1,11 +1,14 @@
 # The toolchain's command `rt` is expected on the path.
 #
 #   make run    runs `verify bipartite` on examples/two-nodes.txt
-#   make pls    proves all that the program stands on, builds it, and leaves it as ./pls
+#   make pls    proves all that the program stands on, several crates side by side, builds it, and
+#               leaves it as ./pls
 #   make test   the gate: every proof, every edit that must be refused, every test and the program
+#   make believed   writes the definitions that the clauses of `run` rest on to out/believed.md, and
+#                   prints how many lines each clause has of them
 #   make examples   runs each command that the documents show, and compares what it writes
 
-.PHONY: run test examples
+.PHONY: run test believed examples
 
 SOURCES := Makefile crates.txt $(shell find crates -path '*/out' -prune -o -type f \( -name '*.rt' -o -name '*.antt' \) -print)
 
@@ -25,11 +28,15 @@ run:
 # The program is run without words, and answers `usage`.
 pls: $(SOURCES)
 	rm -f pls crates/pls_main/out/pls_main
+	python3 tools/prove pls_main
 	cd crates/pls_main && rt run < /dev/null > /dev/null; test -x out/pls_main
 	cp crates/pls_main/out/pls_main pls
 
 test:
 	.ci/run
+
+believed:
+	@python3 tools/believed -o out/believed.md
 
 # Needs ./pls, a shell and awk.
 examples: pls

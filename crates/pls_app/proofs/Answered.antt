@@ -1,55 +1,39 @@
 -- Which answers belong to which words and bytes.
-use Rattle.std.proofs.Common.{◌≡◌, ◌≢◌, ℕ, ◌+◌, ◌≤◌, Bool, true, false, List, length, Option, Some, None, IfOk, inl, inr, Result, Ok, Err, OnOk, ap, subst, refl, arith, ◌∙◌, ◌⊎◌, if◌then◌else◌, sym}
+use Rattle.std.proofs.Common.{◌≡◌, ◌≢◌, ◌∙◌, ℕ, ◌+◌, Bool, true, false, List, [], Option, Some, None, IfOk, inl, inr, Result, Ok, Err, OnOk, ap, subst, refl, sym, arith, if◌then◌else◌}
 use Rattle.std.specs.Io.KnownBytes.{Appends}
 use Rattle.pls_base.specs.declared.text_error.TextError.{TextError}
 use Rattle.pls_base.specs.declared.text_error.TextError.TheVariants.{Limit, NoMemory}
 use Rattle.pls_base.specs.declared.text_error.Quantity.TheVariants.{Input as InputBytes}
 use Rattle.pls_base.specs.Streams.{LosesFirst}
+use Rattle.pls_model.specs.Walk.{IsConnected}
 use Rattle.pls_model.specs.declared.status.Status.{Status}
 use Rattle.pls_model.specs.declared.status.Status.TheVariants.{Done, No, Refused, Limit as OverLimit}
 use Rattle.pls_report.specs.Report.{all_accept}
+use Rattle.pls_property.specs.Expression.{Expression}
+use Rattle.pls_model.specs.declared.limits.TheConstants.{MAX_INPUT}
+use Rattle.pls_inputs.specs.Parts.{Input, nothing, rows_in}
+use Rattle.pls_inputs.specs.Order.{IsInput, IsNoInput}
 use Rattle.pls_app.specs.declared.command.Command.{Command}
-use Rattle.pls_app.specs.declared.command.Command.TheVariants.{With}
+use Rattle.pls_app.specs.declared.command.Command.TheVariants.{With, Trial}
 use Rattle.pls_app.specs.declared.command.Task.{Task}
 use Rattle.pls_app.specs.declared.command.Task.TheVariants.{Mark, Verify, Simulate, Recheck, Bound}
-use Rattle.pls_combine.specs.Expression.{Expression}
-use Rattle.pls_app.specs.declared.limits.TheConstants.{MAX_INPUT}
-use Rattle.pls_app.specs.Command.{IsCommand, parts_of, shape_of}
+use Rattle.pls_app.specs.Command.{IsCommand, IsUsage, parts_of}
 use Rattle.pls_app.specs.Reports.{ends_well}
-use Rattle.pls_app.specs.Input.{Input, IsInput}
-use Rattle.pls_app.specs.Order.{IsRefused, work_refusal}
-use Rattle.pls_app.specs.Answer.{Answer, Answers, TaskYields, Yields, refusal, task_outcomes, usage}
+use Rattle.pls_app.specs.Said.{Answer}
+use Rattle.pls_app.specs.Answer.{Answers, IsAnswer, IsApart, IsRefused, Reads, Yields, outcomes_in, refusal, usage}
+use Rattle.pls_app.specs.Trial.{IsTrialAnswer}
+use Rattle.pls_app.specs.Run.{IsAnswered, IsJudged, IsRefusalStatus, Tells, TellsRefusal}
 use Rattle.pls_app.specs.inner.Tasks.{Does}
-use Rattle.pls_app.specs.declared.request.Request.{Request}
-use Rattle.pls_app.specs.declared.request.Request.TheVariants.{Reading, Trial}
-use Rattle.pls_app.specs.Trial.{IsTrial, IsTrialAnswer, IsUsage}
-use Rattle.pls_app.specs.Words.{AnswersRequest, IsAnswer, IsRequest}
-use Rattle.pls_app.proofs.Commands.{no_trial, one_command}
-use Rattle.pls_app.specs.inner.Scanned.{Refuses}
-use Rattle.pls_app.specs.Run.{IsAnswered, IsRefusalStatus, Tells, TellsRefusal}
+use Rattle.pls_app.proofs.Commands.{one_command}
 use Rattle.pls_app.proofs.OneAnswer.{one_answer}
 
 -- more bytes than the limit are refused
-pub too_long : (command : Command) (old new : Option (List ℕ)) (bytes : List ℕ)
-    → LosesFirst old new (MAX_INPUT + 1) → old ≡ Some bytes → IsRefused command bytes (Limit InputBytes)
-too_long command old new bytes lost told =
+pub too_long : (task : Task) (scheme : Expression) (old new : Option (List ℕ)) (bytes : List ℕ)
+    → LosesFirst old new (MAX_INPUT + 1) → old ≡ Some bytes
+    → IsRefused (With task scheme) bytes (Limit InputBytes)
+too_long task scheme old new bytes lost told =
     let here : LosesFirst (Some bytes) new (MAX_INPUT + 1) = rw told at lost in
-    inl (refl, omega (arith, here.0))
-
--- a command answers an input that it does not refuse
-pub worked_answer : (command : Command) (bytes : List ℕ) (input : Input) (answer : Answer)
-    → IsInput (shape_of command) bytes input → work_refusal command input ≡ None
-    → Yields command input answer → Answers command bytes answer
-worked_answer command bytes input answer is accepted yields =
-    inr (record { input = input; is = is; accepted = accepted; yields = yields })
-
--- and one that it refuses
-pub work_refused : (command : Command) (bytes : List ℕ) (input : Input) (error : TextError)
-    (answer : Answer) → IsInput (shape_of command) bytes input
-    → work_refusal command input ≡ Some error → answer ≡ refusal error
-    → Answers command bytes answer
-work_refused command bytes input error answer is refused same =
-    inl (error, inr (inr (record { input = input; is = is; refused = refused })), same)
+    inl (inl (refl, omega (arith, here.0)))
 
 -- an input that is refused is answered so
 pub refused_answer : (command : Command) (bytes : List ℕ) (error : TextError) (answer : Answer)
@@ -64,12 +48,36 @@ usage_answer words bytes none = inl (none, refl)
 -- the answer to a command is the answer to its words
 pub command_answer : (words : List (List ℕ)) (bytes : List ℕ) (command : Command) (answer : Answer)
     → IsCommand words command → Answers command bytes answer → IsAnswer words bytes answer
-command_answer words bytes command answer is answers = inr (Reading command, is, answers)
+command_answer words bytes command answer is answers = inr (command, is, answers)
+
+-- no bytes are the input of a command that has no parts
+abbrev blank : Input
+blank = record { network = None; labels = None; schedule = None; edits = None }
+
+blank_is : IsInput nothing [] blank
+blank_is = record {
+  short = omega arith;
+  says = record {
+    has = record { network = tt; labels = tt; schedule = tt; edits = tt };
+    is = refl;
+  };
+  accepted = refl;
+}
+
+-- a network without a node is one whole
+all_joined : IsConnected []
+all_joined = λ u v first second. absurd (omega (arith, first.1))
 
 -- so is the answer to a trial
-pub trial_answer : (words : List (List ℕ)) (bytes : List ℕ) (nodes seed : ℕ) (answer : Answer)
-    → IsTrial words nodes seed → IsTrialAnswer nodes seed answer → IsAnswer words bytes answer
-trial_answer words bytes nodes seed answer is answers = inr (Trial nodes seed, is, answers)
+pub trial_answers : (bytes : List ℕ) (nodes seed : ℕ) (answer : Answer)
+    → IsTrialAnswer nodes seed answer → Answers (Trial nodes seed) bytes answer
+trial_answers bytes nodes seed answer tried =
+    inr (record {
+      input = blank;
+      is = blank_is;
+      takes = record { joined = all_joined; accepted = refl };
+      yields = tried;
+    })
 
 -- the command of the words is one
 pub same_command : (words : List (List ℕ)) (command other : Command) (bytes : List ℕ)
@@ -79,15 +87,27 @@ same_command words command other bytes answer is is_other answers =
     subst (λ (command : Command). Answers command bytes answer)
     (one_command words command other is is_other) answers
 
--- what is refused is answered so
-pub answered_by_refusal : {E : Type 0} (command : Command) (bytes : List ℕ) (error : TextError)
-    (r : Result Answer E) → length bytes ≤ MAX_INPUT
-    → Refuses (shape_of command) bytes error
+-- what is no input is answered so
+pub answered_by_refusal : {E : Type 0} (task : Task) (scheme : Expression) (bytes : List ℕ)
+    (error : TextError) (r : Result Answer E)
+    → (error ≢ NoMemory → IsNoInput (parts_of (With task scheme)) bytes error)
     → IfOk r (λ answer. answer ≡ refusal error) → OnOk r (error ≢ NoMemory)
-    → IfOk r (λ answer. Answers command bytes answer)
-answered_by_refusal command bytes error (Ok answer) short refused says some =
-    refused_answer command bytes error answer (inr (inl (short, refused some))) says
-answered_by_refusal command bytes error (Err e) short refused says some = tt
+    → IfOk r (λ answer. Answers (With task scheme) bytes answer)
+answered_by_refusal task scheme bytes error (Ok answer) refused says some =
+    refused_answer (With task scheme) bytes error answer (inl (refused some)) says
+answered_by_refusal task scheme bytes error (Err e) refused says some = tt
+
+-- so is an input whose network is not one whole
+pub answered_apart : {E : Type 0} (task : Task) (scheme : Expression) (bytes : List ℕ)
+    (input : Input) (error : TextError) (r : Result Answer E)
+    → Reads (With task scheme) bytes input
+    → (error ≢ NoMemory → IsApart (rows_in input) error)
+    → IfOk r (λ answer. answer ≡ refusal error) → OnOk r (error ≢ NoMemory)
+    → IfOk r (λ answer. Answers (With task scheme) bytes answer)
+answered_apart task scheme bytes input error (Ok answer) is apart says some =
+    refused_answer (With task scheme) bytes error answer
+    (inr (input, is, inl (apart some))) says
+answered_apart task scheme bytes input error (Err e) is apart says some = tt
 
 -- the answer to a refusal is told
 pub tells_refusal : (words : List (List ℕ)) (command : Command) (bytes : List ℕ) (error : TextError)
@@ -105,64 +125,52 @@ tells_refusal words command bytes error status old new is refused told =
     }
 
 -- the answer to the words is the answer to their command
-answer_of_command : (words : List (List ℕ)) (bytes : List ℕ) (command : Command) (answer : Answer)
-    → IsCommand words command → IsAnswer words bytes answer → Answers command bytes answer
+pub answer_of_command : (words : List (List ℕ)) (bytes : List ℕ) (command : Command)
+    (answer : Answer) → IsCommand words command → IsAnswer words bytes answer
+    → Answers command bytes answer
 answer_of_command words bytes command answer is answers = elim answers [
-  | inl none ↦ absurd (none.0.no_command command is)
-  | inr found ↦ by found.0 found.1 found.2
+  | inl none ↦ absurd (none.0 command is)
+  | inr found ↦ same_command words found.0 command bytes answer found.1 is found.2
 ]
-  where
-    by : (request : Request) → IsRequest words request → AnswersRequest request bytes answer
-        → Answers command bytes answer
-    by (Reading other) is_other answers =
-        same_command words other command bytes answer is_other is answers
-    by (Trial nodes seed) is_trial answers = absurd (no_trial words command nodes seed is is_trial)
 
--- a task answers what its refusal or its work says
-pub does_answer : (task : Task) (scheme : Expression) (bytes : List ℕ) (input : Input)
-    (answer : Answer) → IsInput (parts_of task) bytes input → Does task scheme input answer
-    → Answers (With task scheme) bytes answer
-does_answer task scheme bytes input answer is does = elim does [
-  | inl refused ↦
-      work_refused (With task scheme) bytes input refused.0 answer is refused.1 refused.2
-  | inr done ↦ worked_answer (With task scheme) bytes input answer is done.0 done.1
+-- a command answers what its refusal or its work says
+pub does_answer : (command : Command) (bytes : List ℕ) (input : Input) (answer : Answer)
+    → Reads command bytes input → Does command input answer → Answers command bytes answer
+does_answer command bytes input answer is does = elim does [
+  | inl refused ↦ inl (refused.0, inr (input, is, refused.1), refused.2)
+  | inr done ↦ inr (record { input = input; is = is; takes = done.0; yields = done.1 })
 ]
 
 -- a report is `Done` or `No`
-report_ends : (all : Bool)
-    → ((if all then Done else No) ≡ Done) ⊎ ((if all then Done else No) ≡ No)
+report_ends : (all : Bool) → IsJudged (if all then Done else No)
 report_ends true = inl refl
 report_ends false = inr refl
 
 -- the status of an answer is that of another that is the same
-ends_so : (answer other : Answer) → answer ≡ other
-    → (other.status ≡ Done) ⊎ (other.status ≡ No) → (answer.status ≡ Done) ⊎ (answer.status ≡ No)
+ends_so : (answer other : Answer) → answer ≡ other → IsJudged other.status → IsJudged answer.status
 ends_so answer other same ends =
-    subst (λ (status : Status). (status ≡ Done) ⊎ (status ≡ No))
-    (sym (ap (λ (answer : Answer). answer.status) same)) ends
+    subst IsJudged (sym (ap (λ (answer : Answer). answer.status) same)) ends
 
 -- what a command answers to an input is `Done` or `No`
-task_ends : (task : Task) (scheme : Expression) (input : Input) (answer : Answer)
-    → TaskYields task scheme input answer → (answer.status ≡ Done) ⊎ (answer.status ≡ No)
-task_ends Mark scheme input answer yields = elim yields [
-  | inl marked ↦ inl (ap (λ (answer : Answer). answer.status) marked.3)
-  | inr lacks ↦ inr (ap (λ (answer : Answer). answer.status) lacks.1)
-]
-task_ends (Verify json) scheme input answer yields =
-    ends_so answer _ yields (report_ends (all_accept (task_outcomes (Verify json) scheme input)))
-task_ends (Simulate json) scheme input answer yields =
-    ends_so answer _ yields (report_ends (all_accept (task_outcomes (Simulate json) scheme input)))
-task_ends Recheck scheme input answer yields =
-    ends_so answer _ yields.2 (report_ends (ends_well yields.0))
-task_ends Bound scheme input answer yields =
-    inl (ap (λ (answer : Answer). answer.status) yields)
-
 yields_end : (command : Command) (input : Input) (answer : Answer) → Yields command input answer
-    → (answer.status ≡ Done) ⊎ (answer.status ≡ No)
-yields_end (With task scheme) input answer yields = task_ends task scheme input answer yields
+    → IsJudged answer.status
+yields_end (With Mark scheme) input answer yields = elim yields [
+  | inl marked ↦ inl (ap (λ (answer : Answer). answer.status) marked.3)
+  | inr fails ↦ inr (ap (λ (answer : Answer). answer.status) fails.1)
+]
+yields_end (With (Verify json) scheme) input answer yields =
+    ends_so answer _ yields (report_ends (all_accept (outcomes_in (With (Verify json) scheme) input)))
+yields_end (With (Simulate json) scheme) input answer yields =
+    ends_so answer _ yields
+    (report_ends (all_accept (outcomes_in (With (Simulate json) scheme) input)))
+yields_end (With Recheck scheme) input answer yields =
+    ends_so answer _ yields.2 (report_ends (ends_well yields.0))
+yields_end (With Bound scheme) input answer yields =
+    inl (ap (λ (answer : Answer). answer.status) yields)
+yields_end (Trial nodes seed) input answer yields = inl yields.ends
 
 -- `Done` and `No` are no refusals
-no_refusal : (status : Status) → (status ≡ Done) ⊎ (status ≡ No) → IsRefusalStatus status → ⊥
+no_refusal : (status : Status) → IsJudged status → IsRefusalStatus status → ⊥
 no_refusal status ends refusal = elim ends [
   | inl done ↦ elim refusal [
     | inl refused ↦ let other : Refused ≡ Done = sym refused ∙ done in cc
@@ -192,4 +200,17 @@ refusal_has_cause words command bytes status old new is told refusal =
       | inr works ↦
           absurd (no_refusal told.answer.status (yields_end command works.input told.answer works.yields)
           (subst IsRefusalStatus told.ends refusal))
+    ]
+
+-- a run on bytes that are not refused ends with what it found
+pub unrefused_judged : (words : List (List ℕ)) (command : Command) (bytes : List ℕ)
+    (status : Status) (old new : Option (List ℕ)) → IsCommand words command
+    → ((error : TextError) → IsRefused command bytes error → ⊥)
+    → Tells words bytes status old new → IsJudged status
+unrefused_judged words command bytes status old new is unrefused told =
+    elim (answer_of_command words bytes command told.answer is told.is) [
+      | inl refused ↦ absurd (unrefused refused.0 refused.1)
+      | inr works ↦
+          subst IsJudged (sym told.ends)
+          (yields_end command works.input told.answer works.yields)
     ]

@@ -1,31 +1,39 @@
--- Labels that `mark` wrote are accepted by `verify`.
-use Rattle.std.proofs.Common.{◌≡◌, ◌∙◌, ℕ, ◌*◌, ◌≤◌, inl, inr, Bool, false, List, [], ◌∷◌, ◌++◌, length, All, None, ap, subst, refl, sym, arith}
+-- Labels that `mark` wrote are read back with their network.
+use Rattle.std.proofs.Common.{◌≡◌, ◌∙◌, ℕ, ◌*◌, ◌≤◌, inl, inr, Bool, false, List, [], ◌∷◌, ◌++◌, length, All, Option, Some, None, append-nil, ap, subst, refl, sym, arith}
+use Rattle.std.specs.Option.{unwrap_or}
 use Rattle.std.proofs.Math.Nat.{suc-mul}
+use Rattle.std.proofs.lemmas.List.{length-map}
 use Rattle.std.proofs.lemmas.List.Elements.{All-head, All-tail}
 use Rattle.std.proofs.lemmas.List.Sums.{sum_by-cons}
+use Rattle.pls_base.specs.declared.text_error.Quantity.TheVariants.{Nodes, Ports, Bits, Labels}
+use Rattle.pls_model.specs.declared.limits.TheConstants.{MAX_BITS, MAX_NODES, MAX_PORTS}
 use Rattle.pls_model.specs.declared.row.NodeRow.{NodeRow}
-use Rattle.pls_graph.specs.Size.{size_of}
-use Rattle.pls_netfile.specs.NetworkText.{network_text}
-use Rattle.pls_view.specs.Labels.{bits_together}
 use Rattle.pls_model.specs.declared.status.Status.TheVariants.{Done}
-use Rattle.pls_app.specs.Command.{parts_of, verify_words}
-use Rattle.pls_app.specs.inner.Tasks.{Does}
-use Rattle.pls_labelfile.specs.declared.limits.TheConstants.{MAX_BITS}
-use Rattle.pls_app.specs.declared.shape.Shape.TheVariants.{Network, Labelled}
-use Rattle.pls_base.specs.declared.text_error.Quantity.TheVariants.{Labels}
-use Rattle.pls_bits.specs.Gamma.{gamma_code, gamma_takes}
-use Rattle.pls_combine.specs.Expression.{Expression, IsSmall, judge_of, longest_of}
+use Rattle.pls_model.specs.Configuration.{first_of, ids_of, ports_in}
+use Rattle.pls_lines.specs.Text.{text_of}
+use Rattle.pls_lines.specs.laws.Fronts.{text_of-append}
+use Rattle.pls_netfile.specs.NetworkText.{AreRows, network_lines, network_text}
+use Rattle.pls_view.specs.Labels.{bits_together}
+use Rattle.pls_labelfile.specs.LabelsText.{AreLabels, labels_lines, named}
+use Rattle.pls_labelfile.specs.LabelsScan.{total_bits}
+use Rattle.pls_labelfile.proofs.Named.{named_no_misfit, net_labels_fit, total_bits-named}
+use Rattle.pls_property.specs.Expression.{Expression}
+use Rattle.pls_schedule.specs.ScheduleText.{AreEvents, schedule_lines}
+use Rattle.pls_edits.specs.EditsText.{AreEdits, edits_lines}
+use Rattle.pls_inputs.specs.Parts.{Has, Input, input_lines, labelled, lines_of, net_labels_text, network, rows_in, with_labels}
+use Rattle.pls_inputs.specs.Order.{IsInput, over, refusals}
+use Rattle.pls_inputs.proofs.Facts.{IsReadable, readable, there}
+use Rattle.pls_inputs.proofs.WithinLimits.{few_of, within}
+use Rattle.pls_app.specs.declared.code_name.CodeName.TheVariants.{Gamma}
 use Rattle.pls_app.specs.declared.command.Command.TheVariants.{With}
 use Rattle.pls_app.specs.declared.command.Task.{Task}
 use Rattle.pls_app.specs.declared.command.Task.TheVariants.{Mark, Verify, Simulate, Recheck, Bound}
-use Rattle.pls_app.specs.Order.{labels_over}
-use Rattle.pls_app.specs.Input.{Input, IsInput, net_labels_text}
-use Rattle.pls_app.specs.Answer.{Answer, Answers, decided_by, report}
-use Rattle.pls_app.specs.Run.{Certifies, IsDone, Shows, ShowsIn}
-use Rattle.pls_app.proofs.Commands.{verify_is}
-use Rattle.pls_app.proofs.LimitsPassed.{few_of}
-use Rattle.pls_app.proofs.Answered.{command_answer, worked_answer}
-use Rattle.pls_app.proofs.Proved.{accepted_report, refused_not_done}
+use Rattle.pls_app.specs.Command.{parts_of}
+use Rattle.pls_app.specs.Meant.{Shows, bound_in, room_in}
+use Rattle.pls_app.specs.Said.{Answer}
+use Rattle.pls_app.specs.Run.{Certifies}
+use Rattle.pls_app.specs.inner.Tasks.{Does, ShowsIn}
+use Rattle.pls_app.proofs.Proved.{refused_not_done}
 use Rattle.pls_app.proofs.TextLengths.{text_fits}
 
 -- labels of at most so many bits each have at most so many times as many bits as there are labels
@@ -44,9 +52,10 @@ together_short most (label ∷ labels) short =
 
 -- marked labels that are not refused have few bits together
 marked_few : (scheme : Expression) (rows : List NodeRow) (labels : List (List Bool))
-    → labels_over scheme rows ≡ None → Shows scheme rows labels → bits_together labels ≤ MAX_BITS
+    → over Labels MAX_BITS (room_in Gamma scheme rows) ≡ None → Shows Gamma scheme rows labels
+    → bits_together labels ≤ MAX_BITS
 marked_few scheme rows labels accepted shows =
-    let longest : ℕ = longest_of gamma_code scheme (size_of rows) in
+    let longest : ℕ = bound_in Gamma scheme rows in
     let each : All (λ label. length label ≤ longest) labels =
     λ place other within. omega (arith, shows.short place other within) in
     let few = few_of Labels MAX_BITS (length rows * longest) accepted in
@@ -54,78 +63,122 @@ marked_few scheme rows labels accepted shows =
     ap (λ (count : ℕ). count * longest) shows.each in
     omega (arith, together_short longest labels each, few, many)
 
+-- nothing refuses a network with its labels
+labelled_accepted : (rows : List NodeRow) (labels : List (List Bool)) → IsReadable rows
+    → length labels ≡ length rows → bits_together labels ≤ MAX_BITS
+    → first_of (refusals (record {
+      network = Some rows;
+      labels = Some (named (ids_of rows) labels);
+      schedule = None;
+      edits = None;
+    })) ≡ None
+labelled_accepted rows labels known each small =
+    let ids : List ℕ = ids_of rows in
+    let many : length labels ≡ length ids =
+    each ∙ sym (length-map rows (λ (row : NodeRow). row.id)) in
+    rw (
+      within Nodes MAX_NODES (length rows) known.network.limits.few_nodes,
+      within Ports MAX_PORTS (ports_in rows) known.network.limits.few_ports,
+      within Bits MAX_BITS (total_bits (named ids labels))
+          (omega (arith, total_bits-named ids labels many, small)),
+      known.network.valid,
+      named_no_misfit ids labels many,
+    ) refl
+
 -- the text of a network and the labels that show its property are an input
 marked_input : (scheme : Expression) (bytes : List ℕ) (input : Input) (labels : List (List Bool))
-    → IsInput Network bytes input → labels_over scheme input.rows ≡ None
-    → Shows scheme input.rows labels
-    → IsInput Labelled (bytes ++ net_labels_text input.rows labels)
-    (record { rows = input.rows; labels = labels; events = []; edits = [] })
+    → IsInput network bytes input
+    → over Labels MAX_BITS (room_in Gamma scheme (rows_in input)) ≡ None
+    → Shows Gamma scheme (rows_in input) labels
+    → IsInput labelled (bytes ++ net_labels_text (rows_in input) labels) (with_labels input labels)
 marked_input scheme bytes input labels is accepted shows =
-    let rows : List NodeRow = input.rows in
-    let text : List ℕ = net_labels_text rows labels in
-    let few = marked_few scheme rows labels accepted shows in
-    let same : bytes ++ text ≡ network_text rows ++ text =
-    ap (λ (front : List ℕ). front ++ text) is.is in
-    let fits = text_fits rows labels is.readable.network is.readable.ranges few in
-    record {
-      short = omega (arith, ap (length {A = ℕ}) same, fits);
-      readable = is.readable;
-      filled = (record { each = shows.each; few = few }, refl, refl);
-      is = same;
-    }
-
--- labels that show the property of a network certify its text
-pub certified : (scheme : Expression) (bytes : List ℕ) (input : Input) (text : List ℕ)
-    → IsSmall scheme → IsInput Network bytes input → labels_over scheme input.rows ≡ None
-    → ShowsIn scheme input.rows text → Certifies scheme bytes text
-certified scheme bytes input text small is accepted shown =
-    let rows : List NodeRow = input.rows in
-    let labels = shown.labels in
-    let mine : List ℕ = net_labels_text rows labels in
-    let read : Input = record { rows = rows; labels = labels; events = []; edits = [] } in
-    let answer : Answer = report false false (decided_by (judge_of gamma_takes scheme) rows labels) in
-    let answers : Answers (With (Verify false) scheme) (bytes ++ mine) answer =
-    worked_answer (With (Verify false) scheme) (bytes ++ mine) read answer
-    (marked_input scheme bytes input labels is accepted shown.shows) refl refl in
-    let verified : IsDone (verify_words scheme) (bytes ++ mine) = record {
-      answer = answer;
-      is = command_answer (verify_words scheme) (bytes ++ mine) (With (Verify false) scheme) answer
-          (verify_is scheme small) answers;
-      done = accepted_report scheme rows labels shown.shows.accepted;
+    let rows : List NodeRow = rows_in input in
+    let known = readable network bytes input is refl in
+    let small = marked_few scheme rows labels accepted shows in
+    let found = there AreRows input.network is.says.has.network in
+    let of_network : input.network ≡ Some rows = found.1
+    ∙ ap Some (sym (ap (λ (network : Option (List NodeRow)). unwrap_or network []) found.1)) in
+    let no_labels : input.labels ≡ None = gone AreLabels input.labels is.says.has.labels in
+    let no_schedule : input.schedule ≡ None = gone AreEvents input.schedule is.says.has.schedule in
+    let no_edits : input.edits ≡ None = gone AreEdits input.edits is.says.has.edits in
+    let whole : Input = record {
+      network = Some rows;
+      labels = Some (named (ids_of rows) labels);
+      schedule = None;
+      edits = None;
     } in
-    record {
-      input = input;
-      labels = labels;
-      is = is;
-      shows = shown.shows;
-      text_is = shown.is;
-      verified =
-          subst (λ (text : List ℕ). IsDone (verify_words scheme) (bytes ++ text)) (sym shown.is)
-          verified;
-    }
+    let same : with_labels input labels ≡ whole = λ i. record {
+      network = of_network i;
+      labels = Some (named (ids_of rows) labels);
+      schedule = no_schedule i;
+      edits = no_edits i;
+    } in
+    let alone : input_lines input ≡ network_lines rows = (λ i.
+    lines_of network_lines (of_network i) ++ (lines_of labels_lines (no_labels i)
+    ++ (lines_of schedule_lines (no_schedule i) ++ lines_of edits_lines (no_edits i))))
+    ∙ append-nil (network_lines rows) in
+    let front : bytes ≡ network_text rows = is.says.is ∙ ap text_of alone in
+    let text : List ℕ = net_labels_text rows labels in
+    let both : bytes ++ text ≡ network_text rows ++ text =
+    ap (λ (front : List ℕ). front ++ text) front in
+    subst (IsInput labelled (bytes ++ text)) (sym same) (record {
+      short = omega (
+        arith,
+        ap (length {A = ℕ}) both,
+        text_fits rows labels known.network known.ranges small,
+      );
+      says = record {
+        has = record {
+          network = known.ranges;
+          labels = net_labels_fit rows labels known.ranges small;
+          schedule = tt;
+          edits = tt;
+        };
+        is = both
+            ∙ sym (text_of-append (network_lines rows) (labels_lines (named (ids_of rows) labels)))
+            ∙ ap (λ (behind : List (List ℕ)). text_of (network_lines rows ++ behind))
+            (sym (append-nil (labels_lines (named (ids_of rows) labels))));
+      };
+      accepted = labelled_accepted rows labels known shows.each small;
+    })
+  where
+    gone : {X : Type 0} (Fits : X → Type 0) (part : Option X) → Has false Fits part → part ≡ None
+    gone Fits None has = refl
+    gone Fits (Some value) has = absurd has
 
 -- what `mark` answered certifies the text of the network
-pub certified_mark : (task : Task) (scheme : Expression) (bytes : List ℕ) (input : Input)
-    (answer : Answer) → IsSmall scheme → IsInput (parts_of task) bytes input
-    → Does task scheme input answer
-    → (task ≡ Mark → answer.status ≡ Done → ShowsIn scheme input.rows answer.text)
-    → (other : Expression) → With task scheme ≡ With Mark other → answer.status ≡ Done
-    → Certifies other bytes answer.text
-certified_mark Mark scheme bytes input answer small is does shows other same done =
-    let schemes : scheme ≡ other = cc in
-    let accepted : labels_over scheme input.rows ≡ None = elim does [
+pub certified : (scheme : Expression) (bytes : List ℕ) (input : Input) (answer : Answer)
+    → IsInput network bytes input → Does (With Mark scheme) input answer
+    → ShowsIn scheme (rows_in input) answer.text → answer.status ≡ Done
+    → Certifies scheme bytes answer.text
+certified scheme bytes input answer is does shown done =
+    let rows : List NodeRow = rows_in input in
+    let accepted : over Labels MAX_BITS (room_in Gamma scheme rows) ≡ None = elim does [
       | inl refused ↦
           absurd (refused_not_done refused.0
           (sym (ap (λ (answer : Answer). answer.status) refused.2) ∙ done))
-      | inr yields ↦ yields.0
+      | inr yields ↦ yields.0.accepted
     ] in
-    subst (λ (scheme : Expression). Certifies scheme bytes answer.text) schemes
-    (certified scheme bytes input answer.text small is accepted (shows refl done))
-certified_mark (Verify json) scheme bytes input answer small is does shows other same done =
-    absurd (cc)
-certified_mark (Simulate json) scheme bytes input answer small is does shows other same done =
-    absurd (cc)
-certified_mark Recheck scheme bytes input answer small is does shows other same done =
-    absurd (cc)
-certified_mark Bound scheme bytes input answer small is does shows other same done =
-    absurd (cc)
+    record {
+      input = input;
+      labels = shown.labels;
+      is = is;
+      shows = shown.shows;
+      text_is = shown.is;
+      read_back =
+          subst (λ (text : List ℕ). IsInput labelled (bytes ++ text)
+          (with_labels input shown.labels)) (sym shown.is)
+          (marked_input scheme bytes input shown.labels is accepted shown.shows);
+    }
+
+-- so it is where the task is `mark`
+pub certified_mark : (task : Task) (scheme : Expression) (bytes : List ℕ) (input : Input)
+    (answer : Answer) → task ≡ Mark → IsInput (parts_of (With task scheme)) bytes input
+    → Does (With task scheme) input answer → ShowsIn scheme (rows_in input) answer.text
+    → answer.status ≡ Done → Certifies scheme bytes answer.text
+certified_mark Mark scheme bytes input answer task is does shown done =
+    certified scheme bytes input answer is does shown done
+certified_mark (Verify json) scheme bytes input answer task is does shown done = absurd (cc)
+certified_mark (Simulate json) scheme bytes input answer task is does shown done = absurd (cc)
+certified_mark Recheck scheme bytes input answer task is does shown done = absurd (cc)
+certified_mark Bound scheme bytes input answer task is does shown done = absurd (cc)

@@ -4,24 +4,24 @@ use Rattle.pls_model.specs.declared.row.NodeRow.{NodeRow}
 use Rattle.pls_model.specs.declared.verdict.Verdict.{Verdict}
 use Rattle.pls_model.specs.declared.status.Status.TheVariants.{Done, No}
 use Rattle.pls_model.specs.Configuration.{IsNetwork}
-use Rattle.pls_model.specs.Walk.{IsConnected}
 use Rattle.pls_base.specs.Steps.{up_by}
-use Rattle.pls_bits.specs.Gamma.{gamma_takes}
 use Rattle.pls_view.specs.Seen.{Seen}
-use Rattle.pls_combine.specs.Expression.{Expression, HasProperty, judge_of}
+use Rattle.pls_property.specs.Expression.{Expression}
 use Rattle.pls_edits.specs.declared.edit_line.EditLine.{EditLine}
 use Rattle.pls_edits.specs.declared.edit_line.EditLine.TheVariants.{Round}
 use Rattle.pls_edits.specs.EditsText.{AreEdits}
 use Rattle.pls_edits.specs.inner.Tally.{is_closed}
 use Rattle.pls_edits.proofs.Counted.{are_closed}
-use Rattle.pls_app.specs.Input.{Input}
+use Rattle.pls_inputs.specs.Parts.{Input, edits_in, labels_in, rows_in}
+use Rattle.pls_app.specs.declared.code_name.CodeName.TheVariants.{Gamma}
+use Rattle.pls_app.specs.Meant.{Holds, judge_in}
 use Rattle.pls_base.specs.declared.text_error.TextError.{TextError}
 use Rattle.pls_base.specs.declared.text_error.TextError.TheVariants.{Sense}
-use Rattle.pls_app.specs.declared.refusal_number.TheConstants.{INAPPLICABLE}
+use Rattle.pls_base.specs.declared.refusal_number.TheConstants.{EDIT}
 use Rattle.pls_app.specs.Inapplicable.{first_refused, inapplicable}
-use Rattle.pls_app.specs.Answer.{Answer, refusal, reported}
+use Rattle.pls_app.specs.Said.{Answer}
+use Rattle.pls_app.specs.Answer.{refusal, reported}
 use Rattle.pls_app.specs.Reports.{Report, ReportInput, Situation, begun, checked_in, edited_by, ends_well}
-use Rattle.pls_app.specs.Run.{HoldsIn, RoseIn}
 use Rattle.pls_app.specs.inner.Rechecking.{Played, Reported, behind_all}
 use Rattle.pls_app.specs.inner.Tasks.{RecheckedIn}
 use Rattle.pls_app.proofs.Proved.{refused_not_done, refused_not_judged, round_holds}
@@ -36,48 +36,46 @@ round_first (edit ∷ edits) closed = closed
 pub all_played : (judge : Seen → Verdict) (input : Input) (mid now : Situation)
     (first reports : List Report) (old asked new : ℕ)
     → Reported judge (begun input) mid [] first old asked
-    → Played judge mid now first reports input.edits asked new
-    → Played judge (begun input) now [] reports (Round ∷ input.edits) old new
+    → Played judge mid now first reports (edits_in input) asked new
+    → Played judge (begun input) now [] reports (Round ∷ (edits_in input)) old new
 all_played judge input mid now first reports old asked new one others =
-    played_more judge (begun input) mid now [] first reports (Round ∷ []) input.edits old asked new
+    played_more judge (begun input) mid now [] first reports (Round ∷ []) (edits_in input) old asked new
     (round_played judge (begun input) mid [] first old asked one) others
 
 module _ (scheme : Expression) (input : Input) (now : Situation) (reports : List Report)
     (old new : ℕ)
-    (played : Played (judge_of gamma_takes scheme) (begun input) now [] reports
-    (Round ∷ input.edits) old new) where
+    (played : Played (judge_in Gamma scheme) (begun input) now [] reports
+    (Round ∷ (edits_in input)) old new) where
   -- these are the reports of the input
-  pub are_reports : ReportInput (judge_of gamma_takes scheme) input reports
+  pub are_reports : ReportInput (judge_in Gamma scheme) input reports
   are_reports =
-      subst (ReportInput (judge_of gamma_takes scheme) input) (sym played.added) played.are
+      subst (ReportInput (judge_in Gamma scheme) input) (sym played.added) played.are
 
   -- and the bench was asked once for each node that they say was checked
-  pub are_asked : RoseIn scheme input old new
-  are_asked = record {
-    reports = reports;
-    are = are_reports;
-    rose = played.asked ∙ ap (λ (all : List Report). up_by (checked_in all) old) (sym played.added);
-  }
+  pub are_asked : (reports : List Report) × ReportInput (judge_in Gamma scheme) input reports
+      × (new ≡ up_by (checked_in reports) old)
+  are_asked = (
+    reports,
+    are_reports,
+    played.asked ∙ ap (λ (all : List Report). up_by (checked_in all) old) (sym played.added),
+  )
 
   -- where all is well in the last, the network has the property after all edits
-  pub all_well : AreEdits input.edits → IsNetwork now.rows → length now.labels ≡ length now.rows
-      → ends_well reports ≡ true → HoldsIn scheme input
+  pub all_well : AreEdits (edits_in input) → IsNetwork now.rows → length now.labels ≡ length now.rows
+      → ends_well reports ≡ true → Holds scheme (edited_by (edits_in input) (rows_in input))
   all_well edits network each well =
-      let judge = judge_of gamma_takes scheme in
-      let ends : EndsIn judge (behind_all (Round ∷ input.edits) (begun input)) =
-      ends_so judge Round input.edits (begun input) 0 reports
-      (round_first input.edits (are_closed input.edits edits)) are_reports well in
+      let judge = judge_in Gamma scheme in
+      let ends : EndsIn judge (behind_all (Round ∷ (edits_in input)) (begun input)) =
+      ends_so judge Round (edits_in input) (begun input) 0 reports
+      (round_first (edits_in input) (are_closed (edits_in input) edits)) are_reports well in
       let here : EndsIn judge now = subst (EndsIn judge) (sym played.is) ends in
-      let rows : now.rows ≡ edited_by input.edits input.rows =
-      ap (λ (now : Situation). now.rows) played.is ∙ rows_after (Round ∷ input.edits) (begun input) in
-      record {
-        connected = subst IsConnected rows here.connected;
-        holds = subst (HasProperty scheme) rows
-            (round_holds scheme now.rows now.labels network here.connected each here.accepted);
-      }
+      let rows : now.rows ≡ edited_by (edits_in input) (rows_in input) =
+      ap (λ (now : Situation). now.rows) played.is ∙ rows_after (Round ∷ (edits_in input)) (begun input) in
+      subst (Holds scheme) rows
+      (round_holds scheme now.rows now.labels network here.connected each here.accepted)
 
   -- so the answer with the reports says
-  pub all_found : AreEdits input.edits → IsNetwork now.rows → length now.labels ≡ length now.rows
+  pub all_found : AreEdits (edits_in input) → IsNetwork now.rows → length now.labels ≡ length now.rows
       → RecheckedIn scheme input (reported reports).status old new
   all_found edits network each = record {
     held = λ done. all_well edits network each (done_well (ends_well reports) done);
@@ -100,35 +98,35 @@ refused_in scheme input error answer old new same =
 -- the same, of what is known to be the parts of the input
 pub played_input : (judge one other : Seen → Verdict) (input : Input) (start mid now : Situation)
     (none first reports : List Report) (edits : List EditLine) (old asked new : ℕ) → one ≡ judge
-    → other ≡ judge → start ≡ begun input → none ≡ [] → edits ≡ input.edits
+    → other ≡ judge → start ≡ begun input → none ≡ [] → edits ≡ (edits_in input)
     → Reported one start mid none first old asked
     → Played other mid now first reports edits asked new
-    → Played judge (begun input) now [] reports (Round ∷ input.edits) old new
+    → Played judge (begun input) now [] reports (Round ∷ (edits_in input)) old new
 played_input judge one other input start mid now none first reports edits old asked new same too
     begins empty are reported played =
     let here : Reported judge (begun input) mid [] first old asked =
     subst (λ (judge : Seen → Verdict). Reported judge (begun input) mid [] first old asked) same
     (subst (λ (start : Situation). Reported one start mid [] first old asked) begins
     (subst (λ (none : List Report). Reported one start mid none first old asked) empty reported)) in
-    let there : Played judge mid now first reports input.edits asked new =
-    subst (λ (judge : Seen → Verdict). Played judge mid now first reports input.edits asked new) too
+    let there : Played judge mid now first reports (edits_in input) asked new =
+    subst (λ (judge : Seen → Verdict). Played judge mid now first reports (edits_in input) asked new) too
     (subst (λ (edits : List EditLine). Played other mid now first reports edits asked new) are played) in
     all_played judge input mid now first reports old asked new here there
 
 -- the first edit that is refused, by the place that was found
 pub refused_lines : (input : Input) (rows : List NodeRow) (labels : List (List Bool))
-    (edits : List EditLine) (line : ℕ) (found : Option ℕ) → rows ≡ input.rows
-    → labels ≡ input.labels → edits ≡ input.edits
+    (edits : List EditLine) (line : ℕ) (found : Option ℕ) → rows ≡ (rows_in input)
+    → labels ≡ (labels_in input) → edits ≡ (edits_in input)
     → ((line : ℕ) → first_refused rows labels line edits ≡ option_map (λ place. line + place) found)
-    → inapplicable input.rows input.labels line input.edits
-    ≡ option_map (λ place. Sense INAPPLICABLE (line + place)) found
+    → inapplicable (rows_in input) (labels_in input) line (edits_in input)
+    ≡ option_map (λ place. Sense EDIT (line + place)) found
 refused_lines input rows labels edits line found same_rows same_labels same_edits each =
-    ap (option_map (λ line. Sense INAPPLICABLE line))
+    ap (option_map (λ line. Sense EDIT line))
     ((λ i. first_refused (sym same_rows i) (sym same_labels i) line (sym same_edits i)) ∙ each line)
     ∙ by found
   where
     by : (found : Option ℕ)
-        → option_map (λ line. Sense INAPPLICABLE line) (option_map (λ place. line + place) found)
-        ≡ option_map (λ place. Sense INAPPLICABLE (line + place)) found
+        → option_map (λ line. Sense EDIT line) (option_map (λ place. line + place) found)
+        ≡ option_map (λ place. Sense EDIT (line + place)) found
     by None = refl
     by (Some place) = refl

@@ -1,26 +1,23 @@
-mod Answered
-mod Asked
-mod Certified
-mod Colons
-mod Commands
-mod Consumed
-mod EventLines
-mod Found
-mod Inputs
-mod LimitsPassed
-mod Lonely
-mod Made
-mod OneAnswer
-mod OneRefusal
-mod Proved
-mod Rechecked
-mod Refused
-mod Rounds
-mod RoundsWritten
-mod Schedules
-mod Sizes
-mod TextLengths
-mod Told
-mod Trials
-mod Whole
-mod Worked
+pub mod Colons
+pub mod Commands
+pub mod Rechecked
+pub mod OneRefusal
+pub mod OneAnswer
+pub mod Answered
+pub mod Proved
+pub mod TextLengths
+pub mod Certified
+pub mod Told
+pub mod Asked
+pub mod Consumed
+pub mod Schedules
+pub mod Found
+pub mod Sizes
+pub mod Trials
+pub mod Rounds
+pub mod RoundsWritten
+pub mod Lonely
+pub mod Worked
+pub mod Decided
+pub mod Verified
+pub mod Values

@@ -1,74 +1,77 @@
 -- Words and bytes have one answer.
-use Rattle.std.proofs.Common.{◌≡◌, ◌∙◌, ℕ, Bool, List, [], ◌∷◌, inl, inr, ap, subst, sym}
+use Rattle.std.proofs.Common.{◌≡◌, ◌∙◌, ℕ, Bool, List, [], ◌∷◌, inl, inr, ap, subst, refl, sym}
 use Rattle.pls_model.specs.declared.row.NodeRow.{NodeRow}
-use Rattle.pls_combine.specs.laws.ExpressionLaws.{expression_marked_once}
-use Rattle.pls_app.specs.declared.command.Command.{Command}
-use Rattle.pls_app.specs.declared.command.Command.TheVariants.{With}
-use Rattle.pls_app.specs.declared.command.Task.{Task}
-use Rattle.pls_app.specs.declared.command.Task.TheVariants.{Mark, Verify, Simulate, Recheck, Bound}
-use Rattle.pls_bits.specs.Gamma.{gamma_code, gamma_takes}
-use Rattle.pls_combine.specs.Expression.{Expression, judge_of}
-use Rattle.pls_edits.specs.declared.edit_line.EditLine.TheVariants.{Round}
-use Rattle.pls_app.proofs.Commands.{no_trial, one_command, one_trial}
-use Rattle.pls_app.specs.Command.{shape_of}
-use Rattle.pls_app.specs.Input.{Input, IsReadable}
-use Rattle.pls_app.specs.Answer.{Answer, Answers, Marks, TaskYields, Works, Yields, labelled, refusal, reported}
-use Rattle.pls_app.specs.Reports.{begun}
-use Rattle.pls_app.specs.declared.request.Request.{Request}
-use Rattle.pls_app.specs.declared.request.Request.TheVariants.{Reading, Trial}
-use Rattle.pls_app.specs.Trial.{IsTrialAnswer, IsUsage, trial_line, tried_scheme}
-use Rattle.pls_app.specs.Words.{AnswersRequest, IsAnswer, IsRequest}
-use Rattle.pls_model.specs.declared.status.Status.{Status}
+use Rattle.pls_model.specs.Configuration.{IsNetwork}
 use Rattle.pls_lines.specs.Text.{text_of}
 use Rattle.pls_trial.specs.Generator.{trial_of}
-use Rattle.pls_app.proofs.Inputs.{one_input}
-use Rattle.pls_app.proofs.OneRefusal.{one_refusal, refused_unread}
+use Rattle.pls_property.specs.Expression.{Expression}
+use Rattle.pls_combine.specs.laws.ExpressionLaws.{expression_marked_once}
+use Rattle.pls_edits.specs.declared.edit_line.EditLine.TheVariants.{Round}
+use Rattle.pls_inputs.specs.Parts.{Input, edits_in, rows_in}
+use Rattle.pls_inputs.proofs.Facts.{readable}
+use Rattle.pls_inputs.proofs.OneInput.{one_input}
+use Rattle.pls_app.specs.declared.code_name.CodeName.{CodeName}
+use Rattle.pls_app.specs.declared.code_name.CodeName.TheVariants.{Gamma}
+use Rattle.pls_app.specs.declared.command.Command.{Command}
+use Rattle.pls_app.specs.declared.command.Command.TheVariants.{With, Trial}
+use Rattle.pls_app.specs.declared.command.Task.TheVariants.{Mark, Verify, Simulate, Recheck, Bound}
+use Rattle.pls_app.specs.Command.{parts_of, read_by}
+use Rattle.pls_app.specs.Meant.{code_of, judge_in}
+use Rattle.pls_app.specs.Reports.{begun}
+use Rattle.pls_app.specs.Said.{Answer}
+use Rattle.pls_app.specs.Answer.{Answers, IsAnswer, Marks, Reads, Yields, labelled, refusal, reported}
+use Rattle.pls_app.specs.Trial.{IsTrialAnswer, trial_line, tried_scheme}
+use Rattle.pls_app.proofs.Commands.{one_command}
+use Rattle.pls_app.proofs.OneRefusal.{one_refusal, refused_untaken}
 use Rattle.pls_app.proofs.Rechecked.{one_reports}
 
 -- the marks of a network have one answer
-one_mark : (scheme : Expression) (rows : List NodeRow) (answer other : Answer) → IsReadable rows
-    → Marks scheme rows answer → Marks scheme rows other → answer ≡ other
-one_mark scheme rows answer other readable one two = elim one [
+one_mark : (code : CodeName) (scheme : Expression) (rows : List NodeRow) (answer other : Answer)
+    → IsNetwork rows → Marks code scheme rows answer → Marks code scheme rows other
+    → answer ≡ other
+one_mark code scheme rows answer other network one two = elim one [
   | inl mine ↦ elim two [
     | inl theirs ↦
         mine.3 ∙ ap (labelled rows)
-        (expression_marked_once gamma_code scheme rows mine.0 theirs.0 readable.network readable.connected
-        mine.1 mine.2
-        theirs.2) ∙ sym theirs.3
-    | inr lacks ↦ absurd (lacks.0 mine.1)
+        (expression_marked_once (code_of code) scheme rows mine.0 theirs.0 network mine.1.joined
+        mine.1.has mine.2 theirs.2) ∙ sym theirs.3
+    | inr fails ↦ absurd (fails.0.lacks mine.1.has)
   ]
-  | inr lacks ↦ elim two [
-    | inl theirs ↦ absurd (lacks.0 theirs.1)
-    | inr too ↦ lacks.1 ∙ sym too.1
+  | inr fails ↦ elim two [
+    | inl theirs ↦ absurd (fails.0.lacks theirs.1.has)
+    | inr too ↦ fails.1 ∙ sym too.1
   ]
 ]
 
+-- a trial has one answer
+one_tried : (nodes seed : ℕ) (answer other : Answer) → IsTrialAnswer nodes seed answer
+    → IsTrialAnswer nodes seed other → answer ≡ other
+one_tried nodes seed answer other one two =
+    let labels : one.labels ≡ two.labels =
+    expression_marked_once (code_of Gamma) tried_scheme (trial_of nodes seed) one.labels two.labels
+    one.valid one.shows.holds.joined one.shows.holds.has one.marked two.marked in
+    let texts : answer.text ≡ other.text =
+    one.text ∙ ap (λ (labels : List (List Bool)). text_of (trial_line (trial_of nodes seed) labels ∷ []))
+    labels ∙ sym two.text in
+    let ends : answer.status ≡ other.status = one.ends ∙ sym two.ends in
+    λ i. record { status = ends i; text = texts i }
+
 -- a command answers an input in one way
-one_task : (task : Task) (scheme : Expression) (input : Input) (answer other : Answer)
-    → IsReadable input.rows → TaskYields task scheme input answer
-    → TaskYields task scheme input other → answer ≡ other
-one_task Mark scheme input answer other readable one two =
-    one_mark scheme input.rows answer other readable one two
-one_task (Verify json) scheme input answer other readable one two = one ∙ sym two
-one_task (Simulate json) scheme input answer other readable one two = one ∙ sym two
-one_task Recheck scheme input answer other readable one two =
-    let same = one_reports (judge_of gamma_takes scheme) (Round ∷ input.edits) (begun input) 0 one.0
+one_yield : (command : Command) (bytes : List ℕ) (input : Input) (answer other : Answer)
+    → Reads command bytes input → Yields command input answer → Yields command input other
+    → answer ≡ other
+one_yield (With Mark scheme) bytes input answer other is one two =
+    one_mark Gamma scheme (rows_in input) answer other
+    (readable (parts_of (With Mark scheme)) bytes input is refl).network one two
+one_yield (With (Verify json) scheme) bytes input answer other is one two = one ∙ sym two
+one_yield (With (Simulate json) scheme) bytes input answer other is one two = one ∙ sym two
+one_yield (With Recheck scheme) bytes input answer other is one two =
+    let same = one_reports (judge_in Gamma scheme) (Round ∷ edits_in input) (begun input) 0 one.0
     two.0 one.1 two.1 in
     one.2 ∙ ap reported same ∙ sym two.2
-one_task Bound scheme input answer other readable one two = one ∙ sym two
-
-one_yield : (command : Command) (input : Input) (answer other : Answer) → IsReadable input.rows
-    → Yields command input answer → Yields command input other → answer ≡ other
-one_yield (With task scheme) input answer other readable one two =
-    one_task task scheme input answer other readable one two
-
--- a command works in one way
-one_work : (command : Command) (bytes : List ℕ) (answer other : Answer) → Works command bytes answer
-    → Works command bytes other → answer ≡ other
-one_work command bytes answer other one two =
-    let same = one_input (shape_of command) bytes two.input one.input two.is one.is in
-    one_yield command one.input answer other one.is.readable one.yields
-    (subst (λ (input : Input). Yields command input other) same two.yields)
+one_yield (With Bound scheme) bytes input answer other is one two = one ∙ sym two
+one_yield (Trial nodes seed) bytes input answer other is one two =
+    one_tried nodes seed answer other one two
 
 -- a command on bytes has one answer
 one_of_command : (command : Command) (bytes : List ℕ) (answer other : Answer)
@@ -79,54 +82,18 @@ one_of_command command bytes answer other one two = elim one [
         refused.2 ∙ ap refusal (one_refusal command bytes refused.0 too.0 refused.1 too.1)
         ∙ sym too.2
     | inr works ↦
-        absurd (refused_unread command bytes refused.0 works.input refused.1 works.is
-        works.accepted)
+        absurd (refused_untaken command bytes refused.0 works.input refused.1 works.is works.takes)
   ]
   | inr works ↦ elim two [
     | inl refused ↦
-        absurd (refused_unread command bytes refused.0 works.input refused.1 works.is
-        works.accepted)
-    | inr too ↦ one_work command bytes answer other works too
+        absurd (refused_untaken command bytes refused.0 works.input refused.1 works.is works.takes)
+    | inr too ↦
+        let same = one_input (parts_of command) (read_by command bytes) too.input works.input too.is
+        works.is in
+        one_yield command bytes works.input answer other works.is works.yields
+        (subst (λ (input : Input). Yields command input other) same too.yields)
   ]
 ]
-
--- a trial has one answer
-one_tried : (nodes seed : ℕ) (answer other : Answer) → IsTrialAnswer nodes seed answer
-    → IsTrialAnswer nodes seed other → answer ≡ other
-one_tried nodes seed answer other one two =
-    let labels : one.labels ≡ two.labels =
-    expression_marked_once gamma_code tried_scheme (trial_of nodes seed) one.labels two.labels
-    one.valid one.connected one.holds one.marked two.marked in
-    let texts : answer.text ≡ other.text =
-    one.text ∙ ap (λ (labels : List (List Bool)). text_of (trial_line (trial_of nodes seed) labels ∷ []))
-    labels ∙ sym two.text in
-    ap (λ (status : Status). record { status = status; text = answer.text }) (one.ends ∙ sym two.ends)
-    ∙ ap (λ (text : List ℕ). record { status = other.status; text = text }) texts
-
--- a request has one answer
-one_request : (words : List (List ℕ)) (bytes : List ℕ) (request other_request : Request)
-    (answer other : Answer) → IsRequest words request → IsRequest words other_request
-    → AnswersRequest request bytes answer → AnswersRequest other_request bytes other
-    → answer ≡ other
-one_request words bytes (Reading command) (Reading found) answer other is is_other one two =
-    let same = one_command words found command is_other is in
-    one_of_command command bytes answer other one
-    (subst (λ (command : Command). Answers command bytes other) same two)
-one_request words bytes (Reading command) (Trial nodes seed) answer other is is_other one two =
-    absurd (no_trial words command nodes seed is is_other)
-one_request words bytes (Trial nodes seed) (Reading command) answer other is is_other one two =
-    absurd (no_trial words command nodes seed is_other is)
-one_request words bytes (Trial nodes seed) (Trial many other_seed) answer other is is_other one two =
-    let same = one_trial words many other_seed nodes seed is_other is in
-    one_tried nodes seed answer other one
-    (subst (λ (nodes : ℕ). IsTrialAnswer nodes seed other) same.0
-    (subst (λ (seed : ℕ). IsTrialAnswer many seed other) same.1 two))
-
--- words that ask for nothing are no request
-asks_nothing : (words : List (List ℕ)) (request : Request) → IsUsage words
-    → IsRequest words request → ⊥
-asks_nothing words (Reading command) none is = none.no_command command is
-asks_nothing words (Trial nodes seed) none is = none.no_trial nodes seed is
 
 -- words and bytes have one answer
 pub one_answer : (words : List (List ℕ)) (bytes : List ℕ) (answer other : Answer)
@@ -134,10 +101,13 @@ pub one_answer : (words : List (List ℕ)) (bytes : List ℕ) (answer other : An
 one_answer words bytes answer other one two = elim one [
   | inl none ↦ elim two [
     | inl too ↦ none.1 ∙ sym too.1
-    | inr found ↦ absurd (asks_nothing words found.0 none.0 found.1)
+    | inr found ↦ absurd (none.0 found.0 found.1)
   ]
   | inr found ↦ elim two [
-    | inl none ↦ absurd (asks_nothing words found.0 none.0 found.1)
-    | inr too ↦ one_request words bytes found.0 too.0 answer other found.1 too.1 found.2 too.2
+    | inl none ↦ absurd (none.0 found.0 found.1)
+    | inr too ↦
+        one_of_command found.0 bytes answer other found.2
+        (subst (λ (command : Command). Answers command bytes other)
+        (one_command words too.0 found.0 too.1 found.1) too.2)
   ]
 ]

@@ -1,7 +1,7 @@
 -- What `Done` and `No` say of a network.
 use Rattle.std.proofs.Common.{◌≡◌, ◌∙◌, ℕ, Contains, [], ◌∷◌, Bool, true, false, List, map, length, All, if◌then◌else◌, inl, inr, get_or, refl, subst, sym, ap}
 use Rattle.std.proofs.lemmas.List.Folds.{list_all-map}
-use Rattle.std.proofs.lemmas.List.Sums.{AllPass-from_list_all, list_all-from_AllPass}
+use Rattle.std.proofs.lemmas.List.Sums.{AllPass-from_list_all}
 use Rattle.std.proofs.lemmas.List.Elements.{All-map}
 use Rattle.pls_graph.proofs.Members.{Contains-first, Contains-later}
 use Rattle.pls_base.specs.declared.text_error.TextError.{TextError}
@@ -15,23 +15,28 @@ use Rattle.pls_view.specs.Seen.{Seen, label_of, seen, views}
 use Rattle.pls_model.specs.Configuration.{IsNetwork}
 use Rattle.pls_model.specs.Walk.{IsConnected}
 use Rattle.pls_scheme.specs.Judging.{AllAccept, round_by}
-use Rattle.pls_sim.specs.declared.event.Event.{Event}
+use Rattle.pls_schedule.specs.declared.event.Event.{Event}
 use Rattle.pls_sim.specs.declared.outcome.Outcome.{Outcome}
 use Rattle.pls_sim.specs.declared.outcome.Outcome.TheVariants.{Decided}
 use Rattle.pls_sim.specs.Schedule.{outcome_after, outcome_of, played_by, unheard}
 use Rattle.pls_report.specs.Report.{all_accept, all_verdicts_accept, is_accepting}
-use Rattle.pls_app.specs.declared.command.Command.{Command}
-use Rattle.pls_app.specs.declared.command.Command.TheVariants.{With}
-use Rattle.pls_app.specs.declared.command.Task.{Task}
-use Rattle.pls_app.specs.declared.command.Task.TheVariants.{Mark, Verify, Simulate, Recheck, Bound}
 use Rattle.pls_bits.specs.Gamma.{gamma_code, gamma_takes}
 use Rattle.pls_bits.specs.NumberCode.{TakesOnly}
 use Rattle.pls_bits.specs.laws.GammaLaws.{gamma_takes-only}
-use Rattle.pls_combine.specs.Expression.{Expression, HasProperty, judge_of}
+use Rattle.pls_property.specs.Expression.{Expression}
 use Rattle.pls_combine.specs.laws.ExpressionLaws.{expression_sound}
-use Rattle.pls_app.specs.Command.{Checks, IsCheck, parts_of}
-use Rattle.pls_app.specs.Input.{Input, IsInput}
-use Rattle.pls_app.specs.Answer.{Answer, Answers, TaskYields, decided_by, refusal_status, report, task_outcomes}
+use Rattle.pls_inputs.specs.Parts.{Input, events_in, labels_in, rows_in}
+use Rattle.pls_inputs.proofs.Facts.{each, readable}
+use Rattle.pls_app.specs.declared.code_name.CodeName.{CodeName}
+use Rattle.pls_app.specs.declared.code_name.CodeName.TheVariants.{Gamma}
+use Rattle.pls_app.specs.declared.command.Command.{Command}
+use Rattle.pls_app.specs.declared.command.Command.TheVariants.{With, Trial}
+use Rattle.pls_app.specs.declared.command.Task.TheVariants.{Mark, Verify, Simulate, Recheck, Bound}
+use Rattle.pls_app.specs.Command.{Checks, parts_of, read_by}
+use Rattle.pls_app.specs.Meant.{Holds, judge_in}
+use Rattle.pls_app.specs.Reports.{decided_by}
+use Rattle.pls_app.specs.Said.{Answer}
+use Rattle.pls_app.specs.Answer.{Answers, Yields, outcomes_in, refusal_status}
 use Rattle.pls_app.specs.Run.{IsJudged, Lacks, Proves, SomeRejects}
 
 -- a verdict that is decided and accepting accepts
@@ -70,38 +75,45 @@ played_accept judge rows labels events all =
     accepts_after (unheard rows events row) (judge (view row))
     (each_accepts (λ row. (row.id, outcome_of judge rows labels events row)) rows all k d within))
 
--- the outcomes that a task reports all accept only where all nodes do
-all_judged : (task : Task) (scheme : Expression) (input : Input) → IsCheck task
-    → all_accept (task_outcomes task scheme input) ≡ true
-    → AllAccept (judge_of gamma_takes scheme) input.rows input.labels
-all_judged Mark scheme input checks all = absurd checks
-all_judged (Verify json) scheme input checks all =
-    decided_accept (judge_of gamma_takes scheme) input.rows input.labels all
-all_judged (Simulate json) scheme input checks all =
-    played_accept (judge_of gamma_takes scheme) input.rows input.labels input.events all
-all_judged Recheck scheme input checks all = absurd checks
-all_judged Bound scheme input checks all = absurd checks
+-- the outcomes that a command reports all accept only where all nodes do
+all_judged : (scheme : Expression) (command : Command) (input : Input) → Checks scheme command
+    → all_accept (outcomes_in command input) ≡ true
+    → AllAccept (judge_in Gamma scheme) (rows_in input) (labels_in input)
+all_judged scheme (With Mark other) input checks all = absurd checks
+all_judged scheme (With (Verify json) other) input checks all =
+    subst (λ (scheme : Expression). AllAccept (judge_in Gamma scheme) (rows_in input)
+    (labels_in input)) (sym checks)
+    (decided_accept (judge_in Gamma other) (rows_in input) (labels_in input) all)
+all_judged scheme (With (Simulate json) other) input checks all =
+    subst (λ (scheme : Expression). AllAccept (judge_in Gamma scheme) (rows_in input)
+    (labels_in input)) (sym checks)
+    (played_accept (judge_in Gamma other) (rows_in input) (labels_in input) (events_in input) all)
+all_judged scheme (With Recheck other) input checks all = absurd checks
+all_judged scheme (With Bound other) input checks all = absurd checks
+all_judged scheme (Trial nodes seed) input checks all = absurd checks
 
--- a task that checks labels reads one for each node
-each_label : (task : Task) (bytes : List ℕ) (input : Input) → IsCheck task
-    → IsInput (parts_of task) bytes input → length input.labels ≡ length input.rows
-each_label Mark bytes input checks is = absurd checks
-each_label (Verify json) bytes input checks is = is.filled.0.each
-each_label (Simulate json) bytes input checks is = is.filled.0.each
-each_label Recheck bytes input checks is = absurd checks
-each_label Bound bytes input checks is = absurd checks
+-- a command that checks labels reads a network and one label for each node
+wants_labels : (scheme : Expression) (command : Command) → Checks scheme command
+    → ((parts_of command).network ≡ true) × ((parts_of command).labels ≡ true)
+wants_labels scheme (With Mark other) checks = absurd checks
+wants_labels scheme (With (Verify json) other) checks = (refl, refl)
+wants_labels scheme (With (Simulate json) other) checks = (refl, refl)
+wants_labels scheme (With Recheck other) checks = absurd checks
+wants_labels scheme (With Bound other) checks = absurd checks
+wants_labels scheme (Trial nodes seed) checks = absurd checks
 
 -- and its status says whether all outcomes accept
-ends_by : (task : Task) (scheme : Expression) (input : Input) (answer : Answer) → IsCheck task
-    → TaskYields task scheme input answer
-    → answer.status ≡ (if all_accept (task_outcomes task scheme input) then Done else No)
-ends_by Mark scheme input answer checks yields = absurd checks
-ends_by (Verify json) scheme input answer checks yields =
+ends_by : (scheme : Expression) (command : Command) (input : Input) (answer : Answer)
+    → Checks scheme command → Yields command input answer
+    → answer.status ≡ (if all_accept (outcomes_in command input) then Done else No)
+ends_by scheme (With Mark other) input answer checks yields = absurd checks
+ends_by scheme (With (Verify json) other) input answer checks yields =
     ap (λ (answer : Answer). answer.status) yields
-ends_by (Simulate json) scheme input answer checks yields =
+ends_by scheme (With (Simulate json) other) input answer checks yields =
     ap (λ (answer : Answer). answer.status) yields
-ends_by Recheck scheme input answer checks yields = absurd checks
-ends_by Bound scheme input answer checks yields = absurd checks
+ends_by scheme (With Recheck other) input answer checks yields = absurd checks
+ends_by scheme (With Bound other) input answer checks yields = absurd checks
+ends_by scheme (Trial nodes seed) input answer checks yields = absurd checks
 
 -- `Done` says that all do, and `No` that some does not
 done_all : (all : Bool) → (if all then Done else No) ≡ Done → all ≡ true
@@ -137,27 +149,38 @@ refused_not_judged error status same judged = elim judged [
 gamma_only : TakesOnly gamma_code gamma_takes
 gamma_only = λ bits number rest taken. gamma_takes-only bits number rest taken
 
+-- a network whose nodes all accept its labels, and that is one whole, has the property
+pub accepted_holds : (code : CodeName) (scheme : Expression) (rows : List NodeRow)
+    (labels : List (List Bool)) → IsNetwork rows → IsConnected rows
+    → length labels ≡ length rows → AllAccept (judge_in code scheme) rows labels
+    → Holds scheme rows
+accepted_holds Gamma scheme rows labels network joined each accepted = record {
+  joined = joined;
+  has = expression_sound gamma_code gamma_takes gamma_only scheme rows labels network joined each
+      accepted;
+}
+
 -- `Done` says that the network of the input has the property
 pub done_proves : (scheme : Expression) (command : Command) (bytes : List ℕ) (answer : Answer)
     → Checks scheme command → Answers command bytes answer → answer.status ≡ Done
     → Proves scheme command bytes
-done_proves scheme (With task other) bytes answer checks answers done = elim answers [
+done_proves scheme command bytes answer checks answers done = elim answers [
   | inl refused ↦
       absurd (refused_not_done refused.0
       (sym (ap (λ (answer : Answer). answer.status) refused.2) ∙ done))
   | inr works ↦
       let input : Input = works.input in
-      let all = done_all (all_accept (task_outcomes task other input))
-      (sym (ends_by task other input answer checks.0 works.yields) ∙ done) in
-      let accepted = all_judged task other input checks.0 all in
-      let holds : HasProperty other input.rows =
-      expression_sound gamma_code gamma_takes gamma_only other input.rows input.labels
-      works.is.readable.network works.is.readable.connected
-      (each_label task bytes input checks.0 works.is) accepted in
+      let all = done_all (all_accept (outcomes_in command input))
+      (sym (ends_by scheme command input answer checks works.yields) ∙ done) in
+      let wants = wants_labels scheme command checks in
       record {
         input = input;
         is = works.is;
-        holds = subst (λ (scheme : Expression). HasProperty scheme input.rows) (sym checks.1) holds;
+        holds = accepted_holds Gamma scheme (rows_in input) (labels_in input)
+            (readable (parts_of command) (read_by command bytes) input works.is wants.0).network
+            works.takes.joined
+            (each (parts_of command) (read_by command bytes) input works.is wants.1)
+            (all_judged scheme command input checks all);
       }
 ]
 
@@ -182,18 +205,19 @@ some_fails (row ∷ rows) all = by (is_accepting row.1) refl (λ e. some_fails r
 pub no_rejects : (scheme : Expression) (command : Command) (bytes : List ℕ) (answer : Answer)
     → Checks scheme command → Answers command bytes answer → answer.status ≡ No
     → SomeRejects command bytes
-no_rejects scheme (With task other) bytes answer checks answers ends = elim answers [
+no_rejects scheme command bytes answer checks answers ends = elim answers [
   | inl refused ↦
       absurd (refused_not_no refused.0
       (sym (ap (λ (answer : Answer). answer.status) refused.2) ∙ ends))
   | inr works ↦
       let input : Input = works.input in
-      let some = no_some (all_accept (task_outcomes task other input))
-      (sym (ends_by task other input answer checks.0 works.yields) ∙ ends) in
-      let found = some_fails (task_outcomes task other input) some in
+      let some = no_some (all_accept (outcomes_in command input))
+      (sym (ends_by scheme command input answer checks works.yields) ∙ ends) in
+      let found = some_fails (outcomes_in command input) some in
       record {
         input = input;
         is = works.is;
+        joined = works.takes.joined;
         node = found.0;
         among = found.1;
         rejected = found.2;
@@ -211,23 +235,9 @@ no_lacks scheme bytes answer answers ends = elim answers [
     | inl labels ↦
         absurd (let other : Done ≡ No = sym (ap (λ (answer : Answer). answer.status) labels.3)
         ∙ ends in cc)
-    | inr lacks ↦ record { input = works.input; is = works.is; lacks = lacks.0 }
+    | inr fails ↦ record { input = works.input; is = works.is; fails = fails.0 }
   ]
 ]
-
--- labels that all accept make a round `Done`
-pub accepted_report : (scheme : Expression) (rows : List NodeRow) (labels : List (List Bool))
-    → AllAccept (judge_of gamma_takes scheme) rows labels
-    → (report false false (decided_by (judge_of gamma_takes scheme) rows labels)).status ≡ Done
-accepted_report scheme rows labels accepted =
-    let judge : Seen → Verdict = judge_of gamma_takes scheme in
-    let row : Seen → ℕ × Outcome = λ view. (view.id, Decided (judge view)) in
-    let all : all_accept (map row (views rows labels)) ≡ true =
-    list_all-map (λ row. is_accepting row.1) row (views rows labels)
-    ∙ list_all-from_AllPass (λ view. is_accepting (row view).1) (views rows labels)
-    (λ k d within. ap (λ (verdict : Verdict). is_accepting (Decided verdict))
-    (accepted k d within)) in
-    rw all refl
 
 -- the verdicts of a round that all accept
 verdicts_accept : (judge : Seen → Verdict) (rows : List NodeRow) (labels : List (List Bool))
@@ -242,8 +252,8 @@ verdicts_accept judge rows labels all = λ k d within.
 -- a network whose nodes all accept its labels, and that is connected, has the property
 pub round_holds : (scheme : Expression) (rows : List NodeRow) (labels : List (List Bool))
     → IsNetwork rows → IsConnected rows → length labels ≡ length rows
-    → all_verdicts_accept (round_by (judge_of gamma_takes scheme) rows labels) ≡ true
-    → HasProperty scheme rows
+    → all_verdicts_accept (round_by (judge_in Gamma scheme) rows labels) ≡ true
+    → Holds scheme rows
 round_holds scheme rows labels network connected each all =
-    expression_sound gamma_code gamma_takes gamma_only scheme rows labels network connected each
-    (verdicts_accept (judge_of gamma_takes scheme) rows labels all)
+    accepted_holds Gamma scheme rows labels network connected each
+    (verdicts_accept (judge_in Gamma scheme) rows labels all)

@@ -11,13 +11,14 @@ use Rattle.pls_model.specs.Configuration.{IsNetwork, ids_of}
 use Rattle.pls_graph.specs.Size.{greatest, size_of, weights_of}
 use Rattle.pls_graph.proofs.Members.{Contains-first, Contains-from_flat_map, Contains-later}
 use Rattle.pls_netfile.specs.NetworkText.{FitsPort, FitsRow}
-use Rattle.pls_scheme.specs.Marked.{answered}
+use Rattle.pls_base.specs.Steps.{capped}
 use Rattle.pls_scheme.specs.Theorem.{AreWords}
 use Rattle.pls_bits.specs.Gamma.{gamma_code}
-use Rattle.pls_combine.specs.Expression.{Expression, IsSmall, longest_of}
+use Rattle.pls_property.specs.Expression.{Expression, IsSmall}
+use Rattle.pls_combine.specs.Expression.{longest_of}
 use Rattle.pls_combine.proofs.Bounds.{short_expression}
 use Rattle.pls_app.specs.Trial.{tried_scheme}
-use Rattle.pls_app.specs.Input.{IsReadable}
+use Rattle.pls_inputs.proofs.Facts.{IsReadable}
 
 -- where each number is below a bound, so is the greatest
 small_greatest : (bound : ℕ) (numbers : List ℕ) → 1 ≤ bound → All (λ number. number < bound) numbers
@@ -75,14 +76,14 @@ bound_small scheme rows small readable =
 -- so it is answered as it is
 pub bound_answered : (scheme : Expression) (rows : List NodeRow) → IsSmall scheme
     → IsReadable rows
-    → answered (longest_of gamma_code scheme (size_of rows))
+    → capped (longest_of gamma_code scheme (size_of rows))
     ≡ longest_of gamma_code scheme (size_of rows)
 bound_answered scheme rows small readable =
     omega (arith, bound_small scheme rows small readable)
 
 -- so is that of a trial
 pub tried_answered : (rows : List NodeRow) → IsNetwork rows → AreWords (size_of rows)
-    → answered (longest_of gamma_code tried_scheme (size_of rows))
+    → capped (longest_of gamma_code tried_scheme (size_of rows))
     ≡ longest_of gamma_code tried_scheme (size_of rows)
 tried_answered rows net words =
     let small : IsSmall tried_scheme = record {
@@ -100,18 +101,18 @@ greater count bits some =
 
 -- as many labels as nodes pass the limit where they do with the bound that is answered
 pub over_answered : (count most longest : ℕ) → 1 ≤ count → most < 2 ^ 64 - 1
-    → nat_lt most (count * answered longest) ≡ nat_lt most (count * longest)
+    → nat_lt most (count * capped longest) ≡ nat_lt most (count * longest)
 over_answered count most longest some small = by (nat_lt longest (2 ^ 64 - 1)) refl
   where
     by : (b : Bool) → nat_lt longest (2 ^ 64 - 1) ≡ b
-        → nat_lt most (count * answered longest) ≡ nat_lt most (count * longest)
+        → nat_lt most (count * capped longest) ≡ nat_lt most (count * longest)
     by true less =
-        let same : answered longest ≡ longest = grind (arith, nat_tests) in
+        let same : capped longest ≡ longest = grind (arith, nat_tests) in
         ap (λ (bits : ℕ). nat_lt most (count * bits)) same
     by false less =
         let many : 2 ^ 64 - 1 ≤ longest = grind (arith, nat_tests) in
-        let capped : 2 ^ 64 - 1 ≤ answered longest = omega (arith, many) in
-        let one : most < count * answered longest =
-        omega (arith, small, capped, greater count (answered longest) some) in
+        let capped_here : 2 ^ 64 - 1 ≤ capped longest = omega (arith, many) in
+        let one : most < count * capped longest =
+        omega (arith, small, capped_here, greater count (capped longest) some) in
         let two : most < count * longest = omega (arith, small, many, greater count longest some) in
-        lt-ltb most (count * answered longest) one ∙ sym (lt-ltb most (count * longest) two)
+        lt-ltb most (count * capped longest) one ∙ sym (lt-ltb most (count * longest) two)

@@ -1,16 +1,18 @@
 -- From what a run was due to tell, what it told.
-use Rattle.std.proofs.Common.{◌≡◌, ℕ, List, Option, Result, Ok, Err, IsOk, MatchResult, inl, inr, length, refl, subst, sym}
+use Rattle.std.proofs.Common.{◌≡◌, ◌∙◌, ℕ, true, false, List, Option, Some, Result, Ok, Err, IsOk, MatchResult, inl, inr, length, refl, subst, sym}
 use Rattle.pls_base.specs.Streams.{Rose}
 use Rattle.pls_model.specs.declared.status.Status.{Status}
 use Rattle.pls_model.specs.declared.status.Status.TheVariants.{Done, No, Usage, Refused, ReadFault, WriteFault, NoMemory, Limit}
 use Rattle.pls_app.specs.declared.command.Command.{Command}
-use Rattle.pls_combine.specs.Expression.{Expression}
-use Rattle.pls_app.specs.Command.{IsCommand}
-use Rattle.pls_app.specs.Answer.{Answer, Answers}
-use Rattle.pls_app.specs.Words.{IsAnswer}
+use Rattle.pls_property.specs.Expression.{Expression}
+use Rattle.pls_app.specs.Command.{IsCommand, IsUsage, reads}
+use Rattle.pls_app.specs.Said.{Answer}
+use Rattle.pls_app.specs.Answer.{Answers, IsAnswer}
+use Rattle.pls_app.specs.inner.Tasks.{IsWorked}
 use Rattle.pls_app.proofs.Answered.{command_answer}
-use Rattle.pls_app.specs.Run.{Certifies, EndsAs, IsAnswered, Tells, TellsPart, Told, TookCertificate}
-use Rattle.pls_app.specs.Trial.{IsUnread, IsUsage}
+use Rattle.pls_app.proofs.Commands.{one_command}
+use Rattle.pls_app.specs.Run.{Certifies, Concerns, EndsAs, IsAnswered, IsUnread, Tells, TellsPart, TookCertificate}
+use Rattle.pls_app.specs.inner.Causes.{Told}
 
 -- an answer that was told in the end
 pub tells : (words : List (List ℕ)) (bytes : List ℕ) (answer : Answer) (status : Status)
@@ -111,14 +113,52 @@ told_ends due status before after old new text told = elim told [
   | inr part ↦ inr (inl part.0)
 ]
 
--- words that ask for nothing are answered `usage`
+-- words that are no command are answered `usage`
 pub unread_usage : (words : List (List ℕ)) (due : Status) → IsUsage words → IsUnread words due
     → due ≡ Usage
-unread_usage words Usage none unread = refl
-unread_usage words Done none unread = absurd (none.no_trial unread.0 unread.1 unread.2)
-unread_usage words No none unread = absurd unread
-unread_usage words Refused none unread = absurd unread
-unread_usage words ReadFault none unread = absurd unread
-unread_usage words WriteFault none unread = absurd unread
-unread_usage words NoMemory none unread = absurd unread
-unread_usage words Limit none unread = absurd unread
+unread_usage words due none unread = elim unread [
+  | inl usage ↦ usage.1
+  | inr command ↦ absurd (none command.0 command.1)
+]
+
+-- and those of a command that reads nothing as it is
+pub unread_command : (words : List (List ℕ)) (due : Status) (command : Command)
+    → IsCommand words command → IsUnread words due → (reads command ≡ false) × (due ≡ Done)
+unread_command words due command is unread = elim unread [
+  | inl usage ↦ absurd (usage.0 command is)
+  | inr found ↦ (
+    subst (λ (command : Command). reads command ≡ false)
+        (one_command words found.0 command found.1 is) found.2,
+    found.3,
+  )
+]
+
+-- a command that reads is answered on what the source tells
+pub told_bytes : (words : List (List ℕ)) (command : Command) (left : Option (List ℕ))
+    (bytes : List ℕ) → IsCommand words command → reads command ≡ true
+    → Concerns words left bytes → left ≡ Some bytes
+told_bytes words command left bytes is wants concerns = elim concerns [
+  | inl told ↦ told
+  | inr unread ↦
+      let none : true ≡ false =
+      sym wants ∙ (unread_command words unread.0 command is unread.1).0 in absurd (cc)
+]
+
+-- a run that answers `usage` was due to
+pub told_usage : (due status : Status) (before after : ℕ) (old new : Option (List ℕ)) (text : List ℕ)
+    → Told due status before after old new text → status ≡ Usage → due ≡ Usage
+told_usage due status before after old new text told ends = elim told [
+  | inl whole ↦ cc
+  | inr part ↦ absurd (let other : WriteFault ≡ Usage = cc in cc)
+]
+
+-- a command that came to its answer is answered
+pub worked_answered : (status : Status) → IsWorked status → IsAnswered status
+worked_answered Done worked = tt
+worked_answered No worked = tt
+worked_answered Refused worked = tt
+worked_answered Limit worked = tt
+worked_answered Usage worked = tt
+worked_answered ReadFault worked = absurd worked
+worked_answered WriteFault worked = absurd worked
+worked_answered NoMemory worked = absurd worked

@@ -1,39 +1,40 @@
 -- What a run answers: a status and a text, from its words and its input.
-use Rattle.std.specs.Prelude.{◌≡◌, ℕ, Bool, true, false, List, [], ◌∷◌, map, codes, decimal, None, if◌then◌else◌, ◌⊎◌}
+use Rattle.std.specs.Prelude.{◌≡◌, ◌⊎◌, ℕ, ◌+◌, Bool, true, false, List, [], ◌∷◌, codes, decimal, Option, Some, None, if◌then◌else◌}
+use Rattle.pls_base.specs.declared.refusal_number.TheConstants.{APART}
 use Rattle.pls_base.specs.declared.text_error.TextError.{TextError}
 use Rattle.pls_base.specs.declared.text_error.TextError.TheVariants.{Form, Limit, Sense, NoMemory}
+use Rattle.pls_base.specs.declared.text_error.Quantity.TheVariants.{Labels}
 use Rattle.pls_base.specs.Quantity.{quantity_text}
 use Rattle.pls_model.specs.declared.status.Status.{Status}
 use Rattle.pls_model.specs.declared.status.Status.TheVariants.{Done, No, Usage, Refused, Limit as OverLimit, NoMemory as OutOfMemory}
 use Rattle.pls_model.specs.declared.row.NodeRow.{NodeRow}
-use Rattle.pls_model.specs.declared.verdict.Verdict.{Verdict}
 use Rattle.pls_model.specs.Configuration.{ids_of}
+use Rattle.pls_model.specs.Walk.{IsConnected}
+use Rattle.pls_graph.specs.Connected.{IsFirstApart}
 use Rattle.pls_lines.specs.Text.{line_of, text_of}
 use Rattle.pls_labelfile.specs.LabelsText.{labels_text, named}
-use Rattle.pls_view.specs.Seen.{Seen, views}
+use Rattle.pls_model.specs.declared.limits.TheConstants.{MAX_BITS}
 use Rattle.pls_sim.specs.declared.outcome.Outcome.{Outcome}
-use Rattle.pls_sim.specs.declared.outcome.Outcome.TheVariants.{Decided}
 use Rattle.pls_sim.specs.Schedule.{played_by}
 use Rattle.pls_report.specs.Report.{all_accept, report_text}
-use Rattle.pls_app.specs.declared.command.Command.{Command}
-use Rattle.pls_app.specs.declared.command.Command.TheVariants.{With}
-use Rattle.pls_app.specs.declared.command.Task.{Task}
-use Rattle.pls_app.specs.declared.command.Task.TheVariants.{Mark, Verify, Simulate, Recheck, Bound}
-use Rattle.pls_bits.specs.Gamma.{gamma_code, gamma_takes}
-use Rattle.pls_graph.specs.Size.{size_of}
-use Rattle.pls_combine.specs.Expression.{Expression, HasProperty, IsMarked, judge_of, longest_of}
+use Rattle.pls_property.specs.Expression.{Expression}
 use Rattle.pls_json.specs.Json.{json_text}
-use Rattle.pls_app.specs.Command.{shape_of}
-use Rattle.pls_app.specs.Input.{Input, IsInput}
-use Rattle.pls_app.specs.Order.{IsRefused, work_refusal}
-use Rattle.pls_app.specs.Reports.{Report, ReportInput, ends_well, reports_text}
+use Rattle.pls_inputs.specs.Parts.{Input, edits_in, events_in, labels_in, rows_in}
+use Rattle.pls_inputs.specs.Order.{IsInput, IsNoInput, edits_heading, over, schedule_heading}
+use Rattle.pls_app.specs.declared.code_name.CodeName.{CodeName}
+use Rattle.pls_app.specs.declared.code_name.CodeName.TheVariants.{Gamma}
+use Rattle.pls_app.specs.declared.command.Command.{Command}
+use Rattle.pls_app.specs.declared.command.Command.TheVariants.{With, Trial}
+use Rattle.pls_app.specs.declared.command.Task.TheVariants.{Mark, Verify, Simulate, Recheck, Bound}
+use Rattle.pls_app.specs.Command.{IsCommand, IsUsage, parts_of, read_by}
+use Rattle.pls_app.specs.Meant.{AreMarks, Fails, Holds, bound_in, judge_in, room_in}
+use Rattle.pls_app.specs.Unapplied.{unapplied}
+use Rattle.pls_app.specs.Inapplicable.{inapplicable}
+use Rattle.pls_app.specs.Reports.{Report, ReportInput, decided_by, ends_well, reports_text}
+use Rattle.pls_app.specs.Said.{Answer}
+use Rattle.pls_app.specs.Trial.{IsTrialAnswer}
 
--- how a run ends, and the text that it writes
-pub record Answer : Type 0 where
-  pub status : Status
-  pub text : List ℕ
-
--- the answer to words that are neither a command nor a trial
+-- the answer to words that are no command
 abbrev pub usage : Answer
 usage = record { status = Usage; text = text_of (codes "usage" ∷ []) }
 
@@ -56,15 +57,11 @@ refusal_line NoMemory = []
 abbrev pub refusal : TextError → Answer
 refusal error = record { status = refusal_status error; text = text_of (refusal_line error ∷ []) }
 
--- the text of a report, in JSON or in lines
-abbrev pub report_in : Bool → Bool → List (ℕ × Outcome) → List ℕ
-report_in json simulated rows = if json then json_text rows else report_text simulated rows
-
--- the answer with a report: its text, and whether all accept
+-- the answer with a report: its text, in JSON or in lines, and whether all accept
 abbrev pub report : Bool → Bool → List (ℕ × Outcome) → Answer
 report json simulated rows = record {
   status = if all_accept rows then Done else No;
-  text = report_in json simulated rows;
+  text = if json then json_text rows else report_text simulated rows;
 }
 
 -- the answer with the number of bits that a label has at most
@@ -74,23 +71,6 @@ bounded number = record {
   text = text_of (line_of (codes "bound" ∷ decimal number ∷ []) ∷ []);
 }
 
--- what becomes of the nodes in a round in which each sees all of its neighbours
-abbrev pub decided_by : (Seen → Verdict) → List NodeRow → List (List Bool) → List (ℕ × Outcome)
-decided_by judge rows labels = map (λ view. (view.id, Decided (judge view))) (views rows labels)
-
--- the outcomes that a task with a scheme reports, and so a command
-abbrev pub task_outcomes : Task → Expression → Input → List (ℕ × Outcome)
-task_outcomes Mark scheme input = []
-task_outcomes (Verify json) scheme input =
-    decided_by (judge_of gamma_takes scheme) input.rows input.labels
-task_outcomes (Simulate json) scheme input =
-    played_by (judge_of gamma_takes scheme) input.rows input.labels input.events
-task_outcomes Recheck scheme input = []
-task_outcomes Bound scheme input = []
-
-abbrev pub outcomes_in : Command → Input → List (ℕ × Outcome)
-outcomes_in (With task scheme) input = task_outcomes task scheme input
-
 -- the answer to a network that lacks the property
 abbrev pub no : Answer
 no = record { status = No; text = text_of (codes "no" ∷ []) }
@@ -99,13 +79,6 @@ no = record { status = No; text = text_of (codes "no" ∷ []) }
 abbrev pub labelled : List NodeRow → List (List Bool) → Answer
 labelled rows labels = record { status = Done; text = labels_text (named (ids_of rows) labels) }
 
--- the answer to `mark` on a network: its labels, where it has the property, else `no`
-abbrev pub Marks : Expression → List NodeRow → Answer → Type 0
-Marks scheme rows answer =
-    ((labels : List (List Bool)) × HasProperty scheme rows × IsMarked gamma_code scheme rows labels
-    × (answer ≡ labelled rows labels))
-    ⊎ ((HasProperty scheme rows → ⊥) × (answer ≡ no))
-
 -- the answer with the reports of rounds
 abbrev pub reported : List Report → Answer
 reported reports = record {
@@ -113,32 +86,75 @@ reported reports = record {
   text = reports_text reports;
 }
 
+-- the outcomes that a command reports
+abbrev pub outcomes_in : Command → Input → List (ℕ × Outcome)
+outcomes_in (With (Verify json) scheme) input =
+    decided_by (judge_in Gamma scheme) (rows_in input) (labels_in input)
+outcomes_in (With (Simulate json) scheme) input =
+    played_by (judge_in Gamma scheme) (rows_in input) (labels_in input) (events_in input)
+outcomes_in other input = []
+
+-- the answer to `mark` on a network: its labels, where it has the property, else `no`
+abbrev pub Marks : CodeName → Expression → List NodeRow → Answer → Type 0
+Marks code scheme rows answer =
+    ((labels : List (List Bool)) × Holds scheme rows × AreMarks code scheme rows labels
+    × (answer ≡ labelled rows labels))
+    ⊎ (Fails scheme rows × (answer ≡ no))
+
 -- the answer to `recheck` on an input: the reports of its rounds
-abbrev pub Rechecks : Expression → Input → Answer → Type 0
-Rechecks scheme input answer =
-    (reports : List Report) × ReportInput (judge_of gamma_takes scheme) input reports
+abbrev pub Rechecks : CodeName → Expression → Input → Answer → Type 0
+Rechecks code scheme input answer =
+    (reports : List Report) × ReportInput (judge_in code scheme) input reports
     × (answer ≡ reported reports)
 
--- the answer to a task with a scheme on an input that it does not refuse
-abbrev pub TaskYields : Task → Expression → Input → Answer → Type 0
-TaskYields Mark scheme input answer = Marks scheme input.rows answer
-TaskYields (Verify json) scheme input answer =
-    answer ≡ report json false (task_outcomes (Verify json) scheme input)
-TaskYields (Simulate json) scheme input answer =
-    answer ≡ report json true (task_outcomes (Simulate json) scheme input)
-TaskYields Recheck scheme input answer = Rechecks scheme input answer
-TaskYields Bound scheme input answer =
-    answer ≡ bounded (longest_of gamma_code scheme (size_of input.rows))
-
--- and so to a command
+-- the answer of a command to an input that it does not refuse
 abbrev pub Yields : Command → Input → Answer → Type 0
-Yields (With task scheme) input answer = TaskYields task scheme input answer
+Yields (With Mark scheme) input answer = Marks Gamma scheme (rows_in input) answer
+Yields (With (Verify json) scheme) input answer =
+    answer ≡ report json false (outcomes_in (With (Verify json) scheme) input)
+Yields (With (Simulate json) scheme) input answer =
+    answer ≡ report json true (outcomes_in (With (Simulate json) scheme) input)
+Yields (With Recheck scheme) input answer = Rechecks Gamma scheme input answer
+Yields (With Bound scheme) input answer = answer ≡ bounded (bound_in Gamma scheme (rows_in input))
+Yields (Trial nodes seed) input answer = IsTrialAnswer nodes seed answer
 
--- the bytes are an input of the command, and this is its answer to it
+-- 17: the error names the smallest node that the edges do not join to the smallest of all
+abbrev pub IsApart : List NodeRow → TextError → Type 0
+IsApart rows error = (id : ℕ) × (error ≡ Sense APART id) × IsFirstApart rows id
+
+-- what a command asks of an input besides
+abbrev pub work_refusal : Command → Input → Option TextError
+work_refusal (With Mark scheme) input = over Labels MAX_BITS (room_in Gamma scheme (rows_in input))
+work_refusal (With (Simulate json) scheme) input =
+    unapplied (rows_in input) (schedule_heading input + 1) (events_in input)
+work_refusal (With Recheck scheme) input =
+    inapplicable (rows_in input) (labels_in input) (edits_heading input + 1) (edits_in input)
+work_refusal other input = None
+
+-- why a command refuses an input: its network is not one whole, or else what it asks besides
+abbrev pub RefusesInput : Command → Input → TextError → Type 0
+RefusesInput command input error = IsApart (rows_in input) error
+    ⊎ (IsConnected (rows_in input) × (work_refusal command input ≡ Some error))
+
+-- and so it does not
+pub record TakesInput (command : Command) (input : Input) : Type 0 where
+  pub joined : IsConnected (rows_in input)
+  pub accepted : work_refusal command input ≡ None
+
+-- what the command reads of the bytes is the input
+abbrev pub Reads : Command → List ℕ → Input → Type 0
+Reads command bytes input = IsInput (parts_of command) (read_by command bytes) input
+
+-- the command refuses the bytes: they are no input, or it refuses the input that they are
+abbrev pub IsRefused : Command → List ℕ → TextError → Type 0
+IsRefused command bytes error = IsNoInput (parts_of command) (read_by command bytes) error
+    ⊎ ((input : Input) × Reads command bytes input × RefusesInput command input error)
+
+-- the command takes the input that the bytes are, and this is its answer to it
 pub record Works (command : Command) (bytes : List ℕ) (answer : Answer) : Type 0 where
   pub input : Input
-  pub is : IsInput (shape_of command) bytes input
-  pub accepted : work_refusal command input ≡ None
+  pub is : Reads command bytes input
+  pub takes : TakesInput command input
   pub yields : Yields command input answer
 
 -- the answer to a command on bytes
@@ -146,3 +162,8 @@ abbrev pub Answers : Command → List ℕ → Answer → Type 0
 Answers command bytes answer =
     ((error : TextError) × IsRefused command bytes error × (answer ≡ refusal error))
     ⊎ Works command bytes answer
+
+-- the answer of a run: that of the command that its words are, or `usage` where they are none
+abbrev pub IsAnswer : List (List ℕ) → List ℕ → Answer → Type 0
+IsAnswer words bytes answer = (IsUsage words × (answer ≡ usage))
+    ⊎ ((command : Command) × IsCommand words command × Answers command bytes answer)

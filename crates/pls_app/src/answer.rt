@@ -4,7 +4,7 @@ ghost use Rattle.std.specs.Prelude.{◌≡◌, ◌≢◌, if◌then◌else◌, I
 ghost use Rattle.pls_report.specs.Report.{all_accept};
 ghost use Rattle.pls_app.specs.Answer.{no, refusal, refusal_status, report, reported, usage};
 ghost use Rattle.pls_app.specs.Reports.{ends_well};
-ghost use Rattle.pls_app.specs.Run.{IsAnswered};
+ghost use Rattle.pls_app.specs.inner.Tasks.{IsWorked};
 
 use crate::round_report::RoundReport;
 use pls_base::{NoMemory, Status, TextError};
@@ -45,7 +45,7 @@ pub(crate) enum Content {
 }
 
 impl Model for Answer {
-    ghost use Rattle.pls_app.specs.Answer.{Answer as Said};
+    ghost use Rattle.pls_app.specs.Said.{Answer as Said};
     ghost use Rattle.pls_app.specs.inner.Written.{text_in};
 
     ghost Value = { Said };
@@ -82,7 +82,7 @@ pub(crate) fn report(
     rows: Vec<(u32, Outcome)>,
 ) -> Result<Answer, NoMemory>
     ensures report { IfOk result (λ answer. answer ≡ report json simulated rows.items) }
-    ensures answered { IfOk result (λ answer. IsAnswered answer.status) }
+    ensures worked { IfOk result (λ answer. IsWorked answer.status) }
 {
     let status = round_status(&rows);
     let content = if json {
@@ -96,7 +96,7 @@ pub(crate) fn report(
 // The answer with the reports of rounds.
 pub(crate) fn reported(reports: Vec<RoundReport>) -> Answer
     ensures reports { result ≡ reported reports.items }
-    ensures answered { IsAnswered result.status }
+    ensures worked { IsWorked result.status }
 {
     let status = if ends_well(&reports) {
         Status::Done
@@ -122,7 +122,7 @@ fn ends_well(reports: &[RoundReport]) -> bool
 // The status of a round: whether all nodes accept.
 fn round_status(rows: &[(u32, Outcome)]) -> Status
     ensures status { result ≡ (if all_accept rows.now then Status.Done else Status.No) }
-    ensures answered { IsAnswered result }
+    ensures worked { IsWorked result }
 {
     if all_accept(rows) {
         Status::Done
@@ -135,7 +135,7 @@ fn round_status(rows: &[(u32, Outcome)]) -> Status
 pub(crate) fn refuse(alloc: Global, error: TextError) -> Result<Answer, NoMemory>
     ensures says { IfOk result (λ answer. answer ≡ refusal error) }
     ensures refused { OnOk result (error ≢ TextError.NoMemory) }
-    ensures answered { IfOk result (λ answer. IsAnswered answer.status) }
+    ensures worked { IfOk result (λ answer. IsWorked answer.status) }
 {
     let text = match error {
         TextError::Form(line) => format!(in alloc; "refused form at {line}\n"),

@@ -1,18 +1,18 @@
 //! The answer to `bound`.
 
-ghost use Rattle.std.specs.Prelude.{IfOk};
-ghost use Rattle.pls_combine.specs.Expression.{IsSmall};
-ghost use Rattle.pls_app.specs.Run.{IsAnswered};
-ghost use Rattle.pls_app.specs.inner.Tasks.{Does, IsReadOf};
-ghost use Rattle.pls_app.specs.inner.Scanned.{said};
+ghost use Rattle.std.specs.Prelude.{◌≡◌, IfOk};
+ghost use Rattle.pls_netfile.specs.NetworkText.{AreRows};
+ghost use Rattle.pls_property.specs.Expression.{IsSmall};
+ghost use Rattle.pls_app.specs.Answer.{bounded};
+ghost use Rattle.pls_app.specs.Meant.{bound_in};
+ghost use Rattle.pls_app.specs.inner.Tasks.{IsWorked};
 
 use crate::answer::{Answer, Content};
-use crate::command::Task;
-use crate::input::Input;
-use crate::shape::Shape;
+use crate::code_name::CodeName;
 use pls_base::{NoMemory, Status};
 use pls_bits::Gamma;
 use pls_combine::AnyScheme;
+use pls_graph::Network;
 use pls_scheme::Scheme;
 use std::alloc::Global;
 
@@ -20,14 +20,17 @@ use std::alloc::Global;
 pub(crate) fn bound(
     alloc: Global,
     scheme: &AnyScheme<Gamma>,
-    input: &Input,
+    net: &Network,
 ) -> Result<Answer, NoMemory>
-    requires input { IsReadOf Shape.Network input.now }
     requires small { IsSmall scheme.now }
-    ensures does { IfOk result (λ answer. Does Task.Bound scheme.now (said input.now) answer) }
-    ensures answered { IfOk result (λ answer. IsAnswered answer.status) }
+    requires ranges { AreRows net.now }
+    ensures bounded { IfOk result
+        (λ answer. answer ≡ bounded (bound_in CodeName.Gamma scheme.now net.now)) }
+    ensures worked { IfOk result (λ answer. IsWorked answer.status) }
 {
-    let bound = scheme.bound(&input.net.size());
+    // A network is valid.
+    net.len();
+    let bound = scheme.bound(&net.size());
     let text = format!(in alloc; "bound {bound}\n")?;
     Ok(Answer {
         status: Status::Done,

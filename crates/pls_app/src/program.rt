@@ -4,21 +4,22 @@ ghost use Rattle.std.specs.Prelude.{◌≡◌, ◌⊎◌, ℕ, List, Some, IsOk,
 ghost use Rattle.std.specs.Io.KnownBytes.{Appends};
 ghost use Rattle.pls_base.specs.Streams.{AppendsPart, Rose};
 ghost use Rattle.pls_words.specs.Words.{words_in};
-ghost use Rattle.pls_combine.specs.Expression.{Expression};
-ghost use Rattle.pls_app.specs.Command.{Checks};
-ghost use Rattle.pls_app.specs.Trial.{IsUnread};
-ghost use Rattle.pls_app.specs.Run.{Asks, Consumes, CountsAsked, EndsAs, HasItsCause, HoldsAfter, IsAnswered, IsSureOfAnswer, Lacks, Proves, RefusesExactly, SomeRejects, Tells, TellsPart, Told, TookCertificate};
+ghost use Rattle.pls_property.specs.Expression.{Expression};
+ghost use Rattle.pls_app.specs.Command.{Checks, IsUsage};
+ghost use Rattle.pls_app.specs.Run.{Asks, Concerns, Consumes, CountsAsked, EndsAs, HasItsCause, HoldsAfter, IsAnswered, IsJudged, IsSureOfAnswer, IsUnread, Lacks, Proves, RefusesExactly, SomeRejects, Tells, TellsPart, TookCertificate};
+ghost use Rattle.pls_app.specs.inner.Causes.{Told};
+ghost use Rattle.pls_app.specs.Answer.{IsRefused};
 ghost use Rattle.pls_app.specs.Reports.{reports_text};
+ghost use Rattle.pls_base.specs.declared.text_error.TextError.{TextError as Error};
 ghost use Rattle.pls_app.specs.inner.Written.{text_in};
 
 use crate::answer::{Answer, Content, usage};
-use crate::command::{Command, Task};
+use crate::command::{Command, Task, read_command};
 use crate::from_source::answer_from;
-use crate::request::{Request, read_request};
 use crate::round_report::RoundReport;
 use crate::trial::trial;
 use pls_base::{Fault, NoMemory, Sink, Source, Status, write_all};
-use pls_labelfile::put_labels;
+use pls_labelfile::stream_labels;
 use pls_recheck::Bench;
 use pls_report::{write_report, write_round};
 use std::alloc::Global;
@@ -58,8 +59,11 @@ pub fn run<'w, S: Source, K: Sink, B: Bench>(
         (B.asked bench.old) (B.asked bench.new) }
 
     // The status and the text are those of the answer to the words and the bytes. It comes, or want
-    // of memory, where no call on the source failed, and none on the sink did or could.
-    ensures text { (bytes : List ℕ) → S.left source.old ≡ Some bytes → IsAnswered result
+    // of memory, where no call on the source failed, and none on the sink did or could. Bytes that
+    // nothing refuses are answered with `Done` or `No`, and `Usage` comes with words that are no
+    // command alone.
+    ensures text { (bytes : List ℕ) → Concerns (words_in words.now) (S.left source.old) bytes
+        → IsAnswered result
         → Tells (words_in words.now) bytes result (K.taken sink.old) (K.taken sink.new) }
     ensures answers { (Rose (S.faults source.old) (S.faults source.new) → ⊥)
         → (Rose (K.faults sink.old) (K.faults sink.new) → ⊥)
@@ -68,13 +72,18 @@ pub fn run<'w, S: Source, K: Sink, B: Bench>(
     ensures refused { (command : Command) (bytes : List ℕ)
         → Asks (words_in words.now) (S.left source.old) command bytes → IsAnswered result
         → RefusesExactly command bytes result (K.taken sink.old) (K.taken sink.new) }
+    ensures completes { (command : Command) (bytes : List ℕ)
+        → Asks (words_in words.now) (S.left source.old) command bytes
+        → ((error : Error) → IsRefused command bytes error → ⊥) → IsAnswered result
+        → IsJudged result }
+    ensures usage { result ≡ Status.Usage → IsUsage (words_in words.now) }
 
     // A run without an answer has its cause, and what was written then is known.
     ensures cause { HasItsCause result (S.faults source.old) (S.faults source.new)
         (K.faults sink.old) (K.faults sink.new) }
     ensures silent { (result ≡ Status.ReadFault) ⊎ (result ≡ Status.NoMemory)
         → sink.new ≡ sink.old }
-    ensures part { (bytes : List ℕ) → S.left source.old ≡ Some bytes
+    ensures part { (bytes : List ℕ) → Concerns (words_in words.now) (S.left source.old) bytes
         → result ≡ Status.WriteFault
         → TellsPart (words_in words.now) bytes (K.taken sink.old) (K.taken sink.new) }
 
@@ -83,17 +92,19 @@ pub fn run<'w, S: Source, K: Sink, B: Bench>(
         → EndsAs due result × (source.new ≡ source.old) }
     ensures read { Consumes (words_in words.now) result (S.left source.old) (S.left source.new) }
 {
-    match read_request(alloc, words) {
+    match read_command(alloc, words) {
         Err(NoMemory) => Status::NoMemory,
         Ok(None) => tell(sink, &usage()),
-        Ok(Some(Request::Trial { nodes, seed })) => match trial(alloc, nodes, seed) {
+        Ok(Some(Command::Trial { nodes, seed })) => match trial(alloc, nodes, seed) {
             Ok(answer) => tell(sink, &answer),
             Err(NoMemory) => Status::NoMemory,
         },
-        Ok(Some(Request::Reading(command))) => match answer_from(alloc, command, source, bench) {
-            Ok(answer) => tell(sink, &answer),
-            Err(status) => status,
-        },
+        Ok(Some(Command::With { task, scheme })) => {
+            match answer_from(alloc, task, scheme, source, bench) {
+                Ok(answer) => tell(sink, &answer),
+                Err(status) => status,
+            }
+        }
     }
 }
 
@@ -121,7 +132,7 @@ fn write_content<K: Sink>(sink: &mut K, content: &Content) -> Result<(), Fault>
     match content {
         Content::Known(text) => write_all(sink, text),
         Content::Written(text) => write_all(sink, text),
-        Content::Labels { net, labels } => put_labels(net, labels, sink),
+        Content::Labels { net, labels } => stream_labels(net, labels, sink),
         Content::Report { simulated, rows } => write_report(rows, *simulated, sink),
         Content::Rounds(reports) => write_rounds(reports, sink),
     }

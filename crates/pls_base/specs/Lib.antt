@@ -5,3 +5,4 @@ pub mod Plan
 pub mod Quantity
 pub mod Steps
 pub mod Streams
+pub mod inner

@@ -1,5 +1,5 @@
 -- What contracts see of a source and a sink in memory.
-use Rattle.std.specs.Prelude.{◌≡◌, ℕ, ◌+◌, ◌<◌, ◌≤◌, List, [], length, Contains}
+use Rattle.std.specs.Prelude.{◌≡◌, ℕ, ◌+◌, ◌≤◌, List, [], length}
 
 -- how the calls go: each moves at most `step` bytes, and those fail whose numbers, counted from 1,
 -- stand in `fails`
@@ -37,14 +37,6 @@ new_sink room step fails = record {
   calls = 0;
   faults = 0;
 }
-
--- the next call after so many is one that is to fail
-abbrev pub IsPlanned : Plan → ℕ → Type 0
-IsPlanned plan calls = Contains plan.fails (calls + 1)
-
--- there is something to write, and the sink's room is used up
-abbrev pub IsFullFor : PlannedSink → List ℕ → Type 0
-IsFullFor sink piece = (0 < length piece) × (sink.room ≤ length sink.taken)
 
 -- no call is planned to fail, and there is room for so many bytes more
 pub record HasRoomFor (sink : PlannedSink) (most : ℕ) : Type 0 where

@@ -3,7 +3,8 @@
 ghost use Rattle.std.specs.Prelude.{◌≡◌, ℕ, ◌⊎◌, ◌↔◌, ◌-◌, ◌<◌, ◌≤◌, min, length, Some, IfOk, IsErr, MatchResult};
 ghost use Rattle.std.specs.Io.{WritesAtMost};
 ghost use Rattle.std.specs.Io.KnownBytes.{WriteAppends};
-ghost use Rattle.pls_base.specs.Plan.{HasRoomFor, IsFullFor, IsPlanned, new_sink};
+ghost use Rattle.pls_base.specs.Plan.{HasRoomFor, new_sink};
+ghost use Rattle.pls_base.specs.inner.Planned.{IsFullFor, IsPlanned};
 ghost use Rattle.pls_base.specs.Steps.{up_by};
 ghost use Rattle.pls_base.specs.Streams.{HasCause, StaysSure};
 

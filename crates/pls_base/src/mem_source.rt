@@ -3,7 +3,8 @@
 ghost use Rattle.std.specs.Prelude.{◌≡◌, ◌↔◌, ◌<◌, ◌≤◌, min, length, Some, IfOk, IsErr, MatchResult};
 ghost use Rattle.std.specs.Io.{ReadsAtMost};
 ghost use Rattle.std.specs.Io.KnownBytes.{ReadConsumes};
-ghost use Rattle.pls_base.specs.Plan.{IsPlanned, new_source};
+ghost use Rattle.pls_base.specs.Plan.{new_source};
+ghost use Rattle.pls_base.specs.inner.Planned.{IsPlanned};
 ghost use Rattle.pls_base.specs.Steps.{up_by};
 ghost use Rattle.pls_base.specs.Streams.{HasCause};
 

@@ -26,3 +26,9 @@ pub const APART: u8 = 17;
 
 /// A line of the labels does not fit the nodes.
 pub const MISFIT: u8 = 20;
+
+/// An edit does not apply to the network as it is then, or would make its labels too long.
+pub const EDIT: u8 = 30;
+
+/// An event names no node, no port of its node, or no emit before it.
+pub const EVENT: u8 = 40;

@@ -1,6 +1,5 @@
 -- Hex digits read as words of bits.
 use Rattle.std.proofs.Common.{◌≡◌, ◌≢◌, ℕ, zero, suc, ◌+◌, ◌-◌, ◌*◌, ◌<◌, ◌≤◌, Bool, true, List, [], ◌∷◌, ◌++◌, length, slice_index, take, drop, replicate, refl, sym, ap, ◌∙◌, arith}
-use Rattle.std.specs.Prelude.{Ok, Err}
 use Rattle.std.specs.Int.{from_be_bytes, to_be_bytes, w64}
 use Rattle.std.specs.List.{list_all}
 use Rattle.std.proofs.lemmas.List.{drop-append-le, drop-replicate, get_or_push, length-drop, length-take-le, take-append-le, take-replicate, take-take, take_at, take_rest}
@@ -8,15 +7,14 @@ use Rattle.std.proofs.lemmas.List.Folds.{list_all-append}
 use Rattle.std.proofs.lemmas.Bool.{and_parts}
 use Rattle.std.proofs.Math.Seq.{take-add, take-append-add}
 use Rattle.std.proofs.lemmas.Nat.{be_bytes_8}
-use Rattle.hex.specs.Hex.{decode_sized, encode_lower, encode_with}
-use Rattle.hex.specs.declared.error.FromHexError.{FromHexError}
-use Rattle.hex.proofs.HexLemmas.{decode_sized-encode_lower}
+use Rattle.hex.specs.Hex.{encode_lower, encode_with, lower_digits}
+use Rattle.hex.proofs.HexLemmas.{length-encode_with}
 use Rattle.pls_bits.specs.Bytes.{bits_in, byte_count, bytes_of}
 use Rattle.pls_bits.specs.Hex.{hex_digits, is_lower_digit}
 use Rattle.pls_bits.specs.Words.{bits_of}
 use Rattle.pls_bits.specs.inner.Word.{bits_of_word}
 use Rattle.pls_bits.proofs.Appended.{bits_of-front}
-use Rattle.pls_bits.proofs.Digits.{list_all-drop, text_of_lower}
+use Rattle.pls_bits.proofs.Digits.{list_all-drop}
 use Rattle.pls_bits.proofs.Packing.{bits_in-bytes_of, bits_in-fewer}
 use Rattle.pls_bits.proofs.Ranges.{bits_of-append, bits_of-none, length-bits_of}
 use Rattle.pls_bits.proofs.Text.{length-hex_digits, same_bytes}
@@ -25,31 +23,15 @@ use Rattle.pls_bits.proofs.WordBytes.{bytes_of-word, hex_digits-append, hex_digi
 
 -- ---- sixteen digits
 
--- sixteen lower-case digits are decoded
-decoded : (digits : List ℕ) → length digits ≡ 16 → list_all is_lower_digit digits ≡ true
-    → (bytes : List ℕ) × (decode_sized digits 8 ≡ Ok bytes) × (length bytes ≡ 8)
-    × ((i : ℕ) → slice_index bytes i < 256) × (encode_lower bytes ≡ digits)
-decoded digits long low =
-    let t = text_of_lower 8 digits (omega (arith, long)) low in
-    let read = rw t.text at (decode_sized-encode_lower t.bytes 8 t.count t.small) in
-    (t.bytes, read, t.count, t.small, t.text)
-
-pub decoded_word_never_fails : (digits : List ℕ) (e : FromHexError) → length digits ≡ 16
-    → list_all is_lower_digit digits ≡ true → decode_sized digits 8 ≢ Err e
-decoded_word_never_fails digits e long low failed =
-    let (bytes, read, count, small, text) = decoded digits long low in cc (sym read ∙ failed)
-
--- the word of its bytes has the digits as its text
-pub decoded_word : (digits bytes : List ℕ) (w : ℕ) → length digits ≡ 16
-    → list_all is_lower_digit digits ≡ true → decode_sized digits 8 ≡ Ok bytes
-    → w ≡ from_be_bytes w64 bytes → hex_digits (bits_of_word w) ≡ digits
+-- the word of eight bytes has their digits as its text
+pub word_text : (digits bytes : List ℕ) (w : ℕ) → length digits ≡ 16 → encode_lower bytes ≡ digits
+    → ((i : ℕ) → slice_index bytes i < 256) → w ≡ from_be_bytes w64 bytes
+    → hex_digits (bits_of_word w) ≡ digits
 unfolding hex_digits
-decoded_word digits bytes w long low read is =
-    let (found, again, count, small, text) = decoded digits long low in
-    let same : bytes ≡ found = cc in
-    let word : to_be_bytes w64 w ≡ found =
-    be_bytes_8 found w count small (is ∙ ap (from_be_bytes w64) same) in
-    ap encode_lower (bytes_of-word w ∙ word) ∙ text
+word_text digits bytes w long text small is =
+    let twice = length-encode_with lower_digits bytes in
+    let count : length bytes ≡ 8 = omega (arith, ap length text, long, twice) in
+    ap encode_lower (bytes_of-word w ∙ be_bytes_8 bytes w count small is) ∙ text
 
 -- ---- all of the words
 

@@ -110,7 +110,7 @@ bytes_of-append a b m whole =
     ])
 
 -- the text of both
-encode_with-append : (table xs ys : List ℕ)
+pub encode_with-append : (table xs ys : List ℕ)
     → encode_with table (xs ++ ys) ≡ encode_with table xs ++ encode_with table ys
 unfolding encode_with
 encode_with-append table [] ys = refl

@@ -7,8 +7,8 @@ ghost use Rattle.pls_bits.specs.Hex.{Spells, hex_digits, is_lower_digit};
 ghost use Rattle.pls_bits.specs.Words.{bits_of};
 ghost use Rattle.pls_bits.specs.inner.Word.{bits_of_word};
 
+use crate::hex_bytes::eight_bytes;
 use crate::words::make_room;
-use hex::FromHex;
 use pls_base::NoMemory;
 
 /// Appends the `len` bits whose hex text `digits` is to some words, from a word of their own on.
@@ -56,10 +56,7 @@ fn word_of(digits: &[u8]) -> u64
     requires lower { list_all is_lower_digit digits.now ≡ true }
     ensures { hex_digits (bits_of_word result) ≡ digits.now }
 {
-    match <[u8; 8] as FromHex>::from_hex(digits) {
-        Ok(bytes) => u64::from_be_bytes(bytes),
-        Err(_) => unreachable!(),
-    }
+    u64::from_be_bytes(eight_bytes(digits))
 }
 
 // The hex text of a word.

@@ -12,6 +12,7 @@ mod bits;
 mod bytes;
 mod cursor;
 mod gamma;
+mod hex_bytes;
 mod hex_error;
 mod hex_text;
 mod hex_words;

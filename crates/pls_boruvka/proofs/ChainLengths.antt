@@ -2,7 +2,7 @@
 use Rattle.std.proofs.Common.{◌≡◌, ℕ, zero, suc, ◌+◌, ◌<◌, ◌⊎◌, inl, inr, List, [], ◌∷◌, length, Contains, Option, Some, None, refl, ap, arith}
 use Rattle.pls_model.specs.declared.row.NodeRow.{NodeRow}
 use Rattle.pls_model.specs.Configuration.{IsNetwork}
-use Rattle.pls_facts.specs.Pointer.{Chain, Falls, IsChainOf, NoneReturns, SomeReturns, next}
+use Rattle.pls_facts.specs.Pointer.{Chain, Falls, IsChainOf, NoneReturns, SomeReturns, pointed_node}
 use Rattle.pls_facts.proofs.Bounded.{IsChainOf-short, LeadsRound-long, SomeReturns-LeadsRound}
 use Rattle.pls_facts.proofs.ChainDepths.{chains_fall}
 use Rattle.pls_facts.proofs.Chains.{IsChainOf-before, IsChainOf-end}
@@ -16,9 +16,9 @@ module _ (rows : List NodeRow) where
   chain_or_long : (many u : ℕ) → HasChain u
       ⊎ ((v : ℕ) × (nodes : List ℕ) × Chain rows u nodes v × (length nodes ≡ many))
   chain_or_long zero u = inr (u, [], refl, refl)
-  chain_or_long (suc many) u = by (next rows u) refl (chain_or_long many)
+  chain_or_long (suc many) u = by (pointed_node rows u) refl (chain_or_long many)
     where
-      by : (o : Option ℕ) → next rows u ≡ o
+      by : (o : Option ℕ) → pointed_node rows u ≡ o
           → ((x : ℕ) → HasChain x
           ⊎ ((v : ℕ) × (nodes : List ℕ) × Chain rows x nodes v × (length nodes ≡ many)))
           → HasChain u

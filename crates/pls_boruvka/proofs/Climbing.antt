@@ -6,7 +6,7 @@ use Rattle.std.proofs.lemmas.List.{length-set, length-replicate}
 use Rattle.std.proofs.lemmas.Option.{get_or_from_slice_get, same_Some, slice_get-get_or, slice_get_within}
 use Rattle.pls_graph.proofs.Finds.{None-replicate}
 use Rattle.pls_facts.specs.Parents.{ParentChain}
-use Rattle.pls_boruvka.specs.inner.Tops.{AreNotedTops, HasDepths, IsTop, parent_at, up_of}
+use Rattle.pls_boruvka.specs.inner.Tops.{AreNotedTops, HasDepths, IsTop, parent_at, joined_parent}
 
 -- how many parents can be followed from a place, but no more than so many
 abbrev steps_by : List (Option ℕ) → ℕ → ℕ → ℕ
@@ -62,10 +62,10 @@ module _ (parents : List (Option ℕ)) (deep : HasDepths parents) where
 
 module _ (parents : List (Option ℕ)) (joined : List Bool) where
   abbrev up : ℕ → Option ℕ
-  up = up_of parents joined
+  up = joined_parent parents joined
 
   abbrev Follows : ℕ → ℕ → Type 0
-  Follows one other = up_of parents joined one ≡ Some other
+  Follows one other = joined_parent parents joined one ≡ Some other
 
   -- joined parents lead from one place to another
   abbrev pub Leads : ℕ → ℕ → Type 0

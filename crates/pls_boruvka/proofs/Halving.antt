@@ -10,7 +10,7 @@ use Rattle.pls_model.specs.Walk.{Edge, Joins}
 use Rattle.pls_graph.proofs.Joined.{AreJoined-adjacent}
 use Rattle.pls_graph.proofs.Members.{Contains-cons_cases, Contains-filter, Contains-from_filter, Contains-from_map, Contains-map}
 use Rattle.pls_facts.specs.SpanningTree.{AreDistinct}
-use Rattle.pls_facts.specs.Lightest.{IsGraph}
+use Rattle.pls_facts.specs.inner.Graphs.{IsGraph}
 use Rattle.pls_boruvka.specs.declared.level.Level.{Level}
 use Rattle.pls_boruvka.specs.Boruvka.{AreBoruvkaLevelsFrom, IsLevelOf, chosen_edge, chosen_edges}
 use Rattle.pls_boruvka.specs.Fragments.{AreFragments}

@@ -9,10 +9,10 @@ use Rattle.pls_graph.specs.Places.{place_in}
 use Rattle.pls_graph.proofs.Joined.{AreJoined-adjacent, AreJoined-through, AreJoined-turned, along}
 use Rattle.pls_graph.proofs.Members.{Contains-from_place}
 use Rattle.pls_facts.specs.Parents.{ParentChain}
-use Rattle.pls_facts.specs.Pointer.{Falls, next, pointed_port}
+use Rattle.pls_facts.specs.Pointer.{Falls, pointed_node, pointed_port}
 use Rattle.pls_facts.specs.SpanningTree.{edge_at, pointed_edge, pointed_edges}
 use Rattle.pls_facts.proofs.Filtered.{Contains-from_filter_map}
-use Rattle.pls_facts.proofs.Pointed.{IsPointer, IsPointer-next, points_from, points_to}
+use Rattle.pls_facts.proofs.Pointed.{IsPointer, IsPointer-pointed_node, points_from, points_to}
 use Rattle.pls_facts.proofs.PointedEdges.{Joins-edge_at, PointsAlong, PointsAlong-row, ends_of_pair}
 use Rattle.pls_boruvka.specs.Fragments.{AreFragments, JoinedChainEnds, next_joined}
 
@@ -52,18 +52,18 @@ module _ (rows : List NodeRow) (net : IsNetwork rows) (depth : ℕ → ℕ) (fal
   Follows one other = next_joined rows flags one ≡ Some other
 
   flag_of : (u v : ℕ) → next_joined rows flags u ≡ Some v
-      → (get_or flags (place_in rows u) false ≡ true) × (next rows u ≡ Some v)
+      → (get_or flags (place_in rows u) false ≡ true) × (pointed_node rows u ≡ Some v)
   flag_of u v points = by (get_or flags (place_in rows u) false) refl
     where
       by : (flag : Bool) → get_or flags (place_in rows u) false ≡ flag
-          → (get_or flags (place_in rows u) false ≡ true) × (next rows u ≡ Some v)
+          → (get_or flags (place_in rows u) false ≡ true) × (pointed_node rows u ≡ Some v)
       by true e = (
         e,
-        sym (cond-true (get_or flags (place_in rows u) false) (next rows u) None e) ∙ points,
+        sym (cond-true (get_or flags (place_in rows u) false) (pointed_node rows u) None e) ∙ points,
       )
       by false e =
           let no : None ≡ Some v =
-          sym (cond-false (get_or flags (place_in rows u) false) (next rows u) None e) ∙ points in
+          sym (cond-false (get_or flags (place_in rows u) false) (pointed_node rows u) None e) ∙ points in
           absurd (cc)
 
   -- a chain that is followed one pointer on
@@ -106,8 +106,8 @@ module _ (rows : List NodeRow) (net : IsNetwork rows) (depth : ℕ → ℕ) (fal
     Adjacent-joined : (u v : ℕ) → next_joined rows flags u ≡ Some v → Adjacent joined u v
     Adjacent-joined u v points =
         let (flag, onward) : (get_or flags (place_in rows u) false ≡ true)
-        × (next rows u ≡ Some v) = flag_of u v points in
-        let step : IsPointer rows u v = IsPointer-next rows net u v onward in
+        × (pointed_node rows u ≡ Some v) = flag_of u v points in
+        let step : IsPointer rows u v = IsPointer-pointed_node rows net u v onward in
         let pointed : pointed_port step.row ≡ Some step.port =
         ap (option_and_then (slice_get step.row.ports)) step.up
         ∙ step.has in
@@ -129,7 +129,7 @@ module _ (rows : List NodeRow) (net : IsNetwork rows) (depth : ℕ → ℕ) (fal
         Contains-from_filter_map pointed_edge rows edge (are.below edge in') in
         let way : PointsAlong rows row edge = PointsAlong-row rows net row edge row_in gives in
         let on : next_joined rows flags row.id ≡ Some way.port.nbr =
-        cond-true (get_or flags (place_in rows row.id) false) (next rows row.id) None
+        cond-true (get_or flags (place_in rows row.id) false) (pointed_node rows row.id) None
         (are.from row edge row_in gives in') ∙ way.points in
         elim (ends_of_pair row.id way.port.nbr u v
         (subst (λ (edge : Edge). Joins edge u v) (sym way.is) joins)) [

@@ -26,7 +26,7 @@ use Rattle.pls_facts.proofs.PointedEdges.{Joins-edge_at, edge_at_listed}
 use Rattle.pls_facts.proofs.PortEdges.{IsAtPort, ports_of_edge}
 use Rattle.pls_boruvka.specs.declared.choice.Choice.{Choice}
 use Rattle.pls_boruvka.specs.inner.Choices.{AreChoices, IsChildOf, IsChoice, IsFirstOf, LeavesTop, edge_of, key_of, top_at}
-use Rattle.pls_boruvka.specs.inner.Chosen.{SomeApart, found_at}
+use Rattle.pls_boruvka.specs.inner.Chosen.{SomeApart, choice_of_place}
 use Rattle.pls_boruvka.proofs.Firsts.{key_of-edge}
 use Rattle.pls_boruvka.proofs.Placing.{id_at, id_at-row}
 
@@ -213,13 +213,13 @@ module _ (rows : List NodeRow) (net : IsNetwork rows) where
 
           -- the first edge that leaves the fragment, as it is found
           pub record IsFound (first : Choice) : Type 0 where
-            pub found : found_at tops choices (place_in rows u) ≡ Some first
+            pub found : choice_of_place tops choices (place_in rows u) ≡ Some first
             pub among : Contains (edges_of rows) (edge_of first)
             pub leaving : IsFirstLeaving (edges_of rows) (ComesBefore (pointed_edges rows))
                 (λ v. fragment_of v == fragment_of u) (edge_of first)
             pub child : IsChildOf rows (edge_of first) first.child
 
-          IsFound-first : (first : Choice) → found_at tops choices (place_in rows u) ≡ Some first
+          IsFound-first : (first : Choice) → choice_of_place tops choices (place_in rows u) ≡ Some first
               → IsFirstOf LeavesHere (Some first) → IsFound first
           IsFound-first first found (leaves, least) =
               let (among, leaving, right) : Contains (edges_of rows) (edge_of first)
@@ -252,11 +252,11 @@ module _ (rows : List NodeRow) (net : IsNetwork rows) where
           found_where : (edge : Edge) → Contains (edges_of rows) edge → Leaves edge inside
               → (first : Choice) × IsFound first
           found_where edge in' leaves =
-              by (found_at tops choices (place_in rows u)) refl
+              by (choice_of_place tops choices (place_in rows u)) refl
               (are.first (top_at tops (place_in rows u)) (top_within u u_in))
             where
-              by : (o : Option Choice) → found_at tops choices (place_in rows u) ≡ o
-                  → IsFirstOf LeavesHere (found_at tops choices (place_in rows u))
+              by : (o : Option Choice) → choice_of_place tops choices (place_in rows u) ≡ o
+                  → IsFirstOf LeavesHere (choice_of_place tops choices (place_in rows u))
                   → (first : Choice) × IsFound first
               by None e is =
                   let (choice, right, here) : (choice : Choice) × IsChoice rows edge choice

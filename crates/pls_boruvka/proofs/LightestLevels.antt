@@ -4,7 +4,8 @@ use Rattle.std.proofs.lemmas.List.Elements.{Contains-append_cases}
 use Rattle.pls_model.specs.Walk.{Edge}
 use Rattle.pls_graph.proofs.Members.{Contains-first, Contains-from_map, Contains-later}
 use Rattle.pls_facts.specs.SpanningTree.{IsSpanningTree}
-use Rattle.pls_facts.specs.Lightest.{IsFirstLeaving, IsGraph, IsLightest}
+use Rattle.pls_facts.specs.Lightest.{IsFirstLeaving, IsLightest}
+use Rattle.pls_facts.specs.inner.Graphs.{IsGraph}
 use Rattle.pls_facts.specs.EdgeOrder.{ComesBefore}
 use Rattle.pls_boruvka.specs.declared.level.Level.{Level}
 use Rattle.pls_boruvka.specs.Boruvka.{AreBoruvkaLevelsFrom, chosen_edge, chosen_edges}
@@ -64,6 +65,6 @@ module _ (edges tree : List Edge) (nodes : List ℕ) (graph : IsGraph edges node
       → AreBoruvkaLevelsFrom edges (ComesBefore tree) nodes depth [] levels → ChosenIn levels
       → IsLightest edges tree nodes
   IsLightest-levels levels are chosen =
-      IsLightest-first (ComesBefore tree) (ComesBefore-order tree) edges tree nodes graph spans
+      IsLightest-first (ComesBefore tree) edges (ComesBefore-order tree edges) tree nodes graph spans
       (λ edge in'. first_from [] levels are chosen (λ other none. absurd (omega (arith, none.1)))
       edge in' (λ none. omega (arith, none.1)))

@@ -10,7 +10,8 @@ use Rattle.pls_graph.proofs.Finds.{item_at}
 use Rattle.pls_graph.proofs.Joined.{AreJoined-adjacent}
 use Rattle.pls_graph.proofs.Members.{Contains-from_map, Contains-from_place, Contains-map, place_from_Contains}
 use Rattle.pls_facts.specs.EdgeOrder.{ComesBefore}
-use Rattle.pls_facts.specs.Lightest.{IsFirstLeaving, IsGraph, weight_of}
+use Rattle.pls_facts.specs.Lightest.{IsFirstLeaving, weight_of}
+use Rattle.pls_facts.specs.inner.Graphs.{IsGraph}
 use Rattle.pls_facts.specs.Pointer.{Falls}
 use Rattle.pls_facts.specs.SpanningTree.{IsSpanningTree, IsTree, pointed_edge, pointed_edges}
 use Rattle.pls_facts.proofs.Chosen.{lighter_tree}
@@ -25,7 +26,7 @@ use Rattle.pls_boruvka.specs.declared.level.Level.{Level}
 use Rattle.pls_boruvka.specs.Boruvka.{IsLevelOf, chosen_edge, chosen_edges}
 use Rattle.pls_boruvka.specs.Fragments.{JoinedChainEnds}
 use Rattle.pls_boruvka.specs.inner.Choices.{AreChoices, IsChildOf, edge_of, top_at}
-use Rattle.pls_boruvka.specs.inner.Chosen.{AreChildrenWithin, AreChosen, IsChild, IsChosen, IsUnpointed, JoinChildren, SomeApart, SomeUnpointed, found_at}
+use Rattle.pls_boruvka.specs.inner.Chosen.{AreChildrenWithin, AreChosen, IsChild, IsChosen, IsUnpointed, JoinChildren, SomeApart, SomeUnpointed, choice_of_place}
 use Rattle.pls_boruvka.proofs.JoinedChains.{AreFlags, AreFragments-ends, one_child}
 use Rattle.pls_boruvka.proofs.Leaving.{IsFound, found_for, fragment_of, row_at}
 use Rattle.pls_boruvka.proofs.Placing.{id_at-row}
@@ -70,16 +71,16 @@ module _ (rows : List NodeRow) (net : IsNetwork rows) (is_tree : IsTree rows) (d
       item_at rows place (omega (arith, before, each)) in
       let in' : Known row.id = id_of_row rows row (Contains-from_place rows place row at) in
       let (first, is) : (first : Choice) × Found row.id in' first = found row.id in' in
-      let here : found_at tops choices place ≡ Some first =
-      ap (found_at tops choices) (sym (place_named rows net place row at)) ∙ is.found in
+      let here : choice_of_place tops choices place ≡ Some first =
+      ap (choice_of_place tops choices) (sym (place_named rows net place row at)) ∙ is.found in
       lighter_tree (edges_of rows) tree (ids_of rows) is_tree.spanning (IsGraph-network rows net)
-      (ComesBefore tree) (ComesBefore-order tree) (before_outside tree)
+      (ComesBefore tree) (ComesBefore-order tree (edges_of rows)) (before_outside tree)
       (λ v. fragment v == fragment row.id) (edge_of first) is.among is.leaving
       (by first here is.child none)
     where
-      by : (first : Choice) → found_at tops choices place ≡ Some first
+      by : (first : Choice) → choice_of_place tops choices place ≡ Some first
           → IsChildOf rows (edge_of first) first.child
-          → IsUnpointed (found_at tops choices place) → Contains tree (edge_of first) → ⊥
+          → IsUnpointed (choice_of_place tops choices place) → Contains tree (edge_of first) → ⊥
       by first here child (inl none) =
           let no : None ≡ Some first = sym none ∙ here in absurd (cc)
       by first here child (inr (other, is, none)) =
@@ -117,7 +118,7 @@ module _ (rows : List NodeRow) (net : IsNetwork rows) (is_tree : IsTree rows) (d
         let inside : place_in rows u < length all =
         omega (arith, chosen.each, slice_get_within rows (place_in rows u) row at) in
         let is : IsChosen rows (top_at tops (place_in rows u))
-        (found_at tops choices (place_in rows u)) (get_or all (place_in rows u) blank) =
+        (choice_of_place tops choices (place_in rows u)) (get_or all (place_in rows u) blank) =
         chosen.chosen (place_in rows u) (get_or all (place_in rows u) blank)
         (slice_get-get_or all (place_in rows u) blank inside) in
         let (first, has) : (first : Choice) × Found u in' first = found u in' in

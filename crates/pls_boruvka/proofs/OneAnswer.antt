@@ -5,7 +5,8 @@ use Rattle.pls_model.specs.Configuration.{IsNetwork, ids_of}
 use Rattle.pls_model.specs.Walk.{Edge, JoinAll, edges_of}
 use Rattle.pls_graph.proofs.Members.{Contains-first, Contains-later}
 use Rattle.pls_facts.specs.EdgeOrder.{ComesBefore}
-use Rattle.pls_facts.specs.Lightest.{IsEdgeOrder, IsFirstLeaving, IsGraph}
+use Rattle.pls_facts.specs.Lightest.{IsEdgeOrder, IsFirstLeaving}
+use Rattle.pls_facts.specs.inner.Graphs.{IsGraph}
 use Rattle.pls_facts.specs.SpanningTree.{pointed_edges}
 use Rattle.pls_facts.proofs.Chains.{IsChainOf-one}
 use Rattle.pls_facts.proofs.Decided.{cases_Edge}
@@ -41,7 +42,7 @@ same_Level one other name edge = by one.fragment one.weight one.a one.b other.fr
     by f w a b g v c d first second third fourth = rw (first, second, third, fourth) refl
 
 module _ (edges : List Edge) (nodes : List ℕ) (graph : IsGraph edges nodes)
-    (Before : Edge → Edge → Type 0) (order : IsEdgeOrder Before) (depth other_depth : ℕ → ℕ)
+    (Before : Edge → Edge → Type 0) (order : IsEdgeOrder edges Before) (depth other_depth : ℕ → ℕ)
     (deep : (u : ℕ) → Contains nodes u → depth u ≡ other_depth u) where
   -- the fragments of some edges have one name each
   one_name : (joined : List Edge) (fragment other : ℕ → ℕ)
@@ -73,7 +74,8 @@ module _ (edges : List Edge) (nodes : List ℕ) (graph : IsGraph edges nodes)
       → IsFirstLeaving edges Before inside other → one ≡ other
   one_first inside one other one_in other_in first second = elim (cases_Edge one other) [
     | inl same ↦ same
-    | inr apart ↦ absurd (order.irreflexive one (order.transitive one other one
+    | inr apart ↦ absurd (order.irreflexive one one_in
+        (order.transitive one other one one_in other_in one_in
         (first.first other other_in second.leaves (λ e. apart (sym e)))
         (second.first one one_in first.leaves apart)))
   ]
@@ -135,8 +137,8 @@ one_answer rows net one other first second =
     ∙ map-agree (λ row. map (λ level. level row.id) first.levels)
     (λ row. map (λ level. level row.id) second.levels) rows
     (λ row row_in. one_levels (edges_of rows) (ids_of rows) (IsGraph-network rows net)
-    (ComesBefore (pointed_edges rows)) (ComesBefore-order (pointed_edges rows)) first.depth
-    second.depth deep [] first.levels second.levels first.are second.are row.id
+    (ComesBefore (pointed_edges rows))
+    (ComesBefore-order (pointed_edges rows) (edges_of rows)) first.depth second.depth deep [] first.levels second.levels first.are second.are row.id
     (id_of_row rows row row_in))
     ∙ sym second.said
   where

@@ -8,11 +8,11 @@ use Rattle.pls_model.specs.Configuration.{IsNetwork}
 use Rattle.pls_graph.proofs.Finds.{item_at}
 use Rattle.pls_graph.proofs.Members.{Contains-from_place}
 use Rattle.pls_facts.specs.Parents.{ParentChain}
-use Rattle.pls_facts.specs.Pointer.{Falls, next}
+use Rattle.pls_facts.specs.Pointer.{Falls, pointed_node}
 use Rattle.pls_facts.proofs.NamedPlaces.{place_named}
 use Rattle.pls_search.specs.PointedPlace.{PointsTo}
 use Rattle.pls_boruvka.specs.Fragments.{JoinedChainEnds, next_joined}
-use Rattle.pls_boruvka.specs.inner.Tops.{AreParents, HasDepths, IsParent, IsTop, parent_at, up_of}
+use Rattle.pls_boruvka.specs.inner.Tops.{AreParents, HasDepths, IsParentPlace, IsTop, parent_at, joined_parent}
 use Rattle.pls_boruvka.proofs.Climbing.{up-parent}
 use Rattle.pls_boruvka.proofs.Listed.{Each-at}
 
@@ -31,17 +31,17 @@ module _ (rows : List NodeRow) (net : IsNetwork rows) (parents : List (Option �
   pub points_by : (place : ℕ) (row : NodeRow) → slice_get rows place ≡ Some row
       → PointsTo rows place (parent_at parents place)
   points_by place row at =
-      (Each-at (IsParent rows) parents place None are.parent
+      (Each-at (IsParentPlace rows) parents place None are.parent
       (omega (arith, are.each, slice_get_within rows place row at))).points
 
   pub points_to_row : (place to : ℕ) (row : NodeRow) → slice_get rows place ≡ Some row
       → parent_at parents place ≡ Some to
-      → (other : NodeRow) × (slice_get rows to ≡ Some other) × (next rows row.id ≡ Some other.id)
+      → (other : NodeRow) × (slice_get rows to ≡ Some other) × (pointed_node rows row.id ≡ Some other.id)
   points_to_row place to row at points =
       subst (PointsTo rows place) points (points_by place row at) row at
 
   pub points_nowhere : (place : ℕ) (row : NodeRow) → slice_get rows place ≡ Some row
-      → parent_at parents place ≡ None → next rows row.id ≡ None
+      → parent_at parents place ≡ None → pointed_node rows row.id ≡ None
   points_nowhere place row at none = subst (PointsTo rows place) none (points_by place row at) row
       at
 
@@ -54,7 +54,7 @@ module _ (rows : List NodeRow) (net : IsNetwork rows) (parents : List (Option �
         let (row, at) : (row : NodeRow) × (slice_get rows place ≡ Some row) =
         item_at rows place (omega (arith, within, are.each)) in
         let (other, there, step) : (other : NodeRow) × (slice_get rows to ≡ Some other)
-        × (next rows row.id ≡ Some other.id) = points_to_row place to row at points in (
+        × (pointed_node rows row.id ≡ Some other.id) = points_to_row place to row at points in (
           omega (arith, are.each, slice_get_within rows to other there),
           ap depth (id_at-row rows place row at) ∙ falls row.id other.id step
               ∙ sym (ap (λ (id : ℕ). depth id + 1) (id_at-row rows to other there)),
@@ -70,13 +70,13 @@ module _ (rows : List NodeRow) (net : IsNetwork rows) (parents : List (Option �
     -- the joined pointer of a node, by the entry of its place
     joined_by : (place : ℕ) (row : NodeRow) → slice_get rows place ≡ Some row → (entry : Bool)
         → get_or joined place false ≡ entry
-        → next_joined rows joined row.id ≡ (if entry then next rows row.id else None)
+        → next_joined rows joined row.id ≡ (if entry then pointed_node rows row.id else None)
     joined_by place row at entry is =
-        ap (λ (entry : Bool). if entry then next rows row.id else None)
+        ap (λ (entry : Bool). if entry then pointed_node rows row.id else None)
         (ap (λ (place : ℕ). get_or joined place false) (place_named rows net place row at) ∙ is)
 
     pub up-none : (place : ℕ) (row : NodeRow) → slice_get rows place ≡ Some row
-        → up_of parents joined place ≡ None → next_joined rows joined row.id ≡ None
+        → joined_parent parents joined place ≡ None → next_joined rows joined row.id ≡ None
     up-none place row at none = by (get_or joined place false) refl
       where
         by : (entry : Bool) → get_or joined place false ≡ entry
@@ -86,7 +86,7 @@ module _ (rows : List NodeRow) (net : IsNetwork rows) (parents : List (Option �
             (sym (cond-true (get_or joined place false) (parent_at parents place) None e) ∙ none)
 
     pub up-some : (place to : ℕ) (row : NodeRow) → slice_get rows place ≡ Some row
-        → up_of parents joined place ≡ Some to
+        → joined_parent parents joined place ≡ Some to
         → (other : NodeRow) × (slice_get rows to ≡ Some other)
         × (next_joined rows joined row.id ≡ Some other.id)
     up-some place to row at points = by (get_or joined place false) refl
@@ -100,7 +100,7 @@ module _ (rows : List NodeRow) (net : IsNetwork rows) (parents : List (Option �
             ∙ points in absurd (cc)
         by true e =
             let (other, there, step) : (other : NodeRow) × (slice_get rows to ≡ Some other)
-            × (next rows row.id ≡ Some other.id) =
+            × (pointed_node rows row.id ≡ Some other.id) =
             points_to_row place to row at (up-parent parents joined place to points) in
             (other, there, joined_by place row at true e ∙ step)
 
@@ -115,7 +115,7 @@ module _ (rows : List NodeRow) (net : IsNetwork rows) (parents : List (Option �
     }
       where
         walk : (place : ℕ) (row : NodeRow) (nodes : List ℕ) → slice_get rows place ≡ Some row
-            → ParentChain (λ one other. up_of parents joined one ≡ Some other) place nodes top
+            → ParentChain (λ one other. joined_parent parents joined one ≡ Some other) place nodes top
             → (ids : List ℕ)
             × ParentChain (λ one other. next_joined rows joined one ≡ Some other) row.id ids last.id
         walk place row [] at same = (

@@ -10,11 +10,11 @@ use Rattle.pls_graph.proofs.Beside.{one_place}
 use Rattle.pls_graph.proofs.Finds.{found_place, from_option_map}
 use Rattle.pls_graph.proofs.Members.{Contains-from_place, place_from_Contains}
 use Rattle.pls_graph.proofs.Placed.{WayBack, port_of_place, row_of_place, row_place, way_back}
-use Rattle.pls_facts.specs.Pointer.{next, pointed_port}
+use Rattle.pls_facts.specs.Pointer.{pointed_node, pointed_port}
 use Rattle.pls_facts.specs.SpanningTree.{edge_at, pointed_edge}
 use Rattle.pls_facts.proofs.Decided.{same_Edge}
 use Rattle.pls_facts.proofs.NamedPlaces.{port_named}
-use Rattle.pls_facts.proofs.Pointed.{next-row}
+use Rattle.pls_facts.proofs.Pointed.{pointed_node-row}
 use Rattle.pls_facts.proofs.PointedEdges.{Joins-edge_at, points_either_way}
 use Rattle.pls_boruvka.specs.inner.Choices.{ChildOf, IsChildOf, IsChoice, choice_at}
 use Rattle.pls_boruvka.specs.inner.Tops.{AreParents, parent_at}
@@ -31,13 +31,13 @@ module _ (rows : List NodeRow) (net : IsNetwork rows) where
 
   -- a row that points at a node does so along the port that names it
   pub points_along : (i p : ℕ) (row : NodeRow) (port : Port) → slice_get rows i ≡ Some row
-      → slice_get row.ports p ≡ Some port → next rows row.id ≡ Some port.nbr
+      → slice_get row.ports p ≡ Some port → pointed_node rows row.id ≡ Some port.nbr
       → pointed_edge row ≡ Some (edge_at row port)
   points_along i p row port at has points =
       let (found, pointed, named) : (found : Port) × (pointed_port row ≡ Some found)
       × (found.nbr ≡ port.nbr) =
       from_option_map (λ (port : Port). port.nbr) (pointed_port row) port.nbr
-      (sym (next-row rows net row (Contains-from_place rows i row at)) ∙ points) in
+      (sym (pointed_node-row rows net row (Contains-from_place rows i row at)) ∙ points) in
       let same : found ≡ port =
       option_and_then_some (slice_get row.ports) row.state.up found pointed
       (λ number up there. one_port i number p row found port at there has named) in
@@ -46,7 +46,7 @@ module _ (rows : List NodeRow) (net : IsNetwork rows) where
   -- so does the node that a port names, along the same edge
   pub points_back : (i p : ℕ) (row other : NodeRow) (port : Port) → slice_get rows i ≡ Some row
       → slice_get row.ports p ≡ Some port → Contains rows other → other.id ≡ port.nbr
-      → next rows other.id ≡ Some row.id → pointed_edge other ≡ Some (edge_at row port)
+      → pointed_node rows other.id ≡ Some row.id → pointed_edge other ≡ Some (edge_at row port)
   points_back i p row other port at has other_in named points =
       let way : WayBack rows row port = way_back rows net i row at p port has in
       let (j, stands, owner) : (j : ℕ) × (slice_get rows j ≡ Some way.other)
@@ -66,8 +66,8 @@ module _ (rows : List NodeRow) (net : IsNetwork rows) where
           found_place (λ port. row.id == port.nbr) far.ports back returns in
           let names : row.id ≡ back.nbr = eqb-true row.id back.nbr passes in
           let id : far.id ≡ port.nbr = ap (λ (row : NodeRow). row.id) one ∙ named in
-          let step : next rows far.id ≡ Some back.nbr =
-          ap (λ (row : NodeRow). next rows row.id) one ∙ points ∙ ap Some names in
+          let step : pointed_node rows far.id ≡ Some back.nbr =
+          ap (λ (row : NodeRow). pointed_node rows row.id) one ∙ points ∙ ap Some names in
           ap pointed_edge (sym one) ∙ points_along j q far back stands also step
           ∙ ap Some (same_Edge (edge_at far back) (edge_at row port) (omega (arith, id, names))
           (omega (arith, id, names)) (sym weighs))
@@ -76,7 +76,7 @@ module _ (rows : List NodeRow) (net : IsNetwork rows) (parents : List (Option �
     (are : AreParents rows parents) where
   -- a node that points at another has that one's place as its parent
   pub parent_of_next : (i j : ℕ) (row other : NodeRow) → slice_get rows i ≡ Some row
-      → slice_get rows j ≡ Some other → next rows row.id ≡ Some other.id
+      → slice_get rows j ≡ Some other → pointed_node rows row.id ≡ Some other.id
       → parent_at parents i ≡ Some j
   parent_of_next i j row other at there points = by (parent_at parents i) refl
     where
@@ -86,7 +86,7 @@ module _ (rows : List NodeRow) (net : IsNetwork rows) (parents : List (Option �
           sym (points_nowhere rows net parents are i row at e) ∙ points in absurd (cc)
       by (Some k) e =
           let (far, stands, step) : (far : NodeRow) × (slice_get rows k ≡ Some far)
-          × (next rows row.id ≡ Some far.id) = points_to_row rows net parents are i k row at e in
+          × (pointed_node rows row.id ≡ Some far.id) = points_to_row rows net parents are i k row at e in
           e ∙ ap Some (one_place rows net k j far other stands there
           (same_Some far.id other.id (sym step ∙ points)))
 
@@ -113,7 +113,7 @@ module _ (rows : List NodeRow) (net : IsNetwork rows) (parents : List (Option �
           | inl on ↦ apart (parent_of_next i other_place row far at there (on ∙ ap Some (sym
               named)))
           | inr back ↦ away (parent_of_next other_place i far row there at
-              (ap (next rows) named ∙ back))
+              (ap (pointed_node rows) named ∙ back))
         ]
     IsChildOf-places (Some child) (inl (same, points)) =
         let (far, there, named) : (other : NodeRow)
@@ -121,7 +121,7 @@ module _ (rows : List NodeRow) (net : IsNetwork rows) (parents : List (Option �
         far_row in
         let (to, stands, step) : (other : NodeRow)
         × (slice_get rows (place_in rows port.nbr) ≡ Some other)
-        × (next rows row.id ≡ Some other.id) =
+        × (pointed_node rows row.id ≡ Some other.id) =
         points_to_row rows net parents are i (place_in rows port.nbr) row at points in
         let one : to ≡ far = same_Some to far (sym stands ∙ there) in (
           row,
@@ -134,7 +134,7 @@ module _ (rows : List NodeRow) (net : IsNetwork rows) (parents : List (Option �
         × (slice_get rows (place_in rows port.nbr) ≡ Some other) × (other.id ≡ port.nbr) =
         far_row in
         let (to, stands, step) : (other : NodeRow) × (slice_get rows i ≡ Some other)
-        × (next rows far.id ≡ Some other.id) =
+        × (pointed_node rows far.id ≡ Some other.id) =
         points_to_row rows net parents are (place_in rows port.nbr) i far there points in
         let one : to ≡ row = same_Some to row (sym stands ∙ at) in (
           far,

@@ -7,7 +7,7 @@ use Rattle.std.proofs.lemmas.Option.{get_or_from_slice_get, slice_get-get_or, sl
 use Rattle.std.proofs.lemmas.Simd.{splat_is_map}
 use Rattle.pls_boruvka.specs.declared.joining.Chosen.{Chosen}
 use Rattle.pls_boruvka.specs.declared.level.Level.{Level}
-use Rattle.pls_boruvka.specs.inner.Chosen.{no_chosen, said_at, said_by}
+use Rattle.pls_boruvka.specs.inner.Chosen.{no_chosen, said_at, levels_said}
 
 -- each list has what the level says behind what it had
 pub record AddLevel (all : List Chosen) (old new : List (List Level)) : Type 0 where
@@ -16,27 +16,27 @@ pub record AddLevel (all : List Chosen) (old new : List (List Level)) : Type 0 w
       → get_or new place [] ≡ get_or old place [] ++ one.level ∷ []
 
 -- before the first round there are no levels
-pub said_by-none : (count : ℕ) → said_by [] count ≡ replicate count []
+pub said_by-none : (count : ℕ) → levels_said [] count ≡ replicate count []
 said_by-none count =
     sym (splat_is_map (range_with_len 0 count) count [] (length-range_with_len 0 count))
 
 -- the levels of the node at a place
 said_there : (rounds : List (List Chosen)) (count place : ℕ) → place < count
-    → get_or (said_by rounds count) place [] ≡ said_at rounds place
+    → get_or (levels_said rounds count) place [] ≡ said_at rounds place
 said_there rounds count place within =
     get_or-map-range_with_len (said_at rounds) 0 count place place [] within (omega arith)
 
 -- they stand at that place
 pub said_by-at : (rounds : List (List Chosen)) (count place : ℕ) → place < count
-    → slice_get (said_by rounds count) place ≡ Some (said_at rounds place)
+    → slice_get (levels_said rounds count) place ≡ Some (said_at rounds place)
 said_by-at rounds count place within =
-    slice_get-get_or (said_by rounds count) place []
+    slice_get-get_or (levels_said rounds count) place []
     (omega (arith, within, length-map-range_with_len (said_at rounds) 0 count))
     ∙ ap Some (said_there rounds count place within)
 
 -- a round adds a level to each
 pub said_by-more : (rounds : List (List Chosen)) (all : List Chosen) (count : ℕ)
-    → length all ≡ count → AddLevel all (said_by rounds count) (said_by (rounds ++ all ∷ []) count)
+    → length all ≡ count → AddLevel all (levels_said rounds count) (levels_said (rounds ++ all ∷ []) count)
 said_by-more rounds all count many = record {
   each = length-map-range_with_len (said_at (rounds ++ all ∷ [])) 0 count
       ∙ sym (length-map-range_with_len (said_at rounds) 0 count);

@@ -6,7 +6,7 @@ use Rattle.pls_model.specs.declared.row.NodeRow.{NodeRow}
 use Rattle.pls_model.specs.Walk.{Edge, AreJoined}
 use Rattle.pls_graph.specs.Places.{place_in}
 use Rattle.pls_facts.specs.Parents.{ParentChain}
-use Rattle.pls_facts.specs.Pointer.{next}
+use Rattle.pls_facts.specs.Pointer.{pointed_node}
 use Rattle.pls_facts.specs.SpanningTree.{pointed_edge}
 
 -- nodes that these edges join are of one fragment, which has the name of its one node of least
@@ -22,7 +22,7 @@ pub record AreFragments (joined : List Edge) (nodes : List ℕ) (depth fragment 
 -- the node that a node points at, where the node's entry is true
 abbrev pub next_joined : List NodeRow → List Bool → ℕ → Option ℕ
 next_joined rows joined id =
-    if get_or joined (place_in rows id) false then next rows id else None
+    if get_or joined (place_in rows id) false then pointed_node rows id else None
 
 -- the edges along which the nodes point whose entries are true
 abbrev pub joined_edges : List NodeRow → List Bool → List Edge

@@ -1,7 +1,7 @@
 //! The levels of all nodes.
 
 ghost use Rattle.std.specs.Prelude.{◌≡◌, ◌<◌, length, map, slice_get, IfOk, Some};
-ghost use Rattle.pls_boruvka.specs.inner.Chosen.{said_by};
+ghost use Rattle.pls_boruvka.specs.inner.Chosen.{levels_said};
 
 use crate::joining::Chosen;
 use crate::level_list::LevelList;
@@ -22,11 +22,11 @@ pub struct LevelLists {
 impl Model for LevelLists {
     ghost use Rattle.std.specs.Prelude.{List, map};
     ghost use Rattle.pls_boruvka.specs.declared.level.Level.{Level};
-    ghost use Rattle.pls_boruvka.specs.inner.Chosen.{said_by};
+    ghost use Rattle.pls_boruvka.specs.inner.Chosen.{levels_said};
 
     ghost Value = { List (List Level) };
 
-    ghost view = { λ lists. said_by (map (λ all. all.items) lists.rounds.value.items) lists.count };
+    ghost view = { λ lists. levels_said (map (λ all. all.items) lists.rounds.value.items) lists.count };
 }
 
 impl LevelLists {
@@ -37,7 +37,7 @@ impl LevelLists {
         count: usize,
     ) -> Result<LevelLists, NoMemory>
         ensures { IfOk result (λ lists.
-            lists ≡ said_by (map (λ all. all.items) rounds.items) count) }
+            lists ≡ levels_said (map (λ all. all.items) rounds.items) count) }
     {
         match Rc::new(alloc, rounds) {
             Ok(rounds) => Ok(LevelLists { rounds, count }),

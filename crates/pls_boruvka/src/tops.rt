@@ -2,7 +2,7 @@
 //! to its end, or to a place whose top is known, and then walked again to note the top along it.
 
 ghost use Rattle.std.specs.Prelude.{◌≡◌, ◌<◌, ◌≤◌, length, IfOk};
-ghost use Rattle.pls_boruvka.specs.inner.Tops.{AreParents, AreTops, AreNotedTops, HasDepths, IsParent, IsTop, up_of};
+ghost use Rattle.pls_boruvka.specs.inner.Tops.{AreParents, AreTops, AreNotedTops, HasDepths, IsParentPlace, IsTop, joined_parent};
 ghost use Rattle.pls_model.specs.declared.limits.TheConstants.{MAX_NODES};
 
 use pls_base::NoMemory;
@@ -25,7 +25,7 @@ pub(crate) fn parents_of(alloc: Global, net: &Network) -> Result<Vec<Option<u32>
 fn parent_of(net: &Network, place: usize) -> Option<u32>
     requires within { place < length net.now }
     requires few { length net.now ≤ MAX_NODES }
-    ensures { IsParent net.now place result }
+    ensures { IsParentPlace net.now place result }
 {
     match pointed_place(net, place) {
         Some(parent) => Some(parent as u32),
@@ -129,7 +129,7 @@ fn note_top(
 fn joined_parent(parents: &[Option<u32>], joined: &[bool], place: usize) -> Option<u32>
     requires within { place < length parents.now }
     requires each { length joined.now ≡ length parents.now }
-    ensures { result ≡ up_of parents.now joined.now place }
+    ensures { result ≡ joined_parent parents.now joined.now place }
 {
     if joined[place] { parents[place] } else { None }
 }

@@ -18,12 +18,12 @@ abbrev pub numbers_of_cycle : CycleLabel → List ℕ
 numbers_of_cycle label = label.depth ∷ []
 
 -- the label with this depth
-abbrev pub depth_label : ℕ → CycleLabel
-depth_label depth = record { depth = depth }
+abbrev pub cycle_says : ℕ → CycleLabel
+cycle_says depth = record { depth = depth }
 
 -- the label of a number
 abbrev pub cycle_label : List ℕ → CycleLabel
-cycle_label list = depth_label (get_or list 0 0)
+cycle_label list = cycle_says (get_or list 0 0)
 
 -- the bits are the code of the node's depth, and nothing more
 abbrev pub IsCycleLabel : (ℕ → List Bool) → List Bool → CycleLabel → Type 0
@@ -55,7 +55,7 @@ judge_acyclic takes view = judge_by (label_in cycle_label takes 1) acyclic_rules
 
 -- the label of a node is its level: its distance in edges from the node whose identity is smallest
 abbrev pub acyclic_says : List NodeRow → NodeRow → CycleLabel → Type 0
-acyclic_says rows row label = saying_level depth_label rows row label
+acyclic_says rows row label = saying_level cycle_says rows row label
 
 -- so is each label
 abbrev pub IsAcyclicMarked : (ℕ → List Bool) → List NodeRow → List (List Bool) → Type 0

@@ -1,6 +1,6 @@
 -- The scheme of two-colourings: what a label says, what a node judges, and the marker's labels. The
 -- property is that the nodes can be given two colours so that the ends of each edge differ.
-use Rattle.std.specs.Prelude.{◌≡◌, ℕ, Bool, true, false, not, List, [], ◌∷◌, Option, Some, None}
+use Rattle.std.specs.Prelude.{◌≡◌, ℕ, Bool, List, [], ◌∷◌, Option, Some, None}
 use Rattle.std.specs.List.{list_all}
 use Rattle.pls_model.specs.declared.row.NodeRow.{NodeRow}
 use Rattle.pls_model.specs.declared.verdict.Verdict.{Verdict}
@@ -8,7 +8,7 @@ use Rattle.pls_graph.specs.declared.size.Size.{Size}
 use Rattle.pls_view.specs.Seen.{Seen}
 use Rattle.pls_scheme.specs.Marked.{IsMarkedBy}
 use Rattle.pls_scheme.specs.Reading.{Read, ReadPort, judge_by}
-use Rattle.pls_facts.specs.Bipartite.{is_odd}
+use Rattle.pls_facts.specs.Bipartite.{is_odd, differ}
 use Rattle.pls_colour.specs.declared.colour_layout.ColourLabel.{ColourLabel}
 use Rattle.pls_colour.specs.Levelled.{saying_level}
 
@@ -25,11 +25,6 @@ abbrev pub colour_label : List Bool → Option ColourLabel
 colour_label [] = None
 colour_label (colour ∷ []) = Some (colour_says colour)
 colour_label (colour ∷ next ∷ others) = None
-
--- the two colours differ
-abbrev pub differ : Bool → Bool → Bool
-differ true other = not other
-differ false other = other
 
 -- the neighbour's colour differs from this one
 abbrev pub differs_from : Bool → ReadPort ColourLabel → Bool

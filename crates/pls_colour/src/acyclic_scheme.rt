@@ -10,9 +10,9 @@ use pls_scheme::{Marker, codes_length, hold_everywhere};
 use std::alloc::Global;
 
 impl<C: NumCode> SaysLevels for AcyclicRules<C> {
-    ghost use Rattle.pls_colour.specs.Acyclic.{depth_label};
+    ghost use Rattle.pls_colour.specs.Acyclic.{cycle_says};
 
-    ghost level_label = { depth_label };
+    ghost level_label = { cycle_says };
 
     fn level_label(level: u32) -> CycleLabel {
         CycleLabel {

@@ -1,7 +1,7 @@
 //! The rules of the scheme `bipartite`: the label is one colour, and differs across each edge.
 
 ghost use Rattle.std.specs.Prelude.{◌≡◌};
-ghost use Rattle.pls_colour.specs.Bipartite.{differ};
+ghost use Rattle.pls_facts.specs.Bipartite.{differ};
 
 use crate::colour_layout::{ColourLabel, ColourLayout};
 use pls_model::State;

@@ -1,36 +1,39 @@
 //! An expression of schemes as a scheme.
 
 ghost use Rattle.std.specs.Prelude.{◌≡◌, ◌≢◌, ◌≤◌, IfNone, IfSome};
-ghost use Rattle.pls_combine.specs.declared.scheme_name.SchemeName.{SchemeName};
-ghost use Rattle.pls_combine.specs.Expression.{Basic, IsSmall, leaves_of};
-ghost use Rattle.pls_combine.specs.inner.Trees.{expression_of};
+ghost use Rattle.pls_names.specs.declared.scheme_name.SchemeName.{SchemeName};
+ghost use Rattle.pls_property.specs.Expression.{IsSmall, Of};
+ghost use Rattle.pls_combine.specs.Expression.{leaves_of};
+ghost use Rattle.pls_property.specs.Held.{expression_of};
 
-use crate::named::Named;
 use crate::rounds::round_of;
-use crate::scheme_name::SchemeName;
-use crate::scheme_tree::{
-    SchemeTree, bound_of, decide_tree, leaves_of, lends_of, mark_tree, verify_tree,
-};
+use crate::scheme_tree::{bound_of, leaves_of, lends_of, map_of, mark_tree, verify_tree};
 use pls_base::{NoMemory, Steps};
 use pls_bits::{BitBuf, Bits, NumCode};
 use pls_graph::{Network, Size};
 use pls_model::Verdict;
+use pls_names::{Named, SchemeName};
+use pls_property::{ExpressionTree, decide_tree};
 use pls_scheme::{Checker, Property, Scheme};
 use pls_view::{LabelStore, Labels, View};
 use std::alloc::Global;
-use std::marker::Model;
+use std::marker::{Model, PhantomData};
+
+/// An expression of schemes: one that stands in no `Map`.
+pub type SchemeTree = ExpressionTree;
 
 /// An expression of at most 8 names and a depth of at most 8, whose labels are written in
-/// the number code `C`, seen as the expression. It is made by [`read_scheme`](crate::read_scheme).
+/// the number code `C`, seen as the expression.
 #[derive(Drop)]
 pub struct AnyScheme<C> {
-    tree: SchemeTree<C>,
+    tree: ExpressionTree,
+    code: PhantomData<C>,
 }
 
 impl<C> Model for AnyScheme<C> {
-    ghost use Rattle.pls_combine.specs.Expression.{Expression, IsSmall};
-    ghost use Rattle.pls_combine.specs.inner.Trees.{expression_of};
-    ghost use Rattle.pls_combine.specs.inner.Codes.{coded_expression};
+    ghost use Rattle.pls_property.specs.Expression.{Expression, IsSmall};
+    ghost use Rattle.pls_property.specs.Held.{expression_of};
+    ghost use Rattle.pls_property.specs.inner.Codes.{coded_expression};
 
     ghost Value = { Expression };
 
@@ -42,30 +45,38 @@ impl<C> Model for AnyScheme<C> {
 }
 
 impl<C> AnyScheme<C> {
-    // The expression as a scheme. It takes no memory.
-    pub(crate) fn of_tree(tree: SchemeTree<C>) -> Self
+    /// The expression as a scheme. It takes no memory.
+    pub fn new(tree: ExpressionTree) -> Self
         requires { IsSmall (expression_of tree) }
         ensures { result ≡ expression_of tree }
     {
-        AnyScheme { tree }
+        let code = PhantomData;
+        AnyScheme { tree, code }
+    }
+
+    /// The same expression, whose labels are written in the number code `D`. It takes no memory.
+    pub fn in_code<D>(self) -> AnyScheme<D>
+        ensures { result ≡ self }
+    {
+        let AnyScheme { tree, code: _ } = self;
+        let code = PhantomData;
+        AnyScheme { tree, code }
     }
 
     /// The name, where the expression is one.
     pub fn name(&self) -> Option<SchemeName>
-        ensures some { IfSome result (λ name. self.now ≡ Basic name) }
-        ensures none { IfNone result ((name : SchemeName) → self.now ≢ Basic name) }
+        ensures some { IfSome result (λ name. self.now ≡ Of name) }
+        ensures none { IfNone result ((name : SchemeName) → self.now ≢ Of name) }
     {
         match &self.tree {
-            SchemeTree::Basic(name) => Some(*name),
-            SchemeTree::Map(_) => None,
-            SchemeTree::And(_, _) => None,
-            SchemeTree::Or(_, _) => None,
+            ExpressionTree::Of(name) => Some(*name),
+            _ => None,
         }
     }
 
-    // The expression.
+    /// The expression.
     #[tactic(auto, using(crate::proofs::Leaves::leaves_few))]
-    pub(crate) fn tree(&self) -> &SchemeTree<C>
+    pub fn tree(&self) -> &ExpressionTree
         ensures same { expression_of result.now ≡ self.now }
         ensures small { IsSmall self.now }
         ensures leaves { leaves_of self.now ≤ 8 }
@@ -115,9 +126,11 @@ impl<C: NumCode> Checker for AnyScheme<C> {
         steps: &mut Steps,
     ) -> Result<Vec<Verdict>, NoMemory> {
         match self.tree() {
-            SchemeTree::Basic(name) => Named::<C>::new(*name).round(alloc, net, labels, steps),
-            SchemeTree::Map(universal) => universal.round(alloc, net, labels, steps),
-            tree => round_of::<C, L>(alloc, tree, net, labels, steps),
+            ExpressionTree::Of(name) => Named::<C>::new(*name).round(alloc, net, labels, steps),
+            ExpressionTree::And(_, _) | ExpressionTree::Or(_, _) => {
+                round_of::<C, L>(alloc, self.tree(), net, labels, steps)
+            }
+            property => map_of::<C>(property).round(alloc, net, labels, steps),
         }
     }
 
@@ -127,12 +140,12 @@ impl<C: NumCode> Checker for AnyScheme<C> {
 }
 
 impl<C: NumCode> Property for AnyScheme<C> {
-    ghost use Rattle.pls_combine.specs.Expression.{HasProperty};
+    ghost use Rattle.pls_property.specs.Expression.{HasProperty};
 
     ghost holds = { λ s rows. HasProperty s rows };
 
     fn decide(&self, alloc: Global, net: &Network) -> Result<bool, NoMemory> {
-        decide_tree::<C>(alloc, self.tree(), net)
+        decide_tree(alloc, self.tree(), net)
     }
 }
 

@@ -4,17 +4,17 @@
 ghost use Rattle.std.specs.Prelude.{◌≡◌, ◌≤◌, true, All, length, IfOk};
 ghost use Rattle.pls_base.specs.Steps.{up_by};
 ghost use Rattle.pls_scheme.specs.Judging.{LeafWithin, RoseByAtMost, verdicts_by};
-ghost use Rattle.pls_combine.specs.Expression.{judge_of, leaves_of};
-ghost use Rattle.pls_combine.specs.inner.Trees.{expression_of};
+ghost use Rattle.pls_combine.specs.Expression.{judge_map, judge_of, leaves_of};
+ghost use Rattle.pls_property.specs.Held.{expression_of};
 
-use crate::named::Named;
-use crate::part_verdicts::{both_verdicts, one_of_verdicts, some_true};
-use crate::parted::{lend_all, part_all, rests_of, tags_of};
-use crate::scheme_tree::{SchemeTree, leaves_of};
+use crate::scheme_tree::{leaves_of, map_of};
 use pls_base::{NoMemory, Steps};
 use pls_bits::NumCode;
 use pls_graph::Network;
 use pls_model::Verdict;
+use pls_names::Named;
+use pls_parts::{both_verdicts, lend_all, one_of_verdicts, part_all, rests_of, some_true, tags_of};
+use pls_property::ExpressionTree;
 use pls_scheme::Checker;
 use pls_view::{Labels, LentLabels};
 use std::alloc::Global;
@@ -22,7 +22,7 @@ use std::alloc::Global;
 // The verdict of each node on its view. It adds one step a node.
 pub(crate) fn round_of<C: NumCode, L: Labels>(
     alloc: Global,
-    tree: &SchemeTree<C>,
+    tree: &ExpressionTree,
     net: &Network,
     labels: &L,
     steps: &mut Steps,
@@ -51,7 +51,7 @@ fn count(steps: &mut Steps, most: usize)
 // those on a part are, where some label has its tag.
 fn round_tree<C: NumCode>(
     alloc: Global,
-    tree: &SchemeTree<C>,
+    tree: &ExpressionTree,
     net: &Network,
     labels: &LentLabels<'_>,
     asked: bool,
@@ -67,24 +67,40 @@ fn round_tree<C: NumCode>(
         return Ok(Vec::new(alloc));
     }
     let verdicts = match tree {
-        SchemeTree::Basic(name) => {
+        ExpressionTree::Of(name) => {
             Named::<C>::new(*name).round(alloc, net, labels, &mut Steps::new())?
         }
-        SchemeTree::Map(universal) => universal.round(alloc, net, labels, &mut Steps::new())?,
-        SchemeTree::And(first, second) => {
+        ExpressionTree::And(first, second) => {
             let parted = part_all::<C>(alloc, labels)?;
             let firsts = round_tree::<C>(alloc, first, net, &parted.fronts, true)?;
             let seconds = round_tree::<C>(alloc, second, net, &parted.backs, true)?;
             let leaves = leaves_of(first);
             both_verdicts::<C>(alloc, net, &parted.whole, leaves, &firsts, &seconds)?
         }
-        SchemeTree::Or(first, second) => {
+        ExpressionTree::Or(first, second) => {
             let tags = tags_of(alloc, labels)?;
             let rests = rests_of(alloc, labels)?;
             let firsts = round_tree::<C>(alloc, first, net, &rests, some_true(&tags.first))?;
             let seconds = round_tree::<C>(alloc, second, net, &rests, some_true(&tags.second))?;
             one_of_verdicts(alloc, net, &tags, leaves_of(first), &firsts, &seconds)?
         }
+        ExpressionTree::Diameter(_) => round_map::<C>(alloc, tree, net, labels)?,
+        ExpressionTree::Bridgeless => round_map::<C>(alloc, tree, net, labels)?,
+        ExpressionTree::Map(_) => round_map::<C>(alloc, tree, net, labels)?,
     };
     Ok(verdicts)
+}
+
+// The verdict of each node on its view, by the universal scheme of a property.
+fn round_map<C: NumCode>(
+    alloc: Global,
+    property: &ExpressionTree,
+    net: &Network,
+    labels: &LentLabels<'_>,
+) -> Result<Vec<Verdict>, NoMemory>
+    requires { length labels.now ≡ length net.now }
+    ensures { IfOk result (λ found. found.items
+        ≡ verdicts_by (judge_map C.takes (expression_of property.now)) net.now labels.now) }
+{
+    map_of::<C>(property).round(alloc, net, labels, &mut Steps::new())
 }

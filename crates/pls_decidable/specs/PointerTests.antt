@@ -5,7 +5,7 @@ use Rattle.std.specs.Option.{option_map_or}
 use Rattle.pls_model.specs.declared.row.Port.{Port}
 use Rattle.pls_model.specs.declared.row.NodeRow.{NodeRow}
 use Rattle.pls_model.specs.Configuration.{ids_of}
-use Rattle.pls_facts.specs.Pointer.{next}
+use Rattle.pls_facts.specs.Pointer.{pointed_node}
 use Rattle.pls_facts.specs.SpanningTree.{is_root}
 use Rattle.pls_facts.specs.Weight.{walk_weight}
 
@@ -14,7 +14,7 @@ use Rattle.pls_facts.specs.Weight.{walk_weight}
 unfoldable pub chain_within : List NodeRow → ℕ → ℕ → List ℕ
 chain_within rows zero u = []
 chain_within rows (suc most) u =
-    option_map_or (λ above. above ∷ chain_within rows most above) (next rows u) []
+    option_map_or (λ above. above ∷ chain_within rows most above) (pointed_node rows u) []
 
 -- the same, at most as many as there are nodes
 abbrev pub chain_of : List NodeRow → ℕ → List ℕ

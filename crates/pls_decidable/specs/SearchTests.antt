@@ -8,6 +8,7 @@ use Rattle.pls_model.specs.Walk.{Edge, edges_of}
 use Rattle.pls_facts.specs.SpanningTree.{is_root, pointed_edges}
 use Rattle.pls_facts.specs.Lightest.{weight_of}
 use Rattle.pls_facts.specs.Classes.{class_of}
+use Rattle.pls_facts.specs.Bipartite.{differ}
 
 -- all lists of so many items out of these
 abbrev pub all_lists : {X : Type 0} → List X → ℕ → List (List X)
@@ -19,10 +20,6 @@ all_lists items (suc count) =
 abbrev pub lists_up_to : {X : Type 0} → List X → ℕ → List (List X)
 lists_up_to items zero = all_lists items 0
 lists_up_to items (suc most) = lists_up_to items most ++ all_lists items (suc most)
-
--- two truth values are not the same
-abbrev pub differ : Bool → Bool → Bool
-differ one other = if one then not other else other
 
 -- the colour of a node, where colours stand in the order of the nodes
 abbrev pub colour_of : List ℕ → List Bool → ℕ → Bool

@@ -19,7 +19,7 @@ use Rattle.pls_search.specs.Depths.{AreDepths}
 use Rattle.pls_search.specs.Distances.{AreDistances, IsDistanceFound}
 use Rattle.pls_search.proofs.Pointed.{stands}
 use Rattle.pls_facts.specs.OnlyNode.{IsOnly, points_at_none}
-use Rattle.pls_facts.specs.Pointer.{Chain, IsChainOf, next}
+use Rattle.pls_facts.specs.Pointer.{Chain, IsChainOf, pointed_node}
 use Rattle.pls_facts.specs.ShortestPath.{IsShortestPathTree}
 use Rattle.pls_facts.specs.SpanningTree.{IsTree}
 use Rattle.pls_facts.specs.Weight.{IsDistance, edge_weight, walk_weight}
@@ -27,7 +27,7 @@ use Rattle.pls_facts.proofs.ChainDepths.{chain_end}
 use Rattle.pls_facts.proofs.Lists.{item_at}
 use Rattle.pls_facts.proofs.NamedPlaces.{place_named}
 use Rattle.pls_facts.proofs.Neighbours.{adjacent_known}
-use Rattle.pls_facts.proofs.Pointed.{IsPointer, IsPointer-next, id_of_row, points_at, row_from_id}
+use Rattle.pls_facts.proofs.Pointed.{IsPointer, IsPointer-pointed_node, id_of_row, points_at, row_from_id}
 use Rattle.pls_facts.proofs.Roots.{a_root, is_root-None}
 use Rattle.pls_facts.proofs.ShortestPaths.{distances_fall, shortest_by_numbers}
 use Rattle.pls_facts.proofs.Weights.{FallsByWeight, RisesByWeight, chain_weighs, distances_rise, port_weighs}
@@ -148,7 +148,7 @@ module _ (rows : List NodeRow) (net : IsNetwork rows) (joined : IsConnected rows
   -- where distances follow the pointers, they fall along them
   pub followed_falls : AreFollowed rows found → FallsByWeight rows far_of
   followed_falls followed u v points =
-      let step : IsPointer rows u v = IsPointer-next rows net u v points in
+      let step : IsPointer rows u v = IsPointer-pointed_node rows net u v points in
       let weighs : edge_weight rows step.row.id step.port.nbr ≡ step.port.weight =
       port_weighs rows net step.row step.port
       (Contains-from_place rows step.place step.row step.at)
@@ -220,7 +220,7 @@ module _ (rows : List NodeRow) (net : IsNetwork rows) (joined : IsConnected rows
             record {
               nodes = chain.nodes;
               chain = subst (Chain rows row.id chain.nodes) end chain.chain;
-              ends = subst (λ (last : ℕ). next rows last ≡ None) end chain.ends;
+              ends = subst (λ (last : ℕ). pointed_node rows last ≡ None) end chain.ends;
               many = chain.many;
             },
             weighs,

@@ -11,7 +11,7 @@ use Rattle.pls_pointer.specs.Tree.{names_root}
 use Rattle.pls_pointer.specs.declared.tree.TreeLabel.{TreeLabel}
 use Rattle.pls_distance.specs.declared.spt.SptLabel.{SptLabel}
 use Rattle.pls_distance.specs.declared.gathering.Gathered.{Gathered}
-use Rattle.pls_distance.specs.Spt.{agrees_on_its_root, follows_target, is_nearest, is_reached_by, tree_port}
+use Rattle.pls_distance.specs.Spt.{agrees_on_its_root, is_beyond_target, is_nearest, is_reached_by, tree_port}
 use Rattle.pls_distance.specs.inner.Gathering.{gathered}
 
 module _ (id : ℕ) (state : State) (own : SptLabel) (ports : List (ReadPort SptLabel))
@@ -40,7 +40,7 @@ module _ (id : ℕ) (state : State) (own : SptLabel) (ports : List (ReadPort Spt
       own.dist == port.label.dist + port.weight) read true
 
   follows_both : (ports : List (ReadPort SptLabel))
-      → follows_target (reading id state own ports)
+      → is_beyond_target (reading id state own ports)
       ≡ both (option_and_then (slice_get ports) state.up)
   follows_both ports =
       ap (λ (read : Option (ReadPort TreeLabel)).
@@ -54,9 +54,9 @@ module _ (id : ℕ) (state : State) (own : SptLabel) (ports : List (ReadPort Spt
       read_tree None = refl
       read_tree (Some number) = slice_get-map tree_port ports number
 
-  follows_more : follows_target after
+  follows_more : is_beyond_target after
       ≡ (if is_pointer state.up (length ports) then (own.depth == port.label.depth + 1
-      && own.dist == port.label.dist + port.weight) else follows_target before)
+      && own.dist == port.label.dist + port.weight) else is_beyond_target before)
   follows_more = follows_both (ports ++ port ∷ [])
       ∙ ap both (at_pointer_more ports port state.up)
       ∙ by (is_pointer state.up (length ports))
@@ -64,7 +64,7 @@ module _ (id : ℕ) (state : State) (own : SptLabel) (ports : List (ReadPort Spt
       by : (here : Bool)
           → both (if here then Some port else option_and_then (slice_get ports) state.up)
           ≡ (if here then (own.depth == port.label.depth + 1
-          && own.dist == port.label.dist + port.weight) else follows_target before)
+          && own.dist == port.label.dist + port.weight) else is_beyond_target before)
       by true = refl
       by false = sym (follows_both ports)
 

@@ -65,8 +65,8 @@ is_farther_than_target view =
 
 -- rule 5: the node points at no port, or it is one deeper than the node that it points at, and
 -- farther by the weight of the edge
-abbrev pub follows_target : Read SptLabel → Bool
-follows_target view = is_deeper_in_tree (tree_reading view) && is_farther_than_target view
+abbrev pub is_beyond_target : Read SptLabel → Bool
+is_beyond_target view = is_deeper_in_tree (tree_reading view) && is_farther_than_target view
 
 -- the distance is at most what it would be by way of the port
 abbrev pub is_reached_by : ℕ → ReadPort SptLabel → Bool
@@ -79,7 +79,7 @@ is_nearest view = list_all (is_reached_by view.own.dist) view.ports
 -- the rules from 3 on
 abbrev pub spt_rules : Read SptLabel → List Bool
 spt_rules view =
-    agrees_on_its_root view ∷ points_or_is_there view ∷ follows_target view ∷ is_nearest view ∷ []
+    agrees_on_its_root view ∷ points_or_is_there view ∷ is_beyond_target view ∷ is_nearest view ∷ []
 
 -- what a node judges
 abbrev pub judge_spt : (List Bool → Option (ℕ × List Bool)) → Seen → Verdict

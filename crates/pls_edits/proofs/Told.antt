@@ -6,7 +6,7 @@ use Rattle.pls_base.specs.declared.text_error.TextError.TheVariants.{NoMemory}
 use Rattle.pls_lines.specs.LineKind.{Always, alone}
 use Rattle.pls_lines.proofs.ListRead.{one_list}
 use Rattle.pls_edits.specs.declared.edit_line.EditLine.{EditLine}
-use Rattle.pls_edits.specs.declared.limits.TheConstants.{MAX_LINES, MAX_ROUNDS}
+use Rattle.pls_model.specs.declared.limits.TheConstants.{MAX_LINES, MAX_ROUNDS}
 use Rattle.pls_edits.specs.EditsText.{AreEdits, AreFew, FitsEdit, IsEditsRefusal, IsTold, TellsEdits, WrittenEdits, edit_line, edits_text, rounds_of}
 use Rattle.pls_edits.specs.laws.EditLaws.{edit_lines, edits_headings, edits_list}
 

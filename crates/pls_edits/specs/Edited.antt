@@ -1,11 +1,11 @@
 -- What an edit makes, which nodes it touches, and why it is refused.
 use Rattle.std.specs.Prelude.{◌≡◌, ℕ, ◌≤◌, ◌^◌, ◌==◌, ◌||◌, nat_lt, Bool, false, List, [], ◌∷◌, filter, length, slice_set, insert, remove, Option, Some}
-use Rattle.pls_model.specs.declared.limits.TheConstants.{MAX_NUM}
+use Rattle.pls_model.specs.declared.limits.TheConstants.{MAX_NUM, MAX_BITS}
 use Rattle.pls_model.specs.declared.row.NodeRow.{NodeRow}
 use Rattle.pls_model.specs.Configuration.{first_of}
-use Rattle.pls_graph.specs.declared.edits.EditError.{EditError}
-use Rattle.pls_graph.specs.declared.edits.EditError.TheVariants.{Absent, Full}
-use Rattle.pls_graph.specs.Edits.{SaysEdit, are_linked, cause, is_absent, join_refusal, joined, leave_refusal, left, link_refusal, linked, state_refusal, unlink_refusal, unlinked, weight_refusal, with_state, with_weight}
+use Rattle.pls_graph_edits.specs.declared.edit_error.EditError.{EditError}
+use Rattle.pls_graph_edits.specs.declared.edit_error.EditError.TheVariants.{Absent, Full}
+use Rattle.pls_graph_edits.specs.Edits.{SaysEdit, are_linked, cause, is_absent, join_refusal, joined, leave_refusal, left, link_refusal, linked, state_refusal, unlink_refusal, unlinked, weight_refusal, with_state, with_weight}
 use Rattle.pls_graph.specs.Places.{place_in}
 use Rattle.pls_view.specs.Labels.{bits_together}
 use Rattle.pls_edits.specs.declared.edit.Edit.{Edit}
@@ -53,15 +53,11 @@ touches (Join id mark num) rows node = id == node
 touches (Leave id) rows node = false
 touches (Label id bits) rows node = (id == node) || are_linked rows id node
 
--- the greatest number of bits of all labels together
-abbrev pub most_bits : ℕ
-most_bits = 2 ^ 28
-
 -- why a label is refused: there is no such node, or all labels together would be too long
 abbrev pub label_refusal : List NodeRow → List (List Bool) → ℕ → List Bool → Option EditError
 label_refusal rows labels id bits = first_of (
     cause (is_absent rows id) Absent
-    ∷ cause (nat_lt most_bits (bits_together (slice_set labels (place_in rows id) bits))) Full ∷ [])
+    ∷ cause (nat_lt MAX_BITS (bits_together (slice_set labels (place_in rows id) bits))) Full ∷ [])
 
 -- why the edit is refused, in a network with these labels: the first cause that holds
 abbrev pub edit_refusal : Edit → List NodeRow → List (List Bool) → Option EditError

@@ -3,7 +3,7 @@ use Rattle.std.specs.Prelude.{◌≡◌, ℕ, ◌-◌, ◌<◌, ◌≤◌, ◌^�
 use Rattle.pls_base.specs.declared.text_error.TextError.{TextError}
 use Rattle.pls_base.specs.declared.text_error.TextError.TheVariants.{Limit, NoMemory}
 use Rattle.pls_base.specs.declared.text_error.Quantity.TheVariants.{Events, Rounds}
-use Rattle.pls_model.specs.declared.limits.TheConstants.{MAX_NUM}
+use Rattle.pls_model.specs.declared.limits.TheConstants.{MAX_LINES, MAX_NUM, MAX_ROUNDS}
 use Rattle.pls_lines.specs.Counted.{counted}
 use Rattle.pls_lines.specs.LineKind.{Always, Says, alone}
 use Rattle.pls_lines.specs.Lines.{Left, Passes}
@@ -16,7 +16,6 @@ use Rattle.pls_labelfile.specs.LabelsText.{FitsLabel, hex_word}
 use Rattle.pls_edits.specs.declared.edit.Edit.TheVariants.{State, Weight, Link, Unlink, Join, Leave, Label}
 use Rattle.pls_edits.specs.declared.edit_line.EditLine.{EditLine}
 use Rattle.pls_edits.specs.declared.edit_line.EditLine.TheVariants.{Edit as Makes, Round}
-use Rattle.pls_edits.specs.declared.limits.TheConstants.{MAX_LINES, MAX_ROUNDS}
 use Rattle.pls_edits.specs.declared.edits_tally.EditsWord.{EditsWord}
 
 -- the first word of a line

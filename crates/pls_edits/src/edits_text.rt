@@ -9,9 +9,9 @@ ghost use Rattle.pls_edits.specs.declared.edit_line.EditLine.{EditLine};
 use crate::edit_line::EditLine;
 use crate::edit_words::EditWords;
 use crate::edits_tally::EditsTally;
-use crate::limits::{MAX_LINES, MAX_ROUNDS};
 use pls_base::{NoMemory, Quantity, TextError};
 use pls_lines::{Lines, ListText, Part, next_item, scan};
+use pls_model::{MAX_LINES, MAX_ROUNDS};
 use std::alloc::Global;
 use std::marker::Model;
 

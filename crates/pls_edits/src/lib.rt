@@ -15,13 +15,12 @@ mod edit_line;
 mod edit_words;
 mod edits_tally;
 mod edits_text;
-mod limits;
 mod number_words;
 
 pub use edit::Edit;
 pub use edit_line::EditLine;
 pub use edits_tally::EditsWord;
 pub use edits_text::{EditsText, scan_edits};
-pub use limits::{MAX_LINES, MAX_ROUNDS};
 pub use pls_base::NoMemory;
-pub use pls_graph::EditError;
+pub use pls_graph_edits::EditError;
+pub use pls_model::{MAX_LINES, MAX_ROUNDS};

@@ -2,7 +2,7 @@
 use Rattle.std.proofs.Common.{◌≡◌, ◌∙◌, ℕ, ◌+◌, List, [], ◌∷◌, Contains, Some, None, refl, sym, ap, arith}
 use Rattle.pls_model.specs.declared.row.NodeRow.{NodeRow}
 use Rattle.pls_model.specs.Configuration.{IsNetwork}
-use Rattle.pls_facts.specs.Pointer.{next, Falls, IsChainOf}
+use Rattle.pls_facts.specs.Pointer.{pointed_node, Falls, IsChainOf}
 use Rattle.pls_facts.proofs.Chains.{IsChainOf-after, IsChainOf-end, IsChainOf-one}
 use Rattle.pls_facts.proofs.Pointed.{chain_stays, ends_at_root, id_of_row, points_from, points_to, root_points_nowhere, row_from_id}
 
@@ -22,7 +22,7 @@ module _ (rows : List NodeRow) (net : IsNetwork rows) where
       let (root, root_in, named) : (root : NodeRow) × Contains rows root × (root.id ≡ last) =
       row_from_id rows last (chain_stays rows net row.id last whole.nodes (id_of_row rows row in')
       whole.chain) in
-      (root, root_in, ends_at_root rows net root root_in (ap (next rows) named ∙ whole.ends), named)
+      (root, root_in, ends_at_root rows net root root_in (ap (pointed_node rows) named ∙ whole.ends), named)
 
   -- depths that are the lengths of the chains fall by one along each pointer
   pub chains_fall : (depth : ℕ → ℕ) → ((row : NodeRow) → Contains rows row
@@ -33,8 +33,8 @@ module _ (rows : List NodeRow) (net : IsNetwork rows) where
       row_from_id rows u (points_from rows net u v points) in
       let (to, to_in, is_v) : (row : NodeRow) × Contains rows row × (row.id ≡ v) =
       row_from_id rows v (points_to rows net u v points) in
-      let step : next rows from.id ≡ Some to.id =
-      ap (next rows) is_u ∙ points ∙ ap Some (sym is_v) in
+      let step : pointed_node rows from.id ≡ Some to.id =
+      ap (pointed_node rows) is_u ∙ points ∙ ap Some (sym is_v) in
       let (last, whole) : (last : ℕ) × IsChainOf rows from.id last (depth from.id) =
       chain_of from from_in in
       let (end, rest) : (last : ℕ) × IsChainOf rows to.id last (depth to.id) =

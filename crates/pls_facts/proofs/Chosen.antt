@@ -7,7 +7,8 @@ use Rattle.pls_model.specs.Walk.{Edge, JoinAll}
 use Rattle.pls_graph.proofs.Joined.{AreJoined-adjacent}
 use Rattle.pls_facts.specs.Path.{IsPath, IsAlong}
 use Rattle.pls_facts.specs.SpanningTree.{IsSpanningTree}
-use Rattle.pls_facts.specs.Lightest.{IsEdgeOrder, IsFirstLeaving, IsGraph, IsLightest, Leaves, OthersAreHeavy, weight_of}
+use Rattle.pls_facts.specs.Lightest.{IsEdgeOrder, IsFirstLeaving, IsLightest, Leaves, OthersAreHeavy, weight_of}
+use Rattle.pls_facts.specs.inner.Graphs.{IsGraph}
 use Rattle.pls_facts.proofs.CycleRule.{path_between}
 use Rattle.pls_facts.proofs.Decided.{cases_Edge, same_Bool}
 use Rattle.pls_facts.proofs.Distinct.{Contains-remove, decide_Contains}
@@ -54,7 +55,7 @@ module _ (edges tree : List Edge) (nodes : List ℕ) (spans : IsSpanningTree edg
             ]
 
     -- in an order that puts a tree edge before each other edge that is no lighter
-    module _ (Before : Edge → Edge → Type 0) (order : IsEdgeOrder Before)
+    module _ (Before : Edge → Edge → Type 0) (order : IsEdgeOrder edges Before)
         (tree_first : (one other : Edge) → Contains tree one → (Contains tree other → ⊥)
         → one.weight ≤ other.weight → Before one other) where
       -- an edge outside the tree that is first to leave a set gives a lighter spanning tree
@@ -81,8 +82,8 @@ module _ (edges tree : List Edge) (nodes : List ℕ) (spans : IsSpanningTree edg
                     stands,
                     sum_by-set (λ (edge : Edge). edge.weight) tree at.0 edge old at.1,
                   )
-              | inr most ↦ absurd (order.irreflexive edge (order.transitive edge old edge later
-                  (tree_first old edge at outside most)))
+              | inr most ↦ absurd (order.irreflexive edge in' (order.transitive edge old edge in'
+                  (spans.among old at) in' later (tree_first old edge at outside most)))
             ],
           )
 

@@ -9,7 +9,8 @@ use Rattle.pls_graph.proofs.Members.{Contains-cons_cases, Contains-filter, Conta
 use Rattle.pls_facts.specs.Classes.{class_of}
 use Rattle.pls_facts.specs.Path.{IsPath, IsAlong}
 use Rattle.pls_facts.specs.SpanningTree.{AreDistinct, IsSpanningTree}
-use Rattle.pls_facts.specs.Lightest.{IsGraph, IsLightest, OthersAreHeavy, weight_of}
+use Rattle.pls_facts.specs.Lightest.{IsLightest, OthersAreHeavy, weight_of}
+use Rattle.pls_facts.specs.inner.Graphs.{IsGraph}
 use Rattle.pls_facts.proofs.Classes.{class-joined}
 use Rattle.pls_facts.proofs.Decided.{cases_Edge}
 use Rattle.pls_facts.proofs.Distinct.{AreDistinct-first, AreDistinct-rest, Contains-remove, Contains-set_kept, Contains-set_new, decide_Contains}

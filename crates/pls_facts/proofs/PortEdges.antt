@@ -9,7 +9,7 @@ use Rattle.pls_model.specs.Walk.{Edge, edges_from, edges_of}
 use Rattle.pls_graph.proofs.Finds.{found_place}
 use Rattle.pls_graph.proofs.Members.{Contains-from_filter, Contains-from_flat_map, Contains-from_map, Contains-from_place, place_from_Contains}
 use Rattle.pls_graph.proofs.Placed.{row_place, way_back, WayBack}
-use Rattle.pls_facts.specs.Lightest.{IsGraph}
+use Rattle.pls_facts.specs.inner.Graphs.{IsGraph}
 use Rattle.pls_facts.specs.SpanningTree.{edge_at}
 use Rattle.pls_facts.proofs.Decided.{same_Edge}
 use Rattle.pls_facts.proofs.Pointed.{id_of_row}

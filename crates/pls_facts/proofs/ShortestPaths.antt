@@ -7,11 +7,11 @@ use Rattle.pls_model.specs.Configuration.{IsNetwork}
 use Rattle.pls_model.specs.Walk.{Walk, edges_of}
 use Rattle.pls_graph.specs.Size.{greatest, weights_of}
 use Rattle.pls_graph.proofs.Members.{Contains-cons_cases, Contains-flat_map, Contains-from_place}
-use Rattle.pls_facts.specs.Pointer.{next, Chain, IsChainOf}
+use Rattle.pls_facts.specs.Pointer.{pointed_node, Chain, IsChainOf}
 use Rattle.pls_facts.specs.ShortestPath.{IsShortestPathTree}
 use Rattle.pls_facts.specs.SpanningTree.{IsTree}
 use Rattle.pls_facts.specs.Weight.{IsDistance, edge_weight, walk_weight}
-use Rattle.pls_facts.proofs.Pointed.{IsPointer, IsPointer-next, points_from, points_to, row_from_id}
+use Rattle.pls_facts.proofs.Pointed.{IsPointer, IsPointer-pointed_node, points_from, points_to, row_from_id}
 use Rattle.pls_facts.proofs.Weights.{FallsByWeight, RisesByWeight, Walk-turned, chain_walk, chain_weighs, port_weighs, walk_weighs}
 
 -- from one node to another there is one distance
@@ -24,13 +24,13 @@ one_distance rows u v one other first second =
 
 -- a node has one chain that ends
 pub one_chain : (rows : List NodeRow) (u last other : ℕ) (nodes others : List ℕ)
-    → Chain rows u nodes last → next rows last ≡ None → Chain rows u others other
-    → next rows other ≡ None → nodes ≡ others
+    → Chain rows u nodes last → pointed_node rows last ≡ None → Chain rows u others other
+    → pointed_node rows other ≡ None → nodes ≡ others
 one_chain rows u last other [] [] chain ends path stops = refl
 one_chain rows u last other [] (y ∷ others) chain ends path stops =
-    let no : None ≡ Some y = sym ends ∙ ap (next rows) (sym chain) ∙ path.0 in absurd (cc)
+    let no : None ≡ Some y = sym ends ∙ ap (pointed_node rows) (sym chain) ∙ path.0 in absurd (cc)
 one_chain rows u last other (x ∷ nodes) [] chain ends path stops =
-    let no : None ≡ Some x = sym stops ∙ ap (next rows) (sym path) ∙ chain.0 in absurd (cc)
+    let no : None ≡ Some x = sym stops ∙ ap (pointed_node rows) (sym path) ∙ chain.0 in absurd (cc)
 one_chain rows u last other (x ∷ nodes) (y ∷ others) chain ends path stops =
     let same : x ≡ y = same_Some x y (sym chain.0 ∙ path.0) in
     let rest : nodes ≡ others =
@@ -97,7 +97,7 @@ module _ (rows : List NodeRow) (net : IsNetwork rows) (shortest : IsShortestPath
 
 -- a chain weighs at most so much for each of its pointers as any edge weighs
 pub chain_within : (rows : List NodeRow) (most : ℕ)
-    → ((u v : ℕ) → next rows u ≡ Some v → edge_weight rows u v ≤ most) → (u v : ℕ)
+    → ((u v : ℕ) → pointed_node rows u ≡ Some v → edge_weight rows u v ≤ most) → (u v : ℕ)
     → (nodes : List ℕ) → Chain rows u nodes v → walk_weight rows u nodes ≤ length nodes * most
 chain_within rows most each u v [] same = omega arith
 chain_within rows most each u v (x ∷ nodes) chain =
@@ -108,10 +108,10 @@ chain_within rows most each u v (x ∷ nodes) chain =
     omega (arith, first, rest, more)
 
 -- no edge weighs more than the greatest weight
-pub edge_within : (rows : List NodeRow) → IsNetwork rows → (u v : ℕ) → next rows u ≡ Some v
+pub edge_within : (rows : List NodeRow) → IsNetwork rows → (u v : ℕ) → pointed_node rows u ≡ Some v
     → edge_weight rows u v ≤ greatest (weights_of rows)
 edge_within rows net u v points =
-    let step : IsPointer rows u v = IsPointer-next rows net u v points in
+    let step : IsPointer rows u v = IsPointer-pointed_node rows net u v points in
     let in' : Contains rows step.row = Contains-from_place rows step.place step.row step.at in
     let has : Contains step.row.ports step.port =
     Contains-from_place step.row.ports step.number step.port step.has in

@@ -9,10 +9,10 @@ use Rattle.pls_graph.proofs.Adjacent.{Adjacent-port}
 use Rattle.pls_graph.proofs.Joined.{Adjacent-turned, Walk-append}
 use Rattle.pls_graph.proofs.Members.{place_from_Contains}
 use Rattle.pls_graph.proofs.Placed.{WayBack, port_of_place, row_of_place, way_back}
-use Rattle.pls_facts.specs.Pointer.{next, Chain}
+use Rattle.pls_facts.specs.Pointer.{pointed_node, Chain}
 use Rattle.pls_facts.specs.Weight.{IsDistance, edge_weight, walk_weight}
 use Rattle.pls_facts.proofs.Neighbours.{Leads, leads}
-use Rattle.pls_facts.proofs.Pointed.{IsPointer, IsPointer-next}
+use Rattle.pls_facts.proofs.Pointed.{IsPointer, IsPointer-pointed_node}
 
 module _ (rows : List NodeRow) where
   -- a walk that goes on weighs what both parts weigh
@@ -21,8 +21,8 @@ module _ (rows : List NodeRow) where
   walk_weight-append u v [] onward same =
       let here : walk_weight rows u onward ≡ walk_weight rows v onward =
       ap (λ (u : ℕ). walk_weight rows u onward) same in omega arith
-  walk_weight-append u v (next ∷ there) onward walk =
-      let rest = walk_weight-append next v there onward walk.1 in omega arith
+  walk_weight-append u v (pointed_node ∷ there) onward walk =
+      let rest = walk_weight-append pointed_node v there onward walk.1 in omega arith
 
   -- a walk and one edge more
   pub walk_weight-step : (u v w : ℕ) (nodes : List ℕ) → Walk (edges_of rows) u nodes v
@@ -33,7 +33,7 @@ module _ (rows : List NodeRow) where
   module _ (value : ℕ → ℕ) where
     -- along a pointer the number falls by the weight of the edge
     abbrev pub FallsByWeight : Type 0
-    FallsByWeight = (u v : ℕ) → next rows u ≡ Some v → value u ≡ value v + edge_weight rows u v
+    FallsByWeight = (u v : ℕ) → pointed_node rows u ≡ Some v → value u ≡ value v + edge_weight rows u v
 
     -- along an edge the number rises by at most the weight of the edge
     abbrev pub RisesByWeight : Type 0
@@ -106,9 +106,9 @@ module _ (rows : List NodeRow) where
         )
 
     -- a node is adjacent to the one that it points at
-    pub next_adjacent : (u v : ℕ) → next rows u ≡ Some v → Adjacent (edges_of rows) u v
+    pub next_adjacent : (u v : ℕ) → pointed_node rows u ≡ Some v → Adjacent (edges_of rows) u v
     next_adjacent u v points =
-        let step : IsPointer rows u v = IsPointer-next rows net u v points in
+        let step : IsPointer rows u v = IsPointer-pointed_node rows net u v points in
         subst (Adjacent (edges_of rows) u) step.named
         (subst (λ (u : ℕ). Adjacent (edges_of rows) u step.port.nbr) (sym step.owner)
         (Adjacent-port rows net step.place step.number step.row step.port step.at step.has))

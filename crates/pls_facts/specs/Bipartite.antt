@@ -1,5 +1,5 @@
 -- Two-colourings of a configuration (any textbook on graphs).
-use Rattle.std.specs.Prelude.{◌≢◌, ℕ, ◌%◌, ◌==◌, Bool, List, Contains}
+use Rattle.std.specs.Prelude.{◌≢◌, ℕ, ◌%◌, ◌==◌, Bool, true, false, not, List, Contains}
 use Rattle.pls_model.specs.declared.row.NodeRow.{NodeRow}
 use Rattle.pls_model.specs.Walk.{Edge, edges_of}
 
@@ -14,3 +14,8 @@ IsBipartite rows = (colour : ℕ → Bool) × Colours colour (edges_of rows)
 -- the number is odd
 abbrev pub is_odd : ℕ → Bool
 is_odd number = number % 2 == 1
+
+-- two colours differ
+abbrev pub differ : Bool → Bool → Bool
+differ true other = not other
+differ false other = other

@@ -21,20 +21,19 @@ pub fn one_walk(net: &Network)
     is_valid(net);
 }
 
-/// An edge outside a spanning tree may take the place of each tree edge on the path between its
-/// ends, and of each tree edge without which the tree does not join its ends: what results is a
-/// spanning tree.
+/// An edge may take the place of each edge of a spanning tree on the path between its ends, and of
+/// each without which the tree does not join its ends: what results is a spanning tree. An edge of
+/// the tree can take only its own place in this way.
 pub fn exchange(net: &Network)
     ensures on_the_path { (tree : List Edge)
         → IsSpanningTree (edges_of net.now) tree (ids_of net.now)
         → (new old : Edge) (path : List ℕ) → Contains (edges_of net.now) new
-        → ¬ Contains tree new → IsPath tree new.a path new.b → (at : Contains tree old)
-        → IsAlong old new.a path
+        → IsPath tree new.a path new.b → (at : Contains tree old) → IsAlong old new.a path
         → IsSpanningTree (edges_of net.now) (slice_set tree at.0 new) (ids_of net.now) }
     ensures between_the_parts { (tree : List Edge)
         → IsSpanningTree (edges_of net.now) tree (ids_of net.now)
-        → (new old : Edge) → Contains (edges_of net.now) new → ¬ Contains tree new
-        → (at : Contains tree old) → ¬ AreJoined (remove tree at.0) new.a new.b
+        → (new old : Edge) → Contains (edges_of net.now) new → (at : Contains tree old)
+        → ¬ AreJoined (remove tree at.0) new.a new.b
         → IsSpanningTree (edges_of net.now) (slice_set tree at.0 new) (ids_of net.now) }
 {
     is_valid(net);
@@ -51,17 +50,17 @@ pub fn cycle_rule(net: &Network)
 }
 
 /// Where each edge of a spanning tree is the first that leaves some set of nodes, in one strict
-/// order of all edges in which lighter ones come first, each edge outside is at least as heavy as
+/// order of the network's edges in which lighter ones come first, each edge outside is at least as heavy as
 /// every tree edge on the path between its ends, and no spanning tree weighs less.
 pub fn cut_rule(net: &Network)
     ensures heavy { (tree : List Edge) (before : Edge → Edge → Bool)
         → IsSpanningTree (edges_of net.now) tree (ids_of net.now)
-        → IsEdgeOrder (λ one other. IsTrue (before one other))
+        → IsEdgeOrder (edges_of net.now) (λ one other. IsTrue (before one other))
         → AreFirstLeaving (edges_of net.now) (λ one other. IsTrue (before one other)) tree
         → OthersAreHeavy (edges_of net.now) tree }
     ensures lightest { (tree : List Edge) (before : Edge → Edge → Bool)
         → IsSpanningTree (edges_of net.now) tree (ids_of net.now)
-        → IsEdgeOrder (λ one other. IsTrue (before one other))
+        → IsEdgeOrder (edges_of net.now) (λ one other. IsTrue (before one other))
         → AreFirstLeaving (edges_of net.now) (λ one other. IsTrue (before one other)) tree
         → IsLightest (edges_of net.now) tree (ids_of net.now) }
 {

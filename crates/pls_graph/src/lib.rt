@@ -2,7 +2,8 @@
 //! [`NetworkBuilder::build`] names why rows are none, and a caller needs no premise afterwards, since
 //! `valid` of [`Network::len`] says what holds. Places count the rows from 0; identities rise with
 //! them. All ports stand in one vector, and beside each the place of its neighbour: a search goes by
-//! [`Network::places`] and looks no identity up.
+//! [`Network::places`] and looks no identity up. Fields and types that are `#[doc(hidden)] pub` are
+//! for `pls_graph_edits` alone, which changes a network in place.
 //!
 //! [`Network::size`] tells how large a network is, [`levels`] the fewest edges from a node to each,
 //! and [`connected`], by the levels from the first node, whether the edges join all nodes.
@@ -15,9 +16,6 @@
 
 mod breadth;
 mod builder;
-mod editing;
-mod edits;
-mod gaps;
 mod guesses;
 mod hints;
 mod incoming;
@@ -28,15 +26,17 @@ mod ranges;
 mod reach;
 mod refusal;
 mod seeking;
-mod shaping;
 mod size;
 mod soundness;
 mod table;
 
 pub use breadth::levels;
 pub use builder::NetworkBuilder;
-pub use edits::EditError;
+#[doc(hidden)]
+pub use hints::Hints;
 pub use network::Network;
 pub use pls_model::{BuildError, NodePorts, NodeRow, Port, State};
 pub use reach::{connected, first_apart};
 pub use size::Size;
+#[doc(hidden)]
+pub use table::{Node, Table};

@@ -1,20 +1,17 @@
 //! Nodes with their ports: all ports stand in one vector, the places of their neighbours beside
 //! them in another, and each node has one range of both.
 
-ghost use Rattle.std.specs.Prelude.{◌≡◌, ◌≢◌, ◌<◌, ◌≤◌, ◌==◌, [], ◌∷◌, ◌++◌, List, ℕ, length, position, slice_get, slice_set, option_map, None, Some, IfOk, IfNone, IfSome, OnOk, OnErr, true};
+ghost use Rattle.std.specs.Prelude.{◌≡◌, ◌≢◌, ◌<◌, ◌≤◌, ◌==◌, [], ◌∷◌, ◌++◌, List, ℕ, length, position, slice_get, slice_set, option_map, None, Some, IfOk, OnOk, OnErr};
 ghost use Rattle.pls_model.specs.declared.row.NodeRow.{NodeRow};
-ghost use Rattle.std.specs.Option.{is_some};
-ghost use Rattle.pls_model.specs.Configuration.{out_of_order, row_of};
+ghost use Rattle.pls_model.specs.Configuration.{out_of_order};
 ghost use Rattle.pls_model.specs.declared.limits.TheConstants.{MAX_NODES};
 ghost use Rattle.pls_model.specs.declared.refusal.BuildError.TheVariants.{Order};
 ghost use Rattle.pls_graph.specs.declared.table.Node.{Node};
 ghost use Rattle.pls_graph.specs.Places.{places_in};
 ghost use Rattle.pls_graph.specs.Rows.{gaining};
-ghost use Rattle.pls_graph.specs.inner.Gaps.{IsGap};
 
-use crate::hints::Hints;
 use crate::ranges::{push_both, range_at_end};
-use crate::seeking::{fill_places, gap_among, order, place_hinted};
+use crate::seeking::{fill_places, order, place_hinted};
 use pls_model::{BuildError, NodePorts, NodeRow, Port, State};
 use std::alloc::{AllocError, Global};
 use std::marker::Model;
@@ -22,20 +19,20 @@ use std::marker::Model;
 /// A node, and the range of the vectors in which its ports stand: the first `count` of the `room`
 /// items from `start` on.
 #[derive(Clone, Copy)]
-pub(crate) struct Node {
-    pub(crate) id: u32,
-    pub(crate) state: State,
-    pub(crate) start: usize,
-    pub(crate) count: usize,
-    pub(crate) room: usize,
+pub struct Node {
+    pub id: u32,
+    pub state: State,
+    pub start: usize,
+    pub count: usize,
+    pub room: usize,
 }
 
 /// Nodes with their ports, seen as the rows of both and, beside each row, as many places.
 #[derive(Drop)]
-pub(crate) struct Table {
-    pub(crate) nodes: Vec<Node>,
-    pub(crate) ports: Vec<Port>,
-    pub(crate) places: Vec<u32>,
+pub struct Table {
+    pub nodes: Vec<Node>,
+    pub ports: Vec<Port>,
+    pub places: Vec<u32>,
 }
 
 impl Model for Table {
@@ -69,11 +66,7 @@ impl Table {
     }
 
     /// No node, with room for so many nodes and ports.
-    pub(crate) fn with_capacity(
-        alloc: Global,
-        nodes: usize,
-        ports: usize,
-    ) -> Result<Table, AllocError>
+    pub fn with_capacity(alloc: Global, nodes: usize, ports: usize) -> Result<Table, AllocError>
         ensures rows { IfOk result (λ table. table.rows ≡ []) }
         ensures places { IfOk result (λ table. table.places ≡ []) }
     {
@@ -86,7 +79,7 @@ impl Table {
 
     /// The number of nodes.
     #[inline(always)]
-    pub(crate) fn len(&self) -> usize
+    pub fn len(&self) -> usize
         ensures rows { result ≡ length self.now.rows }
         ensures places { result ≡ length self.now.places }
     {
@@ -95,7 +88,7 @@ impl Table {
 
     /// The identity and the state of the node at place i.
     #[inline(always)]
-    pub(crate) fn node(&self, i: usize) -> (u32, State)
+    pub fn node(&self, i: usize) -> (u32, State)
         requires { i < length self.now.rows }
         ensures id { option_map (λ row. row.id) (slice_get self.now.rows i) ≡ Some result.0 }
         ensures state { option_map (λ row. row.state) (slice_get self.now.rows i)
@@ -107,7 +100,7 @@ impl Table {
 
     /// The ports of the node at place i.
     #[inline(always)]
-    pub(crate) fn ports(&self, i: usize) -> &[Port]
+    pub fn ports(&self, i: usize) -> &[Port]
         requires { i < length self.now.rows }
         ensures { option_map (λ row. row.ports) (slice_get self.now.rows i) ≡ Some result.now }
     {
@@ -117,7 +110,7 @@ impl Table {
 
     /// The places beside the row at place i, as many as it has ports.
     #[inline(always)]
-    pub(crate) fn places(&self, i: usize) -> &[u32]
+    pub fn places(&self, i: usize) -> &[u32]
         requires { i < length self.now.rows }
         ensures places { slice_get self.now.places i ≡ Some result.now }
         ensures each { option_map (λ row. length row.ports) (slice_get self.now.rows i)
@@ -156,21 +149,6 @@ impl Table {
         place_hinted(self.nodes.as_slice(), hint, id)
     }
 
-    /// Where the identities of the nodes stand.
-    pub(crate) fn hints(&self, alloc: Global) -> Result<Hints, AllocError> {
-        Hints::of(alloc, self.nodes.as_slice())
-    }
-
-    /// The place at which an identity would stand that is new; `None` where a node has it.
-    pub(crate) fn gap_for(&self, id: u32) -> Option<usize>
-        requires { out_of_order self.now.rows ≡ None }
-        ensures gap { IfSome result (λ i. IsGap id i self.now.rows) }
-        ensures new { IfSome result (λ _. row_of self.now.rows id ≡ None) }
-        ensures known { IfNone result (is_some (row_of self.now.rows id) ≡ true) }
-    {
-        gap_among(self.nodes.as_slice(), id)
-    }
-
     /// Puts beside each row the places of the nodes that its ports name.
     pub(crate) fn find_places(&mut self, alloc: Global)
         requires order { out_of_order self.old.rows ≡ None }
@@ -200,7 +178,7 @@ impl Table {
     }
 
     /// Puts a node without ports behind the others.
-    pub(crate) fn add_node(&mut self, id: u32, state: State) -> Result<(), AllocError>
+    pub fn add_node(&mut self, id: u32, state: State) -> Result<(), AllocError>
         ensures rows { OnOk result (self.new.rows
             ≡ self.old.rows ++ (record { id = id; state = state; ports = [] }) ∷ []) }
         ensures places { OnOk result (self.new.places ≡ self.old.places ++ [] ∷ []) }
@@ -219,7 +197,7 @@ impl Table {
 
     /// Puts a port, with the place of its neighbour, behind the others of the node at place i.
     #[inline]
-    pub(crate) fn add_port(&mut self, i: usize, port: Port, place: u32) -> Result<(), AllocError>
+    pub fn add_port(&mut self, i: usize, port: Port, place: u32) -> Result<(), AllocError>
         requires { i < length self.old.rows }
         ensures rows { OnOk result ((row : NodeRow) → slice_get self.old.rows i ≡ Some row
             → self.new.rows
@@ -260,7 +238,7 @@ impl Table {
     }
 
     /// Puts a node with these ports, and the places of their neighbours, behind the others.
-    pub(crate) fn add_row(
+    pub fn add_row(
         &mut self,
         id: u32,
         state: State,

@@ -5,7 +5,8 @@ use Rattle.std.proofs.lemmas.Bool.{lt-ltb, le-ltb}
 use Rattle.pls_base.specs.declared.text_error.TextError.TheVariants.{Limit}
 use Rattle.pls_base.specs.declared.text_error.Quantity.TheVariants.{Bits}
 use Rattle.pls_labelfile.specs.LabelsText.{NamedLabel}
-use Rattle.pls_labelfile.specs.LabelsScan.{IsTold, TellsLabels, WrittenLabels, total_bits, capped}
+use Rattle.pls_labelfile.specs.LabelsScan.{IsTold, TellsLabels, WrittenLabels, total_bits}
+use Rattle.pls_base.specs.Steps.{capped}
 use Rattle.pls_labelfile.specs.Misfit.{misfit}
 use Rattle.pls_labelfile.specs.Refusal.{misfit_error, labels_refusal}
 use Rattle.pls_labelfile.proofs.LabelsPart.{one_told}

@@ -1,15 +1,12 @@
 -- What a reader of a labels part has passed, and what it keeps of the part.
-use Rattle.std.specs.Prelude.{◌≡◌, ℕ, ◌-◌, ◌≤◌, ◌^◌, List, length, min, sum_by, All}
+use Rattle.std.specs.Prelude.{◌≡◌, ℕ, ◌≤◌, ◌^◌, List, length, sum_by, All}
 use Rattle.pls_lines.specs.Lines.{Left, Passes}
 use Rattle.pls_labelfile.specs.LabelsText.{NamedLabel, FitsLabel, labels_lines, labels_text}
+use Rattle.pls_base.specs.Steps.{capped}
 
 -- how many bits all labels have together
 abbrev pub total_bits : List NamedLabel → ℕ
 total_bits labels = sum_by (λ label. length label.bits) labels
-
--- a number, or 2^64 - 1 where that is less
-abbrev pub capped : ℕ → ℕ
-capped number = min number (2 ^ 64 - 1)
 
 -- the text of labels, the number of its heading line, and how many bits the labels have together
 pub record WrittenLabels : Type 0 where

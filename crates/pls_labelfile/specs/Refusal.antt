@@ -7,7 +7,7 @@ use Rattle.pls_labelfile.specs.LabelsText.{NamedLabel}
 use Rattle.pls_labelfile.specs.LabelsScan.{total_bits}
 use Rattle.pls_labelfile.specs.Misfit.{misfit}
 use Rattle.pls_base.specs.declared.refusal_number.TheConstants.{MISFIT}
-use Rattle.pls_labelfile.specs.declared.limits.TheConstants.{MAX_BITS}
+use Rattle.pls_model.specs.declared.limits.TheConstants.{MAX_BITS}
 
 -- labels that do not fit the nodes, by the line of the first that does not; the label at place 0
 -- stands in the line behind the heading

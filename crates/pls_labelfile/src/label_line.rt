@@ -1,6 +1,7 @@
 //! The line of a label.
 
 ghost use Rattle.std.specs.Prelude.{◌≡◌, ◌≢◌, ◌≤◌, ◌<◌, ◌+◌, ◌^◌, ◌↔◌, ◌∷◌, ◌++◌, ℕ, List, length, slice_set, IfNone, IfOk, IfSome, IsTrue};
+ghost use Rattle.pls_model.specs.declared.limits.TheConstants.{MAX_BITS};
 ghost use Rattle.pls_lines.specs.LineKind.{Says};
 ghost use Rattle.pls_lines.specs.Lines.{Stands};
 ghost use Rattle.pls_bits.specs.Hex.{hex_digits};
@@ -8,10 +9,10 @@ ghost use Rattle.pls_view.specs.Stored.{cost};
 ghost use Rattle.pls_labelfile.specs.LabelsText.{FitsLabel, NamedLabel, label_line, label_of_words};
 ghost use Rattle.pls_labelfile.specs.inner.HexWord.{IsHexWord, SaysLabels, word_length};
 
-use crate::limits::MAX_BITS;
 use pls_base::NoMemory;
 use pls_bits::{BitBuf, from_hex, spells_bits};
 use pls_lines::{LineKind, after_word, bytes_before, is_same, number_before, u32_before};
+use pls_model::MAX_BITS;
 use pls_view::LabelRoom;
 use std::alloc::Global;
 use std::marker::Model;
@@ -115,7 +116,7 @@ impl<'a> LabelLine<'a> {
 // for its length, and what follows the line feed; `None` where no such line stands there.
 fn label_words<'a>(text: &'a [u8]) -> Option<(u32, usize, &'a [u8], &'a [u8])>
     ensures id { IfSome result (λ words. words.0 < 2 ^ 32) }
-    ensures short { IfSome result (λ words. words.1 ≤ 2 ^ 28) }
+    ensures short { IfSome result (λ words. words.1 ≤ MAX_BITS) }
     ensures long { IfSome result (λ words. length words.2.now ≡ word_length words.1) }
     ensures stands { IfSome result (λ words.
         text.now ≡ label_of_words words.0 words.1 words.2.now ++ 10 ∷ words.3.now) }
@@ -132,7 +133,7 @@ fn label_words<'a>(text: &'a [u8]) -> Option<(u32, usize, &'a [u8], &'a [u8])>
 
 // How many bytes the word for `len` bits has.
 fn word_length_of(len: usize) -> usize
-    requires { len ≤ 2 ^ 28 }
+    requires { len ≤ MAX_BITS }
     ensures { result ≡ word_length len }
 {
     if len == 0 { 1 } else { 2 * len.div_ceil(8) }

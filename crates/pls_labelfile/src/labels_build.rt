@@ -12,11 +12,11 @@ ghost use Rattle.pls_labelfile.specs.inner.HexWord.{SaysLabels};
 
 use crate::label_line::LabelLine;
 use crate::labels_text::LabelsText;
-use crate::limits::MAX_BITS;
 use pls_base::refusal_number::MISFIT;
 use pls_base::{Quantity, TextError};
 use pls_graph::Network;
 use pls_lines::Lines;
+use pls_model::MAX_BITS;
 use pls_view::{LabelRoom, LabelStore};
 use std::alloc::Global;
 

@@ -8,7 +8,7 @@ ghost use Rattle.pls_model.specs.Configuration.{ids_of};
 ghost use Rattle.pls_bits.specs.Hex.{hex_digits};
 ghost use Rattle.pls_lines.specs.Text.{text_of};
 ghost use Rattle.pls_labelfile.specs.LabelsText.{FitsLabel, hex_word, label_line, labels_text, named};
-ghost use Rattle.pls_labelfile.specs.declared.limits.TheConstants.{MAX_BITS};
+ghost use Rattle.pls_model.specs.declared.limits.TheConstants.{MAX_BITS};
 ghost use Rattle.pls_view.specs.Labels.{bits_together};
 
 use pls_base::{Fault, Gathered, NoMemory, Sink, StdSink};
@@ -28,7 +28,7 @@ pub fn write_labels(alloc: Global, net: &Network, labels: &LabelStore) -> Result
 {
     of_32_bits(net);
     let mut sink = StdSink::new(Vec::new(alloc));
-    match put_labels(net, labels, &mut sink) {
+    match stream_labels(net, labels, &mut sink) {
         Ok(()) => Ok(sink.into_writer()),
         Err(Fault) => Err(NoMemory),
     }
@@ -53,7 +53,7 @@ fn is_small(number: u32)
 ///
 /// `Fault` comes only where the sink's count of faults rose in this call; the sink has then taken a
 /// front of the text, but not all. A sink that is sure of so many bytes takes all.
-pub fn put_labels<K: Sink>(net: &Network, labels: &LabelStore, sink: &mut K) -> Result<(), Fault>
+pub fn stream_labels<K: Sink>(net: &Network, labels: &LabelStore, sink: &mut K) -> Result<(), Fault>
     ensures all { OnOk result (Appends (K.taken sink.old) (K.taken sink.new)
         (labels_text (named (ids_of net.now) labels.now))) }
     ensures part { OnErr result (AppendsPart (K.taken sink.old) (K.taken sink.new)

@@ -3,7 +3,7 @@
 ghost use Rattle.std.specs.Prelude.{◌≡◌, ◌≤◌, length, IfErr, IfOk};
 ghost use Rattle.pls_base.specs.declared.text_error.TextError.TheVariants.{NoMemory};
 ghost use Rattle.pls_view.specs.Labels.{bits_together};
-ghost use Rattle.pls_labelfile.specs.declared.limits.TheConstants.{MAX_BITS};
+ghost use Rattle.pls_model.specs.declared.limits.TheConstants.{MAX_BITS};
 
 use crate::labels_read::read_labels;
 use crate::labels_write::write_labels;

@@ -24,8 +24,8 @@ use Rattle.pls_facts.proofs.Pointed.{id_of_row}
 use Rattle.pls_facts.proofs.RootLevels.{alone_at_0, levels_fall}
 use Rattle.pls_search.specs.SubtreeSizes.{AreParentsWithin, HasParentAt}
 use Rattle.pls_leader.specs.Count.{IsOneNearer, IsParent}
-use Rattle.pls_leader.specs.Rooted.{AreLevelsFrom}
-use Rattle.pls_leader.specs.inner.Nearest.{AreNearest, IsLeast, is_above}
+use Rattle.pls_leader.specs.inner.LevelsFrom.{AreLevelsFrom}
+use Rattle.pls_leader.specs.inner.Nearest.{AreNearest, IsLeast, is_level_nearer}
 
 module _ (rows : List NodeRow) (net : IsNetwork rows) (levels : List ℕ)
     (from : AreLevelsFrom rows 0 levels) (parents : List (Option ℕ))
@@ -68,7 +68,7 @@ module _ (rows : List NodeRow) (net : IsNetwork rows) (levels : List ℕ)
 
   -- one place is nearer than another just where its node is
   nearer_is : (place other : ℕ) (row node : NodeRow) → IsRow place row → IsRow other node
-      → is_above levels place other ≡ true → IsOneNearer rows root row.id node.id
+      → is_level_nearer levels place other ≡ true → IsOneNearer rows root row.id node.id
   nearer_is place other row node at there above =
       let is : level place ≡ level other + 1 = eqb-true (level place) (level other + 1) above in (
         level other,
@@ -77,7 +77,7 @@ module _ (rows : List NodeRow) (net : IsNetwork rows) (levels : List ℕ)
       )
 
   is_nearer : (place other : ℕ) (row node : NodeRow) → IsRow place row → IsRow other node
-      → IsOneNearer rows root row.id node.id → is_above levels place other ≡ true
+      → IsOneNearer rows root row.id node.id → is_level_nearer levels place other ≡ true
   is_nearer place other row node at there nearer =
       let here = one_level (edges_of rows) root row.id (level place) (nearer.0 + 1)
       (level_is place row at) nearer.1 in
@@ -87,7 +87,7 @@ module _ (rows : List NodeRow) (net : IsNetwork rows) (levels : List ℕ)
 
   -- the least place above that is beside a place is that of the parent
   parent_is : (place parent : ℕ) (row node : NodeRow) → IsRow place row → IsRow parent node
-      → IsLeast (is_above levels place) (beside rows place) (Some parent)
+      → IsLeast (is_level_nearer levels place) (beside rows place) (Some parent)
       → IsParent rows root row.id node.id
   parent_is place parent row node at there least = record {
     beside = Adjacent-beside rows net place row at parent node there least.0;
@@ -185,7 +185,7 @@ module _ (rows : List NodeRow) (net : IsNetwork rows) (levels : List ℕ)
         let here = by_id_is place row at in
         let there = by_id_is k target at_k in
         let same = ap by_id named in
-        let above : is_above levels place k ≡ true =
+        let above : is_level_nearer levels place k ≡ true =
         eq-eqb (level place) (level k + 1) (omega (arith, less, here, there, same)) in
         let no : true ≡ false = sym above ∙ nearest.nearest place None has k beside_in in
         absurd (cc)

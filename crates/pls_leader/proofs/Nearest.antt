@@ -12,7 +12,7 @@ use Rattle.pls_graph.proofs.Finds.{from_option_map}
 use Rattle.pls_graph.proofs.Members.{Contains-from_place, place_from_Contains}
 use Rattle.pls_facts.specs.NodeCount.{AreCounted}
 use Rattle.pls_scheme.specs.Marked.{AreRight}
-use Rattle.pls_leader.specs.inner.Nearest.{AreNearest, IsLeast, is_above, lesser}
+use Rattle.pls_leader.specs.inner.Nearest.{AreNearest, IsLeast, is_level_nearer, lesser}
 
 -- a list of so many things, of which each is right for its place
 pub record AreSoFar {X : Type 0} (IsAt : ℕ → X → Type 0) (count : ℕ) (found : List X) : Type 0 where
@@ -50,7 +50,7 @@ module _ {X : Type 0} (IsAt : ℕ → X → Type 0) where
 -- the nearest above, for so many places
 abbrev pub AreNearestSoFar : List NodeRow → List ℕ → ℕ → List (Option ℕ) → Type 0
 AreNearestSoFar rows levels count parents =
-    AreSoFar (λ place parent. IsLeast (is_above levels place) (beside rows place) parent) count
+    AreSoFar (λ place parent. IsLeast (is_level_nearer levels place) (beside rows place) parent) count
     parents
 
 pub all_nearest : (rows : List NodeRow) (levels : List ℕ) (parents : List (Option ℕ))

@@ -16,7 +16,7 @@ use Rattle.pls_facts.specs.OnlyNode.{IsOnly}
 use Rattle.pls_facts.proofs.Levels.{known_level}
 use Rattle.pls_facts.proofs.OnlyNode.{the_only}
 use Rattle.pls_leader.specs.Leader.{leader_says, root_says}
-use Rattle.pls_leader.specs.Rooted.{AreLevelsFrom}
+use Rattle.pls_leader.specs.inner.LevelsFrom.{AreLevelsFrom}
 
 -- in a connected network the levels that are found are those of all nodes
 pub all_levels : (rows : List NodeRow) (place : ℕ) (found : List (Option ℕ)) → IsConnected rows

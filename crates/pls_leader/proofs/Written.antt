@@ -7,7 +7,7 @@ use Rattle.pls_model.specs.Configuration.{IsNetwork}
 use Rattle.pls_facts.proofs.Lists.{item_at}
 use Rattle.pls_search.specs.SubtreeSizes.{AreSubtreeSizes}
 use Rattle.pls_leader.specs.Count.{IsCounted, IsParent, count_of, count_says}
-use Rattle.pls_leader.specs.Rooted.{AreLevelsFrom}
+use Rattle.pls_leader.specs.inner.LevelsFrom.{AreLevelsFrom}
 use Rattle.pls_leader.specs.inner.Nearest.{AreNearest}
 use Rattle.pls_leader.proofs.Counted.{alone, first, ids_many, level, level_is, up_there}
 

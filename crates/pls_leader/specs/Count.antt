@@ -39,8 +39,8 @@ abbrev pub IsCountLabel : (ℕ → List Bool) → List Bool → CountLabel → T
 IsCountLabel code bits label = AreCodesOf code (numbers_of_count label) bits
 
 -- the neighbour has this root and this total
-abbrev pub agrees_with : CountLabel → ReadPort CountLabel → Bool
-agrees_with own port = port.label.root == own.root && port.label.total == own.total
+abbrev pub names_root_and_total : CountLabel → ReadPort CountLabel → Bool
+names_root_and_total own port = port.label.root == own.root && port.label.total == own.total
 
 -- the neighbour is the parent, and one less deep
 abbrev pub is_parent_above : CountLabel → ReadPort CountLabel → Bool
@@ -56,7 +56,7 @@ children_sizes id ports = sum_by (λ port. port.label.size) (filter (is_own_chil
 
 -- rule 3: every neighbour has the own root and the own total
 abbrev pub agrees_on_count : Read CountLabel → Bool
-agrees_on_count view = list_all (agrees_with view.own) view.ports
+agrees_on_count view = list_all (names_root_and_total view.own) view.ports
 
 -- rule 4: own is the identity, and the total is the node's number
 abbrev pub names_itself : Read CountLabel → Bool

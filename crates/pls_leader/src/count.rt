@@ -2,7 +2,7 @@
 //! the node's depth, how many nodes stand at or below it, and how many there are.
 
 ghost use Rattle.std.specs.Prelude.{◌≡◌, ◌==◌, ◌&&◌, ◌||◌, nat_lt};
-ghost use Rattle.pls_leader.specs.Count.{agrees_with, is_own_child, is_parent_above};
+ghost use Rattle.pls_leader.specs.Count.{names_root_and_total, is_own_child, is_parent_above};
 ghost use Rattle.pls_scheme.specs.Reading.{port_with};
 
 use crate::rooted::is_0_at_root_alone;
@@ -99,12 +99,12 @@ pub struct Family {
 impl<C: NumCode> Rules for CountRules<C> {
     ghost use Rattle.std.specs.Prelude.{◌-◌, ◌^◌, min};
     ghost use Rattle.std.specs.List.{list_all, list_any};
-    ghost use Rattle.pls_leader.specs.Count.{agrees_with, children_sizes, is_parent_above};
+    ghost use Rattle.pls_leader.specs.Count.{names_root_and_total, children_sizes, is_parent_above};
 
     type Tally = Family;
 
     ghost tallied = { λ _ own ports. record {
-      agree = list_all (agrees_with own) ports;
+      agree = list_all (names_root_and_total own) ports;
       falls = list_any (is_parent_above own) ports;
       below = min (children_sizes own.own ports) (2 ^ 64 - 1);
     } };
@@ -154,7 +154,7 @@ impl<C: NumCode> Rules for CountRules<C> {
 
 // Whether the neighbour names the own root and the own total.
 fn agrees_with(own: &CountLabel, weight: u32, label: &CountLabel) -> bool
-    ensures { result ≡ agrees_with own.now (port_with weight label.now) }
+    ensures { result ≡ names_root_and_total own.now (port_with weight label.now) }
 {
     label.root == own.root && label.total == own.total
 }

@@ -6,7 +6,7 @@ ghost use Rattle.pls_facts.specs.NodeCount.{AreCounted};
 ghost use Rattle.pls_scheme.specs.Marked.{AreRight};
 ghost use Rattle.pls_search.specs.SubtreeSizes.{AreSubtreeSizes};
 ghost use Rattle.pls_leader.specs.Count.{count_says};
-ghost use Rattle.pls_leader.specs.Rooted.{AreLevelsFrom};
+ghost use Rattle.pls_leader.specs.inner.LevelsFrom.{AreLevelsFrom};
 ghost use Rattle.pls_leader.specs.inner.Nearest.{AreNearest};
 
 use crate::count::{CountLabel, CountRules};

@@ -2,7 +2,7 @@
 
 ghost use Rattle.std.specs.Prelude.{◌≡◌, ◌<◌, length, IfOk};
 ghost use Rattle.pls_graph.specs.Places.{beside};
-ghost use Rattle.pls_leader.specs.inner.Nearest.{AreNearest, IsLeast, is_above, lesser};
+ghost use Rattle.pls_leader.specs.inner.Nearest.{AreNearest, IsLeast, is_level_nearer, lesser};
 
 use pls_base::NoMemory;
 use pls_graph::Network;
@@ -29,7 +29,7 @@ pub(crate) fn nearest_above(
 fn nearest_at(net: &Network, levels: &[u32], place: usize) -> Option<usize>
     requires each { length levels.now ≡ length net.now }
     requires within { place < length net.now }
-    ensures { IsLeast (is_above levels.now place) (beside net.now place) result }
+    ensures { IsLeast (is_level_nearer levels.now place) (beside net.now place) result }
 {
     let mut nearest = None;
     for other in net.places(place) {
@@ -45,7 +45,7 @@ fn nearest_at(net: &Network, levels: &[u32], place: usize) -> Option<usize>
 fn is_above(levels: &[u32], place: usize, other: usize) -> bool
     requires within { place < length levels.now }
     requires inside { other < length levels.now }
-    ensures { result ≡ is_above levels.now place other }
+    ensures { result ≡ is_level_nearer levels.now place other }
 {
     u64::from(levels[place]) == u64::from(levels[other]) + 1
 }

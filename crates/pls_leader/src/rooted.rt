@@ -2,7 +2,8 @@
 
 ghost use Rattle.std.specs.Prelude.{◌≡◌, ◌<◌, length, map, unwrap_or, IfOk};
 ghost use Rattle.pls_model.specs.Walk.{IsConnected};
-ghost use Rattle.pls_leader.specs.Rooted.{AreLevelsFrom, is_0_at_root_alone};
+ghost use Rattle.pls_leader.specs.Rooted.{is_0_at_root_alone};
+ghost use Rattle.pls_leader.specs.inner.LevelsFrom.{AreLevelsFrom};
 
 use pls_base::NoMemory;
 use pls_graph::Network;

@@ -8,6 +8,7 @@ mod labelfile;
 mod lines;
 mod netfile;
 mod views;
+mod ways;
 
 use pls_base::TextError;
 use pls_graph::Network;

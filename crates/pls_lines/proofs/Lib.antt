@@ -9,6 +9,5 @@ pub mod ListRead
 pub mod BothPassed
 pub mod ListOfAll
 pub mod ListWritten
-pub mod Stepped
 pub mod FormTold
 mod FrontByByte

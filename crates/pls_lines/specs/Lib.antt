@@ -1,6 +1,5 @@
 pub mod Text
 pub mod Plain
-pub mod Digits
 pub mod Fault
 pub mod Lines
 pub mod LineKind
@@ -8,7 +7,6 @@ pub mod Part
 pub mod Frame
 pub mod ListPart
 pub mod Worded
-pub mod Steps
 pub mod Counted
 pub mod inner
 pub mod laws

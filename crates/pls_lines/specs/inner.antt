@@ -1,2 +1,3 @@
 -- What private functions say to each other.
 pub mod ListScan
+pub mod Digits

@@ -1,7 +1,7 @@
 //! Numbers at the front of a text, each read as its digits come.
 
 ghost use Rattle.std.specs.Prelude.{◌≡◌, ◌≢◌, ℕ, ◌+◌, ◌<◌, ◌≤◌, ◌^◌, List, ◌∷◌, ◌++◌, IfNone, IfSome, decimal};
-ghost use Rattle.pls_lines.specs.Digits.{BeginsDigit};
+ghost use Rattle.pls_lines.specs.inner.Digits.{BeginsDigit};
 
 use crate::words::after_byte;
 

@@ -13,7 +13,9 @@ mod row;
 mod status;
 mod verdict;
 
-pub use limits::{MAX_DEGREE, MAX_NODES, MAX_NUM, MAX_PORTS};
+pub use limits::{
+    MAX_BITS, MAX_DEGREE, MAX_INPUT, MAX_LINES, MAX_NODES, MAX_NUM, MAX_PORTS, MAX_ROUNDS,
+};
 pub use refusal::BuildError;
 pub use row::{NodePorts, NodeRow, Port, State};
 pub use status::Status;

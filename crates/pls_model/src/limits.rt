@@ -1,4 +1,7 @@
-//! The limits within which a network is read and built.
+//! The limits within which inputs are read, and networks and labels are made.
+
+/// The greatest number of bytes of an input, 2^27.
+pub const MAX_INPUT: u64 = 134_217_728;
 
 /// The greatest number of nodes.
 pub const MAX_NODES: usize = 32_768;
@@ -11,3 +14,13 @@ pub const MAX_DEGREE: usize = 32_767;
 
 /// The greatest `num` of a state, 2^62.
 pub const MAX_NUM: u64 = 4_611_686_018_427_387_904;
+
+/// The greatest number of bits of one label, and of all labels together, 2^28.
+pub const MAX_BITS: u64 = 268_435_456;
+
+/// The greatest number of lines between the heading and the end of a list of events or of edits,
+/// 2^20.
+pub const MAX_LINES: usize = 1_048_576;
+
+/// The greatest number of rounds that edits may ask for.
+pub const MAX_ROUNDS: usize = 128;

@@ -10,7 +10,7 @@ use Rattle.pls_mst.specs.declared.comparing.Compared.{Compared}
 use Rattle.pls_mst.specs.declared.gathering.Gathered.{Gathered}
 use Rattle.pls_mst.specs.declared.label.MstHead.{MstHead}
 use Rattle.pls_mst.specs.declared.label.MstLabel.{MstLabel}
-use Rattle.pls_mst.specs.Rules.{agrees_on_root_and_levels, agrees_with, chose_least_at, chosen_edges_are_least, edge_to, is_chosen_between, is_named_or_shared, on_each_level, on_some_level}
+use Rattle.pls_mst.specs.Rules.{agrees_on_root_and_levels, names_root_and_levels, chose_least_at, chosen_edges_are_least, edge_to, is_chosen_between, is_named_or_shared, on_each_level, on_some_level}
 use Rattle.pls_mst.specs.inner.Comparing.{compared}
 use Rattle.pls_mst.specs.inner.Gathering.{between, gathered, gathered_more}
 use Rattle.pls_mst.specs.inner.Reading.{head_said}
@@ -62,8 +62,8 @@ module _ (id : ℕ) (state : State) (own : MstLabel) (ports : List (ReadPort Mst
       let chosen = at_target (λ port.
       on_some_level (is_chosen_between (edge_to own port)) own.levels port.label.levels) in
       let agrees : agrees_on_root_and_levels after
-      ≡ (agrees_on_root_and_levels before && agrees_with own port) =
-      all_more (agrees_with own) ports port in
+      ≡ (agrees_on_root_and_levels before && names_root_and_levels own port) =
+      all_more (names_root_and_levels own) ports port in
       let last : Numbered = (length ports, port) in
       let leasts : chosen_edges_are_least after
       ≡ (chosen_edges_are_least before && chose_least_at before (length ports) port) =

@@ -33,12 +33,12 @@ is_placed_in_tree view =
     view.own.own == view.id && ((points view || is_root_of_tree view) && follows_target view)
 
 -- the neighbour names the own root, and has as many levels
-abbrev pub agrees_with : MstLabel → ReadPort MstLabel → Bool
-agrees_with own port = port.label.root == own.root && length port.label.levels == length own.levels
+abbrev pub names_root_and_levels : MstLabel → ReadPort MstLabel → Bool
+names_root_and_levels own port = port.label.root == own.root && length port.label.levels == length own.levels
 
 -- rule 4: every neighbour names the own root, and has as many levels
 abbrev pub agrees_on_root_and_levels : Read MstLabel → Bool
-agrees_on_root_and_levels view = list_all (agrees_with view.own) view.ports
+agrees_on_root_and_levels view = list_all (names_root_and_levels view.own) view.ports
 
 -- the test holds on each level, of what the one node has there and what the other has
 abbrev pub on_each_level : (Level → Level → Bool) → List Level → List Level → Bool

@@ -3,7 +3,7 @@
 ghost use Rattle.std.specs.Prelude.{◌≡◌, ◌<◌, length, IfOk, slice_get, Some};
 ghost use Rattle.pls_bits.specs.Gamma.{floor_log};
 ghost use Rattle.pls_model.specs.declared.row.NodeRow.{NodeRow};
-ghost use Rattle.pls_mst.specs.inner.Making.{AreMade, label_from, parent_of};
+ghost use Rattle.pls_mst.specs.inner.Making.{AreMade, label_from, parent_or_own};
 
 use crate::label::MstLabel;
 use crate::mst::MstRules;
@@ -99,7 +99,7 @@ fn label_at(net: &Network, place: usize, root: u32, depth: u32, levels: LevelLis
 // The node that the node at a place points at, and else the node itself.
 fn parent_at(net: &Network, place: usize) -> u32
     requires { place < length net.now }
-    ensures { (row : NodeRow) → slice_get net.now place ≡ Some row → result ≡ parent_of row }
+    ensures { (row : NodeRow) → slice_get net.now place ≡ Some row → result ≡ parent_or_own row }
 {
     is_valid(net);
     let (id, state) = net.node(place);

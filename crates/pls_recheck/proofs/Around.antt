@@ -8,7 +8,7 @@ use Rattle.std.proofs.lemmas.Option.{same_Some, slice_get-get_or, slice_get_with
 use Rattle.pls_model.specs.declared.row.Port.{Port}
 use Rattle.pls_model.specs.declared.row.NodeRow.{NodeRow}
 use Rattle.pls_model.specs.Configuration.{IsNetwork, row_of}
-use Rattle.pls_graph.specs.Edits.{are_linked}
+use Rattle.pls_graph_edits.specs.Edits.{are_linked}
 use Rattle.pls_graph.specs.Places.{beside, place_in}
 use Rattle.pls_graph.proofs.Beside.{beside_row, one_place}
 use Rattle.pls_graph.proofs.Placed.{neighbour_found, place_of_row, row_place}

@@ -8,8 +8,8 @@ use Rattle.pls_model.specs.declared.row.Port.{Port}
 use Rattle.pls_model.specs.declared.row.NodeRow.{NodeRow}
 use Rattle.pls_model.specs.declared.verdict.Verdict.{Verdict}
 use Rattle.pls_model.specs.Configuration.{IsNetwork, ids_of, port_to, row_of}
-use Rattle.pls_graph.specs.Edits.{alone}
-use Rattle.pls_graph.specs.inner.Gaps.{place_with, place_without}
+use Rattle.pls_graph_edits.specs.Edits.{alone}
+use Rattle.pls_graph_edits.specs.inner.Gaps.{place_with, place_without}
 use Rattle.pls_graph.proofs.Finds.{fails_where_none, from_option_map}
 use Rattle.pls_graph.proofs.Placed.{WayBack, ids_differ, place_of_row, row_of_place, way_back}
 use Rattle.pls_view.specs.Seen.{Seen, label_of, seen, seen_port}

@@ -6,7 +6,7 @@ use Rattle.pls_model.specs.declared.row.NodeRow.{NodeRow}
 use Rattle.pls_model.specs.declared.verdict.Verdict.{Verdict}
 use Rattle.pls_model.specs.declared.verdict.Verdict.TheVariants.{Accept}
 use Rattle.pls_model.specs.Configuration.{IsNetwork, ids_of, row_of}
-use Rattle.pls_graph.specs.Edits.{alone, join_refusal, joined, leave_refusal, left}
+use Rattle.pls_graph_edits.specs.Edits.{alone, join_refusal, joined, leave_refusal, left}
 use Rattle.pls_graph.specs.Places.{place_in}
 use Rattle.pls_edits.specs.declared.edit.Edit.TheVariants.{Join, Leave}
 use Rattle.pls_edits.specs.Edited.{place_for}

@@ -7,8 +7,8 @@ use Rattle.std.proofs.lemmas.Option.{same_Some}
 use Rattle.pls_model.specs.declared.row.NodeRow.{NodeRow}
 use Rattle.pls_model.specs.declared.limits.TheConstants.{MAX_NODES}
 use Rattle.pls_model.specs.Configuration.{IsNetwork, first_of, row_of}
-use Rattle.pls_graph.specs.declared.edits.EditError.TheVariants.{Full, HasPorts, Last, Present}
-use Rattle.pls_graph.specs.Edits.{alone, cause, join_refusal, joined, leave_refusal, left, with_row}
+use Rattle.pls_graph_edits.specs.declared.edit_error.EditError.TheVariants.{Full, HasPorts, Last, Present}
+use Rattle.pls_graph_edits.specs.Edits.{alone, cause, join_refusal, joined, leave_refusal, left, with_row}
 use Rattle.pls_graph.proofs.Placed.{ids_rise, place_of_row, row_of_place}
 use Rattle.pls_edits.specs.Edited.{place_for}
 use Rattle.pls_recheck.proofs.Shifted.{insert_here, remove_inserted}

@@ -8,7 +8,7 @@ use Rattle.pls_model.specs.declared.row.NodeRow.{NodeRow}
 use Rattle.pls_model.specs.declared.verdict.Verdict.{Verdict}
 use Rattle.pls_model.specs.declared.row.State.{State}
 use Rattle.pls_model.specs.Configuration.{IsNetwork, ids_of}
-use Rattle.pls_graph.specs.Edits.{change_row, changed, in_state, weighed, weighing, with_state, with_weight}
+use Rattle.pls_graph_edits.specs.Edits.{change_row, changed, in_state, weighed, weighing, with_state, with_weight}
 use Rattle.pls_graph.proofs.Finds.{fails_where_no_position, item_at}
 use Rattle.pls_graph.proofs.Placed.{place_of_row}
 use Rattle.pls_recheck.specs.inner.Flags.{AreAround, AreKept, ClearsSome, MarksMore, beside_itself, cleared, names}

@@ -8,14 +8,15 @@ use Rattle.std.proofs.lemmas.Option.{same_Some, slice_get_within, get_or_from_sl
 use Rattle.pls_model.specs.declared.row.Port.{Port}
 use Rattle.pls_model.specs.declared.row.NodeRow.{NodeRow}
 use Rattle.pls_model.specs.Configuration.{IsNetwork, first_of, port_to, row_of}
-use Rattle.pls_graph.specs.declared.edits.EditError.TheVariants.{Absent, Full}
-use Rattle.pls_graph.specs.Edits.{are_linked, cause, leave_refusal}
+use Rattle.pls_graph_edits.specs.declared.edit_error.EditError.TheVariants.{Absent, Full}
+use Rattle.pls_graph_edits.specs.Edits.{are_linked, cause, leave_refusal}
 use Rattle.pls_graph.specs.Places.{place_in}
 use Rattle.pls_graph.proofs.Finds.{fails_where_no_position, found_place, from_option_map, item_at, list_any-find}
 use Rattle.pls_graph.proofs.Placed.{WayBack, row_of_place, way_back}
 use Rattle.pls_view.specs.Labels.{bits_together}
 use Rattle.pls_view.specs.Seen.{label_of, seen_port}
-use Rattle.pls_edits.specs.Edited.{label_refusal, most_bits}
+use Rattle.pls_edits.specs.Edited.{label_refusal}
+use Rattle.pls_model.specs.declared.limits.TheConstants.{MAX_BITS}
 use Rattle.pls_recheck.specs.inner.Flags.{MarksMore, names}
 use Rattle.pls_recheck.proofs.Steady.{SeeAlike, either_fails}
 
@@ -175,7 +176,7 @@ row_there rows net id i place =
 -- why a label is refused or not, where its node is found
 pub label_by : (rows : List NodeRow) → IsNetwork rows → (labels : List (List Bool)) (id i : ℕ)
     (bits : List Bool) → position (λ row. id == row.id) rows ≡ Some i → (full : Bool)
-    → full ≡ nat_lt most_bits (bits_together (set labels i bits))
+    → full ≡ nat_lt MAX_BITS (bits_together (set labels i bits))
     → label_refusal rows labels id bits ≡ cond full (Some Full) None
 label_by rows net labels id i bits place full is =
     let within = (position-Some (λ (row : NodeRow). id == row.id) rows i

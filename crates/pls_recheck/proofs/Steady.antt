@@ -6,7 +6,7 @@ use Rattle.std.proofs.lemmas.Option.{same_Some, slice_get-map, slice_get-get_or,
 use Rattle.pls_model.specs.declared.row.NodeRow.{NodeRow}
 use Rattle.pls_model.specs.declared.verdict.Verdict.{Verdict}
 use Rattle.pls_model.specs.Configuration.{ids_of}
-use Rattle.pls_graph.specs.Edits.{changed, change_ends, change_row}
+use Rattle.pls_graph_edits.specs.Edits.{changed, change_ends, change_row}
 use Rattle.pls_graph.proofs.Finds.{from_option_map, position-map}
 use Rattle.pls_view.specs.Seen.{Seen, label_of, seen, seen_port}
 use Rattle.pls_recheck.specs.inner.Flags.{AreCurrent, MarksMore}

@@ -4,7 +4,7 @@ ghost use Rattle.std.specs.Prelude.{◌≡◌, ◌≤◌, ◌==◌, ◌||◌, le
 ghost use Rattle.pls_model.specs.declared.limits.TheConstants.{MAX_NUM};
 ghost use Rattle.pls_model.specs.declared.verdict.Verdict.{Verdict};
 ghost use Rattle.pls_model.specs.Configuration.{IsNetwork};
-ghost use Rattle.pls_graph.specs.Edits.{SaysEdit, link_refusal, state_refusal, unlink_refusal, weight_refusal};
+ghost use Rattle.pls_graph_edits.specs.Edits.{SaysEdit, link_refusal, state_refusal, unlink_refusal, weight_refusal};
 ghost use Rattle.pls_view.specs.Seen.{Seen};
 ghost use Rattle.pls_edits.specs.Edited.{FitsNum, RefusesWith, edit_refusal};
 ghost use Rattle.pls_edits.specs.declared.edit.Edit.{Edit};
@@ -16,6 +16,7 @@ ghost use Rattle.pls_recheck.specs.inner.Flags.{ClearsSome, MarksMore};
 use crate::watched::Watched;
 use pls_edits::{Edit, EditError};
 use pls_graph::Network;
+use pls_graph_edits::{link, set_state, set_weight, unlink};
 use pls_model::State;
 
 impl Watched {
@@ -66,7 +67,7 @@ impl Watched {
             → IsCurrent judge self.old → IsCurrent judge self.new) }
     {
         self.net.len();
-        self.net.set_state(id, state)?;
+        set_state(&mut self.net, id, state)?;
         touch(&self.net, id, &mut self.flags);
         Ok(())
     }
@@ -82,7 +83,7 @@ impl Watched {
             → IsCurrent judge self.old → IsCurrent judge self.new) }
     {
         self.net.len();
-        self.net.set_weight(a, b, weight)?;
+        set_weight(&mut self.net, a, b, weight)?;
         touch_ends(&self.net, a, b, &mut self.flags);
         Ok(())
     }
@@ -98,7 +99,7 @@ impl Watched {
             → IsCurrent judge self.old → IsCurrent judge self.new) }
     {
         self.net.len();
-        self.net.link(a, b, weight)?;
+        link(&mut self.net, a, b, weight)?;
         unsettle_ends(&self.net, a, b, &mut self.flags, &mut self.around);
         Ok(())
     }
@@ -114,7 +115,7 @@ impl Watched {
             → IsCurrent judge self.old → IsCurrent judge self.new) }
     {
         self.net.len();
-        self.net.unlink(a, b)?;
+        unlink(&mut self.net, a, b)?;
         unsettle_ends(&self.net, a, b, &mut self.flags, &mut self.around);
         Ok(())
     }

@@ -4,7 +4,7 @@ ghost use Rattle.std.specs.Prelude.{◌≡◌, ◌<◌, ◌≤◌, [], insert, l
 ghost use Rattle.pls_model.specs.declared.limits.TheConstants.{MAX_NUM};
 ghost use Rattle.pls_model.specs.declared.verdict.Verdict.{Verdict};
 ghost use Rattle.pls_model.specs.declared.verdict.Verdict.TheVariants.{Accept};
-ghost use Rattle.pls_graph.specs.Edits.{SaysEdit, joined, join_refusal, leave_refusal, left};
+ghost use Rattle.pls_graph_edits.specs.Edits.{SaysEdit, joined, join_refusal, leave_refusal, left};
 ghost use Rattle.pls_model.specs.Configuration.{IsNetwork};
 ghost use Rattle.pls_graph.specs.Places.{place_in};
 ghost use Rattle.pls_view.specs.Seen.{Seen};
@@ -16,6 +16,7 @@ ghost use Rattle.pls_recheck.specs.Watch.{IsCurrent};
 use crate::watched::Watched;
 use pls_edits::EditError;
 use pls_graph::Network;
+use pls_graph_edits::{join, leave};
 use pls_model::Verdict;
 use pls_view::LabelStore;
 
@@ -59,7 +60,7 @@ impl Watched {
         let Some(i) = self.net.place_of(id) else {
             return Err(EditError::Absent);
         };
-        self.net.leave(id)?;
+        leave(&mut self.net, id)?;
         self.net.len();
         self.labels.remove(i);
         self.flags.remove(i);
@@ -90,7 +91,7 @@ fn join_with_label(
     ensures as_labelled { OnErr result (labels.new ≡ labels.old) }
 {
     net.len();
-    net.join(id, mark, num)?;
+    join(net, id, mark, num)?;
     net.len();
     let i = net.place_of(id).unwrap();
     if labels.insert(i).is_err() {
@@ -105,7 +106,7 @@ fn take_back(net: &mut Network, id: u32)
     requires { leave_refusal net.old id ≡ None }
     ensures { net.new ≡ left net.old id }
 {
-    let gone = net.leave(id);
+    let gone = leave(net, id);
     prove!(gone.is_ok());
 }
 

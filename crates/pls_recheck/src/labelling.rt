@@ -3,11 +3,12 @@
 ghost use Rattle.std.specs.Prelude.{◌≡◌, All, slice_get, ◌<◌, ◌-◌, ◌^◌, length, min, nat_lt, slice_set, None, OnErr, OnOk, IfErr, IfOk, Some};
 ghost use Rattle.pls_model.specs.declared.row.NodeRow.{NodeRow};
 ghost use Rattle.pls_model.specs.declared.verdict.Verdict.{Verdict};
-ghost use Rattle.pls_graph.specs.Edits.{SaysEdit};
+ghost use Rattle.pls_graph_edits.specs.Edits.{SaysEdit};
 ghost use Rattle.pls_graph.specs.Places.{place_in};
 ghost use Rattle.pls_view.specs.Labels.{bits_together};
 ghost use Rattle.pls_view.specs.Seen.{Seen};
-ghost use Rattle.pls_edits.specs.Edited.{label_refusal, most_bits};
+ghost use Rattle.pls_edits.specs.Edited.{label_refusal};
+ghost use Rattle.pls_model.specs.declared.limits.TheConstants.{MAX_BITS};
 ghost use Rattle.pls_edits.specs.declared.edit.Edit.TheVariants.{Label};
 ghost use Rattle.pls_recheck.specs.After.{after};
 ghost use Rattle.pls_recheck.specs.Watch.{IsCurrent};
@@ -54,7 +55,7 @@ impl Watched {
 // Whether all labels together are too long with this one in its place.
 fn is_full(labels: &LabelStore, i: usize, bits: &BitBuf) -> bool
     requires { i < length labels.now }
-    ensures { result ≡ nat_lt most_bits (bits_together (slice_set labels.now i bits.now)) }
+    ensures { result ≡ nat_lt MAX_BITS (bits_together (slice_set labels.now i bits.now)) }
 {
     bits_with(labels, i, bits) > MOST_BITS
 }

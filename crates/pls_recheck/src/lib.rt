@@ -9,6 +9,8 @@
 //! questions. A [`Recheck`] keeps its judge, and its verdicts are those of that judge. A [`Monitor`]
 //! keeps a checker that remembers what each label says, and lends a bench to each round.
 //!
+//! The edits of an input come from [`scan_edits`], as the [`EditLine`]s of an [`EditsText`].
+//!
 //! Definitions stand in `specs/`: `Watch` has the snapshot and what it means that its verdicts are
 //! current, `After` what an edit makes of it. What an edit makes of a network and its labels, which
 //! nodes it touches and why it is refused is said in `specs/Edited` of `pls_edits`.
@@ -34,7 +36,7 @@ pub use bench::Bench;
 pub use counted::Counted;
 pub use judge::Judge;
 pub use monitor::Monitor;
-pub use pls_edits::{Edit, EditError};
+pub use pls_edits::{Edit, EditError, EditLine, EditsText, scan_edits};
 pub use recheck::Recheck;
 pub use tally::Tally;
 pub use watched::Watched;

@@ -9,6 +9,7 @@ ghost use Rattle.pls_recheck.specs.inner.Flags.{set_among};
 
 use pls_base::NoMemory;
 use pls_graph::Network;
+use pls_graph_edits::note_places;
 use pls_model::Verdict;
 use pls_view::LabelStore;
 use std::alloc::Global;
@@ -57,7 +58,7 @@ impl Watched {
         ensures current { IfOk result
             (λ watched. (judge : Seen → Verdict) → IsCurrent judge watched) }
     {
-        net.note_places();
+        note_places(&mut net);
         Watched::begin(alloc, net, labels)
     }
 

@@ -9,7 +9,7 @@ use Rattle.pls_lines.specs.Text.{line_of, text_of}
 use Rattle.pls_lines.specs.laws.Fronts.{text_of-append}
 use Rattle.pls_sim.specs.declared.outcome.Outcome.{Outcome}
 use Rattle.pls_sim.specs.declared.outcome.Outcome.TheVariants.{Decided, Waiting}
-use Rattle.pls_report.specs.Report.{closing_line, node_line, rejecting, rejecting_verdicts, round_line, waiting}
+use Rattle.pls_report.specs.Report.{closing_line, outcome_line, rejecting, rejecting_verdicts, round_line, waiting}
 use Rattle.pls_report.specs.inner.Pieces.{connected_tail, outcome_tail, spaced, waiting_tail}
 
 -- one more number
@@ -38,7 +38,7 @@ line_spaced word (number ∷ numbers) =
 
 pub node_text : (id : ℕ) (outcome : Outcome)
     → ((codes "node " ++ decimal id) ++ outcome_tail outcome) ++ codes "\n"
-    ≡ node_line (id, outcome) ++ 10 ∷ []
+    ≡ outcome_line (id, outcome) ++ 10 ∷ []
 node_text id (Decided Accept) = refl
 node_text id (Decided (Reject leaf rule)) = refl
 node_text id (Waiting ports) =

@@ -43,12 +43,12 @@ outcome_words (Decided (Reject leaf rule)) = codes "reject" ∷ decimal leaf ∷
 outcome_words (Waiting ports) = codes "waiting" ∷ map decimal ports
 
 -- `node ID accept`, `node ID reject LEAF RULE`, or `node ID waiting P1 P2` with the ports not heard
-abbrev pub node_line : ℕ × Outcome → List ℕ
-node_line row = line_of (codes "node" ∷ decimal row.0 ∷ outcome_words row.1)
+abbrev pub outcome_line : ℕ × Outcome → List ℕ
+outcome_line row = line_of (codes "node" ∷ decimal row.0 ∷ outcome_words row.1)
 
 -- the line of a node that has decided
 abbrev pub decided_line : ℕ × Verdict → List ℕ
-decided_line row = node_line (row.0, Decided row.1)
+decided_line row = outcome_line (row.0, Decided row.1)
 
 -- `waiting W`, where the round was played from a schedule
 abbrev pub waiting_words : Bool → List (ℕ × Outcome) → List (List ℕ)
@@ -86,4 +86,4 @@ round_text number checked connected rows =
 
 -- the text of a report
 abbrev pub report_text : Bool → List (ℕ × Outcome) → List ℕ
-report_text simulated rows = text_of (map node_line rows ++ closing_line simulated rows ∷ [])
+report_text simulated rows = text_of (map outcome_line rows ++ closing_line simulated rows ∷ [])

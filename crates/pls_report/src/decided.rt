@@ -3,7 +3,7 @@
 ghost use Rattle.std.specs.Prelude.{◌≡◌, ◌≤◌, ◌+◌, ◌++◌, ◌∷◌, [], codes, decimal, length, take};
 ghost use Rattle.pls_base.specs.Gathered.{Writes};
 ghost use Rattle.pls_sim.specs.declared.outcome.Outcome.TheVariants.{Decided};
-ghost use Rattle.pls_report.specs.Report.{node_line};
+ghost use Rattle.pls_report.specs.Report.{outcome_line};
 ghost use Rattle.pls_report.specs.inner.Pieces.{outcome_tail};
 
 use pls_base::{Fault, Gathered, Sink, write_decimal};
@@ -18,7 +18,7 @@ pub(crate) fn put_decided<K: Sink>(
 ) -> Result<(), Fault>
     ensures { Writes gathered.old gathered.new (K.taken sink.old) (K.taken sink.new)
         (K.faults sink.old) (K.faults sink.new) (K.IsSureOf sink.old) (K.IsSureOf sink.new)
-        result (node_line (id, Decided verdict) ++ 10 ∷ []) }
+        result (outcome_line (id, Decided verdict) ++ 10 ∷ []) }
 {
     let mut line = [0; 80];
     let count = line_in(&mut line, id, verdict);
@@ -30,7 +30,7 @@ fn line_in(into: &mut [u8], id: u32, verdict: Verdict) -> usize
     requires { 80 ≤ length into.old }
     ensures within { result ≤ 80 }
     ensures length { length into.new ≡ length into.old }
-    ensures line { take result into.new ≡ node_line (id, Decided verdict) ++ 10 ∷ [] }
+    ensures line { take result into.new ≡ outcome_line (id, Decided verdict) ++ 10 ∷ [] }
 {
     let word = bytes_at(into, 0, b"node ");
     let named = number_at(into, word, id as u64);

@@ -5,7 +5,7 @@ ghost use Rattle.std.specs.Io.KnownBytes.{Appends};
 ghost use Rattle.pls_base.specs.Gathered.{Writes};
 ghost use Rattle.pls_base.specs.Streams.{AppendsPart, Rose, StaysSure};
 ghost use Rattle.pls_sim.specs.declared.outcome.Outcome.TheVariants.{Waiting};
-ghost use Rattle.pls_report.specs.Report.{closing_line, node_line, report_text, waiting};
+ghost use Rattle.pls_report.specs.Report.{closing_line, outcome_line, report_text, waiting};
 ghost use Rattle.pls_report.specs.inner.Pieces.{spaced, waiting_tail};
 
 use crate::counting;
@@ -69,7 +69,7 @@ fn write_node<K: Sink>(
     ensures { Writes gathered.old gathered.new (K.taken sink.old) (K.taken sink.new)
         (K.faults sink.old) (K.faults sink.new) (K.IsSureOf sink.old) (K.IsSureOf sink.new)
         result
-        (node_line (id, outcome.now) ++ 10 ∷ []) }
+        (outcome_line (id, outcome.now) ++ 10 ∷ []) }
 {
     match outcome {
         Outcome::Decided(verdict) => put_decided(sink, gathered, id, *verdict),
@@ -87,7 +87,7 @@ fn write_waiting_node<K: Sink>(
     ensures { Writes gathered.old gathered.new (K.taken sink.old) (K.taken sink.new)
         (K.faults sink.old) (K.faults sink.new) (K.IsSureOf sink.old) (K.IsSureOf sink.new)
         result
-        (node_line (id, Waiting ports.now) ++ 10 ∷ []) }
+        (outcome_line (id, Waiting ports.now) ++ 10 ∷ []) }
 {
     gathered.put_numbered(sink, b"node ", id as u64)?;
     write_ports(sink, gathered, ports)?;

@@ -5,7 +5,8 @@ use Rattle.std.proofs.lemmas.List.Elements.{All-cons, All-nil}
 use Rattle.pls_bits.specs.declared.num_code.TheConstants.{MAX_CODED, MAX_CODE_BITS}
 use Rattle.pls_bits.specs.NumberCode.{Grows, IsShort}
 use Rattle.pls_scheme.specs.Length.{code_length, codes_length}
-use Rattle.pls_scheme.specs.Marked.{Fits, answered}
+use Rattle.pls_scheme.specs.Marked.{Fits}
+use Rattle.pls_base.specs.Steps.{capped}
 use Rattle.pls_scheme.specs.Numbers.{AreCoded, AreCodesOf, codes_of}
 
 -- numbers are within others, which have codes, place by place
@@ -47,7 +48,7 @@ module _ (code : ℕ → List Bool) (grows : Grows code) (short : IsShort code) 
   pub within_fits : {L : Type 0} (numbers : L → List ℕ) (label : L) (limits : List ℕ)
       → length (numbers label) ≤ 255 → AreWithin (numbers label) limits
       → Fits (λ bits label. AreCodesOf code (numbers label) bits)
-      (λ label. AreCoded (numbers label)) (answered (codes_length code limits)) label
+      (λ label. AreCoded (numbers label)) (capped (codes_length code limits)) label
   within_fits numbers label limits few within =
       let all : AreShort (numbers label) limits = within_short (numbers label) limits within in
       record {

@@ -9,3 +9,4 @@ pub mod MorePorts
 pub mod Passing
 pub mod SaidPorts
 pub mod Storing
+mod Rejecting

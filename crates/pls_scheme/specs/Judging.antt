@@ -1,5 +1,5 @@
 -- Verdicts by numbered rules, and the round of all nodes.
-use Rattle.std.specs.Prelude.{◌≡◌, ℕ, ◌+◌, ◌≤◌, Bool, true, false, if◌then◌else◌, List, [], ◌∷◌, map, All}
+use Rattle.std.specs.Prelude.{◌≡◌, ℕ, ◌+◌, ◌≤◌, Bool, true, if◌then◌else◌, List, [], ◌∷◌, map, All}
 use Rattle.std.specs.List.{AllByRecursion}
 use Rattle.pls_model.specs.declared.row.NodeRow.{NodeRow}
 use Rattle.pls_model.specs.declared.verdict.Verdict.{Verdict}
@@ -34,11 +34,6 @@ AllAccept judge rows labels = All (λ view. judge view ≡ Accept) (views rows l
 abbrev pub LeafWithin : ℕ → Verdict → Type 0
 LeafWithin leaves Accept = Unit {0}
 LeafWithin leaves (Reject leaf rule) = leaf ≤ leaves
-
--- the verdict accepts
-abbrev pub accepts : Verdict → Bool
-accepts Accept = true
-accepts (Reject leaf rule) = false
 
 -- the counter rose by some number of steps that is at most this
 abbrev pub RoseByAtMost : ℕ → ℕ → ℕ → Type 0

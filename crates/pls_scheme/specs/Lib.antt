@@ -4,6 +4,7 @@ pub mod Numbers
 pub mod Length
 pub mod Spelled
 pub mod Marked
+pub mod Scheme
 pub mod SchemeLaws
 pub mod Theorem
 pub mod inner

@@ -1,5 +1,5 @@
 -- Labels of which each says what is right for its node.
-use Rattle.std.specs.Prelude.{◌≡◌, ℕ, ◌-◌, ◌^◌, ◌≤◌, min, Bool, List, length, slice_get, Some}
+use Rattle.std.specs.Prelude.{◌≡◌, ℕ, ◌≤◌, Bool, List, length, slice_get, Some}
 use Rattle.pls_model.specs.declared.row.NodeRow.{NodeRow}
 
 -- the label of each node is the spelling of one that says what is right for the node
@@ -27,7 +27,3 @@ pub record Fits {L : Type 0} (spells : List Bool → L → Type 0) (can : L → 
     (label : L) : Type 0 where
   pub writable : can label
   pub short : (bits : List Bool) → spells bits label → length bits ≤ most
-
--- a number of bits as it is answered: 2^64 - 1 where there are more
-abbrev pub answered : ℕ → ℕ
-answered bits = min bits (2 ^ 64 - 1)

@@ -7,7 +7,8 @@ use Rattle.pls_model.specs.Walk.{IsConnected}
 use Rattle.pls_graph.specs.declared.size.Size.{Size}
 use Rattle.pls_graph.specs.Size.{size_of}
 use Rattle.pls_scheme.specs.Judging.{AllHold}
-use Rattle.pls_scheme.specs.Marked.{Fits, answered}
+use Rattle.pls_scheme.specs.Marked.{Fits}
+use Rattle.pls_base.specs.Steps.{capped}
 use Rattle.pls_scheme.specs.Reading.{Read, read_where}
 
 -- the rules hold at each node where each label says what the function says
@@ -52,4 +53,4 @@ abbrev pub RightFits : {L : Type 0} → (List Bool → L → Type 0) → (L → 
 RightFits {L} spells writable holds says longest =
     (rows : List NodeRow) → IsNetwork rows → IsConnected rows → holds rows → AreWords (size_of rows)
     → (say : ℕ → L) → AreRightEverywhere (says rows) rows say → (row : NodeRow) → Contains rows row
-    → Fits spells writable (answered (longest (size_of rows))) (say row.id)
+    → Fits spells writable (capped (longest (size_of rows))) (say row.id)

@@ -27,7 +27,8 @@ pub trait Layout {
     fn read(alloc: Global, bits: &Bits<'_>) -> Result<Option<Self::Label>, NoMemory>
         ensures { IfOk result (λ found. found ≡ said bits.now) };
 
-    /// Appends the spelling of a label. The one error is want of memory.
+    /// Appends the spelling of a label. The one error is want of memory; nothing is known then of what
+    /// `bits` holds.
     fn append(bits: &mut BitBuf, label: &Self::Label) -> Result<(), NoMemory>
         requires { writable label.now }
         ensures { OnOk result (AddsSpelling spells label.now bits.old bits.new) };

@@ -48,7 +48,7 @@ mod settling;
 mod view_judged;
 
 pub use basic::{Basic, Ruled};
-pub use certify::{are_accepted, certifies};
+pub use certify::{are_accepted, certifies, is_scheme, some_node_rejects};
 pub use checker::Checker;
 pub use coded::{Coded, OfNumbers};
 pub use holding::hold_everywhere;

@@ -4,7 +4,8 @@ ghost use Rattle.std.specs.Prelude.{◌≡◌, ◌↔◌, ℕ, List, IsTrue, IfO
 ghost use Rattle.pls_model.specs.declared.row.NodeRow.{NodeRow};
 ghost use Rattle.pls_model.specs.Walk.{IsConnected};
 ghost use Rattle.pls_graph.specs.declared.size.Size.{Size};
-ghost use Rattle.pls_scheme.specs.Marked.{AreRight, answered};
+ghost use Rattle.pls_scheme.specs.Marked.{AreRight};
+ghost use Rattle.pls_base.specs.Steps.{capped};
 ghost use Rattle.pls_scheme.specs.Theorem.{OneIsRight, RightFits, RulesAreMet, RulesShow};
 
 use crate::judgement::Judgement;
@@ -29,7 +30,7 @@ pub trait Marker: Judgement {
     /// The greatest number of bits of a marked label in a network of this size, or `u64::MAX` where
     /// it is greater. It takes no memory.
     fn longest(&self, size: &Size) -> u64
-        ensures { result ≡ answered (longest self.now size.now) };
+        ensures { result ≡ capped (longest self.now size.now) };
 
     /// What the labels of a connected network say, in the order of the nodes, or `None` exactly
     /// where the property fails. The one error is want of memory.

@@ -1,5 +1,5 @@
-//! A scheme as an example of what a new one has to state, and the tests of schemes and searches: worked
-//! examples, and small networks, all of them, against plain programs.
+//! A scheme as an example of what a new one has to state, and the tests of schemes and searches at
+//! worked examples.
 #![tactic(auto)]
 
 mod independent_set;

@@ -6,14 +6,10 @@ ghost use Rattle.std.specs.Prelude.{IfOk};
 mod boruvka;
 mod combinations;
 mod distances;
-mod expressions;
-mod leaders;
 mod pointers;
 mod rechecks;
 mod schemes;
-mod small;
 mod spanning;
-mod weighed;
 
 use pls_graph::{Network, connected};
 use pls_netfile::read_network;

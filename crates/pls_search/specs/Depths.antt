@@ -3,12 +3,6 @@ use Rattle.std.specs.Prelude.{◌≡◌, ℕ, List, length, slice_get, Some}
 use Rattle.pls_model.specs.declared.row.NodeRow.{NodeRow}
 use Rattle.pls_facts.specs.Pointer.{IsChainOf}
 
--- the chain of the node at a place ends after so many pointers
-abbrev pub IsDepth : List NodeRow → ℕ → ℕ → Type 0
-IsDepth rows place count =
-    (row : NodeRow) → slice_get rows place ≡ Some row
-    → (last : ℕ) × IsChainOf rows row.id last count
-
 -- the length of the chain of each node, in the order of the rows
 pub record AreDepths (rows : List NodeRow) (depths : List ℕ) : Type 0 where
   pub each : length depths ≡ length rows

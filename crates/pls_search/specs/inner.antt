@@ -2,3 +2,4 @@
 pub mod Noting
 pub mod Passing
 pub mod Ahead
+pub mod ChainLengths

@@ -3,9 +3,9 @@
 ghost use Rattle.std.specs.Prelude.{◌≡◌, ◌≤◌, ◌⊎◌, [], length, Some, IfOk};
 ghost use Rattle.pls_model.specs.declared.status.Status.TheVariants.{NoMemory as OutOfMemory};
 ghost use Rattle.pls_words.specs.Words.{words_in};
-ghost use Rattle.pls_app.specs.Answer.{Answer};
-ghost use Rattle.pls_app.specs.Words.{IsAnswer};
+ghost use Rattle.pls_app.specs.Answer.{IsAnswer};
 ghost use Rattle.pls_app.specs.Run.{IsAnswered, Tells};
+ghost use Rattle.pls_app.specs.Said.{Answer};
 ghost use Rattle.pls_tests.specs.declared.memory_run.TheConstants.{ROOM};
 
 use pls_app::{Tally, run};

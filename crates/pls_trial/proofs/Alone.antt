@@ -13,7 +13,7 @@ use Rattle.pls_model.specs.Configuration.{AreWithinLimits, differs_in_weight, id
 use Rattle.pls_model.specs.declared.refusal.BuildError.{BuildError}
 use Rattle.pls_model.specs.declared.refusal.BuildError.TheVariants.{NoMemory, OneWay, Order, Pointer, SelfLink, Twice, Unknown, Weights}
 use Rattle.pls_graph.specs.Build.{IsRefusal, SaysRefusal}
-use Rattle.pls_graph.specs.Edits.{alone}
+use Rattle.pls_graph_edits.specs.Edits.{alone}
 use Rattle.pls_graph.proofs.Members.{Contains-from_map}
 use Rattle.pls_trial.specs.Generator.{nodes_alone}
 use Rattle.pls_trial.proofs.Linking.{Each}

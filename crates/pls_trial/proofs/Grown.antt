@@ -10,7 +10,7 @@ use Rattle.pls_model.specs.declared.row.Port.{Port}
 use Rattle.pls_model.specs.declared.row.State.{State}
 use Rattle.pls_model.specs.declared.row.NodeRow.{NodeRow}
 use Rattle.pls_model.specs.Configuration.{port_to, row_of}
-use Rattle.pls_graph.specs.Edits.{are_linked, changed, linked, linking}
+use Rattle.pls_graph_edits.specs.Edits.{are_linked, changed, linked, linking}
 use Rattle.pls_graph.proofs.Finds.{found_place}
 use Rattle.pls_graph.proofs.Members.{Contains-cons_cases, Contains-from_map, Contains-from_place}
 use Rattle.pls_trial.specs.Generator.{Link, nodes_alone, with_link}

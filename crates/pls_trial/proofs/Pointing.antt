@@ -7,7 +7,7 @@ use Rattle.std.proofs.lemmas.Simd.{map-map}
 use Rattle.pls_model.specs.declared.row.Port.{Port}
 use Rattle.pls_model.specs.declared.row.NodeRow.{NodeRow}
 use Rattle.pls_model.specs.Configuration.{ids_of, row_of}
-use Rattle.pls_graph.specs.Edits.{changed, in_state, with_state}
+use Rattle.pls_graph_edits.specs.Edits.{changed, in_state, with_state}
 use Rattle.pls_graph.proofs.Members.{Contains-first, Contains-later}
 use Rattle.pls_facts.proofs.Pointed.{id_of_row}
 use Rattle.pls_trial.specs.Generator.{at_port_0, pointing}

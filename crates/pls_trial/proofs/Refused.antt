@@ -7,9 +7,9 @@ use Rattle.std.proofs.lemmas.Option.{same_Some}
 use Rattle.pls_model.specs.declared.limits.TheConstants.{MAX_PORTS}
 use Rattle.pls_model.specs.declared.row.NodeRow.{NodeRow}
 use Rattle.pls_model.specs.Configuration.{first_of, ids_of, ports_in, row_of}
-use Rattle.pls_graph.specs.declared.edits.EditError.{EditError}
-use Rattle.pls_graph.specs.declared.edits.EditError.TheVariants.{Absent, Full, HasPorts, Last, NoMemory, Pointer, Present, SelfLink}
-use Rattle.pls_graph.specs.Edits.{SaysEdit, are_linked, cause, fits_state, is_absent, link_refusal, state_refusal}
+use Rattle.pls_graph_edits.specs.declared.edit_error.EditError.{EditError}
+use Rattle.pls_graph_edits.specs.declared.edit_error.EditError.TheVariants.{Absent, Full, HasPorts, Last, NoMemory, Pointer, Present, SelfLink}
+use Rattle.pls_graph_edits.specs.Edits.{SaysEdit, are_linked, cause, fits_state, is_absent, link_refusal, state_refusal}
 use Rattle.pls_graph.proofs.Members.{Contains-cons_cases}
 use Rattle.pls_trial.specs.Generator.{at_port_0}
 use Rattle.pls_trial.specs.inner.Building.{has_port}

@@ -11,18 +11,18 @@ use Rattle.pls_model.specs.declared.row.State.{State}
 use Rattle.pls_model.specs.declared.row.NodeRow.{NodeRow}
 use Rattle.pls_model.specs.Configuration.{IsNetwork, ids_of, row_of}
 use Rattle.pls_model.specs.Walk.{Edge, IsConnected, edges_of}
-use Rattle.pls_graph.specs.Edits.{in_state}
+use Rattle.pls_graph_edits.specs.Edits.{in_state}
 use Rattle.pls_graph.proofs.Finds.{found_place, from_option_map}
 use Rattle.pls_graph.proofs.Joined.{AreJoined-adjacent}
 use Rattle.pls_graph.proofs.Members.{Contains-from_map, Contains-from_place}
 use Rattle.pls_facts.specs.MinimumSpanningTree.{IsMinimumSpanningTree}
-use Rattle.pls_facts.specs.Pointer.{next, pointed_port}
+use Rattle.pls_facts.specs.Pointer.{pointed_node, pointed_port}
 use Rattle.pls_facts.specs.SpanningTree.{IsTree, edge_at, pointed_edge, pointed_edges}
 use Rattle.pls_facts.proofs.CycleRule.{IsLightest-heavy}
 use Rattle.pls_facts.proofs.Decided.{same_Edge}
 use Rattle.pls_facts.proofs.Filtered.{Contains-filter_map, Contains-from_filter_map}
 use Rattle.pls_facts.proofs.Paths.{AreJoined-each}
-use Rattle.pls_facts.proofs.Pointed.{IsPointer, IsPointer-next, id_of_row, row_from_id}
+use Rattle.pls_facts.proofs.Pointed.{IsPointer, IsPointer-pointed_node, id_of_row, row_from_id}
 use Rattle.pls_facts.proofs.PortEdges.{IsAtPort, IsGraph-network, ports_of_edge}
 use Rattle.pls_facts.proofs.Trees.{IsTree-falling}
 use Rattle.pls_trial.specs.Generator.{Link, at_port_0, nodes_alone, pointing, with_link}
@@ -160,9 +160,9 @@ module _ (tree : ℕ → Link) (others : List Link) (given : AreTrialLinks tree 
 
   module _ (net : IsNetwork rows) where
     -- pointers lead to smaller identities
-    smaller : (u v : ℕ) → next rows u ≡ Some v → v < u
+    smaller : (u v : ℕ) → pointed_node rows u ≡ Some v → v < u
     smaller u v to =
-        let step : IsPointer rows u v = IsPointer-next rows net u v to in
+        let step : IsPointer rows u v = IsPointer-pointed_node rows net u v to in
         let (i, id, is) : (i : ℕ) × (step.row.id ≡ i + 2) × (port_of (tree i) ≡ step.port) =
         points step.row (Contains-from_place rows step.place step.row step.at) step.port
         (ap (option_and_then (slice_get step.row.ports)) step.up ∙ step.has) in
@@ -173,8 +173,8 @@ module _ (tree : ℕ → Link) (others : List Link) (given : AreTrialLinks tree 
         omega arith
 
     pub is_tree : IsTree rows
-    is_tree = IsTree-falling rows net (depth (next rows) smaller)
-        (depth-falls (next rows) smaller) 1
+    is_tree = IsTree-falling rows net (depth (pointed_node rows) smaller)
+        (depth-falls (pointed_node rows) smaller) 1
         (λ row in' none. elim (kinds row in') [
           | inl root ↦ root.0
           | inr is ↦ let no : None ≡ Some 0 = sym none ∙ is.up in absurd (cc)

@@ -5,7 +5,7 @@ use Rattle.std.specs.Prelude.{ℕ, zero, suc, ◌+◌, ◌-◌, ◌*◌, ◌%◌
 use Rattle.std.specs.List.{range_with_len}
 use Rattle.pls_model.specs.declared.row.State.{State}
 use Rattle.pls_model.specs.declared.row.NodeRow.{NodeRow}
-use Rattle.pls_graph.specs.Edits.{alone, are_linked, in_state, linked}
+use Rattle.pls_graph_edits.specs.Edits.{alone, are_linked, in_state, linked}
 
 -- the number behind another
 abbrev pub next : ℕ → ℕ

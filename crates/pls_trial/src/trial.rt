@@ -11,7 +11,8 @@ ghost use Rattle.pls_trial.specs.inner.Building.{AreReady, has_port};
 
 use crate::draws::Draws;
 use pls_base::NoMemory;
-use pls_graph::{EditError, Network, NetworkBuilder};
+use pls_graph::{Network, NetworkBuilder};
+use pls_graph_edits::{EditError, link, set_state};
 use pls_model::{BuildError, State};
 use std::alloc::Global;
 
@@ -99,7 +100,7 @@ fn put_link(net: &mut Network, a: u32, b: u32, weight: u32) -> Result<(), NoMemo
     ensures { OnOk result (net.new
         ≡ with_link net.old (record { a = a; b = b; weight = weight })) }
 {
-    match net.link(a, b, weight) {
+    match link(net, a, b, weight) {
         Ok(()) => Ok(()),
         Err(error) => match error {
             EditError::NoMemory => Err(NoMemory),
@@ -123,7 +124,7 @@ fn point(net: &mut Network, nodes: u32)
         num: 0,
     };
     for i in 0..nodes - 1 {
-        match net.set_state(i + 2, state) {
+        match set_state(net, i + 2, state) {
             Ok(()) => {}
             Err(_) => unreachable!(),
         }

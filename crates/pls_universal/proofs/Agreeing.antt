@@ -11,7 +11,7 @@ use Rattle.pls_scheme.specs.Reading.{ReadPort, read_ports}
 use Rattle.pls_universal.specs.Map.{numbers_of_map}
 use Rattle.pls_universal.specs.declared.map.MapLabel.{MapLabel}
 use Rattle.pls_universal.specs.declared.map.MapRow.{MapRow}
-use Rattle.pls_universal.specs.Reading.{label_with, map_in, map_label}
+use Rattle.pls_universal.specs.Reading.{map_label_with, map_in, map_label}
 use Rattle.pls_universal.specs.Rules.{matched, same_record}
 use Rattle.pls_universal.specs.laws.LabelLaws.{map-in}
 use Rattle.pls_universal.specs.laws.MapMet.{matched-itself, record-itself}
@@ -39,10 +39,10 @@ module _ (takes : List Bool → Option (ℕ × List Bool)) where
       by (map_in takes map) refl (rw first at is)
     where
       by : (found : Option (List MapRow)) → map_in takes map ≡ found
-          → option_map (label_with own) found ≡ Some read → found ≡ Some read.rows
+          → option_map (map_label_with own) found ≡ Some read → found ≡ Some read.rows
       by None found is = absurd (cc)
       by (Some rows) found is =
-          let same : label_with own rows ≡ read = cc in
+          let same : map_label_with own rows ≡ read = cc in
           ap (λ (label : MapLabel). Some label.rows) same
 
   -- and what the label calls itself is the number
@@ -50,11 +50,11 @@ module _ (takes : List Bool → Option (ℕ × List Bool)) where
       → takes label ≡ Some (own, map) → map_label takes label ≡ Some read → own ≡ read.own
   number_own label own map read first is = by (map_in takes map) (rw first at is)
     where
-      by : (found : Option (List MapRow)) → option_map (label_with own) found ≡ Some read
+      by : (found : Option (List MapRow)) → option_map (map_label_with own) found ≡ Some read
           → own ≡ read.own
       by None is = absurd (cc)
       by (Some rows) is =
-          let same : label_with own rows ≡ read = cc in
+          let same : map_label_with own rows ≡ read = cc in
           ap (λ (label : MapLabel). label.own) same
 
   module _ (code : ℕ → List Bool) (taken : TakesCodes code takes) (only : TakesOnly code takes) where

@@ -17,7 +17,7 @@ use Rattle.pls_scheme.specs.laws.Readings.{judged_by_rules, rejected_by_2, split
 use Rattle.pls_universal.specs.declared.map.MapLabel.{MapLabel}
 use Rattle.pls_universal.specs.declared.map.MapRow.{MapRow}
 use Rattle.pls_universal.specs.declared.stating.Stated.{Stated}
-use Rattle.pls_universal.specs.Reading.{label_with, map_in, map_label}
+use Rattle.pls_universal.specs.Reading.{map_label_with, map_in, map_label}
 use Rattle.pls_universal.specs.Rules.{has_map, is_in_map, is_network, is_node_right, is_port_right, map_rules, matched, nodes_of, same_state}
 use Rattle.pls_universal.specs.inner.Stating.{IsStated}
 use Rattle.pls_universal.specs.inner.Verifying.{agreement, has_node, is_called, is_port_seen, is_seen}
@@ -29,18 +29,18 @@ module _ (takes : List Bool → Option (ℕ × List Bool)) where
   called-own id bits label is = by (takes bits) refl is
     where
       by : (first : Option (ℕ × List Bool)) → takes bits ≡ first
-          → option_and_then (λ (own : ℕ × List Bool). option_map (label_with own.0)
+          → option_and_then (λ (own : ℕ × List Bool). option_map (map_label_with own.0)
           (map_in takes own.1)) first ≡ Some label
           → option_map_or (λ (own : ℕ × List Bool). id == own.0) first false ≡ (id == label.own)
       by None first is = absurd (cc)
       by (Some own) first is = onward (map_in takes own.1) is
         where
           onward : (rows : Option (List MapRow))
-              → option_map (label_with own.0) rows ≡ Some label
+              → option_map (map_label_with own.0) rows ≡ Some label
               → (id == own.0) ≡ (id == label.own)
           onward None is = absurd (cc)
           onward (Some rows) is =
-              let same : label_with own.0 rows ≡ label = cc in
+              let same : map_label_with own.0 rows ≡ label = cc in
               ap (λ (label : MapLabel). id == label.own) same
 
   -- ports are right as they are lent exactly where they are right as they are read

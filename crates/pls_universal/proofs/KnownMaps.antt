@@ -6,7 +6,7 @@ use Rattle.pls_model.specs.declared.row.NodeRow.{NodeRow}
 use Rattle.pls_universal.specs.declared.deciding.DecidedMap.{DecidedMap}
 use Rattle.pls_universal.specs.declared.deciding.DecidedMaps.{DecidedMaps}
 use Rattle.pls_universal.specs.declared.map.MapRow.{MapRow}
-use Rattle.pls_universal.specs.Reading.{label_with, map_in}
+use Rattle.pls_universal.specs.Reading.{map_label_with, map_in}
 use Rattle.pls_universal.specs.inner.Deciding.{AreDecided, IsDecided, IsNumberOf, IsNumberOfMap}
 use Rattle.pls_universal.proofs.Agreeing.{behind_number}
 
@@ -33,7 +33,7 @@ module _ (takes : List Bool → Option (ℕ × List Bool)) (test : List NodeRow 
     map = is.known;
     at = is.at;
     found = record {
-      own = label_with own rows;
+      own = map_label_with own rows;
       read = rw (first, there) refl;
       stated = known.2.stated;
     };

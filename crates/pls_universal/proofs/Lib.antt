@@ -4,3 +4,4 @@ pub mod Agreeing
 pub mod Judged
 pub mod Buildable
 pub mod KnownMaps
+mod AcceptedMaps

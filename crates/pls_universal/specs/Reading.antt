@@ -14,10 +14,10 @@ abbrev pub map_in : (List Bool → Option (ℕ × List Bool)) → List Bool → 
 map_in takes bits = option_and_then to_the_end (map_off takes bits)
 
 -- the label of an identity and a map
-abbrev pub label_with : ℕ → List MapRow → MapLabel
-label_with own rows = record { own = own; rows = rows }
+abbrev pub map_label_with : ℕ → List MapRow → MapLabel
+map_label_with own rows = record { own = own; rows = rows }
 
 -- the label that the bits are, to the last of them
 abbrev pub map_label : (List Bool → Option (ℕ × List Bool)) → List Bool → Option MapLabel
 map_label takes bits = option_and_then (λ (own : ℕ × List Bool).
-    option_map (label_with own.0) (map_in takes own.1)) (takes bits)
+    option_map (map_label_with own.0) (map_in takes own.1)) (takes bits)

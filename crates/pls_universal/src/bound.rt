@@ -3,10 +3,10 @@
 ghost use Rattle.std.specs.Prelude.{◌≡◌, ℕ, ◌+◌, ◌*◌, ◌≤◌, Bool, List, length, Contains};
 ghost use Rattle.pls_model.specs.declared.row.NodeRow.{NodeRow};
 ghost use Rattle.pls_graph.specs.Size.{size_of};
-ghost use Rattle.pls_scheme.specs.Marked.{answered};
+ghost use Rattle.pls_base.specs.Steps.{capped};
 ghost use Rattle.pls_universal.specs.Bound.{longest_map};
 ghost use Rattle.pls_universal.specs.Map.{IsMapLabel, map_of};
-ghost use Rattle.pls_universal.specs.Reading.{label_with};
+ghost use Rattle.pls_universal.specs.Reading.{map_label_with};
 
 use pls_bits::NumCode;
 use pls_facts::is_valid;
@@ -16,7 +16,7 @@ use pls_scheme::codes_length;
 /// The bits that a label with the map of a network of this size has at most, or `u64::MAX` where
 /// they are more. It takes no memory.
 pub fn map_bound<C: NumCode>(size: &Size) -> u64
-    ensures { result ≡ answered (longest_map C.code size.now) }
+    ensures { result ≡ capped (longest_map C.code size.now) }
 {
     let id = u64::from(size.max_id);
     let degree = u64::from(size.max_degree);
@@ -30,8 +30,8 @@ pub fn map_bound<C: NumCode>(size: &Size) -> u64
 
 // So many bits in front, and so many times those of each.
 fn with_times(front: u64, count: u64, each: u64) -> u64
-    ensures { (a b : ℕ) → front ≡ answered a → each ≡ answered b
-        → result ≡ answered (a + count * b) }
+    ensures { (a b : ℕ) → front ≡ capped a → each ≡ capped b
+        → result ≡ capped (a + count * b) }
 {
     front.saturating_add(count.saturating_mul(each))
 }
@@ -39,7 +39,7 @@ fn with_times(front: u64, count: u64, each: u64) -> u64
 /// The label of each node with the map of its network has at most so many bits. It does nothing.
 pub fn maps_are_short<C: NumCode>(net: &Network)
     ensures { (row : NodeRow) (bits : List Bool) → Contains net.now row
-        → IsMapLabel C.code bits (label_with row.id (map_of net.now))
+        → IsMapLabel C.code bits (map_label_with row.id (map_of net.now))
         → length bits ≤ longest_map C.code (size_of net.now) }
 {
     is_valid(net);

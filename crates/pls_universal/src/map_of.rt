@@ -1,6 +1,13 @@
 //! The universal scheme.
 
-ghost use Rattle.std.specs.Prelude.{◌≡◌};
+ghost use Rattle.std.specs.Prelude.{◌≡◌, Bool, List, length};
+ghost use Rattle.pls_model.specs.Walk.{IsConnected};
+ghost use Rattle.pls_scheme.specs.Judging.{AllAccept};
+ghost use Rattle.pls_scheme.specs.Marked.{IsMarkedBy};
+ghost use Rattle.pls_scheme.specs.Reading.{judge_by};
+ghost use Rattle.pls_universal.specs.Map.{IsMapLabel};
+ghost use Rattle.pls_universal.specs.Reading.{map_label};
+ghost use Rattle.pls_universal.specs.Rules.{map_rules, map_says};
 
 use crate::bound::{map_bound, maps_are_short};
 use crate::deciding::{DecidedMaps, verdict_at};
@@ -39,6 +46,23 @@ impl<P, C> MapOf<P, C> {
             property,
             code: PhantomData,
         }
+    }
+}
+
+impl<P: Tested, C: NumCode> MapOf<P, C> {
+    /// Where all nodes of a connected network accept some labels, each label has its node's identity
+    /// and the map of the network itself: the labels are those that are marked.
+    pub fn accepted_are_marked(&self, net: &Network, labels: &LabelStore)
+        requires connected { IsConnected net.now }
+        requires each { length labels.now ≡ length net.now }
+        requires accepted { AllAccept
+            (judge_by (map_label C.takes) (map_rules (P.test self.now.property))) net.now labels.now }
+        ensures marked { IsMarkedBy (IsMapLabel C.code) (map_says net.now) net.now labels.now }
+        ensures alone { (others : List (List Bool))
+            → IsMarkedBy (IsMapLabel C.code) (map_says net.now) net.now others
+            → others ≡ labels.now }
+    {
+        is_valid(net);
     }
 }
 

@@ -5,7 +5,7 @@ ghost use Rattle.pls_scheme.specs.Marked.{IsMarkedBy};
 ghost use Rattle.pls_scheme.specs.Numbers.{AreCodesOf};
 ghost use Rattle.pls_universal.specs.declared.map.MapRow.{MapRow};
 ghost use Rattle.pls_universal.specs.Map.{IsMap, IsMapLabel, numbers_of_label};
-ghost use Rattle.pls_universal.specs.Reading.{label_with};
+ghost use Rattle.pls_universal.specs.Reading.{map_label_with};
 ghost use Rattle.pls_universal.specs.Rules.{map_says};
 
 use crate::writing::write_map;
@@ -36,7 +36,7 @@ pub fn map_labels<C: NumCode>(alloc: Global, net: &Network) -> Result<LabelStore
 // Puts the label of an identity and a map in the place of the bits.
 fn put_label<C: NumCode>(bits: &mut BitBuf, id: u32, map: Bits<'_>) -> Result<(), NoMemory>
     ensures { OnOk result ((rows : List MapRow) → IsMap C.code rows map.entry
-        → AreCodesOf C.code (numbers_of_label (label_with id rows)) bits.new) }
+        → AreCodesOf C.code (numbers_of_label (map_label_with id rows)) bits.new) }
 {
     bits.clear();
     C::write(bits, u64::from(id))?;

@@ -9,14 +9,14 @@ use Rattle.pls_bits.proofs.Appended.{bits_of-front}
 use Rattle.pls_bits.proofs.Ranges.{bits_of-none, length-bits_of}
 use Rattle.pls_view.specs.declared.label_room.Slot.{Slot}
 use Rattle.pls_view.specs.Labels.{bits_together}
-use Rattle.pls_view.specs.inner.Slots.{IsFree, IsRoom, LiesIn, bits_of_slots, label_in}
+use Rattle.pls_view.specs.inner.Slots.{IsFree, IsRoom, LiesIn, bits_of_slots, label_of_slot}
 
 -- a slot
 abbrev pub slot_of : ℕ → ℕ → Slot
 slot_of at len = record { at = at; len = len }
 
 lengths : (words : List ℕ) (slots : List Slot)
-    → map (length {A = Bool}) (map (label_in words) slots) ≡ map (λ (slot : Slot). slot.len) slots
+    → map (length {A = Bool}) (map (label_of_slot words) slots) ≡ map (λ (slot : Slot). slot.len) slots
 lengths words [] = refl
 lengths words (slot ∷ slots) =
     rw (length-bits_of words (64 * slot.at) slot.len)
@@ -24,32 +24,32 @@ lengths words (slot ∷ slots) =
 
 -- the labels have as many bits as the slots
 pub bits_together-labels : (words : List ℕ) (slots : List Slot)
-    → bits_together (map (label_in words) slots) ≡ bits_of_slots slots
+    → bits_together (map (label_of_slot words) slots) ≡ bits_of_slots slots
 bits_together-labels words slots =
-    sym (sum-map (length {A = Bool}) (map (label_in words) slots)) ∙ ap sum (lengths words slots)
+    sym (sum-map (length {A = Bool}) (map (label_of_slot words) slots)) ∙ ap sum (lengths words slots)
     ∙ sum-map (λ (slot : Slot). slot.len) slots
 
 -- labels stay where their words stay in front
 pub labels_kept : (new old : List ℕ) (slots : List Slot) → take (length old) new ≡ old
-    → All (LiesIn old) slots → map (label_in new) slots ≡ map (label_in old) slots
+    → All (LiesIn old) slots → map (label_of_slot new) slots ≡ map (label_of_slot old) slots
 labels_kept new old slots kept within =
-    same_lists _ _ (length-map slots (label_in new) ∙ sym (length-map slots (label_in old)))
+    same_lists _ _ (length-map slots (label_of_slot new) ∙ sym (length-map slots (label_of_slot old)))
     (λ k d h.
-    let inside : k < length slots = rw (length-map slots (label_in new)) at h in
+    let inside : k < length slots = rw (length-map slots (label_of_slot new)) at h in
     let slot = slice_index_or slots k (slot_of 0 0) in
-    get_or-map (label_in new) slots k (slot_of 0 0) d inside
+    get_or-map (label_of_slot new) slots k (slot_of 0 0) d inside
     ∙ bits_of-front new old (64 * slot.at) slot.len kept (within k (slot_of 0 0) inside)
-    ∙ sym (get_or-map (label_in old) slots k (slot_of 0 0) d inside))
+    ∙ sym (get_or-map (label_of_slot old) slots k (slot_of 0 0) d inside))
 
 -- one label is put behind all words
 pub labels_replaced : (new old : List ℕ) (slots : List Slot) (i len : ℕ) (label : List Bool)
     → take (length old) new ≡ old → All (LiesIn old) slots
     → bits_of new (64 * length old) len ≡ label
-    → map (label_in new) (set slots i (slot_of (length old) len))
-    ≡ set (map (label_in old) slots) i label
+    → map (label_of_slot new) (set slots i (slot_of (length old) len))
+    ≡ set (map (label_of_slot old) slots) i label
 labels_replaced new old slots i len label kept within put =
-    map-set (label_in new) slots i (slot_of (length old) len)
-    ∙ ap (λ x. set (map (label_in new) slots) i x) put
+    map-set (label_of_slot new) slots i (slot_of (length old) len)
+    ∙ ap (λ x. set (map (label_of_slot new) slots) i x) put
     ∙ ap (λ xs. set xs i label) (labels_kept new old slots kept within)
 
 pub room_replaced : (new old : List ℕ) (slots : List Slot) (i len total sum : ℕ)
@@ -78,12 +78,12 @@ free_used new old now was free count room long within grows =
 
 -- an empty label is put in
 pub labels_inserted : (words : List ℕ) (slots : List Slot) (i : ℕ)
-    → map (label_in words) (insert slots i (slot_of 0 0)) ≡ insert (map (label_in words) slots) i []
+    → map (label_of_slot words) (insert slots i (slot_of 0 0)) ≡ insert (map (label_of_slot words) slots) i []
 labels_inserted words slots i =
-    map-append (label_in words) (take i slots) (slot_of 0 0 ∷ drop i slots)
+    map-append (label_of_slot words) (take i slots) (slot_of 0 0 ∷ drop i slots)
     ∙ rw (
-      take-map (label_in words) i slots,
-      drop-map (label_in words) i slots,
+      take-map (label_of_slot words) i slots,
+      drop-map (label_of_slot words) i slots,
       bits_of-none words (64 * 0),
     ) refl
 
@@ -103,17 +103,17 @@ room_inserted words slots i total room = record {
 
 -- a label is taken out
 pub labels_removed : (words : List ℕ) (slots : List Slot) (i : ℕ)
-    → map (label_in words) (remove slots i) ≡ remove (map (label_in words) slots) i
+    → map (label_of_slot words) (remove slots i) ≡ remove (map (label_of_slot words) slots) i
 labels_removed words slots i =
-    map-append (label_in words) (take i slots) (drop (suc i) slots)
-    ∙ rw (take-map (label_in words) i slots, drop-map (label_in words) (suc i) slots) refl
+    map-append (label_of_slot words) (take i slots) (drop (suc i) slots)
+    ∙ rw (take-map (label_of_slot words) i slots, drop-map (label_of_slot words) (suc i) slots) refl
 
 -- ---- labels that move to new words
 
 -- slots in new words with the labels of those in old ones
 pub record HasMoved (words : List ℕ) (slots : List Slot) (fresh : List ℕ) (moved : List Slot)
     : Type 0 where
-  pub labels : map (label_in fresh) moved ≡ map (label_in words) slots
+  pub labels : map (label_of_slot fresh) moved ≡ map (label_of_slot words) slots
   pub lens : map (λ (slot : Slot). slot.len) moved ≡ map (λ (slot : Slot). slot.len) slots
   pub lies : All (LiesIn fresh) moved
   pub few : bits_of_slots moved ≤ 64 * length fresh
@@ -122,15 +122,15 @@ pub record HasMoved (words : List ℕ) (slots : List Slot) (fresh : List ℕ) (m
 pub moved_more : (words : List ℕ) (slots : List Slot) (fresh next : List ℕ) (moved : List Slot)
     (slot : Slot) → HasMoved words slots fresh moved → take (length fresh) next ≡ fresh
     → length next ≡ length fresh + (slot.len + 63) / 64
-    → bits_of next (64 * length fresh) slot.len ≡ label_in words slot
+    → bits_of next (64 * length fresh) slot.len ≡ label_of_slot words slot
     → HasMoved words (slots ++ slot ∷ []) next (moved ++ slot_of (length fresh) slot.len ∷ [])
 moved_more words slots fresh next moved slot before kept long put =
     let new = slot_of (length fresh) slot.len in record {
-      labels = map-append (label_in next) moved (new ∷ [])
-          ∙ ap (λ xs. xs ++ label_in next new ∷ [])
+      labels = map-append (label_of_slot next) moved (new ∷ [])
+          ∙ ap (λ xs. xs ++ label_of_slot next new ∷ [])
           (labels_kept next fresh moved kept before.lies ∙ before.labels)
-          ∙ ap (λ x. map (label_in words) slots ++ x ∷ []) put
-          ∙ sym (map-append (label_in words) slots (slot ∷ []));
+          ∙ ap (λ x. map (label_of_slot words) slots ++ x ∷ []) put
+          ∙ sym (map-append (label_of_slot words) slots (slot ∷ []));
       lens = map-append (λ (s : Slot). s.len) moved (new ∷ [])
           ∙ ap (λ xs. xs ++ slot.len ∷ []) before.lens
           ∙ sym (map-append (λ (s : Slot). s.len) slots (slot ∷ []));
@@ -149,7 +149,7 @@ moved_none words = record {
 
 -- labels that are all empty
 pub labels_blank : (words : List ℕ) (n : ℕ)
-    → map (label_in words) (replicate n (slot_of 0 0)) ≡ replicate n []
+    → map (label_of_slot words) (replicate n (slot_of 0 0)) ≡ replicate n []
 labels_blank words zero = refl
 labels_blank words (suc n) =
     rw (bits_of-none words (64 * 0)) (ap (λ rest. [] ∷ rest) (labels_blank words n))

@@ -6,7 +6,7 @@ ghost use Rattle.std.specs.Vec.{vec_capacity};
 ghost use Rattle.pls_bits.specs.Hex.{Spells, hex_digits};
 ghost use Rattle.pls_view.specs.Labels.{bits_together};
 ghost use Rattle.pls_view.specs.Stored.{cost};
-ghost use Rattle.pls_view.specs.inner.Slots.{LiesIn, bits_of_slots, label_in};
+ghost use Rattle.pls_view.specs.inner.Slots.{LiesIn, bits_of_slots, label_of_slot};
 
 use pls_base::NoMemory;
 use pls_bits::{Bits, append_hex};
@@ -41,12 +41,12 @@ impl Model for LabelRoom {
     ghost use Rattle.std.specs.Prelude.{◌*◌, map};
     ghost use Rattle.std.specs.Vec.{vec_capacity};
     ghost use Rattle.pls_view.specs.Stored.{Stored};
-    ghost use Rattle.pls_view.specs.inner.Slots.{IsFree, IsRoom, label_in};
+    ghost use Rattle.pls_view.specs.inner.Slots.{IsFree, IsRoom, label_of_slot};
 
     ghost Value = { Stored };
 
     ghost view = { λ room. record {
-      labels = map (label_in room.words.items) room.slots.items;
+      labels = map (label_of_slot room.words.items) room.slots.items;
       spare = 64 * room.free;
     } };
 
@@ -229,8 +229,8 @@ fn compacted(
     requires within { All (LiesIn words.now) slots.now }
     requires small { length words.now ≤ 2 ^ 56 }
     requires need { need ≤ 2 ^ 55 }
-    ensures labels { IfOk result (λ moved. map (label_in moved.0.items) moved.1.items
-        ≡ map (label_in words.now) slots.now) }
+    ensures labels { IfOk result (λ moved. map (label_of_slot moved.0.items) moved.1.items
+        ≡ map (label_of_slot words.now) slots.now) }
     ensures lengths { IfOk result (λ moved. map (λ slot. slot.len) moved.1.items
         ≡ map (λ slot. slot.len) slots.now) }
     ensures lies { IfOk result (λ moved. All (LiesIn moved.0.items) moved.1.items) }

@@ -1,6 +1,6 @@
 //! Labels that are lent.
 
-ghost use Rattle.std.specs.Prelude.{◌≡◌, ◌++◌, ◌∷◌, [], IfOk, OnOk};
+ghost use Rattle.std.specs.Prelude.{◌≡◌, ◌++◌, ◌∷◌, [], IfOk, OnErr, OnOk};
 
 use crate::labels::Labels;
 use pls_base::NoMemory;
@@ -33,9 +33,11 @@ impl<'a> LentLabels<'a> {
         })
     }
 
-    /// Puts a label behind the others. The one error is want of memory.
+    /// Puts a label behind the others. The one error is want of memory; the labels are then as they
+    /// were.
     pub fn push(&mut self, label: Bits<'a>) -> Result<(), NoMemory>
-        ensures { OnOk result (self.new ≡ self.old ++ label.entry ∷ []) }
+        ensures pushed { OnOk result (self.new ≡ self.old ++ label.entry ∷ []) }
+        ensures unchanged { OnErr result (self.new ≡ self.old) }
     {
         self.labels.push(label)?;
         Ok(())

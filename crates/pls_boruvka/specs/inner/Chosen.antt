@@ -24,19 +24,19 @@ IsUnpointed choice =
     (choice ≡ None) ⊎ ((first : Choice) × (choice ≡ Some first) × (first.child ≡ None))
 
 -- what was found for the fragment of a place
-abbrev pub found_at : List ℕ → List (Option Choice) → ℕ → Option Choice
-found_at tops choices place = slice_index_or choices (top_at tops place) None
+abbrev pub choice_of_place : List ℕ → List (Option Choice) → ℕ → Option Choice
+choice_of_place tops choices place = slice_index_or choices (top_at tops place) None
 
 -- what the level says of each node
 pub record AreChosen (rows : List NodeRow) (tops : List ℕ) (choices : List (Option Choice))
     (all : List Chosen) : Type 0 where
   pub each : length all ≡ length rows
-  pub chosen : Each (λ place. IsChosen rows (top_at tops place) (found_at tops choices place)) all
+  pub chosen : Each (λ place. IsChosen rows (top_at tops place) (choice_of_place tops choices place)) all
 
 -- for some place no pointed edge was found
 abbrev pub SomeUnpointed : List ℕ → List (Option Choice) → Type 0
 SomeUnpointed tops choices =
-    (place : ℕ) × (place < length tops) × IsUnpointed (found_at tops choices place)
+    (place : ℕ) × (place < length tops) × IsUnpointed (choice_of_place tops choices place)
 
 -- the children of chosen edges are places
 abbrev pub AreChildrenWithin : ℕ → List Chosen → Type 0
@@ -62,8 +62,8 @@ abbrev pub said_at : List (List Chosen) → ℕ → List Level
 said_at rounds place = map (λ all. (slice_index_or all place no_chosen).level) rounds
 
 -- the levels of each node, of so many
-abbrev pub said_by : List (List Chosen) → ℕ → List (List Level)
-said_by rounds count = map (said_at rounds) (range_with_len 0 count)
+abbrev pub levels_said : List (List Chosen) → ℕ → List (List Level)
+levels_said rounds count = map (said_at rounds) (range_with_len 0 count)
 
 -- all tops are the same
 abbrev pub AreOne : List ℕ → Type 0

@@ -9,14 +9,14 @@ abbrev pub Each : {X : Type 0} → (ℕ → X → Type 0) → List X → Type 0
 Each {X} Right xs = (place : ℕ) (x : X) → slice_get xs place ≡ Some x → Right place x
 
 -- the place that the node at a place points at
-pub record IsParent (rows : List NodeRow) (place : ℕ) (parent : Option ℕ) : Type 0 where
+pub record IsParentPlace (rows : List NodeRow) (place : ℕ) (parent : Option ℕ) : Type 0 where
   pub points : PointsTo rows place parent
   pub within : IfSome parent (λ to. to < length rows)
 
 -- for each place the place that its node points at
 pub record AreParents (rows : List NodeRow) (parents : List (Option ℕ)) : Type 0 where
   pub each : length parents ≡ length rows
-  pub parent : Each (IsParent rows) parents
+  pub parent : Each (IsParentPlace rows) parents
 
 -- the parent of a place
 abbrev pub parent_at : List (Option ℕ) → ℕ → Option ℕ
@@ -30,15 +30,15 @@ pub record HasDepths (parents : List (Option ℕ)) : Type 0 where
   pub few : (place : ℕ) → place < length parents → depth place ≤ length parents
 
 -- the parent of a place, where the place is joined to it
-abbrev pub up_of : List (Option ℕ) → List Bool → ℕ → Option ℕ
-up_of parents joined place =
+abbrev pub joined_parent : List (Option ℕ) → List Bool → ℕ → Option ℕ
+joined_parent parents joined place =
     if slice_index_or joined place false then parent_at parents place else None
 
 -- the chain of joined parents of a place ends at this one
 pub record IsTop (parents : List (Option ℕ)) (joined : List Bool) (place top : ℕ) : Type 0 where
   pub nodes : List ℕ
-  pub chain : ParentChain (λ one other. up_of parents joined one ≡ Some other) place nodes top
-  pub ends : up_of parents joined top ≡ None
+  pub chain : ParentChain (λ one other. joined_parent parents joined one ≡ Some other) place nodes top
+  pub ends : joined_parent parents joined top ≡ None
   pub inside : top < length parents
 
 -- for each place its top

@@ -22,7 +22,7 @@ use Rattle.pls_facts.proofs.Levels.{levels_searched}
 use Rattle.pls_facts.proofs.Lists.{count_by-map, item_at}
 use Rattle.pls_facts.proofs.Neighbours.{adjacent_known}
 use Rattle.pls_colour.specs.declared.acyclic.CycleLabel.{CycleLabel}
-use Rattle.pls_colour.specs.Acyclic.{IsAcyclicMarked, IsCycleLabel, acyclic_limits, acyclic_rules, acyclic_says, cycle_label, depth_label, differs_by_one, has_one_above, is_above, is_beside, judge_acyclic, longest_acyclic, numbers_of_cycle}
+use Rattle.pls_colour.specs.Acyclic.{IsAcyclicMarked, IsCycleLabel, acyclic_limits, acyclic_rules, acyclic_says, cycle_label, cycle_says, differs_by_one, has_one_above, is_above, is_beside, judge_acyclic, longest_acyclic, numbers_of_cycle}
 use Rattle.pls_colour.specs.laws.LevelLaws.{AreSaidLevels, one_level_label, said_levels}
 
 -- the rules on what labels say, from the depths at the ports of a row
@@ -108,7 +108,7 @@ acyclic_met rows net joined acyclic say right row in' = (
 -- one label is right for a node
 pub acyclic_one_right : OneIsRight IsAcyclic acyclic_says
 acyclic_one_right rows net joined acyclic row one other in' =
-    one_level_label depth_label rows net row one other
+    one_level_label cycle_says rows net row one other
 
 -- what is right is short
 pub acyclic_fits : (code : ℕ → List Bool) → Grows code → IsShort code

@@ -9,12 +9,12 @@ use Rattle.pls_scheme.specs.SchemeLaws.{IsMarkedOnce, IsSound}
 use Rattle.pls_scheme.specs.Theorem.{OneIsRight, RightFits, RulesAreMet, RulesShow}
 use Rattle.pls_scheme.specs.laws.Marking.{marked_once, sound_by}
 use Rattle.pls_scheme.proofs.SaidPorts.{all_ports_pass, passes_port}
-use Rattle.pls_facts.specs.Bipartite.{IsBipartite, is_odd}
+use Rattle.pls_facts.specs.Bipartite.{IsBipartite, is_odd, differ}
 use Rattle.pls_facts.proofs.Colourings.{colours_at_ports, parities_differ}
 use Rattle.pls_facts.proofs.Lists.{item_at}
 use Rattle.pls_facts.proofs.Neighbours.{neighbour_row}
 use Rattle.pls_colour.specs.declared.colour_layout.ColourLabel.{ColourLabel}
-use Rattle.pls_colour.specs.Bipartite.{IsBipartiteMarked, IsColourLabel, bipartite_rules, bipartite_says, colour_label, differ, differs_from, judge_bipartite, longest_bipartite, parity_label}
+use Rattle.pls_colour.specs.Bipartite.{IsBipartiteMarked, IsColourLabel, bipartite_rules, bipartite_says, colour_label, differs_from, judge_bipartite, longest_bipartite, parity_label}
 use Rattle.pls_colour.specs.laws.ColourLaws.{one_spelling}
 use Rattle.pls_colour.specs.laws.LevelLaws.{one_level_label}
 

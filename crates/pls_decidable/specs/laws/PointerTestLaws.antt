@@ -8,7 +8,7 @@ use Rattle.pls_model.specs.declared.row.NodeRow.{NodeRow}
 use Rattle.pls_model.specs.Configuration.{IsNetwork, ids_of}
 use Rattle.pls_model.specs.Walk.{Adjacent, edges_of}
 use Rattle.pls_graph.proofs.Joined.{Adjacent-turned}
-use Rattle.pls_facts.specs.Pointer.{next, Chain, IsChainOf, NoneReturns}
+use Rattle.pls_facts.specs.Pointer.{pointed_node, Chain, IsChainOf, NoneReturns}
 use Rattle.pls_facts.specs.ShortestPath.{IsShortestPathTree}
 use Rattle.pls_facts.specs.SpanningTree.{IsTree, is_root}
 use Rattle.pls_facts.specs.Weight.{IsDistance, edge_weight, walk_weight}
@@ -28,15 +28,15 @@ module _ (rows : List NodeRow) where
   -- the nodes make a chain of u, of so many pointers or up to its end
   abbrev IsChainWithin : ℕ → ℕ → List ℕ → Type 0
   IsChainWithin most u nodes =
-      (last : ℕ) × Chain rows u nodes last × ((length nodes ≡ most) ⊎ (next rows last ≡ None))
+      (last : ℕ) × Chain rows u nodes last × ((length nodes ≡ most) ⊎ (pointed_node rows last ≡ None))
 
   -- what following pointers comes to is a chain
   followed : (most u : ℕ) → IsChainWithin most u (chain_within rows most u)
   unfolding chain_within
   followed zero u = (u, refl, inl refl)
-  followed (suc most) u = by (next rows u) refl (followed most)
+  followed (suc most) u = by (pointed_node rows u) refl (followed most)
     where
-      by : (o : Option ℕ) → next rows u ≡ o
+      by : (o : Option ℕ) → pointed_node rows u ≡ o
           → ((v : ℕ) → IsChainWithin most v (chain_within rows most v))
           → IsChainWithin (suc most) u
           (option_map_or (λ above. above ∷ chain_within rows most above) o [])
@@ -51,7 +51,7 @@ module _ (rows : List NodeRow) where
   -- the chain of u ends at this node
   record EndsAt (u last : ℕ) : Type 0 where
     chain : Chain rows u (chain_of rows u) last
-    ends : next rows last ≡ None
+    ends : pointed_node rows last ≡ None
 
   abbrev whole_chain : (u last : ℕ) → EndsAt u last → IsChainOf rows u last (length (chain_of rows u))
   whole_chain u last end =

@@ -8,7 +8,7 @@ use Rattle.pls_model.specs.declared.row.NodeRow.{NodeRow}
 use Rattle.pls_model.specs.Configuration.{IsNetwork, has_repeat, ids_of}
 use Rattle.pls_model.specs.Walk.{Adjacent, Edge, JoinAll, Joins, Walk, edges_of}
 use Rattle.pls_graph.proofs.Members.{Contains-cons_cases, Contains-first, Contains-later}
-use Rattle.pls_facts.specs.Bipartite.{Colours, IsBipartite}
+use Rattle.pls_facts.specs.Bipartite.{Colours, IsBipartite, differ}
 use Rattle.pls_facts.specs.Cycle.{IsAcyclic, IsCycle}
 use Rattle.pls_facts.specs.SpanningTree.{AreDistinct, IsSpanningTree, is_root, pointed_edges}
 use Rattle.pls_facts.specs.Lightest.{weight_of}
@@ -20,7 +20,7 @@ use Rattle.pls_facts.proofs.Neighbours.{adjacent_known}
 use Rattle.pls_facts.proofs.PointedEdges.{pointed_among}
 use Rattle.pls_facts.proofs.PortEdges.{IsGraph-network}
 use Rattle.pls_facts.proofs.Trees.{length-pointed_edges}
-use Rattle.pls_decidable.specs.SearchTests.{acyclic_test, all_lists, bipartite_test, colour_of, differ, has_ends, is_colouring, is_cycle, is_walk, lists_up_to, mst_test, spanning_trees}
+use Rattle.pls_decidable.specs.SearchTests.{acyclic_test, all_lists, bipartite_test, colour_of, has_ends, is_colouring, is_cycle, is_walk, lists_up_to, mst_test, spanning_trees}
 use Rattle.pls_decidable.specs.laws.AllLists.{AreAmong, Contains-all_lists, Contains-lists_up_to}
 use Rattle.pls_decidable.specs.laws.Joining.{few_differ, joined_tells, spanning_listed}
 use Rattle.pls_decidable.specs.laws.Tested.{Tells, all_tells, any_tells, both_tells, either_tells, most_tells, not_tells, same_tells}

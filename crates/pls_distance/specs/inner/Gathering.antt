@@ -2,13 +2,13 @@
 use Rattle.pls_scheme.specs.Reading.{Read}
 use Rattle.pls_distance.specs.declared.spt.SptLabel.{SptLabel}
 use Rattle.pls_distance.specs.declared.gathering.Gathered.{Gathered}
-use Rattle.pls_distance.specs.Spt.{agrees_on_its_root, follows_target, is_nearest}
+use Rattle.pls_distance.specs.Spt.{agrees_on_its_root, is_beyond_target, is_nearest}
 
 -- the own label, and which rules on the ports hold
 abbrev pub gathered : Read SptLabel → Gathered
 gathered view = record {
   own = view.own;
   agrees = agrees_on_its_root view;
-  follows = follows_target view;
+  follows = is_beyond_target view;
   nearest = is_nearest view;
 }

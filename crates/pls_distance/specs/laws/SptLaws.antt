@@ -19,13 +19,13 @@ use Rattle.pls_scheme.specs.laws.CodeLaws.{one_spelling}
 use Rattle.pls_scheme.specs.laws.Marking.{marked_once, sound_by}
 use Rattle.pls_scheme.proofs.Fitting.{within_fits}
 use Rattle.pls_scheme.proofs.SaidPorts.{all_ports_pass, passes_port}
-use Rattle.pls_facts.specs.Pointer.{IsChainOf, next}
+use Rattle.pls_facts.specs.Pointer.{IsChainOf, pointed_node}
 use Rattle.pls_facts.specs.ShortestPath.{IsShortestPathTree}
 use Rattle.pls_facts.specs.Weight.{IsDistance, edge_weight, walk_weight}
 use Rattle.pls_facts.proofs.Bounded.{IsChainOf-short}
 use Rattle.pls_facts.proofs.Chains.{IsChainOf-one}
 use Rattle.pls_facts.proofs.Neighbours.{Leads, adjacent_known, id_within, leads, port_adjacent}
-use Rattle.pls_facts.proofs.Pointed.{IsPointer, IsPointer-next, pointed_port_of, root_points_nowhere, row_from_id}
+use Rattle.pls_facts.proofs.Pointed.{IsPointer, IsPointer-pointed_node, pointed_port_of, root_points_nowhere, row_from_id}
 use Rattle.pls_facts.proofs.Roots.{a_root}
 use Rattle.pls_facts.proofs.ShortestPaths.{chain_distance, chain_within, distances_fall, edge_within, one_chain, shortest_by_numbers}
 use Rattle.pls_facts.proofs.Weights.{FallsByWeight, RisesByWeight, distances_rise, edge_weight-turned, port_weighs}
@@ -65,7 +65,7 @@ module _ (say : ℕ → SptLabel) where
     farther_falls : ((row : NodeRow) → Contains rows row
         → is_farther_than_target (read_where say row) ≡ true) → FallsByWeight rows dist_said
     farther_falls farther u v points =
-        let step : IsPointer rows u v = IsPointer-next rows net u v points in
+        let step : IsPointer rows u v = IsPointer-pointed_node rows net u v points in
         let in' : Contains rows step.row = Contains-from_place rows step.place step.row step.at in
         let test : Option (ReadPort SptLabel) → Bool =
         λ read. option_map_or (λ (port : ReadPort SptLabel). (say step.row.id).dist
@@ -100,7 +100,7 @@ module _ (say : ℕ → SptLabel) where
             (option_and_then (slice_get (map (port_where say) row.ports)) up)) is
         by (Some number) is =
             let (port, has, points) : (port : Port) × (slice_get row.ports number ≡ Some port)
-            × (next rows row.id ≡ Some port.nbr) =
+            × (pointed_node rows row.id ≡ Some port.nbr) =
             pointed_port_of rows net row in' number is in
             let weighs : edge_weight rows row.id port.nbr ≡ port.weight =
             port_weighs rows net row port in' (Contains-from_place row.ports number port has) in

@@ -6,7 +6,7 @@ use Rattle.std.proofs.lemmas.Bool.Decides.{nat_tests}
 use Rattle.std.proofs.lemmas.List.Elements.{All-nil}
 use Rattle.pls_bits.specs.Hex.{hex_digits, is_lower_digit}
 use Rattle.pls_bits.proofs.Text.{hex_digits-is_lower, hex_digits-injective, length-hex_digits}
-use Rattle.pls_lines.specs.Plain.{Lacks}
+use Rattle.pls_lines.specs.Plain.{LacksItem}
 use Rattle.pls_lines.specs.LineKind.{Always, IsLineKind, alone}
 use Rattle.pls_lines.specs.Part.{IsSomePart}
 use Rattle.pls_lines.specs.ListPart.{IsListKind}
@@ -19,7 +19,7 @@ use Rattle.pls_labelfile.specs.declared.labels_tally.LabelsHeading.{LabelsHeadin
 
 -- a byte below the digits is none of lower-case hex digits
 lower_lacks : (byte : ℕ) (digits : List ℕ) → byte < 48 → list_all is_lower_digit digits ≡ true
-    → Lacks byte digits
+    → LacksItem byte digits
 lower_lacks byte [] low h = tt
 lower_lacks byte (digit ∷ digits) low h =
     let parts = and_parts (is_lower_digit digit) _ h in
@@ -29,13 +29,13 @@ lower_lacks byte (digit ∷ digits) low h =
     above digit h same = grind (arith, nat_tests)
 
 -- the last word of a line has no byte below its dash and its digits
-pub hex_word_lacks : (byte : ℕ) (bits : List Bool) → byte < 45 → Lacks byte (hex_word bits)
+pub hex_word_lacks : (byte : ℕ) (bits : List Bool) → byte < 45 → LacksItem byte (hex_word bits)
 hex_word_lacks byte [] low = (omega arith, tt)
 hex_word_lacks byte (bit ∷ bits) low =
     lower_lacks byte (hex_digits (bit ∷ bits)) (omega arith) (hex_digits-is_lower (bit ∷ bits))
 
 -- no line of a label has a line feed
-label_plain : (label : NamedLabel) → FitsLabel label → Lacks 10 (label_line label)
+label_plain : (label : NamedLabel) → FitsLabel label → LacksItem 10 (label_line label)
 label_plain label fits =
     line_lacks 10 (codes "label" ∷ decimal label.id ∷ decimal (length label.bits)
     ∷ hex_word label.bits ∷ []) (omega arith) (

@@ -4,8 +4,8 @@ use Rattle.pls_model.specs.declared.row.NodeRow.{NodeRow}
 use Rattle.pls_graph.specs.Places.{beside}
 
 -- one place is a level nearer than another
-abbrev pub is_above : List ℕ → ℕ → ℕ → Bool
-is_above levels place other = slice_index_or levels place 0 == slice_index_or levels other 0 + 1
+abbrev pub is_level_nearer : List ℕ → ℕ → ℕ → Bool
+is_level_nearer levels place other = slice_index_or levels place 0 == slice_index_or levels other 0 + 1
 
 -- the lesser of a place and of what was found
 abbrev pub lesser : Option ℕ → ℕ → ℕ
@@ -23,4 +23,4 @@ pub record AreNearest (rows : List NodeRow) (levels : List ℕ) (parents : List 
     : Type 0 where
   pub each : length parents ≡ length rows
   pub nearest : (place : ℕ) (parent : Option ℕ) → slice_get parents place ≡ Some parent
-      → IsLeast (is_above levels place) (beside rows place) parent
+      → IsLeast (is_level_nearer levels place) (beside rows place) parent

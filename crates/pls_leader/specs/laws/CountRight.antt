@@ -30,7 +30,7 @@ use Rattle.pls_facts.proofs.RootLevels.{alone_at_0, below_nodes, level_of, root_
 use Rattle.pls_facts.proofs.Sums.{sum-map, sum-same, when}
 use Rattle.pls_facts.proofs.TreeSums.{adds, children_add, sums_count}
 use Rattle.pls_leader.specs.declared.count.CountLabel.{CountLabel}
-use Rattle.pls_leader.specs.Count.{IsCounted, IsOneNearer, IsParent, agrees_with, children_sizes, count_rules, count_says, is_parent_above}
+use Rattle.pls_leader.specs.Count.{IsCounted, IsOneNearer, IsParent, names_root_and_total, children_sizes, count_rules, count_says, is_parent_above}
 use Rattle.pls_leader.specs.laws.CountShow.{children_said}
 use Rattle.pls_leader.specs.laws.RootedLaws.{at_0_alone}
 
@@ -212,7 +212,7 @@ module _ (rows : List NodeRow) (net : IsNetwork rows) (say : ℕ → CountLabel)
   pub rules_met : AreCounted rows → (row : NodeRow) (in' : Contains rows row)
       → AllHold (count_rules (read_where say row))
   rules_met counted row in' = (
-    all_ports_pass (agrees_with (say row.id)) say row.ports agree,
+    all_ports_pass (names_root_and_total (say row.id)) say row.ports agree,
     (
       and_from ((say row.id).own == row.id) ((say row.id).total == row.state.num)
           (eq-eqb (say row.id).own row.id (is row in').own)
@@ -241,7 +241,7 @@ module _ (rows : List NodeRow) (net : IsNetwork rows) (say : ℕ → CountLabel)
   )
     where
       agree : (port : Port) → Contains row.ports port
-          → agrees_with (say row.id) (port_where say port) ≡ true
+          → names_root_and_total (say row.id) (port_where say port) ≡ true
       agree port has =
           let (other, other_in, named) : (other : NodeRow) × Contains rows other
           × (other.id ≡ port.nbr) =

@@ -18,7 +18,7 @@ use Rattle.pls_facts.proofs.Pointed.{id_of_row}
 use Rattle.pls_facts.proofs.Sums.{sum-filter, sum-map, when}
 use Rattle.pls_facts.proofs.TreeSums.{sums_count}
 use Rattle.pls_leader.specs.declared.count.CountLabel.{CountLabel}
-use Rattle.pls_leader.specs.Count.{agrees_with, children_sizes, count_rules, is_own_child, is_parent_above}
+use Rattle.pls_leader.specs.Count.{names_root_and_total, children_sizes, count_rules, is_own_child, is_parent_above}
 use Rattle.pls_leader.specs.laws.RootedLaws.{root_where_0}
 
 -- the sizes of the children, as the ports of a row show them
@@ -39,7 +39,7 @@ module _ (rows : List NodeRow) (net : IsNetwork rows) (joined : IsConnected rows
   agree_at row port in' has =
       let both = and_parts ((say port.nbr).root == (say row.id).root)
       ((say port.nbr).total == (say row.id).total)
-      (passes_port (agrees_with (say row.id)) say row.ports (hold row in').0 port has) in (
+      (passes_port (names_root_and_total (say row.id)) say row.ports (hold row in').0 port has) in (
         eqb-true (say port.nbr).root (say row.id).root both.0,
         eqb-true (say port.nbr).total (say row.id).total both.1,
       )

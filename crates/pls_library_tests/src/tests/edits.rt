@@ -4,7 +4,8 @@
 ghost use Rattle.std.specs.Prelude.{◌<◌, length};
 
 use super::network;
-use pls_graph::{EditError, Network, State};
+use pls_graph::{Network, State};
+use pls_graph_edits::{EditError, join, leave, link, set_state, set_weight, unlink};
 use std::alloc::{AllocError, Global};
 use std::test::Fail;
 
@@ -47,7 +48,8 @@ const WEIGHT: u32 = 8;
 // Makes the edit of a network.
 fn make(net: &mut Network, edit: Edit) -> Option<EditError> {
     let answer = match edit {
-        Edit::State(id, up) => net.set_state(
+        Edit::State(id, up) => set_state(
+            net,
             id,
             State {
                 up,
@@ -55,11 +57,11 @@ fn make(net: &mut Network, edit: Edit) -> Option<EditError> {
                 num: 0,
             },
         ),
-        Edit::Weight(a, b) => net.set_weight(a, b, WEIGHT),
-        Edit::Link(a, b) => net.link(a, b, WEIGHT),
-        Edit::Unlink(a, b) => net.unlink(a, b),
-        Edit::Join(id) => net.join(id, 0, 0),
-        Edit::Leave(id) => net.leave(id),
+        Edit::Weight(a, b) => set_weight(net, a, b, WEIGHT),
+        Edit::Link(a, b) => link(net, a, b, WEIGHT),
+        Edit::Unlink(a, b) => unlink(net, a, b),
+        Edit::Join(id) => join(net, id, 0, 0),
+        Edit::Leave(id) => leave(net, id),
     };
     answer.err()
 }

@@ -3,7 +3,7 @@
 use super::{line_of, network};
 use pls_base::{Fault, MemSink, TextError};
 use pls_graph::Network;
-use pls_labelfile::{put_labels, read_labels, write_labels, written_is_read};
+use pls_labelfile::{read_labels, stream_labels, write_labels, written_is_read};
 use std::alloc::Global;
 use std::test::Fail;
 
@@ -58,12 +58,12 @@ fn a_long_text_is_written_in_pieces(rt: HostRuntime) -> Result<(), Fail> {
     let mut whole = MemSink::new(rt.alloc(), 5100, 4096, Vec::new(rt.alloc()))?;
     let mut torn = MemSink::new(rt.alloc(), 5100, 4096, vec![in rt.alloc(); 2]?)?;
     assert!(rt;
-        put_labels(&net, &labels, &mut whole).is_ok(),
+        stream_labels(&net, &labels, &mut whole).is_ok(),
         "all is taken"
     );
     assert!(rt; whole.bytes() == text, "the text");
     assert!(rt;
-        put_labels(&net, &labels, &mut torn) == Err(Fault),
+        stream_labels(&net, &labels, &mut torn) == Err(Fault),
         "the second write fails"
     );
     assert!(rt; text.starts_with(torn.bytes()), "a front of the text");

@@ -6,7 +6,7 @@ use pls_lines::{
     Both, Count, bytes_before, number_before, one_number, read_list, read_whole, two_numbers,
 };
 use pls_netfile::NetworkText;
-use pls_sim::{Event, ScheduleText, ScheduleWord};
+use pls_schedule::{Event, ScheduleText, ScheduleWord};
 use std::alloc::Global;
 use std::test::Fail;
 

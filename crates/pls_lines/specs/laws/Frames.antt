@@ -1,6 +1,6 @@
 -- Parts with a heading, a body and the line `end`: what is due in each place, and their faults.
 use Rattle.std.proofs.Common.{◌≡◌, ℕ, ◌+◌, ◌⊎◌, List, [], ◌∷◌, ◌++◌, length, codes, refl, sym, ◌∙◌, ap, subst, inl, inr, append_assoc, append-nil, length-append, arith}
-use Rattle.pls_lines.specs.Plain.{Lacks, ArePlain}
+use Rattle.pls_lines.specs.Plain.{LacksItem, ArePlain}
 use Rattle.pls_lines.specs.Lines.{Left, Passes, Stands, IsFault}
 use Rattle.pls_lines.specs.Frame.{part_lines, IsFramed}
 use Rattle.pls_lines.specs.Part.{IsPart}
@@ -10,14 +10,14 @@ use Rattle.pls_lines.specs.laws.Parts.{faulty}
 -- each body has plain lines, none of which is `end`
 pub record IsBody (Body : List (List ℕ) → Type 0) : Type 0 where
   pub plain : (lines : List (List ℕ)) → Body lines → ArePlain lines
-  pub open_ended : (lines : List (List ℕ)) → Body lines → Lacks (codes "end") lines
+  pub open_ended : (lines : List (List ℕ)) → Body lines → LacksItem (codes "end") lines
 
-pub end_plain : Lacks 10 (codes "end")
+pub end_plain : LacksItem 10 (codes "end")
 end_plain = (omega arith, (omega arith, (omega arith, tt)))
 
 -- each heading is a plain line
 abbrev pub IsHeading : (List ℕ → Type 0) → Type 0
-IsHeading Heading = (line : List ℕ) → Heading line → Lacks 10 line
+IsHeading Heading = (line : List ℕ) → Heading line → LacksItem 10 line
 
 pub framed_part : (Heading : List ℕ → Type 0) (Body : List (List ℕ) → Type 0)
     → IsHeading Heading → IsBody Body → IsPart (IsFramed Heading Body)
@@ -25,7 +25,7 @@ framed_part Heading Body plain body = record {
   plain = λ lines is.
       subst ArePlain (sym is.is) (
         plain is.heading is.headed,
-        each-append (Lacks 10) is.body (codes "end" ∷ []) (body.plain is.body is.fits)
+        each-append (LacksItem 10) is.body (codes "end" ∷ []) (body.plain is.body is.fits)
             (end_plain, tt),
       );
   own = λ a b x y p q e.

@@ -1,6 +1,6 @@
 -- Lines at the front of a text.
 use Rattle.std.proofs.Common.{◌≡◌, ℕ, ◌+◌, ◌≤◌, List, [], ◌∷◌, ◌++◌, length, refl, sym, ◌∙◌, ap, append_assoc, arith}
-use Rattle.pls_lines.specs.Plain.{Lacks, ArePlain}
+use Rattle.pls_lines.specs.Plain.{LacksItem, ArePlain}
 use Rattle.pls_lines.specs.Text.{text_of}
 use Rattle.pls_lines.specs.laws.Cuts.{same_first}
 
@@ -16,7 +16,7 @@ pub first_line : (line : List ℕ) (lines : List (List ℕ)) (rest : List ℕ)
 first_line line lines rest = append_assoc line (10 ∷ text_of lines) rest
 
 -- two texts with their first lines, both plain, are one: so are the lines and what follows
-pub same_line : (c d : List ℕ) (a b : List (List ℕ)) (x y : List ℕ) → Lacks 10 c → Lacks 10 d
+pub same_line : (c d : List ℕ) (a b : List (List ℕ)) (x y : List ℕ) → LacksItem 10 c → LacksItem 10 d
     → text_of (c ∷ a) ++ x ≡ text_of (d ∷ b) ++ y
     → (c ≡ d) × (text_of a ++ x ≡ text_of b ++ y)
 same_line c d a b x y p q e =
@@ -44,7 +44,7 @@ further (c ∷ a) (d ∷ b) x y p q l e =
 -- one line more than those of a front of the same text
 pub record OneMore (a b : List (List ℕ)) (x y : List ℕ) : Type 0 where
   pub line : List ℕ
-  pub plain : Lacks 10 line
+  pub plain : LacksItem 10 line
   pub lines : b ≡ a ++ line ∷ []
   pub rest : x ≡ line ++ 10 ∷ y
 

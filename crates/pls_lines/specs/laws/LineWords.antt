@@ -1,7 +1,7 @@
 -- Lines made of words.
 use Rattle.std.proofs.Common.{◌≡◌, ◌≢◌, ℕ, List, [], ◌∷◌, ◌++◌, codes, ◌∙◌, ap, append_assoc}
 use Rattle.std.specs.List.{AllByRecursion}
-use Rattle.pls_lines.specs.Plain.{Lacks}
+use Rattle.pls_lines.specs.Plain.{LacksItem}
 use Rattle.pls_lines.specs.Text.{line_of}
 use Rattle.pls_lines.specs.Lines.{Stands}
 use Rattle.pls_lines.specs.LineKind.{Always, IsLineKind, Says, alone}
@@ -12,8 +12,8 @@ pub same_head : {X : Type 0} (a b : X) (x y : List X) → a ∷ x ≡ b ∷ y �
 same_head a b x y e = cc
 
 -- words without a byte make a line without it, but for the spaces
-pub line_lacks : (byte : ℕ) (words : List (List ℕ)) → 32 ≢ byte → AllByRecursion (Lacks byte) words
-    → Lacks byte (line_of words)
+pub line_lacks : (byte : ℕ) (words : List (List ℕ)) → 32 ≢ byte → AllByRecursion (LacksItem byte) words
+    → LacksItem byte (line_of words)
 line_lacks byte [] space p = tt
 line_lacks byte (word ∷ []) space p = p.0
 line_lacks byte (word ∷ next ∷ words) space p =
@@ -50,7 +50,7 @@ no_line_here text line none next =
     none next.after (next.cut ∙ ap (λ (l : List ℕ). l ++ 10 ∷ next.after) next.is)
 
 -- one line alone is a kind of line that says nothing more, where it is plain and not `end`
-pub fixed_kind : {X : Type 0} (line : List ℕ) → Lacks 10 line → line ≢ codes "end"
+pub fixed_kind : {X : Type 0} (line : List ℕ) → LacksItem 10 line → line ≢ codes "end"
     → ((a b : X) → a ≡ b) → IsLineKind {X = X} Always (alone line)
 fixed_kind {X = X} line plain other one = record {
   plain = λ value fits. plain;

@@ -2,7 +2,7 @@
 use Rattle.std.proofs.Common.{◌≢◌, ℕ, List, [], ◌∷◌, map, codes, refl, sym, subst}
 use Rattle.std.specs.List.{All, AllByRecursion}
 use Rattle.std.proofs.lemmas.List.Elements.{All-head, All-tail}
-use Rattle.pls_lines.specs.Plain.{Lacks, ArePlain}
+use Rattle.pls_lines.specs.Plain.{LacksItem, ArePlain}
 use Rattle.pls_lines.specs.LineKind.{IsLineKind, Says}
 use Rattle.pls_lines.specs.Part.{IsPart, IsSomePart}
 use Rattle.pls_lines.specs.ListPart.{AreItemLines, IsListKind, IsListPart, list_lines}
@@ -23,14 +23,14 @@ module _ {H X : Type 0} (Headed : H → Type 0) (title : H → List ℕ) (Fits :
     (kind : IsLineKind Fits written) (list : IsListKind Headed Fits Are) where
   -- a heading is a plain line
   pub headings_plain : IsHeading (Says Headed title)
-  headings_plain = λ line says. subst (Lacks 10) (sym says.is) (titles.plain says.value says.fits)
+  headings_plain = λ line says. subst (LacksItem 10) (sym says.is) (titles.plain says.value says.fits)
 
   -- the lines of items are plain, and none of them is `end`
   pub items_are_body : IsBody (AreItemLines written Are)
   items_are_body = record {
     plain = λ lines is. subst ArePlain (sym is.is)
-        (each_line Fits written (Lacks 10) kind.plain is.items (list.fits is.items is.are));
-    open_ended = λ lines is. subst (Lacks (codes "end")) (sym is.is)
+        (each_line Fits written (LacksItem 10) kind.plain is.items (list.fits is.items is.are));
+    open_ended = λ lines is. subst (LacksItem (codes "end")) (sym is.is)
         (each_line Fits written (λ line. line ≢ codes "end") kind.no_end is.items
         (list.fits is.items is.are));
   }

@@ -3,14 +3,14 @@ use Rattle.std.proofs.Common.{◌≡◌, ◌≢◌, ℕ, ◌+◌, ◌%◌, ◌<�
 use Rattle.std.proofs.lemmas.Fmt.{decimal_by_steps, decimal_injective, decimal_is_IsNumeral}
 use Rattle.std.specs.Str.Parse.{digits_value}
 use Rattle.std.proofs.lemmas.List.{append_cancel_left}
-use Rattle.pls_lines.specs.Plain.{Lacks}
+use Rattle.pls_lines.specs.Plain.{LacksItem}
 use Rattle.pls_lines.specs.Worded.{IsWord}
 use Rattle.pls_lines.specs.laws.Cuts.{each-append, same_first}
 
 -- a number has no byte below its digits
-pub decimal_lacks : (byte number : ℕ) → byte < 48 → number < 2 ^ 64 → Lacks byte (decimal number)
+pub decimal_lacks : (byte number : ℕ) → byte < 48 → number < 2 ^ 64 → LacksItem byte (decimal number)
 decimal_lacks byte number low small =
-    decimal_by_steps (λ n ds. Lacks byte ds)
+    decimal_by_steps (λ n ds. LacksItem byte ds)
     (λ n below. (omega arith, tt))
     (λ n ds above front. each-append (λ other. other ≢ byte) ds ((48 + n % 10) ∷ []) front
     (omega arith, tt))

@@ -2,7 +2,7 @@
 use Rattle.std.proofs.Common.{◌≡◌, ℕ, ◌+◌, ◌≤◌, List, [], ◌∷◌, ◌++◌, length, take, drop, refl, sym, ◌∙◌, ap, subst, inl, inr, append_assoc, append-nil, length-append, length-take-le, take-append-drop, arith}
 use Rattle.std.proofs.lemmas.Bool.{cases_lt, cases_order}
 use Rattle.std.proofs.lemmas.List.{append_cancel_left}
-use Rattle.pls_lines.specs.Plain.{Lacks, ArePlain}
+use Rattle.pls_lines.specs.Plain.{LacksItem, ArePlain}
 use Rattle.pls_lines.specs.Text.{text_of}
 use Rattle.pls_lines.specs.Lines.{Stands}
 use Rattle.pls_lines.specs.Fault.{Begins, Awaits, FaultAt, FirstFault}
@@ -13,7 +13,7 @@ use Rattle.pls_lines.specs.laws.Fronts.{text_of-append, further, one_more}
 -- the front of a text of the format has plain lines
 plain_front : (format : List (List ℕ) → Type 0) (a b : List (List ℕ)) → IsPart format
     → format (a ++ b) → ArePlain a
-plain_front format a b part is = each_front (Lacks 10) a b (part.plain (a ++ b) is)
+plain_front format a b part is = each_front (LacksItem 10) a b (part.plain (a ++ b) is)
 
 -- a further line is due, and the line that stands next is not one that can be
 pub faulty : (format : List (List ℕ) → Type 0) (Due : List ℕ → Type 0)

@@ -1,7 +1,7 @@
 -- One part after another: where the faults of the second and of what follows are.
 use Rattle.std.proofs.Common.{◌≡◌, ℕ, ◌+◌, List, ◌∷◌, ◌++◌, length, sym, ◌∙◌, ap, subst, inl, inr, append_assoc, length-append, add_assoc, arith}
 use Rattle.std.proofs.lemmas.List.{append_cancel_left}
-use Rattle.pls_lines.specs.Plain.{Lacks, ArePlain}
+use Rattle.pls_lines.specs.Plain.{LacksItem, ArePlain}
 use Rattle.pls_lines.specs.Text.{text_of}
 use Rattle.pls_lines.specs.Fault.{Begins, FaultAt, FirstFault, Then}
 use Rattle.pls_lines.specs.Part.{IsPart}
@@ -15,7 +15,7 @@ module _ (first second : List (List ℕ) → Type 0) where
   then_part one two = record {
     plain = λ lines is.
         subst ArePlain (sym is.parts)
-        (each-append (Lacks 10) is.front is.back (one.plain is.front is.is_first)
+        (each-append (LacksItem 10) is.front is.back (one.plain is.front is.is_first)
         (two.plain is.back is.is_second));
     own = λ a b x y p q e.
         let whole : p.front ++ (p.back ++ x) ≡ q.front ++ (q.back ++ y) =
@@ -79,7 +79,7 @@ module _ (first second : List (List ℕ) → Type 0) where
       → Begins (Then first second) text (length lines + count) → Begins second rest count
   begins_second lines text rest count one two is stands b =
       let part = then_part one two in
-      let plain = each_front (Lacks 10) b.front b.more (part.plain (b.front ++ b.more) b.is) in
+      let plain = each_front (LacksItem 10) b.front b.more (part.plain (b.front ++ b.more) b.is) in
       let w = further lines b.front rest b.after (one.plain lines is) plain
       (omega (arith, b.many)) (sym stands ∙ b.stands) in
       let whole : lines ++ (w.more ++ b.more) ≡ b.is.front ++ b.is.back =

@@ -3,7 +3,7 @@ use Rattle.std.proofs.Common.{◌≡◌, ◌≢◌, ℕ, ◌<◌, ◌^◌, nat_l
 use Rattle.std.specs.List.{AllByRecursion, list_all}
 use Rattle.std.proofs.lemmas.Bool.{and_parts}
 use Rattle.std.proofs.lemmas.Bool.Decides.{nat_tests}
-use Rattle.pls_lines.specs.Plain.{Lacks}
+use Rattle.pls_lines.specs.Plain.{LacksItem}
 use Rattle.pls_lines.specs.Text.{line_of}
 use Rattle.pls_lines.specs.LineKind.{IsLineKind}
 use Rattle.pls_lines.specs.Worded.{IsNumbered, IsWord, IsWorded, numbered, worded}
@@ -17,7 +17,7 @@ pub record SameWords (v w : List ℕ) (vs ws : List (List ℕ)) : Type 0 where
   pub first : v ≡ w
   pub others : vs ≡ ws
 
-pub same_words : (v w : List ℕ) (vs ws : List (List ℕ)) → Lacks 32 v → Lacks 32 w
+pub same_words : (v w : List ℕ) (vs ws : List (List ℕ)) → LacksItem 32 v → LacksItem 32 w
     → AllByRecursion IsWord vs → AllByRecursion IsWord ws
     → line_of (v ∷ vs) ≡ line_of (w ∷ ws) → SameWords v w vs ws
 same_words v w [] [] p q ps qs e = record { first = e; others = refl }
@@ -33,7 +33,7 @@ same_words v w (x ∷ vs) (y ∷ ws) p q ps qs e =
 
 -- bytes above the space are no line feed and no space
 pub above_lacks : (byte : ℕ) (word : List ℕ) → byte < 33 → list_all (nat_lt 32) word ≡ true
-    → Lacks byte word
+    → LacksItem byte word
 above_lacks byte [] low h = tt
 above_lacks byte (b ∷ word) low h =
     let parts = and_parts (nat_lt 32 b) _ h in
@@ -42,16 +42,16 @@ above_lacks byte (b ∷ word) low h =
     above : (b : ℕ) → nat_lt 32 b ≡ true → b ≢ byte
     above b h same = grind (arith, nat_tests)
 
-each_plain : (words : List (List ℕ)) → AllByRecursion IsWord words → AllByRecursion (Lacks 10) words
+each_plain : (words : List (List ℕ)) → AllByRecursion IsWord words → AllByRecursion (LacksItem 10) words
 each_plain [] p = tt
 each_plain (word ∷ words) p = (p.0.plain, each_plain words p.1)
 
-end_whole : Lacks 32 (codes "end")
+end_whole : LacksItem 32 (codes "end")
 end_whole = (omega arith, (omega arith, (omega arith, tt)))
 
 module _ {X : Type 0} (Fits : X → Type 0) (word : X → List ℕ) (args : X → List (List ℕ))
     (said : List ℕ → List (List ℕ) → Option X) (is : IsWorded Fits word args said) where
-  first_whole : (value : X) → Lacks 32 (word value)
+  first_whole : (value : X) → LacksItem 32 (word value)
   first_whole value = above_lacks 32 (word value) (omega arith) (is.above value)
 
   one_value : (a b : X) → Fits a → Fits b → worded word args a ≡ worded word args b → a ≡ b

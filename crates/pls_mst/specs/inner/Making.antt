@@ -7,15 +7,15 @@ use Rattle.pls_boruvka.specs.declared.level.Level.{Level}
 use Rattle.pls_mst.specs.declared.label.MstLabel.{MstLabel}
 
 -- the node that the node of a row points at, and else the node itself
-abbrev pub parent_of : NodeRow → ℕ
-parent_of row = option_map_or (λ port. port.nbr) (pointed_port row) row.id
+abbrev pub parent_or_own : NodeRow → ℕ
+parent_or_own row = option_map_or (λ port. port.nbr) (pointed_port row) row.id
 
 -- the label of the node of a row under this root, at this depth, with these levels
 abbrev pub label_from : ℕ → NodeRow → ℕ → List Level → MstLabel
 label_from root row depth levels = record {
   root = root;
   own = row.id;
-  parent = parent_of row;
+  parent = parent_or_own row;
   depth = depth;
   levels = levels;
 }

@@ -54,9 +54,9 @@ module _ (rows : List NodeRow) (net : IsNetwork rows) (is_tree : IsTree rows)
       -- its chosen edges are edges of the tree
       pub chosen_in : (u : ℕ) → Known u → Contains tree (chosen_edge (level u))
       chosen_in u in' = Contains-first_leaving (edges_of rows) tree (ids_of rows) is_tree.spanning
-          (IsGraph-network rows net) (ComesBefore tree) (ComesBefore-order tree)
-          (before_outside tree) lightest (fragment_of level u) (chosen level u) (is.among u in')
-          (is.first u in')
+          (IsGraph-network rows net) (ComesBefore tree)
+          (ComesBefore-order tree (edges_of rows)) (before_outside tree) lightest (fragment_of level u)
+          (chosen level u) (is.among u in') (is.first u in')
 
       -- nodes of one fragment have one chosen edge
       pub one_chosen : (u v : ℕ) → Known u → Known v → (level u).fragment ≡ (level v).fragment
@@ -64,7 +64,7 @@ module _ (rows : List NodeRow) (net : IsNetwork rows) (is_tree : IsTree rows)
       one_chosen u v u_in v_in same = elim (cases_Edge (chosen level u) (chosen level v)) [
         | inl equal ↦ equal
         | inr apart ↦
-            let order = ComesBefore-order tree in
+            let order = ComesBefore-order tree (edges_of rows) in
             let here : IsFirstLeaving (edges_of rows) (ComesBefore tree) (fragment_of level u)
             (chosen level u) = is.first u u_in in
             let there : IsFirstLeaving (edges_of rows) (ComesBefore tree) (fragment_of level u)
@@ -75,8 +75,10 @@ module _ (rows : List NodeRow) (net : IsNetwork rows) (is_tree : IsTree rows)
             here.first (chosen level v) (is.among v v_in) there.leaves (λ e. apart (sym e)) in
             let back : ComesBefore tree (chosen level v) (chosen level u) =
             there.first (chosen level u) (is.among u u_in) here.leaves apart in
-            absurd (order.irreflexive (chosen level u)
-            (order.transitive (chosen level u) (chosen level v) (chosen level u) on back))
+            let mine = is.among u u_in in
+            absurd (order.irreflexive (chosen level u) mine
+            (order.transitive (chosen level u) (chosen level v) (chosen level u) mine
+            (is.among v v_in) mine on back))
       ]
 
       -- an edge that a fragment chose leads to another, and the fragment of one of its ends chose

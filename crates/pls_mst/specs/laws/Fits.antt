@@ -16,7 +16,8 @@ use Rattle.pls_graph.specs.Size.{greatest, size_of, weights_of}
 use Rattle.pls_graph.specs.declared.size.Size.{Size}
 use Rattle.pls_graph.proofs.Members.{Contains-cons_cases, Contains-flat_map, Contains-from_filter, Contains-from_flat_map, Contains-from_map, Contains-map}
 use Rattle.pls_scheme.specs.Length.{code_length, codes_length}
-use Rattle.pls_scheme.specs.Marked.{Fits, answered}
+use Rattle.pls_scheme.specs.Marked.{Fits}
+use Rattle.pls_base.specs.Steps.{capped}
 use Rattle.pls_scheme.specs.Numbers.{AreCoded, AreCodesOf}
 use Rattle.pls_scheme.specs.Theorem.{AreWords}
 use Rattle.pls_scheme.proofs.Fitting.{AreWithin, within_fits}
@@ -176,7 +177,7 @@ module _ (rows : List NodeRow) (net : IsNetwork rows) (words : AreWords (size_of
         → label.parent ≤ size.max_id → label.depth ≤ size.nodes
         → AreWithin (flat_map numbers_of_level label.levels) (limits_of size count)
         → AreOrdered label.levels
-        → Fits (IsMstLabel code) IsMstWritable (answered (longest_mst code size)) label
+        → Fits (IsMstLabel code) IsMstWritable (capped (longest_mst code size)) label
     label_fits root own parent depth levels ordered = record {
       writable = record { coded = fits.writable; ordered = ordered };
       short = λ bits is.
@@ -205,6 +206,6 @@ module _ (rows : List NodeRow) (net : IsNetwork rows) (words : AreWords (size_of
             )
 
         fits : Fits (λ bits label. AreCodesOf code (numbers_of_mst label) bits)
-            (λ label. AreCoded (numbers_of_mst label)) (answered (codes_length code limits)) label
+            (λ label. AreCoded (numbers_of_mst label)) (capped (codes_length code limits)) label
         fits = within_fits code grows short numbers_of_mst label limits
             (omega (arith, numbers_many label.levels, many, count_small)) within

@@ -9,7 +9,7 @@ use Rattle.pls_model.specs.Walk.{Edge, Adjacent, Joins}
 use Rattle.pls_graph.proofs.Finds.{from_option_map}
 use Rattle.pls_graph.proofs.Joined.{AreJoined-adjacent}
 use Rattle.pls_graph.proofs.Placed.{row_place}
-use Rattle.pls_facts.specs.Pointer.{next, pointed_port, Falls}
+use Rattle.pls_facts.specs.Pointer.{pointed_node, pointed_port, Falls}
 use Rattle.pls_facts.specs.SpanningTree.{edge_at, pointed_edge, pointed_edges}
 use Rattle.pls_facts.proofs.Decided.{cases_Edge}
 use Rattle.pls_facts.proofs.Distinct.{decide_Contains}
@@ -86,7 +86,7 @@ module _ (rows : List NodeRow) (net : IsNetwork rows) (depth : ℕ → ℕ) (fal
           )))
 
       -- it is one of the pointers
-      up-next : (u v : ℕ) → up u ≡ Some v → next rows u ≡ Some v
+      up-next : (u v : ℕ) → up u ≡ Some v → pointed_node rows u ≡ Some v
       up-next u v points =
           option_and_then_some (λ row. kept row (pointed_port row)) (row_of rows u) v points
           (λ row found keeps. option_and_then_some (λ port.

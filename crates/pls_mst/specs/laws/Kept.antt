@@ -12,12 +12,12 @@ use Rattle.pls_scheme.specs.Judging.{AllHold}
 use Rattle.pls_scheme.specs.Reading.{ReadPort, port_where, read_where, target}
 use Rattle.pls_scheme.proofs.SaidPorts.{passes_port}
 use Rattle.pls_facts.specs.EdgeOrder.{edge_key, is_same_edge}
-use Rattle.pls_facts.specs.Pointer.{next, pointed_port}
+use Rattle.pls_facts.specs.Pointer.{pointed_node, pointed_port}
 use Rattle.pls_facts.proofs.EdgeKeys.{same-is_same_edge}
 use Rattle.pls_facts.proofs.Pointed.{pointed_port_of}
 use Rattle.pls_boruvka.specs.declared.level.Level.{Level}
 use Rattle.pls_mst.specs.declared.label.MstLabel.{MstLabel}
-use Rattle.pls_mst.specs.Rules.{agrees_with, chose_least, chose_least_at, edge_to, follows_target, is_at_most, is_chosen_between, is_named_or_shared, is_one_fragment, is_root_of_tree, mst_rules, names_all_fragments, on_each_level, on_some_level, shares_with_target}
+use Rattle.pls_mst.specs.Rules.{names_root_and_levels, chose_least, chose_least_at, edge_to, follows_target, is_at_most, is_chosen_between, is_named_or_shared, is_one_fragment, is_root_of_tree, mst_rules, names_all_fragments, on_each_level, on_some_level, shares_with_target}
 use Rattle.pls_mst.specs.laws.Fragments.{KeepsRules, chosen_at, fragment_at, level_at, no_level, told_edge, told_outside}
 use Rattle.pls_mst.specs.laws.Levelwise.{IsAtMost-test, passes_at, passes_from_0, some_place}
 
@@ -134,7 +134,7 @@ module _ (say : ℕ → MstLabel) (row : NodeRow) where
       alike port has =
           let both = and_parts ((say port.nbr).root == mine.root)
           (length (say port.nbr).levels == length mine.levels)
-          (passes_port (agrees_with mine) say row.ports hold.1.0 port has) in (
+          (passes_port (names_root_and_levels mine) say row.ports hold.1.0 port has) in (
             eqb-true (say port.nbr).root mine.root both.0,
             eqb-true (length (say port.nbr).levels) (length mine.levels) both.1,
           )
@@ -153,7 +153,7 @@ module _ (say : ℕ → MstLabel) (row : NodeRow) where
           no_level within))
       by_pointer level within (Some number) up =
           let (port, has, onward) : (port : Port) × (slice_get row.ports number ≡ Some port)
-          × (next rows row.id ≡ Some port.nbr) = pointed_port_of rows net row in' number up in
+          × (pointed_node rows row.id ≡ Some port.nbr) = pointed_port_of rows net row in' number up in
           let pointed : pointed_port row ≡ Some port =
           ap (option_and_then (slice_get row.ports)) up ∙ has in
           let passes = passes_at (is_named_or_shared mine.own) mine.levels (say port.nbr).levels

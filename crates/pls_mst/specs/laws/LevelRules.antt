@@ -16,7 +16,7 @@ use Rattle.pls_facts.specs.EdgeOrder.{ComesBefore, edge_key}
 use Rattle.pls_facts.proofs.Decided.{cases_Edge}
 use Rattle.pls_facts.proofs.EdgeKeys.{key_by_before}
 use Rattle.pls_facts.proofs.Neighbours.{neighbour_row}
-use Rattle.pls_facts.proofs.Pointed.{id_of_row, next-row, row_from_id}
+use Rattle.pls_facts.proofs.Pointed.{id_of_row, pointed_node-row, row_from_id}
 use Rattle.pls_facts.proofs.PointedEdges.{Joins-edge_at, edge_at_listed}
 use Rattle.pls_facts.proofs.PortEdges.{IsAtPort}
 use Rattle.pls_boruvka.specs.Boruvka.{AreBoruvkaLevels, chosen_edge}
@@ -252,7 +252,7 @@ module _ (rows : List NodeRow) (net : IsNetwork rows) (is_tree : IsTree rows)
       at_port (λ id. (say id).depth ≡ depth id) said.depth row port in'
       (pointed_has row port pointed) in
       let down : depth row.id ≡ depth port.nbr + 1 = falls row.id port.nbr
-      (next-row rows net row in' ∙ ap (option_map (λ (port : Port). port.nbr)) pointed) in
+      (pointed_node-row rows net row in' ∙ ap (option_map (λ (port : Port). port.nbr)) pointed) in
       omega (arith, said.depth row in', below, down)
 
   -- the rules are kept

@@ -19,7 +19,7 @@ use Rattle.pls_pointer.specs.laws.PointingLaws.{points_or}
 use Rattle.pls_model.specs.Walk.{Edge}
 use Rattle.pls_boruvka.specs.declared.level.Level.{Level}
 use Rattle.pls_mst.specs.declared.label.MstLabel.{MstLabel}
-use Rattle.pls_mst.specs.Rules.{agrees_with, chose_least, chose_least_at, edge_to, follows_target, is_at_most, is_chosen_between, is_named_or_shared, is_one_fragment, is_root_of_tree, mst_rules, names_all_fragments, on_each_level, on_some_level, shares_with_target}
+use Rattle.pls_mst.specs.Rules.{names_root_and_levels, chose_least, chose_least_at, edge_to, follows_target, is_at_most, is_chosen_between, is_named_or_shared, is_one_fragment, is_root_of_tree, mst_rules, names_all_fragments, on_each_level, on_some_level, shares_with_target}
 use Rattle.pls_mst.specs.laws.Fragments.{KeepsRules, chosen_at, fragment_at, level_at, no_level, told_edge, told_outside}
 use Rattle.pls_mst.specs.laws.Kept.{target_is}
 use Rattle.pls_mst.specs.laws.Levelwise.{all_from_0, all_pass, some_pass, test-IsAtMost}
@@ -163,7 +163,7 @@ module _ (say : ℕ → MstLabel) (row : NodeRow) (keeps : KeepsRules say row) w
         (follows_target (read_where say row))
         (points_or row (is_root_of_tree (read_where say row)) is_root) follows),
     (
-      all_ports_pass (agrees_with mine) say row.ports (λ port has.
+      all_ports_pass (names_root_and_levels mine) say row.ports (λ port has.
           let is = keeps.alike port has in
           and_from ((say port.nbr).root == mine.root)
           (length (say port.nbr).levels == length mine.levels)

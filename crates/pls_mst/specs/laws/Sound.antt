@@ -20,7 +20,7 @@ use Rattle.pls_facts.proofs.CutRule.{IsLightest-first}
 use Rattle.pls_facts.proofs.EdgeKeys.{ComesBefore-order, before_by_key}
 use Rattle.pls_facts.proofs.Filtered.{Contains-from_filter_map}
 use Rattle.pls_facts.proofs.Neighbours.{neighbour_row}
-use Rattle.pls_facts.proofs.Pointed.{IsPointer, IsPointer-next, id_of_row, row_from_id}
+use Rattle.pls_facts.proofs.Pointed.{IsPointer, IsPointer-pointed_node, id_of_row, row_from_id}
 use Rattle.pls_facts.proofs.PointedEdges.{Joins-edge_at}
 use Rattle.pls_facts.proofs.PortEdges.{IsAtPort, IsGraph-network, ports_of_edge}
 use Rattle.pls_facts.proofs.Trees.{IsTree-falling}
@@ -90,7 +90,7 @@ module _ (rows : List NodeRow) (net : IsNetwork rows) (connected : IsConnected r
 
   depths_fall : Falls rows (λ id. (say id).depth)
   depths_fall u v points =
-      let step : IsPointer rows u v = IsPointer-next rows net u v points in
+      let step : IsPointer rows u v = IsPointer-pointed_node rows net u v points in
       let row_in : Contains rows step.row = Contains-from_place rows step.place step.row step.at in
       let below = ((keeps step.row row_in).below step.port (pointed_is rows u v step)).0 in
       let here = ap (λ (id : ℕ). (say id).depth) step.owner in
@@ -284,5 +284,5 @@ module _ (rows : List NodeRow) (net : IsNetwork rows) (connected : IsConnected r
 
   pub no_tree_is_lighter : IsLightest (edges_of rows) tree (ids_of rows)
   no_tree_is_lighter =
-      IsLightest-first (ComesBefore tree) (ComesBefore-order tree) (edges_of rows) tree (ids_of rows)
-      (IsGraph-network rows net) pointers_make_a_tree.spanning tree_edges_are_first
+      IsLightest-first (ComesBefore tree) (edges_of rows) (ComesBefore-order tree (edges_of rows)) tree
+      (ids_of rows) (IsGraph-network rows net) pointers_make_a_tree.spanning tree_edges_are_first

@@ -15,7 +15,7 @@ use Rattle.pls_facts.specs.SpanningTree.{edge_at, pointed_edge, pointed_edges}
 use Rattle.pls_facts.proofs.Decided.{same_Edge}
 use Rattle.pls_facts.proofs.Filtered.{Contains-filter_map}
 use Rattle.pls_facts.proofs.Neighbours.{neighbour_row}
-use Rattle.pls_facts.proofs.Pointed.{IsPointer, IsPointer-next}
+use Rattle.pls_facts.proofs.Pointed.{IsPointer, IsPointer-pointed_node}
 use Rattle.pls_facts.proofs.PointedEdges.{Joins-edge_at, points_either_way}
 use Rattle.pls_facts.proofs.PortEdges.{IsAtPort}
 use Rattle.pls_scheme.specs.Reading.{is_pointer}
@@ -65,10 +65,10 @@ module _ (rows : List NodeRow) (net : IsNetwork rows) (say : ℕ → MstLabel)
       cond-true (is_pointer way.row.state.up way.number || points_back way.row way.port) 0 1
       (elim (points_either_way rows net way.row.id way.port.nbr (edge, in', joins)) [
         | inl on ↦ or_left (is_pointer way.row.state.up way.number) (points_back way.row way.port)
-            (here (IsPointer-next rows net way.row.id way.port.nbr on))
+            (here (IsPointer-pointed_node rows net way.row.id way.port.nbr on))
         | inr back ↦ or_right (is_pointer way.row.state.up way.number)
             (points_back way.row way.port)
-            (there (IsPointer-next rows net way.port.nbr way.row.id back))
+            (there (IsPointer-pointed_node rows net way.port.nbr way.row.id back))
       ])
     where
       joins : Joins edge way.row.id way.port.nbr

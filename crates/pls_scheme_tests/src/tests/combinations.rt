@@ -4,10 +4,12 @@ use super::joined;
 use pls_base::Steps;
 use pls_bits::Gamma;
 use pls_colour::{Acyclic, Bipartite};
-use pls_combine::{Both, OneOf, SchemeError, print_scheme, read_scheme};
+use pls_combine::AnyScheme;
 use pls_labelfile::read_labels;
+use pls_pairs::{Both, OneOf};
 use pls_pointer::Tree;
 use pls_scheme::{Checker, Scheme, Verdict, are_accepted};
+use pls_scheme_text::{SchemeError, print_expression, read_expression};
 use pls_view::View;
 use std::alloc::Global;
 use std::test::Fail;
@@ -60,8 +62,8 @@ fn a_disjunction_of_a_conjunction_is_marked(rt: HostRuntime) -> Result<(), Fail>
 
 // Whether the expression marks two nodes with these labels, within this bound.
 fn text_marks_as(alloc: Global, text: &str, texts: [&str; 2], bound: u64) -> Result<bool, Fail> {
-    match read_scheme::<Gamma>(alloc, text) {
-        Ok(scheme) => marks_as(alloc, &scheme, texts, bound),
+    match read_expression(alloc, text) {
+        Ok(tree) => marks_as(alloc, &AnyScheme::<Gamma>::new(tree), texts, bound),
         Err(_) => Err(Fail::from("not read")),
     }
 }
@@ -89,9 +91,9 @@ fn expressions_mark_as_what_they_say(rt: HostRuntime) -> Result<(), Fail> {
 
 // The refusal of a text, or `None` where it is read and printed as it was.
 fn refusal(alloc: Global, text: &str) -> Result<Option<SchemeError>, Fail> {
-    match read_scheme::<Gamma>(alloc, text) {
-        Ok(scheme) => {
-            let printed = print_scheme(alloc, &scheme)?;
+    match read_expression(alloc, text) {
+        Ok(tree) => {
+            let printed = print_expression(alloc, &tree)?;
             if printed.as_bytes() != text.as_bytes() {
                 return Err(Fail::from("printed in another way"));
             }
@@ -159,9 +161,10 @@ fn texts_are_read_and_printed_or_refused(rt: HostRuntime) -> Result<(), Fail> {
 // round, which is that on its view alone.
 fn first_verdict(alloc: Global, text: &str, labels: [&str; 3]) -> Result<Verdict, Fail> {
     let net = joined(alloc, TRIANGLE)?;
-    let Ok(scheme) = read_scheme::<Gamma>(alloc, text) else {
+    let Ok(tree) = read_expression(alloc, text) else {
         return Err(Fail::from("not read"));
     };
+    let scheme = AnyScheme::<Gamma>::new(tree);
     let [first, second, third] = labels;
     let lines = format!(in alloc;
         "labels\nlabel 1 {first}\nlabel 2 {second}\nlabel 3 {third}\nend\n"

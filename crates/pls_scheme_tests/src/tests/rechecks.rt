@@ -3,7 +3,7 @@
 use super::network;
 use pls_base::Steps;
 use pls_colour::Bipartite;
-use pls_graph::EditError;
+use pls_graph_edits::EditError;
 use pls_labelfile::{read_labels, write_labels};
 use pls_netfile::write_network;
 use pls_recheck::{Counted, Edit, Judge, Recheck, Tally};

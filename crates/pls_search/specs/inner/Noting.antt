@@ -1,7 +1,7 @@
 -- What a walk along chains of pointers has noted so far.
 use Rattle.std.specs.Prelude.{◌≡◌, ◌⊎◌, ℕ, List, length, slice_index_or, Option, Some, None}
 use Rattle.pls_model.specs.declared.row.NodeRow.{NodeRow}
-use Rattle.pls_search.specs.Depths.{IsDepth}
+use Rattle.pls_search.specs.inner.ChainLengths.{IsDepth}
 use Rattle.pls_search.specs.PointedPlace.{PointsTo}
 
 -- so many pointers are noted for the chain of the node at a place

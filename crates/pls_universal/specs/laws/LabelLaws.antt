@@ -7,7 +7,7 @@ use Rattle.pls_scheme.specs.Numbers.{AreCodesOf, codes_of}
 use Rattle.pls_universal.specs.declared.map.MapLabel.{MapLabel}
 use Rattle.pls_universal.specs.declared.map.MapRow.{MapRow}
 use Rattle.pls_universal.specs.Map.{IsMap, numbers_of_label, numbers_of_map}
-use Rattle.pls_universal.specs.Reading.{label_with, map_in, map_label, to_the_end}
+use Rattle.pls_universal.specs.Reading.{map_label_with, map_in, map_label, to_the_end}
 use Rattle.pls_universal.specs.Taking.{many_off, row_off}
 use Rattle.pls_universal.specs.laws.MapLaws.{map_only, map_read}
 use Rattle.pls_universal.specs.laws.NumberLaws.{Small}
@@ -45,7 +45,7 @@ module _ (code : ℕ → List Bool) (takes : List Bool → Option (ℕ × List B
   -- where the identity is read, and a map behind it, they are a label
   pub label-some : (bits : List Bool) (own : ℕ) (rest : List Bool) (rows : List MapRow)
       → takes bits ≡ Some (own, rest) → IsMap code rows rest
-      → Some (label_with own rows) ≡ map_label takes bits
+      → Some (map_label_with own rows) ≡ map_label takes bits
   label-some bits own rest rows first is = rw (first, in-map rows rest is) refl
 
   -- where there is no map behind it, there is no label
@@ -55,7 +55,7 @@ module _ (code : ℕ → List Bool) (takes : List Bool → Option (ℕ × List B
   label-none bits own rest first none = rw first (by (map_in takes rest) refl)
     where
       by : (found : Option (List MapRow)) → map_in takes rest ≡ found
-          → None ≡ option_map (label_with own) found
+          → None ≡ option_map (map_label_with own) found
       by None read = refl
       by (Some rows) read = absurd (none rows (map-in rows rest read))
 
@@ -66,11 +66,11 @@ module _ (code : ℕ → List Bool) (takes : List Bool → Option (ℕ × List B
     where
       onward : (own : ℕ) (rest : List Bool) → takes bits ≡ Some (own, rest)
           → (found : Option (List MapRow)) → map_in takes rest ≡ found
-          → option_map (label_with own) found ≡ Some label
+          → option_map (map_label_with own) found ≡ Some label
           → AreCodesOf code (numbers_of_label label) bits
       onward own rest first None read is = absurd (cc)
       onward own rest first (Some rows) read is =
-          let same : label_with own rows ≡ label = cc in
+          let same : map_label_with own rows ≡ label = cc in
           let one = only bits own rest first in
           let more = map-in rows rest read in
           subst (λ (label : MapLabel). AreCodesOf code (numbers_of_label label) bits) same (record {
@@ -79,7 +79,7 @@ module _ (code : ℕ → List Bool) (takes : List Bool → Option (ℕ × List B
           })
 
       by : (own : Option (ℕ × List Bool)) → takes bits ≡ own
-          → option_and_then (λ (own : ℕ × List Bool). option_map (label_with own.0)
+          → option_and_then (λ (own : ℕ × List Bool). option_map (map_label_with own.0)
           (map_in takes own.1)) own ≡ Some label → AreCodesOf code (numbers_of_label label) bits
       by None first is = absurd (cc)
       by (Some own) first is = onward own.0 own.1 first (map_in takes own.1) refl is

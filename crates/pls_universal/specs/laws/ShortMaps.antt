@@ -22,7 +22,7 @@ use Rattle.pls_scheme.specs.Theorem.{AreWords}
 use Rattle.pls_scheme.proofs.Fitting.{AreWithin, within_fits}
 use Rattle.pls_universal.specs.Bound.{longest_map}
 use Rattle.pls_universal.specs.Map.{map_of, numbers_of_label, numbers_of_port, numbers_of_row, port_stated, row_stated, up_stated}
-use Rattle.pls_universal.specs.Reading.{label_with}
+use Rattle.pls_universal.specs.Reading.{map_label_with}
 use Rattle.pls_universal.specs.laws.NumberLaws.{codes_of-append}
 
 -- the numbers of a record in front of its ports
@@ -164,7 +164,7 @@ module _ (code : ℕ → List Bool) (grows : Grows code) (short : IsShort code)
 
   -- the label of a node is within the bound
   pub map_short : (row : NodeRow) → Contains rows row
-      → length (codes_of code (numbers_of_label (label_with row.id (map_of rows))))
+      → length (codes_of code (numbers_of_label (map_label_with row.id (map_of rows))))
       ≤ longest_map code (size_of rows)
   map_short row in' =
       let many = length-map rows row_stated in

@@ -5,8 +5,8 @@ use Rattle.pls_bits.specs.Words.{bits_of}
 use Rattle.pls_view.specs.declared.label_room.Slot.{Slot}
 
 -- the label of a slot
-abbrev pub label_in : List ℕ → Slot → List Bool
-label_in words slot = bits_of words (64 * slot.at) slot.len
+abbrev pub label_of_slot : List ℕ → Slot → List Bool
+label_of_slot words slot = bits_of words (64 * slot.at) slot.len
 
 -- a slot lies within the words
 abbrev pub LiesIn : List ℕ → Slot → Type 0

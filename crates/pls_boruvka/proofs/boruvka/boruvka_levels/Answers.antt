@@ -5,7 +5,7 @@ use Rattle.pls_model.specs.declared.row.NodeRow.{NodeRow}
 use Rattle.pls_boruvka.specs.declared.joining.Chosen.{Chosen}
 use Rattle.pls_boruvka.specs.declared.level.Level.{Level}
 use Rattle.pls_boruvka.specs.Boruvka.{AreLevelLists}
-use Rattle.pls_boruvka.specs.inner.Chosen.{AreChosen, SomeUnpointed, said_by}
+use Rattle.pls_boruvka.specs.inner.Chosen.{AreChosen, SomeUnpointed, levels_said}
 use Rattle.pls_boruvka.specs.inner.Tops.{AreParents, AreTops, HasDepths}
 use Rattle.pls_boruvka.proofs.Begun.{AreLevelLists-begun, IsBegun, IsBegun-more, IsBegun-none, IsLightest-begun, children_begun, few_begun, fewer_unjoined, lighter_begun, tops_within}
 use Rattle.pls_boruvka.proofs.ChainLengths.{Falls-chains, depth_few}
@@ -15,7 +15,7 @@ use Rattle.pls_boruvka.proofs.boruvka.boruvka_levels.Goals as goal
 
 -- what the rounds so far say
 abbrev lists_by : List NodeRow → List (Vec Chosen Global) → List (List Level)
-lists_by rows rounds = said_by (map (λ all. all.items) rounds) (length rows)
+lists_by rows rounds = levels_said (map (λ all. all.items) rounds) (length rows)
 
 pub loop-choices-init : goal.loop-choices-init
 loop-choices-init c =
@@ -55,7 +55,7 @@ returns-then-are_one-clause-levels c =
     let tops = c.as_slice-tops.result.now in
     subst (AreLevelLists rows)
     (sym (c.in_ok-lists.ensures
-    ∙ ap (λ (count : ℕ). said_by (map (λ (all : Vec Chosen Global). all.items) c.loop-choices.rounds.items) count) c.len-then-are_one.ensures.len))
+    ∙ ap (λ (count : ℕ). levels_said (map (λ (all : Vec Chosen Global). all.items) c.loop-choices.rounds.items) count) c.len-then-are_one.ensures.len))
     (AreLevelLists-begun rows c.len.ensures.valid parents flags tops
     (subst (AreParents rows) (sym c.as_slice-parents.ensures.value) c.in_ok-parents.ensures)
     (subst (AreTops parents flags) (sym c.as_slice-tops.ensures.value) c.in_ok-tops.ensures.tops)
@@ -70,7 +70,7 @@ returns-then-are_one-clause-few c =
     let tops = c.as_slice-tops.result.now in
     subst (λ (lists : List (List Level)). All (λ list. 2 ^ length list ≤ length rows) lists)
     (sym (c.in_ok-lists.ensures
-    ∙ ap (λ (count : ℕ). said_by (map (λ (all : Vec Chosen Global). all.items) c.loop-choices.rounds.items) count) c.len-then-are_one.ensures.len))
+    ∙ ap (λ (count : ℕ). levels_said (map (λ (all : Vec Chosen Global). all.items) c.loop-choices.rounds.items) count) c.len-then-are_one.ensures.len))
     (few_begun rows c.len.ensures.valid parents flags tops
     (subst (AreParents rows) (sym c.as_slice-parents.ensures.value) c.in_ok-parents.ensures)
     (subst (AreTops parents flags) (sym c.as_slice-tops.ensures.value) c.in_ok-tops.ensures.tops)
@@ -182,7 +182,7 @@ loop-choices-preserved c =
     let is : all ≡ c.in-Some.all.items = c.as_slice.ensures.value in
     let added : AddLevel all (lists_by rows rounds) (lists_by rows c.push.new.self.items) =
     subst (λ (new : List (List Chosen)). AddLevel all (lists_by rows rounds)
-    (said_by new (length rows)))
+    (levels_said new (length rows)))
     (sym (ap (map vec_items) c.in_ok-push.ensures.items
     ∙ map-append vec_items rounds (c.in-Some.all ∷ [])
     ∙ ap (λ (last : List Chosen). map vec_items rounds ++ last ∷ []) (sym is)))

@@ -1,5 +1,5 @@
 use Rattle.std.proofs.Common.{◌≡◌, All, length, map}
-use Rattle.pls_boruvka.specs.inner.Chosen.{said_by}
+use Rattle.pls_boruvka.specs.inner.Chosen.{levels_said}
 use Rattle.pls_boruvka.proofs.Begun.{IsBegun}
 use Rattle.pls_boruvka.proofs.Unjoined.{unjoined}
 use Rattle.pls_boruvka.proofs.boruvka.boruvka_levels.Given as goal
@@ -7,7 +7,7 @@ use Rattle.pls_boruvka.proofs.boruvka.boruvka_levels.Given as goal
 abbrev pub invariant-loop-choices : goal.invariant-loop-choices
 invariant-loop-choices l = record {
   each : All (λ all. length all.items ≡ length l.net) l.rounds.items;
-  begun : IsBegun l.net l.joined (said_by (map (λ all. all.items) l.rounds.items) (length l.net));
+  begun : IsBegun l.net l.joined (levels_said (map (λ all. all.items) l.rounds.items) (length l.net));
   noted : length l.noted ≡ length l.net;
   choices : length l.choices ≡ length l.net;
 }

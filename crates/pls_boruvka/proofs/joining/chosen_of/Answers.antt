@@ -1,6 +1,6 @@
 use Rattle.std.proofs.Common.{◌∷◌, [], ℕ, length, arith, subst, sym, ap, length-append}
 use Rattle.pls_boruvka.specs.inner.Choices.{top_at}
-use Rattle.pls_boruvka.specs.inner.Chosen.{IsChosen, found_at}
+use Rattle.pls_boruvka.specs.inner.Chosen.{IsChosen, choice_of_place}
 use Rattle.pls_boruvka.specs.inner.Tops.{Each}
 use Rattle.pls_boruvka.specs.declared.joining.Chosen.{Chosen}
 use Rattle.pls_boruvka.proofs.Listed.{Each-push}
@@ -12,7 +12,7 @@ loop-top-preserved c =
     let place = c.loop-top.top-index in
     let tops = c.args.tops.now in
     let Right = λ (place : ℕ) (chosen : Chosen).
-    IsChosen c.args.net.now (top_at tops place) (found_at tops c.args.choices.now place) chosen in
+    IsChosen c.args.net.now (top_at tops place) (choice_of_place tops c.args.choices.now place) chosen in
     let (many, right) = c.loop-top.invariant in
     let all = c.in_ok-push.ensures.items in
     let size = ap length all in (

@@ -1,5 +1,5 @@
 use Rattle.std.proofs.Common.{◌≡◌, ◌∙◌, Some, sym}
-use Rattle.pls_boruvka.specs.inner.Tops.{up_of}
+use Rattle.pls_boruvka.specs.inner.Tops.{joined_parent}
 use Rattle.pls_boruvka.proofs.Climbing.{AreNotedTops-more, IsTop-after, steps-fall, up-parent}
 use Rattle.pls_boruvka.proofs.tops.note_top.Goals as goal
 
@@ -19,7 +19,7 @@ loop-noted-preserved c =
     let place = c.loop-noted.place in
     let parent = c.in-Some.parent in
     let (within, is, noted) = c.loop-noted.invariant in
-    let follows : up_of parents joined place ≡ Some parent =
+    let follows : joined_parent parents joined place ≡ Some parent =
     sym c.joined_parent.ensures ∙ c.in-Some.is in (
       (c.requires.falls.falls place parent within
           (up-parent parents joined place parent follows)).0,

@@ -1,7 +1,7 @@
 use Rattle.std.proofs.Common.{◌≡◌, length}
-use Rattle.pls_boruvka.specs.inner.Tops.{Each, IsParent}
+use Rattle.pls_boruvka.specs.inner.Tops.{Each, IsParentPlace}
 use Rattle.pls_boruvka.proofs.tops.parents_of.Given as goal
 
 abbrev pub invariant-loop-place : goal.invariant-loop-place
 invariant-loop-place l =
-    (length l.parents.items ≡ l.place) × Each (IsParent l.net) l.parents.items
+    (length l.parents.items ≡ l.place) × Each (IsParentPlace l.net) l.parents.items

@@ -1,6 +1,6 @@
 use Rattle.std.proofs.Common.{◌≡◌, ◌∙◌, ◌<◌, None, Some, length, sym, ap, arith}
 use Rattle.std.proofs.lemmas.Option.{slice_get-get_or}
-use Rattle.pls_boruvka.specs.inner.Tops.{up_of}
+use Rattle.pls_boruvka.specs.inner.Tops.{joined_parent}
 use Rattle.pls_boruvka.proofs.Climbing.{IsTop-before, Leads-more, steps-fall, up-parent}
 use Rattle.pls_boruvka.proofs.tops.top_from.Goals as goal
 
@@ -31,7 +31,7 @@ loop-place-preserved c =
     let place = c.loop-place.place in
     let parent = c.in-Some-joined_parent.parent in
     let (within, leads) = c.loop-place.invariant in
-    let follows : up_of parents joined place ≡ Some parent =
+    let follows : joined_parent parents joined place ≡ Some parent =
     sym c.joined_parent.ensures ∙ c.in-Some-joined_parent.is in (
       (c.requires.falls.falls place parent within
           (up-parent parents joined place parent follows)).0,

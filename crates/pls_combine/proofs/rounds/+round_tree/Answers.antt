@@ -2,10 +2,10 @@ use Rattle.std.proofs.Common.{◌∙◌, refl, sym, ap, subst}
 use Rattle.pls_view.specs.Seen.{views}
 use Rattle.pls_scheme.specs.Judging.{verdicts_by}
 use Rattle.pls_combine.specs.Expression.{judge_of}
-use Rattle.pls_combine.specs.inner.Rounds.{SomeTrue}
-use Rattle.pls_combine.specs.inner.Trees.{expression_of}
+use Rattle.pls_parts.specs.inner.Rounds.{SomeTrue}
+use Rattle.pls_property.specs.Held.{expression_of}
 use Rattle.pls_combine.proofs.JudgedParts.{all_within, and_verdicts, is_asked, or_verdicts}
-use Rattle.pls_combine.proofs.rounds.+round_tree.Goals.{in-Basic+in_ok-verdicts-in-Basic, in-Map+in_ok-verdicts-in-Map, in-And+in_ok-parted-in-And+in_ok-firsts-in-And+in_ok-seconds-in-And+in_ok-verdicts-in-And, in-Or+in_ok-tags-in-Or+in_ok-rests-in-Or+in_ok-firsts-in-Or+in_ok-seconds-in-Or+in_ok-verdicts-in-Or}
+use Rattle.pls_combine.proofs.rounds.+round_tree.Goals.{in-Of+in_ok-verdicts-in-Of, in-Diameter+in_ok-verdicts-in-Diameter, in-Bridgeless+in_ok-verdicts-in-Bridgeless, in-Map+in_ok-verdicts-in-Map, in-And+in_ok-parted-in-And+in_ok-firsts-in-And+in_ok-seconds-in-And+in_ok-verdicts-in-And, in-Or+in_ok-tags-in-Or+in_ok-rests-in-Or+in_ok-firsts-in-Or+in_ok-seconds-in-Or+in_ok-verdicts-in-Or}
 use Rattle.pls_combine.proofs.rounds.+round_tree.Goals as goal
 
 pub returns-clause-verdicts : goal.returns-clause-verdicts
@@ -14,11 +14,18 @@ returns-clause-verdicts g t c asked =
     let rows = c.args.net.now in
     let labels = c.args.labels.now in
     elim c.match-tree.branch [
-      | in-Basic+in_ok-verdicts-in-Basic w ↦
-          rw (w.verdicts-is, w.in-Basic.is) (w.in_ok-verdicts-in-Basic.ensures.verdicts
-          ∙ rw w.new-in-Basic.ensures refl)
+      | in-Of+in_ok-verdicts-in-Of w ↦
+          rw (w.verdicts-is, w.in-Of.is) (w.in_ok-verdicts-in-Of.ensures.verdicts
+          ∙ rw w.new-in-Of.ensures refl)
+      | in-Diameter+in_ok-verdicts-in-Diameter w ↦
+          rw (w.verdicts-is, w.in-Diameter.is) (w.in_ok-verdicts-in-Diameter.ensures
+          ∙ rw w.in-Diameter.is refl)
+      | in-Bridgeless+in_ok-verdicts-in-Bridgeless w ↦
+          rw (w.verdicts-is, w.in-Bridgeless.is) (w.in_ok-verdicts-in-Bridgeless.ensures
+          ∙ rw w.in-Bridgeless.is refl)
       | in-Map+in_ok-verdicts-in-Map w ↦
-          rw (w.verdicts-is, w.in-Map.is) w.in_ok-verdicts-in-Map.ensures.verdicts
+          rw (w.verdicts-is, w.in-Map.is) (w.in_ok-verdicts-in-Map.ensures
+          ∙ rw w.in-Map.is refl)
       | in-And+in_ok-parted-in-And+in_ok-firsts-in-And+in_ok-seconds-in-And+in_ok-verdicts-in-And w ↦
           let one = expression_of w.deref.result.now in
           let two = expression_of w.deref-in-And.result.now in

@@ -1,8 +1,8 @@
 use Rattle.std.proofs.Common.{true, false, arith}
 use Rattle.pls_graph.specs.Size.{size_of}
 use Rattle.pls_combine.specs.Expression.{judge_of, leaves_of, longest_of}
-use Rattle.pls_combine.specs.inner.Trees.{expression_of}
-use Rattle.pls_combine.proofs.Marking.{both_accepted, both_short, tagged_accepted, tagged_short}
+use Rattle.pls_property.specs.Held.{expression_of}
+use Rattle.pls_parts.proofs.Marking.{both_accepted, both_short, tagged_accepted, tagged_short}
 use Rattle.pls_combine.proofs.scheme_tree.+mark_tree.Goals as goal
 
 pub returns-in_ok-labels-in-And-clause-accepted : goal.returns-in_ok-labels-in-And-clause-accepted
@@ -63,9 +63,9 @@ returns-in_ok-labels-in-Or-2-clause-accepted g t c =
     c.in_ok-labels-in-Or-2.ensures.tagged
     (rw (c.in-Some-4.is, c.deref-in-Or-2.ensures) at (c.in_ok-rests-in-Or-2.ensures.accepted)))
 
-pub returns-in-Basic-clause-accepted : goal.returns-in-Basic-clause-accepted
-returns-in-Basic-clause-accepted g t c =
-    rw (c.in-Basic.is, ← c.new.ensures) c.mark.ensures.accepted
+pub returns-in-Of-clause-accepted : goal.returns-in-Of-clause-accepted
+returns-in-Of-clause-accepted g t c =
+    rw (c.in-Of.is, ← c.new.ensures) c.mark.ensures.accepted
 
 pub returns-in-Some-3-clause-short : goal.returns-in-Some-3-clause-short
 returns-in-Some-3-clause-short g t c =
@@ -93,5 +93,14 @@ returns-in_ok-labels-in-Or-2-clause-short g t c =
     (longest_of g.C.NumCode.code second (size_of c.args.net.now)) _ (omega arith)
     (rw (c.in-Some-4.is, c.deref-in-Or-2.ensures) at (c.in_ok-rests-in-Or-2.ensures.short)))
 
+pub returns-in-Diameter-clause-accepted : goal.returns-in-Diameter-clause-accepted
+returns-in-Diameter-clause-accepted g t c =
+    rw c.in-Diameter.is (rw (c.map_of.ensures, c.in-Diameter.is) at c.mark-in-Diameter.ensures.accepted)
+
+pub returns-in-Bridgeless-clause-accepted : goal.returns-in-Bridgeless-clause-accepted
+returns-in-Bridgeless-clause-accepted g t c =
+    rw c.in-Bridgeless.is (rw (c.map_of-in-Bridgeless.ensures, c.in-Bridgeless.is) at c.mark-in-Bridgeless.ensures.accepted)
+
 pub returns-in-Map-clause-accepted : goal.returns-in-Map-clause-accepted
-returns-in-Map-clause-accepted g t c = rw c.in-Map.is c.mark-in-Map.ensures.accepted
+returns-in-Map-clause-accepted g t c =
+    rw c.in-Map.is (rw (c.map_of-in-Map.ensures, c.in-Map.is) at c.mark-in-Map.ensures.accepted)

@@ -1,6 +1,6 @@
 use Rattle.std.proofs.Common.{◌++◌, sym, ◌∙◌, ap, subst, inl, inr, arith}
 use Rattle.std.proofs.lemmas.Fmt.{decimal_digit}
-use Rattle.pls_lines.specs.Digits.{BeginsDigit}
+use Rattle.pls_lines.specs.inner.Digits.{BeginsDigit}
 use Rattle.pls_lines.proofs.LeadingNumbers.{decimal_begins, same_leading, text_digit_more, too_large}
 use Rattle.pls_lines.proofs.numbers.leading_number.Goals as goal
 use Rattle.pls_lines.proofs.numbers.leading_number.Goals.{then-number-eq0-via-then-number-eq0, then-number-eq0-via-else-number-eq0+then-number-most}

@@ -8,13 +8,13 @@ use Rattle.pls_recheck.proofs.joining.join_with_label.Goals as goal
 pub unwrap-i-requires : goal.unwrap-i-requires
 unwrap-i-requires c =
     let place = joined_place c.args.net.now c.len.ensures.valid c.args.id c.args.mark c.args.num
-    c.in_ok-join.ensures.allowed c.join.new.self c.in_ok-join.ensures.ok c.len-2.ensures.valid in
+    c.in_ok-join.ensures.allowed c.join.new.net c.in_ok-join.ensures.ok c.len-2.ensures.valid in
     rw (c.place_of.ensures ∙ place) refl
 
 pub insert-requires : goal.insert-requires
 insert-requires c =
     let place = joined_place c.args.net.now c.len.ensures.valid c.args.id c.args.mark c.args.num
-    c.in_ok-join.ensures.allowed c.join.new.self c.in_ok-join.ensures.ok c.len-2.ensures.valid in
+    c.in_ok-join.ensures.allowed c.join.new.net c.in_ok-join.ensures.ok c.len-2.ensures.valid in
     let is : c.unwrap-i.result ≡ place_for c.args.net.now c.args.id =
     same_Some _ _ (sym c.unwrap-i.ensures ∙ c.place_of.ensures ∙ place) in
     omega (
@@ -28,23 +28,23 @@ insert-requires c =
 pub take_back-requires : goal.take_back-requires
 take_back-requires c =
     may_go c.args.net.now c.len.ensures.valid c.args.id c.args.mark c.args.num
-    c.in_ok-join.ensures.allowed c.join.new.self c.in_ok-join.ensures.ok c.len-2.ensures.valid
+    c.in_ok-join.ensures.allowed c.join.new.net c.in_ok-join.ensures.ok c.len-2.ensures.valid
 
 pub returns-then-is_err-clause-valid : goal.returns-then-is_err-clause-valid
 returns-then-is_err-clause-valid c =
     subst IsNetwork (sym (c.take_back.ensures
     ∙ joined_and_left c.args.net.now c.len.ensures.valid c.args.id c.args.mark c.args.num
-    c.in_ok-join.ensures.allowed c.join.new.self c.in_ok-join.ensures.ok c.len-2.ensures.valid))
+    c.in_ok-join.ensures.allowed c.join.new.net c.in_ok-join.ensures.ok c.len-2.ensures.valid))
     c.len.ensures.valid
 
 pub returns-then-is_err-clause-unchanged : goal.returns-then-is_err-clause-unchanged
 returns-then-is_err-clause-unchanged c =
     c.take_back.ensures
     ∙ joined_and_left c.args.net.now c.len.ensures.valid c.args.id c.args.mark c.args.num
-    c.in_ok-join.ensures.allowed c.join.new.self c.in_ok-join.ensures.ok c.len-2.ensures.valid
+    c.in_ok-join.ensures.allowed c.join.new.net c.in_ok-join.ensures.ok c.len-2.ensures.valid
 
 pub returns-clause-place : goal.returns-clause-place
 returns-clause-place c =
     let place = joined_place c.args.net.now c.len.ensures.valid c.args.id c.args.mark c.args.num
-    c.in_ok-join.ensures.allowed c.join.new.self c.in_ok-join.ensures.ok c.len-2.ensures.valid in
+    c.in_ok-join.ensures.allowed c.join.new.net c.in_ok-join.ensures.ok c.len-2.ensures.valid in
     same_Some _ _ (sym c.unwrap-i.ensures ∙ c.place_of.ensures ∙ place)

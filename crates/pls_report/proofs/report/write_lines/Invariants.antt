@@ -1,6 +1,6 @@
 use Rattle.std.proofs.Common.{map, take}
 use Rattle.pls_lines.specs.Text.{text_of}
-use Rattle.pls_report.specs.Report.{node_line}
+use Rattle.pls_report.specs.Report.{outcome_line}
 use Rattle.pls_base.specs.Gathered.{Wrote}
 use Rattle.pls_report.proofs.report.write_lines.Given as goal
 
@@ -8,4 +8,4 @@ abbrev pub invariant-loop-id : goal.invariant-loop-id
 invariant-loop-id g l =
     Wrote l.fn.gathered l.gathered (g.K.Sink.taken l.fn.sink) (g.K.Sink.taken l.sink) (g.K.Sink.faults l.fn.sink)
     (g.K.Sink.faults l.sink) (g.K.Sink.IsSureOf l.fn.sink) (g.K.Sink.IsSureOf l.sink)
-    (text_of (map node_line (take l.id-index l.rows)))
+    (text_of (map outcome_line (take l.id-index l.rows)))

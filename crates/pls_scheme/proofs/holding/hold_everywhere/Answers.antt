@@ -5,7 +5,7 @@ use Rattle.pls_model.specs.declared.row.NodeRow.{NodeRow}
 use Rattle.pls_model.specs.declared.verdict.Verdict.TheVariants.{Accept}
 use Rattle.pls_graph.proofs.Members.{Contains-from_place, place_from_Contains}
 use Rattle.pls_facts.proofs.Lists.{item_at}
-use Rattle.pls_scheme.specs.Judging.{accepts}
+use Rattle.pls_scheme.specs.inner.Accepting.{accepts}
 use Rattle.pls_scheme.specs.Reading.{read_where}
 use Rattle.pls_scheme.specs.laws.Saying.{hold-judged, judged-each}
 use Rattle.pls_scheme.proofs.Accepted.{accepts-true}

@@ -1,10 +1,10 @@
-use Rattle.std.proofs.Common.{Some, ap, inr, arith}
+use Rattle.std.proofs.Common.{Some, ap, inl, inr, arith}
 use Rattle.pls_tests.proofs.memory_run.run_in_memory.Goals as goal
 
 pub returns-clause-text : goal.returns-clause-text
 returns-clause-text c answered =
     rw c.in_ok-sink.ensures at c.run-status.ensures.text c.args.input.items
-    (ap Some c.new-source.ensures) answered
+    (inl (ap Some c.new-source.ensures)) answered
 
 pub returns-clause-answers : goal.returns-clause-answers
 returns-clause-answers c fits =

@@ -3,7 +3,7 @@ use Rattle.std.proofs.lemmas.List.FromFn.{map-range_with_len_more}
 use Rattle.pls_model.specs.declared.row.NodeRow.{NodeRow}
 use Rattle.pls_model.specs.Configuration.{AreWithinLimits}
 use Rattle.pls_graph.specs.Build.{IsRefusal}
-use Rattle.pls_graph.specs.Edits.{alone}
+use Rattle.pls_graph_edits.specs.Edits.{alone}
 use Rattle.pls_trial.specs.Generator.{nodes_alone}
 use Rattle.pls_trial.proofs.Alone.{memory_lacks, nodes_alone_within}
 use Rattle.pls_trial.proofs.trial.nodes_alone.Goals as goal

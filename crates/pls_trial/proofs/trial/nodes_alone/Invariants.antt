@@ -1,6 +1,6 @@
 use Rattle.std.proofs.Common.{◌≡◌, map}
 use Rattle.std.specs.List.{range_with_len}
-use Rattle.pls_graph.specs.Edits.{alone}
+use Rattle.pls_graph_edits.specs.Edits.{alone}
 use Rattle.pls_trial.proofs.trial.nodes_alone.Given as goal
 
 abbrev pub invariant-loop-i : goal.invariant-loop-i

@@ -1,5 +1,5 @@
 use Rattle.std.proofs.Common.{◌≡◌, ◌∙◌, ◌+◌, sym, ap, arith, None, Some}
-use Rattle.pls_graph.specs.Edits.{state_refusal}
+use Rattle.pls_graph_edits.specs.Edits.{state_refusal}
 use Rattle.pls_trial.specs.Generator.{at_port_0}
 use Rattle.pls_trial.specs.inner.Building.{has_port}
 use Rattle.pls_trial.proofs.Pointing.{all_pointed, has_port-pointed_to}

@@ -1,5 +1,5 @@
 use Rattle.std.proofs.Common.{inl, inr}
-use Rattle.pls_graph.specs.Edits.{link_refusal}
+use Rattle.pls_graph_edits.specs.Edits.{link_refusal}
 use Rattle.pls_trial.proofs.Refused.{causes_left, two_causes}
 use Rattle.pls_trial.proofs.trial.put_link.Goals as goal
 

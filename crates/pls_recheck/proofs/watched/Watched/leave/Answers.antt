@@ -1,7 +1,7 @@
 use Rattle.std.proofs.Common.{◌≡◌, ◌∙◌, Some, ap, refl, subst, sym}
 use Rattle.pls_model.specs.declared.row.NodeRow.{NodeRow}
-use Rattle.pls_graph.specs.declared.edits.EditError.TheVariants.{Absent}
-use Rattle.pls_graph.specs.Edits.{leave_refusal, left}
+use Rattle.pls_graph_edits.specs.declared.edit_error.EditError.TheVariants.{Absent}
+use Rattle.pls_graph_edits.specs.Edits.{leave_refusal, left}
 use Rattle.pls_edits.specs.declared.edit.Edit.TheVariants.{Leave}
 use Rattle.pls_recheck.specs.After.{after}
 use Rattle.pls_recheck.specs.Watch.{IsCurrent, Snapshot}
@@ -27,7 +27,7 @@ invariant_of-self-2 c =
       verdicts = c.self.inside.kept.items;
     } in
     let now : Kept = record {
-      rows = c.leave.new.self;
+      rows = c.leave.new.net;
       labels = c.remove.new.self;
       flags = c.remove-2.new.self.items;
       around = c.remove-3.new.self.items;
@@ -59,7 +59,7 @@ returns-clause-ok c =
       verdicts = c.self.inside.kept.items;
     } in
     let now : Kept = record {
-      rows = c.leave.new.self;
+      rows = c.leave.new.net;
       labels = c.remove.new.self;
       flags = c.remove-2.new.self.items;
       around = c.remove-3.new.self.items;
@@ -92,7 +92,7 @@ returns-clause-current c = λ judge current.
       verdicts = c.self.inside.kept.items;
     } in
     let now : Kept = record {
-      rows = c.leave.new.self;
+      rows = c.leave.new.net;
       labels = c.remove.new.self;
       flags = c.remove-2.new.self.items;
       around = c.remove-3.new.self.items;

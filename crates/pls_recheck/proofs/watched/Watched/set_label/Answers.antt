@@ -2,8 +2,8 @@ use Rattle.std.proofs.Common.{◌≡◌, ◌∙◌, ℕ, Bool, ◌==◌, ◌||�
 use Rattle.std.proofs.lemmas.List.{length-set}
 use Rattle.pls_model.specs.declared.row.NodeRow.{NodeRow}
 use Rattle.pls_model.specs.Configuration.{ids_of}
-use Rattle.pls_graph.specs.declared.edits.EditError.TheVariants.{Absent, Full}
-use Rattle.pls_graph.specs.Edits.{are_linked}
+use Rattle.pls_graph_edits.specs.declared.edit_error.EditError.TheVariants.{Absent, Full}
+use Rattle.pls_graph_edits.specs.Edits.{are_linked}
 use Rattle.pls_edits.specs.Edited.{label_refusal}
 use Rattle.pls_recheck.specs.After.{after}
 use Rattle.pls_recheck.specs.Watch.{IsCurrent, Snapshot}

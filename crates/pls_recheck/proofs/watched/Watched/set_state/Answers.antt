@@ -1,7 +1,7 @@
 use Rattle.std.proofs.Common.{◌≡◌, ◌∙◌, ℕ, Bool, ◌==◌, List, ap, refl, subst, sym}
 use Rattle.pls_model.specs.declared.row.NodeRow.{NodeRow}
 use Rattle.pls_model.specs.Configuration.{ids_of}
-use Rattle.pls_graph.specs.Edits.{in_state}
+use Rattle.pls_graph_edits.specs.Edits.{in_state}
 use Rattle.pls_recheck.specs.After.{after}
 use Rattle.pls_recheck.specs.Watch.{IsCurrent, Snapshot}
 use Rattle.pls_edits.specs.declared.edit.Edit.{Edit}
@@ -17,7 +17,7 @@ invariant_of-self-2 c =
     let rows = c.self.inside.net in
     let old = c.self.inside.flags.items in
     let around = c.self.inside.around.items in
-    let network = c.set_state.new.self in
+    let network = c.set_state.new.net in
     let new = c.touch.new.flags.items in
     let passes : ℕ → Bool = λ node. c.args.id == node in
     let ids : ids_of network ≡ ids_of rows =
@@ -36,7 +36,7 @@ returns-clause-ok c =
     let labels = c.self.inside.labels in
     let old = c.self.inside.flags.items in
     let kept = c.self.inside.kept.items in
-    let network = c.set_state.new.self in
+    let network = c.set_state.new.net in
     let new = c.touch.new.flags.items in
     let edit : Edit = State c.args.id c.args.state in
     let before : Snapshot = record {
@@ -59,7 +59,7 @@ returns-clause-current c = λ judge current.
     let rows = c.self.inside.net in
     let labels = c.self.inside.labels in
     let old = c.self.inside.flags.items in
-    let network = c.set_state.new.self in
+    let network = c.set_state.new.net in
     let passes : ℕ → Bool = λ node. c.args.id == node in
     let ids : ids_of network ≡ ids_of rows =
     ap ids_of c.in_ok-set_state.ensures.ok ∙ ids_of_changed c.args.id (in_state c.args.state) (λ row. refl) rows in

@@ -1,7 +1,7 @@
 use Rattle.std.proofs.Common.{◌≤◌, List, Bool, ap, length, arith}
 use Rattle.pls_graph.specs.declared.size.Size.{Size}
 use Rattle.pls_graph.specs.Size.{size_of}
-use Rattle.pls_scheme.specs.Marked.{answered}
+use Rattle.pls_base.specs.Steps.{capped}
 use Rattle.pls_scheme.specs.Theorem.{AreWords}
 use Rattle.pls_scheme.proofs.Markings.{all_said, all_spelled, marked_accepted, right_marked, said_by_id}
 use Rattle.pls_scheme.proofs.basic.BasicScheme.mark.Goals as goal
@@ -62,6 +62,6 @@ returns-clause-short g c =
     } in
     let said = said_by_id says rows c.is_valid.ensures found right in
     all_spelled says rows found right.each said g.R.Layout.Layout.spells c.in_ok-labels.labels
-    spelled (λ (bits : List Bool). length bits ≤ answered (g.R.Marker.longest rules (size_of rows)))
+    spelled (λ (bits : List Bool). length bits ≤ capped (g.R.Marker.longest rules (size_of rows)))
     (λ row bits in' is. (g.met.R.Marker.fits_law rules rows c.is_valid.ensures c.requires holds
     words said.say said.right row in').short bits is)

@@ -9,7 +9,7 @@ use Rattle.pls_graph.specs.Size.{size_of}
 use Rattle.pls_scheme.specs.Theorem.{AreWords}
 use Rattle.pls_scheme.proofs.Markings.{marked_accepted}
 use Rattle.pls_universal.specs.Map.{IsMapLabel, map_of}
-use Rattle.pls_universal.specs.Reading.{label_with, map_label}
+use Rattle.pls_universal.specs.Reading.{map_label_with, map_label}
 use Rattle.pls_universal.specs.Rules.{map_rules, map_says}
 use Rattle.pls_universal.specs.laws.LabelLaws.{map_label-spells}
 use Rattle.pls_universal.specs.laws.MapMet.{map_met, map_one_right}
@@ -43,8 +43,8 @@ returns-clause-short g c k d within =
     item_at rows k (omega (arith, within, marked.each)) in
     let (label, is, says) = marked.label k row (get_or labels k d) at
     (slice_get-get_or labels k d within) in
-    let right : label ≡ label_with row.id (map_of rows) =
-    map_one_right rows row label (label_with row.id (map_of rows)) says (refl, refl) in
+    let right : label ≡ map_label_with row.id (map_of rows) =
+    map_one_right rows row label (map_label_with row.id (map_of rows)) says (refl, refl) in
     let short = c.maps_are_short.ensures row (get_or labels k d) (Contains-from_place rows k row at)
     (subst (IsMapLabel g.C.NumCode.code (get_or labels k d)) right is) in
     let one = get_or-le-sum_by (λ (label : List Bool). length label) labels k d within in

@@ -1,6 +1,6 @@
 use Rattle.std.proofs.Common.{◌≡◌, ◌<◌, ap, arith, length, map, rules}
 use Rattle.std.proofs.lemmas.List.{length-map}
-use Rattle.pls_view.specs.inner.Slots.{label_in}
+use Rattle.pls_view.specs.inner.Slots.{label_of_slot}
 use Rattle.pls_view.proofs.Rooms.{free_used, labels_replaced, room_replaced}
 use Rattle.pls_view.proofs.label_room.LabelRoom.replace_spare_hex.Goals as goal
 
@@ -13,7 +13,7 @@ invariant_of-self c =
     let count = c.div_ceil.ensures in
     let slots = c.replaced-self-inside.ensures.slots in
     let labels = ap (λ s. length s.labels) c.self.view_is in
-    let each = length-map old.slots.items (label_in old.words.items) in
+    let each = length-map old.slots.items (label_of_slot old.words.items) in
     let within : c.args.i < length old.slots.items =
     omega (arith, c.requires.within, labels, each) in
     let spare = ap (λ s. s.spare) c.self.view_is in (
@@ -29,7 +29,7 @@ invariant_of-self c =
 pub returns-clause-replaced : goal.returns-clause-replaced
 returns-clause-replaced c = λ bits long written.
     let old = c.self.inside in
-    let labels : map (label_in old.words.items) old.slots.items ≡ c.args.self.now.labels =
+    let labels : map (label_of_slot old.words.items) old.slots.items ≡ c.args.self.now.labels =
     ap (λ s. s.labels) c.self.view_is in
     let at : c.len.result ≡ length old.words.items = search (rules, c.len.ensures) in
     rw (← labels, c.replaced-self-inside.ensures.slots, at)

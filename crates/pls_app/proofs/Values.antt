@@ -1,0 +1,147 @@
+-- The values of an input that was read.
+use Rattle.std.proofs.Common.{◌≡◌, ◌∙◌, ℕ, ◌+◌, ◌≤◌, ◌^◌, Bool, true, false, List, [], ◌∷◌, ◌++◌, map, length, Option, Some, None, option_map, length-append, ap, subst, refl, sym, arith}
+use Rattle.std.specs.Option.{unwrap_or}
+use Rattle.std.proofs.lemmas.List.{length-map}
+use Rattle.std.proofs.lemmas.Option.{same_Some}
+use Rattle.pls_model.specs.declared.limits.TheConstants.{MAX_INPUT}
+use Rattle.pls_model.specs.declared.row.NodeRow.{NodeRow}
+use Rattle.pls_model.specs.Configuration.{ids_of}
+use Rattle.pls_lines.specs.Text.{text_of}
+use Rattle.pls_netfile.specs.NetworkText.{network_lines}
+use Rattle.pls_labelfile.specs.LabelsText.{labels_lines, named}
+use Rattle.pls_labelfile.proofs.Named.{bare-named}
+use Rattle.pls_schedule.specs.declared.event.Event.{Event}
+use Rattle.pls_schedule.specs.ScheduleText.{schedule_lines}
+use Rattle.pls_edits.specs.declared.edit_line.EditLine.{EditLine}
+use Rattle.pls_edits.specs.EditsText.{AreEdits, AreFew, edits_lines, rounds_of}
+use Rattle.pls_inputs.specs.declared.input.Input.{Input as Read}
+use Rattle.pls_inputs.specs.declared.parts.Parts.{Parts}
+use Rattle.pls_inputs.specs.Parts.{Has, Input, edits_in, labels_in, lines_of, rows_in}
+use Rattle.pls_inputs.specs.Order.{edits_heading, schedule_heading}
+use Rattle.pls_inputs.specs.Read.{AreEach, IsFirstLine, IsRead, said}
+use Rattle.pls_inputs.proofs.Facts.{few}
+
+-- the items of a list that is there
+pub items_are : {V X : Type 0} (part : Option V) (list : V) (items : V → List X) → part ≡ Some list
+    → unwrap_or (option_map items part) [] ≡ items list
+items_are part list items is = ap (λ part. unwrap_or (option_map items part) []) is
+
+-- the rows of a network that was read
+pub rows_are : (read : Read) (net : List NodeRow) → read.network ≡ Some net
+    → rows_in (said read) ≡ net
+rows_are read net is = ap (λ (network : Option (List NodeRow)). unwrap_or network []) is
+
+-- a part that is there fits
+fits : {X : Type 0} (Fits : X → Type 0) (wanted : Bool) (part : Option X) (value : X)
+    → part ≡ Some value → Has wanted Fits part → Fits value
+fits Fits true None value is has = absurd (cc)
+fits Fits true (Some other) value is has = subst Fits (same_Some other value is) has
+fits Fits false None value is has = absurd (cc)
+fits Fits false (Some other) value is has = absurd has
+
+-- one that is not wanted is not there
+gone : {X : Type 0} (Fits : X → Type 0) (wanted : Bool) (part : Option X) → wanted ≡ false
+    → Has wanted Fits part → part ≡ None
+gone Fits true part is has = absurd (cc)
+gone Fits false None is has = refl
+gone Fits false (Some part) is has = absurd has
+
+-- a text has at most as many lines as bytes
+lines_fit : (lines : List (List ℕ)) → length lines ≤ length (text_of lines)
+lines_fit [] = omega arith
+lines_fit (line ∷ lines) =
+    omega (arith, lines_fit lines, length-append line (10 ∷ text_of lines))
+
+-- so no heading stands far behind the bytes
+headings_small : (bytes : List ℕ) (network labels schedule edits : List (List ℕ))
+    → length bytes ≤ MAX_INPUT
+    → bytes ≡ text_of (network ++ (labels ++ (schedule ++ edits)))
+    → length network + length labels + length schedule ≤ MAX_INPUT
+headings_small bytes network labels schedule edits short is =
+    omega (
+      arith,
+      short,
+      ap (length {A = ℕ}) is,
+      lines_fit (network ++ (labels ++ (schedule ++ edits))),
+      length-append network (labels ++ (schedule ++ edits)),
+      length-append labels (schedule ++ edits),
+      length-append schedule edits,
+    )
+
+-- the first line of a schedule stands behind its heading
+at_schedule : (schedule : Option (List Event)) (edits : Option (List EditLine)) (input : Input)
+    (line : ℕ) (events : List Event) → schedule ≡ Some events
+    → IsFirstLine schedule edits input line → line ≡ schedule_heading input + 1
+at_schedule None edits input line events is at = absurd (cc)
+at_schedule (Some other) edits input line events is at = at
+
+-- and that of edits, where there is no schedule
+at_edits : (schedule : Option (List Event)) (edits : Option (List EditLine)) (input : Input)
+    (line : ℕ) (list : List EditLine) → schedule ≡ None → edits ≡ Some list
+    → IsFirstLine schedule edits input line → line ≡ edits_heading input + 1
+at_edits (Some events) edits input line list none is at = absurd (cc)
+at_edits None None input line list none is at = absurd (cc)
+at_edits None (Some other) input line list none is at = at
+
+module _ (parts : Parts) (bytes : List ℕ) (read : Read) (is : IsRead parts bytes read) where
+  whole : length (lines_of network_lines (said read).network)
+      + length (lines_of labels_lines (said read).labels)
+      + length (lines_of schedule_lines (said read).schedule) ≤ MAX_INPUT
+  whole =
+      headings_small bytes (lines_of network_lines (said read).network)
+      (lines_of labels_lines (said read).labels) (lines_of schedule_lines (said read).schedule)
+      (lines_of edits_lines (said read).edits) is.is.short is.is.says.is
+
+  module _ (net : List NodeRow) (network : read.network ≡ Some net) (store : List (List Bool))
+      (labels : read.labels ≡ Some store) where
+    -- there is a label for each node
+    pub labels_each : length store ≡ length net
+    labels_each = let each : AreEach (Some net) (Some store) = rw (network, labels) at is.each in each
+
+    -- they are those of the input
+    pub labels_are : labels_in (said read) ≡ store
+    labels_are =
+        let ids : List ℕ = ids_of (rows_in (said read)) in
+        ap (λ (labels : Option (List (List Bool))).
+        map (λ label. label.bits) (unwrap_or (option_map (named ids) labels) [])) labels
+        ∙ bare-named ids store (labels_each ∙ ap length (sym (rows_are read net network))
+        ∙ sym (length-map (rows_in (said read)) (λ (row : NodeRow). row.id)))
+
+  module _ (events : List Event) (schedule : (said read).schedule ≡ Some events) where
+    -- the line of the first event
+    pub schedule_at : read.first_line ≡ schedule_heading (said read) + 1
+    schedule_at =
+        at_schedule (said read).schedule (said read).edits (said read) read.first_line events
+        schedule is.line
+
+    pub schedule_small : read.first_line ≤ 2 ^ 63
+    schedule_small = omega (arith, schedule_at, whole)
+
+  module _ (list : List EditLine) (edits : (said read).edits ≡ Some list)
+      (unscheduled : parts.schedule ≡ false) where
+    -- the line of the first edit
+    pub edits_at : read.first_line ≡ edits_heading (said read) + 1
+    edits_at =
+        at_edits (said read).schedule (said read).edits (said read) read.first_line list
+        (gone _ parts.schedule (said read).schedule unscheduled is.is.says.has.schedule) edits is.line
+
+    pub edits_small : read.first_line ≤ 2 ^ 63
+    edits_small = omega (arith, edits_at, whole)
+
+    -- the edits are those of a text
+    pub edits_fit : AreEdits list
+    edits_fit = fits AreEdits parts.edits (said read).edits list edits is.is.says.has.edits
+
+    -- within the limits
+    pub edits_few : AreFew list
+    edits_few =
+        let all = few parts bytes (said read) is.is in
+        let same : edits_in (said read) ≡ list =
+        ap (λ (edits : Option (List EditLine)). unwrap_or edits []) edits in record {
+          events = omega (arith, all.lines, ap length same);
+          rounds = omega (
+            arith,
+            all.rounds,
+            ap (λ (edits : List EditLine). length (rounds_of edits)) same,
+          );
+        }

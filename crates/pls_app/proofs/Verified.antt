@@ -1,0 +1,87 @@
+-- `verify` is `Done` on labels that `mark` wrote.
+use Rattle.std.proofs.Common.{◌≡◌, ◌∙◌, ℕ, ◌==◌, Bool, true, false, if◌then◌else◌, List, [], ◌∷◌, ◌++◌, codes, Some, inr, ap, refl, subst, sym}
+use Rattle.std.proofs.lemmas.List.{length-map}
+use Rattle.std.proofs.lemmas.List.Folds.{list_all-map}
+use Rattle.std.proofs.lemmas.List.Sums.{list_all-from_AllPass}
+use Rattle.pls_words.specs.Words.{said_by}
+use Rattle.pls_model.specs.declared.row.NodeRow.{NodeRow}
+use Rattle.pls_model.specs.declared.status.Status.TheVariants.{Done, No}
+use Rattle.pls_model.specs.declared.verdict.Verdict.{Verdict}
+use Rattle.pls_model.specs.Configuration.{ids_of}
+use Rattle.pls_view.specs.Seen.{Seen, views}
+use Rattle.pls_labelfile.proofs.Named.{bare-named}
+use Rattle.pls_scheme.specs.Judging.{AllAccept}
+use Rattle.pls_sim.specs.declared.outcome.Outcome.{Outcome}
+use Rattle.pls_sim.specs.declared.outcome.Outcome.TheVariants.{Decided}
+use Rattle.pls_report.specs.Report.{all_accept, is_accepting}
+use Rattle.pls_property.specs.Expression.{Expression, IsSmall}
+use Rattle.pls_scheme_text.specs.ExpressionText.{expression_text}
+use Rattle.pls_scheme_text.proofs.Letters.{first_letter}
+use Rattle.pls_inputs.specs.Parts.{Input, labels_in, rows_in, with_labels}
+use Rattle.pls_app.specs.declared.code_name.CodeName.TheVariants.{Gamma}
+use Rattle.pls_app.specs.declared.command.Command.TheVariants.{With}
+use Rattle.pls_app.specs.declared.command.Task.TheVariants.{Verify}
+use Rattle.pls_app.specs.Command.{IsCommand}
+use Rattle.pls_app.specs.Meant.{judge_in}
+use Rattle.pls_app.specs.Reports.{decided_by}
+use Rattle.pls_app.specs.Said.{Answer}
+use Rattle.pls_app.specs.Answer.{outcomes_in, report}
+use Rattle.pls_app.specs.Run.{Certifies}
+use Rattle.pls_app.specs.Verified.{IsDone, verify_words}
+use Rattle.pls_app.proofs.Answered.{command_answer}
+
+-- a word that does not begin with `-` stands behind `verify`
+behind_verify : (first : ℕ) (rest : List ℕ) → (first == 45) ≡ false
+    → said_by (codes "verify" ∷ (first ∷ rest) ∷ [])
+    ≡ Some (record { command = codes "verify"; argument = Some (first ∷ rest); json = false })
+behind_verify first rest plain = rw plain refl
+
+-- the words of a scheme's `verify` are that command
+verify_is : (scheme : Expression) → IsSmall scheme
+    → IsCommand (verify_words scheme) (With (Verify false) scheme)
+verify_is scheme small =
+    let text : List ℕ = expression_text scheme in
+    let letter = first_letter scheme in record {
+      said = record { command = codes "verify"; argument = Some text; json = false };
+      says = subst (λ (text : List ℕ). said_by (codes "verify" ∷ text ∷ [])
+          ≡ Some (record { command = codes "verify"; argument = Some text; json = false }))
+          (sym letter.2) (behind_verify letter.0 letter.1 letter.3);
+      is = (refl, refl, small);
+    }
+
+-- where all nodes accept, so do all outcomes
+pub accepted_all : (judge : Seen → Verdict) (rows : List NodeRow) (labels : List (List Bool))
+    → AllAccept judge rows labels → all_accept (decided_by judge rows labels) ≡ true
+accepted_all judge rows labels accepted =
+    let row : Seen → ℕ × Outcome = λ view. (view.id, Decided (judge view)) in
+    list_all-map (λ row. is_accepting row.1) row (views rows labels)
+    ∙ list_all-from_AllPass (λ view. is_accepting (row view).1) (views rows labels)
+    (λ k d within. ap (λ (verdict : Verdict). is_accepting (Decided verdict)) (accepted k d within))
+
+-- `verify` on bytes followed by labels that certify their network
+pub verified : (scheme : Expression) (bytes text : List ℕ) → IsSmall scheme
+    → Certifies scheme bytes text → IsDone (verify_words scheme) (bytes ++ text)
+verified scheme bytes text small certifies =
+    let judge : Seen → Verdict = judge_in Gamma scheme in
+    let rows : List NodeRow = rows_in certifies.input in
+    let labels : List (List Bool) = certifies.labels in
+    let input : Input = with_labels certifies.input labels in
+    let command = With (Verify false) scheme in
+    let answer : Answer = report false false (outcomes_in command input) in
+    let same : labels_in input ≡ labels =
+    bare-named (ids_of rows) labels
+    (certifies.shows.each ∙ sym (length-map rows (λ (row : NodeRow). row.id))) in
+    let all : all_accept (decided_by judge rows (labels_in input)) ≡ true =
+    ap (λ (labels : List (List Bool)). all_accept (decided_by judge rows labels)) same
+    ∙ accepted_all judge rows labels certifies.shows.accepted in
+    record {
+      answer = answer;
+      is = command_answer (verify_words scheme) (bytes ++ text) command answer
+          (verify_is scheme small) (inr (record {
+            input = input;
+            is = certifies.read_back;
+            takes = record { joined = certifies.shows.holds.joined; accepted = refl };
+            yields = refl;
+          }));
+      done = ap (λ (all : Bool). if all then Done else No) all;
+    }

@@ -1,0 +1,5 @@
+use Rattle.pls_app.proofs.Verified.{verified}
+use Rattle.pls_app.proofs.laws.marked_is_verified.Goals as goal
+
+pub returns : goal.returns
+returns c = verified

@@ -1,5 +1,0 @@
-use Rattle.pls_combine.proofs.expression_fronts.+names_front.Given as goal
-
--- each call has one level less below it
-abbrev pub decreases-names_front : goal.decreases-names_front
-decreases-names_front l = l.below

@@ -1,6 +1,0 @@
-use Rattle.pls_combine.proofs.Found.{after_found}
-use Rattle.pls_combine.proofs.fronts.after.Goals as goal
-
-pub returns : goal.returns
-returns c =
-    after_found c.args.word.now c.args.text.now c.after_word.result c.after_word.ensures

@@ -1,7 +1,0 @@
-use Rattle.std.proofs.Common.{◌≡◌}
-use Rattle.pls_graph.specs.inner.Gaps.{place_without}
-use Rattle.pls_graph.proofs.Fronts.{front}
-use Rattle.pls_graph.proofs.gaps.close_gap.Given as goal
-
-abbrev pub invariant-loop-place : goal.invariant-loop-place
-invariant-loop-place l = l.places ≡ front (place_without l.gone) l.place-index l.fn.places

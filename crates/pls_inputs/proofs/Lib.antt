@@ -1,0 +1,10 @@
+pub mod Wanted
+pub mod Writings
+pub mod Chain
+pub mod Scanned
+pub mod WithinLimits
+pub mod Read
+pub mod OneInput
+pub mod Facts
+pub mod Worked
+pub mod Either

@@ -1,0 +1,172 @@
+-- Which limits an input passes.
+use Rattle.std.proofs.Common.{◌≡◌, ◌∙◌, ℕ, ◌-◌, ◌≤◌, ◌<◌, ◌^◌, Bool, true, false, List, [], ◌∷◌, ◌++◌, length, nat_lt, Option, Some, None, if◌then◌else◌, ap, refl, arith}
+use Rattle.std.specs.Option.{unwrap_or}
+use Rattle.std.proofs.lemmas.Bool.Decides.{nat_tests}
+use Rattle.pls_base.specs.declared.text_error.TextError.{TextError}
+use Rattle.pls_base.specs.declared.text_error.TextError.TheVariants.{Limit}
+use Rattle.pls_base.specs.declared.text_error.Quantity.{Quantity}
+use Rattle.pls_base.specs.declared.text_error.Quantity.TheVariants.{Nodes, Ports, Bits, Events, Rounds}
+use Rattle.pls_model.specs.declared.row.NodeRow.{NodeRow}
+use Rattle.pls_model.specs.declared.limits.TheConstants.{MAX_BITS, MAX_LINES, MAX_NODES, MAX_PORTS, MAX_ROUNDS}
+use Rattle.pls_model.specs.Configuration.{first_of, ports_in}
+use Rattle.pls_netfile.specs.NetworkScan.{TellsNetwork, WrittenNetwork}
+use Rattle.pls_labelfile.specs.LabelsText.{NamedLabel}
+use Rattle.pls_labelfile.specs.LabelsScan.{WrittenLabels, total_bits}
+use Rattle.pls_base.specs.Steps.{capped}
+use Rattle.pls_schedule.specs.declared.event.Event.{Event}
+use Rattle.pls_schedule.specs.ScheduleText.{WrittenSchedule}
+use Rattle.pls_edits.specs.declared.edit_line.EditLine.{EditLine}
+use Rattle.pls_edits.specs.EditsText.{WrittenEdits, rounds_of}
+use Rattle.pls_inputs.specs.declared.parts.Parts.{Parts}
+use Rattle.pls_inputs.specs.declared.texts.Texts.{Texts}
+use Rattle.pls_inputs.specs.Parts.{Input, edits_in, events_in, named_in, rows_in}
+use Rattle.pls_inputs.specs.Order.{limits, over}
+use Rattle.pls_inputs.specs.inner.Scanned.{IsScanned, Tells, TellsEditsAt, TellsLabelsAt, TellsScheduleAt, count_in, limits_told}
+
+-- a count within its limit is no refusal
+pub within : (quantity : Quantity) (most count : ℕ) → count ≤ most → over quantity most count ≡ None
+within quantity most count few =
+    let no_more : nat_lt most count ≡ false = grind (arith, nat_tests) in
+    rw no_more refl
+
+-- a count that is no refusal is within its limit
+pub few_of : (quantity : Quantity) (most count : ℕ) → over quantity most count ≡ None → count ≤ most
+few_of quantity most count none = by (nat_lt most count) refl none
+  where
+    by : (b : Bool) → nat_lt most count ≡ b → (if b then Some (Limit quantity) else None) ≡ None
+        → count ≤ most
+    by true is none = absurd (cc)
+    by false is none = grind (arith, nat_tests)
+
+-- behind refusals of which none occurs, the first is the first of the others
+pub first_behind : (front back : List (Option TextError)) → first_of front ≡ None
+    → first_of (front ++ back) ≡ first_of back
+first_behind [] back none = refl
+first_behind (None ∷ front) back none = first_behind front back none
+first_behind (Some error ∷ front) back none = absurd (cc)
+
+-- the first refusal of a front is the first
+pub first_in : (front back : List (Option TextError)) (error : TextError)
+    → first_of front ≡ Some error → first_of (front ++ back) ≡ Some error
+first_in [] back error some = absurd (cc)
+first_in (None ∷ front) back error some = first_in front back error some
+first_in (Some found ∷ front) back error some = some
+
+-- where no refusal of two lists occurs, none of the first does
+pub none_in : (front back : List (Option TextError)) → first_of (front ++ back) ≡ None
+    → first_of front ≡ None
+none_in [] back none = refl
+none_in (None ∷ front) back none = none_in front back none
+none_in (Some error ∷ front) back none = absurd (cc)
+
+-- where none of some refusals occurs, neither the first nor one of the others does
+none_of : (first : Option TextError) (others : List (Option TextError))
+    → first_of (first ∷ others) ≡ None → (first ≡ None) × (first_of others ≡ None)
+none_of None others none = (refl, none)
+none_of (Some error) others none = absurd (cc)
+
+-- an input within the limits
+pub record AreFew (input : Input) : Type 0 where
+  pub nodes : length (rows_in input) ≤ MAX_NODES
+  pub ports : ports_in (rows_in input) ≤ MAX_PORTS
+  pub bits : total_bits (named_in input) ≤ MAX_BITS
+  pub events : length (events_in input) ≤ MAX_LINES
+  pub lines : length (edits_in input) ≤ MAX_LINES
+  pub rounds : length (rounds_of (edits_in input)) ≤ MAX_ROUNDS
+
+pub few_in : (input : Input) → first_of (limits input) ≡ None → AreFew input
+few_in input none =
+    let one = none_of _ _ none in
+    let two = none_of _ _ one.1 in
+    let three = none_of _ _ two.1 in
+    let four = none_of _ _ three.1 in
+    let five = none_of _ _ four.1 in
+    let six = none_of _ _ five.1 in record {
+      nodes = few_of Nodes MAX_NODES (length (rows_in input)) one.0;
+      ports = few_of Ports MAX_PORTS (ports_in (rows_in input)) two.0;
+      bits = few_of Bits MAX_BITS (total_bits (named_in input)) three.0;
+      events = few_of Events MAX_LINES (length (events_in input)) four.0;
+      lines = few_of Events MAX_LINES (length (edits_in input)) five.0;
+      rounds = few_of Rounds MAX_ROUNDS (length (rounds_of (edits_in input))) six.0;
+    }
+
+-- a count that is capped passes the limit where the count does
+capped_over : (quantity : Quantity) (most count : ℕ) → most < 2 ^ 64 - 1
+    → over quantity most (capped count) ≡ over quantity most count
+capped_over quantity most count small =
+    let same : nat_lt most (capped count) ≡ nat_lt most count = grind (arith, nat_tests) in
+    rw same refl
+
+-- what was counted of a text passes the limit where what it says does
+nodes_told : (text : Option WrittenNetwork) (rows : Option (List NodeRow))
+    → Tells TellsNetwork text rows
+    → count_in (λ text. text.nodes) text ≡ length (unwrap_or rows [])
+nodes_told None None tells = refl
+nodes_told None (Some rows) tells = absurd tells
+nodes_told (Some text) None tells = absurd tells
+nodes_told (Some text) (Some rows) tells = tells.nodes
+
+ports_told : (text : Option WrittenNetwork) (rows : Option (List NodeRow))
+    → Tells TellsNetwork text rows
+    → count_in (λ text. text.ports) text ≡ ports_in (unwrap_or rows [])
+ports_told None None tells = refl
+ports_told None (Some rows) tells = absurd tells
+ports_told (Some text) None tells = absurd tells
+ports_told (Some text) (Some rows) tells = tells.ports
+
+bits_told : (line : ℕ) (text : Option WrittenLabels) (labels : Option (List NamedLabel))
+    → Tells (TellsLabelsAt line) text labels
+    → over Bits MAX_BITS (count_in (λ text. text.bits) text)
+    ≡ over Bits MAX_BITS (total_bits (unwrap_or labels []))
+bits_told line None None tells = refl
+bits_told line None (Some labels) tells = absurd tells
+bits_told line (Some text) None tells = absurd tells
+bits_told line (Some text) (Some labels) tells =
+    ap (over Bits MAX_BITS) tells.sum
+    ∙ capped_over Bits MAX_BITS (total_bits labels) (omega arith)
+
+events_told : (line : ℕ) (text : Option WrittenSchedule) (events : Option (List Event))
+    → Tells (TellsScheduleAt line) text events
+    → over Events MAX_LINES (count_in (λ text. text.events) text)
+    ≡ over Events MAX_LINES (length (unwrap_or events []))
+events_told line None None tells = refl
+events_told line None (Some events) tells = absurd tells
+events_told line (Some text) None tells = absurd tells
+events_told line (Some text) (Some events) tells =
+    ap (over Events MAX_LINES) tells.count
+    ∙ capped_over Events MAX_LINES (length events) (omega arith)
+
+lines_told : (line : ℕ) (text : Option WrittenEdits) (edits : Option (List EditLine))
+    → Tells (TellsEditsAt line) text edits
+    → over Events MAX_LINES (count_in (λ text. text.events) text)
+    ≡ over Events MAX_LINES (length (unwrap_or edits []))
+lines_told line None None tells = refl
+lines_told line None (Some edits) tells = absurd tells
+lines_told line (Some text) None tells = absurd tells
+lines_told line (Some text) (Some edits) tells =
+    ap (over Events MAX_LINES) tells.lines
+    ∙ capped_over Events MAX_LINES (length edits) (omega arith)
+
+rounds_told : (line : ℕ) (text : Option WrittenEdits) (edits : Option (List EditLine))
+    → Tells (TellsEditsAt line) text edits
+    → over Rounds MAX_ROUNDS (count_in (λ text. text.rounds) text)
+    ≡ over Rounds MAX_ROUNDS (length (rounds_of (unwrap_or edits [])))
+rounds_told line None None tells = refl
+rounds_told line None (Some edits) tells = absurd tells
+rounds_told line (Some text) None tells = absurd tells
+rounds_told line (Some text) (Some edits) tells =
+    ap (over Rounds MAX_ROUNDS) tells.rounds
+    ∙ capped_over Rounds MAX_ROUNDS (length (rounds_of edits)) (omega arith)
+
+-- the limits on what was scanned are those on what it says
+pub limits_same : (parts : Parts) (bytes : List ℕ) (texts : Texts)
+    (scanned : IsScanned parts bytes texts) → limits_told texts ≡ limits scanned.input
+limits_same parts bytes texts scanned =
+    rw (
+      nodes_told texts.network scanned.input.network scanned.network,
+      ports_told texts.network scanned.input.network scanned.network,
+      bits_told _ texts.labels scanned.input.labels scanned.labels,
+      events_told _ texts.schedule scanned.input.schedule scanned.schedule,
+      lines_told _ texts.edits scanned.input.edits scanned.edits,
+      rounds_told _ texts.edits scanned.input.edits scanned.edits,
+    ) refl

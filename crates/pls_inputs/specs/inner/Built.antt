@@ -1,0 +1,88 @@
+-- What was built of the texts that were scanned.
+use Rattle.std.specs.Prelude.{◌≡◌, ℕ, ◌+◌, Bool, List, map, Option, Some, None, ⊤}
+use Rattle.pls_base.specs.declared.text_error.TextError.{TextError}
+use Rattle.pls_base.specs.declared.text_error.TextError.TheVariants.{NoMemory}
+use Rattle.pls_model.specs.declared.row.NodeRow.{NodeRow}
+use Rattle.pls_model.specs.Configuration.{IsNetwork, ids_of}
+use Rattle.pls_netfile.specs.NetworkBuild.{IsRefusedBuild}
+use Rattle.pls_netfile.specs.NetworkScan.{TellsNetwork, WrittenNetwork}
+use Rattle.pls_labelfile.specs.LabelsText.{NamedLabel}
+use Rattle.pls_labelfile.specs.LabelsScan.{TellsLabels, WrittenLabels}
+use Rattle.pls_labelfile.specs.Refusal.{IsLabelsRefusal, labels_refusal}
+use Rattle.pls_schedule.specs.declared.event.Event.{Event}
+use Rattle.pls_schedule.specs.ScheduleText.{IsEventsRefusal, TellsSchedule, WrittenSchedule}
+use Rattle.pls_edits.specs.declared.edit_line.EditLine.{EditLine}
+use Rattle.pls_edits.specs.EditsText.{IsEditsRefusal, TellsEdits, WrittenEdits}
+use Rattle.pls_inputs.specs.inner.Scanned.{Tells}
+
+-- the network is the one that the text says
+pub record IsNetOf (written : WrittenNetwork) (net : List NodeRow) : Type 0 where
+  pub rows : (rows : List NodeRow) → TellsNetwork written rows → net ≡ rows
+  pub valid : IsNetwork net
+
+abbrev pub IsBuilt : Option WrittenNetwork → Option (List NodeRow) → Type 0
+IsBuilt text net = Tells IsNetOf text net
+
+-- the error is the refusal of the rows that the text says, or want of memory
+abbrev pub IsUnbuilt : Option WrittenNetwork → TextError → Type 0
+IsUnbuilt None error = error ≡ NoMemory
+IsUnbuilt (Some written) error = (rows : List NodeRow) → TellsNetwork written rows
+    → IsRefusedBuild rows error
+
+-- the store has the labels that the text says, which fit the nodes
+pub record AreLabelsOf (net : List NodeRow) (written : WrittenLabels)
+    (store : List (List Bool)) : Type 0 where
+  pub bits : (labels : List NamedLabel) → TellsLabels written.text labels
+      → store ≡ map (λ label. label.bits) labels
+  pub ids : (labels : List NamedLabel) → TellsLabels written.text labels
+      → map (λ label. label.id) labels ≡ ids_of net
+  pub accepted : (labels : List NamedLabel) → TellsLabels written.text labels
+      → labels_refusal (ids_of net) written.number labels ≡ None
+
+-- labels are built where there is a text, and a network
+abbrev pub AreBuilt : Option WrittenLabels → Option (List NodeRow) → Option (List (List Bool))
+    → Type 0
+AreBuilt None net None = ⊤
+AreBuilt None net (Some store) = ⊥
+AreBuilt (Some written) None store = ⊤
+AreBuilt (Some written) (Some net) None = ⊥
+AreBuilt (Some written) (Some net) (Some store) = AreLabelsOf net written store
+
+-- the error is the refusal of the labels that the text says, or want of memory
+abbrev pub AreRefused : Option WrittenLabels → Option (List NodeRow) → TextError → Type 0
+AreRefused None net error = error ≡ NoMemory
+AreRefused (Some written) None error = error ≡ NoMemory
+AreRefused (Some written) (Some net) error = (labels : List NamedLabel)
+    → TellsLabels written.text labels → IsLabelsRefusal (ids_of net) written.number labels error
+
+-- the list has the events of the text, if there is one
+abbrev pub AreEventsOf : WrittenSchedule → List Event → Type 0
+AreEventsOf written list = (events : List Event) → TellsSchedule written.text events → list ≡ events
+
+abbrev pub AreListed : Option WrittenSchedule → Option (List Event) → Type 0
+AreListed text list = Tells AreEventsOf text list
+
+-- the error is the refusal of the events that the text says, or want of memory
+abbrev pub AreUnlisted : Option WrittenSchedule → TextError → Type 0
+AreUnlisted None error = error ≡ NoMemory
+AreUnlisted (Some written) error = (events : List Event) → TellsSchedule written.text events
+    → IsEventsRefusal events error
+
+-- the list has the edits of the text, if there is one
+abbrev pub AreEditsOf : WrittenEdits → List EditLine → Type 0
+AreEditsOf written list = (edits : List EditLine) → TellsEdits written.text edits → list ≡ edits
+
+abbrev pub AreMade : Option WrittenEdits → Option (List EditLine) → Type 0
+AreMade text list = Tells AreEditsOf text list
+
+-- the error is the refusal of the edits that the text says, or want of memory
+abbrev pub AreUnmade : Option WrittenEdits → TextError → Type 0
+AreUnmade None error = error ≡ NoMemory
+AreUnmade (Some written) error = (edits : List EditLine) → TellsEdits written.text edits
+    → IsEditsRefusal edits error
+
+-- the line of the first event or edit of a text, if there is one
+abbrev pub first_line_of : Option WrittenSchedule → Option WrittenEdits → ℕ
+first_line_of (Some written) edits = written.number + 1
+first_line_of None (Some written) = written.number + 1
+first_line_of None None = 0

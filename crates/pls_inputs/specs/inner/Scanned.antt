@@ -1,0 +1,88 @@
+-- What was scanned of an input.
+use Rattle.std.specs.Prelude.{◌≡◌, ℕ, Bool, true, false, List, [], ◌∷◌, Option, Some, None, ⊤}
+use Rattle.pls_base.specs.declared.text_error.TextError.{TextError}
+use Rattle.pls_base.specs.declared.text_error.Quantity.TheVariants.{Nodes, Ports, Bits, Events, Rounds}
+use Rattle.pls_model.specs.declared.limits.TheConstants.{MAX_BITS, MAX_LINES, MAX_NODES, MAX_PORTS, MAX_ROUNDS}
+use Rattle.pls_lines.specs.Counted.{counted}
+use Rattle.pls_lines.specs.Lines.{Left}
+use Rattle.pls_lines.specs.Text.{text_of}
+use Rattle.pls_netfile.specs.NetworkScan.{TellsNetwork}
+use Rattle.pls_labelfile.specs.LabelsText.{NamedLabel}
+use Rattle.pls_labelfile.specs.LabelsScan.{TellsLabels, WrittenLabels, total_bits}
+use Rattle.pls_base.specs.Steps.{capped}
+use Rattle.pls_schedule.specs.declared.event.Event.{Event}
+use Rattle.pls_schedule.specs.ScheduleText.{TellsSchedule, WrittenSchedule}
+use Rattle.pls_edits.specs.declared.edit_line.EditLine.{EditLine}
+use Rattle.pls_edits.specs.EditsText.{TellsEdits, WrittenEdits, rounds_of}
+use Rattle.pls_inputs.specs.declared.parts.Parts.{Parts}
+use Rattle.pls_inputs.specs.declared.texts.Texts.{Texts}
+use Rattle.pls_inputs.specs.Parts.{HasParts, Input, input_lines}
+use Rattle.pls_inputs.specs.Order.{edits_heading, labels_heading, over, schedule_heading}
+
+-- the lines of a part where it is wanted, and else none
+abbrev pub If : Bool → (List (List ℕ) → Type 0) → List (List ℕ) → Type 0
+If true format lines = format lines
+If false format lines = lines ≡ []
+
+-- a part was passed where it is wanted, and else nothing
+abbrev pub PassesIf : {X : Type 0} → Bool → (Left → Left → X → Type 0) → Left → Left → Option X
+    → Type 0
+PassesIf true Passed old new None = ⊥
+PassesIf true Passed old new (Some part) = Passed old new part
+PassesIf false Passed old new None = new ≡ old
+PassesIf false Passed old new (Some part) = ⊥
+
+-- a text was scanned just where there is a part, and tells it
+abbrev pub Tells : {X Y : Type 0} → (X → Y → Type 0) → Option X → Option Y → Type 0
+Tells Told None None = ⊤
+Tells Told None (Some part) = ⊥
+Tells Told (Some text) None = ⊥
+Tells Told (Some text) (Some part) = Told text part
+
+-- the labels are those of the text, whose heading is the line of this number
+pub record TellsLabelsAt (heading : ℕ) (written : WrittenLabels)
+    (labels : List NamedLabel) : Type 0 where
+  pub tells : TellsLabels written.text labels
+  pub number : written.number ≡ heading
+  pub sum : written.bits ≡ capped (total_bits labels)
+
+-- so it is with events
+pub record TellsScheduleAt (heading : ℕ) (written : WrittenSchedule)
+    (events : List Event) : Type 0 where
+  pub tells : TellsSchedule written.text events
+  pub number : written.number ≡ heading
+  pub count : written.events ≡ counted events
+
+-- and with edits
+pub record TellsEditsAt (heading : ℕ) (written : WrittenEdits)
+    (edits : List EditLine) : Type 0 where
+  pub tells : TellsEdits written.text edits
+  pub number : written.number ≡ heading
+  pub lines : written.events ≡ counted edits
+  pub rounds : written.rounds ≡ counted (rounds_of edits)
+
+-- the bytes are the text of an input with these parts, which were scanned
+pub record IsScanned (parts : Parts) (bytes : List ℕ) (texts : Texts) : Type 0 where
+  pub input : Input
+  pub has : HasParts parts input
+  pub is : bytes ≡ text_of (input_lines input)
+  pub network : Tells TellsNetwork texts.network input.network
+  pub labels : Tells (TellsLabelsAt (labels_heading input)) texts.labels input.labels
+  pub schedule : Tells (TellsScheduleAt (schedule_heading input)) texts.schedule input.schedule
+  pub edits : Tells (TellsEditsAt (edits_heading input)) texts.edits input.edits
+
+-- what was counted of a text, 0 where there is none
+abbrev pub count_in : {X : Type 0} → (X → ℕ) → Option X → ℕ
+count_in count None = 0
+count_in count (Some text) = count text
+
+-- the limits on what was scanned
+abbrev pub limits_told : Texts → List (Option TextError)
+limits_told texts =
+    over Nodes MAX_NODES (count_in (λ text. text.nodes) texts.network)
+    ∷ over Ports MAX_PORTS (count_in (λ text. text.ports) texts.network)
+    ∷ over Bits MAX_BITS (count_in (λ text. text.bits) texts.labels)
+    ∷ over Events MAX_LINES (count_in (λ text. text.events) texts.schedule)
+    ∷ over Events MAX_LINES (count_in (λ text. text.events) texts.edits)
+    ∷ over Rounds MAX_ROUNDS (count_in (λ text. text.rounds) texts.edits)
+    ∷ []

@@ -1,0 +1,73 @@
+//! What the texts of parts say, as values in memory.
+
+ghost use Rattle.std.specs.Prelude.{IfErr, IfOk, option_map};
+ghost use Rattle.pls_inputs.specs.inner.Built.{AreBuilt, AreListed, AreMade, AreRefused, AreUnlisted, AreUnmade, IsBuilt, IsUnbuilt};
+
+use pls_base::TextError;
+use pls_edits::{EditLine, EditsText};
+use pls_graph::Network;
+use pls_labelfile::LabelsText;
+use pls_netfile::ReadNetwork;
+use pls_schedule::{Event, ScheduleText};
+use pls_view::LabelStore;
+use std::alloc::Global;
+
+// The network that a text says, where there is one, or why it is none.
+pub(crate) fn build_network(
+    alloc: Global,
+    network: Option<ReadNetwork<'_>>,
+) -> Result<Option<Network>, TextError>
+    ensures built { IfOk result (λ net. IsBuilt network.entry net) }
+    ensures refused { IfErr result (λ error. IsUnbuilt network.entry error) }
+{
+    match network {
+        Some(text) => Ok(Some(text.build(alloc)?)),
+        None => Ok(None),
+    }
+}
+
+// The labels that a text says, where there is one, for the nodes of a network, or why they are
+// refused.
+pub(crate) fn build_labels(
+    alloc: Global,
+    labels: &Option<LabelsText<'_>>,
+    network: &Option<Network>,
+) -> Result<Option<LabelStore>, TextError>
+    ensures built { IfOk result (λ store. AreBuilt labels.now network.now store) }
+    ensures refused { IfErr result (λ error. AreRefused labels.now network.now error) }
+{
+    match (labels, network) {
+        (Some(text), Some(net)) => Ok(Some(text.build(alloc, net)?)),
+        _ => Ok(None),
+    }
+}
+
+// The events that a text says, where there is one, or why they are refused.
+pub(crate) fn list_events(
+    alloc: Global,
+    schedule: &Option<ScheduleText<'_>>,
+) -> Result<Option<Vec<Event>>, TextError>
+    ensures listed { IfOk result
+        (λ list. AreListed schedule.now (option_map (λ list. list.items) list)) }
+    ensures refused { IfErr result (λ error. AreUnlisted schedule.now error) }
+{
+    match schedule {
+        Some(text) => Ok(Some(text.list(alloc)?)),
+        None => Ok(None),
+    }
+}
+
+// The edits and rounds that a text says, where there is one, or why they are refused.
+pub(crate) fn list_edits(
+    alloc: Global,
+    edits: &Option<EditsText<'_>>,
+) -> Result<Option<Vec<EditLine>>, TextError>
+    ensures made { IfOk result
+        (λ list. AreMade edits.now (option_map (λ list. list.items) list)) }
+    ensures refused { IfErr result (λ error. AreUnmade edits.now error) }
+{
+    match edits {
+        Some(text) => Ok(Some(text.list(alloc)?)),
+        None => Ok(None),
+    }
+}

@@ -1,0 +1,75 @@
+//! What an input says, as values in memory, and how it is read.
+
+ghost use Rattle.std.specs.Prelude.{◌≡◌, ◌≢◌, ◌≤◌, IfErr, IfOk, length, true};
+ghost use Rattle.pls_inputs.specs.Order.{IsNoInput};
+ghost use Rattle.pls_inputs.specs.Read.{IsRead};
+ghost use Rattle.pls_inputs.specs.inner.Built.{first_line_of};
+
+use crate::building::{build_labels, build_network, list_edits, list_events};
+use crate::parts::Parts;
+use crate::scanning::scan_parts;
+use crate::texts::{Texts, test_limits};
+use pls_base::TextError;
+use pls_edits::{EditLine, EditsText};
+use pls_graph::Network;
+use pls_model::MAX_INPUT;
+use pls_schedule::{Event, ScheduleText};
+use pls_view::LabelStore;
+use std::alloc::Global;
+
+/// What an input says: a value for each part that it has.
+#[derive(Drop)]
+pub struct Input {
+    /// The network.
+    pub network: Option<Network>,
+    /// The labels of its nodes, in their order.
+    pub labels: Option<LabelStore>,
+    /// The events of a round.
+    pub schedule: Option<Vec<Event>>,
+    /// The edits, and the rounds between them.
+    pub edits: Option<Vec<EditLine>>,
+    /// The number of the line of the first event or edit, 0 where it has no part for them.
+    pub first_line: u64,
+}
+
+/// What bytes say that are to be an input with these parts, or why they are none. Labels stand
+/// behind a network alone.
+pub fn read_input(alloc: Global, parts: Parts, bytes: &[u8]) -> Result<Input, TextError>
+    requires short { length bytes.now ≤ MAX_INPUT }
+    requires behind { parts.labels ≡ true → parts.network ≡ true }
+    ensures input { IfOk result (λ input. IsRead parts bytes.now input) }
+    ensures refused { IfErr result
+        (λ error. error ≢ TextError.NoMemory → IsNoInput parts bytes.now error) }
+{
+    let texts = scan_parts(alloc, parts, bytes)?;
+    test_limits(&texts)?;
+    let Texts {
+        network: rows,
+        labels: named,
+        schedule: events,
+        edits: lines,
+    } = texts;
+    let network = build_network(alloc, rows)?;
+    let labels = build_labels(alloc, &named, &network)?;
+    let schedule = list_events(alloc, &events)?;
+    let edits = list_edits(alloc, &lines)?;
+    let first_line = first_line(&events, &lines);
+    Ok(Input {
+        network,
+        labels,
+        schedule,
+        edits,
+        first_line,
+    })
+}
+
+// The number of the line of the first event or edit, 0 where there is no part for them.
+fn first_line(schedule: &Option<ScheduleText<'_>>, edits: &Option<EditsText<'_>>) -> u64
+    ensures { result ≡ first_line_of schedule.now edits.now }
+{
+    match (schedule, edits) {
+        (Some(schedule), _) => schedule.number_of(0),
+        (None, Some(edits)) => edits.number_of(0),
+        (None, None) => 0,
+    }
+}

@@ -1,0 +1,78 @@
+//! How the parts of an input are scanned, one behind the other.
+
+ghost use Rattle.std.specs.Prelude.{IfErr, IfOk, OnOk};
+ghost use Rattle.pls_lines.specs.Fault.{NamesFirstFault};
+ghost use Rattle.pls_lines.specs.Lines.{IsFormFault};
+ghost use Rattle.pls_lines.specs.Part.{PassesFormat};
+ghost use Rattle.pls_netfile.specs.NetworkScan.{PassesNetwork};
+ghost use Rattle.pls_netfile.specs.NetworkText.{IsNetworkPart};
+ghost use Rattle.pls_inputs.specs.Parts.{AreLines};
+ghost use Rattle.pls_inputs.specs.inner.Scanned.{If, IsScanned, PassesIf};
+
+use crate::parts::Parts;
+use crate::texts::Texts;
+use pls_base::TextError;
+use pls_edits::EditsText;
+use pls_labelfile::LabelsText;
+use pls_lines::{Lines, Part};
+use pls_netfile::{ReadNetwork, pass_network};
+use pls_schedule::ScheduleText;
+use std::alloc::Global;
+
+// The texts of the parts that are wanted, which are to be the whole text, or its first faulty line.
+// Want of memory is no answer: it costs the rows of the network that are kept while they are passed.
+pub(crate) fn scan_parts<'a>(
+    alloc: Global,
+    parts: Parts,
+    bytes: &'a [u8],
+) -> Result<Texts<'a>, TextError>
+    ensures scanned { IfOk result (λ texts. IsScanned parts bytes.now texts) }
+    ensures form { IfErr result (λ error. NamesFirstFault (AreLines parts) bytes.now error) }
+{
+    let mut lines = Lines::new(bytes);
+    let network = pass_network_if(alloc, parts.network, &mut lines)?;
+    let labels = pass_if::<LabelsText<'a>>(parts.labels, &mut lines)?;
+    let schedule = pass_if::<ScheduleText<'a>>(parts.schedule, &mut lines)?;
+    let edits = pass_if::<EditsText<'a>>(parts.edits, &mut lines)?;
+    if !lines.at_end() {
+        return Err(lines.form_error());
+    }
+    Ok(Texts {
+        network,
+        labels,
+        schedule,
+        edits,
+    })
+}
+
+// Passes the network that stands next where it is wanted, or names its first faulty line.
+fn pass_network_if<'a>(
+    alloc: Global,
+    wanted: bool,
+    lines: &mut Lines<'a>,
+) -> Result<Option<ReadNetwork<'a>>, TextError>
+    ensures passed { IfOk result
+        (λ part. PassesIf wanted PassesNetwork lines.old lines.new part) }
+    ensures format { OnOk result (PassesFormat (If wanted IsNetworkPart) lines.old lines.new) }
+    ensures form { IfErr result (λ error. IsFormFault (If wanted IsNetworkPart) lines.old error) }
+{
+    if !wanted {
+        return Ok(None);
+    }
+    let part = pass_network(alloc, lines)?;
+    Ok(Some(part))
+}
+
+// Passes the part that stands next where it is wanted, or names its first faulty line. It takes no
+// memory.
+fn pass_if<'a, P: Part<'a>>(wanted: bool, lines: &mut Lines<'a>) -> Result<Option<P>, TextError>
+    ensures passed { IfOk result (λ part. PassesIf wanted P.Passed lines.old lines.new part) }
+    ensures format { OnOk result (PassesFormat (If wanted P.Format) lines.old lines.new) }
+    ensures form { IfErr result (λ error. IsFormFault (If wanted P.Format) lines.old error) }
+{
+    if !wanted {
+        return Ok(None);
+    }
+    let part = P::pass(lines)?;
+    Ok(Some(part))
+}

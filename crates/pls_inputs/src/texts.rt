@@ -1,0 +1,110 @@
+//! The texts of the parts of an input, as they were scanned.
+
+ghost use Rattle.std.specs.Prelude.{◌≡◌, IfErr, None, OnOk, Some};
+ghost use Rattle.pls_model.specs.Configuration.{first_of};
+ghost use Rattle.pls_inputs.specs.Order.{over};
+ghost use Rattle.pls_inputs.specs.inner.Scanned.{count_in, limits_told};
+
+use pls_base::{Quantity, TextError};
+use pls_edits::EditsText;
+use pls_labelfile::LabelsText;
+use pls_model::{MAX_BITS, MAX_LINES, MAX_NODES, MAX_PORTS, MAX_ROUNDS};
+use pls_netfile::ReadNetwork;
+use pls_schedule::ScheduleText;
+
+/// The texts of the parts of an input, as they were scanned; `None` where there is no such part.
+#[derive(Drop)]
+pub(crate) struct Texts<'a> {
+    pub(crate) network: Option<ReadNetwork<'a>>,
+    pub(crate) labels: Option<LabelsText<'a>>,
+    pub(crate) schedule: Option<ScheduleText<'a>>,
+    pub(crate) edits: Option<EditsText<'a>>,
+}
+
+// Refuses texts with too much of a quantity, in the order of the limits. It takes no memory.
+pub(crate) fn test_limits(texts: &Texts<'_>) -> Result<(), TextError>
+    ensures within { OnOk result (first_of (limits_told texts.now) ≡ None) }
+    ensures refused { IfErr result (λ error. first_of (limits_told texts.now) ≡ Some error) }
+{
+    test_count(Quantity::Nodes, MAX_NODES as u64, nodes_in(&texts.network))?;
+    test_count(Quantity::Ports, MAX_PORTS as u64, ports_in(&texts.network))?;
+    test_count(Quantity::Bits, MAX_BITS, bits_in(&texts.labels))?;
+    test_count(
+        Quantity::Events,
+        MAX_LINES as u64,
+        events_in(&texts.schedule),
+    )?;
+    test_count(Quantity::Events, MAX_LINES as u64, lines_in(&texts.edits))?;
+    test_count(Quantity::Rounds, MAX_ROUNDS as u64, rounds_in(&texts.edits))
+}
+
+// Refuses a quantity that passes its limit.
+fn test_count(quantity: Quantity, most: u64, count: u64) -> Result<(), TextError>
+    ensures within { OnOk result (over quantity most count ≡ None) }
+    ensures refused { IfErr result (λ error. over quantity most count ≡ Some error) }
+{
+    if count > most {
+        return Err(TextError::Limit(quantity));
+    }
+    Ok(())
+}
+
+// How many nodes a network has, if there is one.
+fn nodes_in(network: &Option<ReadNetwork<'_>>) -> u64
+    ensures { result ≡ count_in (λ text. text.nodes) network.now }
+{
+    match network {
+        Some(text) => text.nodes(),
+        None => 0,
+    }
+}
+
+// How many ports its nodes have together.
+fn ports_in(network: &Option<ReadNetwork<'_>>) -> u64
+    ensures { result ≡ count_in (λ text. text.ports) network.now }
+{
+    match network {
+        Some(text) => text.ports(),
+        None => 0,
+    }
+}
+
+// How many bits labels have together, if there are some.
+fn bits_in(labels: &Option<LabelsText<'_>>) -> u64
+    ensures { result ≡ count_in (λ text. text.bits) labels.now }
+{
+    match labels {
+        Some(text) => text.bits(),
+        None => 0,
+    }
+}
+
+// How many events a schedule has, if there is one.
+fn events_in(schedule: &Option<ScheduleText<'_>>) -> u64
+    ensures { result ≡ count_in (λ text. text.events) schedule.now }
+{
+    match schedule {
+        Some(text) => text.events(),
+        None => 0,
+    }
+}
+
+// How many lines edits have, if there are some.
+fn lines_in(edits: &Option<EditsText<'_>>) -> u64
+    ensures { result ≡ count_in (λ text. text.events) edits.now }
+{
+    match edits {
+        Some(text) => text.events(),
+        None => 0,
+    }
+}
+
+// How many of these lines ask for a round.
+fn rounds_in(edits: &Option<EditsText<'_>>) -> u64
+    ensures { result ≡ count_in (λ text. text.rounds) edits.now }
+{
+    match edits {
+        Some(text) => text.rounds(),
+        None => 0,
+    }
+}

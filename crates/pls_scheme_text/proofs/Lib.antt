@@ -1,0 +1,4 @@
+pub mod Depths
+pub mod Letters
+pub mod Refusals
+pub mod Worked

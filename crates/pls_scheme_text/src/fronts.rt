@@ -1,0 +1,101 @@
+//! What stands at the front of a text: what opens an expression of others, and a leaf. No call takes
+//! memory.
+
+ghost use Rattle.std.specs.Prelude.{◌≡◌, IfSome, option_map};
+ghost use Rattle.pls_names.specs.Front.{found_front};
+ghost use Rattle.pls_property.specs.Expression.{names_of};
+ghost use Rattle.pls_property.specs.Held.{expression_of};
+ghost use Rattle.pls_scheme_text.specs.inner.Fronts.{digits_ahead, edges_front, join_front, leaf_front, map_front, number_front, property_front, found_tree};
+
+use pls_base::read_decimal;
+use pls_model::MAX_NODES;
+use pls_names::{after, name_front};
+use pls_property::ExpressionTree;
+
+// How two expressions are joined.
+#[derive(Clone, Copy, Debug, PartialEq, Eq)]
+pub(crate) enum Join {
+    // By `and`.
+    Both,
+    // By `or`.
+    Either,
+}
+
+// What opens an expression of two at the front of a text, and what follows it.
+pub(crate) fn join_front(text: &[u8]) -> Option<(Join, &[u8])>
+    ensures { option_map found_front result ≡ join_front text.now }
+{
+    if let Some(rest) = after(text, b"and(") {
+        Some((Join::Both, rest))
+    } else if let Some(rest) = after(text, b"or(") {
+        Some((Join::Either, rest))
+    } else {
+        None
+    }
+}
+
+// What follows `map(` at the front of a text. Inside of `map` there is no other.
+pub(crate) fn map_front(text: &[u8], inside: bool) -> Option<&[u8]>
+    ensures { option_map (λ rest. rest.now) result ≡ map_front inside text.now }
+{
+    if inside { None } else { after(text, b"map(") }
+}
+
+// The name at the front of a text, or inside of `map` a property that has no scheme, and what
+// follows it.
+#[tactic(auto, unfolding(crate::specs::inner::Fronts::leaf_front))]
+pub(crate) fn leaf_front(text: &[u8], inside: bool) -> Option<(ExpressionTree, &[u8])>
+    ensures value { option_map found_tree result ≡ leaf_front inside text.now }
+    ensures one { IfSome result (λ found. names_of (expression_of found.0) ≡ 1) }
+{
+    if let Some((name, rest)) = name_front(text) {
+        Some((ExpressionTree::Of(name), rest))
+    } else if inside {
+        property_front(text)
+    } else {
+        None
+    }
+}
+
+// The property at the front of a text that has no scheme, and what follows it.
+fn property_front(text: &[u8]) -> Option<(ExpressionTree, &[u8])>
+    ensures value { option_map found_tree result ≡ property_front text.now }
+    ensures one { IfSome result (λ found. names_of (expression_of found.0) ≡ 1) }
+{
+    if let Some(rest) = after(text, b"bridgeless") {
+        return Some((ExpressionTree::Bridgeless, rest));
+    }
+    let (most, rest) = edges_front(text)?;
+    Some((ExpressionTree::Diameter(most), rest))
+}
+
+// The number of edges of the diameter at the front of a text, and what follows it.
+fn edges_front(text: &[u8]) -> Option<(u32, &[u8])>
+    ensures { option_map found_front result ≡ edges_front text.now }
+{
+    number_front(after(text, b"diameter:")?)
+}
+
+// The number that all digits at the front of a text spell, where it is at most 32767, and what
+// follows them.
+fn number_front(text: &[u8]) -> Option<(u32, &[u8])>
+    ensures { option_map found_front result ≡ number_front text.now }
+{
+    let (digits, rest) = text.split_at(digits_ahead(text));
+    let number = read_decimal(digits, MAX_NODES as u64 - 1)?;
+    Some((number as u32, rest))
+}
+
+// How many digits stand at the front of a text.
+fn digits_ahead(text: &[u8]) -> usize
+    ensures { result ≡ digits_ahead text.now }
+{
+    let mut count = 0;
+    for character in text {
+        if !character.is_ascii_digit() {
+            return count;
+        }
+        count += 1;
+    }
+    count
+}
