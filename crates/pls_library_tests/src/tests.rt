@@ -1,4 +1,4 @@
-//! Tests of bits, networks, texts and views.
+//! Tests of bits, networks, texts, views and rechecks.
 
 mod base;
 mod bits;
@@ -7,6 +7,7 @@ mod graph;
 mod labelfile;
 mod lines;
 mod netfile;
+mod rechecks;
 mod views;
 mod ways;
 

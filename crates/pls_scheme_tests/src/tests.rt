@@ -7,7 +7,6 @@ mod boruvka;
 mod combinations;
 mod distances;
 mod pointers;
-mod rechecks;
 mod schemes;
 mod spanning;
 
