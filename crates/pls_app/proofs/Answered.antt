@@ -17,12 +17,12 @@ use Rattle.pls_app.specs.declared.command.Command.{Command}
 use Rattle.pls_app.specs.declared.command.Command.TheVariants.{With, Trial}
 use Rattle.pls_app.specs.declared.command.Task.{Task}
 use Rattle.pls_app.specs.declared.command.Task.TheVariants.{Mark, Verify, Simulate, Recheck, Bound}
-use Rattle.pls_app.specs.Command.{IsCommand, IsUsage, parts_of}
+use Rattle.pls_app.specs.Command.{IsCommand, IsUsage, input_parts_of}
 use Rattle.pls_app.specs.Reports.{ends_well}
 use Rattle.pls_app.specs.Said.{Answer}
 use Rattle.pls_app.specs.Answer.{Answers, IsAnswer, IsApart, IsRefused, Reads, Yields, outcomes_in, refusal, usage}
 use Rattle.pls_app.specs.Trial.{IsTrialAnswer}
-use Rattle.pls_app.specs.Run.{IsAnswered, IsJudged, IsRefusalStatus, Tells, TellsRefusal}
+use Rattle.pls_app.specs.Run.{IsAnswered, IsJudged, IsRefusalStatus, TellsAnswer, TellsRefusal}
 use Rattle.pls_app.specs.inner.Tasks.{Does}
 use Rattle.pls_app.proofs.Commands.{one_command}
 use Rattle.pls_app.proofs.OneAnswer.{one_answer}
@@ -90,7 +90,7 @@ same_command words command other bytes answer is is_other answers =
 -- what is no input is answered so
 pub answered_by_refusal : {E : Type 0} (task : Task) (scheme : Expression) (bytes : List ℕ)
     (error : TextError) (r : Result Answer E)
-    → (error ≢ NoMemory → IsNoInput (parts_of (With task scheme)) bytes error)
+    → (error ≢ NoMemory → IsNoInput (input_parts_of (With task scheme)) bytes error)
     → IfOk r (λ answer. answer ≡ refusal error) → OnOk r (error ≢ NoMemory)
     → IfOk r (λ answer. Answers (With task scheme) bytes answer)
 answered_by_refusal task scheme bytes error (Ok answer) refused says some =
@@ -112,7 +112,7 @@ answered_apart task scheme bytes input error (Err e) is apart says some = tt
 -- the answer to a refusal is told
 pub tells_refusal : (words : List (List ℕ)) (command : Command) (bytes : List ℕ) (error : TextError)
     (status : Status) (old new : Option (List ℕ)) → IsCommand words command
-    → IsRefused command bytes error → Tells words bytes status old new
+    → IsRefused command bytes error → TellsAnswer words bytes status old new
     → TellsRefusal error status old new
 tells_refusal words command bytes error status old new is refused told =
     let due : IsAnswer words bytes (refusal error) =
@@ -192,7 +192,7 @@ refusal_answered status refusal = elim refusal [
 -- a run that ends in a refusal has refused
 pub refusal_has_cause : (words : List (List ℕ)) (command : Command) (bytes : List ℕ)
     (status : Status) (old new : Option (List ℕ)) → IsCommand words command
-    → Tells words bytes status old new → IsRefusalStatus status
+    → TellsAnswer words bytes status old new → IsRefusalStatus status
     → (error : TextError) × IsRefused command bytes error
 refusal_has_cause words command bytes status old new is told refusal =
     elim (answer_of_command words bytes command told.answer is told.is) [
@@ -206,7 +206,7 @@ refusal_has_cause words command bytes status old new is told refusal =
 pub unrefused_judged : (words : List (List ℕ)) (command : Command) (bytes : List ℕ)
     (status : Status) (old new : Option (List ℕ)) → IsCommand words command
     → ((error : TextError) → IsRefused command bytes error → ⊥)
-    → Tells words bytes status old new → IsJudged status
+    → TellsAnswer words bytes status old new → IsJudged status
 unrefused_judged words command bytes status old new is unrefused told =
     elim (answer_of_command words bytes command told.answer is told.is) [
       | inl refused ↦ absurd (unrefused refused.0 refused.1)

@@ -20,7 +20,7 @@ use Rattle.pls_labelfile.proofs.Named.{named_no_misfit, net_labels_fit, total_bi
 use Rattle.pls_property.specs.Expression.{Expression}
 use Rattle.pls_schedule.specs.ScheduleText.{AreEvents, schedule_lines}
 use Rattle.pls_edits.specs.EditsText.{AreEdits, edits_lines}
-use Rattle.pls_inputs.specs.Parts.{Has, Input, input_lines, labelled, lines_of, net_labels_text, network, rows_in, with_labels}
+use Rattle.pls_inputs.specs.Parts.{Has, Input, input_lines, parts_with_labels, lines_of, net_labels_text, network, rows_in, with_labels}
 use Rattle.pls_inputs.specs.Order.{IsInput, over, refusals}
 use Rattle.pls_inputs.proofs.Facts.{IsReadable, readable, there}
 use Rattle.pls_inputs.proofs.WithinLimits.{few_of, within}
@@ -28,7 +28,7 @@ use Rattle.pls_app.specs.declared.code_name.CodeName.TheVariants.{Gamma}
 use Rattle.pls_app.specs.declared.command.Command.TheVariants.{With}
 use Rattle.pls_app.specs.declared.command.Task.{Task}
 use Rattle.pls_app.specs.declared.command.Task.TheVariants.{Mark, Verify, Simulate, Recheck, Bound}
-use Rattle.pls_app.specs.Command.{parts_of}
+use Rattle.pls_app.specs.Command.{input_parts_of}
 use Rattle.pls_app.specs.Meant.{Shows, bound_in, room_in}
 use Rattle.pls_app.specs.Said.{Answer}
 use Rattle.pls_app.specs.Run.{Certifies}
@@ -90,7 +90,7 @@ marked_input : (scheme : Expression) (bytes : List ℕ) (input : Input) (labels 
     → IsInput network bytes input
     → over Labels MAX_BITS (room_in Gamma scheme (rows_in input)) ≡ None
     → Shows Gamma scheme (rows_in input) labels
-    → IsInput labelled (bytes ++ net_labels_text (rows_in input) labels) (with_labels input labels)
+    → IsInput parts_with_labels (bytes ++ net_labels_text (rows_in input) labels) (with_labels input labels)
 marked_input scheme bytes input labels is accepted shows =
     let rows : List NodeRow = rows_in input in
     let known = readable network bytes input is refl in
@@ -121,7 +121,7 @@ marked_input scheme bytes input labels is accepted shows =
     let text : List ℕ = net_labels_text rows labels in
     let both : bytes ++ text ≡ network_text rows ++ text =
     ap (λ (front : List ℕ). front ++ text) front in
-    subst (IsInput labelled (bytes ++ text)) (sym same) (record {
+    subst (IsInput parts_with_labels (bytes ++ text)) (sym same) (record {
       short = omega (
         arith,
         ap (length {A = ℕ}) both,
@@ -166,14 +166,14 @@ certified scheme bytes input answer is does shown done =
       shows = shown.shows;
       text_is = shown.is;
       read_back =
-          subst (λ (text : List ℕ). IsInput labelled (bytes ++ text)
+          subst (λ (text : List ℕ). IsInput parts_with_labels (bytes ++ text)
           (with_labels input shown.labels)) (sym shown.is)
           (marked_input scheme bytes input shown.labels is accepted shown.shows);
     }
 
 -- so it is where the task is `mark`
 pub certified_mark : (task : Task) (scheme : Expression) (bytes : List ℕ) (input : Input)
-    (answer : Answer) → task ≡ Mark → IsInput (parts_of (With task scheme)) bytes input
+    (answer : Answer) → task ≡ Mark → IsInput (input_parts_of (With task scheme)) bytes input
     → Does (With task scheme) input answer → ShowsIn scheme (rows_in input) answer.text
     → answer.status ≡ Done → Certifies scheme bytes answer.text
 certified_mark Mark scheme bytes input answer task is does shown done =

@@ -3,11 +3,11 @@ use Rattle.std.proofs.Common.{◌≡◌, ◌∙◌, ◌⊎◌, ℕ, zero, suc, �
 use Rattle.std.proofs.lemmas.Bool.Decides.{nat_tests}
 use Rattle.std.proofs.lemmas.Option.{same_Some}
 use Rattle.std.proofs.lemmas.Slice.Eq.{bytes_eq-Decides}
-use Rattle.pls_words.specs.Words.{Said, said_by}
+use Rattle.pls_words.specs.Words.{Said, said_by_words}
 use Rattle.pls_scheme_text.specs.declared.scheme_error.SchemeError.{SchemeError}
 use Rattle.pls_property.specs.Expression.{Expression, IsSmall}
 use Rattle.pls_scheme_text.specs.ExpressionText.{IsNoScheme, expression_text}
-use Rattle.pls_scheme_text.specs.inner.Fronts.{refusal_of}
+use Rattle.pls_scheme_text.specs.inner.Fronts.{scheme_refusal_of}
 use Rattle.pls_scheme_text.proofs.Refusals.{kept_text, refused_text}
 use Rattle.pls_model.specs.declared.limits.TheConstants.{MAX_NODES}
 use Rattle.pls_app.specs.declared.trial_words.TheConstants.{MAX_SEED}
@@ -76,9 +76,9 @@ module _ (word : List ℕ) where
 
   -- the word is the text of a small expression, or of none
   schemed : ((scheme : Expression) × IsSmall scheme × (word ≡ expression_text scheme)) ⊎ IsNoScheme word
-  schemed = by (refusal_of word) refl
+  schemed = by (scheme_refusal_of word) refl
     where
-      by : (refusal : Option SchemeError) → refusal_of word ≡ refusal
+      by : (refusal : Option SchemeError) → scheme_refusal_of word ≡ refusal
           → ((scheme : Expression) × IsSmall scheme × (word ≡ expression_text scheme))
           ⊎ IsNoScheme word
       by None kept = let found = kept_text word (sym kept) in inl (found.0, found.2, found.3)
@@ -171,9 +171,9 @@ said_or_not said = by said.argument refl
 
 -- words are a command, or are none
 pub command_or_not : (words : List (List ℕ)) → IsCommandOrNot words
-command_or_not words = by (said_by words) refl
+command_or_not words = by (said_by_words words) refl
   where
-    by : (said : Option Said) → said_by words ≡ said → IsCommandOrNot words
+    by : (said : Option Said) → said_by_words words ≡ said → IsCommandOrNot words
     by None says = inr (λ command is.
         let other : None ≡ Some is.said = sym says ∙ is.says in cc)
     by (Some said) says = elim (said_or_not said) [

@@ -22,7 +22,7 @@ use Rattle.pls_app.specs.Inapplicable.{first_refused, inapplicable}
 use Rattle.pls_app.specs.Said.{Answer}
 use Rattle.pls_app.specs.Answer.{refusal, reported}
 use Rattle.pls_app.specs.Reports.{Report, ReportInput, Situation, begun, checked_in, edited_by, ends_well}
-use Rattle.pls_app.specs.inner.Rechecking.{Played, Reported, behind_all}
+use Rattle.pls_app.specs.inner.Rechecking.{AddsReports, AddsReport, behind_all}
 use Rattle.pls_app.specs.inner.Tasks.{RecheckedIn}
 use Rattle.pls_app.proofs.Proved.{refused_not_done, refused_not_judged, round_holds}
 use Rattle.pls_app.proofs.Rechecked.{EndsIn, ends_so, played_more, round_played, rows_after}
@@ -35,16 +35,16 @@ round_first (edit ∷ edits) closed = closed
 -- round 0, and then the lines of an input
 pub all_played : (judge : Seen → Verdict) (input : Input) (mid now : Situation)
     (first reports : List Report) (old asked new : ℕ)
-    → Reported judge (begun input) mid [] first old asked
-    → Played judge mid now first reports (edits_in input) asked new
-    → Played judge (begun input) now [] reports (Round ∷ (edits_in input)) old new
+    → AddsReport judge (begun input) mid [] first old asked
+    → AddsReports judge mid now first reports (edits_in input) asked new
+    → AddsReports judge (begun input) now [] reports (Round ∷ (edits_in input)) old new
 all_played judge input mid now first reports old asked new one others =
     played_more judge (begun input) mid now [] first reports (Round ∷ []) (edits_in input) old asked new
     (round_played judge (begun input) mid [] first old asked one) others
 
 module _ (scheme : Expression) (input : Input) (now : Situation) (reports : List Report)
     (old new : ℕ)
-    (played : Played (judge_in Gamma scheme) (begun input) now [] reports
+    (played : AddsReports (judge_in Gamma scheme) (begun input) now [] reports
     (Round ∷ (edits_in input)) old new) where
   -- these are the reports of the input
   pub are_reports : ReportInput (judge_in Gamma scheme) input reports
@@ -99,18 +99,18 @@ refused_in scheme input error answer old new same =
 pub played_input : (judge one other : Seen → Verdict) (input : Input) (start mid now : Situation)
     (none first reports : List Report) (edits : List EditLine) (old asked new : ℕ) → one ≡ judge
     → other ≡ judge → start ≡ begun input → none ≡ [] → edits ≡ (edits_in input)
-    → Reported one start mid none first old asked
-    → Played other mid now first reports edits asked new
-    → Played judge (begun input) now [] reports (Round ∷ (edits_in input)) old new
+    → AddsReport one start mid none first old asked
+    → AddsReports other mid now first reports edits asked new
+    → AddsReports judge (begun input) now [] reports (Round ∷ (edits_in input)) old new
 played_input judge one other input start mid now none first reports edits old asked new same too
     begins empty are reported played =
-    let here : Reported judge (begun input) mid [] first old asked =
-    subst (λ (judge : Seen → Verdict). Reported judge (begun input) mid [] first old asked) same
-    (subst (λ (start : Situation). Reported one start mid [] first old asked) begins
-    (subst (λ (none : List Report). Reported one start mid none first old asked) empty reported)) in
-    let there : Played judge mid now first reports (edits_in input) asked new =
-    subst (λ (judge : Seen → Verdict). Played judge mid now first reports (edits_in input) asked new) too
-    (subst (λ (edits : List EditLine). Played other mid now first reports edits asked new) are played) in
+    let here : AddsReport judge (begun input) mid [] first old asked =
+    subst (λ (judge : Seen → Verdict). AddsReport judge (begun input) mid [] first old asked) same
+    (subst (λ (start : Situation). AddsReport one start mid [] first old asked) begins
+    (subst (λ (none : List Report). AddsReport one start mid none first old asked) empty reported)) in
+    let there : AddsReports judge mid now first reports (edits_in input) asked new =
+    subst (λ (judge : Seen → Verdict). AddsReports judge mid now first reports (edits_in input) asked new) too
+    (subst (λ (edits : List EditLine). AddsReports other mid now first reports edits asked new) are played) in
     all_played judge input mid now first reports old asked new here there
 
 -- the first edit that is refused, by the place that was found

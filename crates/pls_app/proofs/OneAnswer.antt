@@ -15,11 +15,11 @@ use Rattle.pls_app.specs.declared.code_name.CodeName.TheVariants.{Gamma}
 use Rattle.pls_app.specs.declared.command.Command.{Command}
 use Rattle.pls_app.specs.declared.command.Command.TheVariants.{With, Trial}
 use Rattle.pls_app.specs.declared.command.Task.TheVariants.{Mark, Verify, Simulate, Recheck, Bound}
-use Rattle.pls_app.specs.Command.{parts_of, read_by}
-use Rattle.pls_app.specs.Meant.{code_of, judge_in}
+use Rattle.pls_app.specs.Command.{input_parts_of, read_by}
+use Rattle.pls_app.specs.Meant.{number_code_of, judge_in}
 use Rattle.pls_app.specs.Reports.{begun}
 use Rattle.pls_app.specs.Said.{Answer}
-use Rattle.pls_app.specs.Answer.{Answers, IsAnswer, Marks, Reads, Yields, labelled, refusal, reported}
+use Rattle.pls_app.specs.Answer.{Answers, IsAnswer, Marks, Reads, Yields, labels_answer, refusal, reported}
 use Rattle.pls_app.specs.Trial.{IsTrialAnswer, trial_line, tried_scheme}
 use Rattle.pls_app.proofs.Commands.{one_command}
 use Rattle.pls_app.proofs.OneRefusal.{one_refusal, refused_untaken}
@@ -32,8 +32,8 @@ one_mark : (code : CodeName) (scheme : Expression) (rows : List NodeRow) (answer
 one_mark code scheme rows answer other network one two = elim one [
   | inl mine ↦ elim two [
     | inl theirs ↦
-        mine.3 ∙ ap (labelled rows)
-        (expression_marked_once (code_of code) scheme rows mine.0 theirs.0 network mine.1.joined
+        mine.3 ∙ ap (labels_answer rows)
+        (expression_marked_once (number_code_of code) scheme rows mine.0 theirs.0 network mine.1.joined
         mine.1.has mine.2 theirs.2) ∙ sym theirs.3
     | inr fails ↦ absurd (fails.0.lacks mine.1.has)
   ]
@@ -48,7 +48,7 @@ one_tried : (nodes seed : ℕ) (answer other : Answer) → IsTrialAnswer nodes s
     → IsTrialAnswer nodes seed other → answer ≡ other
 one_tried nodes seed answer other one two =
     let labels : one.labels ≡ two.labels =
-    expression_marked_once (code_of Gamma) tried_scheme (trial_of nodes seed) one.labels two.labels
+    expression_marked_once (number_code_of Gamma) tried_scheme (trial_of nodes seed) one.labels two.labels
     one.valid one.shows.holds.joined one.shows.holds.has one.marked two.marked in
     let texts : answer.text ≡ other.text =
     one.text ∙ ap (λ (labels : List (List Bool)). text_of (trial_line (trial_of nodes seed) labels ∷ []))
@@ -62,7 +62,7 @@ one_yield : (command : Command) (bytes : List ℕ) (input : Input) (answer other
     → answer ≡ other
 one_yield (With Mark scheme) bytes input answer other is one two =
     one_mark Gamma scheme (rows_in input) answer other
-    (readable (parts_of (With Mark scheme)) bytes input is refl).network one two
+    (readable (input_parts_of (With Mark scheme)) bytes input is refl).network one two
 one_yield (With (Verify json) scheme) bytes input answer other is one two = one ∙ sym two
 one_yield (With (Simulate json) scheme) bytes input answer other is one two = one ∙ sym two
 one_yield (With Recheck scheme) bytes input answer other is one two =
@@ -88,7 +88,7 @@ one_of_command command bytes answer other one two = elim one [
     | inl refused ↦
         absurd (refused_untaken command bytes refused.0 works.input refused.1 works.is works.takes)
     | inr too ↦
-        let same = one_input (parts_of command) (read_by command bytes) too.input works.input too.is
+        let same = one_input (input_parts_of command) (read_by command bytes) too.input works.input too.is
         works.is in
         one_yield command bytes works.input answer other works.is works.yields
         (subst (λ (input : Input). Yields command input other) same too.yields)

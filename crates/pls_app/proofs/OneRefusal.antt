@@ -20,12 +20,12 @@ use Rattle.pls_app.specs.declared.command.Command.{Command}
 use Rattle.pls_app.specs.declared.command.Command.TheVariants.{With, Trial}
 use Rattle.pls_app.specs.declared.command.Task.{Task}
 use Rattle.pls_app.specs.declared.command.Task.TheVariants.{Mark, Verify, Simulate, Recheck, Bound}
-use Rattle.pls_app.specs.Command.{parts_of, read_by}
+use Rattle.pls_app.specs.Command.{input_parts_of, read_by}
 use Rattle.pls_app.specs.Answer.{IsRefused, Reads, RefusesInput, TakesInput}
 
 -- a task with a scheme reads a network
 pub wants_network : (task : Task) (scheme : Expression)
-    → (parts_of (With task scheme)).network ≡ true
+    → (input_parts_of (With task scheme)).network ≡ true
 wants_network Mark scheme = refl
 wants_network (Verify json) scheme = refl
 wants_network (Simulate json) scheme = refl
@@ -69,7 +69,7 @@ apart_is : (command : Command) (bytes : List ℕ) (input : Input) (id : ℕ)
     → IsConnected (rows_in input) → ⊥
 apart_is (With task scheme) bytes input id is apart connected =
     apart_from (rows_in input) id
-    (readable (parts_of (With task scheme)) bytes input is (wants_network task scheme)).network
+    (readable (input_parts_of (With task scheme)) bytes input is (wants_network task scheme)).network
     apart connected
 apart_is (Trial nodes seed) bytes input id is apart connected =
     no_node (rows_in input) id (none input.network is.says.has.network) apart.node
@@ -114,15 +114,15 @@ pub one_refusal : (command : Command) (bytes : List ℕ) (error other : TextErro
 one_refusal command bytes error other one two = elim one [
   | inl none ↦ elim two [
     | inl too ↦
-        one_no_input (parts_of command) (read_by command bytes) error other none too
+        one_no_input (input_parts_of command) (read_by command bytes) error other none too
     | inr asks ↦
-        absurd (no_refusal (parts_of command) (read_by command bytes) asks.0 error asks.1 none)
+        absurd (no_refusal (input_parts_of command) (read_by command bytes) asks.0 error asks.1 none)
   ]
   | inr asks ↦ elim two [
     | inl none ↦
-        absurd (no_refusal (parts_of command) (read_by command bytes) asks.0 other asks.1 none)
+        absurd (no_refusal (input_parts_of command) (read_by command bytes) asks.0 other asks.1 none)
     | inr too ↦
-        let same = one_input (parts_of command) (read_by command bytes) too.0 asks.0 too.1 asks.1 in
+        let same = one_input (input_parts_of command) (read_by command bytes) too.0 asks.0 too.1 asks.1 in
         one_asked command bytes asks.0 error other asks.1 asks.2
         (subst (λ (input : Input). RefusesInput command input other) same too.2)
   ]
@@ -132,9 +132,9 @@ one_refusal command bytes error other one two = elim one [
 pub refused_untaken : (command : Command) (bytes : List ℕ) (error : TextError) (input : Input)
     → IsRefused command bytes error → Reads command bytes input → TakesInput command input → ⊥
 refused_untaken command bytes error input refused is takes = elim refused [
-  | inl none ↦ no_refusal (parts_of command) (read_by command bytes) input error is none
+  | inl none ↦ no_refusal (input_parts_of command) (read_by command bytes) input error is none
   | inr asks ↦
-      let same = one_input (parts_of command) (read_by command bytes) asks.0 input asks.1 is in
+      let same = one_input (input_parts_of command) (read_by command bytes) asks.0 input asks.1 is in
       taken command bytes input error is takes
       (subst (λ (input : Input). RefusesInput command input error) same asks.2)
 ]

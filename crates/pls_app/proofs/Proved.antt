@@ -32,7 +32,7 @@ use Rattle.pls_app.specs.declared.code_name.CodeName.TheVariants.{Gamma}
 use Rattle.pls_app.specs.declared.command.Command.{Command}
 use Rattle.pls_app.specs.declared.command.Command.TheVariants.{With, Trial}
 use Rattle.pls_app.specs.declared.command.Task.TheVariants.{Mark, Verify, Simulate, Recheck, Bound}
-use Rattle.pls_app.specs.Command.{Checks, parts_of, read_by}
+use Rattle.pls_app.specs.Command.{Checks, input_parts_of, read_by}
 use Rattle.pls_app.specs.Meant.{Holds, judge_in}
 use Rattle.pls_app.specs.Reports.{decided_by}
 use Rattle.pls_app.specs.Said.{Answer}
@@ -94,7 +94,7 @@ all_judged scheme (Trial nodes seed) input checks all = absurd checks
 
 -- a command that checks labels reads a network and one label for each node
 wants_labels : (scheme : Expression) (command : Command) → Checks scheme command
-    → ((parts_of command).network ≡ true) × ((parts_of command).labels ≡ true)
+    → ((input_parts_of command).network ≡ true) × ((input_parts_of command).labels ≡ true)
 wants_labels scheme (With Mark other) checks = absurd checks
 wants_labels scheme (With (Verify json) other) checks = (refl, refl)
 wants_labels scheme (With (Simulate json) other) checks = (refl, refl)
@@ -177,9 +177,9 @@ done_proves scheme command bytes answer checks answers done = elim answers [
         input = input;
         is = works.is;
         holds = accepted_holds Gamma scheme (rows_in input) (labels_in input)
-            (readable (parts_of command) (read_by command bytes) input works.is wants.0).network
+            (readable (input_parts_of command) (read_by command bytes) input works.is wants.0).network
             works.takes.joined
-            (each (parts_of command) (read_by command bytes) input works.is wants.1)
+            (each (input_parts_of command) (read_by command bytes) input works.is wants.1)
             (all_judged scheme command input checks all);
       }
 ]

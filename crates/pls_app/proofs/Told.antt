@@ -11,14 +11,14 @@ use Rattle.pls_app.specs.Answer.{Answers, IsAnswer}
 use Rattle.pls_app.specs.inner.Tasks.{IsWorked}
 use Rattle.pls_app.proofs.Answered.{command_answer}
 use Rattle.pls_app.proofs.Commands.{one_command}
-use Rattle.pls_app.specs.Run.{Certifies, Concerns, EndsAs, IsAnswered, IsUnread, Tells, TellsPart, TookCertificate}
+use Rattle.pls_app.specs.Run.{Certifies, Concerns, EndsAs, IsAnswered, IsUnread, TellsAnswer, TellsPart, TookCertificate}
 use Rattle.pls_app.specs.inner.Causes.{Told}
 
 -- an answer that was told in the end
 pub tells : (words : List (List ℕ)) (bytes : List ℕ) (answer : Answer) (status : Status)
     (before after : ℕ) (old new : Option (List ℕ)) → IsAnswer words bytes answer
     → Told answer.status status before after old new answer.text → IsAnswered status
-    → Tells words bytes status old new
+    → TellsAnswer words bytes status old new
 tells words bytes answer status before after old new is told answered = elim told [
   | inl whole ↦ record { answer = answer; is = is; ends = whole.0; took = whole.1 }
   | inr part ↦ absurd (rw part.0 at answered)
@@ -66,7 +66,7 @@ pub tells_command : (words : List (List ℕ)) (bytes : List ℕ) (command : Comm
     (status : Status) (before after : ℕ) (old new : Option (List ℕ))
     → IsCommand words command → Answers command bytes answer
     → Told answer.status status before after old new answer.text → IsAnswered status
-    → Tells words bytes status old new
+    → TellsAnswer words bytes status old new
 tells_command words bytes command answer status before after old new read answers told answered =
     tells words bytes answer status before after old new
     (command_answer words bytes command answer read answers) told answered

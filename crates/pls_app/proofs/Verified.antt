@@ -3,7 +3,7 @@ use Rattle.std.proofs.Common.{◌≡◌, ◌∙◌, ℕ, ◌==◌, Bool, true, f
 use Rattle.std.proofs.lemmas.List.{length-map}
 use Rattle.std.proofs.lemmas.List.Folds.{list_all-map}
 use Rattle.std.proofs.lemmas.List.Sums.{list_all-from_AllPass}
-use Rattle.pls_words.specs.Words.{said_by}
+use Rattle.pls_words.specs.Words.{said_by_words}
 use Rattle.pls_model.specs.declared.row.NodeRow.{NodeRow}
 use Rattle.pls_model.specs.declared.status.Status.TheVariants.{Done, No}
 use Rattle.pls_model.specs.declared.verdict.Verdict.{Verdict}
@@ -32,7 +32,7 @@ use Rattle.pls_app.proofs.Answered.{command_answer}
 
 -- a word that does not begin with `-` stands behind `verify`
 behind_verify : (first : ℕ) (rest : List ℕ) → (first == 45) ≡ false
-    → said_by (codes "verify" ∷ (first ∷ rest) ∷ [])
+    → said_by_words (codes "verify" ∷ (first ∷ rest) ∷ [])
     ≡ Some (record { command = codes "verify"; argument = Some (first ∷ rest); json = false })
 behind_verify first rest plain = rw plain refl
 
@@ -43,7 +43,7 @@ verify_is scheme small =
     let text : List ℕ = expression_text scheme in
     let letter = first_letter scheme in record {
       said = record { command = codes "verify"; argument = Some text; json = false };
-      says = subst (λ (text : List ℕ). said_by (codes "verify" ∷ text ∷ [])
+      says = subst (λ (text : List ℕ). said_by_words (codes "verify" ∷ text ∷ [])
           ≡ Some (record { command = codes "verify"; argument = Some text; json = false }))
           (sym letter.2) (behind_verify letter.0 letter.1 letter.3);
       is = (refl, refl, small);

@@ -26,7 +26,7 @@ use Rattle.pls_app.specs.declared.code_name.CodeName.TheVariants.{Gamma}
 use Rattle.pls_app.specs.declared.command.Command.{Command}
 use Rattle.pls_app.specs.declared.command.Command.TheVariants.{With, Trial}
 use Rattle.pls_app.specs.declared.command.Task.TheVariants.{Mark, Verify, Simulate, Recheck, Bound}
-use Rattle.pls_app.specs.Command.{IsCommand, IsUsage, parts_of, read_by}
+use Rattle.pls_app.specs.Command.{IsCommand, IsUsage, input_parts_of, read_by}
 use Rattle.pls_app.specs.Meant.{AreMarks, Fails, Holds, bound_in, judge_in, room_in}
 use Rattle.pls_app.specs.Unapplied.{unapplied}
 use Rattle.pls_app.specs.Inapplicable.{inapplicable}
@@ -76,8 +76,9 @@ abbrev pub no : Answer
 no = record { status = No; text = text_of (codes "no" ∷ []) }
 
 -- the answer with the labels of a network
-abbrev pub labelled : List NodeRow → List (List Bool) → Answer
-labelled rows labels = record { status = Done; text = labels_text (named (ids_of rows) labels) }
+abbrev pub labels_answer : List NodeRow → List (List Bool) → Answer
+labels_answer rows labels =
+    record { status = Done; text = labels_text (named (ids_of rows) labels) }
 
 -- the answer with the reports of rounds
 abbrev pub reported : List Report → Answer
@@ -98,7 +99,7 @@ outcomes_in other input = []
 abbrev pub Marks : CodeName → Expression → List NodeRow → Answer → Type 0
 Marks code scheme rows answer =
     ((labels : List (List Bool)) × Holds scheme rows × AreMarks code scheme rows labels
-    × (answer ≡ labelled rows labels))
+    × (answer ≡ labels_answer rows labels))
     ⊎ (Fails scheme rows × (answer ≡ no))
 
 -- the answer to `recheck` on an input: the reports of its rounds
@@ -143,11 +144,11 @@ pub record TakesInput (command : Command) (input : Input) : Type 0 where
 
 -- what the command reads of the bytes is the input
 abbrev pub Reads : Command → List ℕ → Input → Type 0
-Reads command bytes input = IsInput (parts_of command) (read_by command bytes) input
+Reads command bytes input = IsInput (input_parts_of command) (read_by command bytes) input
 
 -- the command refuses the bytes: they are no input, or it refuses the input that they are
 abbrev pub IsRefused : Command → List ℕ → TextError → Type 0
-IsRefused command bytes error = IsNoInput (parts_of command) (read_by command bytes) error
+IsRefused command bytes error = IsNoInput (input_parts_of command) (read_by command bytes) error
     ⊎ ((input : Input) × Reads command bytes input × RefusesInput command input error)
 
 -- the command takes the input that the bytes are, and this is its answer to it

@@ -15,8 +15,8 @@ use Rattle.pls_app.specs.declared.code_name.CodeName.{CodeName}
 use Rattle.pls_app.specs.declared.code_name.CodeName.TheVariants.{Gamma}
 
 -- the number code of a name: what it writes of a number, and what it takes from the front of bits
-abbrev pub code_of : CodeName → ℕ → List Bool
-code_of Gamma = gamma_code
+abbrev pub number_code_of : CodeName → ℕ → List Bool
+number_code_of Gamma = gamma_code
 
 abbrev pub takes_of : CodeName → List Bool → Option (ℕ × List Bool)
 takes_of Gamma = gamma_takes
@@ -37,11 +37,11 @@ pub record Fails (scheme : Expression) (rows : List NodeRow) : Type 0 where
 
 -- these labels are marked
 abbrev pub AreMarks : CodeName → Expression → List NodeRow → List (List Bool) → Type 0
-AreMarks code scheme rows labels = IsMarked (code_of code) scheme rows labels
+AreMarks code scheme rows labels = IsMarked (number_code_of code) scheme rows labels
 
 -- how many bits a marked label has at most, and all of them together
 abbrev pub bound_in : CodeName → Expression → List NodeRow → ℕ
-bound_in code scheme rows = longest_of (code_of code) scheme (size_of rows)
+bound_in code scheme rows = longest_of (number_code_of code) scheme (size_of rows)
 
 abbrev pub room_in : CodeName → Expression → List NodeRow → ℕ
 room_in code scheme rows = length rows * bound_in code scheme rows

@@ -11,7 +11,7 @@ use Rattle.pls_sim.specs.declared.outcome.Outcome.{Outcome}
 use Rattle.pls_report.specs.Report.{is_accepting}
 use Rattle.pls_property.specs.Expression.{Expression}
 use Rattle.pls_model.specs.declared.limits.TheConstants.{MAX_INPUT}
-use Rattle.pls_inputs.specs.Parts.{Input, edited, edits_in, labelled, net_labels_text, network, rows_in, with_labels}
+use Rattle.pls_inputs.specs.Parts.{Input, parts_with_edits, edits_in, parts_with_labels, net_labels_text, network, rows_in, with_labels}
 use Rattle.pls_inputs.specs.Order.{IsInput}
 use Rattle.pls_app.specs.declared.code_name.CodeName.TheVariants.{Gamma}
 use Rattle.pls_app.specs.declared.command.Command.{Command}
@@ -41,7 +41,7 @@ IsAnswered Refused = ⊤
 IsAnswered Limit = ⊤
 
 -- the status is that of the answer to the words on these bytes, and the sink took exactly its text
-pub record Tells (words : List (List ℕ)) (bytes : List ℕ) (status : Status)
+pub record TellsAnswer (words : List (List ℕ)) (bytes : List ℕ) (status : Status)
     (old new : Option (List ℕ)) : Type 0 where
   pub answer : Answer
   pub is : IsAnswer words bytes answer
@@ -144,7 +144,7 @@ pub record Certifies (scheme : Expression) (bytes text : List ℕ) : Type 0 wher
   pub is : IsInput network bytes input
   pub shows : Shows Gamma scheme (rows_in input) labels
   pub text_is : text ≡ net_labels_text (rows_in input) labels
-  pub read_back : IsInput labelled (bytes ++ text) (with_labels input labels)
+  pub read_back : IsInput parts_with_labels (bytes ++ text) (with_labels input labels)
 
 -- the sink took such a text
 pub record TookCertificate (scheme : Expression) (bytes : List ℕ)
@@ -162,14 +162,14 @@ pub record Lacks (scheme : Expression) (bytes : List ℕ) : Type 0 where
 -- the network of the bytes is one whole, and has the property after all edits
 pub record HoldsAfter (scheme : Expression) (bytes : List ℕ) : Type 0 where
   pub input : Input
-  pub is : IsInput edited bytes input
+  pub is : IsInput parts_with_edits bytes input
   pub joined : IsConnected (rows_in input)
   pub holds : Holds scheme (edited_by (edits_in input) (rows_in input))
 
 -- the count rose by as many nodes as the reports of the rounds say were checked
 pub record RoseByChecked (scheme : Expression) (bytes : List ℕ) (old new : ℕ) : Type 0 where
   pub input : Input
-  pub is : IsInput edited bytes input
+  pub is : IsInput parts_with_edits bytes input
   pub joined : IsConnected (rows_in input)
   pub reports : List Report
   pub are : ReportInput (judge_in Gamma scheme) input reports

@@ -6,7 +6,7 @@ ghost use Rattle.pls_base.specs.Streams.{AppendsPart, Rose};
 ghost use Rattle.pls_words.specs.Words.{words_in};
 ghost use Rattle.pls_property.specs.Expression.{Expression};
 ghost use Rattle.pls_app.specs.Command.{Checks, IsUsage};
-ghost use Rattle.pls_app.specs.Run.{Asks, Concerns, Consumes, CountsAsked, EndsAs, HasItsCause, HoldsAfter, IsAnswered, IsJudged, IsSureOfAnswer, IsUnread, Lacks, Proves, RefusesExactly, SomeRejects, Tells, TellsPart, TookCertificate};
+ghost use Rattle.pls_app.specs.Run.{Asks, Concerns, Consumes, CountsAsked, EndsAs, HasItsCause, HoldsAfter, IsAnswered, IsJudged, IsSureOfAnswer, IsUnread, Lacks, Proves, RefusesExactly, SomeRejects, TellsAnswer, TellsPart, TookCertificate};
 ghost use Rattle.pls_app.specs.inner.Causes.{Told};
 ghost use Rattle.pls_app.specs.Answer.{IsRefused};
 ghost use Rattle.pls_app.specs.Reports.{reports_text};
@@ -64,7 +64,7 @@ pub fn run<'w, S: Source, K: Sink, B: Bench>(
     // command alone.
     ensures text { (bytes : List ℕ) → Concerns (words_in words.now) (S.left source.old) bytes
         → IsAnswered result
-        → Tells (words_in words.now) bytes result (K.taken sink.old) (K.taken sink.new) }
+        → TellsAnswer (words_in words.now) bytes result (K.taken sink.old) (K.taken sink.new) }
     ensures answers { (Rose (S.faults source.old) (S.faults source.new) → ⊥)
         → (Rose (K.faults sink.old) (K.faults sink.new) → ⊥)
         ⊎ IsSureOfAnswer (words_in words.now) (S.left source.old) (K.IsSureOf sink.old)

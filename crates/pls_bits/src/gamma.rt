@@ -23,8 +23,8 @@ impl NumCode for Gamma {
 
     #[inline]
     fn write(buf: &mut BitBuf, number: u64) -> Result<(), NoMemory> {
-        let zeros = zeros_of(number);
-        buf.push_digits(zeros, number + 1, zeros + 1)
+        let zeros = log_of_next(number);
+        buf.push_digits(0, zeros, number + 1, zeros + 1)
     }
 
     // The next 64 bits show the zeros, and mostly all of the code; the code of 0 is a one alone.
@@ -55,7 +55,7 @@ impl NumCode for Gamma {
     }
 
     fn length(number: u64) -> u64 {
-        2 * zeros_of(number) as u64 + 1
+        2 * log_of_next(number) as u64 + 1
     }
 
     ghost takes_codes = { λ number rest small. gamma_takes-code number rest small };
@@ -67,9 +67,9 @@ impl NumCode for Gamma {
     ghost short_law = { λ number _. gamma_short number };
 }
 
-// How many zeros the code of a number begins with.
+// The logarithm to the base 2 of the next number, rounded down: as many zeros begin its gamma code.
 #[inline(always)]
-fn zeros_of(number: u64) -> usize
+pub(crate) fn log_of_next(number: u64) -> usize
     requires { number ≤ MAX_CODED }
     ensures value { result ≡ floor_log (number + 1) }
     ensures small { result ≤ 62 }

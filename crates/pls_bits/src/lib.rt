@@ -10,7 +10,9 @@
 mod bit_buf;
 mod bits;
 mod bytes;
+mod code_name;
 mod cursor;
+mod delta;
 mod gamma;
 mod hex_bytes;
 mod hex_error;
@@ -22,7 +24,9 @@ mod words;
 
 pub use bit_buf::BitBuf;
 pub use bits::Bits;
+pub use code_name::CodeName;
 pub use cursor::Cursor;
+pub use delta::Delta;
 pub use gamma::Gamma;
 pub use hex_error::HexError;
 pub use hex_text::{from_hex, spells_bits};

@@ -1,15 +1,12 @@
 -- The scheme of networks without cycle: what a label says, what a node judges, and the marker's
 -- labels. The property is that no edges close a ring through three or more nodes.
-use Rattle.std.specs.Prelude.{ℕ, ◌+◌, ◌==◌, nat_le, Bool, ◌||◌, List, [], ◌∷◌, count_by, get_or, Option}
+use Rattle.std.specs.Prelude.{ℕ, ◌+◌, ◌==◌, nat_le, Bool, ◌||◌, List, [], ◌∷◌, count_by, get_or}
 use Rattle.std.specs.List.{list_all}
 use Rattle.pls_model.specs.declared.row.NodeRow.{NodeRow}
-use Rattle.pls_model.specs.declared.verdict.Verdict.{Verdict}
 use Rattle.pls_graph.specs.declared.size.Size.{Size}
-use Rattle.pls_view.specs.Seen.{Seen}
-use Rattle.pls_scheme.specs.Length.{codes_length}
-use Rattle.pls_scheme.specs.Marked.{IsMarkedBy}
-use Rattle.pls_scheme.specs.Numbers.{AreCodesOf, label_in}
-use Rattle.pls_scheme.specs.Reading.{Read, ReadPort, judge_by}
+use Rattle.pls_numbers.specs.Fixed.{fixed_shape}
+use Rattle.pls_numbers.specs.Shape.{Shape}
+use Rattle.pls_scheme.specs.Reading.{Read, ReadPort}
 use Rattle.pls_colour.specs.declared.acyclic.CycleLabel.{CycleLabel}
 use Rattle.pls_colour.specs.Levelled.{saying_level}
 
@@ -25,9 +22,9 @@ cycle_says depth = record { depth = depth }
 abbrev pub cycle_label : List ℕ → CycleLabel
 cycle_label list = cycle_says (get_or list 0 0)
 
--- the bits are the code of the node's depth, and nothing more
-abbrev pub IsCycleLabel : (ℕ → List Bool) → List Bool → CycleLabel → Type 0
-IsCycleLabel code bits label = AreCodesOf code (numbers_of_cycle label) bits
+-- a label is one number, each in code
+abbrev pub acyclic_shape : Shape CycleLabel
+acyclic_shape = fixed_shape 1 numbers_of_cycle cycle_label
 
 -- the neighbour is one deeper, or one less deep
 abbrev pub is_beside : ℕ → ReadPort CycleLabel → Bool
@@ -49,22 +46,10 @@ has_one_above view = nat_le (count_by (is_above view.own.depth) view.ports) 1
 abbrev pub acyclic_rules : Read CycleLabel → List Bool
 acyclic_rules view = differs_by_one view ∷ has_one_above view ∷ []
 
--- what a node judges
-abbrev pub judge_acyclic : (List Bool → Option (ℕ × List Bool)) → Seen → Verdict
-judge_acyclic takes view = judge_by (label_in cycle_label takes 1) acyclic_rules view
-
 -- the label of a node is its level: its distance in edges from the node whose identity is smallest
 abbrev pub acyclic_says : List NodeRow → NodeRow → CycleLabel → Type 0
 acyclic_says rows row label = saying_level cycle_says rows row label
 
--- so is each label
-abbrev pub IsAcyclicMarked : (ℕ → List Bool) → List NodeRow → List (List Bool) → Type 0
-IsAcyclicMarked code rows labels = IsMarkedBy (IsCycleLabel code) (acyclic_says rows) rows labels
-
 -- no number of a marked label is greater: the number of nodes
 abbrev pub acyclic_limits : Size → List ℕ
 acyclic_limits size = size.nodes ∷ []
-
--- how many bits a marked label has at most: the code of this number
-abbrev pub longest_acyclic : (ℕ → List Bool) → Size → ℕ
-longest_acyclic code size = codes_length code (acyclic_limits size)

@@ -6,7 +6,7 @@ ghost use Rattle.pls_scheme.specs.Reading.{port_with};
 
 use pls_bits::NumCode;
 use pls_model::State;
-use pls_scheme::{Coded, Judgement, OfNumbers, Ruled, Rules, Verdict, is_one_more, judged_from};
+use pls_scheme::{Fixed, Judgement, OfNumbers, Ruled, Rules, Verdict, is_one_more, judged_from};
 use std::marker::PhantomData;
 
 /// What a label says.
@@ -19,7 +19,7 @@ pub struct CycleLabel {
 impl OfNumbers<1> for CycleLabel {
     ghost use Rattle.std.specs.Prelude.{refl};
     ghost use Rattle.pls_colour.specs.Acyclic.{cycle_label, numbers_of_cycle};
-    ghost use Rattle.pls_scheme.specs.laws.CodeLaws.{are_numbers};
+    ghost use Rattle.pls_numbers.specs.laws.FixedLaws.{are_numbers};
 
     ghost numbers = { numbers_of_cycle };
 
@@ -44,21 +44,33 @@ pub type Acyclic<C> = Ruled<AcyclicRules<C>>;
 /// The rules of networks without cycle.
 #[derive(Clone, Copy, Debug, PartialEq, Eq)]
 pub struct AcyclicRules<C> {
+    format: Fixed<CycleLabel, 1>,
     code: PhantomData<C>,
 }
 
 impl<C> Default for AcyclicRules<C> {
     fn default() -> Self {
-        AcyclicRules { code: PhantomData }
+        AcyclicRules {
+            format: Fixed::default(),
+            code: PhantomData,
+        }
     }
 }
 
 impl<C: NumCode> Judgement for AcyclicRules<C> {
     ghost use Rattle.pls_colour.specs.Acyclic.{acyclic_rules};
 
-    type Layout = Coded<CycleLabel, C, 1>;
+    type Code = C;
+
+    type Format = Fixed<CycleLabel, 1>;
+
+    ghost format = { λ s. s.format };
 
     ghost rules = { λ _. acyclic_rules };
+
+    fn format(&self) -> &Fixed<CycleLabel, 1> {
+        &self.format
+    }
 }
 
 /// What the rules need of the neighbours.

@@ -23,14 +23,15 @@ impl<C: NumCode> SaysLevels for AcyclicRules<C> {
 
 impl<C: NumCode> Marker for AcyclicRules<C> {
     ghost use Rattle.pls_facts.specs.Cycle.{IsAcyclic};
-    ghost use Rattle.pls_colour.specs.Acyclic.{acyclic_says, longest_acyclic};
+    ghost use Rattle.pls_colour.specs.Acyclic.{acyclic_limits, acyclic_says, acyclic_shape};
+    ghost use Rattle.pls_scheme.specs.Basic.{longest_by};
     ghost use Rattle.pls_colour.specs.laws.AcyclicLaws.{acyclic_fits, acyclic_met, acyclic_one_right, acyclic_show};
 
     ghost holds = { λ _ rows. IsAcyclic rows };
 
     ghost says = { λ _ rows row label. acyclic_says rows row label };
 
-    ghost longest = { λ _ size. longest_acyclic C.code size };
+    ghost longest = { λ _. longest_by acyclic_shape acyclic_limits C.code };
 
     fn longest(&self, size: &Size) -> u64 {
         codes_length::<C>(&[size.nodes])

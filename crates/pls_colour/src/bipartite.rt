@@ -3,32 +3,49 @@
 ghost use Rattle.std.specs.Prelude.{◌≡◌};
 ghost use Rattle.pls_facts.specs.Bipartite.{differ};
 
-use crate::colour_layout::{ColourLabel, ColourLayout};
+use crate::colour_format::{ColourFormat, ColourLabel};
+use pls_bits::{Gamma, NumCode};
 use pls_model::State;
 use pls_scheme::{Judgement, Ruled, Rules, Verdict, judged_from};
+use std::marker::PhantomData;
 
-/// The scheme of two-colourings. A label is one bit, the node's colour.
-pub type Bipartite = Ruled<BipartiteRules>;
+/// The scheme of two-colourings. A label is one bit, the node's colour, in whatever number code `C`
+/// the labels of other schemes are.
+pub type Bipartite<C = Gamma> = Ruled<BipartiteRules<C>>;
 
 /// The rules of two-colourings.
 #[derive(Clone, Copy, Debug, PartialEq, Eq)]
-pub struct BipartiteRules;
+pub struct BipartiteRules<C> {
+    format: ColourFormat,
+    code: PhantomData<C>,
+}
 
-impl Default for BipartiteRules {
+impl<C> Default for BipartiteRules<C> {
     fn default() -> Self {
-        BipartiteRules
+        BipartiteRules {
+            format: ColourFormat,
+            code: PhantomData,
+        }
     }
 }
 
-impl Judgement for BipartiteRules {
+impl<C: NumCode> Judgement for BipartiteRules<C> {
     ghost use Rattle.pls_colour.specs.Bipartite.{bipartite_rules};
 
-    type Layout = ColourLayout;
+    type Code = C;
+
+    type Format = ColourFormat;
+
+    ghost format = { λ s. s.format };
 
     ghost rules = { λ _. bipartite_rules };
+
+    fn format(&self) -> &ColourFormat {
+        &self.format
+    }
 }
 
-impl Rules for BipartiteRules {
+impl<C: NumCode> Rules for BipartiteRules<C> {
     ghost use Rattle.std.specs.List.{list_all};
     ghost use Rattle.pls_colour.specs.Bipartite.{differs_from};
 

@@ -1,15 +1,16 @@
 //! How networks with a two-colouring are labelled.
 
 use crate::bipartite::BipartiteRules;
-use crate::colour_layout::ColourLabel;
+use crate::colour_format::ColourLabel;
 use crate::level_labels::{SaysLevels, level_labels};
 use pls_base::NoMemory;
+use pls_bits::NumCode;
 use pls_facts::is_valid;
 use pls_graph::{Network, Size};
 use pls_scheme::{Marker, hold_everywhere};
 use std::alloc::Global;
 
-impl SaysLevels for BipartiteRules {
+impl<C: NumCode> SaysLevels for BipartiteRules<C> {
     ghost use Rattle.pls_colour.specs.Bipartite.{parity_label};
 
     ghost level_label = { parity_label };
@@ -21,16 +22,17 @@ impl SaysLevels for BipartiteRules {
     }
 }
 
-impl Marker for BipartiteRules {
+impl<C: NumCode> Marker for BipartiteRules<C> {
     ghost use Rattle.pls_facts.specs.Bipartite.{IsBipartite};
-    ghost use Rattle.pls_colour.specs.Bipartite.{bipartite_says, longest_bipartite};
+    ghost use Rattle.pls_colour.specs.Bipartite.{bipartite_limits, bipartite_says, colour_shape};
+    ghost use Rattle.pls_scheme.specs.Basic.{longest_by};
     ghost use Rattle.pls_colour.specs.laws.BipartiteLaws.{bipartite_fits, bipartite_met, bipartite_one_right, bipartite_show};
 
     ghost holds = { λ _ rows. IsBipartite rows };
 
     ghost says = { λ _ rows row label. bipartite_says rows row label };
 
-    ghost longest = { λ _ size. longest_bipartite size };
+    ghost longest = { λ _. longest_by colour_shape bipartite_limits C.code };
 
     fn longest(&self, _size: &Size) -> u64 {
         1
@@ -56,5 +58,5 @@ impl Marker for BipartiteRules {
 
     ghost one_right_law = { λ _. bipartite_one_right };
 
-    ghost fits_law = { λ _. bipartite_fits };
+    ghost fits_law = { λ _. bipartite_fits C.code };
 }

@@ -8,16 +8,17 @@ ghost use Rattle.pls_colour.specs.Levelled.{saying_level};
 use pls_base::NoMemory;
 use pls_facts::is_valid;
 use pls_graph::Network;
-use pls_scheme::{Judgement, Layout};
+use pls_numbers::Format;
+use pls_scheme::Judgement;
 use pls_search::levels;
 use std::alloc::Global;
 
 // Rules on labels that say levels.
 pub(crate) trait SaysLevels: Judgement {
-    ghost level_label: { ℕ → Self.Layout.Label };
+    ghost level_label: { ℕ → Self.Format.Label };
 
     // The label that says a level.
-    fn level_label(level: u32) -> <Self::Layout as Layout>::Label
+    fn level_label(level: u32) -> <Self::Format as Format>::Label
         ensures { result ≡ level_label level };
 }
 
@@ -25,7 +26,7 @@ pub(crate) trait SaysLevels: Judgement {
 pub(crate) fn level_labels<R: SaysLevels>(
     alloc: Global,
     net: &Network,
-) -> Result<Vec<<R::Layout as Layout>::Label>, NoMemory>
+) -> Result<Vec<<R::Format as Format>::Label>, NoMemory>
     requires { IsConnected net.now }
     ensures { IfOk result
         (λ labels. AreRight (saying_level R.level_label net.now) net.now labels.items) }
@@ -40,7 +41,7 @@ pub(crate) fn level_labels<R: SaysLevels>(
 fn labels_of_levels<R: SaysLevels>(
     alloc: Global,
     levels: &[Option<u32>],
-) -> Result<Vec<<R::Layout as Layout>::Label>, NoMemory>
+) -> Result<Vec<<R::Format as Format>::Label>, NoMemory>
     ensures { IfOk result (λ labels.
         labels.items ≡ map (λ level. R.level_label (unwrap_or level 0)) levels.now) }
 {

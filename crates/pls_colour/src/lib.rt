@@ -13,9 +13,9 @@ mod acyclic;
 mod acyclic_scheme;
 mod bipartite;
 mod bipartite_scheme;
-mod colour_layout;
+mod colour_format;
 mod level_labels;
 
 pub use acyclic::{Acyclic, AcyclicRules, Beside, CycleLabel};
 pub use bipartite::{Bipartite, BipartiteRules};
-pub use colour_layout::{ColourLabel, ColourLayout};
+pub use colour_format::{ColourFormat, ColourLabel};

@@ -64,14 +64,14 @@ module _ (rows : List NodeRow) (net : IsNetwork rows) (words : AreWords (size_of
       let ports = mul-le-mul net.limits.few_ports port in
       omega (arith, front, heads, ports)
     where
-      front : codes_length gamma_code ((size_of rows).max_id ∷ length rows ∷ []) ≤ 250
+      front : codes_length gamma_code [] ((size_of rows).max_id ∷ length rows ∷ []) ≤ 250
       front = omega (arith, ids, nodes)
 
-      head : codes_length gamma_code ((size_of rows).max_id ∷ (size_of rows).max_degree
+      head : codes_length gamma_code [] ((size_of rows).max_id ∷ (size_of rows).max_degree
           ∷ (size_of rows).max_mark ∷ (size_of rows).max_num ∷ (size_of rows).max_degree ∷ []) ≤ 625
       head = omega (arith, ids, degrees, marks, nums)
 
-      port : codes_length gamma_code ((size_of rows).max_id ∷ (size_of rows).max_weight ∷ []) ≤ 250
+      port : codes_length gamma_code [] ((size_of rows).max_id ∷ (size_of rows).max_weight ∷ []) ≤ 250
       port = omega (arith, ids, weights)
 
   -- an expression has at most 2^27 bits for each of its leaves

@@ -6,16 +6,16 @@ use Rattle.pls_model.specs.declared.row.NodeRow.{NodeRow}
 use Rattle.pls_model.specs.declared.verdict.Verdict.{Verdict}
 use Rattle.pls_graph.specs.declared.size.Size.{Size}
 use Rattle.pls_view.specs.Seen.{Seen}
+use Rattle.pls_numbers.specs.Shape.{IsSpelled, said_by}
 use Rattle.pls_scheme.specs.Marked.{IsMarkedBy}
 use Rattle.pls_scheme.specs.Reading.{judge_by}
 use Rattle.pls_universal.specs.Bound.{longest_map}
-use Rattle.pls_universal.specs.Map.{IsMapLabel}
-use Rattle.pls_universal.specs.Reading.{map_label}
+use Rattle.pls_universal.specs.Reading.{map_shape}
 use Rattle.pls_universal.specs.Rules.{map_rules, map_says}
 use Rattle.pls_names.specs.Named.{IsNamedMarked, judge_named, longest_named}
 use Rattle.pls_property.specs.Expression.{Expression, And, HasProperty, Of, Or, test_of}
 use Rattle.pls_parts.specs.Combined.{judge_both, judge_one_of}
-use Rattle.pls_parts.specs.Joined.{AreJoined, longest_both}
+use Rattle.pls_parts.specs.Joined.{AreLabelsOfBoth, longest_both}
 use Rattle.pls_parts.specs.Tagged.{AreOneOf, longest_one_of}
 
 -- how many leaves it has: a verdict names one by its number, from the left
@@ -26,7 +26,8 @@ leaves_of leaf = 1
 
 -- the verdict of the universal scheme of a property on a view
 abbrev pub judge_map : (List Bool → Option (ℕ × List Bool)) → Expression → Seen → Verdict
-judge_map takes property view = judge_by (map_label takes) (map_rules (test_of property)) view
+judge_map takes property view =
+    judge_by (said_by map_shape takes) (map_rules (test_of property)) view
 
 -- the verdict on a view
 abbrev pub judge_of : (List Bool → Option (ℕ × List Bool)) → Expression → Seen → Verdict
@@ -39,14 +40,15 @@ judge_of takes property view = judge_map takes property view
 
 -- each label has the identity of its node and the map of the network
 abbrev pub IsMapMarked : (ℕ → List Bool) → List NodeRow → List (List Bool) → Type 0
-IsMapMarked code rows labels = IsMarkedBy (IsMapLabel code) (map_says rows) rows labels
+IsMapMarked code rows labels =
+    IsMarkedBy (IsSpelled map_shape code) (map_says rows) rows labels
 
 -- each label says what is right for its node: on a connected network with the property there is one
 -- list of such labels, and else nothing follows
 abbrev pub IsMarked : (ℕ → List Bool) → Expression → List NodeRow → List (List Bool) → Type 0
 IsMarked code (Of name) rows labels = IsNamedMarked code name rows labels
 IsMarked code (And first second) rows labels =
-    AreJoined code (IsMarked code first) (IsMarked code second) rows labels
+    AreLabelsOfBoth code (IsMarked code first) (IsMarked code second) rows labels
 IsMarked code (Or first second) rows labels =
     AreOneOf (HasProperty first) (IsMarked code first) (IsMarked code second) rows labels
 IsMarked code property rows labels = IsMapMarked code rows labels

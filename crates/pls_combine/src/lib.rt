@@ -5,12 +5,14 @@
 //! `HasProperty` of `pls_property`). Code above goes through this type. A round of an expression
 //! parts all labels once and judges the parts each in a round of its own.
 //! [`AnyScheme::with_checker`] hands a checker that remembers labels to whoever asks, and
-//! [`AnyScheme::in_code`] changes the number code.
+//! [`AnyScheme::in_code`] changes the number code, and [`AnyScheme::convert_label`] that of a label
+//! (`specs/Converted`).
 //!
 //! Proofs may cite `specs/laws/ExpressionLaws`, and of `proofs/` how long labels are (`Bounds`).
 #![tactic(auto)]
 
 mod any_scheme;
+mod converting;
 mod laws;
 mod remembering;
 mod rounds;

@@ -7,12 +7,13 @@ use Rattle.std.proofs.lemmas.Option.{slice_get-map}
 use Rattle.pls_model.specs.declared.row.State.{State}
 use Rattle.pls_scheme.specs.Reading.{Read, ReadPort, is_pointer, reading}
 use Rattle.pls_scheme.proofs.MorePorts.{all_more, at_pointer_more}
-use Rattle.pls_pointer.specs.Tree.{names_root}
+use Rattle.pls_pointer.specs.declared.tree.TreeLabel.{TreeLabel}
+use Rattle.pls_scheme.specs.Reading.{has_number}
 use Rattle.pls_pointer.specs.declared.tree.TreeLabel.{TreeLabel}
 use Rattle.pls_distance.specs.declared.spt.SptLabel.{SptLabel}
 use Rattle.pls_distance.specs.declared.gathering.Gathered.{Gathered}
 use Rattle.pls_distance.specs.Spt.{agrees_on_its_root, is_beyond_target, is_nearest, is_reached_by, tree_port}
-use Rattle.pls_distance.specs.inner.Gathering.{gathered}
+use Rattle.pls_distance.specs.inner.Gathering.{spt_tally}
 
 module _ (id : ℕ) (state : State) (own : SptLabel) (ports : List (ReadPort SptLabel))
     (port : ReadPort SptLabel) where
@@ -24,8 +25,8 @@ module _ (id : ℕ) (state : State) (own : SptLabel) (ports : List (ReadPort Spt
 
   agrees_more : agrees_on_its_root after
       ≡ (agrees_on_its_root before && (port.label.root == own.root))
-  agrees_more = ap (list_all (names_root own.root)) (map-append tree_port ports (port ∷ []))
-      ∙ all_more (names_root own.root) (map tree_port ports) (tree_port port)
+  agrees_more = ap (list_all (has_number (λ (label : TreeLabel). label.root) own.root)) (map-append tree_port ports (port ∷ []))
+      ∙ all_more (has_number (λ (label : TreeLabel). label.root) own.root) (map tree_port ports) (tree_port port)
 
   nearest_more : is_nearest after
       ≡ (is_nearest before && nat_le own.dist (port.label.dist + port.weight))
@@ -69,7 +70,7 @@ module _ (id : ℕ) (state : State) (own : SptLabel) (ports : List (ReadPort Spt
       by false = sym (follows_both ports)
 
   -- what is gathered with one more port
-  pub is_gathered : (before_it after_it : Gathered) → before_it ≡ gathered before
+  pub is_gathered : (before_it after_it : Gathered) → before_it ≡ spt_tally before
       → after_it.own ≡ before_it.own
       → after_it.agrees ≡ (before_it.agrees && (port.label.root == before_it.own.root))
       → after_it.follows ≡ (if is_pointer state.up (length ports)
@@ -77,9 +78,9 @@ module _ (id : ℕ) (state : State) (own : SptLabel) (ports : List (ReadPort Spt
       && before_it.own.dist == port.label.dist + port.weight) else before_it.follows)
       → after_it.nearest
       ≡ (before_it.nearest && nat_le before_it.own.dist (port.label.dist + port.weight))
-      → after_it ≡ gathered after
+      → after_it ≡ spt_tally after
   is_gathered before_it after_it is own_is agrees_is follows_is nearest_is =
-      four after_it (gathered after)
+      four after_it (spt_tally after)
       (own_is ∙ ap (λ (it : Gathered). it.own) is)
       (agrees_is ∙ ap (λ (it : Gathered). it.agrees && (port.label.root == it.own.root)) is
       ∙ sym agrees_more)

@@ -1,21 +1,18 @@
 -- The scheme of shortest-path trees: what a label says, what a node judges, and the marker's
 -- labels. What labels say of the tree is checked as in the scheme of trees; beside it each node has
 -- its distance from the root (Korman, Kutten and Peleg 2010, where distances are weighted).
-use Rattle.std.specs.Prelude.{◌≡◌, ℕ, ◌+◌, ◌*◌, ◌==◌, nat_le, Bool, true, ◌&&◌, ◌||◌, List, [], ◌∷◌, map, Contains, get_or, Option, None}
+use Rattle.std.specs.Prelude.{◌≡◌, ℕ, ◌+◌, ◌*◌, ◌==◌, nat_le, Bool, true, ◌&&◌, ◌||◌, List, [], ◌∷◌, map, Contains, get_or, None}
 use Rattle.std.specs.List.{list_all}
 use Rattle.std.specs.Option.{option_map_or}
 use Rattle.pls_model.specs.declared.row.NodeRow.{NodeRow}
-use Rattle.pls_model.specs.declared.verdict.Verdict.{Verdict}
 use Rattle.pls_graph.specs.declared.size.Size.{Size}
-use Rattle.pls_view.specs.Seen.{Seen}
-use Rattle.pls_scheme.specs.Length.{codes_length}
-use Rattle.pls_scheme.specs.Marked.{IsMarkedBy}
-use Rattle.pls_scheme.specs.Numbers.{AreCodesOf, label_in}
-use Rattle.pls_scheme.specs.Reading.{Read, ReadPort, judge_by, port_with, reading, target}
+use Rattle.pls_numbers.specs.Fixed.{fixed_shape}
+use Rattle.pls_numbers.specs.Shape.{Shape}
+use Rattle.pls_scheme.specs.Reading.{Read, ReadPort, port_with, reading, target}
 use Rattle.pls_facts.specs.Pointer.{IsChainOf}
 use Rattle.pls_facts.specs.Weight.{walk_weight}
 use Rattle.pls_pointer.specs.Pointing.{points}
-use Rattle.pls_pointer.specs.Tree.{agrees_on_root, is_deeper_in_tree, points_or_is_root, root_says}
+use Rattle.pls_pointer.specs.Tree.{agrees_on_tree_root, is_deeper_in_tree, points_or_is_root, root_says}
 use Rattle.pls_pointer.specs.declared.tree.TreeLabel.{TreeLabel}
 use Rattle.pls_distance.specs.declared.spt.SptLabel.{SptLabel}
 
@@ -31,9 +28,9 @@ far_says root depth dist = record { root = root; depth = depth; dist = dist }
 abbrev pub spt_label : List ℕ → SptLabel
 spt_label list = far_says (get_or list 0 0) (get_or list 1 0) (get_or list 2 0)
 
--- the bits are the codes of the root's identity, the depth and the distance, and nothing more
-abbrev pub IsSptLabel : (ℕ → List Bool) → List Bool → SptLabel → Type 0
-IsSptLabel code bits label = AreCodesOf code (numbers_of_spt label) bits
+-- a label is three numbers, each in code
+abbrev pub spt_shape : Shape SptLabel
+spt_shape = fixed_shape 3 numbers_of_spt spt_label
 
 -- what a label says of the tree
 abbrev pub tree_part : SptLabel → TreeLabel
@@ -50,7 +47,7 @@ tree_reading view =
 
 -- rule 3: every neighbour's root is the own root
 abbrev pub agrees_on_its_root : Read SptLabel → Bool
-agrees_on_its_root view = agrees_on_root (tree_reading view)
+agrees_on_its_root view = agrees_on_tree_root (tree_reading view)
 
 -- rule 4: the node points at a port, or it is the root, of depth 0 and distance 0
 abbrev pub points_or_is_there : Read SptLabel → Bool
@@ -81,10 +78,6 @@ abbrev pub spt_rules : Read SptLabel → List Bool
 spt_rules view =
     agrees_on_its_root view ∷ points_or_is_there view ∷ is_beyond_target view ∷ is_nearest view ∷ []
 
--- what a node judges
-abbrev pub judge_spt : (List Bool → Option (ℕ × List Bool)) → Seen → Verdict
-judge_spt takes view = judge_by (label_in spt_label takes 3) spt_rules view
-
 -- the label of a node is the root's identity, the root being the node without pointer, the length
 -- of the node's chain of pointers, and the weight of the chain
 abbrev pub spt_says : List NodeRow → NodeRow → SptLabel → Type 0
@@ -93,15 +86,7 @@ spt_says rows row label =
     → (label.root ≡ root.id) × (chain : IsChainOf rows row.id root.id label.depth)
     × (label.dist ≡ walk_weight rows row.id chain.nodes)
 
--- so is each label
-abbrev pub IsSptMarked : (ℕ → List Bool) → List NodeRow → List (List Bool) → Type 0
-IsSptMarked code rows labels = IsMarkedBy (IsSptLabel code) (spt_says rows) rows labels
-
 -- no numbers of a marked label are greater: the greatest identity, the number of nodes, and the
 -- greatest weight for each of them
 abbrev pub spt_limits : Size → List ℕ
 spt_limits size = size.max_id ∷ size.nodes ∷ size.nodes * size.max_weight ∷ []
-
--- how many bits a marked label has at most: the codes of these numbers
-abbrev pub longest_spt : (ℕ → List Bool) → Size → ℕ
-longest_spt code size = codes_length code (spt_limits size)

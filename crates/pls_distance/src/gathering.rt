@@ -5,7 +5,7 @@ ghost use Rattle.pls_model.specs.declared.row.State.{State};
 ghost use Rattle.pls_scheme.specs.Reading.{ReadPort, is_pointer, port_with, reading};
 ghost use Rattle.pls_distance.specs.declared.spt.SptLabel.{SptLabel};
 ghost use Rattle.pls_distance.specs.Spt.{spt_rules};
-ghost use Rattle.pls_distance.specs.inner.Gathering.{gathered};
+ghost use Rattle.pls_distance.specs.inner.Gathering.{spt_tally};
 
 use crate::farther::{is_farther_by, is_reached_by};
 use crate::spt::SptLabel;
@@ -27,7 +27,7 @@ pub struct Gathered {
 impl Gathered {
     // Before the first port.
     pub(crate) fn before(own: SptLabel) -> Gathered
-        ensures { (id : ℕ) (state : State) → result ≡ gathered (reading id state own []) }
+        ensures { (id : ℕ) (state : State) → result ≡ spt_tally (reading id state own []) }
     {
         Gathered {
             own,
@@ -46,8 +46,8 @@ impl Gathered {
         label: SptLabel,
     ) -> Gathered
         ensures { (id : ℕ) (state : State) (own : SptLabel) (ports : List (ReadPort SptLabel))
-            → state.up ≡ up → length ports ≡ place → self ≡ gathered (reading id state own ports)
-            → result ≡ gathered (reading id state own (ports ++ port_with weight label ∷ [])) }
+            → state.up ≡ up → length ports ≡ place → self ≡ spt_tally (reading id state own ports)
+            → result ≡ spt_tally (reading id state own (ports ++ port_with weight label ∷ [])) }
     {
         let Gathered {
             own,
@@ -66,7 +66,7 @@ impl Gathered {
     // Which rules hold, of a node with this identity and state that has gathered all its ports.
     pub(crate) fn rules(&self, id: u32, state: State) -> [bool; 4]
         ensures { (own : SptLabel) (ports : List (ReadPort SptLabel))
-            → self.now ≡ gathered (reading id state own ports)
+            → self.now ≡ spt_tally (reading id state own ports)
             → result ≡ spt_rules (reading id state own ports) }
     {
         let is_root = self.own.depth == 0 && u64::from(id) == self.own.root;

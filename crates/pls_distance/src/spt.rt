@@ -5,7 +5,7 @@ use crate::gathering::Gathered;
 use pls_bits::{Bits, NumCode};
 use pls_model::{State, Verdict};
 use pls_scheme::{
-    Basic, Coded, Judgement, JudgesInPlace, Looked, OfNumbers, ReadsInPlace, judged_from,
+    Basic, Fixed, Judgement, JudgesInPlace, Looked, OfNumbers, ReadsInPlace, judged_from,
 };
 use std::marker::PhantomData;
 
@@ -23,7 +23,7 @@ pub struct SptLabel {
 impl OfNumbers<3> for SptLabel {
     ghost use Rattle.std.specs.Prelude.{refl};
     ghost use Rattle.pls_distance.specs.Spt.{numbers_of_spt, spt_label};
-    ghost use Rattle.pls_scheme.specs.laws.CodeLaws.{are_numbers};
+    ghost use Rattle.pls_numbers.specs.laws.FixedLaws.{are_numbers};
 
     ghost numbers = { numbers_of_spt };
 
@@ -48,27 +48,39 @@ pub type Spt<C> = Basic<SptRules<C>>;
 /// The rules of shortest-path trees.
 #[derive(Clone, Copy, Debug, PartialEq, Eq)]
 pub struct SptRules<C> {
+    format: Fixed<SptLabel, 3>,
     code: PhantomData<C>,
 }
 
 impl<C> Default for SptRules<C> {
     fn default() -> Self {
-        SptRules { code: PhantomData }
+        SptRules {
+            format: Fixed::default(),
+            code: PhantomData,
+        }
     }
 }
 
 impl<C: NumCode> Judgement for SptRules<C> {
     ghost use Rattle.pls_distance.specs.Spt.{spt_rules};
 
-    type Layout = Coded<SptLabel, C, 3>;
+    type Code = C;
+
+    type Format = Fixed<SptLabel, 3>;
+
+    ghost format = { λ s. s.format };
 
     ghost rules = { λ _. spt_rules };
+
+    fn format(&self) -> &Fixed<SptLabel, 3> {
+        &self.format
+    }
 }
 
 // The rules need the weight of the port that the node points at, so they gather of each port what
 // they ask of it.
 impl<C: NumCode> JudgesInPlace for SptRules<C> {
-    ghost use Rattle.pls_distance.specs.inner.Gathering.{gathered};
+    ghost use Rattle.pls_distance.specs.inner.Gathering.{spt_tally};
 
     type Glance = SptLabel;
 
@@ -78,10 +90,10 @@ impl<C: NumCode> JudgesInPlace for SptRules<C> {
 
     ghost glance = { λ _ label. label };
 
-    ghost gathered = { λ _ view. gathered view };
+    ghost tally_of = { λ _ view. spt_tally view };
 
     fn look(&self, bits: &Bits<'_>) -> Option<SptLabel> {
-        Coded::<SptLabel, C, 3>::read_in_place(bits)
+        self.format.read_in_place::<C>(bits)
     }
 
     fn open(&self, own: &SptLabel) -> Gathered {

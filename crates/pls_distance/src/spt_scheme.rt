@@ -15,14 +15,15 @@ use std::alloc::Global;
 
 impl<C: NumCode> Marker for SptRules<C> {
     ghost use Rattle.pls_facts.specs.ShortestPath.{IsShortestPathTree};
-    ghost use Rattle.pls_distance.specs.Spt.{longest_spt, spt_says};
+    ghost use Rattle.pls_distance.specs.Spt.{spt_limits, spt_says, spt_shape};
+    ghost use Rattle.pls_scheme.specs.Basic.{longest_by};
     ghost use Rattle.pls_distance.specs.laws.SptLaws.{spt_fits, spt_met, spt_one_right, spt_show};
 
     ghost holds = { λ _ rows. IsShortestPathTree rows };
 
     ghost says = { λ _ rows row label. spt_says rows row label };
 
-    ghost longest = { λ _ size. longest_spt C.code size };
+    ghost longest = { λ _. longest_by spt_shape spt_limits C.code };
 
     fn longest(&self, size: &Size) -> u64 {
         let heaviest = size.nodes.saturating_mul(u64::from(size.max_weight));

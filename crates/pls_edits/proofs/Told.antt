@@ -7,7 +7,7 @@ use Rattle.pls_lines.specs.LineKind.{Always, alone}
 use Rattle.pls_lines.proofs.ListRead.{one_list}
 use Rattle.pls_edits.specs.declared.edit_line.EditLine.{EditLine}
 use Rattle.pls_model.specs.declared.limits.TheConstants.{MAX_LINES, MAX_ROUNDS}
-use Rattle.pls_edits.specs.EditsText.{AreEdits, AreFew, FitsEdit, IsEditsRefusal, IsTold, TellsEdits, WrittenEdits, edit_line, edits_text, rounds_of}
+use Rattle.pls_edits.specs.EditsText.{AreEdits, AreFew, FitsEdit, IsEditsRefusal, HasEdits, TellsEdits, WrittenEdits, edit_line, edits_text, rounds_of}
 use Rattle.pls_edits.specs.laws.EditLaws.{edit_lines, edits_headings, edits_list}
 
 -- one text says one list of lines
@@ -19,7 +19,7 @@ one_told text a b p q =
     (append-nil (edits_text a) ∙ sym p.is ∙ q.is ∙ sym (append-nil (edits_text b))) in
     one.items
 
-module _ (written : WrittenEdits) (told : IsTold written) (lines : List EditLine)
+module _ (written : WrittenEdits) (told : HasEdits written) (lines : List EditLine)
     (tells : TellsEdits written.text lines) where
   same : told.list ≡ lines
   same = one_told written.text _ _ told.tells tells

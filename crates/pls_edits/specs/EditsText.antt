@@ -86,12 +86,12 @@ abbrev pub edits_lines : List EditLine → List (List ℕ)
 edits_lines lines = list_lines (codes "edits") edit_line lines
 
 -- the line is the heading, which is one word and says nothing more
-abbrev pub IsHeading : List ℕ → Type 0
-IsHeading line = Says {X = Headed EditsWord} Always (alone (codes "edits")) line
+abbrev pub IsEditsHeading : List ℕ → Type 0
+IsEditsHeading line = Says {X = Headed EditsWord} Always (alone (codes "edits")) line
 
 -- the lines are those of an edits part
 abbrev pub IsEditsPart : List (List ℕ) → Type 0
-IsEditsPart lines = IsListPart IsHeading edit_line AreEdits lines
+IsEditsPart lines = IsListPart IsEditsHeading edit_line AreEdits lines
 
 -- these are the edits and rounds that the text says
 pub record TellsEdits (text : List ℕ) (lines : List EditLine) : Type 0 where
@@ -107,12 +107,12 @@ pub record WrittenEdits : Type 0 where
   pub rounds : ℕ
 
 -- a text with its heading in this line, so many lines and so many rounds
-abbrev pub kept : List ℕ → ℕ → ℕ → ℕ → WrittenEdits
-kept text number events rounds =
+abbrev pub written_edits : List ℕ → ℕ → ℕ → ℕ → WrittenEdits
+written_edits text number events rounds =
     record { text = text; number = number; events = events; rounds = rounds }
 
 -- the text says some edits and rounds, which are counted
-pub record IsTold (written : WrittenEdits) : Type 0 where
+pub record HasEdits (written : WrittenEdits) : Type 0 where
   pub list : List EditLine
   pub tells : TellsEdits written.text list
   pub events : written.events ≡ counted list

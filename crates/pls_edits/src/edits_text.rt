@@ -23,14 +23,14 @@ pub struct EditsText<'a> {
 }
 
 impl<'a> Model for EditsText<'a> {
-    ghost use Rattle.pls_edits.specs.EditsText.{IsTold, WrittenEdits, kept};
+    ghost use Rattle.pls_edits.specs.EditsText.{HasEdits, WrittenEdits, written_edits};
 
     ghost Value = { WrittenEdits };
 
-    ghost view = { λ text. kept text.part.lines.rest text.part.lines.number
+    ghost view = { λ text. written_edits text.part.lines.rest text.part.lines.number
         text.part.kept.events text.part.kept.rounds };
 
-    ghost invariant = { λ text. IsTold (kept text.part.lines.rest text.part.lines.number
+    ghost invariant = { λ text. HasEdits (written_edits text.part.lines.rest text.part.lines.number
         text.part.kept.events text.part.kept.rounds) };
 }
 

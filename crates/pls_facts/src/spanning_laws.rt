@@ -50,8 +50,8 @@ pub fn cycle_rule(net: &Network)
 }
 
 /// Where each edge of a spanning tree is the first that leaves some set of nodes, in one strict
-/// order of the network's edges in which lighter ones come first, each edge outside is at least as heavy as
-/// every tree edge on the path between its ends, and no spanning tree weighs less.
+/// order of the network's edges in which lighter ones come first, each edge outside is at least as
+/// heavy as every tree edge on the path between its ends, and no spanning tree weighs less.
 pub fn cut_rule(net: &Network)
     ensures heavy { (tree : List Edge) (before : Edge → Edge → Bool)
         → IsSpanningTree (edges_of net.now) tree (ids_of net.now)

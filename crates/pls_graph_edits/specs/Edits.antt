@@ -71,8 +71,8 @@ abbrev pub unlinked : List NodeRow → ℕ → ℕ → List NodeRow
 unlinked rows a b = change_ends losing a b rows
 
 -- a node without ports and pointer
-abbrev pub alone : ℕ → ℕ → ℕ → NodeRow
-alone id mark num =
+abbrev pub lone_node : ℕ → ℕ → ℕ → NodeRow
+lone_node id mark num =
     record { id = id; state = record { up = None; mark = mark; num = num }; ports = [] }
 
 -- a row is put in, in the order of identities
@@ -82,7 +82,7 @@ with_row row rows =
 
 -- a node without ports and pointer comes, in the order of identities
 abbrev pub joined : List NodeRow → ℕ → ℕ → ℕ → List NodeRow
-joined rows id mark num = with_row (alone id mark num) rows
+joined rows id mark num = with_row (lone_node id mark num) rows
 
 -- the node goes
 abbrev pub left : List NodeRow → ℕ → List NodeRow

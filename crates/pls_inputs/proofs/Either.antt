@@ -9,13 +9,13 @@ use Rattle.pls_model.specs.Configuration.{first_of}
 use Rattle.pls_lines.specs.Fault.{NamesFirstFault}
 use Rattle.pls_inputs.specs.declared.parts.Parts.{Parts}
 use Rattle.pls_inputs.specs.declared.texts.Texts.{Texts}
-use Rattle.pls_inputs.specs.Parts.{AreLines, Input, Says}
+use Rattle.pls_inputs.specs.Parts.{AreLines, Input, IsInputText}
 use Rattle.pls_inputs.specs.Order.{IsInputOrNot, refusals}
 use Rattle.pls_inputs.specs.inner.Scanned.{IsScanned}
 
 -- bytes that say something are an input, or something refuses what they say
 said_or_refused : (parts : Parts) (bytes : List ℕ) (input : Input) → length bytes ≤ MAX_INPUT
-    → Says parts bytes input → IsInputOrNot parts bytes
+    → IsInputText parts bytes input → IsInputOrNot parts bytes
 said_or_refused parts bytes input short says = by (first_of (refusals input)) refl
   where
     by : (first : Option TextError) → first_of (refusals input) ≡ first → IsInputOrNot parts bytes

@@ -26,15 +26,15 @@ use Rattle.pls_inputs.specs.declared.texts.Texts.{Texts}
 use Rattle.pls_inputs.specs.declared.input.Input.{Input as Read}
 use Rattle.pls_inputs.specs.Parts.{Has, Input, rows_in}
 use Rattle.pls_inputs.specs.Order.{IsInput, IsNoInput, edits_heading, labels_heading, schedule_heading, limits, refusals, senses}
-use Rattle.pls_inputs.specs.inner.Scanned.{IsScanned, Tells, TellsEditsAt, TellsLabelsAt, TellsScheduleAt, limits_told}
+use Rattle.pls_inputs.specs.inner.Scanned.{IsScanned, TellsIfAny, TellsEditsAt, TellsLabelsAt, TellsScheduleAt, limits_told}
 use Rattle.pls_inputs.specs.Read.{AreEach, IsFirstLine, IsRead, said}
-use Rattle.pls_inputs.specs.inner.Built.{AreBuilt, AreEditsOf, AreEventsOf, AreListed, AreMade, AreRefused, AreUnlisted, AreUnmade, IsBuilt, IsNetOf, IsUnbuilt, first_line_of}
+use Rattle.pls_inputs.specs.inner.Built.{AreBuilt, AreEditsOf, AreEventsOf, AreListed, AreEditsIfAny, AreRefused, AreUnlisted, AreUnmade, IsBuilt, IsNetOf, IsUnbuilt, first_line_of}
 use Rattle.pls_inputs.proofs.WithinLimits.{AreFew, few_in, first_behind, first_in, limits_same}
 
 -- what was built of a part is what its text says
 same_part : {T X : Type 0} (Told Made : T → X → Type 0)
     → ((text : T) (part made : X) → Told text part → Made text made → made ≡ part)
-    → (text : Option T) (made found : Option X) → Tells Told text found → Tells Made text made
+    → (text : Option T) (made found : Option X) → TellsIfAny Told text found → TellsIfAny Made text made
     → made ≡ found
 same_part Told Made one None None None tells built = refl
 same_part Told Made one None None (Some part) tells built = absurd tells
@@ -45,26 +45,26 @@ same_part Told Made one (Some text) (Some made) (Some part) tells built =
     ap Some (one text part made tells built)
 
 network_same : (text : Option WrittenNetwork) (net found : Option (List NodeRow))
-    → Tells TellsNetwork text found → IsBuilt text net → net ≡ found
+    → TellsIfAny TellsNetwork text found → IsBuilt text net → net ≡ found
 network_same text net found tells built =
     same_part TellsNetwork IsNetOf (λ text rows net told of. of.rows rows told) text net found tells
     built
 
 events_same : (line : ℕ) (text : Option WrittenSchedule) (list found : Option (List Event))
-    → Tells (TellsScheduleAt line) text found → AreListed text list → list ≡ found
+    → TellsIfAny (TellsScheduleAt line) text found → AreListed text list → list ≡ found
 events_same line text list found tells listed =
     same_part (TellsScheduleAt line) AreEventsOf (λ text events list told of. of events told.tells)
     text list found tells listed
 
 edits_same : (line : ℕ) (text : Option WrittenEdits) (list found : Option (List EditLine))
-    → Tells (TellsEditsAt line) text found → AreMade text list → list ≡ found
+    → TellsIfAny (TellsEditsAt line) text found → AreEditsIfAny text list → list ≡ found
 edits_same line text list found tells made =
     same_part (TellsEditsAt line) AreEditsOf (λ text edits list told of. of edits told.tells) text
     list found tells made
 
 labels_same : (line : ℕ) (text : Option WrittenLabels) (net : Option (List NodeRow))
     (store : Option (List (List Bool))) (found : Option (List NamedLabel))
-    → (net ≡ None → found ≡ None) → Tells (TellsLabelsAt line) text found
+    → (net ≡ None → found ≡ None) → TellsIfAny (TellsLabelsAt line) text found
     → AreBuilt text net store
     → option_map (named (ids_of (unwrap_or net []))) store ≡ found
 labels_same line None net None None behind tells built = refl
@@ -81,7 +81,7 @@ labels_same line (Some text) (Some net) (Some store) (Some labels) behind tells 
 -- a store that was built has a label for each node
 each_label : (line : ℕ) (text : Option WrittenLabels) (net : Option (List NodeRow))
     (store : Option (List (List Bool))) (found : Option (List NamedLabel))
-    → Tells (TellsLabelsAt line) text found → AreBuilt text net store → AreEach net store
+    → TellsIfAny (TellsLabelsAt line) text found → AreBuilt text net store → AreEach net store
 each_label line text None store found tells built = tt
 each_label line text (Some net) None found tells built = tt
 each_label line None (Some net) (Some store) found tells built = absurd built
@@ -95,8 +95,8 @@ each_label line (Some text) (Some net) (Some store) (Some labels) tells built =
 -- the line of the first event or edit
 line_of : (input : Input) (schedule : Option WrittenSchedule) (edits : Option WrittenEdits)
     (events : Option (List Event)) (lines : Option (List EditLine))
-    → Tells (TellsScheduleAt (schedule_heading input)) schedule events
-    → Tells (TellsEditsAt (edits_heading input)) edits lines
+    → TellsIfAny (TellsScheduleAt (schedule_heading input)) schedule events
+    → TellsIfAny (TellsEditsAt (edits_heading input)) edits lines
     → IsFirstLine events lines input (first_line_of schedule edits)
 line_of input schedule edits None None told tells = tt
 line_of input None edits (Some events) lines told tells = absurd told
@@ -121,7 +121,7 @@ no_labels true of_network labels network behind has have none =
 
 -- a network that was built makes sense
 rows_sense : (text : Option WrittenNetwork) (net found : Option (List NodeRow))
-    → Tells TellsNetwork text found → IsBuilt text net → refusal_of (unwrap_or found []) ≡ None
+    → TellsIfAny TellsNetwork text found → IsBuilt text net → refusal_of (unwrap_or found []) ≡ None
 rows_sense text net None tells built = refl
 rows_sense None net (Some rows) tells built = absurd tells
 rows_sense (Some text) None (Some rows) tells built = absurd built
@@ -140,7 +140,7 @@ misfit_of ids heading labels found few refused =
 labels_sense : (line : ℕ) (text : Option WrittenLabels) (net network : Option (List NodeRow))
     (store : Option (List (List Bool))) (found : Option (List NamedLabel))
     → (net ≡ None → found ≡ None) → net ≡ network
-    → total_bits (unwrap_or found []) ≤ MAX_BITS → Tells (TellsLabelsAt line) text found
+    → total_bits (unwrap_or found []) ≤ MAX_BITS → TellsIfAny (TellsLabelsAt line) text found
     → AreBuilt text net store
     → option_map (misfit_error line)
     (option_and_then (misfit (ids_of (unwrap_or network []))) found) ≡ None
@@ -161,7 +161,7 @@ labels_sense line (Some text) (Some net) network (Some store) (Some labels) behi
 
 -- the rows of a text are refused
 rows_refused : (text : Option WrittenNetwork) (found : Option (List NodeRow)) (error : TextError)
-    → Tells TellsNetwork text found → length (unwrap_or found []) ≤ MAX_NODES
+    → TellsIfAny TellsNetwork text found → length (unwrap_or found []) ≤ MAX_NODES
     → ports_in (unwrap_or found []) ≤ MAX_PORTS → error ≢ NoMemory → IsUnbuilt text error
     → option_map text_error_of (refusal_of (unwrap_or found [])) ≡ Some error
 rows_refused None found error tells nodes ports some refused = absurd (some refused)
@@ -194,7 +194,7 @@ refusal_is ids heading labels NoMemory some refused = absurd (some refl)
 -- the labels of a text are refused
 labels_refused : (line : ℕ) (text : Option WrittenLabels) (net network : Option (List NodeRow))
     (found : Option (List NamedLabel)) (error : TextError) → net ≡ network
-    → total_bits (unwrap_or found []) ≤ MAX_BITS → Tells (TellsLabelsAt line) text found
+    → total_bits (unwrap_or found []) ≤ MAX_BITS → TellsIfAny (TellsLabelsAt line) text found
     → error ≢ NoMemory → AreRefused text net error
     → option_map (misfit_error line)
     (option_and_then (misfit (ids_of (unwrap_or network []))) found) ≡ Some error
@@ -215,7 +215,7 @@ labels_refused line (Some text) (Some net) network (Some labels) error same few 
 -- few events are refused for want of memory alone
 events_unlisted : (line : ℕ) (text : Option WrittenSchedule) (found : Option (List Event))
     (error : TextError) → length (unwrap_or found []) ≤ MAX_LINES
-    → Tells (TellsScheduleAt line) text found → AreUnlisted text error → error ≡ NoMemory
+    → TellsIfAny (TellsScheduleAt line) text found → AreUnlisted text error → error ≡ NoMemory
 events_unlisted line None found error few tells unlisted = unlisted
 events_unlisted line (Some text) None error few tells unlisted = absurd tells
 events_unlisted line (Some text) (Some events) error few tells unlisted =
@@ -230,7 +230,7 @@ events_unlisted line (Some text) (Some events) error few tells unlisted =
 -- and so are few edits
 edits_unmade : (line : ℕ) (text : Option WrittenEdits) (found : Option (List EditLine))
     (error : TextError) → AreFewEdits (unwrap_or found [])
-    → Tells (TellsEditsAt line) text found → AreUnmade text error → error ≡ NoMemory
+    → TellsIfAny (TellsEditsAt line) text found → AreUnmade text error → error ≡ NoMemory
 edits_unmade line None found error few tells unmade = unmade
 edits_unmade line (Some text) None error few tells unmade = absurd tells
 edits_unmade line (Some text) (Some edits) error few tells unmade =
@@ -325,7 +325,7 @@ module _ (parts : Parts) (bytes : List ℕ) (texts : Texts) (scanned : IsScanned
       same_input : (read : Read) → (parts.labels ≡ true → parts.network ≡ true)
           → read.network ≡ net → AreBuilt texts.labels net read.labels
           → AreListed texts.schedule (option_map (λ list. list.items) read.schedule)
-          → AreMade texts.edits (option_map (λ list. list.items) read.edits)
+          → AreEditsIfAny texts.edits (option_map (λ list. list.items) read.edits)
           → said read ≡ scanned.input
       same_input read with_network is labels listed made =
           let input : Input = scanned.input in
@@ -352,7 +352,7 @@ module _ (parts : Parts) (bytes : List ℕ) (texts : Texts) (scanned : IsScanned
       is_input : (read : Read) → (parts.labels ≡ true → parts.network ≡ true)
           → read.network ≡ net → AreBuilt texts.labels net read.labels
           → AreListed texts.schedule (option_map (λ list. list.items) read.schedule)
-          → AreMade texts.edits (option_map (λ list. list.items) read.edits)
+          → AreEditsIfAny texts.edits (option_map (λ list. list.items) read.edits)
           → IsInput parts bytes (said read)
       is_input read with_network is labels listed made =
           let input : Input = scanned.input in
@@ -374,7 +374,7 @@ module _ (parts : Parts) (bytes : List ℕ) (texts : Texts) (scanned : IsScanned
       pub is_read : (read : Read) → (parts.labels ≡ true → parts.network ≡ true)
           → read.network ≡ net → AreBuilt texts.labels net read.labels
           → AreListed texts.schedule (option_map (λ list. list.items) read.schedule)
-          → AreMade texts.edits (option_map (λ list. list.items) read.edits)
+          → AreEditsIfAny texts.edits (option_map (λ list. list.items) read.edits)
           → read.first_line ≡ first_line_of texts.schedule texts.edits
           → IsRead parts bytes read
       is_read read with_network is labels listed made first = record {

@@ -21,7 +21,7 @@ use Rattle.pls_inputs.specs.declared.parts.Parts.{Parts}
 use Rattle.pls_inputs.specs.declared.texts.Texts.{Texts}
 use Rattle.pls_inputs.specs.Parts.{Input, edits_in, events_in, named_in, rows_in}
 use Rattle.pls_inputs.specs.Order.{limits, over}
-use Rattle.pls_inputs.specs.inner.Scanned.{IsScanned, Tells, TellsEditsAt, TellsLabelsAt, TellsScheduleAt, count_in, limits_told}
+use Rattle.pls_inputs.specs.inner.Scanned.{IsScanned, TellsIfAny, TellsEditsAt, TellsLabelsAt, TellsScheduleAt, count_in, limits_told}
 
 -- a count within its limit is no refusal
 pub within : (quantity : Quantity) (most count : ℕ) → count ≤ most → over quantity most count ≡ None
@@ -99,7 +99,7 @@ capped_over quantity most count small =
 
 -- what was counted of a text passes the limit where what it says does
 nodes_told : (text : Option WrittenNetwork) (rows : Option (List NodeRow))
-    → Tells TellsNetwork text rows
+    → TellsIfAny TellsNetwork text rows
     → count_in (λ text. text.nodes) text ≡ length (unwrap_or rows [])
 nodes_told None None tells = refl
 nodes_told None (Some rows) tells = absurd tells
@@ -107,7 +107,7 @@ nodes_told (Some text) None tells = absurd tells
 nodes_told (Some text) (Some rows) tells = tells.nodes
 
 ports_told : (text : Option WrittenNetwork) (rows : Option (List NodeRow))
-    → Tells TellsNetwork text rows
+    → TellsIfAny TellsNetwork text rows
     → count_in (λ text. text.ports) text ≡ ports_in (unwrap_or rows [])
 ports_told None None tells = refl
 ports_told None (Some rows) tells = absurd tells
@@ -115,7 +115,7 @@ ports_told (Some text) None tells = absurd tells
 ports_told (Some text) (Some rows) tells = tells.ports
 
 bits_told : (line : ℕ) (text : Option WrittenLabels) (labels : Option (List NamedLabel))
-    → Tells (TellsLabelsAt line) text labels
+    → TellsIfAny (TellsLabelsAt line) text labels
     → over Bits MAX_BITS (count_in (λ text. text.bits) text)
     ≡ over Bits MAX_BITS (total_bits (unwrap_or labels []))
 bits_told line None None tells = refl
@@ -126,7 +126,7 @@ bits_told line (Some text) (Some labels) tells =
     ∙ capped_over Bits MAX_BITS (total_bits labels) (omega arith)
 
 events_told : (line : ℕ) (text : Option WrittenSchedule) (events : Option (List Event))
-    → Tells (TellsScheduleAt line) text events
+    → TellsIfAny (TellsScheduleAt line) text events
     → over Events MAX_LINES (count_in (λ text. text.events) text)
     ≡ over Events MAX_LINES (length (unwrap_or events []))
 events_told line None None tells = refl
@@ -137,7 +137,7 @@ events_told line (Some text) (Some events) tells =
     ∙ capped_over Events MAX_LINES (length events) (omega arith)
 
 lines_told : (line : ℕ) (text : Option WrittenEdits) (edits : Option (List EditLine))
-    → Tells (TellsEditsAt line) text edits
+    → TellsIfAny (TellsEditsAt line) text edits
     → over Events MAX_LINES (count_in (λ text. text.events) text)
     ≡ over Events MAX_LINES (length (unwrap_or edits []))
 lines_told line None None tells = refl
@@ -148,7 +148,7 @@ lines_told line (Some text) (Some edits) tells =
     ∙ capped_over Events MAX_LINES (length edits) (omega arith)
 
 rounds_told : (line : ℕ) (text : Option WrittenEdits) (edits : Option (List EditLine))
-    → Tells (TellsEditsAt line) text edits
+    → TellsIfAny (TellsEditsAt line) text edits
     → over Rounds MAX_ROUNDS (count_in (λ text. text.rounds) text)
     ≡ over Rounds MAX_ROUNDS (length (rounds_of (unwrap_or edits [])))
 rounds_told line None None tells = refl

@@ -16,7 +16,7 @@ use Rattle.pls_labelfile.specs.Refusal.{misfit_error}
 use Rattle.pls_schedule.specs.ScheduleText.{schedule_lines}
 use Rattle.pls_edits.specs.EditsText.{rounds_of}
 use Rattle.pls_inputs.specs.declared.parts.Parts.{Parts}
-use Rattle.pls_inputs.specs.Parts.{AreLines, Input, Says, edits_in, events_in, lines_of, named_in, rows_in}
+use Rattle.pls_inputs.specs.Parts.{AreLines, Input, IsInputText, edits_in, events_in, lines_of, named_in, rows_in}
 
 -- the line of the heading of a part: the next behind all parts in front of it
 abbrev pub labels_heading : Input → ℕ
@@ -59,13 +59,13 @@ refusals input = limits input ++ senses input
 -- the bytes are an input: they say it, within the limit on bytes, and no refusal occurs
 pub record IsInput (parts : Parts) (bytes : List ℕ) (input : Input) : Type 0 where
   pub short : length bytes ≤ MAX_INPUT
-  pub says : Says parts bytes input
+  pub says : IsInputText parts bytes input
   pub accepted : first_of (refusals input) ≡ None
 
 -- the bytes say something that is refused
 pub record RefusesParts (parts : Parts) (bytes : List ℕ) (error : TextError) : Type 0 where
   pub input : Input
-  pub says : Says parts bytes input
+  pub says : IsInputText parts bytes input
   pub first : first_of (refusals input) ≡ Some error
 
 -- the bytes are no input: they are too many, or else by their first faulty line, or else by what

@@ -1,7 +1,7 @@
 //! What the texts of parts say, as values in memory.
 
 ghost use Rattle.std.specs.Prelude.{IfErr, IfOk, option_map};
-ghost use Rattle.pls_inputs.specs.inner.Built.{AreBuilt, AreListed, AreMade, AreRefused, AreUnlisted, AreUnmade, IsBuilt, IsUnbuilt};
+ghost use Rattle.pls_inputs.specs.inner.Built.{AreBuilt, AreListed, AreEditsIfAny, AreRefused, AreUnlisted, AreUnmade, IsBuilt, IsUnbuilt};
 
 use pls_base::TextError;
 use pls_edits::{EditLine, EditsText};
@@ -63,7 +63,7 @@ pub(crate) fn list_edits(
     edits: &Option<EditsText<'_>>,
 ) -> Result<Option<Vec<EditLine>>, TextError>
     ensures made { IfOk result
-        (λ list. AreMade edits.now (option_map (λ list. list.items) list)) }
+        (λ list. AreEditsIfAny edits.now (option_map (λ list. list.items) list)) }
     ensures refused { IfErr result (λ error. AreUnmade edits.now error) }
 {
     match edits {

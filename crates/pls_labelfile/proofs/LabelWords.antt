@@ -6,7 +6,7 @@ use Rattle.pls_lines.specs.ListPart.{Remains, to_end}
 use Rattle.pls_lines.specs.laws.LineWords.{same_head}
 use Rattle.pls_labelfile.specs.LabelsText.{NamedLabel, FitsLabel, hex_word, label_line, label_of_words}
 use Rattle.pls_labelfile.specs.inner.HexWord.{IsHexWord, SaysLabels, word_bits, word_length}
-use Rattle.pls_labelfile.specs.laws.LabelLaws.{same_words, word_long}
+use Rattle.pls_labelfile.specs.laws.LabelLaws.{same_label_words, word_long}
 use Rattle.pls_labelfile.proofs.HexWords.{word_is, bits_long}
 
 module _ (text : List ℕ) (id len : ℕ) (hex rest : List ℕ) (small : id < 2 ^ 32)
@@ -16,7 +16,7 @@ module _ (text : List ℕ) (id len : ℕ) (hex rest : List ℕ) (small : id < 2 
   pub says_hex : (label : NamedLabel) (after : List ℕ) → FitsLabel label
       → text ≡ label_line label ++ 10 ∷ after → IsHexWord len hex
   says_hex label after fits is =
-      let same = same_words text id label.id len (length label.bits) hex (hex_word label.bits)
+      let same = same_label_words text id label.id len (length label.bits) hex (hex_word label.bits)
       rest after small fits.id short fits.short long (word_long label.bits) stands is in
       record { bits = label.bits; long = sym same.len; is = sym same.hex }
 

@@ -8,7 +8,7 @@ use Rattle.pls_lines.specs.ListPart.{PassesList, Remains, TellsItems}
 use Rattle.pls_lines.specs.laws.ListLaws.{is_list_part}
 use Rattle.pls_lines.proofs.ListRead.{one_list}
 use Rattle.pls_labelfile.specs.LabelsText.{NamedLabel, FitsLabel, AreLabels, IsLabelsPart, label_line, labels_lines, labels_text}
-use Rattle.pls_labelfile.specs.LabelsScan.{PassesPart, TellsLabels, kept}
+use Rattle.pls_labelfile.specs.LabelsScan.{PassesPart, TellsLabels, written_labels}
 use Rattle.pls_labelfile.specs.inner.LabelsTally.{labels_tally}
 use Rattle.pls_labelfile.specs.laws.LabelLaws.{label_lines, labels_headings, labels_list, labels_some_part}
 use Rattle.pls_labelfile.specs.declared.labels_tally.LabelsHeading.{LabelsHeading}
@@ -51,7 +51,7 @@ tells_items text heading labels tells = record { headed = tt; are = tells.fits; 
 pub part_passed : (old new at : Left) (heading : LabelsHeading) (tally : LabelsTally)
     → PassesList Always (alone (codes "labels")) label_line AreLabels labels_tally old new heading
     at tally
-    → PassesPart old new (kept at.rest at.number tally.bits)
+    → PassesPart old new (written_labels at.rest at.number tally.bits)
 part_passed old new at heading tally part =
     let counted = part.counted in
     record {

@@ -5,14 +5,14 @@ use Rattle.std.proofs.lemmas.Bool.{lt-ltb, le-ltb}
 use Rattle.pls_base.specs.declared.text_error.TextError.TheVariants.{Limit}
 use Rattle.pls_base.specs.declared.text_error.Quantity.TheVariants.{Bits}
 use Rattle.pls_labelfile.specs.LabelsText.{NamedLabel}
-use Rattle.pls_labelfile.specs.LabelsScan.{IsTold, TellsLabels, WrittenLabels, total_bits}
+use Rattle.pls_labelfile.specs.LabelsScan.{HasLabels, TellsLabels, WrittenLabels, total_bits}
 use Rattle.pls_base.specs.Steps.{capped}
 use Rattle.pls_labelfile.specs.Misfit.{misfit}
 use Rattle.pls_labelfile.specs.Refusal.{misfit_error, labels_refusal}
 use Rattle.pls_labelfile.proofs.LabelsPart.{one_told}
 
 -- the sum of the lengths that was kept is that of the labels
-kept_sum : (written : WrittenLabels) → IsTold written → (labels : List NamedLabel)
+kept_sum : (written : WrittenLabels) → HasLabels written → (labels : List NamedLabel)
     → TellsLabels written.text labels
     → written.bits ≡ capped (total_bits labels)
 kept_sum written told labels tells =
@@ -20,7 +20,7 @@ kept_sum written told labels tells =
     (one_told written.text told.labels labels told.tells tells)
 
 -- the labels have too many bits
-pub over_limit : (ids : List ℕ) (written : WrittenLabels) → IsTold written → 2 ^ 28 < written.bits
+pub over_limit : (ids : List ℕ) (written : WrittenLabels) → HasLabels written → 2 ^ 28 < written.bits
     → (labels : List NamedLabel) → TellsLabels written.text labels
     → labels_refusal ids written.number labels ≡ Some (Limit Bits)
 over_limit ids written told over labels tells =
@@ -29,7 +29,7 @@ over_limit ids written told over labels tells =
     rw test refl
 
 -- the labels have few enough bits, and the nodes decide
-pub within_limit : (ids : List ℕ) (written : WrittenLabels) → IsTold written → written.bits ≤ 2 ^ 28
+pub within_limit : (ids : List ℕ) (written : WrittenLabels) → HasLabels written → written.bits ≤ 2 ^ 28
     → (labels : List NamedLabel) → TellsLabels written.text labels
     → labels_refusal ids written.number labels
     ≡ option_map (misfit_error written.number) (misfit ids labels)

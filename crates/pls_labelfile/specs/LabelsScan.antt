@@ -15,8 +15,8 @@ pub record WrittenLabels : Type 0 where
   pub bits : ℕ
 
 -- a text with its heading in this line, and so many bits
-abbrev pub kept : List ℕ → ℕ → ℕ → WrittenLabels
-kept text number bits = record { text = text; number = number; bits = bits }
+abbrev pub written_labels : List ℕ → ℕ → ℕ → WrittenLabels
+written_labels text number bits = record { text = text; number = number; bits = bits }
 
 -- these are the labels that the text says
 pub record TellsLabels (text : List ℕ) (labels : List NamedLabel) : Type 0 where
@@ -24,7 +24,7 @@ pub record TellsLabels (text : List ℕ) (labels : List NamedLabel) : Type 0 whe
   pub is : text ≡ labels_text labels
 
 -- the text says some labels, and their bits are counted
-pub record IsTold (written : WrittenLabels) : Type 0 where
+pub record HasLabels (written : WrittenLabels) : Type 0 where
   pub labels : List NamedLabel
   pub tells : TellsLabels written.text labels
   pub sum : written.bits ≡ capped (total_bits labels)

@@ -14,14 +14,16 @@ pub struct LabelsText<'a> {
 }
 
 impl<'a> Model for LabelsText<'a> {
-    ghost use Rattle.pls_labelfile.specs.LabelsScan.{IsTold, WrittenLabels, kept};
+    ghost use Rattle.pls_labelfile.specs.LabelsScan.{HasLabels, WrittenLabels, written_labels};
 
     ghost Value = { WrittenLabels };
 
-    ghost view = { λ text. kept text.part.lines.rest text.part.lines.number text.part.kept.bits };
+    ghost view = { λ text. written_labels text.part.lines.rest text.part.lines.number
+        text.part.kept.bits };
 
     ghost invariant = { λ text.
-        IsTold (kept text.part.lines.rest text.part.lines.number text.part.kept.bits) };
+        HasLabels (written_labels text.part.lines.rest text.part.lines.number
+        text.part.kept.bits) };
 }
 
 impl<'a> LabelsText<'a> {

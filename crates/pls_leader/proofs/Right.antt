@@ -15,7 +15,7 @@ use Rattle.pls_facts.specs.Leader.{is_leader}
 use Rattle.pls_facts.specs.OnlyNode.{IsOnly}
 use Rattle.pls_facts.proofs.Levels.{known_level}
 use Rattle.pls_facts.proofs.OnlyNode.{the_only}
-use Rattle.pls_leader.specs.Leader.{leader_says, root_says}
+use Rattle.pls_leader.specs.Leader.{leader_says, leader_at}
 use Rattle.pls_leader.specs.inner.LevelsFrom.{AreLevelsFrom}
 
 -- in a connected network the levels that are found are those of all nodes
@@ -63,12 +63,12 @@ module _ (rows : List NodeRow) (net : IsNetwork rows) (leader : ℕ)
   -- what the marker writes
   pub leader_right : (place : ℕ) → position (λ row. leader == row.id) rows ≡ Some place
       → (levels : List ℕ) → AreLevelsFrom rows place levels
-      → AreRight (leader_says rows) rows (map (root_says leader) levels)
+      → AreRight (leader_says rows) rows (map (leader_at leader) levels)
   leader_right place is levels from =
-      right_map (leader_says rows) rows (root_says leader) levels from.each right
+      right_map (leader_says rows) rows (leader_at leader) levels from.each right
     where
       right : (i : ℕ) (row : NodeRow) (level : ℕ) → slice_get rows i ≡ Some row
-          → slice_get levels i ≡ Some level → leader_says rows row (root_says leader level)
+          → slice_get levels i ≡ Some level → leader_says rows row (leader_at leader level)
       right i row level at has other other_in marked =
           let (j, there) : (j : ℕ) × (slice_get rows j ≡ Some other) =
           place_from_Contains rows other other_in in

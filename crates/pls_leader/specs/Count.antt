@@ -1,19 +1,16 @@
 -- The scheme of the number of nodes: what a label says, what a node judges, and the marker's
 -- labels. The property is that each node's number is the number of nodes; it shows by sizes that
 -- are summed along a tree (Korman, Kutten and Peleg 2010).
-use Rattle.std.specs.Prelude.{◌≡◌, ◌≢◌, ℕ, ◌+◌, ◌≤◌, ◌==◌, nat_lt, Bool, ◌&&◌, ◌||◌, List, [], ◌∷◌, length, sum_by, slice_get, Contains, get_or, Option, Some}
+use Rattle.std.specs.Prelude.{◌≡◌, ◌≢◌, ℕ, ◌+◌, ◌≤◌, ◌==◌, nat_lt, Bool, ◌&&◌, ◌||◌, List, [], ◌∷◌, length, sum_by, slice_get, Contains, get_or, Some}
 use Rattle.std.specs.List.{filter, list_all, list_any}
 use Rattle.pls_model.specs.declared.row.NodeRow.{NodeRow}
-use Rattle.pls_model.specs.declared.verdict.Verdict.{Verdict}
 use Rattle.pls_model.specs.Configuration.{ids_of}
 use Rattle.pls_model.specs.Walk.{Adjacent, edges_of}
 use Rattle.pls_graph.specs.Levels.{IsLevel}
 use Rattle.pls_graph.specs.declared.size.Size.{Size}
-use Rattle.pls_view.specs.Seen.{Seen}
-use Rattle.pls_scheme.specs.Length.{codes_length}
-use Rattle.pls_scheme.specs.Marked.{IsMarkedBy}
-use Rattle.pls_scheme.specs.Numbers.{AreCodesOf, label_in}
-use Rattle.pls_scheme.specs.Reading.{Read, ReadPort, judge_by}
+use Rattle.pls_numbers.specs.Fixed.{fixed_shape}
+use Rattle.pls_numbers.specs.Shape.{Shape}
+use Rattle.pls_scheme.specs.Reading.{Read, ReadPort}
 use Rattle.pls_facts.specs.Parents.{AreSoMany, ChainMeets}
 use Rattle.pls_leader.specs.declared.count.CountLabel.{CountLabel}
 use Rattle.pls_leader.specs.Rooted.{is_0_at_root_alone}
@@ -34,9 +31,9 @@ count_label list =
     count_of (get_or list 0 0) (get_or list 1 0) (get_or list 2 0) (get_or list 3 0)
     (get_or list 4 0) (get_or list 5 0)
 
--- the bits are the codes of the label's numbers, and nothing more
-abbrev pub IsCountLabel : (ℕ → List Bool) → List Bool → CountLabel → Type 0
-IsCountLabel code bits label = AreCodesOf code (numbers_of_count label) bits
+-- a label is six numbers, each in code
+abbrev pub count_shape : Shape CountLabel
+count_shape = fixed_shape 6 numbers_of_count count_label
 
 -- the neighbour has this root and this total
 abbrev pub names_root_and_total : CountLabel → ReadPort CountLabel → Bool
@@ -59,12 +56,12 @@ abbrev pub agrees_on_count : Read CountLabel → Bool
 agrees_on_count view = list_all (names_root_and_total view.own) view.ports
 
 -- rule 4: own is the identity, and the total is the node's number
-abbrev pub names_itself : Read CountLabel → Bool
-names_itself view = view.own.own == view.id && view.own.total == view.state.num
+abbrev pub names_itself_and_total : Read CountLabel → Bool
+names_itself_and_total view = view.own.own == view.id && view.own.total == view.state.num
 
 -- rule 5: the depth is 0 exactly where the identity is the root
-abbrev pub is_root_at_0 : Read CountLabel → Bool
-is_root_at_0 view = is_0_at_root_alone view.id view.own.root view.own.depth
+abbrev pub count_root_is_at_0 : Read CountLabel → Bool
+count_root_is_at_0 view = is_0_at_root_alone view.id view.own.root view.own.depth
 
 -- rule 6: the depth is above 0, or the parent is the node itself and the size is the total
 abbrev pub is_below_or_whole : Read CountLabel → Bool
@@ -82,12 +79,8 @@ is_summed view = view.own.size == children_sizes view.id view.ports + 1
 -- the rules from 3 on
 abbrev pub count_rules : Read CountLabel → List Bool
 count_rules view =
-    agrees_on_count view ∷ names_itself view ∷ is_root_at_0 view ∷ is_below_or_whole view
+    agrees_on_count view ∷ names_itself_and_total view ∷ count_root_is_at_0 view ∷ is_below_or_whole view
     ∷ falls_to_parent view ∷ is_summed view ∷ []
-
--- what a node judges
-abbrev pub judge_count : (List Bool → Option (ℕ × List Bool)) → Seen → Verdict
-judge_count takes view = judge_by (label_in count_label takes 6) count_rules view
 
 -- one node is one edge nearer to the root than another
 abbrev pub IsOneNearer : List NodeRow → ℕ → ℕ → ℕ → Type 0
@@ -120,15 +113,7 @@ abbrev pub count_says : List NodeRow → NodeRow → CountLabel → Type 0
 count_says rows row label =
     (first : NodeRow) → slice_get rows 0 ≡ Some first → IsCounted rows first.id row label
 
--- so is each label
-abbrev pub IsCountMarked : (ℕ → List Bool) → List NodeRow → List (List Bool) → Type 0
-IsCountMarked code rows labels = IsMarkedBy (IsCountLabel code) (count_says rows) rows labels
-
 -- no numbers of a marked label are greater: the greatest identity, and the number of nodes
 abbrev pub count_limits : Size → List ℕ
 count_limits size =
     size.max_id ∷ size.max_id ∷ size.max_id ∷ size.nodes ∷ size.nodes ∷ size.nodes ∷ []
-
--- how many bits a marked label has at most: the codes of these numbers
-abbrev pub longest_count : (ℕ → List Bool) → Size → ℕ
-longest_count code size = codes_length code (count_limits size)

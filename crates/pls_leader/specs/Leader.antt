@@ -1,18 +1,15 @@
 -- The scheme of one leader: what a label says, what a node judges, and the marker's labels. The
 -- property is that exactly one node has mark 1 (Korman, Kutten and Peleg 2010, the leader scheme).
-use Rattle.std.specs.Prelude.{◌≡◌, ℕ, ◌+◌, ◌==◌, Bool, ◌||◌, List, [], ◌∷◌, Contains, get_or, Option, true}
+use Rattle.std.specs.Prelude.{◌≡◌, ℕ, ◌+◌, ◌==◌, Bool, ◌||◌, List, [], ◌∷◌, Contains, get_or, true}
 use Rattle.std.specs.Bool.{beq}
-use Rattle.std.specs.List.{list_all, list_any}
+use Rattle.std.specs.List.{list_any}
 use Rattle.pls_model.specs.declared.row.NodeRow.{NodeRow}
-use Rattle.pls_model.specs.declared.verdict.Verdict.{Verdict}
 use Rattle.pls_model.specs.Walk.{edges_of}
 use Rattle.pls_graph.specs.Levels.{IsLevel}
 use Rattle.pls_graph.specs.declared.size.Size.{Size}
-use Rattle.pls_view.specs.Seen.{Seen}
-use Rattle.pls_scheme.specs.Length.{codes_length}
-use Rattle.pls_scheme.specs.Marked.{IsMarkedBy}
-use Rattle.pls_scheme.specs.Numbers.{AreCodesOf, label_in}
-use Rattle.pls_scheme.specs.Reading.{Read, ReadPort, judge_by}
+use Rattle.pls_numbers.specs.Fixed.{fixed_shape}
+use Rattle.pls_numbers.specs.Shape.{Shape}
+use Rattle.pls_scheme.specs.Reading.{Read, ReadPort, agrees_on}
 use Rattle.pls_facts.specs.Leader.{is_leader}
 use Rattle.pls_leader.specs.declared.leader.LeaderLabel.{LeaderLabel}
 use Rattle.pls_leader.specs.Rooted.{is_0_at_root_alone}
@@ -22,32 +19,28 @@ abbrev pub numbers_of_leader : LeaderLabel → List ℕ
 numbers_of_leader label = label.root ∷ label.depth ∷ []
 
 -- the label of a root and a depth
-abbrev pub root_says : ℕ → ℕ → LeaderLabel
-root_says root depth = record { root = root; depth = depth }
+abbrev pub leader_at : ℕ → ℕ → LeaderLabel
+leader_at root depth = record { root = root; depth = depth }
 
 -- the label of two numbers
 abbrev pub leader_label : List ℕ → LeaderLabel
-leader_label list = root_says (get_or list 0 0) (get_or list 1 0)
+leader_label list = leader_at (get_or list 0 0) (get_or list 1 0)
 
--- the bits are the codes of the root's identity and of the node's depth, and nothing more
-abbrev pub IsLeaderLabel : (ℕ → List Bool) → List Bool → LeaderLabel → Type 0
-IsLeaderLabel code bits label = AreCodesOf code (numbers_of_leader label) bits
-
--- the neighbour's root is this one
-abbrev pub names_root : ℕ → ReadPort LeaderLabel → Bool
-names_root root port = port.label.root == root
+-- a label is two numbers, each in code
+abbrev pub leader_shape : Shape LeaderLabel
+leader_shape = fixed_shape 2 numbers_of_leader leader_label
 
 -- the neighbour is one less deep than this
 abbrev pub is_one_less_deep : ℕ → ReadPort LeaderLabel → Bool
 is_one_less_deep depth port = depth == port.label.depth + 1
 
 -- rule 3: every neighbour's root is the own root
-abbrev pub agrees_on_root : Read LeaderLabel → Bool
-agrees_on_root view = list_all (names_root view.own.root) view.ports
+abbrev pub agrees_on_leader : Read LeaderLabel → Bool
+agrees_on_leader view = agrees_on (λ label. label.root) view
 
 -- rule 4: the depth is 0 exactly where the identity is the root
-abbrev pub is_root_at_0 : Read LeaderLabel → Bool
-is_root_at_0 view = is_0_at_root_alone view.id view.own.root view.own.depth
+abbrev pub leader_is_root_at_0 : Read LeaderLabel → Bool
+leader_is_root_at_0 view = is_0_at_root_alone view.id view.own.root view.own.depth
 
 -- rule 5: the depth is 0, or some neighbour is one less deep
 abbrev pub falls_to_root : Read LeaderLabel → Bool
@@ -61,11 +54,7 @@ is_leader_at_0 view = beq (is_leader view.state) (view.own.depth == 0)
 -- the rules from 3 on
 abbrev pub leader_rules : Read LeaderLabel → List Bool
 leader_rules view =
-    agrees_on_root view ∷ is_root_at_0 view ∷ falls_to_root view ∷ is_leader_at_0 view ∷ []
-
--- what a node judges
-abbrev pub judge_leader : (List Bool → Option (ℕ × List Bool)) → Seen → Verdict
-judge_leader takes view = judge_by (label_in leader_label takes 2) leader_rules view
+    agrees_on_leader view ∷ leader_is_root_at_0 view ∷ falls_to_root view ∷ is_leader_at_0 view ∷ []
 
 -- the label of a node is the leader's identity, and the fewest edges from the leader
 abbrev pub leader_says : List NodeRow → NodeRow → LeaderLabel → Type 0
@@ -73,14 +62,6 @@ leader_says rows row label =
     (leader : NodeRow) → Contains rows leader → is_leader leader.state ≡ true
     → (label.root ≡ leader.id) × IsLevel (edges_of rows) leader.id row.id label.depth
 
--- so is each label
-abbrev pub IsLeaderMarked : (ℕ → List Bool) → List NodeRow → List (List Bool) → Type 0
-IsLeaderMarked code rows labels = IsMarkedBy (IsLeaderLabel code) (leader_says rows) rows labels
-
 -- no numbers of a marked label are greater: the greatest identity, and the number of nodes
 abbrev pub leader_limits : Size → List ℕ
 leader_limits size = size.max_id ∷ size.nodes ∷ []
-
--- how many bits a marked label has at most: the codes of these numbers
-abbrev pub longest_leader : (ℕ → List Bool) → Size → ℕ
-longest_leader code size = codes_length code (leader_limits size)

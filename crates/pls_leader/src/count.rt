@@ -8,7 +8,7 @@ ghost use Rattle.pls_scheme.specs.Reading.{port_with};
 use crate::rooted::is_0_at_root_alone;
 use pls_bits::NumCode;
 use pls_model::State;
-use pls_scheme::{Coded, Judgement, OfNumbers, Ruled, Rules, Verdict, is_one_more, judged_from};
+use pls_scheme::{Fixed, Judgement, OfNumbers, Ruled, Rules, Verdict, is_one_more, judged_from};
 use std::marker::PhantomData;
 
 /// What a label says.
@@ -68,21 +68,33 @@ pub type Count<C> = Ruled<CountRules<C>>;
 /// The rules of the number of nodes.
 #[derive(Clone, Copy, Debug, PartialEq, Eq)]
 pub struct CountRules<C> {
+    format: Fixed<CountLabel, 6>,
     code: PhantomData<C>,
 }
 
 impl<C> Default for CountRules<C> {
     fn default() -> Self {
-        CountRules { code: PhantomData }
+        CountRules {
+            format: Fixed::default(),
+            code: PhantomData,
+        }
     }
 }
 
 impl<C: NumCode> Judgement for CountRules<C> {
     ghost use Rattle.pls_leader.specs.Count.{count_rules};
 
-    type Layout = Coded<CountLabel, C, 6>;
+    type Code = C;
+
+    type Format = Fixed<CountLabel, 6>;
+
+    ghost format = { λ s. s.format };
 
     ghost rules = { λ _. count_rules };
+
+    fn format(&self) -> &Fixed<CountLabel, 6> {
+        &self.format
+    }
 }
 
 /// What the rules need of the neighbours.
@@ -142,7 +154,7 @@ impl<C: NumCode> Rules for CountRules<C> {
             3,
             &[
                 tally.agree,
-                names_itself(id, state, own),
+                names_itself_and_total(id, state, own),
                 is_0_at_root_alone(id, own.root, own.depth),
                 is_below_or_whole(id, own),
                 own.depth == 0 || tally.falls,
@@ -174,7 +186,7 @@ fn is_own_child(own: &CountLabel, weight: u32, label: &CountLabel) -> bool
 }
 
 // Rule 4: own is the identity, and the total is the node's number.
-fn names_itself(id: u32, state: State, own: &CountLabel) -> bool
+fn names_itself_and_total(id: u32, state: State, own: &CountLabel) -> bool
     ensures { result ≡ (own.now.own == id && own.now.total == state.num) }
 {
     own.own == u64::from(id) && own.total == state.num

@@ -22,7 +22,8 @@ use std::alloc::Global;
 
 impl<C: NumCode> Marker for CountRules<C> {
     ghost use Rattle.pls_facts.specs.NodeCount.{AreCounted};
-    ghost use Rattle.pls_leader.specs.Count.{count_says, longest_count};
+    ghost use Rattle.pls_leader.specs.Count.{count_limits, count_says, count_shape};
+    ghost use Rattle.pls_scheme.specs.Basic.{longest_by};
     ghost use Rattle.pls_leader.specs.laws.CountShow.{count_show};
     ghost use Rattle.pls_leader.specs.laws.CountLaws.{count_fits, count_met, count_one_right};
 
@@ -30,7 +31,7 @@ impl<C: NumCode> Marker for CountRules<C> {
 
     ghost says = { λ _ rows row label. count_says rows row label };
 
-    ghost longest = { λ _ size. longest_count C.code size };
+    ghost longest = { λ _. longest_by count_shape count_limits C.code };
 
     fn longest(&self, size: &Size) -> u64 {
         let id = u64::from(size.max_id);

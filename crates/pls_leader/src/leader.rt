@@ -6,7 +6,7 @@ ghost use Rattle.std.specs.Bool.{beq};
 use crate::rooted::is_0_at_root_alone;
 use pls_bits::NumCode;
 use pls_model::State;
-use pls_scheme::{Coded, Judgement, OfNumbers, Ruled, Rules, Verdict, is_one_more, judged_from};
+use pls_scheme::{Fixed, Judgement, OfNumbers, Ruled, Rules, Verdict, is_one_more, judged_from};
 use std::marker::PhantomData;
 
 /// What a label says.
@@ -21,7 +21,7 @@ pub struct LeaderLabel {
 impl OfNumbers<2> for LeaderLabel {
     ghost use Rattle.std.specs.Prelude.{refl};
     ghost use Rattle.pls_leader.specs.Leader.{leader_label, numbers_of_leader};
-    ghost use Rattle.pls_scheme.specs.laws.CodeLaws.{are_numbers};
+    ghost use Rattle.pls_numbers.specs.laws.FixedLaws.{are_numbers};
 
     ghost numbers = { numbers_of_leader };
 
@@ -46,21 +46,33 @@ pub type Leader<C> = Ruled<LeaderRules<C>>;
 /// The rules of one leader.
 #[derive(Clone, Copy, Debug, PartialEq, Eq)]
 pub struct LeaderRules<C> {
+    format: Fixed<LeaderLabel, 2>,
     code: PhantomData<C>,
 }
 
 impl<C> Default for LeaderRules<C> {
     fn default() -> Self {
-        LeaderRules { code: PhantomData }
+        LeaderRules {
+            format: Fixed::default(),
+            code: PhantomData,
+        }
     }
 }
 
 impl<C: NumCode> Judgement for LeaderRules<C> {
     ghost use Rattle.pls_leader.specs.Leader.{leader_rules};
 
-    type Layout = Coded<LeaderLabel, C, 2>;
+    type Code = C;
+
+    type Format = Fixed<LeaderLabel, 2>;
+
+    ghost format = { λ s. s.format };
 
     ghost rules = { λ _. leader_rules };
+
+    fn format(&self) -> &Fixed<LeaderLabel, 2> {
+        &self.format
+    }
 }
 
 /// What the rules need of the neighbours.
@@ -74,12 +86,13 @@ pub struct Around {
 
 impl<C: NumCode> Rules for LeaderRules<C> {
     ghost use Rattle.std.specs.List.{list_all, list_any};
-    ghost use Rattle.pls_leader.specs.Leader.{is_one_less_deep, names_root};
+    ghost use Rattle.pls_leader.specs.Leader.{is_one_less_deep};
+    ghost use Rattle.pls_scheme.specs.Reading.{has_number};
 
     type Tally = Around;
 
     ghost tallied = { λ _ own ports. record {
-      agree = list_all (names_root own.root) ports;
+      agree = list_all (has_number (λ label. label.root) own.root) ports;
       falls = list_any (is_one_less_deep own.depth) ports;
     } };
 

@@ -1,7 +1,7 @@
 //! How networks with one leader are labelled.
 
 ghost use Rattle.std.specs.Prelude.{◌≡◌, map, IfOk};
-ghost use Rattle.pls_leader.specs.Leader.{root_says};
+ghost use Rattle.pls_leader.specs.Leader.{leader_at};
 
 use crate::leader::{LeaderLabel, LeaderRules};
 use crate::rooted::levels_from;
@@ -28,14 +28,15 @@ impl StateTest for IsLeader {
 
 impl<C: NumCode> Marker for LeaderRules<C> {
     ghost use Rattle.pls_facts.specs.Leader.{HasOneLeader};
-    ghost use Rattle.pls_leader.specs.Leader.{leader_says, longest_leader};
+    ghost use Rattle.pls_leader.specs.Leader.{leader_limits, leader_says, leader_shape};
+    ghost use Rattle.pls_scheme.specs.Basic.{longest_by};
     ghost use Rattle.pls_leader.specs.laws.LeaderLaws.{leader_fits, leader_met, leader_one_right, leader_show};
 
     ghost holds = { λ _ rows. HasOneLeader rows };
 
     ghost says = { λ _ rows row label. leader_says rows row label };
 
-    ghost longest = { λ _ size. longest_leader C.code size };
+    ghost longest = { λ _. longest_by leader_shape leader_limits C.code };
 
     fn longest(&self, size: &Size) -> u64 {
         codes_length::<C>(&[u64::from(size.max_id), size.nodes])
@@ -68,7 +69,7 @@ impl<C: NumCode> Marker for LeaderRules<C> {
 
 // The labels of this root and these levels.
 fn labels_of_levels(alloc: Global, root: u32, levels: &[u32]) -> Result<Vec<LeaderLabel>, NoMemory>
-    ensures { IfOk result (λ labels. labels.items ≡ map (root_says root) levels.now) }
+    ensures { IfOk result (λ labels. labels.items ≡ map (leader_at root) levels.now) }
 {
     let labels = levels
         .iter()

@@ -2,6 +2,7 @@
 
 mod base;
 mod bits;
+mod codes;
 mod edits;
 mod graph;
 mod labelfile;

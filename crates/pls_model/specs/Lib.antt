@@ -1,3 +1,4 @@
 pub mod Status
 pub mod Configuration
+pub mod Path
 pub mod Walk

@@ -1,8 +1,9 @@
 -- Edges and walks of a configuration, and what it means that edges join nodes (any textbook on
 -- graphs).
-use Rattle.std.specs.Prelude.{◌≡◌, ℕ, nat_lt, ◌⊎◌, List, [], ◌∷◌, map, filter, flat_map, Contains}
+use Rattle.std.specs.Prelude.{◌≡◌, ℕ, nat_lt, ◌⊎◌, List, map, filter, flat_map, Contains}
 use Rattle.pls_model.specs.declared.row.NodeRow.{NodeRow}
 use Rattle.pls_model.specs.Configuration.{ids_of}
+use Rattle.pls_model.specs.Path.{Path}
 
 -- an unordered pair of nodes with a weight; `a` is the smaller identity
 pub record Edge : Type 0 where
@@ -30,8 +31,7 @@ Adjacent edges u v = (edge : Edge) × Contains edges edge × Joins edge u v
 
 -- from u along the listed nodes each two in turn are adjacent, and the last is v
 abbrev pub Walk : List Edge → ℕ → List ℕ → ℕ → Type 0
-Walk edges u [] v = u ≡ v
-Walk edges u (next ∷ nodes) v = Adjacent edges u next × Walk edges next nodes v
+Walk edges u nodes v = Path (Adjacent edges) u nodes v
 
 -- some walk begins at one node and ends at the other
 abbrev pub AreJoined : List Edge → ℕ → ℕ → Type 0

@@ -1,10 +1,13 @@
 -- What the levels of two neighbours say together, level by level.
-use Rattle.std.proofs.Common.{◌≡◌, ◌∙◌, ℕ, zero, suc, ◌+◌, ◌-◌, ◌<◌, ◌≤◌, ◌==◌, min, Bool, true, false, ◌&&◌, ◌||◌, List, [], ◌∷◌, ◌++◌, length, take, drop, get_or, Option, Some, None, refl, sym, ap, arith}
+use Rattle.std.proofs.Common.{◌≡◌, ◌∙◌, ℕ, zero, suc, ◌+◌, ◌-◌, ◌<◌, ◌≤◌, ◌==◌, min, Bool, true, false, ◌&&◌, ◌||◌, List, [], ◌∷◌, ◌++◌, length, take, drop, get_or, None, refl, sym, ap, arith}
 use Rattle.std.specs.List.{list_all, list_any, zip}
 use Rattle.std.proofs.Math.Bool.{or-true}
 use Rattle.std.proofs.lemmas.Bool.{eq-eqb}
 use Rattle.std.proofs.lemmas.List.{length-drop, length-take-le, take-append-drop, take_more}
 use Rattle.pls_facts.proofs.EdgeKeys.{is_same_edge-itself}
+use Rattle.pls_numbers.specs.Numbers.{NumbersLeft}
+use Rattle.pls_numbers.specs.Taking.{IsTaken, items_off}
+use Rattle.pls_numbers.specs.laws.TakingLaws.{items_off-next, items_off-none}
 use Rattle.pls_boruvka.specs.Boruvka.{chosen_edge}
 use Rattle.pls_boruvka.specs.declared.level.Level.{Level}
 use Rattle.pls_mst.specs.declared.comparing.Between.{Between}
@@ -13,7 +16,6 @@ use Rattle.pls_mst.specs.Labels.{level_off}
 use Rattle.pls_mst.specs.Rules.{chose_least, is_chosen_between, is_named_or_shared}
 use Rattle.pls_mst.specs.inner.Comparing.{both_compared, compared, edge_between}
 use Rattle.pls_mst.specs.inner.Glance.{all_whole, front_of, kept_in}
-use Rattle.pls_mst.specs.inner.Reading.{levels_off}
 use Rattle.pls_mst.proofs.Fronts.{front_of-take, kept_in-few}
 
 -- of these three
@@ -224,41 +226,51 @@ module _ (between : Between) (own : ℕ) where
       (sym (rw (one_number level.fragment) refl)) ∙ compared-same levels
 
   -- what those that are left say
-  abbrev pub left_say : (List Bool → Option (ℕ × List Bool)) → ℕ → List Bool → List Bool → Compared
-  left_say takes count mine theirs =
-      compared between own (levels_off takes count mine) (levels_off takes count theirs)
+  abbrev pub left_say : ℕ → NumbersLeft → NumbersLeft → Compared
+  left_say count mine theirs = compared between own (items_off level_off count mine.numbers)
+      (items_off level_off count theirs.numbers)
 
-  module _ (takes : List Bool → Option (ℕ × List Bool)) (found : Compared) (left : ℕ)
-      (mine theirs : List Bool) where
+  module _ (found : Compared) (left : ℕ) (mine theirs : NumbersLeft) where
     -- where what is left is the same, all was said
-    pub same_left : mine ≡ theirs → found ≡ both_compared found (left_say takes left mine theirs)
+    pub same_left : mine ≡ theirs → found ≡ both_compared found (left_say left mine theirs)
     same_left same = all_said found
-        ∙ ap (both_compared found) (sym (compared-same (levels_off takes left mine)))
-        ∙ ap (λ (theirs : List Bool). both_compared found (left_say takes left mine theirs)) same
+        ∙ ap (both_compared found) (sym (compared-same (items_off level_off left mine.numbers)))
+        ∙ ap (λ (theirs : NumbersLeft). both_compared found (left_say left mine theirs)) same
 
     -- nor does it say more where one has none
-    pub none_here : level_off takes mine ≡ None
-        → found ≡ both_compared found (left_say takes (suc left) mine theirs)
-    none_here none = rw none (all_said found)
+    pub none_here : level_off mine.numbers ≡ None
+        → found ≡ both_compared found (left_say (suc left) mine theirs)
+    none_here none = all_said found
+        ∙ ap (λ (levels : List Level). both_compared found
+        (compared between own levels (items_off level_off (suc left) theirs.numbers)))
+        (sym (items_off-none level_off left mine.numbers none))
 
-    pub none_there : level_off takes theirs ≡ None
-        → found ≡ both_compared found (left_say takes (suc left) mine theirs)
-    none_there none = rw none (by (levels_off takes (suc left) mine))
+    pub none_there : level_off theirs.numbers ≡ None
+        → found ≡ both_compared found (left_say (suc left) mine theirs)
+    none_there none = by (items_off level_off (suc left) mine.numbers)
+        ∙ ap (λ (levels : List Level). both_compared found
+        (compared between own (items_off level_off (suc left) mine.numbers) levels))
+        (sym (items_off-none level_off left theirs.numbers none))
       where
         by : (levels : List Level) → found ≡ both_compared found (compared between own levels [])
         by [] = all_said found
         by (level ∷ levels) = all_said found
 
     -- both have one
-    pub both_there : (with_it : Compared) (here there : Level) (mine_left theirs_left : List Bool)
-        → level_off takes mine ≡ Some (here, mine_left)
-        → level_off takes theirs ≡ Some (there, theirs_left)
+    pub both_there : (with_it : Compared) (here there : Level) (mine_left theirs_left : NumbersLeft)
+        → IsTaken level_off here mine mine_left → IsTaken level_off there theirs theirs_left
         → with_it.shares ≡ (found.shares && is_named_or_shared own here there)
         → with_it.least ≡ (found.least
         && chose_least (edge_between between) between.outside here there)
         → with_it.chosen ≡ (found.chosen || is_chosen_between (edge_between between) here there)
-        → both_compared found (left_say takes (suc left) mine theirs)
-        ≡ both_compared with_it (left_say takes left mine_left theirs_left)
+        → both_compared found (left_say (suc left) mine theirs)
+        ≡ both_compared with_it (left_say left mine_left theirs_left)
     both_there with_it here there mine_left theirs_left mine_next theirs_next shares least chosen =
-        rw (mine_next, theirs_next) (compared-more found with_it here there
-        (levels_off takes left mine_left) (levels_off takes left theirs_left) shares least chosen)
+        ap (λ (levels : List Level). both_compared found
+        (compared between own levels (items_off level_off (suc left) theirs.numbers)))
+        (items_off-next level_off left here mine mine_left mine_next)
+        ∙ ap (λ (levels : List Level). both_compared found (compared between own
+        (here ∷ items_off level_off left mine_left.numbers) levels))
+        (items_off-next level_off left there theirs theirs_left theirs_next)
+        ∙ compared-more found with_it here there (items_off level_off left mine_left.numbers)
+        (items_off level_off left theirs_left.numbers) shares least chosen

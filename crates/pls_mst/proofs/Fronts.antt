@@ -1,25 +1,25 @@
 -- The first levels of a label, as they are kept at a glance.
-use Rattle.std.proofs.Common.{◌≡◌, ◌∙◌, ℕ, suc, ◌+◌, ◌-◌, ◌≤◌, ◌<◌, ◌&&◌, [], ◌∷◌, ◌++◌, inl, inr, min, true, false, Bool, List, length, map, get_or, take, drop, replicate, set, Option, Some, None, option_map, is_some, IfSome, IfNone, refl, subst, sym, ap, arith}
+use Rattle.std.proofs.Common.{◌≡◌, ◌∙◌, ℕ, suc, ◌+◌, ◌-◌, ◌≤◌, ◌<◌, ◌&&◌, [], ◌∷◌, ◌++◌, inl, inr, min, true, false, Bool, List, length, map, get_or, take, drop, replicate, set, Some, option_map, refl, subst, sym, ap, arith}
 use Rattle.std.specs.List.{list_all, prefix_len}
 use Rattle.std.proofs.lemmas.Bool.{cases_lt}
-use Rattle.std.proofs.lemmas.List.{drop-drop, drop-replicate, drop-set-lt, drop_more, get_or-map, get_or-take, length-drop, length-map, length-replicate, length-set, length-take, length-take-le, map-id, map_more, take-append-drop, take-append-le, take-map, take-replicate, take-take, take_more_set}
+use Rattle.std.proofs.lemmas.List.{drop-drop, drop-replicate, drop-set-lt, drop_more, get_or-map, get_or-take, length-drop, length-map, length-replicate, length-set, length-take, length-take-le, map-id, map_more, take-append-drop, take_all, take-append-le, take-map, take-replicate, take-take, take_more_set}
 use Rattle.std.proofs.lemmas.List.Folds.{list_all-append}
 use Rattle.std.proofs.lemmas.List.Sums.{prefix_len-le-length, prefix_len_is}
-use Rattle.std.proofs.lemmas.Option.{same_Some}
 use Rattle.std.proofs.lemmas.Simd.{map-map}
 use Rattle.std.proofs.Math.Seq.{take-append-add}
+use Rattle.pls_numbers.specs.Numbers.{NumbersLeft}
+use Rattle.pls_numbers.specs.Shape.{if_clean}
+use Rattle.pls_numbers.specs.Taking.{IsTaken, are_items, items_off}
+use Rattle.pls_numbers.specs.laws.TakingLaws.{items_off-next, items_off-take}
 use Rattle.pls_boruvka.specs.declared.level.Level.{Level}
 use Rattle.pls_mst.specs.declared.glance.MstGlance.{MstGlance}
 use Rattle.pls_mst.specs.declared.glance.TheConstants.{FRONT}
 use Rattle.pls_mst.specs.declared.kept_level.KeptLevel.{KeptLevel}
 use Rattle.pls_mst.specs.declared.label.MstHead.{MstHead}
-use Rattle.pls_mst.specs.Labels.{head_off, level_off, levels_in, mst_label}
+use Rattle.pls_mst.specs.Labels.{head_off, level_off, mst_of}
 use Rattle.pls_mst.specs.inner.Glance.{IsFront, all_whole, front_of, glance_of, kept_in, no_level}
 use Rattle.pls_mst.specs.inner.KeptLevel.{fits, kept_of, whole}
-use Rattle.pls_mst.specs.inner.Reading.{levels_off}
-use Rattle.pls_mst.specs.laws.LabelLaws.{split_levels}
-use Rattle.pls_mst.proofs.Behind.{a_label}
-use Rattle.pls_mst.proofs.Levels.{levels_off-all, levels_off-next}
+use Rattle.pls_mst.proofs.Labels.{a_label}
 
 -- a level where there is none
 abbrev pub blank : Level
@@ -224,59 +224,37 @@ pub list_all-split : {X : Type 0} (test : X → Bool) (count : ℕ) (items : Lis
 list_all-split test count items = ap (list_all test) (sym (take-append-drop count items))
     ∙ list_all-append test (take count items) (drop count items)
 
-module _ (takes : List Bool → Option (ℕ × List Bool)) where
-  -- a level that is read comes first of those that are left
-  pub next_read : (place count : ℕ) (front : List KeptLevel) (levels : List Level)
-      (old : List Bool) (level : Level) (new : List Bool) → place < count
-      → level_off takes old ≡ Some (level, new)
-      → IsKept FRONT place front levels (levels_off takes (count - place) old)
-      → IsKept FRONT place front levels (level ∷ levels_off takes (count - (place + 1)) new)
-  next_read place count front levels old level new less next is =
-      let left : ℕ = count - (place + 1) in
-      let one : count - place ≡ suc left = omega (arith, less) in
-      subst (IsKept FRONT place front levels)
-      (ap (λ (count : ℕ). levels_off takes count old) one
-      ∙ levels_off-next takes left old level new next) is
+-- a level that is read comes first of those that are left
+pub next_read : (place count : ℕ) (front : List KeptLevel) (levels : List Level)
+    (old : NumbersLeft) (level : Level) (new : NumbersLeft) → place < count → IsTaken level_off level old new
+    → IsKept FRONT place front levels (items_off level_off (count - place) old.numbers)
+    → IsKept FRONT place front levels
+    (level ∷ items_off level_off (count - (place + 1)) new.numbers)
+next_read place count front levels old level new less taken is =
+    let left : ℕ = count - (place + 1) in
+    let one : count - place ≡ suc left = omega (arith, less) in
+    subst (IsKept FRONT place front levels)
+    (ap (λ (count : ℕ). items_off level_off count old.numbers) one
+    ∙ items_off-next level_off left level old new taken) is
 
-  -- what is kept of a label, by what was read of it
-  pub glance_there : (bits : List Bool) (head : MstHead) (rest : List Bool) (kept : ℕ)
-      (front : List KeptLevel) → head_off takes bits ≡ Some (head, rest)
-      → is_some (levels_in takes head.count rest) ≡ true
-      → IsFront kept front (levels_off takes head.count rest)
-      → Some (record { head = head; kept = kept; front = front })
-      ≡ option_map glance_of (mst_label takes bits)
-  glance_there bits head rest kept front is there (kept_is, front_is) =
-      let (label, read, said, levels) = a_label takes bits head rest is there in
-      let many : length label.levels ≡ head.count = ap (λ (head : MstHead). head.count) said in
-      let all : levels_off takes head.count rest ≡ label.levels =
-      levels_off-all takes rest label.levels head.count levels many in
-      let glance : MstHead → ℕ → List KeptLevel → MstGlance =
-      λ head kept front. record { head = head; kept = kept; front = front } in
-      let both : glance head kept front ≡ glance_of label =
-      ap (λ (kept : ℕ). glance head kept front) (kept_is ∙ ap kept_in all)
-      ∙ ap (glance head (kept_in label.levels)) (front_is ∙ ap front_of all)
-      ∙ ap (λ (head : MstHead). glance head (kept_in label.levels) (front_of label.levels))
-      (sym said) in
-      ap Some both ∙ sym (ap (option_map glance_of) read)
-
-  -- a call that reads the level that comes next leaves the others
-  pub levels_left : (count : ℕ) (old new : List Bool) (result : Option Level) (levels : List Level)
-      → IfSome result (λ level. level_off takes old ≡ Some (level, new))
-      → IfNone result (level_off takes old ≡ None)
-      → levels_in takes (suc count) old ≡ Some levels
-      → levels_in takes count new ≡ Some (drop 1 levels)
-  levels_left count old new result levels found none is = by result found none
-    where
-      by : (result : Option Level)
-          → IfSome result (λ level. level_off takes old ≡ Some (level, new))
-          → IfNone result (level_off takes old ≡ None)
-          → levels_in takes count new ≡ Some (drop 1 levels)
-      by None found none =
-          let (level, rest, more, next, read, all) = split_levels takes levels count old is in
-          absurd (cc)
-      by (Some first) found none =
-          let (level, rest, more, next, read, all) = split_levels takes levels count old is in
-          let same : (level, rest) ≡ (first, new) =
-          same_Some (level, rest) (first, new) (sym next ∙ found) in
-          sym (ap (λ (next : Level × List Bool). levels_in takes count next.1) same) ∙ read
-          ∙ ap (λ (levels : List Level). Some (drop 1 levels)) all
+-- what is kept of a label, by what was read of it
+pub glance_there : (left : NumbersLeft) (head : MstHead) (new : NumbersLeft) (kept : ℕ)
+    (front : List KeptLevel) → IsTaken head_off head left new
+    → are_items level_off head.count new ≡ true
+    → IsFront kept front (items_off level_off head.count new.numbers)
+    → Some (record { head = head; kept = kept; front = front })
+    ≡ option_map glance_of (if_clean mst_of left)
+glance_there left head new kept front taken there (kept_is, front_is) =
+    let (label, read, said, levels) = a_label left new head taken there in
+    let many : length label.levels ≡ head.count = ap (λ (head : MstHead). head.count) said in
+    let all : items_off level_off head.count new.numbers ≡ label.levels =
+    items_off-take level_off head.count (length label.levels) new.numbers label.levels levels
+    (omega (arith, many)) ∙ take_all head.count label.levels (omega (arith, many)) in
+    let glance : MstHead → ℕ → List KeptLevel → MstGlance =
+    λ head kept front. record { head = head; kept = kept; front = front } in
+    let both : glance head kept front ≡ glance_of label =
+    ap (λ (kept : ℕ). glance head kept front) (kept_is ∙ ap kept_in all)
+    ∙ ap (glance head (kept_in label.levels)) (front_is ∙ ap front_of all)
+    ∙ ap (λ (head : MstHead). glance head (kept_in label.levels) (front_of label.levels))
+    (sym said) in
+    ap Some both ∙ sym (ap (option_map glance_of) read)

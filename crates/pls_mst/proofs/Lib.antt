@@ -1,10 +1,8 @@
-pub mod Levels
-pub mod Behind
+pub mod Labels
 pub mod Fronts
 pub mod Comparisons
 pub mod Looked
 pub mod MorePorts
-pub mod Written
 pub mod Logarithm
 pub mod Made
 pub mod Worked

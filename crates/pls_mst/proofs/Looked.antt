@@ -1,23 +1,23 @@
 -- What two labels say together that were looked at, and what one of them says.
-use Rattle.std.proofs.Common.{◌≡◌, ◌∙◌, ℕ, ◌-◌, ◌≤◌, ◌==◌, ◌&&◌, min, Bool, true, false, List, length, take, drop, Option, Some, sym, ap, arith}
+use Rattle.std.proofs.Common.{◌≡◌, ◌∙◌, ℕ, ◌-◌, ◌≤◌, ◌==◌, ◌&&◌, min, Bool, true, false, List, length, take, drop, Some, sym, ap, arith}
 use Rattle.std.specs.List.{list_all}
 use Rattle.std.proofs.lemmas.List.{length-drop, take-map, take_all}
 use Rattle.std.proofs.lemmas.List.Folds.{list_all-map}
+use Rattle.pls_numbers.specs.Taking.{items_in, items_off}
+use Rattle.pls_numbers.specs.laws.TakingLaws.{items_off-take}
 use Rattle.pls_boruvka.specs.declared.level.Level.{Level}
 use Rattle.pls_mst.specs.declared.comparing.Between.{Between}
 use Rattle.pls_mst.specs.declared.comparing.Compared.{Compared}
 use Rattle.pls_mst.specs.declared.glance.MstGlance.{MstGlance}
 use Rattle.pls_mst.specs.declared.kept_level.KeptLevel.{KeptLevel}
 use Rattle.pls_mst.specs.declared.label.MstLabel.{MstLabel}
-use Rattle.pls_mst.specs.Labels.{levels_in}
+use Rattle.pls_mst.specs.Labels.{level_off}
 use Rattle.pls_mst.specs.Rules.{names_all_fragments}
 use Rattle.pls_mst.specs.inner.Comparing.{both_compared, compared}
 use Rattle.pls_mst.specs.inner.Glance.{all_whole, front_of, glance_of, kept_in}
 use Rattle.pls_mst.specs.inner.KeptLevel.{whole}
-use Rattle.pls_mst.specs.inner.Reading.{levels_off}
 use Rattle.pls_mst.proofs.Comparisons.{all_in_front, front_and_behind}
 use Rattle.pls_mst.proofs.Fronts.{front_of-take, kept_in-few, list_all-split}
-use Rattle.pls_mst.proofs.Levels.{levels_off-take}
 
 -- what the levels of two labels say together, by what is kept of them
 module _ (between : Between) (own other : MstLabel) (mine theirs : MstGlance) (shared first : ℕ)
@@ -63,33 +63,32 @@ module _ (between : Between) (own other : MstLabel) (mine theirs : MstGlance) (s
       other_kept few
 
   -- where others are read behind them
-  pub looked_behind : (takes : List Bool → Option (ℕ × List Bool)) (here there : List Bool)
-      (all : Compared)
+  pub looked_behind : (here there : List ℕ) (all : Compared)
       → (first ≤ length own.levels
-      → levels_in takes (length own.levels - first) here ≡ Some (drop first own.levels))
+      → items_in level_off (length own.levels - first) here ≡ Some (drop first own.levels))
       → (first ≤ length other.levels
-      → levels_in takes (length other.levels - first) there ≡ Some (drop first other.levels))
+      → items_in level_off (length other.levels - first) there ≡ Some (drop first other.levels))
       → all ≡ both_compared found (compared between mine.head.own
-      (levels_off takes (shared - first) here) (levels_off takes (shared - first) there))
+      (items_off level_off (shared - first) here) (items_off level_off (shared - first) there))
       → all ≡ compared between own.own own.levels other.levels
-  looked_behind takes here there all here_is there_is all_is =
+  looked_behind here there all here_is there_is all_is =
       let left : ℕ = shared - first in
-      let mine_off : levels_off takes left here ≡ take left (drop first own.levels) =
-      levels_off-take takes left (length own.levels - first) here (drop first own.levels)
+      let mine_off : items_off level_off left here ≡ take left (drop first own.levels) =
+      items_off-take level_off left (length own.levels - first) here (drop first own.levels)
       (here_is (omega (arith, own_kept, kept_in-few own.levels))) (omega (arith, both_have)) in
-      let theirs_off : levels_off takes left there ≡ take left (drop first other.levels) =
-      levels_off-take takes left (length other.levels - first) there (drop first other.levels)
+      let theirs_off : items_off level_off left there ≡ take left (drop first other.levels) =
+      items_off-take level_off left (length other.levels - first) there (drop first other.levels)
       (there_is (omega (arith, other_kept, kept_in-few other.levels)))
       (omega (arith, both_have)) in
       let front : Compared =
       compared between own.own (kept_first own.levels) (kept_first other.levels) in
       all_is
       ∙ ap (λ (glance : MstGlance). both_compared found (compared between glance.head.own
-      (levels_off takes left here) (levels_off takes left there))) (sym own_is)
+      (items_off level_off left here) (items_off level_off left there))) (sym own_is)
       ∙ ap (λ (found : Compared). both_compared found (compared between own.own
-      (levels_off takes left here) (levels_off takes left there))) in_front
+      (items_off level_off left here) (items_off level_off left there))) in_front
       ∙ ap (λ (behind : List Level). both_compared front
-      (compared between own.own behind (levels_off takes left there))) mine_off
+      (compared between own.own behind (items_off level_off left there))) mine_off
       ∙ ap (λ (behind : List Level). both_compared front
       (compared between own.own (take left (drop first own.levels)) behind)) theirs_off
       ∙ front_and_behind between own.own own.levels other.levels shared first both_have own_kept
@@ -132,22 +131,22 @@ module _ (own : MstLabel) (glance : MstGlance) (first : ℕ) (first_has : Bool)
       ∙ ap (list_all named) (take_all first own.levels (omega (arith, few, many)))
 
   -- others are read behind them
-  pub others_named : (takes : List Bool → Option (ℕ × List Bool)) (rest : List Bool) (all : Bool)
+  pub others_named : (rest : List ℕ) (all : Bool)
       → first_has ≡ true
       → (first ≤ length own.levels
-      → levels_in takes (length own.levels - first) rest ≡ Some (drop first own.levels))
+      → items_in level_off (length own.levels - first) rest ≡ Some (drop first own.levels))
       → all ≡ list_all (λ level. level.fragment == glance.head.own)
-      (levels_off takes (glance.head.count - first) rest)
+      (items_off level_off (glance.head.count - first) rest)
       → all ≡ names_all_fragments own
-  others_named takes rest all have rest_is all_is =
+  others_named rest all have rest_is all_is =
       let left : ℕ = length own.levels - first in
-      let off : levels_off takes left rest ≡ drop first own.levels =
-      levels_off-take takes left left rest (drop first own.levels)
+      let off : items_off level_off left rest ≡ drop first own.levels =
+      items_off-take level_off left left rest (drop first own.levels)
       (rest_is (omega (arith, kept, kept_in-few own.levels))) (omega arith)
       ∙ take_all left (drop first own.levels) (omega (arith, length-drop first own.levels)) in
       all_is
       ∙ ap (λ (glance : MstGlance). list_all (λ (level : Level). level.fragment == glance.head.own)
-      (levels_off takes (glance.head.count - first) rest)) (sym is)
+      (items_off level_off (glance.head.count - first) rest)) (sym is)
       ∙ ap (list_all named) off
       ∙ ap (λ (b : Bool). b && list_all named (drop first own.levels)) (sym have ∙ first_named)
       ∙ sym (list_all-split named first own.levels)

@@ -12,7 +12,7 @@ use Rattle.pls_mst.specs.declared.label.MstHead.{MstHead}
 use Rattle.pls_mst.specs.declared.label.MstLabel.{MstLabel}
 use Rattle.pls_mst.specs.Rules.{agrees_on_root_and_levels, names_root_and_levels, chose_least_at, chosen_edges_are_least, edge_to, is_chosen_between, is_named_or_shared, on_each_level, on_some_level}
 use Rattle.pls_mst.specs.inner.Comparing.{compared}
-use Rattle.pls_mst.specs.inner.Gathering.{between, gathered, gathered_more}
+use Rattle.pls_mst.specs.inner.Gathering.{between, mst_tally, mst_tally_with}
 use Rattle.pls_mst.specs.inner.Reading.{head_said}
 
 module _ (id : ℕ) (state : State) (own : MstLabel) (ports : List (ReadPort MstLabel)) (weight : ℕ)
@@ -50,8 +50,8 @@ module _ (id : ℕ) (state : State) (own : MstLabel) (ports : List (ReadPort Mst
       by true = refl
       by false = refl
 
-  pub more_gathered : gathered after ≡ gathered_more here (head_said own) (head_said theirs)
-      (compared edge own.own own.levels theirs.levels) (gathered before)
+  pub more_gathered : mst_tally after ≡ mst_tally_with here (head_said own) (head_said theirs)
+      (compared edge own.own own.levels theirs.levels) (mst_tally before)
   more_gathered =
       let Numbered : Type 0 = ℕ × ReadPort MstLabel in
       let least : Numbered → Bool = λ numbered. chose_least_at before numbered.0 numbered.1 in
@@ -74,9 +74,9 @@ module _ (id : ℕ) (state : State) (own : MstLabel) (ports : List (ReadPort Mst
   -- what is gathered of the port, by what stands in front of the two labels
   pub is_gathered : (pointer : Bool) (mine head : MstHead) (to : Between) (both : Compared)
       (was is : Gathered) → pointer ≡ here → head_said own ≡ mine → head_said theirs ≡ head
-      → was ≡ gathered before → to ≡ between pointer weight mine head
+      → was ≡ mst_tally before → to ≡ between pointer weight mine head
       → both ≡ compared to own.own own.levels theirs.levels
-      → is ≡ gathered_more pointer mine head both was → is ≡ gathered after
+      → is ≡ mst_tally_with pointer mine head both was → is ≡ mst_tally after
   is_gathered pointer mine head to both was is pointer_is mine_is head_is was_is to_is both_is
       is_more =
       let edge_is : to ≡ edge = to_is ∙ rw (pointer_is, sym mine_is, sym head_is) refl in

@@ -5,12 +5,10 @@ use Rattle.pls_model.specs.declared.row.Port.{Port}
 use Rattle.pls_model.specs.declared.row.NodeRow.{NodeRow}
 use Rattle.pls_graph.specs.declared.size.Size.{Size}
 use Rattle.pls_scheme.specs.Length.{codes_length}
-use Rattle.pls_scheme.specs.Marked.{IsMarkedBy}
 use Rattle.pls_facts.specs.Pointer.{IsChainOf, pointed_port}
 use Rattle.pls_boruvka.specs.Boruvka.{AreChainLengths, AreBoruvkaLevels}
 use Rattle.pls_boruvka.specs.declared.level.Level.{Level}
 use Rattle.pls_mst.specs.declared.label.MstLabel.{MstLabel}
-use Rattle.pls_mst.specs.Labels.{IsMstLabel}
 
 -- these are Borůvka's levels of the node with this identity, from the first on
 pub record AreLevelsOf (rows : List NodeRow) (id : ℕ) (list : List Level) : Type 0 where
@@ -31,10 +29,6 @@ pub record MstSays (rows : List NodeRow) (row : NodeRow) (label : MstLabel) : Ty
   pub own_parent : pointed_port row ≡ None → label.parent ≡ row.id
   pub levels : AreLevelsOf rows row.id label.levels
 
--- so is each label
-abbrev pub IsMstMarked : (ℕ → List Bool) → List NodeRow → List (List Bool) → Type 0
-IsMstMarked code rows labels = IsMarkedBy (IsMstLabel code) (MstSays rows) rows labels
-
 -- no numbers in front of the levels of a marked label are greater: the greatest identity for the
 -- root, the node and the parent, the number of nodes, and its logarithm to the base 2, rounded down
 abbrev pub front_limits : Size → List ℕ
@@ -49,5 +43,5 @@ level_limits size = size.max_id ∷ size.max_weight ∷ size.max_id ∷ size.max
 -- how many bits a marked label has at most: the codes of these numbers, with as many levels as the
 -- logarithm says
 abbrev pub longest_mst : (ℕ → List Bool) → Size → ℕ
-longest_mst code size = codes_length code (front_limits size)
-    + floor_log size.nodes * codes_length code (level_limits size)
+longest_mst code size = codes_length code [] (front_limits size)
+    + floor_log size.nodes * codes_length code [] (level_limits size)

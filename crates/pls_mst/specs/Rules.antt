@@ -6,15 +6,12 @@ use Rattle.std.specs.Prelude.{ℕ, ◌+◌, ◌==◌, nat_lt, min, max, Bool, tr
 use Rattle.std.specs.List.{enumerate_from, list_all, list_any, zip}
 use Rattle.std.specs.Option.{option_map_or}
 use Rattle.pls_model.specs.Walk.{Edge}
-use Rattle.pls_model.specs.declared.verdict.Verdict.{Verdict}
-use Rattle.pls_view.specs.Seen.{Seen}
-use Rattle.pls_scheme.specs.Reading.{Read, ReadPort, is_pointer, judge_by, target}
+use Rattle.pls_scheme.specs.Reading.{Read, ReadPort, is_pointer, target}
 use Rattle.pls_facts.specs.EdgeOrder.{edge_key, is_same_edge}
 use Rattle.pls_pointer.specs.Pointing.{points}
 use Rattle.pls_boruvka.specs.Boruvka.{chosen_edge}
 use Rattle.pls_boruvka.specs.declared.level.Level.{Level}
 use Rattle.pls_mst.specs.declared.label.MstLabel.{MstLabel}
-use Rattle.pls_mst.specs.Labels.{mst_label}
 
 -- the node points at no port, or it is one deeper than the node that it points at, which is its
 -- parent
@@ -130,7 +127,3 @@ abbrev pub mst_rules : Read MstLabel → List Bool
 mst_rules view =
     is_placed_in_tree view ∷ agrees_on_root_and_levels view ∷ names_its_fragment view
     ∷ chosen_edges_are_least view ∷ pointed_edge_is_chosen view ∷ []
-
--- what a node judges
-abbrev pub judge_mst : (List Bool → Option (ℕ × List Bool)) → Seen → Verdict
-judge_mst takes view = judge_by (mst_label takes) mst_rules view

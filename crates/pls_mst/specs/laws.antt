@@ -1,4 +1,3 @@
-pub mod NumberLaws
 pub mod LabelLaws
 pub mod Fragments
 pub mod Levelwise

@@ -3,19 +3,21 @@
 ghost use Rattle.std.specs.Prelude.{◌≡◌, ◌≤◌, ◌==◌, nat_lt, ◌&&◌, ◌||◌, take, Some};
 ghost use Rattle.pls_facts.specs.EdgeOrder.{edge_key, is_same_edge};
 ghost use Rattle.pls_boruvka.specs.Boruvka.{chosen_edge};
+ghost use Rattle.pls_numbers.specs.Shape.{said_by};
+ghost use Rattle.pls_numbers.specs.Taking.{items_off};
 ghost use Rattle.pls_mst.specs.declared.glance.TheConstants.{FRONT};
 ghost use Rattle.pls_mst.specs.declared.label.MstLabel.{MstLabel};
-ghost use Rattle.pls_mst.specs.Labels.{mst_label};
+ghost use Rattle.pls_mst.specs.Labels.{level_off, mst_shape};
 ghost use Rattle.pls_mst.specs.Rules.{chose_least, is_at_most, is_chosen_between, is_named_or_shared};
 ghost use Rattle.pls_mst.specs.inner.Comparing.{both_compared, compared, edge_between};
 ghost use Rattle.pls_mst.specs.inner.Glance.{all_whole, glance_of};
-ghost use Rattle.pls_mst.specs.inner.Reading.{levels_off};
 
 use crate::glance::{FRONT, MstGlance, behind_front, in_front};
 use crate::kept_level::KeptLevel;
 use crate::reading::read_level;
-use pls_bits::{Cursor, NumCode};
+use pls_bits::NumCode;
 use pls_boruvka::Level;
+use pls_numbers::Numbers;
 use pls_scheme::Looked;
 
 /// The edge between a node and a neighbour.
@@ -48,9 +50,9 @@ pub(crate) fn compare_levels<C: NumCode>(
     theirs: &Looked<'_, MstGlance>,
     between: &Between,
 ) -> Compared
-    ensures { (own other : MstLabel) → mst_label C.takes mine.now.bits.now ≡ Some own
+    ensures { (own other : MstLabel) → said_by mst_shape C.takes mine.now.bits.now ≡ Some own
         → glance_of own ≡ mine.now.glance.now
-        → mst_label C.takes theirs.now.bits.now ≡ Some other
+        → said_by mst_shape C.takes theirs.now.bits.now ≡ Some other
         → glance_of other ≡ theirs.now.glance.now
         → result ≡ compared between.now own.own own.levels other.levels }
 {
@@ -65,7 +67,7 @@ pub(crate) fn compare_levels<C: NumCode>(
     let mut here = behind_front::<C>(mine.bits, first);
     let mut there = behind_front::<C>(theirs.bits, first);
     let left = shared - past;
-    compare_behind::<C>(found, &mut here, &mut there, left, between, head.own)
+    compare_behind(found, &mut here, &mut there, left, between, head.own)
 }
 
 // What the first levels of a node and of a neighbour say together, so many of them.
@@ -99,22 +101,23 @@ fn compare_fronts(
 // bits, once.
 fn compare_behind<C: NumCode>(
     before: Compared,
-    mine: &mut Cursor<'_>,
-    theirs: &mut Cursor<'_>,
+    mine: &mut Numbers<'_, C>,
+    theirs: &mut Numbers<'_, C>,
     count: u64,
     between: &Between,
     own: u64,
 ) -> Compared
     ensures { result ≡ both_compared before (compared between.now own
-        (levels_off C.takes count mine.old) (levels_off C.takes count theirs.old)) }
+        (items_off level_off count mine.old.numbers)
+        (items_off level_off count theirs.old.numbers)) }
 {
     let mut found = before;
     let mut apart = true;
     for _ in 0..count {
-        let Some(here) = read_level::<C>(mine) else {
+        let Some(here) = read_level(mine) else {
             return found;
         };
-        let Some(there) = read_level::<C>(theirs) else {
+        let Some(there) = read_level(theirs) else {
             return found;
         };
         found = with_level(found, between, own, &here, &there);

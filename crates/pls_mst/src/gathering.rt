@@ -2,11 +2,12 @@
 
 ghost use Rattle.std.specs.Prelude.{◌≡◌, ℕ, ◌==◌, ◌+◌, ◌++◌, List, [], ◌∷◌, ◌&&◌, Some, length, if◌then◌else◌};
 ghost use Rattle.pls_model.specs.declared.row.State.{State};
+ghost use Rattle.pls_numbers.specs.Shape.{said_by};
 ghost use Rattle.pls_scheme.specs.Reading.{ReadPort, is_pointer, port_with, reading};
 ghost use Rattle.pls_mst.specs.declared.label.MstLabel.{MstLabel};
-ghost use Rattle.pls_mst.specs.Labels.{mst_label};
+ghost use Rattle.pls_mst.specs.Labels.{mst_shape};
 ghost use Rattle.pls_mst.specs.Rules.{mst_rules};
-ghost use Rattle.pls_mst.specs.inner.Gathering.{between, gathered, gathered_more};
+ghost use Rattle.pls_mst.specs.inner.Gathering.{between, mst_tally, mst_tally_with};
 ghost use Rattle.pls_mst.specs.inner.Glance.{glance_of};
 
 use crate::comparing::{Between, Compared, compare_levels};
@@ -36,7 +37,7 @@ impl Gathered {
     // Before the first port.
     pub(crate) fn before() -> Gathered
         ensures { (id : ℕ) (state : State) (label : MstLabel)
-            → result ≡ gathered (reading id state label []) }
+            → result ≡ mst_tally (reading id state label []) }
     {
         Gathered {
             follows: true,
@@ -56,7 +57,7 @@ impl Gathered {
         theirs: &MstHead,
         both: Compared,
     ) -> Gathered
-        ensures { result ≡ gathered_more pointer own.now theirs.now both self }
+        ensures { result ≡ mst_tally_with pointer own.now theirs.now both self }
     {
         let Gathered {
             follows,
@@ -88,9 +89,9 @@ impl Gathered {
         own: &Looked<'_, MstGlance>,
     ) -> [bool; 5]
         ensures { (mine : MstLabel) (ports : List (ReadPort MstLabel))
-            → mst_label C.takes own.now.bits.now ≡ Some mine
+            → said_by mst_shape C.takes own.now.bits.now ≡ Some mine
             → glance_of mine ≡ own.now.glance.now
-            → self.now ≡ gathered (reading id state mine ports)
+            → self.now ≡ mst_tally (reading id state mine ports)
             → result ≡ mst_rules (reading id state mine ports) }
     {
         let head = &own.glance.head;
@@ -118,11 +119,12 @@ pub(crate) fn with_port<C: NumCode>(
 ) -> Gathered
     ensures { (id : ℕ) (state : State) (mine theirs : MstLabel) (ports : List (ReadPort MstLabel))
         → state.up ≡ up → length ports ≡ place
-        → mst_label C.takes own.now.bits.now ≡ Some mine → glance_of mine ≡ own.now.glance.now
-        → mst_label C.takes label.now.bits.now ≡ Some theirs
+        → said_by mst_shape C.takes own.now.bits.now ≡ Some mine
+        → glance_of mine ≡ own.now.glance.now
+        → said_by mst_shape C.takes label.now.bits.now ≡ Some theirs
         → glance_of theirs ≡ label.now.glance.now
-        → before ≡ gathered (reading id state mine ports)
-        → result ≡ gathered (reading id state mine (ports ++ port_with weight theirs ∷ [])) }
+        → before ≡ mst_tally (reading id state mine ports)
+        → result ≡ mst_tally (reading id state mine (ports ++ port_with weight theirs ∷ [])) }
 {
     let pointer = is_pointer(up, place);
     let between = edge_to(pointer, weight, &own.glance.head, &label.glance.head);

@@ -2,17 +2,18 @@
 
 ghost use Rattle.std.specs.Prelude.{◌≡◌, ◌-◌, ◌≤◌, ◌==◌, length, min, drop, take, true, false, Some, IfSome, IfNone, option_map};
 ghost use Rattle.std.specs.List.{list_all};
-ghost use Rattle.std.specs.Option.{is_some};
+ghost use Rattle.pls_numbers.specs.Shape.{said_by};
+ghost use Rattle.pls_numbers.specs.Taking.{are_items, items_in, items_off};
 ghost use Rattle.pls_mst.specs.declared.label.MstLabel.{MstLabel};
-ghost use Rattle.pls_mst.specs.Labels.{levels_in, mst_label};
+ghost use Rattle.pls_mst.specs.Labels.{level_off, mst_shape};
 ghost use Rattle.pls_mst.specs.Rules.{names_all_fragments};
 ghost use Rattle.pls_mst.specs.inner.Glance.{IsFront, glance_of};
-ghost use Rattle.pls_mst.specs.inner.Reading.{levels_off};
 
 use crate::kept_level::KeptLevel;
 use crate::label::MstHead;
 use crate::reading::{all_have, are_levels, levels_of, read_head, read_level};
-use pls_bits::{Bits, Cursor, NumCode};
+use pls_bits::{Bits, NumCode};
+use pls_numbers::Numbers;
 use pls_scheme::Looked;
 
 /// How many levels are kept at most. A right label has no more than the logarithm to the base 2 of
@@ -52,12 +53,12 @@ const NO_LEVEL: KeptLevel = KeptLevel {
 
 // What is kept of a label, where the bits are one, read to the last bit.
 pub(crate) fn glance_at<C: NumCode>(bits: &Bits<'_>) -> Option<MstGlance>
-    ensures { result ≡ option_map glance_of (mst_label C.takes bits.now) }
+    ensures { result ≡ option_map glance_of (said_by mst_shape C.takes bits.now) }
 {
-    let mut cursor = bits.cursor();
-    let head = read_head::<C>(&mut cursor)?;
-    let Front { kept, levels, left } = read_front::<C>(&mut cursor, head.count)?;
-    if are_levels::<C>(&mut cursor, left) {
+    let mut numbers = Numbers::<C>::of(bits);
+    let head = read_head(&mut numbers)?;
+    let Front { kept, levels, left } = read_front(&mut numbers, head.count)?;
+    if are_levels(&mut numbers, left) {
         Some(MstGlance {
             head,
             kept,
@@ -68,19 +69,19 @@ pub(crate) fn glance_at<C: NumCode>(bits: &Bits<'_>) -> Option<MstGlance>
     }
 }
 
-// The first of so many levels that are kept, or `None` where one that is read is missing. The
-// cursor moves past those that are read: the ones that are kept, and one that does not fit.
-fn read_front<C: NumCode>(cursor: &mut Cursor<'_>, count: u64) -> Option<Front>
+// The first of so many levels that are kept, or `None` where one that is read is missing. Behind
+// those that are read, the ones that are kept and one that does not fit, the others are left.
+fn read_front<C: NumCode>(numbers: &mut Numbers<'_, C>, count: u64) -> Option<Front>
     ensures found { IfSome result
-        (λ front. IsFront front.kept front.levels (levels_off C.takes count cursor.old)) }
-    ensures left { IfSome result (λ front. is_some (levels_in C.takes count cursor.old)
-        ≡ is_some (levels_in C.takes front.left cursor.new)) }
-    ensures none { IfNone result (is_some (levels_in C.takes count cursor.old) ≡ false) }
+        (λ front. IsFront front.kept front.levels (items_off level_off count numbers.old.numbers)) }
+    ensures left { IfSome result (λ front. are_items level_off count numbers.old
+        ≡ are_items level_off front.left numbers.new) }
+    ensures none { IfNone result (are_items level_off count numbers.old ≡ false) }
 {
     let mut levels = [NO_LEVEL; FRONT];
     let first = in_front(count);
     for place in 0..first {
-        let level = read_level::<C>(cursor)?;
+        let level = read_level(numbers)?;
         let kept = place as u64;
         let Some(short) = KeptLevel::of(&level) else {
             return Some(Front {
@@ -106,22 +107,23 @@ pub(crate) fn in_front(count: u64) -> usize
     count.min(FRONT as u64) as usize
 }
 
-// A cursor behind the first levels of a label, so many of them.
-pub(crate) fn behind_front<'a, C: NumCode>(bits: &Bits<'a>, first: usize) -> Cursor<'a>
-    ensures { (label : MstLabel) → mst_label C.takes bits.now ≡ Some label
+// The numbers behind the first levels of a label, so many of them.
+pub(crate) fn behind_front<'a, C: NumCode>(bits: &Bits<'a>, first: usize) -> Numbers<'a, C>
+    ensures { (label : MstLabel) → said_by mst_shape C.takes bits.now ≡ Some label
         → first ≤ length label.levels
-        → levels_in C.takes (length label.levels - first) result ≡ Some (drop first label.levels) }
+        → items_in level_off (length label.levels - first) result.numbers
+        ≡ Some (drop first label.levels) }
 {
-    let mut cursor = levels_of::<C>(bits);
+    let mut numbers = levels_of(bits);
     for _ in 0..first {
-        read_level::<C>(&mut cursor);
+        read_level(&mut numbers);
     }
-    cursor
+    numbers
 }
 
 // Whether each level of a label that was looked at has the node's name as its fragment.
 pub(crate) fn names_all<C: NumCode>(label: &Looked<'_, MstGlance>) -> bool
-    ensures { (own : MstLabel) → mst_label C.takes label.now.bits.now ≡ Some own
+    ensures { (own : MstLabel) → said_by mst_shape C.takes label.now.bits.now ≡ Some own
         → glance_of own ≡ label.now.glance.now → result ≡ names_all_fragments own }
 {
     let MstGlance { head, kept, front } = label.glance;
@@ -133,8 +135,8 @@ pub(crate) fn names_all<C: NumCode>(label: &Looked<'_, MstGlance>) -> bool
     if head.count <= past {
         return true;
     }
-    let mut cursor = behind_front::<C>(label.bits, first);
-    all_have::<C>(&mut cursor, head.count - past, head.own)
+    let mut numbers = behind_front::<C>(label.bits, first);
+    all_have(&mut numbers, head.count - past, head.own)
 }
 
 // Whether the first levels that are kept, so many, have this fragment.

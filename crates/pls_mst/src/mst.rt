@@ -2,9 +2,9 @@
 //! level its fragment and the edge that the fragment chose. Each label is looked at once; then, in
 //! one pass over the ports, the levels of the node and of each neighbour are compared side by side.
 
+use crate::format::MstFormat;
 use crate::gathering::{Gathered, with_port};
 use crate::glance::{MstGlance, glance_at};
-use crate::layout::MstLayout;
 use crate::placing::is_placed;
 use pls_bits::{Bits, NumCode};
 use pls_model::{State, Verdict};
@@ -18,24 +18,36 @@ pub type Mst<C> = Basic<MstRules<C>>;
 #[derive(Clone, Copy, Debug, PartialEq, Eq)]
 pub struct MstRules<C> {
     code: PhantomData<C>,
+    format: MstFormat,
 }
 
 impl<C> Default for MstRules<C> {
     fn default() -> Self {
-        MstRules { code: PhantomData }
+        MstRules {
+            code: PhantomData,
+            format: MstFormat,
+        }
     }
 }
 
 impl<C: NumCode> Judgement for MstRules<C> {
     ghost use Rattle.pls_mst.specs.Rules.{mst_rules};
 
-    type Layout = MstLayout<C>;
+    type Code = C;
+
+    type Format = MstFormat;
+
+    ghost format = { λ s. s.format };
 
     ghost rules = { λ _. mst_rules };
+
+    fn format(&self) -> &MstFormat {
+        &self.format
+    }
 }
 
 impl<C: NumCode> JudgesInPlace for MstRules<C> {
-    ghost use Rattle.pls_mst.specs.inner.Gathering.{gathered};
+    ghost use Rattle.pls_mst.specs.inner.Gathering.{mst_tally};
     ghost use Rattle.pls_mst.specs.inner.Glance.{glance_of};
 
     type Glance = MstGlance;
@@ -46,7 +58,7 @@ impl<C: NumCode> JudgesInPlace for MstRules<C> {
 
     ghost glance = { λ _ label. glance_of label };
 
-    ghost gathered = { λ _ view. gathered view };
+    ghost tally_of = { λ _ view. mst_tally view };
 
     fn look(&self, bits: &Bits<'_>) -> Option<MstGlance> {
         glance_at::<C>(bits)

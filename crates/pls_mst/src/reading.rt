@@ -3,51 +3,53 @@
 
 ghost use Rattle.std.specs.Prelude.{◌≡◌, ◌==◌, length, Some, None, IfSome, IfNone, IfOk, option_map};
 ghost use Rattle.std.specs.List.{list_all};
-ghost use Rattle.std.specs.Option.{is_some};
+ghost use Rattle.pls_numbers.specs.Shape.{said_by};
+ghost use Rattle.pls_numbers.specs.Taking.{IsTaken, are_items, items_in, items_off};
 ghost use Rattle.pls_mst.specs.declared.label.MstLabel.{MstLabel};
-ghost use Rattle.pls_mst.specs.Labels.{head_off, level_off, levels_in, mst_label};
-ghost use Rattle.pls_mst.specs.inner.Reading.{head_said, levels_off};
+ghost use Rattle.pls_mst.specs.Labels.{head_off, level_off, mst_shape};
+ghost use Rattle.pls_mst.specs.inner.Reading.{head_said};
 
 use crate::label::MstHead;
 use pls_base::NoMemory;
-use pls_bits::{Bits, Cursor, NumCode};
+use pls_bits::{Bits, NumCode};
 use pls_boruvka::Level;
+use pls_numbers::Numbers;
 use std::alloc::Global;
 
 // What stands in front of the levels, where the bits are a label, read to the last bit.
 pub(crate) fn head_in<C: NumCode>(bits: &Bits<'_>) -> Option<MstHead>
-    ensures { result ≡ option_map head_said (mst_label C.takes bits.now) }
+    ensures { result ≡ option_map head_said (said_by mst_shape C.takes bits.now) }
 {
-    let mut cursor = bits.cursor();
-    let head = read_head::<C>(&mut cursor)?;
-    if are_levels::<C>(&mut cursor, head.count) {
+    let mut numbers = Numbers::<C>::of(bits);
+    let head = read_head(&mut numbers)?;
+    if are_levels(&mut numbers, head.count) {
         Some(head)
     } else {
         None
     }
 }
 
-// A cursor before the levels of a label.
-pub(crate) fn levels_of<'a, C: NumCode>(bits: &Bits<'a>) -> Cursor<'a>
-    ensures { (label : MstLabel) → mst_label C.takes bits.now ≡ Some label
-        → levels_in C.takes (length label.levels) result ≡ Some label.levels }
+// The numbers of the levels of a label.
+pub(crate) fn levels_of<'a, C: NumCode>(bits: &Bits<'a>) -> Numbers<'a, C>
+    ensures { (label : MstLabel) → said_by mst_shape C.takes bits.now ≡ Some label
+        → items_in level_off (length label.levels) result.numbers ≡ Some label.levels }
 {
-    let mut cursor = bits.cursor();
-    read_head::<C>(&mut cursor);
-    cursor
+    let mut numbers = Numbers::of(bits);
+    read_head(&mut numbers);
+    numbers
 }
 
-// What stands in front of the levels, which the cursor moves past.
+// What stands in front of the levels, which are then left.
 #[inline]
-pub(crate) fn read_head<C: NumCode>(cursor: &mut Cursor<'_>) -> Option<MstHead>
-    ensures found { IfSome result (λ head. head_off C.takes cursor.old ≡ Some (head, cursor.new)) }
-    ensures none { IfNone result (head_off C.takes cursor.old ≡ None) }
+pub(crate) fn read_head<C: NumCode>(numbers: &mut Numbers<'_, C>) -> Option<MstHead>
+    ensures found { IfSome result (λ head. IsTaken head_off head numbers.old numbers.new) }
+    ensures none { IfNone result (head_off numbers.old.numbers ≡ None) }
 {
-    let root = C::read(cursor)?;
-    let own = C::read(cursor)?;
-    let parent = C::read(cursor)?;
-    let depth = C::read(cursor)?;
-    let count = C::read(cursor)?;
+    let root = numbers.next()?;
+    let own = numbers.next()?;
+    let parent = numbers.next()?;
+    let depth = numbers.next()?;
+    let count = numbers.next()?;
     Some(MstHead {
         root,
         own,
@@ -57,18 +59,16 @@ pub(crate) fn read_head<C: NumCode>(cursor: &mut Cursor<'_>) -> Option<MstHead>
     })
 }
 
-// The level that comes next, with its edge in order, which the cursor moves past, or `None` where
-// there is none.
+// The level that comes next, with its edge in order, or `None` where there is none.
 #[inline(always)]
-pub(crate) fn read_level<C: NumCode>(cursor: &mut Cursor<'_>) -> Option<Level>
-    ensures found { IfSome result
-        (λ level. level_off C.takes cursor.old ≡ Some (level, cursor.new)) }
-    ensures none { IfNone result (level_off C.takes cursor.old ≡ None) }
+pub(crate) fn read_level<C: NumCode>(numbers: &mut Numbers<'_, C>) -> Option<Level>
+    ensures found { IfSome result (λ level. IsTaken level_off level numbers.old numbers.new) }
+    ensures none { IfNone result (level_off numbers.old.numbers ≡ None) }
 {
-    let fragment = C::read(cursor)?;
-    let weight = C::read(cursor)?;
-    let a = C::read(cursor)?;
-    let b = C::read(cursor)?;
+    let fragment = numbers.next()?;
+    let weight = numbers.next()?;
+    let a = numbers.next()?;
+    let b = numbers.next()?;
     if a < b {
         Some(Level {
             fragment,
@@ -82,24 +82,24 @@ pub(crate) fn read_level<C: NumCode>(cursor: &mut Cursor<'_>) -> Option<Level>
 }
 
 // Whether what is left is so many levels, and nothing more. It stops at the first that is missing.
-pub(crate) fn are_levels<C: NumCode>(cursor: &mut Cursor<'_>, count: u64) -> bool
-    ensures { result ≡ is_some (levels_in C.takes count cursor.old) }
+pub(crate) fn are_levels<C: NumCode>(numbers: &mut Numbers<'_, C>, count: u64) -> bool
+    ensures { result ≡ are_items level_off count numbers.old }
 {
     for _ in 0..count {
-        if read_level::<C>(cursor).is_none() {
+        if read_level(numbers).is_none() {
             return false;
         }
     }
-    cursor.rest().is_empty()
+    numbers.is_end()
 }
 
 // Whether each of so many levels has the fragment of this name. It stops at the first that has not.
-pub(crate) fn all_have<C: NumCode>(cursor: &mut Cursor<'_>, count: u64, own: u64) -> bool
+pub(crate) fn all_have<C: NumCode>(numbers: &mut Numbers<'_, C>, count: u64, own: u64) -> bool
     ensures { result ≡ list_all (λ level. level.fragment == own)
-        (levels_off C.takes count cursor.old) }
+        (items_off level_off count numbers.old.numbers) }
 {
     for _ in 0..count {
-        let Some(level) = read_level::<C>(cursor) else {
+        let Some(level) = read_level(numbers) else {
             return true;
         };
         if level.fragment != own {
@@ -112,14 +112,14 @@ pub(crate) fn all_have<C: NumCode>(cursor: &mut Cursor<'_>, count: u64, own: u64
 // So many levels, or fewer where what comes next is none, in memory.
 pub(crate) fn read_levels<C: NumCode>(
     alloc: Global,
-    cursor: &mut Cursor<'_>,
+    numbers: &mut Numbers<'_, C>,
     count: u64,
 ) -> Result<Vec<Level>, NoMemory>
-    ensures { IfOk result (λ found. found.items ≡ levels_off C.takes count cursor.old) }
+    ensures { IfOk result (λ found. found.items ≡ items_off level_off count numbers.old.numbers) }
 {
     let mut found = Vec::new(alloc);
     for _ in 0..count {
-        let Some(level) = read_level::<C>(cursor) else {
+        let Some(level) = read_level(numbers) else {
             return Ok(found);
         };
         found.push(level)?;

@@ -20,13 +20,13 @@ after (character ∷ word) [] = None
 after (character ∷ word) (other ∷ text) = if character == other then after word text else None
 
 -- something that a word stands for
-abbrev pub worded : {A : Type 0} → A → List ℕ → List ℕ → Option (Front A)
-worded item word text = option_map (followed item) (after word text)
+abbrev pub word_front : {A : Type 0} → A → List ℕ → List ℕ → Option (Front A)
+word_front item word text = option_map (followed item) (after word text)
 
 -- the first of some names that is in front
 abbrev pub first_name : List SchemeName → List ℕ → Option (Front SchemeName)
 first_name [] text = None
-first_name (name ∷ names) text = option_or (worded name (name_of name) text) (first_name names text)
+first_name (name ∷ names) text = option_or (word_front name (name_of name) text) (first_name names text)
 
 -- the name of a scheme
 abbrev pub name_front : List ℕ → Option (Front SchemeName)

@@ -4,7 +4,7 @@ ghost use Rattle.std.specs.Prelude.{◌≡◌, ◌≤◌, ◌↔◌, All, IfOk, 
 ghost use Rattle.pls_model.specs.Walk.{IsConnected};
 ghost use Rattle.pls_graph.specs.Size.{size_of};
 ghost use Rattle.pls_base.specs.Steps.{capped};
-ghost use Rattle.pls_names.specs.Named.{HasNamed, IsNamedLabel, IsNamedMarked, judge_named, longest_named};
+ghost use Rattle.pls_names.specs.Named.{HasNamed, IsNamedLabel, IsNamedMarked, converted_named, judge_named, longest_named};
 ghost use Rattle.pls_names.specs.inner.Done.{IsDecided, IsMarking};
 
 use crate::by_name;
@@ -35,6 +35,19 @@ impl<C: NumCode> Named<C> {
             name,
             code: PhantomData,
         }
+    }
+
+    /// The label that the bits are, written in the number code `D`, or `None` where they are no
+    /// label of the scheme. The one error is want of memory.
+    pub fn convert_label<D: NumCode>(
+        &self,
+        alloc: Global,
+        bits: &Bits<'_>,
+    ) -> Result<Option<BitBuf>, NoMemory>
+        ensures { IfOk result (λ found. found
+            ≡ converted_named C.takes D.code self.now.name bits.now) }
+    {
+        by_name!(self.name, C, scheme => scheme.convert_label::<D>(alloc, bits))
     }
 }
 

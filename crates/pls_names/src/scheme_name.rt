@@ -78,7 +78,7 @@ macro_rules! by_name {
                 $done
             }
             $crate::SchemeName::Bipartite => {
-                let $scheme = $crate::scheme_name::Bipartite::new();
+                let $scheme = $crate::scheme_name::Bipartite::<$C>::new();
                 $done
             }
             $crate::SchemeName::Acyclic => {

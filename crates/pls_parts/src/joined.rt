@@ -5,7 +5,7 @@ ghost use Rattle.pls_bits.specs.declared.num_code.TheConstants.{MAX_CODED};
 ghost use Rattle.pls_base.specs.Steps.{capped};
 ghost use Rattle.pls_parts.specs.Joined.{EachJoined, joined_at, joined_bits, longest_both};
 ghost use Rattle.pls_parts.specs.Tagged.{EachTagged, longest_one_of, tagged_at};
-ghost use Rattle.pls_parts.specs.inner.Fits.{AllFit, HasCodes, IsWord};
+ghost use Rattle.pls_parts.specs.inner.Fits.{AllFit, HasCodes, FitsWord};
 
 use pls_base::NoMemory;
 use pls_bits::{BitBuf, Bits, MAX_CODED, NumCode};
@@ -22,7 +22,7 @@ pub fn joined_bits<C: NumCode>(
 ) -> Result<BitBuf, NoMemory>
     ensures bits { IfOk result (λ bits. bits ≡ joined_bits C.code front.entry back.entry) }
     ensures coded { IfOk result (λ bits. length front.entry ≤ MAX_CODED) }
-    ensures fits { IfOk result (λ bits. IsWord (length bits)) }
+    ensures fits { IfOk result (λ bits. FitsWord (length bits)) }
 {
     let mut bits = BitBuf::new(alloc);
     put_joined::<C>(&mut bits, front, back)?;
@@ -38,7 +38,7 @@ fn put_joined<C: NumCode>(
 ) -> Result<(), NoMemory>
     ensures bits { OnOk result (bits.new ≡ joined_bits C.code front.entry back.entry) }
     ensures coded { OnOk result (length front.entry ≤ MAX_CODED) }
-    ensures fits { OnOk result (IsWord (length bits.new)) }
+    ensures fits { OnOk result (FitsWord (length bits.new)) }
 {
     let len = front.len() as u64;
     if len > MAX_CODED {
@@ -104,7 +104,7 @@ pub fn tagged_labels(alloc: Global, tag: bool, rests: &LabelStore) -> Result<Lab
 /// A label behind a tag. The one error is want of memory.
 pub fn tagged_bits(alloc: Global, tag: bool, rest: Bits<'_>) -> Result<BitBuf, NoMemory>
     ensures bits { IfOk result (λ bits. bits ≡ tag ∷ rest.entry) }
-    ensures fits { IfOk result (λ bits. IsWord (length bits)) }
+    ensures fits { IfOk result (λ bits. FitsWord (length bits)) }
 {
     let mut bits = BitBuf::new(alloc);
     put_tagged(&mut bits, tag, rest)?;
@@ -114,7 +114,7 @@ pub fn tagged_bits(alloc: Global, tag: bool, rest: Bits<'_>) -> Result<BitBuf, N
 // Puts a label behind a tag in the place of the bits. The one error is want of memory.
 fn put_tagged(bits: &mut BitBuf, tag: bool, rest: Bits<'_>) -> Result<(), NoMemory>
     ensures bits { OnOk result (bits.new ≡ tag ∷ rest.entry) }
-    ensures fits { OnOk result (IsWord (length bits.new)) }
+    ensures fits { OnOk result (FitsWord (length bits.new)) }
 {
     bits.clear();
     bits.push(tag)?;

@@ -6,7 +6,7 @@ ghost use Rattle.std.specs.Option.{is_some};
 use crate::deeper::is_one_deeper;
 use pls_bits::NumCode;
 use pls_model::State;
-use pls_scheme::{Coded, Judgement, OfNumbers, Ruled, Rules, Verdict, judged_from};
+use pls_scheme::{Fixed, Judgement, OfNumbers, Ruled, Rules, Verdict, judged_from};
 use std::marker::PhantomData;
 
 /// What a label says.
@@ -19,7 +19,7 @@ pub struct DepthLabel {
 impl OfNumbers<1> for DepthLabel {
     ghost use Rattle.std.specs.Prelude.{refl};
     ghost use Rattle.pls_pointer.specs.Forest.{depth_label, numbers_of_depth};
-    ghost use Rattle.pls_scheme.specs.laws.CodeLaws.{are_numbers};
+    ghost use Rattle.pls_numbers.specs.laws.FixedLaws.{are_numbers};
 
     ghost numbers = { numbers_of_depth };
 
@@ -44,21 +44,33 @@ pub type Forest<C> = Ruled<ForestRules<C>>;
 /// The rules of forests of pointers.
 #[derive(Clone, Copy, Debug, PartialEq, Eq)]
 pub struct ForestRules<C> {
+    format: Fixed<DepthLabel, 1>,
     code: PhantomData<C>,
 }
 
 impl<C> Default for ForestRules<C> {
     fn default() -> Self {
-        ForestRules { code: PhantomData }
+        ForestRules {
+            format: Fixed::default(),
+            code: PhantomData,
+        }
     }
 }
 
 impl<C: NumCode> Judgement for ForestRules<C> {
     ghost use Rattle.pls_pointer.specs.Forest.{forest_rules};
 
-    type Layout = Coded<DepthLabel, C, 1>;
+    type Code = C;
+
+    type Format = Fixed<DepthLabel, 1>;
+
+    ghost format = { λ s. s.format };
 
     ghost rules = { λ _. forest_rules };
+
+    fn format(&self) -> &Fixed<DepthLabel, 1> {
+        &self.format
+    }
 }
 
 impl<C: NumCode> Rules for ForestRules<C> {

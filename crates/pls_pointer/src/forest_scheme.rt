@@ -13,14 +13,15 @@ use std::alloc::Global;
 
 impl<C: NumCode> Marker for ForestRules<C> {
     ghost use Rattle.pls_pointer.specs.Forest.{IsForest};
-    ghost use Rattle.pls_pointer.specs.Forest.{forest_says, longest_forest};
+    ghost use Rattle.pls_pointer.specs.Forest.{forest_limits, forest_says, forest_shape};
+    ghost use Rattle.pls_scheme.specs.Basic.{longest_by};
     ghost use Rattle.pls_pointer.specs.laws.ForestLaws.{forest_fits, forest_met, forest_one_right, forest_show};
 
     ghost holds = { λ _ rows. IsForest rows };
 
     ghost says = { λ _ rows row label. forest_says rows row label };
 
-    ghost longest = { λ _ size. longest_forest C.code size };
+    ghost longest = { λ _. longest_by forest_shape forest_limits C.code };
 
     fn longest(&self, size: &Size) -> u64 {
         codes_length::<C>(&[size.nodes])

@@ -6,7 +6,7 @@ ghost use Rattle.std.specs.Option.{is_some};
 use crate::deeper::is_one_deeper;
 use pls_bits::NumCode;
 use pls_model::State;
-use pls_scheme::{Coded, Judgement, OfNumbers, Ruled, Rules, Verdict, judged_from};
+use pls_scheme::{Fixed, Judgement, OfNumbers, Ruled, Rules, Verdict, judged_from};
 use std::marker::PhantomData;
 
 /// What a label says.
@@ -21,7 +21,7 @@ pub struct TreeLabel {
 impl OfNumbers<2> for TreeLabel {
     ghost use Rattle.std.specs.Prelude.{refl};
     ghost use Rattle.pls_pointer.specs.Tree.{numbers_of_tree, tree_label};
-    ghost use Rattle.pls_scheme.specs.laws.CodeLaws.{are_numbers};
+    ghost use Rattle.pls_numbers.specs.laws.FixedLaws.{are_numbers};
 
     ghost numbers = { numbers_of_tree };
 
@@ -46,31 +46,43 @@ pub type Tree<C> = Ruled<TreeRules<C>>;
 /// The rules of trees of pointers.
 #[derive(Clone, Copy, Debug, PartialEq, Eq)]
 pub struct TreeRules<C> {
+    format: Fixed<TreeLabel, 2>,
     code: PhantomData<C>,
 }
 
 impl<C> Default for TreeRules<C> {
     fn default() -> Self {
-        TreeRules { code: PhantomData }
+        TreeRules {
+            format: Fixed::default(),
+            code: PhantomData,
+        }
     }
 }
 
 impl<C: NumCode> Judgement for TreeRules<C> {
     ghost use Rattle.pls_pointer.specs.Tree.{tree_rules};
 
-    type Layout = Coded<TreeLabel, C, 2>;
+    type Code = C;
+
+    type Format = Fixed<TreeLabel, 2>;
+
+    ghost format = { λ s. s.format };
 
     ghost rules = { λ _. tree_rules };
+
+    fn format(&self) -> &Fixed<TreeLabel, 2> {
+        &self.format
+    }
 }
 
 impl<C: NumCode> Rules for TreeRules<C> {
     ghost use Rattle.std.specs.List.{list_all};
-    ghost use Rattle.pls_pointer.specs.Tree.{names_root};
+    ghost use Rattle.pls_scheme.specs.Reading.{has_number};
 
     // Whether the neighbours so far name the own root.
     type Tally = bool;
 
-    ghost tallied = { λ _ own ports. list_all (names_root own.root) ports };
+    ghost tallied = { λ _ own ports. list_all (has_number (λ label. label.root) own.root) ports };
 
     fn start(&self, _own: &TreeLabel) -> bool {
         true

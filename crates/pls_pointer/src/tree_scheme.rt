@@ -18,14 +18,15 @@ use std::alloc::Global;
 
 impl<C: NumCode> Marker for TreeRules<C> {
     ghost use Rattle.pls_facts.specs.SpanningTree.{IsTree};
-    ghost use Rattle.pls_pointer.specs.Tree.{longest_tree, tree_says};
+    ghost use Rattle.pls_pointer.specs.Tree.{tree_limits, tree_says, tree_shape};
+    ghost use Rattle.pls_scheme.specs.Basic.{longest_by};
     ghost use Rattle.pls_pointer.specs.laws.TreeLaws.{tree_fits, tree_met, tree_one_right, tree_show};
 
     ghost holds = { λ _ rows. IsTree rows };
 
     ghost says = { λ _ rows row label. tree_says rows row label };
 
-    ghost longest = { λ _ size. longest_tree C.code size };
+    ghost longest = { λ _. longest_by tree_shape tree_limits C.code };
 
     fn longest(&self, size: &Size) -> u64 {
         codes_length::<C>(&[u64::from(size.max_id), size.nodes])

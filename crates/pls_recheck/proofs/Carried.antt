@@ -8,7 +8,7 @@ use Rattle.pls_model.specs.declared.row.Port.{Port}
 use Rattle.pls_model.specs.declared.row.NodeRow.{NodeRow}
 use Rattle.pls_model.specs.declared.verdict.Verdict.{Verdict}
 use Rattle.pls_model.specs.Configuration.{IsNetwork, ids_of, port_to, row_of}
-use Rattle.pls_graph_edits.specs.Edits.{alone}
+use Rattle.pls_graph_edits.specs.Edits.{lone_node}
 use Rattle.pls_graph_edits.specs.inner.Gaps.{place_with, place_without}
 use Rattle.pls_graph.proofs.Finds.{fails_where_none, from_option_map}
 use Rattle.pls_graph.proofs.Placed.{WayBack, ids_differ, place_of_row, row_of_place, way_back}
@@ -150,7 +150,7 @@ module _ (rows : List NodeRow) (labels : List (List Bool)) (flags around : List 
       (none : row_of rows id ≡ None) where
     abbrev pub after_join : Kept
     after_join = record {
-      rows = insert rows i (alone id mark num);
+      rows = insert rows i (lone_node id mark num);
       labels = insert labels i [];
       flags = insert flags i true;
       around = insert around i false;
@@ -166,12 +166,12 @@ module _ (rows : List NodeRow) (labels : List (List Bool)) (flags around : List 
       ]))
     ]
       where
-        fresh : (j : ℕ) (row : NodeRow) → slice_get (insert rows i (alone id mark num)) j ≡ Some row
+        fresh : (j : ℕ) (row : NodeRow) → slice_get (insert rows i (lone_node id mark num)) j ≡ Some row
             → j ≡ i → IsFresh (λ node. id == node) after_join j row
         fresh j row at here =
-            let is : alone id mark num ≡ row = same_Some (alone id mark num) row
-            (sym (insert_here rows i (alone id mark num) inside)
-            ∙ ap (slice_get (insert rows i (alone id mark num))) (sym here) ∙ at) in
+            let is : lone_node id mark num ≡ row = same_Some (lone_node id mark num) row
+            (sym (insert_here rows i (lone_node id mark num) inside)
+            ∙ ap (slice_get (insert rows i (lone_node id mark num))) (sym here) ∙ at) in
             record {
               touched = ap (slice_get (insert flags i true)) here
                   ∙ insert_here flags i true (omega (arith, inside, a_flag));
@@ -180,10 +180,10 @@ module _ (rows : List NodeRow) (labels : List (List Bool)) (flags around : List 
               passed = eq-eqb id row.id (ap (λ (row : NodeRow). row.id) is);
             }
 
-        stood : (j : ℕ) (row : NodeRow) → slice_get (insert rows i (alone id mark num)) j ≡ Some row
+        stood : (j : ℕ) (row : NodeRow) → slice_get (insert rows i (lone_node id mark num)) j ≡ Some row
             → j ≢ i → HasStood (λ node. id == node) were after_join j row
         stood j row at other =
-            let was = sym (insert_other rows i j (alone id mark num) inside other) ∙ at in
+            let was = sym (insert_other rows i j (lone_node id mark num) inside other) ∙ at in
             let failed : (id == row.id) ≡ false =
             fails_where_none (λ (row : NodeRow). id == row.id) rows (place_without i j) row none was in
             record {
@@ -193,13 +193,13 @@ module _ (rows : List NodeRow) (labels : List (List Bool)) (flags around : List 
               note = insert_other around i j false (omega (arith, inside, a_note)) other;
               verdict = insert_other kept i j found (omega (arith, inside, a_verdict)) other;
               sees = seen_alike (label_of rows labels)
-                  (label_of (insert rows i (alone id mark num)) (insert labels i [])) row
-                  (sym (label_of-insert rows labels i (alone id mark num) [] row.id a_label inside
+                  (label_of (insert rows i (lone_node id mark num)) (insert labels i [])) row
+                  (sym (label_of-insert rows labels i (lone_node id mark num) [] row.id a_label inside
                   (ne_eqb row.id id (λ e. let no : true ≡ false = sym (eq-eqb id row.id (sym e)) ∙ failed in
                   absurd (cc no)))))
                   (λ p port has.
                   let way : WayBack rows row port = way_back rows net (place_without i j) row was p port has in
-                  sym (label_of-insert rows labels i (alone id mark num) [] port.nbr a_label inside
+                  sym (label_of-insert rows labels i (lone_node id mark num) [] port.nbr a_label inside
                   (ne_eqb port.nbr id (λ e.
                   let no : None ≡ Some way.other = sym none ∙ ap (row_of rows) (sym e) ∙ way.named in
                   absurd (cc no)))));

@@ -6,14 +6,14 @@ use Rattle.pls_model.specs.declared.row.NodeRow.{NodeRow}
 use Rattle.pls_model.specs.declared.verdict.Verdict.{Verdict}
 use Rattle.pls_model.specs.declared.verdict.Verdict.TheVariants.{Accept}
 use Rattle.pls_model.specs.Configuration.{IsNetwork, ids_of, row_of}
-use Rattle.pls_graph_edits.specs.Edits.{alone, join_refusal, joined, leave_refusal, left}
+use Rattle.pls_graph_edits.specs.Edits.{lone_node, join_refusal, joined, leave_refusal, left}
 use Rattle.pls_graph.specs.Places.{place_in}
 use Rattle.pls_edits.specs.declared.edit.Edit.TheVariants.{Join, Leave}
 use Rattle.pls_edits.specs.Edited.{place_for}
 use Rattle.pls_view.specs.Seen.{Seen}
-use Rattle.pls_recheck.specs.After.{after}
+use Rattle.pls_recheck.specs.After.{watch_after}
 use Rattle.pls_recheck.specs.Watch.{IsCurrent, Snapshot, is_among}
-use Rattle.pls_recheck.specs.inner.Flags.{AreKept, marked}
+use Rattle.pls_recheck.specs.inner.Flags.{MatchRows, marked}
 use Rattle.pls_recheck.proofs.Carried.{Carries, Kept, after_join, after_leave, carried_around, carried_current, carried_touched, join_carries, leave_carries}
 use Rattle.pls_recheck.proofs.Cleared.{current_by_flags, current_by_ids}
 use Rattle.pls_recheck.proofs.Coming.{joined_at, left_at, may_join, may_leave, place_inside}
@@ -29,7 +29,7 @@ shown now =
     }
 
 abbrev pub IsKept : Kept → Type 0
-IsKept now = AreKept now.rows now.labels now.flags now.around now.verdicts
+IsKept now = MatchRows now.rows now.labels now.flags now.around now.verdicts
 
 module _ (before : Kept) (net : IsNetwork before.rows) (kept : IsKept before) (now : Kept)
     (valid : IsNetwork now.rows) where
@@ -67,10 +67,10 @@ module _ (before : Kept) (net : IsNetwork before.rows) (kept : IsKept before) (n
           (may_join before.rows id allowed))
 
       one_more : {X : Type 0} (xs : List X) (x : X) → length xs ≡ length before.rows
-          → length (insert xs i x) ≡ length (insert before.rows i (alone id mark num))
+          → length (insert xs i x) ≡ length (insert before.rows i (lone_node id mark num))
       one_more xs x many =
           let one = length-insert xs i x (omega (arith, inside, many)) in
-          let two = length-insert before.rows i (alone id mark num) inside in
+          let two = length-insert before.rows i (lone_node id mark num) inside in
           omega (arith, one, two, many)
 
       pub join_keeps : IsKept now
@@ -85,11 +85,11 @@ module _ (before : Kept) (net : IsNetwork before.rows) (kept : IsKept before) (n
             (one_more before.around false kept.noted.as_many) kept.noted;
       })
 
-      pub join_makes : shown now ≡ after (Join id mark num) (shown before)
+      pub join_makes : shown now ≡ watch_after (Join id mark num) (shown before)
       join_makes =
           let rows : now.rows ≡ joined before.rows id mark num =
           ap (λ (now : Kept). now.rows) is
-          ∙ ap (λ (i : ℕ). insert before.rows i (alone id mark num)) place
+          ∙ ap (λ (i : ℕ). insert before.rows i (lone_node id mark num)) place
           ∙ sym (joined_at before.rows net id mark num allowed) in
           let labels : now.labels ≡ insert before.labels (place_for before.rows id) [] =
           ap (λ (now : Kept). now.labels) is ∙ ap (λ (i : ℕ). insert before.labels i []) place in
@@ -142,7 +142,7 @@ module _ (before : Kept) (net : IsNetwork before.rows) (kept : IsKept before) (n
             (one_less before.around kept.noted.as_many) kept.noted;
       })
 
-      pub leave_makes : shown now ≡ after (Leave id) (shown before)
+      pub leave_makes : shown now ≡ watch_after (Leave id) (shown before)
       leave_makes =
           let rows : now.rows ≡ left before.rows id =
           ap (λ (now : Kept). now.rows) is ∙ sym (left_at before.rows net i row at)

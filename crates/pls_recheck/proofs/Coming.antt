@@ -8,7 +8,7 @@ use Rattle.pls_model.specs.declared.row.NodeRow.{NodeRow}
 use Rattle.pls_model.specs.declared.limits.TheConstants.{MAX_NODES}
 use Rattle.pls_model.specs.Configuration.{IsNetwork, first_of, row_of}
 use Rattle.pls_graph_edits.specs.declared.edit_error.EditError.TheVariants.{Full, HasPorts, Last, Present}
-use Rattle.pls_graph_edits.specs.Edits.{alone, cause, join_refusal, joined, leave_refusal, left, with_row}
+use Rattle.pls_graph_edits.specs.Edits.{lone_node, cause, join_refusal, joined, leave_refusal, left, with_row}
 use Rattle.pls_graph.proofs.Placed.{ids_rise, place_of_row, row_of_place}
 use Rattle.pls_edits.specs.Edited.{place_for}
 use Rattle.pls_recheck.proofs.Shifted.{insert_here, remove_inserted}
@@ -143,26 +143,26 @@ module _ (rows : List NodeRow) (net : IsNetwork rows) (id mark num : ℕ)
   pub place_inside : place_for rows id ≤ length rows
   place_inside = few_lower id rows
 
-  pub joined_at : joined rows id mark num ≡ insert rows (place_for rows id) (alone id mark num)
-  joined_at = row_put (alone id mark num) rows (ids_rise rows net) (may_join rows id allowed)
+  pub joined_at : joined rows id mark num ≡ insert rows (place_for rows id) (lone_node id mark num)
+  joined_at = row_put (lone_node id mark num) rows (ids_rise rows net) (may_join rows id allowed)
 
   module _ (after : List NodeRow) (is : after ≡ joined rows id mark num)
       (valid : IsNetwork after) where
-    stands : slice_get after (place_for rows id) ≡ Some (alone id mark num)
+    stands : slice_get after (place_for rows id) ≡ Some (lone_node id mark num)
     stands = ap (λ (rows' : List NodeRow). slice_get rows' (place_for rows id)) (is ∙ joined_at)
-        ∙ insert_here rows (place_for rows id) (alone id mark num) place_inside
+        ∙ insert_here rows (place_for rows id) (lone_node id mark num) place_inside
 
     -- the new node is found at its place
     pub joined_place : position (λ row. id == row.id) after ≡ Some (place_for rows id)
-    joined_place = place_of_row after valid (place_for rows id) (alone id mark num) stands
+    joined_place = place_of_row after valid (place_for rows id) (lone_node id mark num) stands
 
     -- it may leave
     pub may_go : leave_refusal after id ≡ None
     may_go =
-        let found : row_of after id ≡ Some (alone id mark num) =
-        row_of_place after valid (place_for rows id) (alone id mark num) stands in
+        let found : row_of after id ≡ Some (lone_node id mark num) =
+        row_of_place after valid (place_for rows id) (lone_node id mark num) stands in
         let some = net.limits.some in
-        let more = length-insert rows (place_for rows id) (alone id mark num) place_inside in
+        let more = length-insert rows (place_for rows id) (lone_node id mark num) place_inside in
         let long = ap (λ (rows : List NodeRow). length rows) (is ∙ joined_at) in
         let many : (length after == 1) ≡ false =
         ne_eqb (length after) 1 (λ e. omega (arith, some, more, long, e)) in
@@ -170,6 +170,6 @@ module _ (rows : List NodeRow) (net : IsNetwork rows) (id mark num : ℕ)
 
     -- and then all is as before
     pub joined_and_left : left after id ≡ rows
-    joined_and_left = left_at after valid (place_for rows id) (alone id mark num) stands
+    joined_and_left = left_at after valid (place_for rows id) (lone_node id mark num) stands
         ∙ ap (λ (rows' : List NodeRow). remove rows' (place_for rows id)) (is ∙ joined_at)
-        ∙ remove_inserted rows (place_for rows id) (alone id mark num) place_inside
+        ∙ remove_inserted rows (place_for rows id) (lone_node id mark num) place_inside

@@ -11,7 +11,7 @@ use Rattle.pls_model.specs.Configuration.{IsNetwork, ids_of}
 use Rattle.pls_graph_edits.specs.Edits.{change_row, changed, in_state, weighed, weighing, with_state, with_weight}
 use Rattle.pls_graph.proofs.Finds.{fails_where_no_position, item_at}
 use Rattle.pls_graph.proofs.Placed.{place_of_row}
-use Rattle.pls_recheck.specs.inner.Flags.{AreAround, AreKept, ClearsSome, MarksMore, beside_itself, cleared, names}
+use Rattle.pls_recheck.specs.inner.Flags.{AreAround, MatchRows, ClearsSome, MarksMore, beside_itself, cleared, names}
 use Rattle.pls_recheck.proofs.Cleared.{length-cleared}
 use Rattle.pls_recheck.proofs.Steady.{Stays}
 
@@ -123,8 +123,8 @@ noted_after rows after ids old new around noted passes more many alike were = re
 pub kept_after : (rows after : List NodeRow) (labels : List (List Bool))
     (kept : List (ℕ × Verdict)) → (ids : ids_of after ≡ ids_of rows)
     → (old new around noted : List Bool) (passes : ℕ → Bool) → MarksMore passes after old new
-    → AreAround after new noted → AreKept rows labels old around kept
-    → AreKept after labels new noted kept
+    → AreAround after new noted → MatchRows rows labels old around kept
+    → MatchRows after labels new noted kept
 kept_after rows after labels kept ids old new around noted passes more now were = record {
   a_label = were.a_label ∙ rows_many;
   a_flag = more.as_many ∙ were.a_flag ∙ rows_many;

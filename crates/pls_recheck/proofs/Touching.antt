@@ -12,7 +12,7 @@ use Rattle.pls_graph.proofs.Finds.{fails_where_no_position}
 use Rattle.pls_graph.proofs.Placed.{place_of_row}
 use Rattle.pls_view.specs.Seen.{Seen}
 use Rattle.pls_edits.specs.Edited.{carried, edited, relabelled, touches}
-use Rattle.pls_recheck.specs.After.{after, touched_after}
+use Rattle.pls_recheck.specs.After.{watch_after, touched_after}
 use Rattle.pls_edits.specs.declared.edit.Edit.{Edit}
 use Rattle.pls_recheck.specs.Watch.{IsCurrent, Snapshot, is_among}
 use Rattle.pls_recheck.specs.inner.Flags.{MarksMore, marked}
@@ -126,7 +126,7 @@ pub snapshot_after : (edit : Edit) (before : Snapshot) (network : List NodeRow)
     → touched ≡ filter (λ node. is_among before.touched node || touches edit before.network node)
     (ids_of network)
     → record { network = network; labels = labels; touched = touched; kept = before.kept }
-    ≡ after edit before
+    ≡ watch_after edit before
 snapshot_after edit before network labels touched kept_are rows_are labels_are touched_are =
     rw (touched_are, labels_are, rows_are) (ap (λ (kept : List (ℕ × Verdict)). record {
       network = edited edit before.network;

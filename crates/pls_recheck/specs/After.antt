@@ -15,8 +15,8 @@ touched_after edit rows touched =
 
 -- what was watched, after the edit: all else stays. For a node that joins there is no verdict yet,
 -- and one is kept that nothing is said of
-abbrev pub after : Edit → Snapshot → Snapshot
-after edit before =
+abbrev pub watch_after : Edit → Snapshot → Snapshot
+watch_after edit before =
     record {
       network = edited edit before.network;
       labels = relabelled edit before.network before.labels;

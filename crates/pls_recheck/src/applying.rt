@@ -9,7 +9,7 @@ ghost use Rattle.pls_view.specs.Seen.{Seen};
 ghost use Rattle.pls_edits.specs.Edited.{FitsNum, RefusesWith, edit_refusal};
 ghost use Rattle.pls_edits.specs.declared.edit.Edit.{Edit};
 ghost use Rattle.pls_edits.specs.declared.edit.Edit.TheVariants.{State as StateEdit, Weight, Link, Unlink};
-ghost use Rattle.pls_recheck.specs.After.{after};
+ghost use Rattle.pls_recheck.specs.After.{watch_after};
 ghost use Rattle.pls_recheck.specs.Watch.{IsCurrent};
 ghost use Rattle.pls_recheck.specs.inner.Flags.{ClearsSome, MarksMore};
 
@@ -26,7 +26,7 @@ impl Watched {
     /// neighbours only where they need not all be touched already.
     pub fn apply(&mut self, edit: &Edit) -> Result<(), EditError>
         requires { FitsNum edit.now }
-        ensures ok { OnOk result (self.new ≡ after edit.now self.old) }
+        ensures ok { OnOk result (self.new ≡ watch_after edit.now self.old) }
         ensures allowed { OnOk result
             (edit_refusal edit.now self.old.network self.old.labels ≡ None) }
         ensures refused { IfErr result (λ error. RefusesWith edit.now
@@ -58,7 +58,7 @@ impl Watched {
     // Gives a node the state.
     fn set_state(&mut self, id: u32, state: State) -> Result<(), EditError>
         requires { state.num ≤ MAX_NUM }
-        ensures ok { OnOk result (self.new ≡ after (StateEdit id state) self.old) }
+        ensures ok { OnOk result (self.new ≡ watch_after (StateEdit id state) self.old) }
         ensures allowed { OnOk result (state_refusal self.old.network id state ≡ None) }
         ensures refused { IfErr result
             (λ error. state_refusal self.old.network id state ≡ Some error) }
@@ -74,7 +74,7 @@ impl Watched {
 
     // Gives an edge the weight.
     fn set_weight(&mut self, a: u32, b: u32, weight: u32) -> Result<(), EditError>
-        ensures ok { OnOk result (self.new ≡ after (Weight a b weight) self.old) }
+        ensures ok { OnOk result (self.new ≡ watch_after (Weight a b weight) self.old) }
         ensures allowed { OnOk result (weight_refusal self.old.network a b ≡ None) }
         ensures refused { IfErr result
             (λ error. weight_refusal self.old.network a b ≡ Some error) }
@@ -90,7 +90,7 @@ impl Watched {
 
     // Puts an edge in.
     fn link(&mut self, a: u32, b: u32, weight: u32) -> Result<(), EditError>
-        ensures ok { OnOk result (self.new ≡ after (Link a b weight) self.old) }
+        ensures ok { OnOk result (self.new ≡ watch_after (Link a b weight) self.old) }
         ensures allowed { OnOk result (link_refusal self.old.network a b ≡ None) }
         ensures refused { IfErr result
             (λ error. SaysEdit (link_refusal self.old.network a b) error) }
@@ -106,7 +106,7 @@ impl Watched {
 
     // Takes an edge away.
     fn unlink(&mut self, a: u32, b: u32) -> Result<(), EditError>
-        ensures ok { OnOk result (self.new ≡ after (Unlink a b) self.old) }
+        ensures ok { OnOk result (self.new ≡ watch_after (Unlink a b) self.old) }
         ensures allowed { OnOk result (unlink_refusal self.old.network a b ≡ None) }
         ensures refused { IfErr result
             (λ error. unlink_refusal self.old.network a b ≡ Some error) }

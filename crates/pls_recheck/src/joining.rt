@@ -10,7 +10,7 @@ ghost use Rattle.pls_graph.specs.Places.{place_in};
 ghost use Rattle.pls_view.specs.Seen.{Seen};
 ghost use Rattle.pls_edits.specs.Edited.{place_for};
 ghost use Rattle.pls_edits.specs.declared.edit.Edit.TheVariants.{Join, Leave};
-ghost use Rattle.pls_recheck.specs.After.{after};
+ghost use Rattle.pls_recheck.specs.After.{watch_after};
 ghost use Rattle.pls_recheck.specs.Watch.{IsCurrent};
 
 use crate::watched::Watched;
@@ -24,7 +24,7 @@ impl Watched {
     // Puts a node in, without ports and pointer and with an empty label, and gives its place.
     pub(crate) fn join(&mut self, id: u32, mark: u32, num: u64) -> Result<usize, EditError>
         requires { num ≤ MAX_NUM }
-        ensures ok { OnOk result (self.new ≡ after (Join id mark num) self.old) }
+        ensures ok { OnOk result (self.new ≡ watch_after (Join id mark num) self.old) }
         ensures place { IfOk result (λ place. place ≡ place_for self.old.network id) }
         ensures within { IfOk result (λ place. place ≤ length self.old.labels) }
         ensures allowed { OnOk result (join_refusal self.old.network id ≡ None) }
@@ -46,7 +46,7 @@ impl Watched {
 
     // Takes a node without ports away, with its label, and gives the place where it stood.
     pub(crate) fn leave(&mut self, id: u32) -> Result<usize, EditError>
-        ensures ok { OnOk result (self.new ≡ after (Leave id) self.old) }
+        ensures ok { OnOk result (self.new ≡ watch_after (Leave id) self.old) }
         ensures place { IfOk result (λ place. place ≡ place_in self.old.network id) }
         ensures within { IfOk result (λ place. place < length self.old.labels) }
         ensures allowed { OnOk result (leave_refusal self.old.network id ≡ None) }

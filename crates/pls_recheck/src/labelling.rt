@@ -10,7 +10,7 @@ ghost use Rattle.pls_view.specs.Seen.{Seen};
 ghost use Rattle.pls_edits.specs.Edited.{label_refusal};
 ghost use Rattle.pls_model.specs.declared.limits.TheConstants.{MAX_BITS};
 ghost use Rattle.pls_edits.specs.declared.edit.Edit.TheVariants.{Label};
-ghost use Rattle.pls_recheck.specs.After.{after};
+ghost use Rattle.pls_recheck.specs.After.{watch_after};
 ghost use Rattle.pls_recheck.specs.Watch.{IsCurrent};
 ghost use Rattle.pls_recheck.specs.inner.Flags.{AreAround, MarksMore, SetsAt, beside_itself};
 
@@ -26,7 +26,7 @@ const MOST_BITS: u64 = 268_435_456;
 impl Watched {
     // Gives a node the label, and gives its place.
     pub(crate) fn set_label(&mut self, id: u32, bits: &BitBuf) -> Result<usize, EditError>
-        ensures ok { OnOk result (self.new ≡ after (Label id bits.now) self.old) }
+        ensures ok { OnOk result (self.new ≡ watch_after (Label id bits.now) self.old) }
         ensures place { IfOk result (λ place. place ≡ place_in self.old.network id) }
         ensures within { IfOk result (λ place. place < length self.old.labels) }
         ensures allowed { OnOk result

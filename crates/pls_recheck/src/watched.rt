@@ -32,7 +32,7 @@ pub struct Watched {
 impl Model for Watched {
     ghost use Rattle.pls_model.specs.Configuration.{ids_of};
     ghost use Rattle.pls_recheck.specs.Watch.{Snapshot};
-    ghost use Rattle.pls_recheck.specs.inner.Flags.{AreKept, marked};
+    ghost use Rattle.pls_recheck.specs.inner.Flags.{MatchRows, marked};
 
     ghost Value = { Snapshot };
 
@@ -43,7 +43,7 @@ impl Model for Watched {
       kept = watched.kept.items;
     } };
 
-    ghost invariant = { λ watched. AreKept watched.net watched.labels watched.flags.items
+    ghost invariant = { λ watched. MatchRows watched.net watched.labels watched.flags.items
         watched.around.items watched.kept.items };
 }
 

@@ -7,7 +7,7 @@ use Rattle.pls_lines.specs.LineKind.{Always, alone}
 use Rattle.pls_lines.proofs.ListRead.{one_list}
 use Rattle.pls_schedule.specs.declared.event.Event.{Event}
 use Rattle.pls_model.specs.declared.limits.TheConstants.{MAX_LINES}
-use Rattle.pls_schedule.specs.ScheduleText.{AreEvents, FitsEvent, IsEventsRefusal, IsTold, TellsSchedule, WrittenSchedule, event_line, schedule_text}
+use Rattle.pls_schedule.specs.ScheduleText.{AreEvents, FitsEvent, IsEventsRefusal, HasEvents, TellsSchedule, WrittenSchedule, event_line, schedule_text}
 use Rattle.pls_schedule.specs.laws.EventLaws.{event_lines, events_list, schedule_headings}
 
 -- one text says one list of events
@@ -21,12 +21,12 @@ one_told text a b p q =
     one.items
 
 -- how many events there are is told by their count, up to the limit and beyond it
-pub over_limit : (written : WrittenSchedule) → IsTold written → MAX_LINES < written.events
+pub over_limit : (written : WrittenSchedule) → HasEvents written → MAX_LINES < written.events
     → (events : List Event) → TellsSchedule written.text events → MAX_LINES < length events
 over_limit written told over events tells =
     omega (arith, over, told.count, ap length (one_told written.text _ _ told.tells tells))
 
-pub within_limit : (written : WrittenSchedule) → IsTold written → written.events ≤ MAX_LINES
+pub within_limit : (written : WrittenSchedule) → HasEvents written → written.events ≤ MAX_LINES
     → (events : List Event) → TellsSchedule written.text events → length events ≤ MAX_LINES
 within_limit written told under events tells =
     omega (arith, under, told.count, ap length (one_told written.text _ _ told.tells tells))

@@ -50,12 +50,12 @@ abbrev pub AreEvents : List Event → Type 0
 AreEvents events = All FitsEvent events
 
 -- the line is the heading, which is one word and says nothing more
-abbrev pub IsHeading : List ℕ → Type 0
-IsHeading line = Says {X = Headed ScheduleWord} Always (alone (codes "schedule")) line
+abbrev pub IsScheduleHeading : List ℕ → Type 0
+IsScheduleHeading line = Says {X = Headed ScheduleWord} Always (alone (codes "schedule")) line
 
 -- the lines are those of a schedule part
 abbrev pub IsSchedulePart : List (List ℕ) → Type 0
-IsSchedulePart lines = IsListPart IsHeading event_line AreEvents lines
+IsSchedulePart lines = IsListPart IsScheduleHeading event_line AreEvents lines
 
 -- these are the events that the text says
 pub record TellsSchedule (text : List ℕ) (events : List Event) : Type 0 where
@@ -70,11 +70,11 @@ pub record WrittenSchedule : Type 0 where
   pub events : ℕ
 
 -- a text with its heading in this line, and so many events
-abbrev pub kept : List ℕ → ℕ → ℕ → WrittenSchedule
-kept text number events = record { text = text; number = number; events = events }
+abbrev pub written_schedule : List ℕ → ℕ → ℕ → WrittenSchedule
+written_schedule text number events = record { text = text; number = number; events = events }
 
 -- the text says some events, which are counted
-pub record IsTold (written : WrittenSchedule) : Type 0 where
+pub record HasEvents (written : WrittenSchedule) : Type 0 where
   pub list : List Event
   pub tells : TellsSchedule written.text list
   pub count : written.events ≡ counted list

@@ -36,14 +36,16 @@ pub struct ScheduleText<'a> {
 }
 
 impl<'a> Model for ScheduleText<'a> {
-    ghost use Rattle.pls_schedule.specs.ScheduleText.{IsTold, WrittenSchedule, kept};
+    ghost use Rattle.pls_schedule.specs.ScheduleText.{HasEvents, WrittenSchedule, written_schedule};
 
     ghost Value = { WrittenSchedule };
 
-    ghost view = { λ text. kept text.part.lines.rest text.part.lines.number text.part.kept.items };
+    ghost view = { λ text. written_schedule text.part.lines.rest text.part.lines.number
+        text.part.kept.items };
 
     ghost invariant = { λ text.
-        IsTold (kept text.part.lines.rest text.part.lines.number text.part.kept.items) };
+        HasEvents (written_schedule text.part.lines.rest text.part.lines.number
+        text.part.kept.items) };
 }
 
 impl<'a> Part<'a> for ScheduleText<'a> {

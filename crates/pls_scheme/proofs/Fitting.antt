@@ -1,13 +1,14 @@
 -- Labels of numbers that are within others.
-use Rattle.std.proofs.Common.{◌≡◌, ℕ, ◌*◌, ◌≤◌, Bool, true, List, [], ◌∷◌, length, nat_le, refl, ap, arith, length-append}
+use Rattle.std.proofs.Common.{◌≡◌, ℕ, ◌*◌, ◌≤◌, Bool, true, List, [], ◌∷◌, length, nat_le, refl, sym, ap, subst, arith, length-append}
 use Rattle.std.proofs.lemmas.Bool.{le-leb}
-use Rattle.std.proofs.lemmas.List.Elements.{All-cons, All-nil}
 use Rattle.pls_bits.specs.declared.num_code.TheConstants.{MAX_CODED, MAX_CODE_BITS}
 use Rattle.pls_bits.specs.NumberCode.{Grows, IsShort}
+use Rattle.pls_numbers.specs.declared.kind.FieldKind.{FieldKind}
+use Rattle.pls_numbers.specs.Numbers.{AreCoded, codes_of}
+use Rattle.pls_numbers.specs.Shape.{Shape}
 use Rattle.pls_scheme.specs.Length.{code_length, codes_length}
 use Rattle.pls_scheme.specs.Marked.{Fits}
 use Rattle.pls_base.specs.Steps.{capped}
-use Rattle.pls_scheme.specs.Numbers.{AreCoded, AreCodesOf, codes_of}
 
 -- numbers are within others, which have codes, place by place
 abbrev pub AreWithin : List ℕ → List ℕ → Type 0
@@ -20,13 +21,13 @@ AreWithin (number ∷ numbers) (limit ∷ limits) =
 module _ (code : ℕ → List Bool) (grows : Grows code) (short : IsShort code) where
   -- such numbers have codes, no longer than those of the others, nor than codes are
   pub record AreShort (numbers limits : List ℕ) : Type 0 where
-    pub coded : AreCoded numbers
-    pub within : length (codes_of code numbers) ≤ codes_length code limits
-    pub few : length (codes_of code numbers) ≤ MAX_CODE_BITS * length numbers
+    pub coded : AreCoded [] numbers
+    pub within : length (codes_of code [] numbers) ≤ codes_length code [] limits
+    pub few : length (codes_of code [] numbers) ≤ MAX_CODE_BITS * length numbers
 
   within_short : (numbers limits : List ℕ) → AreWithin numbers limits → AreShort numbers limits
   within_short [] [] within =
-      record { coded = All-nil (λ number. number ≤ MAX_CODED); within = omega arith; few = omega arith }
+      record { coded = tt; within = omega arith; few = omega arith }
   within_short [] (limit ∷ limits) within = absurd within
   within_short (number ∷ numbers) [] within = absurd within
   within_short (number ∷ numbers) (limit ∷ limits) within =
@@ -37,23 +38,27 @@ module _ (code : ℕ → List Bool) (grows : Grows code) (short : IsShort code) 
       let first : length (code number) ≤ length (code limit) =
       grows number limit within.0 within.1 in
       let one : length (code number) ≤ MAX_CODE_BITS = short number small in
-      let both = length-append (code number) (codes_of code numbers) in
+      let both = length-append (code number) (codes_of code [] numbers) in
       record {
-        coded = All-cons (λ number. number ≤ MAX_CODED) number numbers small others.coded;
+        coded = (small, others.coded);
         within = omega (arith, both, first, long, others.within);
         few = omega (arith, both, one, others.few);
       }
 
-  -- a label of a few such numbers fits
-  pub within_fits : {L : Type 0} (numbers : L → List ℕ) (label : L) (limits : List ℕ)
-      → length (numbers label) ≤ 255 → AreWithin (numbers label) limits
-      → Fits (λ bits label. AreCodesOf code (numbers label) bits)
-      (λ label. AreCoded (numbers label)) (capped (codes_length code limits)) label
-  within_fits numbers label limits few within =
-      let all : AreShort (numbers label) limits = within_short (numbers label) limits within in
+  -- a label of a few such numbers, all in code, fits
+  pub within_fits : {L : Type 0} (shape : Shape L) (label : L) (limits : List ℕ)
+      → shape.kinds ≡ [] → shape.Proper label → length (shape.numbers label) ≤ 255
+      → AreWithin (shape.numbers label) limits
+      → Fits shape code (capped (codes_length code [] limits)) label
+  within_fits shape label limits plain proper few within =
+      let all : AreShort (shape.numbers label) limits =
+      within_short (shape.numbers label) limits within in
+      let coded : AreCoded shape.kinds (shape.numbers label) =
+      subst (λ (kinds : List FieldKind). AreCoded kinds (shape.numbers label)) (sym plain)
+      all.coded in
+      let long = ap (λ (kinds : List FieldKind). length (codes_of code kinds (shape.numbers label)))
+      plain in
       record {
-        writable = all.coded;
-        short = λ bits is.
-            let long = ap (λ (bits : List Bool). length bits) is.written in
-            omega (arith, all.within, all.few, few, long);
+        writable = record { coded = coded; proper = proper };
+        short = omega (arith, all.within, all.few, few, long);
       }

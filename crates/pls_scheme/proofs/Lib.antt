@@ -1,5 +1,4 @@
 pub mod Accepted
-pub mod Codes
 pub mod Deciding
 pub mod Fitting
 pub mod HeldRules

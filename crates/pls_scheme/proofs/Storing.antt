@@ -1,15 +1,8 @@
 -- Labels that are put into a store one after the other.
-use Rattle.std.proofs.Common.{◌≡◌, ◌≢◌, ◌<◌, ◌+◌, ◌∙◌, ℕ, List, [], Bool, Some, length, set, sym, ap, inl, inr, arith, slice_get, subst}
+use Rattle.std.proofs.Common.{◌≡◌, ◌≢◌, ◌<◌, ◌+◌, ◌∙◌, ℕ, List, [], Bool, Some, length, set, sym, ap, inl, inr, arith, slice_get}
 use Rattle.std.proofs.lemmas.Bool.{cases_lt}
 use Rattle.std.proofs.lemmas.List.{get_or-set_other, get_or-set_same, length-set}
 use Rattle.std.proofs.lemmas.Option.{same_Some, slice_get-get_or}
-use Rattle.pls_scheme.specs.Spelled.{AddsSpelling}
-
--- a spelling that was put behind no bits stands alone
-pub spelled_alone : {L : Type 0} (layout : List Bool → L → Type 0) (label : L)
-    (old new : List Bool) → old ≡ [] → AddsSpelling layout label old new → layout new label
-spelled_alone layout label old new none adds =
-    subst (λ bits. layout bits label) (sym (rw none at adds.behind)) adds.spells
 
 -- the labels before a place are right
 abbrev pub AreRightBefore : {X : Type 0} → (X → List Bool → Type 0) → List X → List (List Bool) → ℕ

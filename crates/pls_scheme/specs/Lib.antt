@@ -1,9 +1,9 @@
 pub mod Judging
 pub mod Reading
-pub mod Numbers
 pub mod Length
 pub mod Spelled
 pub mod Marked
+pub mod Basic
 pub mod Scheme
 pub mod SchemeLaws
 pub mod Theorem

@@ -1,6 +1,7 @@
 -- Labels of which each says what is right for its node.
 use Rattle.std.specs.Prelude.{◌≡◌, ℕ, ◌≤◌, Bool, List, length, slice_get, Some}
 use Rattle.pls_model.specs.declared.row.NodeRow.{NodeRow}
+use Rattle.pls_numbers.specs.Shape.{IsWritable, Shape, spelling}
 
 -- the label of each node is the spelling of one that says what is right for the node
 pub record IsMarkedBy {L : Type 0} (spells : List Bool → L → Type 0)
@@ -23,7 +24,7 @@ AreSaidBy {L} say rows labels =
     → slice_get labels place ≡ Some label → label ≡ say row.id
 
 -- a label can be written, and in at most so many bits
-pub record Fits {L : Type 0} (spells : List Bool → L → Type 0) (can : L → Type 0) (most : ℕ)
-    (label : L) : Type 0 where
-  pub writable : can label
-  pub short : (bits : List Bool) → spells bits label → length bits ≤ most
+pub record Fits {L : Type 0} (shape : Shape L) (code : ℕ → List Bool) (most : ℕ) (label : L)
+    : Type 0 where
+  pub writable : IsWritable shape label
+  pub short : length (spelling shape code label) ≤ most

@@ -1,6 +1,7 @@
 -- Views whose labels are read, and verdicts by rules on what was read. Rule 1 asks that the own
 -- label can be read, rule 2 that each neighbour's can; the others are asked of what they say.
 use Rattle.std.specs.Prelude.{ℕ, ◌==◌, Bool, false, List, [], ◌∷◌, map, slice_get, Option, Some, None, option_map, option_and_then}
+use Rattle.std.specs.List.{list_all}
 use Rattle.pls_model.specs.declared.row.State.{State}
 use Rattle.pls_model.specs.declared.row.Port.{Port}
 use Rattle.pls_model.specs.declared.row.NodeRow.{NodeRow}
@@ -24,6 +25,14 @@ pub record Read (L : Type 0) : Type 0 where
 -- what it reads at the port that it points at, if it points at one
 abbrev pub target : {L : Type 0} → Read L → Option (ReadPort L)
 target view = option_and_then (slice_get view.ports) view.state.up
+
+-- the neighbour's label has this number
+abbrev pub has_number : {L : Type 0} → (L → ℕ) → ℕ → ReadPort L → Bool
+has_number number value port = number port.label == value
+
+-- every neighbour's label has the number of the own one
+abbrev pub agrees_on : {L : Type 0} → (L → ℕ) → Read L → Bool
+agrees_on number view = list_all (has_number number (number view.own)) view.ports
 
 -- a port with its label read, where that can be
 abbrev pub read_port : {L : Type 0} → (List Bool → Option L) → SeenPort → Option (ReadPort L)

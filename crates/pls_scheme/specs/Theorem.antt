@@ -6,6 +6,7 @@ use Rattle.pls_model.specs.Configuration.{IsNetwork}
 use Rattle.pls_model.specs.Walk.{IsConnected}
 use Rattle.pls_graph.specs.declared.size.Size.{Size}
 use Rattle.pls_graph.specs.Size.{size_of}
+use Rattle.pls_numbers.specs.Shape.{Shape}
 use Rattle.pls_scheme.specs.Judging.{AllHold}
 use Rattle.pls_scheme.specs.Marked.{Fits}
 use Rattle.pls_base.specs.Steps.{capped}
@@ -48,9 +49,9 @@ pub record AreWords (size : Size) : Type 0 where
   pub max_mark : size.max_mark ≤ 2 ^ 32 - 1
 
 -- what is right everywhere in a connected network with the property can be written, and is short
-abbrev pub RightFits : {L : Type 0} → (List Bool → L → Type 0) → (L → Type 0)
-    → (List NodeRow → Type 0) → (List NodeRow → NodeRow → L → Type 0) → (Size → ℕ) → Type 0
-RightFits {L} spells writable holds says longest =
+abbrev pub RightFits : {L : Type 0} → Shape L → (ℕ → List Bool) → (List NodeRow → Type 0)
+    → (List NodeRow → NodeRow → L → Type 0) → (Size → ℕ) → Type 0
+RightFits {L} shape code holds says longest =
     (rows : List NodeRow) → IsNetwork rows → IsConnected rows → holds rows → AreWords (size_of rows)
     → (say : ℕ → L) → AreRightEverywhere (says rows) rows say → (row : NodeRow) → Contains rows row
-    → Fits spells writable (capped (longest (size_of rows))) (say row.id)
+    → Fits shape code (capped (longest (size_of rows))) (say row.id)

@@ -1,9 +1,12 @@
 //! Basic schemes: rules and a marker, as a scheme.
 
+ghost use Rattle.std.specs.Prelude.{◌≡◌, IfOk};
+ghost use Rattle.pls_numbers.specs.Shape.{recoded};
+
 use crate::checker::Checker;
 use crate::in_place::JudgesInPlace;
+use crate::judgement::Judgement;
 use crate::labels::labels_of;
-use crate::layout::Layout;
 use crate::marker::Marker;
 use crate::once::Once;
 use crate::property::Property;
@@ -11,10 +14,11 @@ use crate::round::verdicts_of;
 use crate::scheme::Scheme;
 use crate::view_judged::judged;
 use pls_base::{NoMemory, Steps};
-use pls_bits::{BitBuf, Bits};
+use pls_bits::{BitBuf, Bits, NumCode};
 use pls_facts::is_valid;
 use pls_graph::{Network, Size};
 use pls_model::Verdict;
+use pls_numbers::{Format, recode};
 use pls_view::{LabelStore, Labels, View};
 use std::alloc::Global;
 
@@ -38,12 +42,29 @@ impl<R: Default> Basic<R> {
     }
 }
 
+impl<R: Judgement> Basic<R> {
+    /// The label that the bits are, written in the number code `D`, or `None` where they are no
+    /// label. The one error is want of memory.
+    pub fn convert_label<D: NumCode>(
+        &self,
+        alloc: Global,
+        bits: &Bits<'_>,
+    ) -> Result<Option<BitBuf>, NoMemory>
+        ensures { IfOk result (λ found. found ≡ recoded (R.Format.shape (R.format self.now.rules))
+            R.Code.takes D.code bits.now) }
+    {
+        recode::<R::Format, R::Code, D>(self.rules.format(), alloc, bits)
+    }
+}
+
 impl<R: JudgesInPlace> Checker for Basic<R> {
     ghost use Rattle.std.specs.Prelude.{true, false, refl};
-    ghost use Rattle.pls_scheme.specs.Reading.{judge_by};
+    ghost use Rattle.pls_numbers.specs.Shape.{said_by};
+    ghost use Rattle.pls_scheme.specs.Basic.{verdict_by};
     ghost use Rattle.pls_scheme.specs.laws.LeafLaws.{judge_by-leaf};
 
-    ghost judge = { λ s view. judge_by R.Layout.said (R.rules s.rules) view };
+    ghost judge = { λ s view. verdict_by (R.Format.shape (R.format s.rules)) (R.rules s.rules)
+        R.Code.takes view };
 
     ghost leaves = { λ _. 1 };
 
@@ -81,7 +102,8 @@ impl<R: JudgesInPlace> Checker for Basic<R> {
         verdicts_of(alloc, &self.rules, net, labels, steps)
     }
 
-    ghost leaf_law = { λ s. judge_by-leaf R.Layout.said (R.rules s.rules) };
+    ghost leaf_law = { λ s. judge_by-leaf
+        (said_by (R.Format.shape (R.format s.rules)) R.Code.takes) (R.rules s.rules) };
 
     ghost lends_law = { λ _ _. refl };
 }
@@ -95,26 +117,31 @@ impl<R: Marker> Property for Basic<R> {
 }
 
 impl<R: JudgesInPlace + Marker> Scheme for Basic<R> {
-    ghost use Rattle.pls_scheme.specs.Marked.{IsMarkedBy};
+    ghost use Rattle.pls_numbers.specs.Shape.{IsSpelled, IsWritable, said_by};
+    ghost use Rattle.pls_numbers.specs.laws.FormatLaws.{has_spelling, one_spelling, said_spells};
+    ghost use Rattle.pls_scheme.specs.Basic.{AreMarkedBy};
     ghost use Rattle.pls_scheme.specs.laws.Marking.{marked_once, one_said, sound_by};
 
-    type Label = <R::Layout as Layout>::Label;
+    type Label = <R::Format as Format>::Label;
 
-    ghost layout = { λ _ bits label. R.Layout.spells bits label };
+    ghost layout = { λ s bits label. IsSpelled (R.Format.shape (R.format s.rules)) R.Code.code bits
+        label };
 
-    ghost writable = { λ _ label. R.Layout.writable label };
+    ghost writable = { λ s label. IsWritable (R.Format.shape (R.format s.rules)) label };
 
-    ghost marked = { λ s rows labels.
-        IsMarkedBy R.Layout.spells (R.says s.rules rows) rows labels };
+    ghost marked = { λ s rows labels. AreMarkedBy (R.Format.shape (R.format s.rules))
+        (R.says s.rules) R.Code.code rows labels };
 
     ghost longest = { λ s size. R.longest s.rules size };
 
     fn read_label(&self, alloc: Global, bits: Bits<'_>) -> Result<Option<Self::Label>, NoMemory> {
-        R::Layout::read(alloc, &bits)
+        self.rules.format().read::<R::Code>(alloc, &bits)
     }
 
     fn write_label(&self, alloc: Global, label: &Self::Label) -> Result<BitBuf, NoMemory> {
-        R::Layout::write(alloc, label)
+        let mut bits = BitBuf::new(alloc);
+        self.rules.format().append::<R::Code>(&mut bits, label)?;
+        Ok(bits)
     }
 
     fn bound(&self, size: &Size) -> u64 {
@@ -128,21 +155,26 @@ impl<R: JudgesInPlace + Marker> Scheme for Basic<R> {
         let Some(said) = self.rules.right_labels(alloc, net)? else {
             return Ok(None);
         };
-        let labels = labels_of::<R::Layout>(alloc, &said)?;
+        let labels = labels_of::<R::Format, R::Code>(alloc, self.rules.format(), &said)?;
         Ok(Some(labels))
     }
 
-    ghost reads_back_law = { λ _. R.Layout.spelling_law };
+    ghost reads_back_law = { λ s. has_spelling (R.Format.shape (R.format s.rules)) R.Code.code };
 
-    ghost one_spelling_law = { λ _. R.Layout.one_spelling_law };
+    ghost one_spelling_law = { λ s. one_spelling (R.Format.shape (R.format s.rules)) R.Code.code };
 
-    ghost one_label_law = { λ _. one_said R.Layout.said R.Layout.spells R.Layout.said_law };
+    ghost one_label_law = { λ s. one_said (said_by (R.Format.shape (R.format s.rules)) R.Code.takes)
+        (IsSpelled (R.Format.shape (R.format s.rules)) R.Code.code)
+        (said_spells (R.Format.shape (R.format s.rules)) (R.Format.numbers_law (R.format s.rules))
+        R.Code.code R.Code.takes R.Code.takes_codes R.Code.takes_only) };
 
-    ghost sound_law = { λ s. sound_by R.Layout.said (R.rules s.rules) (R.holds s.rules)
-        (R.show_law s.rules) };
+    ghost sound_law = { λ s. sound_by (said_by (R.Format.shape (R.format s.rules)) R.Code.takes)
+        (R.rules s.rules) (R.holds s.rules) (R.show_law s.rules) };
 
-    ghost one_marking_law = { λ s. marked_once R.Layout.spells (R.holds s.rules) (R.says s.rules)
-        R.Layout.one_spelling_law (R.one_right_law s.rules) };
+    ghost one_marking_law = { λ s.
+        marked_once (IsSpelled (R.Format.shape (R.format s.rules)) R.Code.code) (R.holds s.rules)
+        (R.says s.rules) (one_spelling (R.Format.shape (R.format s.rules)) R.Code.code)
+        (R.one_right_law s.rules) };
 }
 
 impl<R: Marker> Marker for Once<R> {
@@ -160,7 +192,7 @@ impl<R: Marker> Marker for Once<R> {
         &self,
         alloc: Global,
         net: &Network,
-    ) -> Result<Option<Vec<<R::Layout as Layout>::Label>>, NoMemory> {
+    ) -> Result<Option<Vec<<R::Format as Format>::Label>>, NoMemory> {
         self.rules.right_labels(alloc, net)
     }
 

@@ -10,21 +10,21 @@ ghost use Rattle.pls_scheme.specs.Theorem.{HoldEverywhere};
 ghost use Rattle.pls_scheme.specs.inner.Holding.{AreKnown};
 
 use crate::certify::accepts;
-use crate::layout::Layout;
 use crate::rules::Rules;
 use pls_facts::is_valid;
 use pls_graph::Network;
 use pls_model::{Port, Verdict};
+use pls_numbers::Format;
 
 /// Whether the rules hold at every node where the labels say this, in the order of the nodes. It
 /// takes no memory.
 pub fn hold_everywhere<R: Rules>(
     rules: &R,
     net: &Network,
-    labels: &[<R::Layout as Layout>::Label],
+    labels: &[<R::Format as Format>::Label],
 ) -> bool
     requires { length labels.now ≡ length net.now }
-    ensures { (say : ℕ → R.Layout.Label) → AreSaidBy say net.now labels.now
+    ensures { (say : ℕ → R.Format.Label) → AreSaidBy say net.now labels.now
         → IsTrue result ↔ HoldEverywhere (R.rules rules.now) net.now say }
 {
     is_valid(net);
@@ -40,12 +40,12 @@ pub fn hold_everywhere<R: Rules>(
 fn verdict_at<R: Rules>(
     rules: &R,
     net: &Network,
-    labels: &[<R::Layout as Layout>::Label],
+    labels: &[<R::Format as Format>::Label],
     i: usize,
 ) -> Verdict
     requires each { length labels.now ≡ length net.now }
     requires within { i < length net.now }
-    ensures { (say : ℕ → R.Layout.Label) → AreSaidBy say net.now labels.now
+    ensures { (say : ℕ → R.Format.Label) → AreSaidBy say net.now labels.now
         → (row : NodeRow) → slice_get net.now i ≡ Some row
         → result ≡ judged_from 3 (R.rules rules.now (read_where say row)) }
 {
@@ -65,15 +65,15 @@ fn verdict_at<R: Rules>(
 fn tally_at<R: Rules>(
     rules: &R,
     net: &Network,
-    labels: &[<R::Layout as Layout>::Label],
-    own: &<R::Layout as Layout>::Label,
+    labels: &[<R::Format as Format>::Label],
+    own: &<R::Format as Format>::Label,
     ports: &[Port],
     places: &[u32],
 ) -> R::Tally
     requires each { length labels.now ≡ length net.now }
     requires known { AreKnown net.now ports.now }
     requires places { places.now ≡ named_places net.now ports.now }
-    ensures { (say : ℕ → R.Layout.Label) → AreSaidBy say net.now labels.now
+    ensures { (say : ℕ → R.Format.Label) → AreSaidBy say net.now labels.now
         → result ≡ R.tallied rules.now own.now (map (port_where say) ports.now) }
 {
     let mut tally = rules.start(own);

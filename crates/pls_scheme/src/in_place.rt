@@ -3,6 +3,7 @@
 ghost use Rattle.std.specs.Prelude.{◌≡◌, ℕ, ◌++◌, ◌∷◌, [], List, length, Some, IfSome, option_map};
 ghost use Rattle.std.specs.Option.{option_copied};
 ghost use Rattle.pls_model.specs.declared.row.State.{State};
+ghost use Rattle.pls_numbers.specs.Shape.{said_by};
 ghost use Rattle.pls_scheme.specs.Judging.{judged_from};
 ghost use Rattle.pls_scheme.specs.Reading.{Read, ReadPort, label_above, port_with, reading};
 
@@ -33,20 +34,21 @@ pub trait JudgesInPlace: Judgement {
     type Tally: Drop;
 
     // What is kept of a label.
-    ghost glance: { Self → Self.Layout.Label → Self.Glance };
+    ghost glance: { Self → Self.Format.Label → Self.Glance };
 
     // What is gathered of the node and of its first ports.
-    ghost gathered: { Self → Read Self.Layout.Label → Self.Tally };
+    ghost tally_of: { Self → Read Self.Format.Label → Self.Tally };
 
     /// What the bits say at a glance, or `None` where they are no label, read to their last bit.
     fn look(&self, bits: &Bits<'_>) -> Option<Self::Glance>
-        ensures { result ≡ option_map (glance self.now) (Self.Layout.said bits.now) };
+        ensures { result ≡ option_map (glance self.now)
+            (said_by (Self.Format.shape (Self.format self.now)) Self.Code.takes bits.now) };
 
     /// What is gathered before the first port.
     fn open(&self, own: &Self::Glance) -> Self::Tally
-        ensures { (id : ℕ) (state : State) (label : Self.Layout.Label)
+        ensures { (id : ℕ) (state : State) (label : Self.Format.Label)
             → glance self.now label ≡ own.now
-            → result ≡ gathered self.now (reading id state label []) };
+            → result ≡ tally_of self.now (reading id state label []) };
 
     /// What is gathered with one more port, the one at this place, of a node with this pointer.
     fn pass(
@@ -58,15 +60,17 @@ pub trait JudgesInPlace: Judgement {
         weight: u32,
         label: &Looked<'_, Self::Glance>,
     ) -> Self::Tally
-        ensures { (id : ℕ) (state : State) (mine theirs : Self.Layout.Label)
-            (ports : List (ReadPort Self.Layout.Label))
+        ensures { (id : ℕ) (state : State) (mine theirs : Self.Format.Label)
+            (ports : List (ReadPort Self.Format.Label))
             → state.up ≡ up → length ports ≡ place
-            → Self.Layout.said own.now.bits.now ≡ Some mine
+            → said_by (Self.Format.shape (Self.format self.now)) Self.Code.takes own.now.bits.now
+            ≡ Some mine
             → glance self.now mine ≡ own.now.glance.now
-            → Self.Layout.said label.now.bits.now ≡ Some theirs
+            → said_by (Self.Format.shape (Self.format self.now)) Self.Code.takes label.now.bits.now
+            ≡ Some theirs
             → glance self.now theirs ≡ label.now.glance.now
-            → tally ≡ gathered self.now (reading id state mine ports)
-            → result ≡ gathered self.now
+            → tally ≡ tally_of self.now (reading id state mine ports)
+            → result ≡ tally_of self.now
             (reading id state mine (ports ++ port_with weight theirs ∷ [])) };
 
     /// The verdict, where it is settled by the node's own label and by the one above, at the port
@@ -80,8 +84,9 @@ pub trait JudgesInPlace: Judgement {
         _own: &Looked<'_, Self::Glance>,
         _above: Option<&Self::Glance>,
     ) -> Option<Verdict>
-        ensures { (label : Self.Layout.Label) (ports : List (ReadPort Self.Layout.Label))
-            → Self.Layout.said _own.now.bits.now ≡ Some label
+        ensures { (label : Self.Format.Label) (ports : List (ReadPort Self.Format.Label))
+            → said_by (Self.Format.shape (Self.format self.now)) Self.Code.takes _own.now.bits.now
+            ≡ Some label
             → glance self.now label ≡ _own.now.glance.now
             → option_copied _above.entry ≡ option_map (glance self.now)
             (label_above ports _state.up)
@@ -101,10 +106,11 @@ pub trait JudgesInPlace: Judgement {
         above: Option<&Self::Glance>,
         tally: Self::Tally,
     ) -> Verdict
-        ensures { (label : Self.Layout.Label) (ports : List (ReadPort Self.Layout.Label))
-            → Self.Layout.said own.now.bits.now ≡ Some label
+        ensures { (label : Self.Format.Label) (ports : List (ReadPort Self.Format.Label))
+            → said_by (Self.Format.shape (Self.format self.now)) Self.Code.takes own.now.bits.now
+            ≡ Some label
             → glance self.now label ≡ own.now.glance.now
             → option_copied above.entry ≡ option_map (glance self.now) (label_above ports state.up)
-            → tally ≡ gathered self.now (reading id state label ports)
+            → tally ≡ tally_of self.now (reading id state label ports)
             → result ≡ judged_from 3 (Self.rules self.now (reading id state label ports)) };
 }

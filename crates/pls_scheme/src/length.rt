@@ -1,6 +1,6 @@
 //! How long codes are.
 
-ghost use Rattle.std.specs.Prelude.{◌≡◌};
+ghost use Rattle.std.specs.Prelude.{◌≡◌, []};
 ghost use Rattle.pls_scheme.specs.Length.{code_length, codes_length};
 ghost use Rattle.pls_base.specs.Steps.{capped};
 
@@ -21,7 +21,7 @@ pub fn code_length<C: NumCode>(number: u64) -> u64
 /// How many bits the codes of numbers have together, and `u64::MAX` where they have more, or where
 /// a number is too great for one. It takes no memory.
 pub fn codes_length<C: NumCode>(numbers: &[u64]) -> u64
-    ensures { result ≡ capped (codes_length C.code numbers.now) }
+    ensures { result ≡ capped (codes_length C.code [] numbers.now) }
 {
     let mut bits: u64 = 0;
     for number in numbers {

@@ -7,8 +7,8 @@
 //! spelling, and that a network is marked in one way. Code over any scheme rests on these texts
 //! alone.
 //!
-//! A basic scheme states only what is its own: how its labels are written ([`Layout`]; [`Coded`]
-//! for labels that are a few numbers), its rules ([`Rules`] over labels that are read, each once,
+//! A basic scheme states only what is its own: how its labels are lists of numbers ([`Format`];
+//! [`Fixed`] for a fixed count of them), its rules ([`Rules`] over labels that are read, each once,
 //! or [`JudgesInPlace`] over labels that are kept at a glance), its property and what labels are
 //! right ([`Marker`]).
 //! [`Basic`] makes the scheme of it, [`Ruled`] of [`Rules`]. Other schemes implement [`Checker`],
@@ -16,28 +16,25 @@
 //! of each label, as [`Basic`] does by what is [`Kept`] of it, in place or [`Boxed`].
 //!
 //! Definitions stand in `specs/`: `Judging` has verdicts and rounds, `Reading` what a node reads,
-//! `Theorem` what makes rules and a marker a scheme, `Marked` marked labels, `SchemeLaws` the laws.
+//! `Basic` what a basic scheme means, `Theorem` what makes rules and a marker a scheme, `Marked`
+//! marked labels, `SchemeLaws` the laws.
 //! Proofs may cite `specs/laws/` (`Saying`: rounds in which each label says what a function of the
-//! identity says; `CodeLaws`: labels of numbers), and of `proofs/` what is right for each node
-//! (`Markings`), labels of numbers within limits (`Fitting`), labels that are stored one after the
-//! other (`Storing`), tests at the ports (`SaidPorts`) and what is read with one more port
-//! (`MorePorts`).
+//! identity says), and of `proofs/` what is right for each node (`Markings`), labels of numbers
+//! within limits (`Fitting`), labels that are stored one after the other (`Storing`), tests at the
+//! ports (`SaidPorts`) and what is read with one more port (`MorePorts`).
 #![tactic(auto)]
 
 mod basic;
 mod certify;
 mod checker;
-mod coded;
 mod holding;
 mod in_place;
 mod judgement;
 mod judging;
 mod labels;
-mod layout;
 mod length;
 mod marker;
 mod memory;
-mod numbers;
 mod once;
 mod property;
 mod remembers;
@@ -50,19 +47,17 @@ mod view_judged;
 pub use basic::{Basic, Ruled};
 pub use certify::{are_accepted, certifies, is_scheme, some_node_rejects};
 pub use checker::Checker;
-pub use coded::{Coded, OfNumbers};
 pub use holding::hold_everywhere;
 pub use in_place::{JudgesInPlace, Looked};
 pub use judgement::Judgement;
 pub use judging::{is_one_more, judged_from};
 pub use labels::labels_of;
-pub use layout::{Layout, ReadsInPlace};
 pub use length::{code_length, codes_length};
 pub use marker::Marker;
 pub use memory::{Boxed, Kept};
-pub use numbers::{append_numbers, read_numbers};
 pub use once::Once;
 pub use pls_model::Verdict;
+pub use pls_numbers::{Fixed, Format, OfNumbers, ReadsInPlace};
 pub use property::Property;
 pub use remembers::Remembers;
 pub use rules::Rules;

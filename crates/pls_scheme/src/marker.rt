@@ -9,9 +9,9 @@ ghost use Rattle.pls_base.specs.Steps.{capped};
 ghost use Rattle.pls_scheme.specs.Theorem.{OneIsRight, RightFits, RulesAreMet, RulesShow};
 
 use crate::judgement::Judgement;
-use crate::layout::Layout;
 use pls_base::NoMemory;
 use pls_graph::{Network, Size};
+use pls_numbers::Format;
 use std::alloc::Global;
 
 /// Rules with a property that they show, and a marker of the networks that have it. A
@@ -22,7 +22,7 @@ pub trait Marker: Judgement {
     ghost holds: { Self → List NodeRow → Type 0 };
 
     // A label says what is right for the node of a row of a network with the property.
-    ghost says: { Self → List NodeRow → NodeRow → Self.Layout.Label → Type 0 };
+    ghost says: { Self → List NodeRow → NodeRow → Self.Format.Label → Type 0 };
 
     // How many bits a marked label has at most, in a network of this size.
     ghost longest: { Self → Size → ℕ };
@@ -38,7 +38,7 @@ pub trait Marker: Judgement {
         &self,
         alloc: Global,
         net: &Network,
-    ) -> Result<Option<Vec<<Self::Layout as Layout>::Label>>, NoMemory>
+    ) -> Result<Option<Vec<<Self::Format as Format>::Label>>, NoMemory>
         requires { IsConnected net.now }
         ensures lacking { IfOk result (λ found. IfNone found (holds self.now net.now → ⊥)) }
         ensures holds { IfOk result (λ found. IfSome found (λ labels. holds self.now net.now)) }
@@ -63,6 +63,6 @@ pub trait Marker: Judgement {
     ghost one_right_law: { (s : Self) → OneIsRight (holds s) (says s) };
 
     // What is right can be written, and is short.
-    ghost fits_law: { (s : Self) → RightFits Self.Layout.spells Self.Layout.writable (holds s)
-        (says s) (longest s) };
+    ghost fits_law: { (s : Self) → RightFits (Self.Format.shape (Self.format s)) Self.Code.code
+        (holds s) (says s) (longest s) };
 }

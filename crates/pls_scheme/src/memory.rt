@@ -11,7 +11,7 @@ use std::marker::Model;
 /// a small glance where it stands, and [`Boxed`] a large one elsewhere.
 pub trait Kept<G> {
     // What it says, or `None` where it cannot be read.
-    ghost kept: { Self → Option G };
+    ghost glance_in_memory: { Self → Option G };
 
     // What keeps this.
     ghost keeping: { Option G → Self };
@@ -22,16 +22,16 @@ pub trait Kept<G> {
 
     /// What the label says at a glance, or `None` where it cannot be read.
     fn glance(&self) -> Option<&G>
-        ensures { option_copied result ≡ kept self.now };
+        ensures { option_copied result ≡ glance_in_memory self.now };
 
     // What is kept is what was to be.
-    ghost kept_law: { (glance : Option G) → kept (keeping glance) ≡ glance };
+    ghost memory_law: { (glance : Option G) → glance_in_memory (keeping glance) ≡ glance };
 }
 
 impl<G: Drop> Kept<G> for Option<G> {
     ghost use Rattle.std.specs.Prelude.{refl};
 
-    ghost kept = { λ glance. glance };
+    ghost glance_in_memory = { λ glance. glance };
 
     ghost keeping = { λ glance. glance };
 
@@ -47,7 +47,7 @@ impl<G: Drop> Kept<G> for Option<G> {
         self.as_ref()
     }
 
-    ghost kept_law = { λ _. refl };
+    ghost memory_law = { λ _. refl };
 }
 
 /// What a label says at a glance, or `None` where it cannot be read, in a place of its own: to move
@@ -68,7 +68,7 @@ impl<G> Model for Boxed<G> {
 impl<G: Drop> Kept<G> for Boxed<G> {
     ghost use Rattle.std.specs.Prelude.{refl};
 
-    ghost kept = { λ memory. memory };
+    ghost glance_in_memory = { λ memory. memory };
 
     ghost keeping = { λ glance. glance };
 
@@ -90,5 +90,5 @@ impl<G: Drop> Kept<G> for Boxed<G> {
         }
     }
 
-    ghost kept_law = { λ _. refl };
+    ghost memory_law = { λ _. refl };
 }

@@ -2,10 +2,10 @@
 
 use crate::in_place::{JudgesInPlace, Looked};
 use crate::judgement::Judgement;
-use crate::layout::{Layout, ReadsInPlace};
 use crate::rules::Rules;
 use pls_bits::Bits;
 use pls_model::{State, Verdict};
+use pls_numbers::{Format, ReadsInPlace};
 
 /// Rules by which each label is read once, and kept whole.
 #[derive(Clone, Copy, Debug, PartialEq, Eq)]
@@ -23,24 +23,32 @@ impl<R: Default> Default for Once<R> {
 }
 
 impl<R: Judgement> Judgement for Once<R> {
-    type Layout = R::Layout;
+    type Code = R::Code;
+
+    type Format = R::Format;
+
+    ghost format = { λ s. R.format s.rules };
 
     ghost rules = { λ s view. R.rules s.rules view };
+
+    fn format(&self) -> &Self::Format {
+        self.rules.format()
+    }
 }
 
 impl<R: Rules> JudgesInPlace for Once<R> {
-    type Glance = <R::Layout as Layout>::Label;
+    type Glance = <R::Format as Format>::Label;
 
-    type Memory = Option<<R::Layout as Layout>::Label>;
+    type Memory = Option<<R::Format as Format>::Label>;
 
     type Tally = R::Tally;
 
     ghost glance = { λ _ label. label };
 
-    ghost gathered = { λ s view. R.tallied s.rules view.own view.ports };
+    ghost tally_of = { λ s view. R.tallied s.rules view.own view.ports };
 
     fn look(&self, bits: &Bits<'_>) -> Option<Self::Glance> {
-        R::Layout::read_in_place(bits)
+        self.rules.format().read_in_place::<R::Code>(bits)
     }
 
     fn open(&self, own: &Self::Glance) -> Self::Tally {

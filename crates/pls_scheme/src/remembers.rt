@@ -47,11 +47,14 @@ pub trait Remembers: Checker {
 }
 
 impl<R: JudgesInPlace> Remembers for Basic<R> {
+    ghost use Rattle.pls_numbers.specs.Shape.{said_by};
     ghost use Rattle.pls_scheme.specs.inner.Looks.{seen_in};
 
     type Memory = R::Memory;
 
-    ghost told = { λ s bits. R.Memory.keeping (seen_in R.Layout.said (R.glance s.rules) bits) };
+    ghost told = { λ s bits. R.Memory.keeping
+        (seen_in (said_by (R.Format.shape (R.format s.rules)) R.Code.takes) (R.glance s.rules)
+        bits) };
 
     fn remember(&self, alloc: Global, bits: &Bits<'_>) -> Result<Self::Memory, NoMemory> {
         R::Memory::keep(alloc, self.rules.look(bits))

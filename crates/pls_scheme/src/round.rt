@@ -3,8 +3,9 @@
 ghost use Rattle.std.specs.Prelude.{◌≡◌, ◌<◌, All, length, map, slice_get, Some, IfOk, IfSome};
 ghost use Rattle.std.specs.Option.{option_and_then, option_copied};
 ghost use Rattle.pls_view.specs.Seen.{Seen, views};
+ghost use Rattle.pls_numbers.specs.Shape.{said_by};
+ghost use Rattle.pls_scheme.specs.Basic.{verdict_by};
 ghost use Rattle.pls_scheme.specs.Judging.{RoseByAtMost, verdicts_by};
-ghost use Rattle.pls_scheme.specs.Reading.{judge_by};
 ghost use Rattle.pls_scheme.specs.inner.Looks.{AreLooked};
 
 use crate::in_place::{JudgesInPlace, Looked};
@@ -27,7 +28,8 @@ pub(crate) fn verdicts_of<R: JudgesInPlace, L: Labels>(
 ) -> Result<Vec<Verdict>, NoMemory>
     requires { length (L.listed labels.now) ≡ length net.now }
     ensures verdicts { IfOk result (λ found. found.items
-        ≡ verdicts_by (judge_by R.Layout.said (R.rules rules.now)) net.now (L.listed labels.now)) }
+        ≡ verdicts_by (verdict_by (R.Format.shape (R.format rules.now)) (R.rules rules.now)
+        R.Code.takes) net.now (L.listed labels.now)) }
     ensures few_steps { RoseByAtMost (length net.now) steps.old steps.new }
 {
     let looked = look_at_all(alloc, rules, labels)?;
@@ -46,7 +48,8 @@ fn look_at_all<R: JudgesInPlace, L: Labels>(
     labels: &L,
 ) -> Result<Vec<Option<R::Glance>>, NoMemory>
     ensures { IfOk result
-        (λ looked. AreLooked R.Layout.said (R.glance rules.now) (L.listed labels.now) looked.items) }
+        (λ looked. AreLooked (said_by (R.Format.shape (R.format rules.now)) R.Code.takes)
+        (R.glance rules.now) (L.listed labels.now) looked.items) }
 {
     let mut looked = Vec::with_capacity(alloc, labels.len())?;
     for i in 0..labels.len() {
@@ -64,11 +67,12 @@ pub(crate) fn verdict_at<R: JudgesInPlace, L: Labels, E: Kept<R::Glance>>(
     i: usize,
 ) -> Verdict
     requires each { length (L.listed labels.now) ≡ length net.now }
-    requires looked { AreLooked R.Layout.said (R.glance rules.now) (L.listed labels.now)
-        (map E.kept looked.now) }
+    requires looked { AreLooked (said_by (R.Format.shape (R.format rules.now)) R.Code.takes)
+        (R.glance rules.now) (L.listed labels.now) (map E.glance_in_memory looked.now) }
     requires within { i < length net.now }
     ensures { (view : Seen) → slice_get (views net.now (L.listed labels.now)) i ≡ Some view
-        → result ≡ judge_by R.Layout.said (R.rules rules.now) view }
+        → result ≡ verdict_by (R.Format.shape (R.format rules.now)) (R.rules rules.now)
+        R.Code.takes view }
 {
     match settled_at(rules, net, labels, looked, i) {
         Some(verdict) => verdict,
@@ -85,11 +89,12 @@ fn verdict_by_all<R: JudgesInPlace, L: Labels, E: Kept<R::Glance>>(
     i: usize,
 ) -> Verdict
     requires each { length (L.listed labels.now) ≡ length net.now }
-    requires looked { AreLooked R.Layout.said (R.glance rules.now) (L.listed labels.now)
-        (map E.kept looked.now) }
+    requires looked { AreLooked (said_by (R.Format.shape (R.format rules.now)) R.Code.takes)
+        (R.glance rules.now) (L.listed labels.now) (map E.glance_in_memory looked.now) }
     requires within { i < length net.now }
     ensures { (view : Seen) → slice_get (views net.now (L.listed labels.now)) i ≡ Some view
-        → result ≡ judge_by R.Layout.said (R.rules rules.now) view }
+        → result ≡ verdict_by (R.Format.shape (R.format rules.now)) (R.rules rules.now)
+        R.Code.takes view }
 {
     let (id, state) = net.node(i);
     let ports = net.ports(i);
@@ -128,8 +133,8 @@ pub(crate) fn glance_above<'a, G, E: Kept<G>>(
 ) -> Option<&'a G>
     requires pointer { IfSome up (λ up. up < length places.now) }
     requires within { All (λ place. place < length looked.now) places.now }
-    ensures { option_copied result ≡ option_and_then E.kept (option_and_then (slice_get looked.now)
-        (option_and_then (slice_get places.now) up)) }
+    ensures { option_copied result ≡ option_and_then E.glance_in_memory
+        (option_and_then (slice_get looked.now) (option_and_then (slice_get places.now) up)) }
 {
     match up {
         Some(up) => looked[places[up as usize] as usize].glance(),

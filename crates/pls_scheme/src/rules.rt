@@ -6,31 +6,31 @@ ghost use Rattle.pls_scheme.specs.Judging.{judged_from};
 ghost use Rattle.pls_scheme.specs.Reading.{ReadPort, label_above, port_with, reading};
 
 use crate::judgement::Judgement;
-use crate::layout::{Layout, ReadsInPlace};
 use pls_model::{State, Verdict};
+use pls_numbers::{Format, ReadsInPlace};
 
 /// Rules that are tried on labels that are read: the own label, and each neighbour's, once for all
 /// rules. Of the neighbours they know the one that the node points at, and a tally of all.
-pub trait Rules: Judgement<Layout: ReadsInPlace> {
+pub trait Rules: Judgement<Format: ReadsInPlace> {
     /// What the rules need of all ports.
     type Tally: Drop;
 
     // What the rules need of ports, under what the own label says.
-    ghost tallied: { Self → Self.Layout.Label → List (ReadPort Self.Layout.Label) → Self.Tally };
+    ghost tallied: { Self → Self.Format.Label → List (ReadPort Self.Format.Label) → Self.Tally };
 
     /// The tally of no port.
-    fn start(&self, own: &<Self::Layout as Layout>::Label) -> Self::Tally
+    fn start(&self, own: &<Self::Format as Format>::Label) -> Self::Tally
         ensures { result ≡ tallied self.now own.now [] };
 
     /// The tally with one more port.
     fn add(
         &self,
-        own: &<Self::Layout as Layout>::Label,
+        own: &<Self::Format as Format>::Label,
         tally: Self::Tally,
         weight: u32,
-        label: &<Self::Layout as Layout>::Label,
+        label: &<Self::Format as Format>::Label,
     ) -> Self::Tally
-        ensures { (ports : List (ReadPort Self.Layout.Label))
+        ensures { (ports : List (ReadPort Self.Format.Label))
             → tally ≡ tallied self.now own.now ports
             → result ≡ tallied self.now own.now (ports ++ port_with weight label.now ∷ []) };
 
@@ -41,11 +41,11 @@ pub trait Rules: Judgement<Layout: ReadsInPlace> {
         &self,
         id: u32,
         state: State,
-        own: &<Self::Layout as Layout>::Label,
-        above: Option<&<Self::Layout as Layout>::Label>,
+        own: &<Self::Format as Format>::Label,
+        above: Option<&<Self::Format as Format>::Label>,
         tally: Self::Tally,
     ) -> Verdict
-        ensures { (ports : List (ReadPort Self.Layout.Label))
+        ensures { (ports : List (ReadPort Self.Format.Label))
             → option_copied above.entry ≡ label_above ports state.up
             → tally ≡ tallied self.now own.now ports
             → result ≡ judged_from 3 (Self.rules self.now (reading id state own.now ports)) };

@@ -2,7 +2,8 @@
 
 ghost use Rattle.std.specs.Prelude.{◌≡◌, ◌<◌, ℕ, All, is_some, length, map, slice_get, true, None, Some, IfSome, IsFalse, IsTrue};
 ghost use Rattle.pls_view.specs.Seen.{Seen, views};
-ghost use Rattle.pls_scheme.specs.Reading.{judge_by};
+ghost use Rattle.pls_numbers.specs.Shape.{said_by};
+ghost use Rattle.pls_scheme.specs.Basic.{verdict_by};
 ghost use Rattle.pls_scheme.specs.inner.Looks.{AreLooked, kept_at_port};
 
 use crate::in_place::{JudgesInPlace, Looked};
@@ -23,12 +24,13 @@ pub(crate) fn settled_at<R: JudgesInPlace, L: Labels, E: Kept<R::Glance>>(
     i: usize,
 ) -> Option<Verdict>
     requires each { length (L.listed labels.now) ≡ length net.now }
-    requires looked { AreLooked R.Layout.said (R.glance rules.now) (L.listed labels.now)
-        (map E.kept looked.now) }
+    requires looked { AreLooked (said_by (R.Format.shape (R.format rules.now)) R.Code.takes)
+        (R.glance rules.now) (L.listed labels.now) (map E.glance_in_memory looked.now) }
     requires within { i < length net.now }
     ensures { IfSome result (λ verdict. (view : Seen)
         → slice_get (views net.now (L.listed labels.now)) i ≡ Some view
-        → verdict ≡ judge_by R.Layout.said (R.rules rules.now) view) }
+        → verdict ≡ verdict_by (R.Format.shape (R.format rules.now)) (R.rules rules.now)
+        R.Code.takes view) }
 {
     let (id, state) = net.node(i);
     let ports = net.ports(i);
@@ -53,9 +55,9 @@ pub(crate) fn settled_at<R: JudgesInPlace, L: Labels, E: Kept<R::Glance>>(
 fn are_read<G, E: Kept<G>>(looked: &[E], places: &[u32]) -> bool
     requires { All (λ place. place < length looked.now) places.now }
     ensures read { IsTrue result → (p : ℕ) → p < length places.now
-        → is_some (kept_at_port E.kept looked.now places.now p) ≡ true }
+        → is_some (kept_at_port E.glance_in_memory looked.now places.now p) ≡ true }
     ensures unread { IsFalse result → (p : ℕ) × (p < length places.now)
-        × (kept_at_port E.kept looked.now places.now p ≡ None) }
+        × (kept_at_port E.glance_in_memory looked.now places.now p ≡ None) }
 {
     for p in 0..places.len() {
         if looked[places[p] as usize].glance().is_none() {

@@ -1,7 +1,8 @@
 //! The verdict on a view, by rules that are tried in place.
 
 ghost use Rattle.std.specs.Prelude.{◌≡◌};
-ghost use Rattle.pls_scheme.specs.Reading.{is_pointer, judge_by};
+ghost use Rattle.pls_scheme.specs.Basic.{verdict_by};
+ghost use Rattle.pls_scheme.specs.Reading.{is_pointer};
 
 use crate::in_place::{JudgesInPlace, Looked};
 use pls_model::Verdict;
@@ -9,7 +10,8 @@ use pls_view::View;
 
 // The verdict on a view, in one pass over its ports. Each label is looked at once.
 pub(crate) fn judged<R: JudgesInPlace>(rules: &R, view: &View<'_>) -> Verdict
-    ensures { result ≡ judge_by R.Layout.said (R.rules rules.now) view.now }
+    ensures { result ≡ verdict_by (R.Format.shape (R.format rules.now)) (R.rules rules.now)
+        R.Code.takes view.now }
 {
     let Some(glance) = rules.look(&view.own) else {
         return Verdict::Reject { leaf: 1, rule: 1 };

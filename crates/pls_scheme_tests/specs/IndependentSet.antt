@@ -6,7 +6,8 @@ use Rattle.std.specs.List.{list_any}
 use Rattle.pls_model.specs.declared.row.NodeRow.{NodeRow}
 use Rattle.pls_model.specs.Walk.{Adjacent, edges_of}
 use Rattle.pls_graph.specs.declared.size.Size.{Size}
-use Rattle.pls_scheme.specs.Length.{codes_length}
+use Rattle.pls_numbers.specs.Fixed.{fixed_shape}
+use Rattle.pls_numbers.specs.Shape.{Shape}
 use Rattle.pls_scheme.specs.Reading.{Read, ReadPort}
 use Rattle.pls_scheme_tests.specs.declared.independent_set.MarkLabel.{MarkLabel}
 
@@ -36,6 +37,10 @@ numbers_of_mark label = label.mark ∷ []
 abbrev pub mark_label : List ℕ → MarkLabel
 mark_label list = record { mark = get_or list 0 0 }
 
+-- a label is one number, in code
+abbrev pub mark_shape : Shape MarkLabel
+mark_shape = fixed_shape 1 numbers_of_mark mark_label
+
 -- the neighbour is in the set
 abbrev pub is_inside : ReadPort MarkLabel → Bool
 is_inside port = port.label.mark == 1
@@ -49,12 +54,12 @@ abbrev pub is_apart : Read MarkLabel → Bool
 is_apart view = not (view.own.mark == 1 && list_any is_inside view.ports)
 
 -- rule 5: a node outside has one
-abbrev pub is_beside : Read MarkLabel → Bool
-is_beside view = view.own.mark == 1 || list_any is_inside view.ports
+abbrev pub has_one_beside : Read MarkLabel → Bool
+has_one_beside view = view.own.mark == 1 || list_any is_inside view.ports
 
 -- the rules from 3 on
 abbrev pub independent_rules : Read MarkLabel → List Bool
-independent_rules view = says_its_mark view ∷ is_apart view ∷ is_beside view ∷ []
+independent_rules view = says_its_mark view ∷ is_apart view ∷ has_one_beside view ∷ []
 
 -- the label of a node
 abbrev pub mark_of : NodeRow → MarkLabel
@@ -64,6 +69,6 @@ mark_of row = record { mark = row.state.mark }
 abbrev pub independent_says : List NodeRow → NodeRow → MarkLabel → Type 0
 independent_says rows row label = label ≡ mark_of row
 
--- how many bits a marked label has at most: the code of the greatest mark
-abbrev pub longest_independent : (ℕ → List Bool) → Size → ℕ
-longest_independent code size = codes_length code (size.max_mark ∷ [])
+-- no number of a marked label is greater: the greatest mark
+abbrev pub independent_limits : Size → List ℕ
+independent_limits size = size.max_mark ∷ []

@@ -11,7 +11,7 @@ use pls_facts::is_valid;
 use pls_graph::{Network, Size};
 use pls_model::State;
 use pls_scheme::{
-    Coded, Judgement, Marker, OfNumbers, Ruled, Rules, Verdict, codes_length, hold_everywhere,
+    Fixed, Judgement, Marker, OfNumbers, Ruled, Rules, Verdict, codes_length, hold_everywhere,
     judged_from,
 };
 use std::alloc::Global;
@@ -26,7 +26,7 @@ pub struct MarkLabel {
 
 impl OfNumbers<1> for MarkLabel {
     ghost use Rattle.std.specs.Prelude.{refl};
-    ghost use Rattle.pls_scheme.specs.laws.CodeLaws.{are_numbers};
+    ghost use Rattle.pls_numbers.specs.laws.FixedLaws.{are_numbers};
     ghost use Rattle.pls_scheme_tests.specs.IndependentSet.{mark_label, numbers_of_mark};
 
     ghost numbers = { numbers_of_mark };
@@ -52,21 +52,33 @@ pub type IndependentSet<C> = Ruled<IndependentRules<C>>;
 /// The rules of maximal independent sets.
 #[derive(Clone, Copy, Debug, PartialEq, Eq)]
 pub struct IndependentRules<C> {
+    format: Fixed<MarkLabel, 1>,
     code: PhantomData<C>,
 }
 
 impl<C> Default for IndependentRules<C> {
     fn default() -> Self {
-        IndependentRules { code: PhantomData }
+        IndependentRules {
+            format: Fixed::default(),
+            code: PhantomData,
+        }
     }
 }
 
 impl<C: NumCode> Judgement for IndependentRules<C> {
     ghost use Rattle.pls_scheme_tests.specs.IndependentSet.{independent_rules};
 
-    type Layout = Coded<MarkLabel, C, 1>;
+    type Code = C;
+
+    type Format = Fixed<MarkLabel, 1>;
+
+    ghost format = { λ s. s.format };
 
     ghost rules = { λ _. independent_rules };
+
+    fn format(&self) -> &Fixed<MarkLabel, 1> {
+        &self.format
+    }
 }
 
 impl<C: NumCode> Rules for IndependentRules<C> {
@@ -106,14 +118,15 @@ impl<C: NumCode> Rules for IndependentRules<C> {
 }
 
 impl<C: NumCode> Marker for IndependentRules<C> {
-    ghost use Rattle.pls_scheme_tests.specs.IndependentSet.{IsMaximalIndependent, independent_says, longest_independent};
+    ghost use Rattle.pls_scheme_tests.specs.IndependentSet.{IsMaximalIndependent, independent_limits, independent_says, mark_shape};
+    ghost use Rattle.pls_scheme.specs.Basic.{longest_by};
     ghost use Rattle.pls_scheme_tests.specs.laws.IndependentSetLaws.{independent_fits, independent_met, independent_one_right, independent_show};
 
     ghost holds = { λ _ rows. IsMaximalIndependent rows };
 
     ghost says = { λ _ rows row label. independent_says rows row label };
 
-    ghost longest = { λ _ size. longest_independent C.code size };
+    ghost longest = { λ _. longest_by mark_shape independent_limits C.code };
 
     fn longest(&self, size: &Size) -> u64 {
         codes_length::<C>(&[u64::from(size.max_mark)])

@@ -6,10 +6,10 @@ use Rattle.std.proofs.lemmas.Bool.{cases_lt, ltb-false, ltb-true}
 use Rattle.std.proofs.lemmas.Option.{same_Some}
 use Rattle.pls_scheme_text.specs.declared.scheme_error.SchemeError.{SchemeError}
 use Rattle.pls_scheme_text.specs.declared.scheme_error.SchemeError.TheVariants.{NoMemory, NotAScheme, TooDeep, TooMany}
-use Rattle.pls_property.specs.Expression.{Expression, IsSmall, IsWritable, depth_of, names_of}
+use Rattle.pls_property.specs.Expression.{Expression, IsSmall, CanBeWritten, depth_of, names_of}
 use Rattle.pls_scheme_text.specs.ExpressionText.{HasTooManyNames, IsNoExpression, IsNoScheme, IsTooDeep, deepest, expression_text}
 use Rattle.pls_names.specs.Front.{Front}
-use Rattle.pls_scheme_text.specs.inner.Fronts.{alone, count_front, expression_front, expression_in, names_in, refusal_of}
+use Rattle.pls_scheme_text.specs.inner.Fronts.{whole_item, count_front, expression_front, expression_in, names_in, scheme_refusal_of}
 use Rattle.pls_scheme_text.specs.laws.DepthLaws.{deep_text}
 use Rattle.pls_scheme_text.specs.laws.TextLaws.{expression_in-is, expression_in-text, one_expression}
 
@@ -43,22 +43,22 @@ names_in-is text = by (expression_front false 7 text)
     kept found false = refl
 
     by : (front : Option (Front Expression))
-        → option_and_then alone (option_map count_front front)
-        ≡ option_map names_counted (option_and_then alone front)
+        → option_and_then whole_item (option_map count_front front)
+        ≡ option_map names_counted (option_and_then whole_item front)
     by None = refl
     by (Some found) = kept found (length found.rest == 0)
 
 -- the cases of a text: it is too deep, or that of no expression, of one of too many names, or of a
 -- small one
 data Case (text : List ℕ) : Type 0 where
-  Deep : IsTooDeep text → refusal_of text ≡ Some TooDeep → Case text
-  Other : IsNoExpression text → refusal_of text ≡ Some NotAScheme → Case text
-  Many : HasTooManyNames text → refusal_of text ≡ Some TooMany → Case text
+  Deep : IsTooDeep text → scheme_refusal_of text ≡ Some TooDeep → Case text
+  Other : IsNoExpression text → scheme_refusal_of text ≡ Some NotAScheme → Case text
+  Many : HasTooManyNames text → scheme_refusal_of text ≡ Some TooMany → Case text
   Small : (scheme : Expression) → text ≡ expression_text scheme → IsSmall scheme
-      → expression_in text ≡ Some scheme → refusal_of text ≡ None → Case text
+      → expression_in text ≡ Some scheme → scheme_refusal_of text ≡ None → Case text
 
 -- where they do not stand so deep, no expression of the text is so deep
-shallow_text : (text : List ℕ) (scheme : Expression) → IsWritable false scheme → (IsTooDeep text → ⊥)
+shallow_text : (text : List ℕ) (scheme : Expression) → CanBeWritten false scheme → (IsTooDeep text → ⊥)
     → text ≡ expression_text scheme → depth_of scheme ≤ 8
 shallow_text text scheme writable shallow written =
     elim (cases_lt 8 (depth_of scheme)) [
@@ -87,7 +87,7 @@ module _ (text : List ℕ) (deep : nat_lt 7 (deepest 0 text) ≡ false) where
         writable = (expression_in-is text scheme is).writable;
       }) is (rw (deep, names_in-is text, is, few) refl)
 
-  none_written : expression_in text ≡ None → (scheme : Expression) → IsWritable false scheme
+  none_written : expression_in text ≡ None → (scheme : Expression) → CanBeWritten false scheme
       → text ≡ expression_text scheme → ⊥
   none_written none scheme writable written =
       let found : expression_in text ≡ Some scheme =
@@ -114,10 +114,10 @@ no_other : {P : Type 0} (refusal : Option SchemeError) (one other : Option Schem
 no_other refusal one other is also apart = absurd (apart (sym is ∙ also))
 
 -- each refusal by its cause
-pub deep_cause : (text : List ℕ) → (refusal_of text ≡ Some TooDeep) ↔ IsTooDeep text
+pub deep_cause : (text : List ℕ) → (scheme_refusal_of text ≡ Some TooDeep) ↔ IsTooDeep text
 deep_cause text = by (case_of text)
   where
-    by : Case text → (refusal_of text ≡ Some TooDeep) ↔ IsTooDeep text
+    by : Case text → (scheme_refusal_of text ≡ Some TooDeep) ↔ IsTooDeep text
     by (Deep deep is) = (λ _. deep, λ _. is)
     by (Other other is) =
         (λ also. no_other _ _ _ is also (λ e. absurd (cc)), λ deep. absurd (other.shallow deep))
@@ -129,10 +129,10 @@ deep_cause text = by (case_of text)
           absurd (omega (arith, (deep_text scheme small.writable).0 (subst IsTooDeep written deep), small.shallow)),
     )
 
-pub other_cause : (text : List ℕ) → (refusal_of text ≡ Some NotAScheme) ↔ IsNoExpression text
+pub other_cause : (text : List ℕ) → (scheme_refusal_of text ≡ Some NotAScheme) ↔ IsNoExpression text
 other_cause text = by (case_of text)
   where
-    by : Case text → (refusal_of text ≡ Some NotAScheme) ↔ IsNoExpression text
+    by : Case text → (scheme_refusal_of text ≡ Some NotAScheme) ↔ IsNoExpression text
     by (Deep deep is) =
         (λ also. no_other _ _ _ is also (λ e. absurd (cc)), λ none. absurd (none.shallow deep))
     by (Other other is) = (λ _. other, λ _. is)
@@ -145,10 +145,10 @@ other_cause text = by (case_of text)
       λ none. absurd (none.other scheme small.writable written),
     )
 
-pub many_cause : (text : List ℕ) → (refusal_of text ≡ Some TooMany) ↔ HasTooManyNames text
+pub many_cause : (text : List ℕ) → (scheme_refusal_of text ≡ Some TooMany) ↔ HasTooManyNames text
 many_cause text = by (case_of text)
   where
-    by : Case text → (refusal_of text ≡ Some TooMany) ↔ HasTooManyNames text
+    by : Case text → (scheme_refusal_of text ≡ Some TooMany) ↔ HasTooManyNames text
     by (Deep deep is) =
         (λ also. no_other _ _ _ is also (λ e. absurd (cc)), λ many. absurd (many.shallow deep))
     by (Other other is) = (
@@ -166,7 +166,7 @@ many_cause text = by (case_of text)
     )
 
 -- a text that is refused is that of no small expression
-pub refused_text : (text : List ℕ) (error : SchemeError) → refusal_of text ≡ Some error
+pub refused_text : (text : List ℕ) (error : SchemeError) → scheme_refusal_of text ≡ Some error
     → IsNoScheme text
 refused_text text error refused other small_other at = by (case_of text)
   where
@@ -183,7 +183,7 @@ refused_text text error refused other small_other at = by (case_of text)
     by (Small scheme written small found is) = no_other _ _ _ is refused (λ e. absurd (cc))
 
 -- a text that is not refused is that of a small expression
-pub kept_text : (text : List ℕ) → None ≡ refusal_of text
+pub kept_text : (text : List ℕ) → None ≡ scheme_refusal_of text
     → (scheme : Expression) × (expression_in text ≡ Some scheme) × IsSmall scheme
     × (text ≡ expression_text scheme)
 kept_text text kept = by (case_of text)
@@ -196,9 +196,9 @@ kept_text text kept = by (case_of text)
     by (Small scheme written small found is) = (scheme, found, small, written)
 
 module _ {T : Type 0} (text : List ℕ) (wanted : SchemeError) (Cause : Type 0)
-    (cause : (refusal_of text ≡ Some wanted) ↔ Cause) where
+    (cause : (scheme_refusal_of text ≡ Some wanted) ↔ Cause) where
   -- the refusal is answered exactly where its cause is there
-  pub told_cause : (error : SchemeError) → Some error ≡ refusal_of text
+  pub told_cause : (error : SchemeError) → Some error ≡ scheme_refusal_of text
       → (refused_as {T = T} error ≡ refused_as wanted) ↔ Cause
   told_cause error told = (
     λ same. cause.0 (sym told ∙ ap Some (same_error error wanted same)),
@@ -206,7 +206,7 @@ module _ {T : Type 0} (text : List ℕ) (wanted : SchemeError) (Cause : Type 0)
   )
 
   -- and where the text is not refused, it is not
-  pub kept_cause : (result : Result T SchemeError) → None ≡ refusal_of text
+  pub kept_cause : (result : Result T SchemeError) → None ≡ scheme_refusal_of text
       → (result ≡ refused_as wanted → ⊥) → (result ≡ refused_as wanted) ↔ Cause
   kept_cause result kept other = (
     λ same. absurd (other same),

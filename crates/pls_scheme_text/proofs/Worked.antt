@@ -3,50 +3,50 @@ use Rattle.std.proofs.Common.{◌≡◌, codes, Some, None, refl}
 use Rattle.pls_names.specs.declared.scheme_name.SchemeName.TheVariants.{MinimumSpanningTree, Tree}
 use Rattle.pls_property.specs.Expression.{And, Bridgeless, Map, Of, Or}
 use Rattle.pls_scheme_text.specs.declared.scheme_error.SchemeError.TheVariants.{NotAScheme, TooDeep, TooMany}
-use Rattle.pls_scheme_text.specs.inner.Fronts.{expression_in, leaf_front, refusal_of}
+use Rattle.pls_scheme_text.specs.inner.Fronts.{expression_in, leaf_front, scheme_refusal_of}
 
 read : expression_in (codes "and(tree,map(or(bridgeless,mst)))")
     ≡ Some (And (Of Tree) (Map (Or Bridgeless (Of MinimumSpanningTree))))
 unfolding leaf_front
 read = refl
 
-name : refusal_of (codes "mst") ≡ None
+name : scheme_refusal_of (codes "mst") ≡ None
 unfolding leaf_front
 name = refl
 
-empty : refusal_of (codes "") ≡ Some NotAScheme
+empty : scheme_refusal_of (codes "") ≡ Some NotAScheme
 unfolding leaf_front
 empty = refl
 
-longer : refusal_of (codes "trees") ≡ Some NotAScheme
+longer : scheme_refusal_of (codes "trees") ≡ Some NotAScheme
 unfolding leaf_front
 longer = refl
 
-in_map : refusal_of (codes "map(map(tree))") ≡ Some NotAScheme
+in_map : scheme_refusal_of (codes "map(map(tree))") ≡ Some NotAScheme
 unfolding leaf_front
 in_map = refl
 
-outside : refusal_of (codes "and(tree,bridgeless)") ≡ Some NotAScheme
+outside : scheme_refusal_of (codes "and(tree,bridgeless)") ≡ Some NotAScheme
 unfolding leaf_front
 outside = refl
 
-eight : refusal_of (codes "and(and(and(mst,mst),and(mst,mst)),and(and(mst,mst),and(mst,mst)))") ≡ None
+eight : scheme_refusal_of (codes "and(and(and(mst,mst),and(mst,mst)),and(and(mst,mst),and(mst,mst)))") ≡ None
 unfolding leaf_front
 eight = refl
 
-nine : refusal_of (codes "and(and(and(mst,mst),and(mst,mst)),and(and(mst,mst),and(mst,and(mst,mst))))")
+nine : scheme_refusal_of (codes "and(and(and(mst,mst),and(mst,mst)),and(and(mst,mst),and(mst,and(mst,mst))))")
     ≡ Some TooMany
 unfolding leaf_front
 nine = refl
 
-deep : refusal_of (codes "and(and(and(and(and(and(and(and(") ≡ Some TooDeep
+deep : scheme_refusal_of (codes "and(and(and(and(and(and(and(and(") ≡ Some TooDeep
 unfolding leaf_front
 deep = refl
 
-deep_behind : refusal_of (codes "))))((((((((") ≡ Some TooDeep
+deep_behind : scheme_refusal_of (codes "))))((((((((") ≡ Some TooDeep
 unfolding leaf_front
 deep_behind = refl
 
-flat : refusal_of (codes "()()()()()()()()") ≡ Some NotAScheme
+flat : scheme_refusal_of (codes "()()()()()()()()") ≡ Some NotAScheme
 unfolding leaf_front
 flat = refl

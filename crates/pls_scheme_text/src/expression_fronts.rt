@@ -3,7 +3,7 @@
 ghost use Rattle.std.specs.Prelude.{◌≡◌, IfOk, option_map};
 ghost use Rattle.pls_names.specs.Front.{found_front};
 ghost use Rattle.pls_property.specs.Held.{expression_of};
-ghost use Rattle.pls_scheme_text.specs.inner.Fronts.{count_front, expression_front, joined, found_tree};
+ghost use Rattle.pls_scheme_text.specs.inner.Fronts.{count_front, expression_front, expression_of_two, found_tree};
 
 use crate::fronts::{Join, join_front, leaf_front, map_front};
 use pls_base::NoMemory;
@@ -88,7 +88,7 @@ fn joined(
     second: ExpressionTree,
 ) -> Result<ExpressionTree, NoMemory>
     ensures { IfOk result (λ tree. expression_of tree
-        ≡ joined join (expression_of first) (expression_of second)) }
+        ≡ expression_of_two join (expression_of first) (expression_of second)) }
 {
     let first = Box::new(alloc, first)?;
     let second = Box::new(alloc, second)?;

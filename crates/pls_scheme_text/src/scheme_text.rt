@@ -7,7 +7,7 @@ ghost use Rattle.std.specs.String.{string_bytes};
 ghost use Rattle.pls_property.specs.Expression.{IsSmall};
 ghost use Rattle.pls_property.specs.Held.{expression_of};
 ghost use Rattle.pls_scheme_text.specs.ExpressionText.{HasTooManyNames, IsNoExpression, IsNoScheme, IsTooDeep, deepest, depth_after, expression_text};
-ghost use Rattle.pls_scheme_text.specs.inner.Fronts.{expression_in, names_in, refusal_of};
+ghost use Rattle.pls_scheme_text.specs.inner.Fronts.{expression_in, names_in, scheme_refusal_of};
 
 use crate::expression_fronts::{names_front, tree_front};
 use crate::scheme_error::SchemeError;
@@ -45,7 +45,7 @@ pub fn read_expression(alloc: Global, text: &str) -> Result<ExpressionTree, Sche
 
 // Why a text is refused. It takes no memory.
 fn refusal_of(text: &[u8]) -> Option<SchemeError>
-    ensures { result ≡ refusal_of text.now }
+    ensures { result ≡ scheme_refusal_of text.now }
 {
     if is_too_deep(text) {
         return Some(SchemeError::TooDeep);

@@ -40,7 +40,7 @@ LeadBack rows back =
     → IsSlot rows (slice_index_or back number 0) neighbour node
 
 -- the rows are a network, and these the numbers of its ports
-pub record AreWays (rows : List NodeRow) (ways : Numbers) : Type 0 where
+pub record ArePortNumbers (rows : List NodeRow) (ways : Numbers) : Type 0 where
   pub network : IsNetwork rows
   pub are_firsts : AreFirsts rows ways.firsts
   pub long : length ways.back ≡ ports_in rows

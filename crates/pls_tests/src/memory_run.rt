@@ -4,7 +4,7 @@ ghost use Rattle.std.specs.Prelude.{◌≡◌, ◌≤◌, ◌⊎◌, [], length,
 ghost use Rattle.pls_model.specs.declared.status.Status.TheVariants.{NoMemory as OutOfMemory};
 ghost use Rattle.pls_words.specs.Words.{words_in};
 ghost use Rattle.pls_app.specs.Answer.{IsAnswer};
-ghost use Rattle.pls_app.specs.Run.{IsAnswered, Tells};
+ghost use Rattle.pls_app.specs.Run.{IsAnswered, TellsAnswer};
 ghost use Rattle.pls_app.specs.Said.{Answer};
 ghost use Rattle.pls_tests.specs.declared.memory_run.TheConstants.{ROOM};
 
@@ -24,7 +24,7 @@ pub fn run_in_memory(
     input: Vec<u8>,
 ) -> Result<(Status, MemSink), NoMemory>
     ensures text { IfOk result (λ end. IsAnswered end.0
-        → Tells (words_in words.now) input.items end.0 (Some []) (Some end.1.taken)) }
+        → TellsAnswer (words_in words.now) input.items end.0 (Some []) (Some end.1.taken)) }
     ensures answers { IfOk result (λ end.
         ((answer : Answer) → IsAnswer (words_in words.now) input.items answer
         → length answer.text ≤ ROOM) → (end.0 ≡ OutOfMemory) ⊎ IsAnswered end.0) }

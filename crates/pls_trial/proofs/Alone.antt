@@ -13,14 +13,14 @@ use Rattle.pls_model.specs.Configuration.{AreWithinLimits, differs_in_weight, id
 use Rattle.pls_model.specs.declared.refusal.BuildError.{BuildError}
 use Rattle.pls_model.specs.declared.refusal.BuildError.TheVariants.{NoMemory, OneWay, Order, Pointer, SelfLink, Twice, Unknown, Weights}
 use Rattle.pls_graph.specs.Build.{IsRefusal, SaysRefusal}
-use Rattle.pls_graph_edits.specs.Edits.{alone}
+use Rattle.pls_graph_edits.specs.Edits.{lone_node}
 use Rattle.pls_graph.proofs.Members.{Contains-from_map}
 use Rattle.pls_trial.specs.Generator.{nodes_alone}
 use Rattle.pls_trial.proofs.Linking.{Each}
 
 -- so many nodes without ports, from one on
 abbrev from : ℕ → ℕ → List NodeRow
-from first count = map (λ id. alone id 0 0) (range_with_len first count)
+from first count = map (λ id. lone_node id 0 0) (range_with_len first count)
 
 -- their identities
 pub ids_of-nodes_alone : (nodes : ℕ) → ids_of (nodes_alone nodes) ≡ range_with_len 1 nodes
@@ -40,19 +40,19 @@ ports_in-nodes_alone nodes = by 1 nodes
     by first zero = refl
     by first (suc count) =
         let rest = by (first + 1) count in
-        omega (arith, rest, sum_by-cons many (alone first 0 0) (from (first + 1) count))
+        omega (arith, rest, sum_by-cons many (lone_node first 0 0) (from (first + 1) count))
 
 -- what holds of each of them
-pub Each-nodes_alone : (P : NodeRow → Type 0) (nodes : ℕ) → ((id : ℕ) → P (alone id 0 0))
+pub Each-nodes_alone : (P : NodeRow → Type 0) (nodes : ℕ) → ((id : ℕ) → P (lone_node id 0 0))
     → Each P (nodes_alone nodes)
 Each-nodes_alone P nodes each row in' =
     let (id, id_in, is) : (id : ℕ) × Contains (range_with_len 1 nodes) id
-    × (alone id 0 0 ≡ row) =
-    Contains-from_map (λ (id : ℕ). alone id 0 0) (range_with_len 1 nodes) row in' in
+    × (lone_node id 0 0 ≡ row) =
+    Contains-from_map (λ (id : ℕ). lone_node id 0 0) (range_with_len 1 nodes) row in' in
     subst P is (each id)
 
 -- a test that fails at nodes without ports finds none
-fails : (p : NodeRow → Bool) → ((id : ℕ) → p (alone id 0 0) ≡ false) → (nodes : ℕ)
+fails : (p : NodeRow → Bool) → ((id : ℕ) → p (lone_node id 0 0) ≡ false) → (nodes : ℕ)
     → find p (nodes_alone nodes) ≡ None
 fails p false_at nodes = by 1 nodes
   where
@@ -90,7 +90,7 @@ nodes_alone_valid nodes =
 pub nodes_alone_within : (nodes : ℕ) → 1 ≤ nodes → nodes ≤ 32768
     → AreWithinLimits (nodes_alone nodes)
 nodes_alone_within nodes some few =
-    let many = length-map (range_with_len 1 nodes) (λ (id : ℕ). alone id 0 0) in
+    let many = length-map (range_with_len 1 nodes) (λ (id : ℕ). lone_node id 0 0) in
     record {
       some = omega (arith, many, length-range_with_len 1 nodes);
       few_nodes = omega (arith, many, length-range_with_len 1 nodes);

@@ -5,7 +5,7 @@ use Rattle.std.specs.Prelude.{ℕ, zero, suc, ◌+◌, ◌-◌, ◌*◌, ◌%◌
 use Rattle.std.specs.List.{range_with_len}
 use Rattle.pls_model.specs.declared.row.State.{State}
 use Rattle.pls_model.specs.declared.row.NodeRow.{NodeRow}
-use Rattle.pls_graph_edits.specs.Edits.{alone, are_linked, in_state, linked}
+use Rattle.pls_graph_edits.specs.Edits.{lone_node, are_linked, in_state, linked}
 
 -- the number behind another
 abbrev pub next : ℕ → ℕ
@@ -61,7 +61,7 @@ with_link rows link =
 
 -- the nodes from 1 on, without ports
 abbrev pub nodes_alone : ℕ → List NodeRow
-nodes_alone nodes = map (λ id. alone id 0 0) (range_with_len 1 nodes)
+nodes_alone nodes = map (λ id. lone_node id 0 0) (range_with_len 1 nodes)
 
 -- the state of a node that points at its port 0
 abbrev pub at_port_0 : State

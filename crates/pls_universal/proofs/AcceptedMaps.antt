@@ -9,6 +9,8 @@ use Rattle.pls_graph.proofs.Placed.{place_of_row}
 use Rattle.pls_view.specs.Seen.{label_of}
 use Rattle.pls_view.proofs.Views.{label_at}
 use Rattle.pls_bits.specs.NumberCode.{TakesCodes, TakesOnly}
+use Rattle.pls_numbers.specs.Shape.{IsSpelled, said_by}
+use Rattle.pls_numbers.specs.laws.FormatLaws.{said_spells}
 use Rattle.pls_facts.proofs.Lists.{some_item}
 use Rattle.pls_scheme.specs.Judging.{AllAccept}
 use Rattle.pls_scheme.specs.Marked.{IsMarkedBy}
@@ -17,10 +19,10 @@ use Rattle.pls_scheme.specs.Theorem.{HoldEverywhere}
 use Rattle.pls_scheme.specs.laws.Saying.{accepted_one, accepted_say, say_of}
 use Rattle.pls_universal.specs.declared.map.MapLabel.{MapLabel}
 use Rattle.pls_universal.specs.declared.map.MapRow.{MapRow}
-use Rattle.pls_universal.specs.Map.{IsMapLabel, map_of, port_stated, row_stated, up_stated}
-use Rattle.pls_universal.specs.Reading.{map_label}
+use Rattle.pls_universal.specs.Map.{map_of, port_stated, row_stated, up_stated}
+use Rattle.pls_universal.specs.Reading.{map_shape}
 use Rattle.pls_universal.specs.Rules.{map_rules, map_says, node_of, nodes_of, port_of, up_of}
-use Rattle.pls_universal.specs.laws.LabelLaws.{map_label-spells}
+use Rattle.pls_universal.specs.laws.MapLaws.{map_numbers}
 use Rattle.pls_universal.specs.laws.MapShow.{each_map}
 
 -- the record of the node that a record states is that record
@@ -43,19 +45,20 @@ module _ (code : ℕ → List Bool) (takes : List Bool → Option (ℕ × List B
     (taken : TakesCodes code takes) (only : TakesOnly code takes) (test : List NodeRow → Bool)
     (rows : List NodeRow) (net : IsNetwork rows) (connected : IsConnected rows)
     (labels : List (List Bool)) (each : length labels ≡ length rows)
-    (accepted : AllAccept (judge_by (map_label takes) (map_rules test)) rows labels) where
+    (accepted : AllAccept (judge_by (said_by map_shape takes) (map_rules test)) rows labels) where
   first : (row : NodeRow) × Contains rows row
   first = some_item rows net.limits.some
 
   other : MapLabel
-  other = (accepted_one (map_label takes) (map_rules test) rows labels accepted first.0 first.1).0
+  other = (accepted_one (said_by map_shape takes) (map_rules test) rows labels accepted first.0
+      first.1).0
 
   abbrev say : ℕ → MapLabel
-  say id = say_of (map_label takes) (map_rules test) (label_of rows labels) other id
+  say id = say_of (said_by map_shape takes) (map_rules test) (label_of rows labels) other id
 
   hold : HoldEverywhere (map_rules test) rows say
   hold row in' =
-      (accepted_say (map_label takes) (map_rules test) rows labels other accepted row in').1
+      (accepted_say (said_by map_shape takes) (map_rules test) rows labels other accepted row in').1
 
   -- each label says its node's identity and the map of the network
   says : (row : NodeRow) → Contains rows row → map_says rows row (say row.id)
@@ -65,20 +68,22 @@ module _ (code : ℕ → List Bool) (takes : List Bool → Option (ℕ × List B
         ∙ ap map_of (each_map test rows net connected say hold row in'),
   )
 
-  pub accepted_marked : IsMarkedBy (IsMapLabel code) (map_says rows) rows labels
+  pub accepted_marked : IsMarkedBy (IsSpelled map_shape code) (map_says rows) rows labels
   accepted_marked = record { each = each; label = label }
     where
       label : (place : ℕ) (row : NodeRow) (bits : List Bool) → slice_get rows place ≡ Some row
           → slice_get labels place ≡ Some bits
-          → (label : MapLabel) × IsMapLabel code bits label × map_says rows row label
+          → (label : MapLabel) × IsSpelled map_shape code bits label × map_says rows row label
       label place row bits at has =
           let in' : Contains rows row = Contains-from_place rows place row at in
-          let read : map_label takes (label_of rows labels row.id) ≡ Some (say row.id) =
-          (accepted_say (map_label takes) (map_rules test) rows labels other accepted row in').0 in
+          let read : said_by map_shape takes (label_of rows labels row.id) ≡ Some (say row.id) =
+          (accepted_say (said_by map_shape takes) (map_rules test) rows labels other accepted row
+          in').0 in
           let same : label_of rows labels row.id ≡ bits =
           label_at rows labels row.id place bits (place_of_row rows net place row at) has in (
             say row.id,
-            (map_label-spells code takes taken only bits (say row.id)).0
-                (subst (λ (bits : List Bool). map_label takes bits ≡ Some (say row.id)) same read),
+            (said_spells map_shape map_numbers code takes taken only bits (say row.id)).0
+                (subst (λ (bits : List Bool). said_by map_shape takes bits ≡ Some (say row.id))
+                same read),
             says row in',
           )

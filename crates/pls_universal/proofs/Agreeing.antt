@@ -1,82 +1,67 @@
 -- Labels whose map is compared with one by its bits.
-use Rattle.std.proofs.Common.{◌≡◌, ◌≢◌, ◌∙◌, ◌<◌, ◌≤◌, ◌+◌, ℕ, suc, ◌&&◌, Bool, true, false, List, ◌∷◌, length, get_or, drop, Option, Some, None, option_map, refl, sym, ap, subst, arith}
+use Rattle.std.proofs.Common.{◌≡◌, ◌≢◌, ◌∙◌, ◌<◌, ◌≤◌, ◌+◌, ℕ, suc, ◌&&◌, Bool, true, false, List, ◌∷◌, length, get_or, drop, Option, Some, None, option_map, refl, sym, ap, arith}
 use Rattle.std.proofs.Math.Seq.{drop-cons}
 use Rattle.std.proofs.lemmas.Bool.{false_from_ne_true}
 use Rattle.std.proofs.lemmas.List.{drop_all}
 use Rattle.pls_bits.specs.NumberCode.{TakesCodes, TakesOnly}
 use Rattle.pls_view.specs.declared.view.PortView.{PortView}
 use Rattle.pls_view.specs.Seen.{SeenPort}
-use Rattle.pls_scheme.specs.Numbers.{codes_of}
+use Rattle.pls_numbers.specs.Shape.{IsSpelled, said_by}
+use Rattle.pls_numbers.specs.laws.FormatLaws.{one_spelling, said_spells}
 use Rattle.pls_scheme.specs.Reading.{ReadPort, read_ports}
-use Rattle.pls_universal.specs.Map.{numbers_of_map}
 use Rattle.pls_universal.specs.declared.map.MapLabel.{MapLabel}
 use Rattle.pls_universal.specs.declared.map.MapRow.{MapRow}
-use Rattle.pls_universal.specs.Reading.{map_label_with, map_in, map_label}
+use Rattle.pls_universal.specs.Reading.{map_label_with, map_shape, rows_shape}
 use Rattle.pls_universal.specs.Rules.{matched, same_record}
-use Rattle.pls_universal.specs.laws.LabelLaws.{map-in}
+use Rattle.pls_universal.specs.laws.LabelLaws.{behind_number, label-none, label-parts}
+use Rattle.pls_universal.specs.laws.MapLaws.{rows_numbers}
 use Rattle.pls_universal.specs.laws.MapMet.{matched-itself, record-itself}
 use Rattle.pls_universal.specs.laws.RuleLaws.{map-same}
 use Rattle.pls_universal.specs.inner.Verifying.{agreement, ports_shown, same_map}
 
-module _ (takes : List Bool → Option (ℕ × List Bool)) where
+module _ (code : ℕ → List Bool) (takes : List Bool → Option (ℕ × List Bool))
+    (taken : TakesCodes code takes) (only : TakesOnly code takes) (rows : List MapRow)
+    (label : List Bool) where
+  -- whether its map is this one is asked of a label that is read
+  abbrev compared : Option MapLabel → Option Bool
+  compared found = option_map (λ (label : MapLabel). matched same_record label.rows rows) found
+
   -- a label that begins with no number cannot be read
-  pub same_map-unread : (rows : List MapRow) (label : List Bool) → takes label ≡ None
-      → None ≡ same_map takes rows label
-  same_map-unread rows label none = rw none refl
+  pub same_map-unread : takes label ≡ None → None ≡ same_map takes rows label
+  same_map-unread none = sym (ap compared (label-none code takes taken only label none))
 
   -- where the map behind the number is this one, the label has it
-  pub same_map-equal : (rows : List MapRow) (label : List Bool) (own : ℕ) (map : List Bool)
-      → takes label ≡ Some (own, map) → map_in takes map ≡ Some rows
-      → Some true ≡ same_map takes rows label
-  same_map-equal rows label own map first read =
-      rw (first, read) (ap Some (sym (matched-itself same_record record-itself rows)))
+  pub same_map-equal : (own : ℕ) (map : List Bool) → takes label ≡ Some (own, map)
+      → said_by rows_shape takes map ≡ Some rows → Some true ≡ same_map takes rows label
+  same_map-equal own map first read =
+      sym (ap compared (label-parts code takes taken only label own map first
+      ∙ ap (option_map (map_label_with own)) read)
+      ∙ ap Some (matched-itself same_record record-itself rows))
 
-  -- the map of a label that is read is that behind its number
-  pub behind_number : (label : List Bool) (own : ℕ) (map : List Bool) (read : MapLabel)
-      → takes label ≡ Some (own, map) → map_label takes label ≡ Some read
-      → map_in takes map ≡ Some read.rows
-  behind_number label own map read first is =
-      by (map_in takes map) refl (rw first at is)
+  -- where the bits behind the number differ, so do the maps
+  pub same_map-other : (own : ℕ) (map other : List Bool) → takes label ≡ Some (own, other)
+      → said_by rows_shape takes map ≡ Some rows → map ≢ other
+      → (found : MapLabel) → Some found ≡ said_by map_shape takes label
+      → Some false ≡ same_map takes rows label
+  same_map-other own map other first read apart found is =
+      ap Some (sym (false_from_ne_true (matched same_record found.rows rows) (λ same.
+      let one : found.rows ≡ rows = map-same found.rows rows same in
+      let theirs : said_by rows_shape takes other ≡ Some rows =
+      (behind_number code takes taken only label own other found first (sym is)).1
+      ∙ ap Some one in
+      apart (one_spelling rows_shape code rows map other (spelled map read)
+      (spelled other theirs)))))
+      ∙ ap compared is
     where
-      by : (found : Option (List MapRow)) → map_in takes map ≡ found
-          → option_map (map_label_with own) found ≡ Some read → found ≡ Some read.rows
-      by None found is = absurd (cc)
-      by (Some rows) found is =
-          let same : map_label_with own rows ≡ read = cc in
-          ap (λ (label : MapLabel). Some label.rows) same
+      spelled : (bits : List Bool) → said_by rows_shape takes bits ≡ Some rows
+          → IsSpelled rows_shape code bits rows
+      spelled bits is =
+          (said_spells rows_shape rows_numbers code takes taken only bits rows).0 is
 
-  -- and what the label calls itself is the number
-  pub number_own : (label : List Bool) (own : ℕ) (map : List Bool) (read : MapLabel)
-      → takes label ≡ Some (own, map) → map_label takes label ≡ Some read → own ≡ read.own
-  number_own label own map read first is = by (map_in takes map) (rw first at is)
-    where
-      by : (found : Option (List MapRow)) → option_map (map_label_with own) found ≡ Some read
-          → own ≡ read.own
-      by None is = absurd (cc)
-      by (Some rows) is =
-          let same : map_label_with own rows ≡ read = cc in
-          ap (λ (label : MapLabel). label.own) same
-
-  module _ (code : ℕ → List Bool) (taken : TakesCodes code takes) (only : TakesOnly code takes) where
-    -- where the bits behind the number differ, so do the maps
-    pub same_map-other : (rows : List MapRow) (label : List Bool) (own : ℕ) (map other : List Bool)
-        → takes label ≡ Some (own, other) → map_in takes map ≡ Some rows → map ≢ other
-        → (found : MapLabel) → Some found ≡ map_label takes label
-        → Some false ≡ same_map takes rows label
-    same_map-other rows label own map other first read apart found is =
-        rw (sym is) (ap Some (sym (false_from_ne_true
-        (matched same_record found.rows rows) (λ same.
-        let one : found.rows ≡ rows = map-same found.rows rows same in
-        let mine = map-in code takes taken only rows map read in
-        let theirs = map-in code takes taken only found.rows other
-        (behind_number label own other found first (sym is)) in
-        apart (mine.written
-        ∙ sym (subst (λ (rows : List MapRow). other ≡ codes_of code (numbers_of_map rows))
-        one theirs.written))))))
-
+module _ (takes : List Bool → Option (ℕ × List Bool)) where
   -- a label that is no label cannot be read
-  pub same_map-none : (rows : List MapRow) (label : List Bool) → None ≡ map_label takes label
-      → None ≡ same_map takes rows label
+  pub same_map-none : (rows : List MapRow) (label : List Bool)
+      → None ≡ said_by map_shape takes label → None ≡ same_map takes rows label
   same_map-none rows label none = rw (sym none) refl
 
   -- where the first label is read, it is the first that is asked
@@ -85,12 +70,13 @@ module _ (takes : List Bool → Option (ℕ × List Bool)) where
       → agreement takes rows (port ∷ ports)
       ≡ option_map (λ rest. same && rest) (agreement takes rows ports)
   agreement-first rows port ports same is =
-      by (map_label takes port.label) refl is (read_ports (map_label takes) ports) refl
+      by (said_by map_shape takes port.label) refl is
+      (read_ports (said_by map_shape takes) ports) refl
     where
-      by : (first : Option MapLabel) → map_label takes port.label ≡ first
+      by : (first : Option MapLabel) → said_by map_shape takes port.label ≡ first
           → option_map (λ (label : MapLabel). matched same_record label.rows rows) first ≡ Some same
           → (others : Option (List (ReadPort MapLabel)))
-          → read_ports (map_label takes) ports ≡ others
+          → read_ports (said_by map_shape takes) ports ≡ others
           → agreement takes rows (port ∷ ports)
           ≡ option_map (λ rest. same && rest) (agreement takes rows ports)
       by None first is others read = absurd (cc)
@@ -102,9 +88,9 @@ module _ (takes : List Bool → Option (ℕ × List Bool)) where
   -- where it cannot be read, nothing is said
   agreement-unread : (rows : List MapRow) (port : SeenPort) (ports : List SeenPort)
       → same_map takes rows port.label ≡ None → agreement takes rows (port ∷ ports) ≡ None
-  agreement-unread rows port ports is = by (map_label takes port.label) refl is
+  agreement-unread rows port ports is = by (said_by map_shape takes port.label) refl is
     where
-      by : (first : Option MapLabel) → map_label takes port.label ≡ first
+      by : (first : Option MapLabel) → said_by map_shape takes port.label ≡ first
           → option_map (λ (label : MapLabel). matched same_record label.rows rows) first ≡ None
           → agreement takes rows (port ∷ ports) ≡ None
       by None first is = rw first refl

@@ -10,54 +10,52 @@ use Rattle.pls_model.specs.declared.row.State.{State}
 use Rattle.pls_model.specs.declared.row.NodeRow.{NodeRow}
 use Rattle.pls_model.specs.declared.verdict.Verdict.TheVariants.{Reject}
 use Rattle.pls_model.specs.Configuration.{row_of}
+use Rattle.pls_bits.specs.NumberCode.{TakesCodes, TakesOnly}
+use Rattle.pls_numbers.specs.Shape.{said_by}
 use Rattle.pls_view.specs.Seen.{Seen, SeenPort}
 use Rattle.pls_scheme.specs.Judging.{judged_from}
 use Rattle.pls_scheme.specs.Reading.{ReadPort, judge_by, port_with, read_ports, reading}
 use Rattle.pls_scheme.specs.laws.Readings.{judged_by_rules, rejected_by_2, split_read}
 use Rattle.pls_universal.specs.declared.map.MapLabel.{MapLabel}
-use Rattle.pls_universal.specs.declared.map.MapRow.{MapRow}
 use Rattle.pls_universal.specs.declared.stating.Stated.{Stated}
-use Rattle.pls_universal.specs.Reading.{map_label_with, map_in, map_label}
+use Rattle.pls_universal.specs.Reading.{map_shape}
 use Rattle.pls_universal.specs.Rules.{has_map, is_in_map, is_network, is_node_right, is_port_right, map_rules, matched, nodes_of, same_state}
+use Rattle.pls_universal.specs.laws.LabelLaws.{behind_number, label-none}
 use Rattle.pls_universal.specs.inner.Stating.{IsStated}
 use Rattle.pls_universal.specs.inner.Verifying.{agreement, has_node, is_called, is_port_seen, is_seen}
 
-module _ (takes : List Bool → Option (ℕ × List Bool)) where
+module _ (code : ℕ → List Bool) (takes : List Bool → Option (ℕ × List Bool))
+    (taken : TakesCodes code takes) (only : TakesOnly code takes) where
   -- a label that is read begins with what it calls itself
-  called-own : (id : ℕ) (bits : List Bool) (label : MapLabel) → map_label takes bits ≡ Some label
+  called-own : (id : ℕ) (bits : List Bool) (label : MapLabel)
+      → said_by map_shape takes bits ≡ Some label
       → is_called takes id bits ≡ (id == label.own)
-  called-own id bits label is = by (takes bits) refl is
+  called-own id bits label is = by (takes bits) refl
     where
       by : (first : Option (ℕ × List Bool)) → takes bits ≡ first
-          → option_and_then (λ (own : ℕ × List Bool). option_map (map_label_with own.0)
-          (map_in takes own.1)) first ≡ Some label
           → option_map_or (λ (own : ℕ × List Bool). id == own.0) first false ≡ (id == label.own)
-      by None first is = absurd (cc)
-      by (Some own) first is = onward (map_in takes own.1) is
-        where
-          onward : (rows : Option (List MapRow))
-              → option_map (map_label_with own.0) rows ≡ Some label
-              → (id == own.0) ≡ (id == label.own)
-          onward None is = absurd (cc)
-          onward (Some rows) is =
-              let same : map_label_with own.0 rows ≡ label = cc in
-              ap (λ (label : MapLabel). id == label.own) same
+      by None first =
+          let no : None ≡ Some label = sym (label-none code takes taken only bits first) ∙ is in
+          absurd (cc)
+      by (Some own) first = ap (λ (own : ℕ). id == own)
+          (behind_number code takes taken only bits own.0 own.1 label first is).0
 
   -- ports are right as they are lent exactly where they are right as they are read
   ports-seen : (stated : List Port) (seen : List SeenPort) (ports : List (ReadPort MapLabel))
-      → read_ports (map_label takes) seen ≡ Some ports
+      → read_ports (said_by map_shape takes) seen ≡ Some ports
       → matched (is_port_seen takes) stated seen ≡ matched is_port_right stated ports
   ports-seen [] [] ports read = let none : [] ≡ ports = cc in rw (sym none) refl
   ports-seen (port ∷ stated) [] ports read = let none : [] ≡ ports = cc in rw (sym none) refl
   ports-seen [] (first ∷ seen) ports read =
-      let parts = split_read (map_label takes) first seen ports read in
+      let parts = split_read (said_by map_shape takes) first seen ports read in
       rw (sym parts.4) refl
   ports-seen (port ∷ stated) (first ∷ seen) ports read =
-      let parts = split_read (map_label takes) first seen ports read in
+      let parts = split_read (said_by map_shape takes) first seen ports read in
       rw (sym parts.4, ports-seen stated seen parts.1 parts.3)
-      (by (map_label takes first.label) refl parts.0 (matched is_port_right stated parts.1) parts.2)
+      (by (said_by map_shape takes first.label) refl parts.0
+      (matched is_port_right stated parts.1) parts.2)
     where
-      by : (found : Option MapLabel) → map_label takes first.label ≡ found
+      by : (found : Option MapLabel) → said_by map_shape takes first.label ≡ found
           → (one : ReadPort MapLabel) → (rest : Bool)
           → option_map (port_with first.weight) found ≡ Some one
           → (is_port_seen takes port first && rest) ≡ (is_port_right port one && rest)
@@ -66,10 +64,11 @@ module _ (takes : List Bool → Option (ℕ × List Bool)) where
           let same : port_with first.weight label ≡ one = cc in
           rw (sym same, called-own port.nbr first.label label found) refl
 
-  module _ (view : Seen) (own : MapLabel) (own_read : map_label takes view.own ≡ Some own) where
+  module _ (view : Seen) (own : MapLabel)
+      (own_read : said_by map_shape takes view.own ≡ Some own) where
     -- so is the node
     node-seen : (ports : List (ReadPort MapLabel))
-        → read_ports (map_label takes) view.ports ≡ Some ports
+        → read_ports (said_by map_shape takes) view.ports ≡ Some ports
         → has_node takes (nodes_of own.rows) view ≡ is_in_map (reading view.id view.state own ports)
     node-seen ports read = by (row_of (nodes_of own.rows) view.id)
       where
@@ -82,34 +81,34 @@ module _ (takes : List Bool → Option (ℕ × List Bool)) where
     -- where all labels are read, the rules are tried on them
     rules_tried : (test : List NodeRow → Bool) (agrees : Bool)
         → Some agrees ≡ agreement takes own.rows view.ports
-        → judge_by (map_label takes) (map_rules test) view
+        → judge_by (said_by map_shape takes) (map_rules test) view
         ≡ judged_from 3 ((own.own == view.id) ∷ agrees ∷ is_network own.rows
         ∷ has_node takes (nodes_of own.rows) view ∷ test (nodes_of own.rows) ∷ [])
-    rules_tried test agrees is = by (read_ports (map_label takes) view.ports) refl is
+    rules_tried test agrees is = by (read_ports (said_by map_shape takes) view.ports) refl is
       where
         by : (ports : Option (List (ReadPort MapLabel)))
-            → read_ports (map_label takes) view.ports ≡ ports
+            → read_ports (said_by map_shape takes) view.ports ≡ ports
             → Some agrees ≡ option_map (list_all (has_map own.rows)) ports
-            → judge_by (map_label takes) (map_rules test) view
+            → judge_by (said_by map_shape takes) (map_rules test) view
             ≡ judged_from 3 ((own.own == view.id) ∷ agrees ∷ is_network own.rows
             ∷ has_node takes (nodes_of own.rows) view ∷ test (nodes_of own.rows) ∷ [])
         by None read is = absurd (cc)
         by (Some ports) read is =
             let all : agrees ≡ list_all (has_map own.rows) ports = cc in
-            judged_by_rules (map_label takes) (map_rules test) view own ports own_read read
+            judged_by_rules (said_by map_shape takes) (map_rules test) view own ports own_read read
             ∙ rw (all, node-seen ports read) refl
 
     -- where some label cannot be read, rule 2 fails
     pub verdict-unread : (test : List NodeRow → Bool) → None ≡ agreement takes own.rows view.ports
-        → Reject 1 2 ≡ judge_by (map_label takes) (map_rules test) view
-    verdict-unread test is = by (read_ports (map_label takes) view.ports) refl is
+        → Reject 1 2 ≡ judge_by (said_by map_shape takes) (map_rules test) view
+    verdict-unread test is = by (read_ports (said_by map_shape takes) view.ports) refl is
       where
         by : (ports : Option (List (ReadPort MapLabel)))
-            → read_ports (map_label takes) view.ports ≡ ports
+            → read_ports (said_by map_shape takes) view.ports ≡ ports
             → None ≡ option_map (list_all (has_map own.rows)) ports
-            → Reject 1 2 ≡ judge_by (map_label takes) (map_rules test) view
+            → Reject 1 2 ≡ judge_by (said_by map_shape takes) (map_rules test) view
         by None read is =
-            sym (rejected_by_2 (map_label takes) (map_rules test) view own own_read read)
+            sym (rejected_by_2 (said_by map_shape takes) (map_rules test) view own own_read read)
         by (Some ports) read is = absurd (cc)
 
     -- the verdict where the map states a network
@@ -117,7 +116,7 @@ module _ (takes : List Bool → Option (ℕ × List Bool)) where
         → Some agrees ≡ agreement takes own.rows view.ports → IsStated test own.rows (Some stated)
         → judged_from 3 ((own.own == view.id) ∷ agrees ∷ true ∷ has_node takes stated.net view
         ∷ stated.has ∷ [])
-        ≡ judge_by (map_label takes) (map_rules test) view
+        ≡ judge_by (said_by map_shape takes) (map_rules test) view
     verdict-stated test agrees stated is found =
         rw (found.1, found.2) (sym (rules_tried test agrees is
         ∙ rw found.0 refl))
@@ -126,7 +125,7 @@ module _ (takes : List Bool → Option (ℕ × List Bool)) where
     pub verdict-none : (test : List NodeRow → Bool) (agrees : Bool)
         → Some agrees ≡ agreement takes own.rows view.ports → is_network own.rows ≡ false
         → judged_from 3 ((own.own == view.id) ∷ agrees ∷ false ∷ [])
-        ≡ judge_by (map_label takes) (map_rules test) view
+        ≡ judge_by (said_by map_shape takes) (map_rules test) view
     verdict-none test agrees is none =
         sym (rules_tried test agrees is ∙ rw none (by (own.own == view.id) agrees))
       where
@@ -136,6 +135,7 @@ module _ (takes : List Bool → Option (ℕ × List Bool)) where
         by true false = refl
         by false b = refl
 
+module _ (takes : List Bool → Option (ℕ × List Bool)) where
   module _ (rows : List NodeRow) (view : Seen) where
     -- the row of an identity stands at its place
     row-at-place : option_and_then (slice_get rows) (position (λ row. view.id == row.id) rows)

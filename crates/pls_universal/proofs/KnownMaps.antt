@@ -1,14 +1,16 @@
 -- Maps that were decided, and labels that have one of them.
-use Rattle.std.proofs.Common.{◌≡◌, ◌∙◌, ◌<◌, ◌+◌, ◌++◌, ℕ, zero, suc, inl, inr, Bool, List, [], ◌∷◌, length, slice_get, Option, Some, refl, sym, ap, subst, arith, length-append}
+use Rattle.std.proofs.Common.{◌≡◌, ◌∙◌, ◌<◌, ◌+◌, ◌++◌, ℕ, zero, suc, inl, inr, Bool, List, [], ◌∷◌, length, All, get_or, slice_get, Option, Some, option_map, refl, sym, ap, subst, arith, length-append}
 use Rattle.std.proofs.lemmas.Bool.{cases_lt}
-use Rattle.std.proofs.lemmas.Option.{same_Some, slice_get_within}
+use Rattle.std.proofs.lemmas.Option.{same_Some, slice_get-get_or, slice_get_within}
 use Rattle.pls_model.specs.declared.row.NodeRow.{NodeRow}
+use Rattle.pls_bits.specs.NumberCode.{TakesCodes, TakesOnly}
+use Rattle.pls_numbers.specs.Shape.{said_by}
 use Rattle.pls_universal.specs.declared.deciding.DecidedMap.{DecidedMap}
 use Rattle.pls_universal.specs.declared.deciding.DecidedMaps.{DecidedMaps}
 use Rattle.pls_universal.specs.declared.map.MapRow.{MapRow}
-use Rattle.pls_universal.specs.Reading.{map_label_with, map_in}
-use Rattle.pls_universal.specs.inner.Deciding.{AreDecided, IsDecided, IsNumberOf, IsNumberOfMap}
-use Rattle.pls_universal.proofs.Agreeing.{behind_number}
+use Rattle.pls_universal.specs.Reading.{map_label_with, rows_shape}
+use Rattle.pls_universal.specs.laws.LabelLaws.{behind_number, label-parts}
+use Rattle.pls_universal.specs.inner.Deciding.{AreDecided, IsDecidedMap, IsNumberOf, IsNumberOfMap}
 
 module _ {X : Type 0} where
   -- items keep their places before one more
@@ -23,8 +25,16 @@ module _ {X : Type 0} where
   here-behind [] x = refl
   here-behind (first ∷ xs) x = here-behind xs x
 
-module _ (takes : List Bool → Option (ℕ × List Bool)) (test : List NodeRow → Bool)
+module _ (code : ℕ → List Bool) (takes : List Bool → Option (ℕ × List Bool))
+    (taken : TakesCodes code takes) (only : TakesOnly code takes) (test : List NodeRow → Bool)
     (labels : List (List Bool)) (old : DecidedMaps) (decided : AreDecided takes test labels old) where
+  -- they are maps of labels that are there
+  pub decided-within : All (λ map. map.place < length labels) old.maps.items
+  decided-within number d within =
+      let known : DecidedMap = get_or old.maps.items number d in
+      let its = decided.each number known (slice_get-get_or old.maps.items number d within) in
+      slice_get_within labels known.place its.0 its.1
+
   -- a label whose map is one of those that were decided
   pub known-map : (label : List Bool) (own : ℕ) (map : List Bool) (number : ℕ)
       → takes label ≡ Some (own, map) → IsNumberOfMap takes labels old map number
@@ -34,13 +44,14 @@ module _ (takes : List Bool → Option (ℕ × List Bool)) (test : List NodeRow 
     at = is.at;
     found = record {
       own = map_label_with own rows;
-      read = rw (first, there) refl;
+      read = label-parts code takes taken only label own map first
+          ∙ ap (option_map (map_label_with own)) there;
       stated = known.2.stated;
     };
   }
     where
       known : (bits : List Bool) × (slice_get labels is.known.place ≡ Some bits)
-          × IsDecided takes test bits is.known
+          × IsDecidedMap takes test bits is.known
       known = decided.each number is.known is.at
 
       rows : List MapRow
@@ -49,14 +60,14 @@ module _ (takes : List Bool → Option (ℕ × List Bool)) (test : List NodeRow 
       same : is.has.bits ≡ known.0
       same = same_Some is.has.bits known.0 (sym is.has.at ∙ known.1)
 
-      there : map_in takes map ≡ Some rows
-      there = behind_number takes known.0 is.has.own map known.2.own
+      there : said_by rows_shape takes map ≡ Some rows
+      there = (behind_number code takes taken only known.0 is.has.own map known.2.own
           (subst (λ (bits : List Bool). takes bits ≡ Some (is.has.own, map)) same is.has.parts)
-          known.2.read
+          known.2.read).1
 
   module _ (new : DecidedMaps) (map : DecidedMap) (label : List Bool)
       (maps : new.maps.items ≡ old.maps.items ++ map ∷ [])
-      (stands : slice_get labels map.place ≡ Some label) (found : IsDecided takes test label map) where
+      (stands : slice_get labels map.place ≡ Some label) (found : IsDecidedMap takes test label map) where
     -- one more map is decided
     pub one-decided : AreDecided takes test labels new
     one-decided = record { each = each }
@@ -67,7 +78,7 @@ module _ (takes : List Bool → Option (ℕ × List Bool)) (test : List NodeRow 
 
         each : (number : ℕ) (known : DecidedMap) → slice_get new.maps.items number ≡ Some known
             → (bits : List Bool) × (slice_get labels known.place ≡ Some bits)
-            × IsDecided takes test bits known
+            × IsDecidedMap takes test bits known
         each number known is = elim (cases_lt number (length old.maps.items)) [
           | inl before ↦ decided.each number known
               (sym (kept-before old.maps.items map number before)
@@ -80,7 +91,7 @@ module _ (takes : List Bool → Option (ℕ × List Bool)) (test : List NodeRow 
               ∙ ap (slice_get (old.maps.items ++ map ∷ [])) (sym last)
               ∙ ap (λ (maps : List DecidedMap). slice_get maps number) (sym maps) ∙ is) in
               subst (λ (known : DecidedMap). (bits : List Bool)
-              × (slice_get labels known.place ≡ Some bits) × IsDecided takes test bits known) same
+              × (slice_get labels known.place ≡ Some bits) × IsDecidedMap takes test bits known) same
               (label, stands, found)
         ]
 

@@ -1,7 +1,6 @@
-pub mod Adding
-pub mod Readings
 pub mod Agreeing
 pub mod Judged
 pub mod Buildable
 pub mod KnownMaps
+pub mod Lent
 mod AcceptedMaps

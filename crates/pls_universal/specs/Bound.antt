@@ -7,7 +7,7 @@ use Rattle.pls_scheme.specs.Length.{codes_length}
 -- port, all as long as they may be in a network of this size
 abbrev pub longest_map : (ℕ → List Bool) → Size → ℕ
 longest_map code size =
-    codes_length code (size.max_id ∷ size.nodes ∷ [])
-    + size.nodes * codes_length code (size.max_id ∷ size.max_degree ∷ size.max_mark
+    codes_length code [] (size.max_id ∷ size.nodes ∷ [])
+    + size.nodes * codes_length code [] (size.max_id ∷ size.max_degree ∷ size.max_mark
     ∷ size.max_num ∷ size.max_degree ∷ [])
-    + size.ports * codes_length code (size.max_id ∷ size.max_weight ∷ [])
+    + size.ports * codes_length code [] (size.max_id ∷ size.max_weight ∷ [])

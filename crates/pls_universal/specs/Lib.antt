@@ -1,6 +1,5 @@
 pub mod Map
 pub mod Rules
-pub mod Taking
 pub mod Reading
 pub mod Bound
 pub mod inner

@@ -1,12 +1,11 @@
 -- The map of a network, as a label states it: how many records there are, and for each node in
 -- their order its identity, its pointer, its mark, its number, its degree, and for each port the
 -- neighbour and the weight.
-use Rattle.std.specs.Prelude.{ℕ, ◌+◌, Bool, List, [], ◌∷◌, map, length, Option}
+use Rattle.std.specs.Prelude.{ℕ, ◌+◌, List, [], ◌∷◌, map, length, Option}
 use Rattle.std.specs.List.{flat_map}
 use Rattle.std.specs.Option.{option_map_or}
 use Rattle.pls_model.specs.declared.row.Port.{Port}
 use Rattle.pls_model.specs.declared.row.NodeRow.{NodeRow}
-use Rattle.pls_scheme.specs.Numbers.{AreCodesOf}
 use Rattle.pls_universal.specs.declared.map.MapLabel.{MapLabel}
 use Rattle.pls_universal.specs.declared.map.MapRow.{MapRow}
 
@@ -22,10 +21,6 @@ numbers_of_row row =
 -- the numbers of a map
 abbrev pub numbers_of_map : List MapRow → List ℕ
 numbers_of_map rows = length rows ∷ flat_map numbers_of_row rows
-
--- the bits are the codes of the map's numbers, and nothing more
-abbrev pub IsMap : (ℕ → List Bool) → List MapRow → List Bool → Type 0
-IsMap code rows bits = AreCodesOf code (numbers_of_map rows) bits
 
 -- a pointer, as a record states it: one more than the port's number, and 0 for none
 abbrev pub up_stated : Option ℕ → ℕ
@@ -52,7 +47,3 @@ map_of rows = map row_stated rows
 -- the numbers of a label: the node's identity, and those of the map
 abbrev pub numbers_of_label : MapLabel → List ℕ
 numbers_of_label label = label.own ∷ numbers_of_map label.rows
-
--- the bits are a label: the codes of its numbers, and nothing more
-abbrev pub IsMapLabel : (ℕ → List Bool) → List Bool → MapLabel → Type 0
-IsMapLabel code bits label = AreCodesOf code (numbers_of_label label) bits

@@ -1,4 +1,3 @@
-pub mod NumberLaws
 pub mod MapLaws
 pub mod LabelLaws
 pub mod RuleLaws

@@ -1,12 +1,14 @@
 //! How long labels with maps are.
 
-ghost use Rattle.std.specs.Prelude.{◌≡◌, ℕ, ◌+◌, ◌*◌, ◌≤◌, Bool, List, length, Contains};
+ghost use Rattle.std.specs.Prelude.{◌≡◌, [], ℕ, ◌+◌, ◌*◌, ◌≤◌, Bool, List, length, Contains};
 ghost use Rattle.pls_model.specs.declared.row.NodeRow.{NodeRow};
 ghost use Rattle.pls_graph.specs.Size.{size_of};
 ghost use Rattle.pls_base.specs.Steps.{capped};
 ghost use Rattle.pls_universal.specs.Bound.{longest_map};
-ghost use Rattle.pls_universal.specs.Map.{IsMapLabel, map_of};
-ghost use Rattle.pls_universal.specs.Reading.{map_label_with};
+ghost use Rattle.pls_numbers.specs.Numbers.{AreCoded};
+ghost use Rattle.pls_numbers.specs.Shape.{IsSpelled};
+ghost use Rattle.pls_universal.specs.Map.{map_of, numbers_of_map};
+ghost use Rattle.pls_universal.specs.Reading.{map_label_with, map_shape};
 
 use pls_bits::NumCode;
 use pls_facts::is_valid;
@@ -36,10 +38,12 @@ fn with_times(front: u64, count: u64, each: u64) -> u64
     front.saturating_add(count.saturating_mul(each))
 }
 
-/// The label of each node with the map of its network has at most so many bits. It does nothing.
+/// The numbers of a network's map are small enough to be written, and the label of each node with
+/// the map has at most so many bits. It does nothing.
 pub fn maps_are_short<C: NumCode>(net: &Network)
-    ensures { (row : NodeRow) (bits : List Bool) → Contains net.now row
-        → IsMapLabel C.code bits (map_label_with row.id (map_of net.now))
+    ensures coded { AreCoded [] (numbers_of_map (map_of net.now)) }
+    ensures short { (row : NodeRow) (bits : List Bool) → Contains net.now row
+        → IsSpelled map_shape C.code bits (map_label_with row.id (map_of net.now))
         → length bits ≤ longest_map C.code (size_of net.now) }
 {
     is_valid(net);

@@ -3,19 +3,20 @@
 ghost use Rattle.std.specs.Prelude.{◌≡◌, ◌<◌, ◌++◌, ◌∷◌, [], ℕ, true, Bool, List, All, Option, Some, None, length, slice_get, IfOk, IfSome, IfNone, OnOk};
 ghost use Rattle.std.specs.Bool.{OnTrue};
 ghost use Rattle.pls_model.specs.declared.row.NodeRow.{NodeRow};
+ghost use Rattle.pls_numbers.specs.Shape.{said_by};
 ghost use Rattle.pls_scheme.specs.Reading.{judge_by};
-ghost use Rattle.pls_universal.specs.Reading.{map_label};
+ghost use Rattle.pls_universal.specs.Reading.{map_shape};
 ghost use Rattle.pls_universal.specs.Rules.{map_rules};
 ghost use Rattle.pls_universal.specs.inner.Deciding.{AreDecided, IsNumberOf, IsNumberOfMap};
 
-use crate::layout::MapLayout;
+use crate::format::MapFormat;
 use crate::stating::{Stated, stated_by};
 use crate::tested::Tested;
 use crate::verifying::{parts, verdict_on};
 use pls_base::NoMemory;
 use pls_bits::{Bits, NumCode};
 use pls_model::Verdict;
-use pls_scheme::Layout;
+use pls_numbers::Format;
 use pls_view::{Labels, View};
 use std::alloc::Global;
 use std::collections::BTreeMap;
@@ -88,7 +89,8 @@ impl DecidedMaps {
     // Whether the map with this number is there and equal to this one.
     fn is_number<C: NumCode, L: Labels>(&self, labels: &L, number: usize, map: &Bits<'_>) -> bool
         requires { All (λ map. map.place < length (L.listed labels.now)) self.now.maps.items }
-        ensures { OnTrue result (IsNumberOfMap C.takes (L.listed labels.now) self.now map.now number) }
+        ensures { OnTrue result
+            (IsNumberOfMap C.takes (L.listed labels.now) self.now map.now number) }
     {
         match self.maps.get(number) {
             Some(known) => has_map::<C>(&labels.bits(known.place), map),
@@ -112,7 +114,8 @@ impl DecidedMaps {
             (AreDecided C.takes (P.test property.now) (L.listed labels.now) self.new) }
         ensures number { IfOk result (λ found. IfSome found
             (IsNumberOf C.takes (P.test property.now) self.new label.now)) }
-        ensures none { IfOk result (λ found. IfNone found (map_label C.takes label.now ≡ None)) }
+        ensures none { IfOk result (λ found. IfNone found
+            (said_by map_shape C.takes label.now ≡ None)) }
     {
         let Some((_, map)) = parts::<C>(label) else {
             return Ok(None);
@@ -120,7 +123,7 @@ impl DecidedMaps {
         if let Some(known) = self.seek::<C, L>(alloc, labels, &map)? {
             return Ok(Some(known));
         }
-        let Some(read) = MapLayout::<C>::read(alloc, label)? else {
+        let Some(read) = MapFormat.read::<C>(alloc, label)? else {
             return Ok(None);
         };
         let stated = stated_by(alloc, property, read.rows.as_slice())?;
@@ -170,7 +173,7 @@ pub(crate) fn verdict_at<P: Tested, C: NumCode, L: Labels>(
     ensures decided { OnOk result
         (AreDecided C.takes (P.test property.now) (L.listed labels.now) decided.new) }
     ensures verdict { IfOk result (λ verdict. verdict
-        ≡ judge_by (map_label C.takes) (map_rules (P.test property.now)) view.now) }
+        ≡ judge_by (said_by map_shape C.takes) (map_rules (P.test property.now)) view.now) }
 {
     let Some(number) = decided.number_of::<P, C, L>(alloc, property, labels, i, &view.own)? else {
         return Ok(Verdict::Reject { leaf: 1, rule: 1 });

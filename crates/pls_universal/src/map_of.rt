@@ -2,16 +2,16 @@
 
 ghost use Rattle.std.specs.Prelude.{◌≡◌, Bool, List, length};
 ghost use Rattle.pls_model.specs.Walk.{IsConnected};
+ghost use Rattle.pls_numbers.specs.Shape.{IsSpelled, said_by};
 ghost use Rattle.pls_scheme.specs.Judging.{AllAccept};
 ghost use Rattle.pls_scheme.specs.Marked.{IsMarkedBy};
 ghost use Rattle.pls_scheme.specs.Reading.{judge_by};
-ghost use Rattle.pls_universal.specs.Map.{IsMapLabel};
-ghost use Rattle.pls_universal.specs.Reading.{map_label};
+ghost use Rattle.pls_universal.specs.Reading.{map_shape};
 ghost use Rattle.pls_universal.specs.Rules.{map_rules, map_says};
 
 use crate::bound::{map_bound, maps_are_short};
 use crate::deciding::{DecidedMaps, verdict_at};
-use crate::layout::MapLayout;
+use crate::format::MapFormat;
 use crate::map::MapLabel;
 use crate::marking::map_labels;
 use crate::stating::stated_by;
@@ -22,7 +22,8 @@ use pls_bits::{BitBuf, Bits, NumCode};
 use pls_facts::is_valid;
 use pls_graph::{Network, Size};
 use pls_model::Verdict;
-use pls_scheme::{Checker, Layout, Property, Scheme};
+use pls_numbers::Format;
+use pls_scheme::{Checker, Property, Scheme};
 use pls_view::{LabelStore, Labels, View};
 use std::alloc::Global;
 use std::marker::PhantomData;
@@ -56,10 +57,12 @@ impl<P: Tested, C: NumCode> MapOf<P, C> {
         requires connected { IsConnected net.now }
         requires each { length labels.now ≡ length net.now }
         requires accepted { AllAccept
-            (judge_by (map_label C.takes) (map_rules (P.test self.now.property))) net.now labels.now }
-        ensures marked { IsMarkedBy (IsMapLabel C.code) (map_says net.now) net.now labels.now }
+            (judge_by (said_by map_shape C.takes) (map_rules (P.test self.now.property))) net.now
+            labels.now }
+        ensures marked { IsMarkedBy (IsSpelled map_shape C.code) (map_says net.now) net.now
+            labels.now }
         ensures alone { (others : List (List Bool))
-            → IsMarkedBy (IsMapLabel C.code) (map_says net.now) net.now others
+            → IsMarkedBy (IsSpelled map_shape C.code) (map_says net.now) net.now others
             → others ≡ labels.now }
     {
         is_valid(net);
@@ -68,12 +71,14 @@ impl<P: Tested, C: NumCode> MapOf<P, C> {
 
 impl<P: Tested, C: NumCode> Checker for MapOf<P, C> {
     ghost use Rattle.std.specs.Prelude.{true, false};
+    ghost use Rattle.pls_numbers.specs.Shape.{said_by};
     ghost use Rattle.pls_scheme.specs.Reading.{judge_by};
     ghost use Rattle.pls_scheme.specs.laws.LeafLaws.{judge_by-leaf};
-    ghost use Rattle.pls_universal.specs.Reading.{map_label};
+    ghost use Rattle.pls_universal.specs.Reading.{map_shape};
     ghost use Rattle.pls_universal.specs.Rules.{map_rules};
 
-    ghost judge = { λ s view. judge_by (map_label C.takes) (map_rules (P.test s.property)) view };
+    ghost judge = { λ s view. judge_by (said_by map_shape C.takes) (map_rules (P.test s.property))
+        view };
 
     ghost leaves = { λ _. 1 };
 
@@ -98,7 +103,7 @@ impl<P: Tested, C: NumCode> Checker for MapOf<P, C> {
         steps: &mut Steps,
     ) -> Result<Verdict, NoMemory> {
         steps.tick();
-        let Some(label) = MapLayout::<C>::read(alloc, &view.own)? else {
+        let Some(label) = MapFormat.read::<C>(alloc, &view.own)? else {
             return Ok(Verdict::Reject { leaf: 1, rule: 1 });
         };
         let stated = stated_by(alloc, &self.property, label.rows.as_slice())?;
@@ -132,7 +137,8 @@ impl<P: Tested, C: NumCode> Checker for MapOf<P, C> {
         Ok(verdicts)
     }
 
-    ghost leaf_law = { λ s. judge_by-leaf (map_label C.takes) (map_rules (P.test s.property)) };
+    ghost leaf_law = { λ s. judge_by-leaf (said_by map_shape C.takes)
+        (map_rules (P.test s.property)) };
 
     ghost lends_law = { λ _ taken. absurd (cc) };
 }
@@ -146,35 +152,36 @@ impl<P: Tested, C: NumCode> Property for MapOf<P, C> {
 }
 
 impl<P: Tested, C: NumCode> Scheme for MapOf<P, C> {
+    ghost use Rattle.pls_numbers.specs.Shape.{IsSpelled, IsWritable, said_by};
+    ghost use Rattle.pls_numbers.specs.laws.FormatLaws.{has_spelling, one_spelling, said_spells};
     ghost use Rattle.pls_scheme.specs.Marked.{IsMarkedBy};
-    ghost use Rattle.pls_scheme.specs.Numbers.{AreCoded};
-    ghost use Rattle.pls_scheme.specs.laws.CodeLaws.{has_spelling, one_spelling};
     ghost use Rattle.pls_scheme.specs.laws.Marking.{marked_once, one_said, sound_by};
     ghost use Rattle.pls_universal.specs.Bound.{longest_map};
-    ghost use Rattle.pls_universal.specs.Map.{IsMapLabel, numbers_of_label};
-    ghost use Rattle.pls_universal.specs.Reading.{map_label};
+    ghost use Rattle.pls_universal.specs.Reading.{map_shape};
     ghost use Rattle.pls_universal.specs.Rules.{map_rules, map_says};
-    ghost use Rattle.pls_universal.specs.laws.LabelLaws.{map_label-spells};
+    ghost use Rattle.pls_universal.specs.laws.MapLaws.{map_numbers};
     ghost use Rattle.pls_universal.specs.laws.MapMet.{map_right_once};
     ghost use Rattle.pls_universal.specs.laws.MapShow.{map_show};
 
     type Label = MapLabel;
 
-    ghost layout = { λ _ bits label. IsMapLabel C.code bits label };
+    ghost layout = { λ _ bits label. IsSpelled map_shape C.code bits label };
 
-    ghost writable = { λ _ label. AreCoded (numbers_of_label label) };
+    ghost writable = { λ _ label. IsWritable map_shape label };
 
-    ghost marked = { λ _ rows labels. IsMarkedBy (IsMapLabel C.code) (map_says rows) rows labels };
+    ghost marked = { λ _ rows labels.
+        IsMarkedBy (IsSpelled map_shape C.code) (map_says rows) rows labels };
 
     ghost longest = { λ _ size. longest_map C.code size };
 
     fn read_label(&self, alloc: Global, bits: Bits<'_>) -> Result<Option<MapLabel>, NoMemory> {
-        let label = MapLayout::<C>::read(alloc, &bits)?;
-        Ok(label)
+        MapFormat.read::<C>(alloc, &bits)
     }
 
     fn write_label(&self, alloc: Global, label: &MapLabel) -> Result<BitBuf, NoMemory> {
-        MapLayout::<C>::write(alloc, label)
+        let mut bits = BitBuf::new(alloc);
+        MapFormat.append::<C>(&mut bits, label)?;
+        Ok(bits)
     }
 
     fn bound(&self, size: &Size) -> u64 {
@@ -195,18 +202,17 @@ impl<P: Tested, C: NumCode> Scheme for MapOf<P, C> {
         Ok(Some(labels))
     }
 
-    ghost reads_back_law = { λ _ label. has_spelling C.code (numbers_of_label label) };
+    ghost reads_back_law = { λ _. has_spelling map_shape C.code };
 
-    ghost one_spelling_law = { λ _ label. one_spelling C.code (numbers_of_label label) };
+    ghost one_spelling_law = { λ _. one_spelling map_shape C.code };
 
-    ghost one_label_law = { λ _. one_said (map_label C.takes) (IsMapLabel C.code)
-        (map_label-spells C.code C.takes C.takes_codes C.takes_only) };
+    ghost one_label_law = { λ _. one_said (said_by map_shape C.takes) (IsSpelled map_shape C.code)
+        (said_spells map_shape map_numbers C.code C.takes C.takes_codes C.takes_only) };
 
-    ghost sound_law = { λ s. sound_by (map_label C.takes) (map_rules (P.test s.property))
+    ghost sound_law = { λ s. sound_by (said_by map_shape C.takes) (map_rules (P.test s.property))
         (P.holds s.property) (map_show (P.test s.property) (P.holds s.property)
         (P.test_law s.property)) };
 
-    ghost one_marking_law = { λ s. marked_once (IsMapLabel C.code) (P.holds s.property) map_says
-        (λ label. one_spelling C.code (numbers_of_label label))
-        (map_right_once (P.holds s.property)) };
+    ghost one_marking_law = { λ s. marked_once (IsSpelled map_shape C.code) (P.holds s.property)
+        map_says (one_spelling map_shape C.code) (map_right_once (P.holds s.property)) };
 }

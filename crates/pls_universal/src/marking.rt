@@ -1,11 +1,10 @@
 //! The labels with the map of a network.
 
 ghost use Rattle.std.specs.Prelude.{List, IfOk, OnOk};
+ghost use Rattle.pls_numbers.specs.Shape.{IsSpelled};
 ghost use Rattle.pls_scheme.specs.Marked.{IsMarkedBy};
-ghost use Rattle.pls_scheme.specs.Numbers.{AreCodesOf};
 ghost use Rattle.pls_universal.specs.declared.map.MapRow.{MapRow};
-ghost use Rattle.pls_universal.specs.Map.{IsMap, IsMapLabel, numbers_of_label};
-ghost use Rattle.pls_universal.specs.Reading.{map_label_with};
+ghost use Rattle.pls_universal.specs.Reading.{map_label_with, map_shape, rows_shape};
 ghost use Rattle.pls_universal.specs.Rules.{map_says};
 
 use crate::writing::write_map;
@@ -19,7 +18,7 @@ use std::alloc::Global;
 /// written once. The one error is want of memory.
 pub fn map_labels<C: NumCode>(alloc: Global, net: &Network) -> Result<LabelStore, NoMemory>
     ensures { IfOk result (λ labels.
-        IsMarkedBy (IsMapLabel C.code) (map_says net.now) net.now labels) }
+        IsMarkedBy (IsSpelled map_shape C.code) (map_says net.now) net.now labels) }
 {
     let map = write_map::<C>(alloc, net)?;
     let mut label = BitBuf::new(alloc);
@@ -35,8 +34,8 @@ pub fn map_labels<C: NumCode>(alloc: Global, net: &Network) -> Result<LabelStore
 
 // Puts the label of an identity and a map in the place of the bits.
 fn put_label<C: NumCode>(bits: &mut BitBuf, id: u32, map: Bits<'_>) -> Result<(), NoMemory>
-    ensures { OnOk result ((rows : List MapRow) → IsMap C.code rows map.entry
-        → AreCodesOf C.code (numbers_of_label (map_label_with id rows)) bits.new) }
+    ensures { OnOk result ((rows : List MapRow) → IsSpelled rows_shape C.code map.entry rows
+        → IsSpelled map_shape C.code bits.new (map_label_with id rows)) }
 {
     bits.clear();
     C::write(bits, u64::from(id))?;

@@ -1,51 +1,31 @@
 //! Maps that are read. A count that a map states asks for no memory: room is made as records come.
 
-ghost use Rattle.std.specs.Prelude.{◌≡◌, List, None, Some, IfSome, IfNone, IfOk};
-ghost use Rattle.pls_universal.specs.declared.map.MapRow.{MapRow};
-ghost use Rattle.pls_universal.specs.Map.{IsMap};
-ghost use Rattle.pls_universal.specs.Taking.{many_off, port_off, row_off};
+ghost use Rattle.std.specs.Prelude.{◌≡◌, Some, None, IfOk, IfSome, IfNone};
+ghost use Rattle.pls_numbers.specs.Taking.{many_off};
+ghost use Rattle.pls_universal.specs.Reading.{port_off, row_off};
 
-use crate::map::{MapRow, PortList, RowList};
+use crate::map::{MapRow, PortList};
 use pls_base::NoMemory;
-use pls_bits::{Bits, Cursor, NumCode};
+use pls_bits::NumCode;
+use pls_numbers::Numbers;
 use std::alloc::Global;
 
-/// The map that the bits are, or `None` where they are none, read to their last bit. What a map
-/// states of its length costs nothing before the records are there. The one error is want of
-/// memory.
-pub fn read_map<C: NumCode>(alloc: Global, bits: Bits<'_>) -> Result<Option<RowList>, NoMemory>
-    ensures some { IfOk result (λ found. IfSome found (λ rows. IsMap C.code rows bits.entry)) }
-    ensures none { IfOk result (λ found. IfNone found
-        ((rows : List MapRow) → IsMap C.code rows bits.entry → ⊥)) }
-{
-    let mut cursor = bits.cursor();
-    let Some(count) = C::read(&mut cursor) else {
-        return Ok(None);
-    };
-    let Some(rows) = read_rows::<C>(alloc, &mut cursor, count)? else {
-        return Ok(None);
-    };
-    if cursor.rest().is_empty() {
-        Ok(Some(RowList::from_vec(rows)))
-    } else {
-        Ok(None)
-    }
-}
-
-// So many records, which the cursor moves past, or `None` where what comes next is fewer.
-fn read_rows<C: NumCode>(
+// So many records, or `None` where what comes next is fewer. The one error is want of memory.
+pub(crate) fn read_rows<C: NumCode>(
     alloc: Global,
-    cursor: &mut Cursor<'_>,
+    numbers: &mut Numbers<'_, C>,
     count: u64,
 ) -> Result<Option<Vec<MapRow>>, NoMemory>
-    ensures found { IfOk result (λ found. IfSome found
-        (λ rows. many_off (row_off C.takes) count cursor.old ≡ Some (rows.items, cursor.new))) }
+    ensures found { IfOk result (λ found. IfSome found (λ rows.
+        many_off row_off count numbers.old.numbers ≡ Some (rows.items, numbers.new.numbers))) }
+    ensures same { IfOk result (λ found. IfSome found
+        (λ _. numbers.new.clean ≡ numbers.old.clean)) }
     ensures none { IfOk result (λ found. IfNone found
-        (many_off (row_off C.takes) count cursor.old ≡ None)) }
+        (many_off row_off count numbers.old.numbers ≡ None)) }
 {
     let mut rows = Vec::new(alloc);
     for _ in 0..count {
-        let Some(row) = read_row::<C>(alloc, cursor)? else {
+        let Some(row) = read_row(alloc, numbers)? else {
             return Ok(None);
         };
         rows.push(row)?;
@@ -53,56 +33,60 @@ fn read_rows<C: NumCode>(
     Ok(Some(rows))
 }
 
-// The record that comes next, which the cursor moves past, or `None` where there is none.
-fn read_row<C: NumCode>(alloc: Global, cursor: &mut Cursor<'_>) -> Result<Option<MapRow>, NoMemory>
+// The record that comes next, or `None` where there is none. The one error is want of memory.
+fn read_row<C: NumCode>(
+    alloc: Global,
+    numbers: &mut Numbers<'_, C>,
+) -> Result<Option<MapRow>, NoMemory>
     ensures found { IfOk result (λ found. IfSome found
-        (λ row. row_off C.takes cursor.old ≡ Some (row, cursor.new))) }
-    ensures none { IfOk result (λ found. IfNone found (row_off C.takes cursor.old ≡ None)) }
+        (λ row. row_off numbers.old.numbers ≡ Some (row, numbers.new.numbers))) }
+    ensures same { IfOk result (λ found. IfSome found
+        (λ _. numbers.new.clean ≡ numbers.old.clean)) }
+    ensures none { IfOk result (λ found. IfNone found (row_off numbers.old.numbers ≡ None)) }
 {
-    let Some(head) = read_head::<C>(cursor) else {
+    let Some(id) = numbers.next() else {
         return Ok(None);
     };
-    let Some(ports) = read_ports::<C>(alloc, cursor, head[4])? else {
+    let Some(up) = numbers.next() else {
+        return Ok(None);
+    };
+    let Some(mark) = numbers.next() else {
+        return Ok(None);
+    };
+    let Some(num) = numbers.next() else {
+        return Ok(None);
+    };
+    let Some(degree) = numbers.next() else {
+        return Ok(None);
+    };
+    let Some(ports) = read_ports(alloc, numbers, degree)? else {
         return Ok(None);
     };
     Ok(Some(MapRow {
-        id: head[0],
-        up: head[1],
-        mark: head[2],
-        num: head[3],
+        id,
+        up,
+        mark,
+        num,
         ports: PortList::from_vec(ports),
     }))
 }
 
-// The five numbers that stand in a record in front of its ports, which the cursor moves past, or
-// `None` where there are not so many.
-fn read_head<C: NumCode>(cursor: &mut Cursor<'_>) -> Option<[u64; 5]>
-    ensures found { IfSome result
-        (λ head. many_off C.takes 5 cursor.old ≡ Some (head, cursor.new)) }
-    ensures none { IfNone result (many_off C.takes 5 cursor.old ≡ None) }
-{
-    let id = C::read(cursor)?;
-    let up = C::read(cursor)?;
-    let mark = C::read(cursor)?;
-    let num = C::read(cursor)?;
-    let degree = C::read(cursor)?;
-    Some([id, up, mark, num, degree])
-}
-
-// So many ports, which the cursor moves past, or `None` where what comes next is fewer.
+// So many ports, or `None` where what comes next is fewer. The one error is want of memory.
 fn read_ports<C: NumCode>(
     alloc: Global,
-    cursor: &mut Cursor<'_>,
+    numbers: &mut Numbers<'_, C>,
     count: u64,
 ) -> Result<Option<Vec<(u64, u64)>>, NoMemory>
-    ensures found { IfOk result (λ found. IfSome found
-        (λ ports. many_off (port_off C.takes) count cursor.old ≡ Some (ports.items, cursor.new))) }
+    ensures found { IfOk result (λ found. IfSome found (λ ports.
+        many_off port_off count numbers.old.numbers ≡ Some (ports.items, numbers.new.numbers))) }
+    ensures same { IfOk result (λ found. IfSome found
+        (λ _. numbers.new.clean ≡ numbers.old.clean)) }
     ensures none { IfOk result (λ found. IfNone found
-        (many_off (port_off C.takes) count cursor.old ≡ None)) }
+        (many_off port_off count numbers.old.numbers ≡ None)) }
 {
     let mut ports = Vec::new(alloc);
     for _ in 0..count {
-        let Some(port) = read_port::<C>(cursor) else {
+        let Some(port) = read_port(numbers) else {
             return Ok(None);
         };
         ports.push(port)?;
@@ -110,13 +94,14 @@ fn read_ports<C: NumCode>(
     Ok(Some(ports))
 }
 
-// The port that comes next, which the cursor moves past, or `None` where there is none.
-fn read_port<C: NumCode>(cursor: &mut Cursor<'_>) -> Option<(u64, u64)>
+// The port that comes next, or `None` where there is none.
+fn read_port<C: NumCode>(numbers: &mut Numbers<'_, C>) -> Option<(u64, u64)>
     ensures found { IfSome result
-        (λ port. port_off C.takes cursor.old ≡ Some (port, cursor.new)) }
-    ensures none { IfNone result (port_off C.takes cursor.old ≡ None) }
+        (λ port. port_off numbers.old.numbers ≡ Some (port, numbers.new.numbers)) }
+    ensures same { IfSome result (λ _. numbers.new.clean ≡ numbers.old.clean) }
+    ensures none { IfNone result (port_off numbers.old.numbers ≡ None) }
 {
-    let nbr = C::read(cursor)?;
-    let weight = C::read(cursor)?;
+    let nbr = numbers.next()?;
+    let weight = numbers.next()?;
     Some((nbr, weight))
 }

@@ -2,21 +2,23 @@
 
 ghost use Rattle.std.specs.Prelude.{◌≡◌, Bool, List, Some, IfOk};
 ghost use Rattle.pls_model.specs.declared.row.NodeRow.{NodeRow};
+ghost use Rattle.pls_numbers.specs.Shape.{said_by};
 ghost use Rattle.pls_scheme.specs.Reading.{judge_by};
 ghost use Rattle.pls_universal.specs.declared.map.MapLabel.{MapLabel};
 ghost use Rattle.pls_universal.specs.declared.map.MapRow.{MapRow};
-ghost use Rattle.pls_universal.specs.Reading.{map_in, map_label};
+ghost use Rattle.pls_universal.specs.Reading.{map_shape, rows_shape};
 ghost use Rattle.pls_universal.specs.Rules.{map_rules, matched, same_state};
 ghost use Rattle.pls_universal.specs.inner.Stating.{IsStated};
 ghost use Rattle.pls_universal.specs.inner.Verifying.{agreement, has_node, is_called, is_port_seen, ports_shown, same_map};
 
-use crate::layout::MapLayout;
+use crate::format::MapFormat;
 use crate::stating::Stated;
 use pls_base::NoMemory;
 use pls_bits::{Bits, NumCode};
 use pls_graph::{Network, Port, State};
 use pls_model::Verdict;
-use pls_scheme::{Layout, judged_from};
+use pls_numbers::Format;
+use pls_scheme::judged_from;
 use pls_view::{PortView, View};
 use std::alloc::Global;
 
@@ -28,8 +30,8 @@ pub(crate) fn verdict_on<C: NumCode>(
     view: &View<'_>,
 ) -> Result<Verdict, NoMemory>
     ensures { IfOk result (λ verdict. (test : List NodeRow → Bool) (own : MapLabel)
-        → map_label C.takes view.now.own ≡ Some own → IsStated test own.rows stated.now
-        → verdict ≡ judge_by (map_label C.takes) (map_rules test) view.now) }
+        → said_by map_shape C.takes view.now.own ≡ Some own → IsStated test own.rows stated.now
+        → verdict ≡ judge_by (said_by map_shape C.takes) (map_rules test) view.now) }
 {
     let Some((own, map)) = parts::<C>(&view.own) else {
         return Ok(Verdict::Reject { leaf: 1, rule: 1 });
@@ -64,7 +66,8 @@ fn agreement<C: NumCode>(
     map: &Bits<'_>,
     ports: &[PortView<'_>],
 ) -> Result<Option<bool>, NoMemory>
-    ensures { IfOk result (λ found. (rows : List MapRow) → map_in C.takes map.now ≡ Some rows
+    ensures { IfOk result (λ found. (rows : List MapRow)
+        → said_by rows_shape C.takes map.now ≡ Some rows
         → found ≡ agreement C.takes rows (ports_shown ports.now)) }
 {
     let mut agrees = true;
@@ -84,7 +87,8 @@ fn same_map<C: NumCode>(
     map: &Bits<'_>,
     label: &Bits<'_>,
 ) -> Result<Option<bool>, NoMemory>
-    ensures { IfOk result (λ found. (rows : List MapRow) → map_in C.takes map.now ≡ Some rows
+    ensures { IfOk result (λ found. (rows : List MapRow)
+        → said_by rows_shape C.takes map.now ≡ Some rows
         → found ≡ same_map C.takes rows label.now) }
 {
     let Some((_, other)) = parts::<C>(label) else {
@@ -93,7 +97,7 @@ fn same_map<C: NumCode>(
     if map.equal(other) {
         return Ok(Some(true));
     }
-    let Some(_) = MapLayout::<C>::read(alloc, label)? else {
+    let Some(_) = MapFormat.read::<C>(alloc, label)? else {
         return Ok(None);
     };
     Ok(Some(false))

@@ -1,21 +1,54 @@
-//! The map of a network, written.
+//! Maps that are written, of a label and of a network.
 
-ghost use Rattle.std.specs.Prelude.{◌≡◌, ◌<◌, ◌≤◌, ◌∷◌, [], map, length, slice_get, Some, IfOk, OnOk};
+ghost use Rattle.std.specs.Prelude.{◌≡◌, ◌<◌, ◌++◌, [], ℕ, List, length, slice_get, Some, IfOk, OnOk};
 ghost use Rattle.std.specs.List.{flat_map};
-ghost use Rattle.pls_bits.specs.declared.num_code.TheConstants.{MAX_CODED};
 ghost use Rattle.pls_model.specs.declared.row.NodeRow.{NodeRow};
-ghost use Rattle.pls_universal.specs.Map.{IsMap, map_of, numbers_of_port, numbers_of_row, port_stated, row_stated, up_stated};
-ghost use Rattle.pls_universal.specs.inner.Writing.{Adds};
+ghost use Rattle.pls_numbers.specs.Numbers.{AreCoded, codes_of};
+ghost use Rattle.pls_numbers.specs.Shape.{IsSpelled};
+ghost use Rattle.pls_universal.specs.Map.{map_of, numbers_of_port, numbers_of_row, row_stated, up_stated};
+ghost use Rattle.pls_universal.specs.inner.Writing.{numbers_of_ports};
+ghost use Rattle.pls_universal.specs.Reading.{rows_shape};
 
+use crate::bound::maps_are_short;
+use crate::map::MapRow;
 use pls_base::NoMemory;
 use pls_bits::{BitBuf, NumCode};
-use pls_graph::{Network, Port, State};
+use pls_graph::{Network, Port};
+use pls_numbers::append_numbers;
 use std::alloc::Global;
+
+// A port that a record states.
+trait StatedPort {
+    // The neighbour and the weight.
+    ghost pair: { Self → ℕ × ℕ };
+
+    fn pair(&self) -> (u64, u64)
+        ensures { result ≡ pair self.now };
+}
+
+impl StatedPort for (u64, u64) {
+    ghost pair = { λ port. port };
+
+    fn pair(&self) -> (u64, u64) {
+        *self
+    }
+}
+
+impl StatedPort for Port {
+    ghost use Rattle.pls_universal.specs.Map.{port_stated};
+
+    ghost pair = { port_stated };
+
+    fn pair(&self) -> (u64, u64) {
+        (u64::from(self.nbr), u64::from(self.weight))
+    }
+}
 
 /// The bits of the network's map. The one error is want of memory.
 pub fn write_map<C: NumCode>(alloc: Global, net: &Network) -> Result<BitBuf, NoMemory>
-    ensures { IfOk result (λ bits. IsMap C.code (map_of net.now) bits) }
+    ensures { IfOk result (λ bits. IsSpelled rows_shape C.code bits (map_of net.now)) }
 {
+    maps_are_short::<C>(net);
     let mut bits = BitBuf::new(alloc);
     C::write(&mut bits, net.len() as u64)?;
     for i in 0..net.len() {
@@ -26,56 +59,86 @@ pub fn write_map<C: NumCode>(alloc: Global, net: &Network) -> Result<BitBuf, NoM
 
 // Appends the record of the node at a place.
 fn write_row<C: NumCode>(bits: &mut BitBuf, net: &Network, i: usize) -> Result<(), NoMemory>
-    requires { i < length net.now }
+    requires within { i < length net.now }
+    requires coded { (row : NodeRow) → slice_get net.now i ≡ Some row
+        → AreCoded [] (numbers_of_row (row_stated row)) }
     ensures { OnOk result ((row : NodeRow) → slice_get net.now i ≡ Some row
-        → Adds C.code (numbers_of_row (row_stated row)) bits.old bits.new) }
+        → bits.new ≡ bits.old ++ codes_of C.code [] (numbers_of_row (row_stated row))) }
 {
     let (id, state) = net.node(i);
     let ports = net.ports(i);
-    write_head::<C>(bits, id, state, ports.len() as u64)?;
-    write_ports::<C>(bits, ports)?;
+    let (up, mark) = (up_stated(state.up), u64::from(state.mark));
+    let head = [u64::from(id), up, mark, state.num, ports.len() as u64];
+    append_record::<C, Port>(bits, &head, ports)?;
     Ok(())
 }
 
-// Appends what stands in a record in front of its ports.
-fn write_head<C: NumCode>(
-    bits: &mut BitBuf,
-    id: u32,
-    state: State,
-    degree: u64,
-) -> Result<(), NoMemory>
-    requires num { state.num ≤ MAX_CODED }
-    requires degree { degree ≤ MAX_CODED }
-    ensures { OnOk result (Adds C.code
-        (id ∷ up_stated state.up ∷ state.mark ∷ state.num ∷ degree ∷ []) bits.old bits.new) }
+// The pointer as a record states it.
+fn up_stated(up: Option<u32>) -> u64
+    ensures { result ≡ up_stated up }
 {
-    let up = match state.up {
+    match up {
         Some(port) => u64::from(port) + 1,
         None => 0,
-    };
-    C::write(bits, u64::from(id))?;
-    C::write(bits, up)?;
-    C::write(bits, u64::from(state.mark))?;
-    C::write(bits, state.num)?;
-    C::write(bits, degree)
+    }
 }
 
-// Appends the ports of a record.
-fn write_ports<C: NumCode>(bits: &mut BitBuf, ports: &[Port]) -> Result<(), NoMemory>
-    ensures { OnOk result (Adds C.code
-        (flat_map numbers_of_port (map port_stated ports.now)) bits.old bits.new) }
+// Appends the codes of the numbers of records.
+pub(crate) fn append_rows<C: NumCode>(bits: &mut BitBuf, rows: &[MapRow]) -> Result<(), NoMemory>
+    requires { AreCoded [] (flat_map numbers_of_row rows.now) }
+    ensures { OnOk result
+        (bits.new ≡ bits.old ++ codes_of C.code [] (flat_map numbers_of_row rows.now)) }
 {
-    for port in ports {
-        write_port::<C>(bits, port)?;
+    for row in rows {
+        append_row::<C>(bits, row)?;
     }
     Ok(())
 }
 
-// Appends a port.
-fn write_port<C: NumCode>(bits: &mut BitBuf, port: &Port) -> Result<(), NoMemory>
-    ensures { OnOk result
-        (Adds C.code (numbers_of_port (port_stated port.now)) bits.old bits.new) }
+// Appends the codes of a record's numbers.
+fn append_row<C: NumCode>(bits: &mut BitBuf, row: &MapRow) -> Result<(), NoMemory>
+    requires { AreCoded [] (numbers_of_row row.now) }
+    ensures { OnOk result (bits.new ≡ bits.old ++ codes_of C.code [] (numbers_of_row row.now)) }
 {
-    C::write(bits, u64::from(port.nbr))?;
-    C::write(bits, u64::from(port.weight))
+    let ports = row.ports.as_slice();
+    let head = [row.id, row.up, row.mark, row.num, ports.len() as u64];
+    append_record::<C, (u64, u64)>(bits, &head, ports)?;
+    Ok(())
+}
+
+// Appends the codes of the numbers in front of the ports, and of those of the ports.
+fn append_record<C: NumCode, P: StatedPort>(
+    bits: &mut BitBuf,
+    head: &[u64; 5],
+    ports: &[P],
+) -> Result<(), NoMemory>
+    requires { AreCoded [] (head.now ++ numbers_of_ports P.pair ports.now) }
+    ensures { OnOk result (bits.new
+        ≡ bits.old ++ codes_of C.code [] (head.now ++ numbers_of_ports P.pair ports.now)) }
+{
+    append_numbers::<C>(bits, head)?;
+    append_ports::<C, P>(bits, ports)?;
+    Ok(())
+}
+
+// Appends the codes of the numbers of ports.
+fn append_ports<C: NumCode, P: StatedPort>(bits: &mut BitBuf, ports: &[P]) -> Result<(), NoMemory>
+    requires { AreCoded [] (numbers_of_ports P.pair ports.now) }
+    ensures { OnOk result
+        (bits.new ≡ bits.old ++ codes_of C.code [] (numbers_of_ports P.pair ports.now)) }
+{
+    for port in ports {
+        append_port::<C>(bits, port.pair())?;
+    }
+    Ok(())
+}
+
+// Appends the codes of the numbers of a port.
+fn append_port<C: NumCode>(bits: &mut BitBuf, port: (u64, u64)) -> Result<(), NoMemory>
+    requires { AreCoded [] (numbers_of_port port) }
+    ensures { OnOk result (bits.new ≡ bits.old ++ codes_of C.code [] (numbers_of_port port)) }
+{
+    C::write(bits, port.0)?;
+    C::write(bits, port.1)?;
+    Ok(())
 }

@@ -2,7 +2,7 @@
 use Rattle.std.proofs.Common.{◌≡◌, ◌↔◌, ◌⊎◌, ◌<◌, ◌≤◌, ◌-◌, ℕ, Bool, true, false, IsTrue, List, [], ◌∷◌, Option, Some, None, length, sym, inl, inr, arith, refl, slice_get, count_by, nat_lt}
 use Rattle.std.proofs.lemmas.Bool.{false≢true}
 use Rattle.std.proofs.lemmas.Bool.Decides.{nat_tests}
-use Rattle.pls_words.specs.Words.{is_json, is_stray, others_in, said_by, said_with}
+use Rattle.pls_words.specs.Words.{is_json, is_stray, others_in, said_by_words, said_with}
 use Rattle.pls_words.specs.inner.Formed.{IsFormed}
 use Rattle.pls_words.proofs.Forms.{length-others}
 
@@ -34,12 +34,12 @@ unsaid json (a ∷ b ∷ []) none = absurd (none (inr refl))
 unsaid json (a ∷ b ∷ d ∷ others) none = refl
 
 -- words that are not of the form say nothing
-pub unformed : (words : List (List ℕ)) → (IsFormed words → ⊥) → said_by words ≡ None
+pub unformed : (words : List (List ℕ)) → (IsFormed words → ⊥) → said_by_words words ≡ None
 unformed words none =
     by (nat_lt 1 (count_by is_json words)) (nat_lt 0 (count_by is_stray words)) refl refl
   where
     by : (twice stray : Bool) → nat_lt 1 (count_by is_json words) ≡ twice
-        → nat_lt 0 (count_by is_stray words) ≡ stray → said_by words ≡ None
+        → nat_lt 0 (count_by is_stray words) ≡ stray → said_by_words words ≡ None
     by true stray is_twice is_stray' = simp is_twice
     by false true is_twice is_stray' = simp (is_twice, is_stray')
     by false false is_twice is_stray' =
@@ -73,7 +73,7 @@ same_flag false count flag = by (nat_lt 0 count) refl
 pub said_formed : (words : List (List ℕ)) (command : List ℕ) (argument : Option (List ℕ))
     (json : Bool) → IsFormed words → slice_get (others_in words) 0 ≡ Some command
     → argument ≡ slice_get (others_in words) 1 → (IsTrue json ↔ (0 < count_by is_json words))
-    → Some (record { command = command; argument = argument; json = json }) ≡ said_by words
+    → Some (record { command = command; argument = argument; json = json }) ≡ said_by_words words
 said_formed words command argument json is first second flag =
     let once : nat_lt 1 (count_by is_json words) ≡ false =
     let few = is.once in grind (arith, nat_tests) in

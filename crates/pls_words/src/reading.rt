@@ -2,7 +2,7 @@
 
 ghost use Rattle.std.specs.Prelude.{◌≡◌, ◌↔◌, ◌⊎◌, ◌<◌, ◌≤◌, Some, IfOk, IfErr, IsTrue, count_by, length, slice_get};
 ghost use Rattle.clap.specs.Words.{app_of, kind_of};
-ghost use Rattle.pls_words.specs.Words.{is_json, is_stray, others_in, said_by, words_in};
+ghost use Rattle.pls_words.specs.Words.{is_json, is_stray, others_in, said_by_words, words_in};
 ghost use Rattle.pls_words.specs.inner.Formed.{IsFormed};
 ghost use Rattle.pls_words.specs.inner.Parser.{HasWords, parser};
 
@@ -16,7 +16,7 @@ use std::alloc::{AllocError, Global};
 /// with `-`, and `--json` at most once, at any place. The one error is want of memory.
 #[tactic(auto, using(crate::proofs::Said::unformed, crate::proofs::Said::said_formed))]
 pub fn read_words<'w>(alloc: Global, words: &'w [&'w str]) -> Result<Option<Given<'w>>, NoMemory>
-    ensures { IfOk result (λ given. given ≡ said_by (words_in words.entry.now)) }
+    ensures { IfOk result (λ given. given ≡ said_by_words (words_in words.entry.now)) }
 {
     if !is_formed(words) {
         return Ok(None);

@@ -80,6 +80,20 @@ behind_one-digits k shown rest long few =
       back,
     ) refl
 
+-- the digits of a number behind its first one are taken
+pub behind_one-code : (number : ℕ) (rest : List Bool) → number ≤ MAX_CODED
+    → behind_one (floor_log (number + 1)) (digits (floor_log (number + 1)) (number + 1) ++ rest)
+    ≡ Some (number, rest)
+behind_one-code number rest small =
+    let k = floor_log (number + 1) in
+    let low = floor_log-le (number + 1) (omega arith) in
+    let high = floor_log-lt_suc (number + 1) (omega arith) in
+    let shown = digits k (number + 1) in
+    let whole : number_from 1 shown ≡ number + 1 =
+    rw (one_in_front k (number + 1) low high) at (number_from-digits k (number + 1)) in
+    behind_one-digits k shown rest (length-digits k (number + 1)) (floor_log-bound (number + 1))
+    ∙ ap (λ x. Some (x, rest)) (omega (arith, whole))
+
 -- a code is taken off, whatever follows it
 pub gamma_takes-code : (number : ℕ) (rest : List Bool) → number ≤ MAX_CODED
     → gamma_takes (gamma_code number ++ rest) ≡ Some (number, rest)
@@ -93,40 +107,35 @@ gamma_takes-code number rest small =
     let code : gamma_code number ++ rest ≡ replicate k false ++ true ∷ (shown ++ rest) =
     ap (λ bits. bits ++ rest) (gamma_code-one k number (number + 1) refl low high few)
     ∙ append_assoc (replicate k false) (true ∷ shown) rest in
-    let whole : number_from 1 shown ≡ number + 1 =
-    rw (one_in_front k (number + 1) low high) at (number_from-digits k (number + 1)) in
     rw code
     (behind_zeros-replicate k 0 (true ∷ (shown ++ rest))
     ∙ ap (λ count. behind_one count (shown ++ rest)) (omega arith)
-    ∙ behind_one-digits k shown rest (length-digits k (number + 1)) few
-    ∙ ap (λ x. Some (x, rest)) (omega (arith, whole)))
+    ∙ behind_one-code number rest small)
 
 -- ---- what is taken is a code
 
--- a one and some digits behind as many zeros are the code of a number
-shown-code : (shown rest : List Bool) → length shown ≤ 62
+-- some digits are those of the number that they show behind a one
+shown-digits : (shown : List Bool) → length shown ≤ 62
     → (number_from 1 shown - 1 ≤ MAX_CODED)
-    × (replicate (length shown) false ++ true ∷ (shown ++ rest)
-    ≡ gamma_code (number_from 1 shown - 1) ++ rest)
-shown-code shown rest few =
+    × (floor_log (number_from 1 shown - 1 + 1) ≡ length shown)
+    × (shown ≡ digits (length shown) (number_from 1 shown - 1 + 1))
+shown-digits shown few =
     let y = number_from 1 shown in
     let low = number_behind-le shown in
     let high = number_behind-lt shown in
     let some = pow_pos (length shown) in
     let most : 2 ^ suc (length shown) ≤ 2 ^ 63 = pow_mono {j = 63} (omega (arith, few)) in
-    let next : y - 1 + 1 ≡ y = omega arith in
-    let code = gamma_code-one (length shown) (y - 1) y next low high few in
-    let again : gamma_code (y - 1) ≡ replicate (length shown) false ++ true ∷ shown =
-    rw (digits-number_from 1 shown) at code in (
+    let next : y - 1 + 1 ≡ y = omega arith in (
       omega arith,
-      sym (ap (λ bits. bits ++ rest) again
-          ∙ append_assoc (replicate (length shown) false) (true ∷ shown) rest),
+      ap floor_log next ∙ floor_log-unique (length shown) y few low high,
+      sym (ap (digits (length shown)) next ∙ digits-number_from 1 shown),
     )
 
--- what is taken behind a one was a code
-behind_one-only : (count number : ℕ) (bits rest : List Bool)
+-- what is taken behind a one are the digits of the number
+pub behind_one-only : (count number : ℕ) (bits rest : List Bool)
     → behind_one count bits ≡ Some (number, rest)
-    → (number ≤ MAX_CODED) × (replicate count false ++ true ∷ bits ≡ gamma_code number ++ rest)
+    → (number ≤ MAX_CODED) × (floor_log (number + 1) ≡ count)
+    × (bits ≡ digits count (number + 1) ++ rest)
 behind_one-only count number bits rest taken =
     elim (cases_lt 62 count) [
       | inl many ↦
@@ -145,13 +154,35 @@ behind_one-only count number bits rest taken =
                 let pair = same_Some _ _ some in
                 let long = length-take-le count bits enough in
                 let room : length (take count bits) ≤ 62 = rw long few in
-                let code = shown-code (take count bits) (drop count bits) room in
-                let whole = take-append-drop count bits in
                 let found = ap (λ (p : ℕ × List Bool). p.0) pair in
                 let behind = ap (λ (p : ℕ × List Bool). p.1) pair in
-                rw (whole, long, found, behind) at code
+                let shown = rw (long, found) at (shown-digits (take count bits) room) in (
+                  shown.0,
+                  shown.1,
+                  sym (take-append-drop count bits) ∙ ap (λ xs. xs ++ drop count bits) shown.2
+                      ∙ ap (λ xs. digits count (number + 1) ++ xs) behind,
+                )
           ]
     ]
+
+-- and with as many zeros in front of it, a code of that number
+zeros-only : (count number : ℕ) (bits rest : List Bool)
+    → behind_one count bits ≡ Some (number, rest)
+    → (number ≤ MAX_CODED) × (replicate count false ++ true ∷ bits ≡ gamma_code number ++ rest)
+zeros-only count number bits rest taken =
+    let shown = behind_one-only count number bits rest taken in
+    let low = floor_log-le (number + 1) (omega arith) in
+    let high = floor_log-lt_suc (number + 1) (omega (arith, shown.0)) in
+    let few = floor_log-bound (number + 1) in
+    let k = floor_log (number + 1) in
+    let code = gamma_code-one k number (number + 1) refl low high few in (
+      shown.0,
+      ap (λ n. replicate n false ++ true ∷ bits) (sym shown.1)
+          ∙ ap (λ xs. replicate k false ++ true ∷ xs) shown.2
+          ∙ ap (λ n. replicate k false ++ true ∷ (digits n (number + 1) ++ rest)) (sym shown.1)
+          ∙ sym (append_assoc (replicate k false) (true ∷ digits k (number + 1)) rest)
+          ∙ ap (λ xs. xs ++ rest) (sym code),
+    )
 
 -- what is taken behind zeros was a code
 behind_zeros-only : (count number : ℕ) (bits rest : List Bool)
@@ -159,7 +190,7 @@ behind_zeros-only : (count number : ℕ) (bits rest : List Bool)
     → (number ≤ MAX_CODED) × (replicate count false ++ bits ≡ gamma_code number ++ rest)
 behind_zeros-only count number [] rest taken = absurd (cc taken)
 behind_zeros-only count number (true ∷ bits) rest taken =
-    behind_one-only count number bits rest taken
+    zeros-only count number bits rest taken
 behind_zeros-only count number (false ∷ bits) rest taken =
     rw (replicate-behind count bits) (behind_zeros-only (suc count) number bits rest taken)
 

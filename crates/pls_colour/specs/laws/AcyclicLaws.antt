@@ -1,5 +1,5 @@
 -- The theorem of the scheme of networks without cycle.
-use Rattle.std.proofs.Common.{◌≡◌, ◌∙◌, ℕ, ◌+◌, ◌<◌, ◌≤◌, ◌==◌, ◌||◌, ◌⊎◌, inl, inr, Bool, true, false, List, length, map, Contains, Option, Some, slice_get, nat_le, count_by, refl, sym, ap, subst, arith}
+use Rattle.std.proofs.Common.{◌≡◌, ◌∙◌, ℕ, ◌+◌, ◌<◌, ◌≤◌, ◌==◌, ◌||◌, ◌⊎◌, inl, inr, Bool, true, false, List, length, map, Contains, Some, slice_get, nat_le, count_by, refl, sym, ap, subst, arith}
 use Rattle.std.proofs.lemmas.Bool.{eq-eqb, eqb-true, le-leb, leb-true, or_cases}
 use Rattle.pls_bits.specs.NumberCode.{Grows, IsShort}
 use Rattle.pls_model.specs.declared.row.Port.{Port}
@@ -8,12 +8,9 @@ use Rattle.pls_model.specs.Configuration.{IsNetwork, ids_of}
 use Rattle.pls_model.specs.Walk.{edges_of}
 use Rattle.pls_graph.specs.Levels.{IsLevel}
 use Rattle.pls_graph.specs.Size.{size_of}
-use Rattle.pls_scheme.specs.Numbers.{AreCoded, label_in}
+use Rattle.pls_scheme.specs.Basic.{longest_by}
 use Rattle.pls_scheme.specs.Reading.{read_where, port_where}
-use Rattle.pls_scheme.specs.SchemeLaws.{IsMarkedOnce, IsSound}
 use Rattle.pls_scheme.specs.Theorem.{AreRightEverywhere, OneIsRight, RightFits, RulesAreMet, RulesShow}
-use Rattle.pls_scheme.specs.laws.CodeLaws.{one_spelling}
-use Rattle.pls_scheme.specs.laws.Marking.{marked_once, sound_by}
 use Rattle.pls_scheme.proofs.Fitting.{within_fits}
 use Rattle.pls_scheme.proofs.SaidPorts.{all_ports_pass, passes_port}
 use Rattle.pls_facts.specs.Cycle.{AreSearched, IsAcyclic}
@@ -22,7 +19,7 @@ use Rattle.pls_facts.proofs.Levels.{levels_searched}
 use Rattle.pls_facts.proofs.Lists.{count_by-map, item_at}
 use Rattle.pls_facts.proofs.Neighbours.{adjacent_known}
 use Rattle.pls_colour.specs.declared.acyclic.CycleLabel.{CycleLabel}
-use Rattle.pls_colour.specs.Acyclic.{IsAcyclicMarked, IsCycleLabel, acyclic_limits, acyclic_rules, acyclic_says, cycle_label, cycle_says, differs_by_one, has_one_above, is_above, is_beside, judge_acyclic, longest_acyclic, numbers_of_cycle}
+use Rattle.pls_colour.specs.Acyclic.{acyclic_limits, acyclic_rules, acyclic_says, acyclic_shape, cycle_says, differs_by_one, has_one_above, is_above, is_beside}
 use Rattle.pls_colour.specs.laws.LevelLaws.{AreSaidLevels, one_level_label, said_levels}
 
 -- the rules on what labels say, from the depths at the ports of a row
@@ -112,19 +109,9 @@ acyclic_one_right rows net joined acyclic row one other in' =
 
 -- what is right is short
 pub acyclic_fits : (code : ℕ → List Bool) → Grows code → IsShort code
-    → RightFits (IsCycleLabel code) (λ label. AreCoded (numbers_of_cycle label)) IsAcyclic
-    acyclic_says (longest_acyclic code)
+    → RightFits acyclic_shape code IsAcyclic acyclic_says
+    (longest_by acyclic_shape acyclic_limits code)
 acyclic_fits code grows short rows net joined acyclic words say right row in' =
     let below : (say row.id).depth < length rows = (levels rows net say right).below row in' in
-    within_fits code grows short numbers_of_cycle (say row.id) (acyclic_limits (size_of rows))
-    (omega arith) (omega (arith, below), omega (arith, net.limits.few_nodes), tt)
-
--- labels that every node accepts show that there is no cycle
-pub acyclic_sound : (takes : List Bool → Option (ℕ × List Bool))
-    → IsSound (judge_acyclic takes) IsAcyclic
-acyclic_sound takes = sound_by (label_in cycle_label takes 1) acyclic_rules IsAcyclic acyclic_show
-
--- a network is marked in one way
-pub acyclic_marked_once : (code : ℕ → List Bool) → IsMarkedOnce IsAcyclic (IsAcyclicMarked code)
-acyclic_marked_once code = marked_once (IsCycleLabel code) IsAcyclic acyclic_says
-    (λ label. one_spelling code (numbers_of_cycle label)) acyclic_one_right
+    within_fits code grows short acyclic_shape (say row.id) (acyclic_limits (size_of rows)) refl
+    tt (omega arith) (omega (arith, below), omega (arith, net.limits.few_nodes), tt)

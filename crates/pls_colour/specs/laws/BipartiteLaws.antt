@@ -1,21 +1,20 @@
 -- The theorem of the scheme of two-colourings.
-use Rattle.std.proofs.Common.{◌≡◌, ◌≢◌, ◌∙◌, ℕ, Bool, true, false, List, length, Contains, Some, slice_get, refl, sym, ap, subst, arith}
+use Rattle.std.proofs.Common.{◌≡◌, ◌≢◌, ◌∙◌, ℕ, ◌≤◌, Bool, true, false, List, Contains, Some, slice_get, refl, sym, ap, subst, arith}
+use Rattle.pls_bits.specs.Bytes.{weigh}
 use Rattle.pls_model.specs.declared.row.Port.{Port}
 use Rattle.pls_model.specs.declared.row.NodeRow.{NodeRow}
 use Rattle.pls_model.specs.Walk.{edges_of}
 use Rattle.pls_graph.specs.Levels.{IsLevel}
 use Rattle.pls_scheme.specs.Reading.{port_where}
-use Rattle.pls_scheme.specs.SchemeLaws.{IsMarkedOnce, IsSound}
+use Rattle.pls_scheme.specs.Basic.{longest_by}
 use Rattle.pls_scheme.specs.Theorem.{OneIsRight, RightFits, RulesAreMet, RulesShow}
-use Rattle.pls_scheme.specs.laws.Marking.{marked_once, sound_by}
 use Rattle.pls_scheme.proofs.SaidPorts.{all_ports_pass, passes_port}
 use Rattle.pls_facts.specs.Bipartite.{IsBipartite, is_odd, differ}
 use Rattle.pls_facts.proofs.Colourings.{colours_at_ports, parities_differ}
 use Rattle.pls_facts.proofs.Lists.{item_at}
 use Rattle.pls_facts.proofs.Neighbours.{neighbour_row}
-use Rattle.pls_colour.specs.declared.colour_layout.ColourLabel.{ColourLabel}
-use Rattle.pls_colour.specs.Bipartite.{IsBipartiteMarked, IsColourLabel, bipartite_rules, bipartite_says, colour_label, differs_from, judge_bipartite, longest_bipartite, parity_label}
-use Rattle.pls_colour.specs.laws.ColourLaws.{one_spelling}
+use Rattle.pls_colour.specs.declared.colour_format.ColourLabel.{ColourLabel}
+use Rattle.pls_colour.specs.Bipartite.{bipartite_limits, bipartite_rules, bipartite_says, colour_shape, differs_from, parity_label}
 use Rattle.pls_colour.specs.laws.LevelLaws.{one_level_label}
 
 -- colours that differ are not the same
@@ -73,18 +72,14 @@ bipartite_one_right rows net joined bipartite row one other in' =
     one_level_label parity_label rows net row one other
 
 -- what is right is short
-pub bipartite_fits : RightFits IsColourLabel (λ label. Unit {0}) IsBipartite bipartite_says
-    longest_bipartite
-bipartite_fits rows net joined bipartite words say right row in' = record {
-  writable = tt;
-  short = λ bits is. omega (arith, ap (λ (bits : List Bool). length bits) is);
+pub bipartite_fits : (code : ℕ → List Bool)
+    → RightFits colour_shape code IsBipartite bipartite_says
+    (longest_by colour_shape bipartite_limits code)
+bipartite_fits code rows net joined bipartite words say right row in' = record {
+  writable = record { coded = (small (say row.id).colour, tt); proper = tt };
+  short = omega arith;
 }
-
--- labels that every node accepts are a two-colouring
-pub bipartite_sound : IsSound judge_bipartite IsBipartite
-bipartite_sound = sound_by colour_label bipartite_rules IsBipartite bipartite_show
-
--- a network is marked in one way
-pub bipartite_marked_once : IsMarkedOnce IsBipartite IsBipartiteMarked
-bipartite_marked_once =
-    marked_once IsColourLabel IsBipartite bipartite_says one_spelling bipartite_one_right
+  where
+    small : (colour : Bool) → weigh colour ≤ 1
+    small true = omega arith
+    small false = omega arith

@@ -5,8 +5,8 @@ use Rattle.pls_distance.specs.declared.gathering.Gathered.{Gathered}
 use Rattle.pls_distance.specs.Spt.{agrees_on_its_root, is_beyond_target, is_nearest}
 
 -- the own label, and which rules on the ports hold
-abbrev pub gathered : Read SptLabel → Gathered
-gathered view = record {
+abbrev pub spt_tally : Read SptLabel → Gathered
+spt_tally view = record {
   own = view.own;
   agrees = agrees_on_its_root view;
   follows = is_beyond_target view;

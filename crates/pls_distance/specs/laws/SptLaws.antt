@@ -11,12 +11,9 @@ use Rattle.pls_graph.specs.Size.{greatest, size_of, weights_of}
 use Rattle.pls_graph.proofs.Joined.{Adjacent-turned}
 use Rattle.pls_graph.proofs.Members.{Contains-from_place}
 use Rattle.pls_scheme.specs.Judging.{AllHold}
-use Rattle.pls_scheme.specs.Numbers.{AreCoded, label_in}
+use Rattle.pls_scheme.specs.Basic.{longest_by}
 use Rattle.pls_scheme.specs.Reading.{ReadPort, read_where, port_where}
-use Rattle.pls_scheme.specs.SchemeLaws.{IsMarkedOnce, IsSound}
 use Rattle.pls_scheme.specs.Theorem.{OneIsRight, RightFits, RulesAreMet, RulesShow}
-use Rattle.pls_scheme.specs.laws.CodeLaws.{one_spelling}
-use Rattle.pls_scheme.specs.laws.Marking.{marked_once, sound_by}
 use Rattle.pls_scheme.proofs.Fitting.{within_fits}
 use Rattle.pls_scheme.proofs.SaidPorts.{all_ports_pass, passes_port}
 use Rattle.pls_facts.specs.Pointer.{IsChainOf, pointed_node}
@@ -34,7 +31,7 @@ use Rattle.pls_pointer.specs.declared.tree.TreeLabel.{TreeLabel}
 use Rattle.pls_pointer.specs.laws.PointingLaws.{points_or, target_said}
 use Rattle.pls_pointer.specs.laws.TreeLaws.{tree_met, tree_show}
 use Rattle.pls_distance.specs.declared.spt.SptLabel.{SptLabel}
-use Rattle.pls_distance.specs.Spt.{IsSptLabel, IsSptMarked, far_says, is_farther_than_target, is_nearest, is_reached_by, judge_spt, longest_spt, numbers_of_spt, spt_label, spt_limits, spt_rules, spt_says, tree_part, tree_port, tree_reading}
+use Rattle.pls_distance.specs.Spt.{far_says, is_farther_than_target, is_nearest, is_reached_by, spt_limits, spt_rules, spt_says, spt_shape, tree_part, tree_port, tree_reading}
 
 module _ (say : ℕ → SptLabel) where
   -- what labels say of the tree
@@ -255,8 +252,8 @@ spt_one_right rows net joined shortest row one other in' mine theirs =
 
 -- what is right is short
 pub spt_fits : (code : ℕ → List Bool) → Grows code → IsShort code
-    → RightFits (IsSptLabel code) (λ label. AreCoded (numbers_of_spt label)) IsShortestPathTree
-    spt_says (longest_spt code)
+    → RightFits spt_shape code IsShortestPathTree spt_says
+    (longest_by spt_shape spt_limits code)
 spt_fits code grows short rows net joined shortest words say right row in' =
     let root : (row : NodeRow) × Contains rows row × (row.state.up ≡ None) =
     a_root rows shortest.tree.one_root in
@@ -274,8 +271,8 @@ spt_fits code grows short rows net joined shortest words say right row in' =
     let some : length rows * most ≤ 32768 * most =
     mul-le-mul_right most (omega (arith, net.limits.few_nodes)) in
     let all : length rows * most ≤ 32768 * 4294967295 = omega (arith, some, words_most) in
-    within_fits code grows short numbers_of_spt (say row.id) (spt_limits (size_of rows))
-    (omega arith) (
+    within_fits code grows short spt_shape (say row.id) (spt_limits (size_of rows)) refl
+    tt (omega arith) (
       omega (arith, here.0, within),
       omega (arith, words.max_id),
       (
@@ -284,13 +281,3 @@ spt_fits code grows short rows net joined shortest words say right row in' =
         (omega (arith, here.2, weighs, many), omega (arith, all), tt),
       ),
     )
-
--- labels that every node of a connected network accepts show a shortest-path tree
-pub spt_sound : (takes : List Bool → Option (ℕ × List Bool))
-    → IsSound (judge_spt takes) IsShortestPathTree
-spt_sound takes = sound_by (label_in spt_label takes 3) spt_rules IsShortestPathTree spt_show
-
--- a network is marked in one way
-pub spt_marked_once : (code : ℕ → List Bool) → IsMarkedOnce IsShortestPathTree (IsSptMarked code)
-spt_marked_once code = marked_once (IsSptLabel code) IsShortestPathTree spt_says
-    (λ label. one_spelling code (numbers_of_spt label)) spt_one_right

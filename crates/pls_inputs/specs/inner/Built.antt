@@ -13,7 +13,7 @@ use Rattle.pls_schedule.specs.declared.event.Event.{Event}
 use Rattle.pls_schedule.specs.ScheduleText.{IsEventsRefusal, TellsSchedule, WrittenSchedule}
 use Rattle.pls_edits.specs.declared.edit_line.EditLine.{EditLine}
 use Rattle.pls_edits.specs.EditsText.{IsEditsRefusal, TellsEdits, WrittenEdits}
-use Rattle.pls_inputs.specs.inner.Scanned.{Tells}
+use Rattle.pls_inputs.specs.inner.Scanned.{TellsIfAny}
 
 -- the network is the one that the text says
 pub record IsNetOf (written : WrittenNetwork) (net : List NodeRow) : Type 0 where
@@ -21,7 +21,7 @@ pub record IsNetOf (written : WrittenNetwork) (net : List NodeRow) : Type 0 wher
   pub valid : IsNetwork net
 
 abbrev pub IsBuilt : Option WrittenNetwork → Option (List NodeRow) → Type 0
-IsBuilt text net = Tells IsNetOf text net
+IsBuilt text net = TellsIfAny IsNetOf text net
 
 -- the error is the refusal of the rows that the text says, or want of memory
 abbrev pub IsUnbuilt : Option WrittenNetwork → TextError → Type 0
@@ -60,7 +60,7 @@ abbrev pub AreEventsOf : WrittenSchedule → List Event → Type 0
 AreEventsOf written list = (events : List Event) → TellsSchedule written.text events → list ≡ events
 
 abbrev pub AreListed : Option WrittenSchedule → Option (List Event) → Type 0
-AreListed text list = Tells AreEventsOf text list
+AreListed text list = TellsIfAny AreEventsOf text list
 
 -- the error is the refusal of the events that the text says, or want of memory
 abbrev pub AreUnlisted : Option WrittenSchedule → TextError → Type 0
@@ -72,8 +72,8 @@ AreUnlisted (Some written) error = (events : List Event) → TellsSchedule writt
 abbrev pub AreEditsOf : WrittenEdits → List EditLine → Type 0
 AreEditsOf written list = (edits : List EditLine) → TellsEdits written.text edits → list ≡ edits
 
-abbrev pub AreMade : Option WrittenEdits → Option (List EditLine) → Type 0
-AreMade text list = Tells AreEditsOf text list
+abbrev pub AreEditsIfAny : Option WrittenEdits → Option (List EditLine) → Type 0
+AreEditsIfAny text list = TellsIfAny AreEditsOf text list
 
 -- the error is the refusal of the edits that the text says, or want of memory
 abbrev pub AreUnmade : Option WrittenEdits → TextError → Type 0

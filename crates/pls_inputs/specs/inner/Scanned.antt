@@ -33,11 +33,11 @@ PassesIf false Passed old new None = new ≡ old
 PassesIf false Passed old new (Some part) = ⊥
 
 -- a text was scanned just where there is a part, and tells it
-abbrev pub Tells : {X Y : Type 0} → (X → Y → Type 0) → Option X → Option Y → Type 0
-Tells Told None None = ⊤
-Tells Told None (Some part) = ⊥
-Tells Told (Some text) None = ⊥
-Tells Told (Some text) (Some part) = Told text part
+abbrev pub TellsIfAny : {X Y : Type 0} → (X → Y → Type 0) → Option X → Option Y → Type 0
+TellsIfAny Told None None = ⊤
+TellsIfAny Told None (Some part) = ⊥
+TellsIfAny Told (Some text) None = ⊥
+TellsIfAny Told (Some text) (Some part) = Told text part
 
 -- the labels are those of the text, whose heading is the line of this number
 pub record TellsLabelsAt (heading : ℕ) (written : WrittenLabels)
@@ -66,10 +66,10 @@ pub record IsScanned (parts : Parts) (bytes : List ℕ) (texts : Texts) : Type 0
   pub input : Input
   pub has : HasParts parts input
   pub is : bytes ≡ text_of (input_lines input)
-  pub network : Tells TellsNetwork texts.network input.network
-  pub labels : Tells (TellsLabelsAt (labels_heading input)) texts.labels input.labels
-  pub schedule : Tells (TellsScheduleAt (schedule_heading input)) texts.schedule input.schedule
-  pub edits : Tells (TellsEditsAt (edits_heading input)) texts.edits input.edits
+  pub network : TellsIfAny TellsNetwork texts.network input.network
+  pub labels : TellsIfAny (TellsLabelsAt (labels_heading input)) texts.labels input.labels
+  pub schedule : TellsIfAny (TellsScheduleAt (schedule_heading input)) texts.schedule input.schedule
+  pub edits : TellsIfAny (TellsEditsAt (edits_heading input)) texts.edits input.edits
 
 -- what was counted of a text, 0 where there is none
 abbrev pub count_in : {X : Type 0} → (X → ℕ) → Option X → ℕ

@@ -62,7 +62,7 @@ word_long [] = refl
 word_long (bit ∷ bits) = length-hex_digits (bit ∷ bits)
 
 -- the words are the same, and so is what follows their line
-pub record SameWords (a b m n : ℕ) (x y s t : List ℕ) : Type 0 where
+pub record SameLabelWords (a b m n : ℕ) (x y s t : List ℕ) : Type 0 where
   pub id : a ≡ b
   pub len : m ≡ n
   pub hex : x ≡ y
@@ -78,11 +78,11 @@ words_behind id len hex rest =
     ∙ ap (λ (words : List ℕ). decimal id ++ 32 ∷ words) (first_word (decimal len) hex [] rest))
 
 -- a text tells the words of the line at its front, where the last has the length that is stated
-pub same_words : (text : List ℕ) (a b m n : ℕ) (x y s t : List ℕ) → a < 2 ^ 32 → b < 2 ^ 32
+pub same_label_words : (text : List ℕ) (a b m n : ℕ) (x y s t : List ℕ) → a < 2 ^ 32 → b < 2 ^ 32
     → m ≤ 2 ^ 28 → n ≤ 2 ^ 28 → length x ≡ word_length m → length y ≡ word_length n
     → text ≡ label_of_words a m x ++ 10 ∷ s → text ≡ label_of_words b n y ++ 10 ∷ t
-    → SameWords a b m n x y s t
-same_words text a b m n x y s t small_a small_b short_m short_n long_x long_y p q =
+    → SameLabelWords a b m n x y s t
+same_label_words text a b m n x y s t small_a small_b short_m short_n long_x long_y p q =
     let words =
     behind_word (codes "label") text _ _ (p ∙ words_behind a m x s) (q ∙ words_behind b n y t) in
     let id = same_number a b _ _ (omega (arith, small_a)) (omega (arith, small_b)) words in
@@ -109,7 +109,7 @@ same_words text a b m n x y s t small_a small_b short_m short_n long_x long_y p 
 same_label : (a b : NamedLabel) → FitsLabel a → FitsLabel b → label_line a ≡ label_line b
     → a ≡ b
 same_label a b fits_a fits_b e =
-    let words = same_words (label_line a ++ 10 ∷ []) a.id b.id (length a.bits) (length b.bits)
+    let words = same_label_words (label_line a ++ 10 ∷ []) a.id b.id (length a.bits) (length b.bits)
     (hex_word a.bits) (hex_word b.bits) [] [] fits_a.id fits_b.id fits_a.short fits_b.short
     (word_long a.bits) (word_long b.bits) refl (ap (λ (line : List ℕ). line ++ 10 ∷ []) e) in
     let id = words.id in

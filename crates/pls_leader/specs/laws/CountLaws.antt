@@ -1,25 +1,21 @@
 -- The theorem of the scheme of the number of nodes.
-use Rattle.std.proofs.Common.{◌≡◌, ◌∙◌, ℕ, inl, inr, Bool, List, Contains, Option, Some, slice_get, refl, sym, arith}
+use Rattle.std.proofs.Common.{◌≡◌, ◌∙◌, ℕ, inl, inr, Bool, List, Contains, Some, slice_get, refl, sym, arith}
 use Rattle.std.proofs.lemmas.Bool.{cases_eq}
 use Rattle.pls_bits.specs.NumberCode.{Grows, IsShort}
 use Rattle.pls_model.specs.declared.row.NodeRow.{NodeRow}
 use Rattle.pls_model.specs.Configuration.{ids_of}
 use Rattle.pls_model.specs.Walk.{edges_of}
 use Rattle.pls_graph.specs.Size.{size_of}
-use Rattle.pls_scheme.specs.Numbers.{AreCoded, label_in}
-use Rattle.pls_scheme.specs.SchemeLaws.{IsMarkedOnce, IsSound}
+use Rattle.pls_scheme.specs.Basic.{longest_by}
 use Rattle.pls_scheme.specs.Theorem.{OneIsRight, RightFits, RulesAreMet}
-use Rattle.pls_scheme.specs.laws.CodeLaws.{one_spelling}
-use Rattle.pls_scheme.specs.laws.Marking.{marked_once, sound_by}
 use Rattle.pls_scheme.proofs.Fitting.{within_fits}
 use Rattle.pls_facts.specs.NodeCount.{AreCounted}
 use Rattle.pls_facts.specs.Parents.{ChainMeets}
 use Rattle.pls_facts.proofs.Levels.{one_level}
 use Rattle.pls_facts.proofs.Lists.{item_at}
 use Rattle.pls_facts.proofs.ParentLines.{AreSoMany-one}
-use Rattle.pls_leader.specs.Count.{IsCountLabel, IsCountMarked, IsCounted, IsParent, count_label, count_limits, count_of, count_rules, count_says, judge_count, longest_count, numbers_of_count}
+use Rattle.pls_leader.specs.Count.{IsCounted, IsParent, count_limits, count_of, count_rules, count_says, count_shape}
 use Rattle.pls_leader.specs.laws.CountRight.{rules_met, within_limits}
-use Rattle.pls_leader.specs.laws.CountShow.{count_show}
 
 -- labels of equal parts are equal
 label_is : (r o p d s t a b c e f g : ℕ) → r ≡ a → o ≡ b → p ≡ c → d ≡ e → s ≡ f → t ≡ g
@@ -65,14 +61,14 @@ count_one_right rows net joined counted row one other in' mine theirs =
 
 -- what is right is short
 pub count_fits : (code : ℕ → List Bool) → Grows code → IsShort code
-    → RightFits (IsCountLabel code) (λ label. AreCoded (numbers_of_count label)) AreCounted
-    count_says (longest_count code)
+    → RightFits count_shape code AreCounted count_says
+    (longest_by count_shape count_limits code)
 count_fits code grows short rows net joined counted words say right row in' =
     let low = within_limits rows net say right row in' in
     let id_small = words.max_id in
     let few = net.limits.few_nodes in
-    within_fits code grows short numbers_of_count (say row.id) (count_limits (size_of rows))
-    (omega arith) (
+    within_fits code grows short count_shape (say row.id) (count_limits (size_of rows)) refl
+    tt (omega arith) (
       low.0,
       omega (arith, id_small),
       (
@@ -93,14 +89,3 @@ count_fits code grows short rows net joined counted words say right row in' =
         ),
       ),
     )
-
--- labels that every node of a connected network accepts show that each node's number is the number
--- of nodes
-pub count_sound : (takes : List Bool → Option (ℕ × List Bool))
-    → IsSound (judge_count takes) AreCounted
-count_sound takes = sound_by (label_in count_label takes 6) count_rules AreCounted count_show
-
--- a network is marked in one way
-pub count_marked_once : (code : ℕ → List Bool) → IsMarkedOnce AreCounted (IsCountMarked code)
-count_marked_once code = marked_once (IsCountLabel code) AreCounted count_says
-    (λ label. one_spelling code (numbers_of_count label)) count_one_right

@@ -1,5 +1,5 @@
 -- The theorem of the scheme of one leader.
-use Rattle.std.proofs.Common.{◌≡◌, ◌≤◌, ◌<◌, ◌∙◌, ◌+◌, ◌||◌, ◌⊎◌, inl, inr, ◌==◌, ℕ, Bool, true, false, List, length, Contains, Option, sym, ap, arith, refl}
+use Rattle.std.proofs.Common.{◌≡◌, ◌≤◌, ◌<◌, ◌∙◌, ◌+◌, ◌||◌, ◌⊎◌, inl, inr, ◌==◌, ℕ, Bool, true, false, List, length, Contains, sym, ap, arith, refl}
 use Rattle.std.proofs.lemmas.Bool.{eq-eqb, eqb-true, or_cases}
 use Rattle.std.proofs.lemmas.Option.{same_Some}
 use Rattle.pls_bits.specs.NumberCode.{Grows, IsShort}
@@ -9,12 +9,9 @@ use Rattle.pls_model.specs.Configuration.{IsNetwork, ids_of, row_of}
 use Rattle.pls_model.specs.Walk.{edges_of}
 use Rattle.pls_graph.specs.Levels.{IsLevel}
 use Rattle.pls_graph.specs.Size.{greatest, size_of}
-use Rattle.pls_scheme.specs.Numbers.{AreCoded, label_in}
-use Rattle.pls_scheme.specs.Reading.{read_where, port_where}
-use Rattle.pls_scheme.specs.SchemeLaws.{IsMarkedOnce, IsSound}
+use Rattle.pls_scheme.specs.Basic.{longest_by}
+use Rattle.pls_scheme.specs.Reading.{has_number, read_where, port_where}
 use Rattle.pls_scheme.specs.Theorem.{AreRightEverywhere, OneIsRight, RightFits, RulesAreMet, RulesShow}
-use Rattle.pls_scheme.specs.laws.CodeLaws.{one_spelling}
-use Rattle.pls_scheme.specs.laws.Marking.{marked_once, sound_by}
 use Rattle.pls_scheme.proofs.Fitting.{within_fits}
 use Rattle.pls_scheme.proofs.SaidPorts.{all_ports_pass, passes_at_some, passes_port, some_port_passes}
 use Rattle.pls_facts.specs.Descent.{AreRooted, IsTheRoot}
@@ -26,7 +23,7 @@ use Rattle.pls_facts.proofs.OnlyNode.{only_from, only_of, the_only}
 use Rattle.pls_facts.proofs.Pointed.{row_of_id}
 use Rattle.pls_facts.proofs.RootLevels.{alone_at_0, below_nodes, levels_fall, root_at_0}
 use Rattle.pls_leader.specs.declared.leader.LeaderLabel.{LeaderLabel}
-use Rattle.pls_leader.specs.Leader.{IsLeaderLabel, IsLeaderMarked, falls_to_root, is_one_less_deep, judge_leader, leader_label, leader_limits, leader_rules, leader_says, longest_leader, names_root, numbers_of_leader, root_says}
+use Rattle.pls_leader.specs.Leader.{falls_to_root, is_one_less_deep, leader_limits, leader_rules, leader_says, leader_shape, leader_at}
 use Rattle.pls_leader.specs.laws.RootedLaws.{at_0_alone, beq-back, beq-from, beq-there, root_where_0}
 
 -- a test that one of two passes
@@ -84,7 +81,7 @@ leader_show rows net joined say hold =
     rooted : AreRooted rows (λ id. (say id).root) (λ id. (say id).depth)
     rooted = record {
       agree = λ row port in' has. eqb-true (say port.nbr).root (say row.id).root
-          (passes_port (names_root (say row.id).root) say row.ports (hold row in').0 port has);
+          (passes_port (has_number (λ (label : LeaderLabel). label.root) (say row.id).root) say row.ports (hold row in').0 port has);
       falls = λ row in'. falls_at_port say row (hold row in').1.1.0;
       at_root = λ row in'. root_where_0 row.id (say row.id).root (say row.id).depth
           (hold row in').1.0;
@@ -121,7 +118,7 @@ module _ (rows : List NodeRow) (net : IsNetwork rows) (one : HasOneLeader rows)
 -- where what is said is right, the rules hold
 pub leader_met : RulesAreMet leader_rules HasOneLeader leader_says
 leader_met rows net joined one say right row in' = (
-  all_ports_pass (names_root (say row.id).root) say row.ports agree,
+  all_ports_pass (has_number (λ (label : LeaderLabel). label.root) (say row.id).root) say row.ports agree,
   (
     at_0_alone row.id (say row.id).root (say row.id).depth
         (λ none. alone_at_0 rows net the.0.id depth level_at row in' none ∙ sym (named row in'))
@@ -157,7 +154,7 @@ leader_met rows net joined one say right row in' = (
     named row in' = (here rows net one say right row in').0
 
     agree : (port : Port) → Contains row.ports port
-        → names_root (say row.id).root (port_where say port) ≡ true
+        → has_number (λ (label : LeaderLabel). label.root) (say row.id).root (port_where say port) ≡ true
     agree port has =
         let (other, other_in, is) : (row : NodeRow) × Contains rows row × (row.id ≡ port.nbr) =
         neighbour_row rows net row in' port has in
@@ -174,32 +171,21 @@ leader_one_right rows net joined holds row one other in' mine theirs =
     let roots : one.root ≡ other.root = a.0 ∙ sym b.0 in
     let depths : one.depth ≡ other.depth =
     one_level (edges_of rows) leader.0.id row.id one.depth other.depth a.1 b.1 in
-    ap (λ (root : ℕ). root_says root one.depth) roots ∙ ap (root_says other.root) depths
+    ap (λ (root : ℕ). leader_at root one.depth) roots ∙ ap (leader_at other.root) depths
 
 -- what is right is short
 pub leader_fits : (code : ℕ → List Bool) → Grows code → IsShort code
-    → RightFits (IsLeaderLabel code) (λ label. AreCoded (numbers_of_leader label)) HasOneLeader
-    leader_says (longest_leader code)
+    → RightFits leader_shape code HasOneLeader leader_says
+    (longest_by leader_shape leader_limits code)
 leader_fits code grows short rows net joined one words say right row in' =
     let leader : (row : NodeRow) × Contains rows row × (is_leader row.state ≡ true) =
     leader rows net one say right in
     let below : (say row.id).depth < length rows =
     below_nodes rows net leader.0.id (λ id. (say id).depth) (level rows net one say right) row in' in
     let within : leader.0.id ≤ greatest (ids_of rows) = id_within rows leader.0 leader.1 in
-    within_fits code grows short numbers_of_leader (say row.id) (leader_limits (size_of rows))
-    (omega arith) (
+    within_fits code grows short leader_shape (say row.id) (leader_limits (size_of rows)) refl
+    tt (omega arith) (
       omega (arith, (here rows net one say right row in').0, within),
       omega (arith, words.max_id),
       (omega (arith, below), omega (arith, net.limits.few_nodes), tt),
     )
-
--- labels that every node of a connected network accepts show that one node is marked
-pub leader_sound : (takes : List Bool → Option (ℕ × List Bool))
-    → IsSound (judge_leader takes) HasOneLeader
-leader_sound takes =
-    sound_by (label_in leader_label takes 2) leader_rules HasOneLeader leader_show
-
--- a network is marked in one way
-pub leader_marked_once : (code : ℕ → List Bool) → IsMarkedOnce HasOneLeader (IsLeaderMarked code)
-leader_marked_once code = marked_once (IsLeaderLabel code) HasOneLeader leader_says
-    (λ label. one_spelling code (numbers_of_leader label)) leader_one_right

@@ -2,6 +2,7 @@
 
 use super::network;
 use pls_base::Steps;
+use pls_bits::Gamma;
 use pls_colour::Bipartite;
 use pls_graph_edits::EditError;
 use pls_labelfile::{read_labels, write_labels};
@@ -78,7 +79,7 @@ fn a_node_joins_and_leaves(rt: HostRuntime) -> Result<(), Fail> {
     let net = network(alloc, PAIR)?;
     let labels = read_labels(alloc, COLOURS.as_bytes(), &net)?;
     let mut tally = Tally::new();
-    let judge = Counted::new(Bipartite::new(), &mut tally);
+    let judge = Counted::new(Bipartite::<Gamma>::new(), &mut tally);
     let mut recheck = Recheck::start(alloc, net, labels, judge)?;
     assert!(rt;
         joins_and_leaves(alloc, &mut recheck, 2)?,

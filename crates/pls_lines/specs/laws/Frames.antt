@@ -16,11 +16,11 @@ pub end_plain : LacksItem 10 (codes "end")
 end_plain = (omega arith, (omega arith, (omega arith, tt)))
 
 -- each heading is a plain line
-abbrev pub IsHeading : (List ℕ → Type 0) → Type 0
-IsHeading Heading = (line : List ℕ) → Heading line → LacksItem 10 line
+abbrev pub IsPlainHeading : (List ℕ → Type 0) → Type 0
+IsPlainHeading Heading = (line : List ℕ) → Heading line → LacksItem 10 line
 
 pub framed_part : (Heading : List ℕ → Type 0) (Body : List (List ℕ) → Type 0)
-    → IsHeading Heading → IsBody Body → IsPart (IsFramed Heading Body)
+    → IsPlainHeading Heading → IsBody Body → IsPart (IsFramed Heading Body)
 framed_part Heading Body plain body = record {
   plain = λ lines is.
       subst ArePlain (sym is.is) (
@@ -100,7 +100,7 @@ due_in_body Heading Body heading front more headed fits = record {
 -- a heading is due, and another line stands next
 pub fault_in_heading : (Heading : List ℕ → Type 0) (Body : List (List ℕ) → Type 0)
     (heading : List ℕ) (some : List (List ℕ)) (old : Left)
-    → IsHeading Heading → IsBody Body → Heading heading → Body some
+    → IsPlainHeading Heading → IsBody Body → Heading heading → Body some
     → (Stands Heading old.rest → ⊥) → IsFault (IsFramed Heading Body) old old.number
 fault_in_heading Heading Body heading some old plain body headed fits absent = (
   0,
@@ -117,7 +117,7 @@ fault_in_heading Heading Body heading some old plain body headed fits absent = (
 -- a line of the body or `end` is due, and another line stands next
 pub fault_in_body : (Heading : List ℕ → Type 0) (Body : List (List ℕ) → Type 0)
     (Due : List ℕ → Type 0) (heading : List ℕ) (front more : List (List ℕ)) (old now : Left)
-    → IsHeading Heading → IsBody Body → Heading heading → Passes old now (heading ∷ front)
+    → IsPlainHeading Heading → IsBody Body → Heading heading → Passes old now (heading ∷ front)
     → Body (front ++ more) → (Stands Due now.rest → ⊥)
     → ((line : List ℕ) → Next Body front line → Due line)
     → IsFault (IsFramed Heading Body) old now.number

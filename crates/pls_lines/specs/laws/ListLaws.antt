@@ -6,7 +6,7 @@ use Rattle.pls_lines.specs.Plain.{LacksItem, ArePlain}
 use Rattle.pls_lines.specs.LineKind.{IsLineKind, Says}
 use Rattle.pls_lines.specs.Part.{IsPart, IsSomePart}
 use Rattle.pls_lines.specs.ListPart.{AreItemLines, IsListKind, IsListPart, list_lines}
-use Rattle.pls_lines.specs.laws.Frames.{IsBody, IsHeading, framed_part}
+use Rattle.pls_lines.specs.laws.Frames.{IsBody, IsPlainHeading, framed_part}
 
 -- what holds of the line of each item holds of the lines of items
 pub each_line : {X : Type 0} (Fits : X → Type 0) (written : X → List ℕ) (P : List ℕ → Type 0)
@@ -22,7 +22,7 @@ module _ {H X : Type 0} (Headed : H → Type 0) (title : H → List ℕ) (Fits :
     (written : X → List ℕ) (Are : List X → Type 0) (titles : IsLineKind Headed title)
     (kind : IsLineKind Fits written) (list : IsListKind Headed Fits Are) where
   -- a heading is a plain line
-  pub headings_plain : IsHeading (Says Headed title)
+  pub headings_plain : IsPlainHeading (Says Headed title)
   headings_plain = λ line says. subst (LacksItem 10) (sym says.is) (titles.plain says.value says.fits)
 
   -- the lines of items are plain, and none of them is `end`

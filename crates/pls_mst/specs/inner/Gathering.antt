@@ -9,8 +9,8 @@ use Rattle.pls_mst.specs.declared.label.MstLabel.{MstLabel}
 use Rattle.pls_mst.specs.Rules.{agrees_on_root_and_levels, chosen_edges_are_least, follows_target, pointed_edge_is_chosen, shares_with_target}
 
 -- which rules on the ports hold
-abbrev pub gathered : Read MstLabel → Gathered
-gathered view = record {
+abbrev pub mst_tally : Read MstLabel → Gathered
+mst_tally view = record {
   follows = follows_target view;
   agrees = agrees_on_root_and_levels view;
   shares = shares_with_target view;
@@ -28,8 +28,8 @@ between pointer weight mine theirs = record {
 }
 
 -- what is gathered with one more port, which the pointer is or not
-abbrev pub gathered_more : Bool → MstHead → MstHead → Compared → Gathered → Gathered
-gathered_more pointer own theirs both before = record {
+abbrev pub mst_tally_with : Bool → MstHead → MstHead → Compared → Gathered → Gathered
+mst_tally_with pointer own theirs both before = record {
   follows = if pointer then (own.depth == theirs.depth + 1 && own.parent == theirs.own)
       else before.follows;
   agrees = before.agrees && (theirs.root == own.root && theirs.count == own.count);

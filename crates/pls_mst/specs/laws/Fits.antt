@@ -18,14 +18,13 @@ use Rattle.pls_graph.proofs.Members.{Contains-cons_cases, Contains-flat_map, Con
 use Rattle.pls_scheme.specs.Length.{code_length, codes_length}
 use Rattle.pls_scheme.specs.Marked.{Fits}
 use Rattle.pls_base.specs.Steps.{capped}
-use Rattle.pls_scheme.specs.Numbers.{AreCoded, AreCodesOf}
 use Rattle.pls_scheme.specs.Theorem.{AreWords}
 use Rattle.pls_scheme.proofs.Fitting.{AreWithin, within_fits}
 use Rattle.pls_facts.proofs.PortEdges.{IsGraph-network}
 use Rattle.pls_boruvka.specs.Boruvka.{AreBoruvkaLevelsFrom, chosen_edge, chosen_edges}
 use Rattle.pls_boruvka.specs.declared.level.Level.{Level}
 use Rattle.pls_mst.specs.declared.label.MstLabel.{MstLabel}
-use Rattle.pls_mst.specs.Labels.{AreOrdered, IsMstLabel, IsMstWritable, numbers_of_level, numbers_of_mst}
+use Rattle.pls_mst.specs.Labels.{AreOrdered, mst_shape, numbers_of_level, numbers_of_mst}
 use Rattle.pls_mst.specs.Mst.{front_limits, level_limits, longest_mst}
 
 -- a number is at most the greatest of a list that contains it
@@ -53,16 +52,16 @@ numbers_many (level ∷ levels) =
 
 -- the codes of the limits of so many levels are as long as those of one, so many times
 limits_long : (code : ℕ → List Bool) (size : Size) (count : ℕ)
-    → codes_length code (limits_of size count) ≡ count * codes_length code (level_limits size)
+    → codes_length code [] (limits_of size count) ≡ count * codes_length code [] (level_limits size)
 limits_long code size zero =
-    let each : ℕ = codes_length code (level_limits size) in
+    let each : ℕ = codes_length code [] (level_limits size) in
     let none : 0 ≡ 0 * each = omega arith in
     none
 limits_long code size (suc count) =
     let rest = limits_long code size count in
     let id : ℕ = code_length code size.max_id in
     let weight : ℕ = code_length code size.max_weight in
-    let each : ℕ = codes_length code (level_limits size) in
+    let each : ℕ = codes_length code [] (level_limits size) in
     let more : suc count * each ≡ each + count * each = omega arith in
     omega (arith, rest, more)
 
@@ -165,10 +164,10 @@ module _ (rows : List NodeRow) (net : IsNetwork rows) (words : AreWords (size_of
     abbrev limits : List ℕ
     limits = front_limits size ++ limits_of size count
 
-    limits_short : codes_length code limits ≤ longest_mst code size
+    limits_short : codes_length code [] limits ≤ longest_mst code size
     limits_short =
         let id : ℕ = code_length code size.max_id in
-        let each : ℕ = codes_length code (level_limits size) in
+        let each : ℕ = codes_length code [] (level_limits size) in
         let levels : count * each ≤ floor_log size.nodes * each =
         mul-le-mul_right each count_within in
         omega (arith, levels, limits_long code size count)
@@ -177,12 +176,10 @@ module _ (rows : List NodeRow) (net : IsNetwork rows) (words : AreWords (size_of
         → label.parent ≤ size.max_id → label.depth ≤ size.nodes
         → AreWithin (flat_map numbers_of_level label.levels) (limits_of size count)
         → AreOrdered label.levels
-        → Fits (IsMstLabel code) IsMstWritable (capped (longest_mst code size)) label
+        → Fits mst_shape code (capped (longest_mst code size)) label
     label_fits root own parent depth levels ordered = record {
-      writable = record { coded = fits.writable; ordered = ordered };
-      short = λ bits is.
-          let within = fits.short bits is.codes in
-          omega (arith, within, limits_short);
+      writable = fits.writable;
+      short = omega (arith, fits.short, limits_short);
     }
       where
         within : AreWithin (numbers_of_mst label) limits
@@ -205,7 +202,6 @@ module _ (rows : List NodeRow) (net : IsNetwork rows) (words : AreWords (size_of
               ),
             )
 
-        fits : Fits (λ bits label. AreCodesOf code (numbers_of_mst label) bits)
-            (λ label. AreCoded (numbers_of_mst label)) (capped (codes_length code limits)) label
-        fits = within_fits code grows short numbers_of_mst label limits
+        fits : Fits mst_shape code (capped (codes_length code [] limits)) label
+        fits = within_fits code grows short mst_shape label limits refl ordered
             (omega (arith, numbers_many label.levels, many, count_small)) within

@@ -10,9 +10,7 @@ use Rattle.pls_model.specs.Configuration.{IsNetwork, ids_of}
 use Rattle.pls_model.specs.Walk.{Edge, edges_of}
 use Rattle.pls_graph.specs.Size.{size_of}
 use Rattle.pls_graph.proofs.Members.{place_from_Contains}
-use Rattle.pls_scheme.specs.SchemeLaws.{IsMarkedOnce, IsSound}
 use Rattle.pls_scheme.specs.Theorem.{OneIsRight, RightFits, RulesAreMet, RulesShow}
-use Rattle.pls_scheme.specs.laws.Marking.{marked_once, sound_by}
 use Rattle.pls_scheme.proofs.Fitting.{AreWithin}
 use Rattle.pls_facts.specs.EdgeOrder.{ComesBefore}
 use Rattle.pls_facts.specs.MinimumSpanningTree.{IsMinimumSpanningTree}
@@ -30,13 +28,12 @@ use Rattle.pls_boruvka.specs.declared.level.Level.{Level}
 use Rattle.pls_boruvka.proofs.Halving.{few_levels}
 use Rattle.pls_boruvka.proofs.OneAnswer.{one_answer}
 use Rattle.pls_mst.specs.declared.label.MstLabel.{MstLabel}
-use Rattle.pls_mst.specs.Labels.{AreOrdered, IsMstLabel, IsMstWritable, mst_label, numbers_of_level}
-use Rattle.pls_mst.specs.Mst.{AreLevelsOf, IsMstMarked, MstSays, longest_mst}
-use Rattle.pls_mst.specs.Rules.{judge_mst, mst_rules}
+use Rattle.pls_mst.specs.Labels.{AreOrdered, mst_shape, numbers_of_level}
+use Rattle.pls_mst.specs.Mst.{AreLevelsOf, MstSays, longest_mst}
+use Rattle.pls_mst.specs.Rules.{mst_rules}
 use Rattle.pls_mst.specs.laws.Fits.{label_fits, levels_within, limits_of}
 use Rattle.pls_mst.specs.laws.Fragments.{KeepsRules}
 use Rattle.pls_mst.specs.laws.Kept.{kept_rules}
-use Rattle.pls_mst.specs.laws.LabelLaws.{one_mst_spelling}
 use Rattle.pls_mst.specs.laws.LevelRules.{AreSaid, KeepsRules-levels}
 use Rattle.pls_mst.specs.laws.Passed.{rules_pass}
 use Rattle.pls_mst.specs.laws.Sound.{no_tree_is_lighter, pointers_make_a_tree}
@@ -52,11 +49,6 @@ mst_show rows net joined say hold = record {
   where
     keeps : (row : NodeRow) → Contains rows row → KeepsRules say row
     keeps row in' = kept_rules say row rows net in' (hold row in')
-
--- labels that every node of a connected network accepts show a minimum spanning tree
-pub mst_sound : (takes : List Bool → Option (ℕ × List Bool))
-    → IsSound (judge_mst takes) IsMinimumSpanningTree
-mst_sound takes = sound_by (mst_label takes) mst_rules IsMinimumSpanningTree mst_show
 
 module _ (rows : List NodeRow) (net : IsNetwork rows) where
   -- levels that are of a node are what any levels of the rows say of it
@@ -170,15 +162,9 @@ mst_one_right rows net joined holds row one other in' mine theirs =
           levels = levels;
         }
 
--- a network is marked in one way
-pub mst_marked_once : (code : ℕ → List Bool)
-    → IsMarkedOnce IsMinimumSpanningTree (IsMstMarked code)
-mst_marked_once code = marked_once (IsMstLabel code) IsMinimumSpanningTree MstSays
-    (one_mst_spelling code) mst_one_right
-
 -- what is right can be written, and is short
 pub mst_fits : (code : ℕ → List Bool) → Grows code → IsShort code
-    → RightFits (IsMstLabel code) IsMstWritable IsMinimumSpanningTree MstSays (longest_mst code)
+    → RightFits mst_shape code IsMinimumSpanningTree MstSays (longest_mst code)
 mst_fits code grows short rows net joined holds words say right row in' =
     let within : AreWithin (flat_map numbers_of_level (map (λ level. level row.id) levels))
     (limits_of (size_of rows) (length levels))

@@ -1,19 +1,16 @@
 -- The theorem of the scheme of forests.
-use Rattle.std.proofs.Common.{ℕ, ◌<◌, ◌==◌, Bool, List, length, Option, ap, arith}
+use Rattle.std.proofs.Common.{ℕ, ◌<◌, ◌==◌, Bool, List, length, refl, ap, arith}
 use Rattle.std.proofs.lemmas.Bool.{eq-eqb}
 use Rattle.pls_bits.specs.NumberCode.{Grows, IsShort}
 use Rattle.pls_graph.specs.Size.{size_of}
-use Rattle.pls_scheme.specs.Numbers.{AreCoded, label_in}
-use Rattle.pls_scheme.specs.SchemeLaws.{IsMarkedOnce, IsSound}
+use Rattle.pls_scheme.specs.Basic.{longest_by}
 use Rattle.pls_scheme.specs.Theorem.{OneIsRight, RightFits, RulesAreMet, RulesShow}
-use Rattle.pls_scheme.specs.laws.CodeLaws.{one_spelling}
-use Rattle.pls_scheme.specs.laws.Marking.{marked_once, sound_by}
 use Rattle.pls_scheme.proofs.Fitting.{within_fits}
 use Rattle.pls_facts.proofs.Bounded.{IsChainOf-short}
 use Rattle.pls_facts.proofs.ChainDepths.{chain_of_root, chains_fall}
 use Rattle.pls_facts.proofs.Chains.{Falls-NoneReturns, IsChainOf-one}
 use Rattle.pls_pointer.specs.declared.forest.DepthLabel.{DepthLabel}
-use Rattle.pls_pointer.specs.Forest.{IsDepthLabel, IsForest, IsForestMarked, depth_label, depth_says, forest_limits, forest_rules, forest_says, judge_forest, longest_forest, numbers_of_depth}
+use Rattle.pls_pointer.specs.Forest.{IsForest, depth_says, forest_limits, forest_rules, forest_says, forest_shape}
 use Rattle.pls_pointer.specs.laws.PointingLaws.{deeper_falls, falls_deeper, points_or}
 
 -- where the rules hold everywhere, no chain of pointers returns
@@ -45,21 +42,11 @@ forest_one_right rows net joined forest row one other in' mine theirs =
 
 -- what is right is short
 pub forest_fits : (code : ℕ → List Bool) → Grows code → IsShort code
-    → RightFits (IsDepthLabel code) (λ label. AreCoded (numbers_of_depth label)) IsForest
-    forest_says (longest_forest code)
+    → RightFits forest_shape code IsForest forest_says
+    (longest_by forest_shape forest_limits code)
 forest_fits code grows short rows net joined forest words say right row in' =
     let (last, chain) = right row in' in
     let below : (say row.id).depth < length rows =
     IsChainOf-short rows net row.id last (say row.id).depth chain in
-    within_fits code grows short numbers_of_depth (say row.id) (forest_limits (size_of rows))
-    (omega arith) (omega (arith, below), omega (arith, net.limits.few_nodes), tt)
-
--- labels that every node accepts show that no chain of pointers returns
-pub forest_sound : (takes : List Bool → Option (ℕ × List Bool))
-    → IsSound (judge_forest takes) IsForest
-forest_sound takes = sound_by (label_in depth_label takes 1) forest_rules IsForest forest_show
-
--- a network is marked in one way
-pub forest_marked_once : (code : ℕ → List Bool) → IsMarkedOnce IsForest (IsForestMarked code)
-forest_marked_once code = marked_once (IsDepthLabel code) IsForest forest_says
-    (λ label. one_spelling code (numbers_of_depth label)) forest_one_right
+    within_fits code grows short forest_shape (say row.id) (forest_limits (size_of rows)) refl
+    tt (omega arith) (omega (arith, below), omega (arith, net.limits.few_nodes), tt)

@@ -1,17 +1,14 @@
 -- The theorem of the scheme of trees.
-use Rattle.std.proofs.Common.{◌≡◌, ◌≤◌, ◌<◌, ◌∙◌, ◌||◌, ◌==◌, ◌&&◌, ℕ, Bool, true, List, length, Contains, Option, None, sym, ap, arith, is_some}
+use Rattle.std.proofs.Common.{◌≡◌, ◌≤◌, ◌<◌, ◌∙◌, ◌||◌, ◌==◌, ◌&&◌, ℕ, Bool, true, List, length, Contains, None, refl, sym, ap, arith, is_some}
 use Rattle.std.proofs.lemmas.Bool.{and_from, and_parts, eq-eqb, eqb-true}
 use Rattle.pls_bits.specs.NumberCode.{Grows, IsShort}
 use Rattle.pls_model.specs.declared.row.Port.{Port}
 use Rattle.pls_model.specs.declared.row.NodeRow.{NodeRow}
 use Rattle.pls_model.specs.Configuration.{ids_of}
 use Rattle.pls_graph.specs.Size.{greatest, size_of}
-use Rattle.pls_scheme.specs.Numbers.{AreCoded, label_in}
-use Rattle.pls_scheme.specs.Reading.{read_where, port_where}
-use Rattle.pls_scheme.specs.SchemeLaws.{IsMarkedOnce, IsSound}
+use Rattle.pls_scheme.specs.Basic.{longest_by}
+use Rattle.pls_scheme.specs.Reading.{has_number, port_where, read_where}
 use Rattle.pls_scheme.specs.Theorem.{OneIsRight, RightFits, RulesAreMet, RulesShow}
-use Rattle.pls_scheme.specs.laws.CodeLaws.{one_spelling}
-use Rattle.pls_scheme.specs.laws.Marking.{marked_once, sound_by}
 use Rattle.pls_scheme.proofs.Fitting.{within_fits}
 use Rattle.pls_scheme.proofs.SaidPorts.{all_ports_pass, passes_port}
 use Rattle.pls_facts.specs.Agreement.{AgreeAtPorts}
@@ -27,16 +24,16 @@ use Rattle.pls_facts.proofs.Pointed.{id_of_row}
 use Rattle.pls_facts.proofs.Roots.{a_root}
 use Rattle.pls_facts.proofs.Trees.{IsTree-falling}
 use Rattle.pls_pointer.specs.declared.tree.TreeLabel.{TreeLabel}
-use Rattle.pls_pointer.specs.Tree.{IsTreeLabel, IsTreeMarked, agrees_on_root, judge_tree, longest_tree, names_root, numbers_of_tree, points_or_is_root, root_says, tree_label, tree_limits, tree_rules, tree_says}
+use Rattle.pls_pointer.specs.Tree.{agrees_on_tree_root, points_or_is_root, root_says, tree_limits, tree_rules, tree_says, tree_shape}
 use Rattle.pls_pointer.specs.laws.PointingLaws.{deeper_falls, falls_deeper, points_or}
 
 module _ (say : ℕ → TreeLabel) (row : NodeRow) where
   -- where rule 3 holds, the root at each port is the own one
-  agree_at_port : agrees_on_root (read_where say row) ≡ true → (port : Port) → Contains row.ports port
+  agree_at_port : agrees_on_tree_root (read_where say row) ≡ true → (port : Port) → Contains row.ports port
       → (say port.nbr).root ≡ (say row.id).root
   agree_at_port agrees port has =
       eqb-true (say port.nbr).root (say row.id).root
-      (passes_port (names_root (say row.id).root) say row.ports agrees port has)
+      (passes_port (has_number (λ (label : TreeLabel). label.root) (say row.id).root) say row.ports agrees port has)
 
   -- where rule 4 holds, a node without pointer is the root
   root_names_itself : points_or_is_root (read_where say row) ≡ true → row.state.up ≡ None
@@ -70,7 +67,7 @@ tree_show rows net joined say hold =
 -- where what is said is right, the rules hold
 pub tree_met : RulesAreMet tree_rules IsTree tree_says
 tree_met rows net joined tree say right row in' = (
-  all_ports_pass (names_root (say row.id).root) say row.ports agree,
+  all_ports_pass (has_number (λ (label : TreeLabel). label.root) (say row.id).root) say row.ports agree,
   (
     points_or row ((say row.id).depth == 0 && row.id == (say row.id).root) at_root,
     (
@@ -92,7 +89,7 @@ tree_met rows net joined tree say right row in' = (
     chain_of row in' = (root.0.id, (right row in' root.0 root.1 root.2).1)
 
     agree : (port : Port) → Contains row.ports port
-        → names_root (say row.id).root (port_where say port) ≡ true
+        → has_number (λ (label : TreeLabel). label.root) (say row.id).root (port_where say port) ≡ true
     agree port has =
         let (other, other_in, is) : (row : NodeRow) × Contains rows row × (row.id ≡ port.nbr) =
         neighbour_row rows net row in' port has in
@@ -121,8 +118,8 @@ tree_one_right rows net joined tree row one other in' mine theirs =
 
 -- what is right is short
 pub tree_fits : (code : ℕ → List Bool) → Grows code → IsShort code
-    → RightFits (IsTreeLabel code) (λ label. AreCoded (numbers_of_tree label)) IsTree tree_says
-    (longest_tree code)
+    → RightFits tree_shape code IsTree tree_says
+    (longest_by tree_shape tree_limits code)
 tree_fits code grows short rows net joined tree words say right row in' =
     let root : (row : NodeRow) × Contains rows row × (row.state.up ≡ None) =
     a_root rows tree.one_root in
@@ -131,18 +128,9 @@ tree_fits code grows short rows net joined tree words say right row in' =
     let below : (say row.id).depth < length rows =
     IsChainOf-short rows net row.id root.0.id (say row.id).depth here.1 in
     let within : root.0.id ≤ greatest (ids_of rows) = id_within rows root.0 root.1 in
-    within_fits code grows short numbers_of_tree (say row.id) (tree_limits (size_of rows))
-    (omega arith) (
+    within_fits code grows short tree_shape (say row.id) (tree_limits (size_of rows)) refl
+    tt (omega arith) (
       omega (arith, here.0, within),
       omega (arith, words.max_id),
       (omega (arith, below), omega (arith, net.limits.few_nodes), tt),
     )
-
--- labels that every node of a connected network accepts show that the pointers make a tree
-pub tree_sound : (takes : List Bool → Option (ℕ × List Bool)) → IsSound (judge_tree takes) IsTree
-tree_sound takes = sound_by (label_in tree_label takes 2) tree_rules IsTree tree_show
-
--- a network is marked in one way
-pub tree_marked_once : (code : ℕ → List Bool) → IsMarkedOnce IsTree (IsTreeMarked code)
-tree_marked_once code = marked_once (IsTreeLabel code) IsTree tree_says
-    (λ label. one_spelling code (numbers_of_tree label)) tree_one_right

@@ -62,21 +62,21 @@ all_taken-words (Or first second) words others =
     ∙ all_taken-words second (inr 1 ∷ words) (first ∷ others)
 
 -- the first of some expressions, and some expression where there is none
-abbrev first_of : List Expression → Expression
-first_of [] = Bridgeless
-first_of (first ∷ others) = first
+abbrev first_expression : List Expression → Expression
+first_expression [] = Bridgeless
+first_expression (first ∷ others) = first
 
 -- the expression of some words
-abbrev expression_in : List Word → Expression
-expression_in words = first_of (all_taken words [])
+abbrev expression_of_words : List Word → Expression
+expression_of_words words = first_expression (all_taken words [])
 
-pub expression_in-words : (scheme : Expression) → expression_in (words_of scheme) ≡ scheme
-expression_in-words scheme =
-    ap expression_in (sym (append-nil (words_of scheme)))
-    ∙ ap first_of (all_taken-words scheme [] [])
+pub expression_of_words-words : (scheme : Expression) → expression_of_words (words_of scheme) ≡ scheme
+expression_of_words-words scheme =
+    ap expression_of_words (sym (append-nil (words_of scheme)))
+    ∙ ap first_expression (all_taken-words scheme [] [])
 
 -- expressions are told apart by their words
 abbrev pub coded_expression : Coded Expression
 coded_expression =
-    code_by (List Word) (coded_list (coded⊎ names.the_row.coded coded_ℕ)) words_of expression_in
-    expression_in-words
+    code_by (List Word) (coded_list (coded⊎ names.the_row.coded coded_ℕ)) words_of expression_of_words
+    expression_of_words-words

@@ -67,7 +67,7 @@ pub record AreAround (rows : List NodeRow) (flags around : List Bool) : Type 0 w
       → beside_itself row other.id ≡ true → slice_get flags j ≡ Some true
 
 -- one label, one flag, one note and one verdict a node
-pub record AreKept (rows : List NodeRow) (labels : List (List Bool)) (flags around : List Bool)
+pub record MatchRows (rows : List NodeRow) (labels : List (List Bool)) (flags around : List Bool)
     (kept : List (ℕ × Verdict)) : Type 0 where
   pub a_label : length labels ≡ length rows
   pub a_flag : length flags ≡ length rows

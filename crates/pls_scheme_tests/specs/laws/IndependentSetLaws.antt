@@ -8,14 +8,14 @@ use Rattle.pls_model.specs.declared.row.Port.{Port}
 use Rattle.pls_model.specs.Configuration.{IsNetwork}
 use Rattle.pls_model.specs.Walk.{Adjacent, edges_of}
 use Rattle.pls_graph.specs.Size.{greatest}
-use Rattle.pls_scheme.specs.Numbers.{AreCoded, AreCodesOf}
+use Rattle.pls_scheme.specs.Basic.{longest_by}
 use Rattle.pls_scheme.specs.Reading.{port_where}
 use Rattle.pls_scheme.specs.Theorem.{HoldEverywhere, OneIsRight, RightFits, RulesAreMet, RulesShow}
 use Rattle.pls_scheme.proofs.Fitting.{within_fits}
 use Rattle.pls_scheme.proofs.SaidPorts.{passes_at_some, some_port_passes}
 use Rattle.pls_facts.proofs.Neighbours.{neighbour_row, port_adjacent, port_leads, within_greatest}
 use Rattle.pls_scheme_tests.specs.declared.independent_set.MarkLabel.{MarkLabel}
-use Rattle.pls_scheme_tests.specs.IndependentSet.{IsInside, IsMaximalIndependent, independent_rules, independent_says, is_inside, longest_independent, numbers_of_mark}
+use Rattle.pls_scheme_tests.specs.IndependentSet.{IsInside, IsMaximalIndependent, independent_limits, independent_rules, independent_says, is_inside, mark_shape}
 
 -- tests of which not both pass, and of which one does
 not_both : (a b : Bool) → (a ≡ true → b ≡ true → ⊥) → not (a && b) ≡ true
@@ -122,12 +122,11 @@ independent_one_right rows net joined set row one other in' mine theirs = mine �
 
 -- what is right is short
 pub independent_fits : (code : ℕ → List Bool) → Grows code → IsShort code
-    → RightFits (λ bits label. AreCodesOf code (numbers_of_mark label) bits)
-    (λ label. AreCoded (numbers_of_mark label)) IsMaximalIndependent independent_says
-    (longest_independent code)
+    → RightFits mark_shape code IsMaximalIndependent independent_says
+    (longest_by mark_shape independent_limits code)
 independent_fits code grows short rows net joined set words say right row in' =
     let is = ap (λ (label : MarkLabel). label.mark) (right row in') in
     let within = within_greatest (λ row. row.state.mark) rows row in' in
-    within_fits code grows short numbers_of_mark (say row.id)
-    (greatest (map (λ row. row.state.mark) rows) ∷ []) (omega arith)
+    within_fits code grows short mark_shape (say row.id)
+    (greatest (map (λ row. row.state.mark) rows) ∷ []) refl tt (omega arith)
     (omega (arith, is, within), omega (arith, words.max_mark), tt)

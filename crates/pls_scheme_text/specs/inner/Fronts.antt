@@ -7,7 +7,7 @@ use Rattle.std.specs.Option.{option_map_or, option_or}
 use Rattle.std.specs.Str.{bytes_eq}
 use Rattle.std.specs.Str.Parse.{digits_value}
 use Rattle.pls_model.specs.declared.limits.TheConstants.{MAX_NODES}
-use Rattle.pls_names.specs.Front.{Front, after, followed, name_front, worded}
+use Rattle.pls_names.specs.Front.{Front, after, followed, name_front, word_front}
 use Rattle.pls_property.specs.declared.expression_tree.ExpressionTree.{ExpressionTree}
 use Rattle.pls_property.specs.Held.{expression_of}
 use Rattle.pls_property.specs.Expression.{Expression, And, Bridgeless, Diameter, Map, Of, Or, names_of}
@@ -39,7 +39,7 @@ edges_front text = option_and_then number_front (after (codes "diameter:") text)
 -- a property that has no scheme of its own
 abbrev pub property_front : List ℕ → Option (Front Expression)
 property_front text =
-    option_or (worded Bridgeless (codes "bridgeless") text)
+    option_or (word_front Bridgeless (codes "bridgeless") text)
     (option_map (λ most. followed (Diameter most.item) most.rest) (edges_front text))
 
 -- a name, and inside of `map` also such a property
@@ -51,16 +51,16 @@ leaf_front inside text =
 -- what opens an expression of two
 abbrev pub join_front : List ℕ → Option (Front Join)
 join_front text =
-    option_or (worded Both (codes "and(") text) (worded Either (codes "or(") text)
+    option_or (word_front Both (codes "and(") text) (word_front Either (codes "or(") text)
 
 -- what follows `map(`, which stands in no other `map`
 abbrev pub map_front : Bool → List ℕ → Option (List ℕ)
 map_front inside text = if inside then None else after (codes "map(") text
 
 -- two joined
-abbrev pub joined : Join → Expression → Expression → Expression
-joined Both first second = And first second
-joined Either first second = Or first second
+abbrev pub expression_of_two : Join → Expression → Expression → Expression
+expression_of_two Both first second = And first second
+expression_of_two Either first second = Or first second
 
 -- the end of an expression whose parts are read
 abbrev pub close_front : Expression → List ℕ → Option (Front Expression)
@@ -70,7 +70,7 @@ abbrev pub close_map : Front Expression → Option (Front Expression)
 close_map property = close_front (Map property.item) property.rest
 
 abbrev pub close_pair : Join → Expression → Front Expression → Option (Front Expression)
-close_pair join first second = close_front (joined join first second.item) second.rest
+close_pair join first second = close_front (expression_of_two join first second.item) second.rest
 
 -- what stands behind the first of two, whose second is read by `part`
 abbrev pub second_front : (List ℕ → Option (Front Expression)) → Join → Front Expression
@@ -105,22 +105,22 @@ abbrev pub count_front : Front Expression → Front ℕ
 count_front front = followed (min (names_of front.item) 255) front.rest
 
 -- what is found where nothing follows
-abbrev pub alone : {A : Type 0} → Front A → Option A
-alone front = if length front.rest == 0 then Some front.item else None
+abbrev pub whole_item : {A : Type 0} → Front A → Option A
+whole_item front = if length front.rest == 0 then Some front.item else None
 
 -- the expression, at most 8 deep, that is the whole of a text
 abbrev pub expression_in : List ℕ → Option Expression
-expression_in text = option_and_then alone (expression_front false 7 text)
+expression_in text = option_and_then whole_item (expression_front false 7 text)
 
 -- how many names it has, counted up to 255
 abbrev pub names_in : List ℕ → Option ℕ
-names_in text = option_and_then alone (option_map count_front (expression_front false 7 text))
+names_in text = option_and_then whole_item (option_map count_front (expression_front false 7 text))
 
 -- why a text is refused that is read in this way
 abbrev pub refused_names : Option ℕ → Option SchemeError
 refused_names None = Some NotAScheme
 refused_names (Some names) = if nat_lt 8 names then Some TooMany else None
 
-abbrev pub refusal_of : List ℕ → Option SchemeError
-refusal_of text =
+abbrev pub scheme_refusal_of : List ℕ → Option SchemeError
+scheme_refusal_of text =
     if nat_lt 7 (deepest 0 text) then Some TooDeep else refused_names (names_in text)

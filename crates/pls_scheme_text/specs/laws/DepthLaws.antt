@@ -7,7 +7,7 @@ use Rattle.std.proofs.lemmas.Bool.Decides.{nat_tests}
 use Rattle.std.proofs.lemmas.List.{append-nil}
 use Rattle.pls_names.specs.Named.{name_of}
 use Rattle.pls_names.specs.laws.NamedLaws.{is_letter, is_lettered, laws_of}
-use Rattle.pls_property.specs.Expression.{Expression, And, Bridgeless, Diameter, IsWritable, Map, Of, Or, depth_of}
+use Rattle.pls_property.specs.Expression.{Expression, And, Bridgeless, Diameter, CanBeWritten, Map, Of, Or, depth_of}
 use Rattle.pls_scheme_text.specs.ExpressionText.{IsTooDeep, deepest, depth_after, expression_text}
 use Rattle.pls_scheme_text.specs.laws.FrontLaws.{behind_opening, deep_some, map_onto, pair_onto}
 use Rattle.pls_scheme_text.specs.laws.NumberFrontLaws.{decimal_digits}
@@ -122,7 +122,7 @@ deepest-map text deep some makes depth rest =
     ∙ omega (arith, some, end, inside, opens, deepest-start depth rest)
 
 -- in the text of an expression they stand as deep as it is, but for the 1 of a name
-deepest-text : (inside : Bool) (scheme : Expression) → IsWritable inside scheme
+deepest-text : (inside : Bool) (scheme : Expression) → CanBeWritten inside scheme
     → MakesDeep (expression_text scheme) (depth_of scheme)
 deepest-text inside (Of name) written =
     deep_word (name_of name) (lettered_plain (name_of name) (laws_of name).lettered)
@@ -147,7 +147,7 @@ deepest-text inside (Or first second) written =
     (deepest-text inside second written.1)
 
 -- parentheses stand more than 7 deep in the text of an expression exactly where it is more than 8
-pub deep_text : (scheme : Expression) → IsWritable false scheme
+pub deep_text : (scheme : Expression) → CanBeWritten false scheme
     → IsTooDeep (expression_text scheme) ↔ (8 < depth_of scheme)
 deep_text scheme written = (λ deep. omega (arith, deep, whole), λ deep. omega (arith, deep, whole))
   where

@@ -5,14 +5,14 @@ use Rattle.std.proofs.lemmas.List.{append_assoc}
 use Rattle.std.proofs.lemmas.Option.{option_and_then_some, same_Some}
 use Rattle.pls_names.specs.declared.scheme_name.SchemeName.{SchemeName}
 use Rattle.pls_names.specs.Named.{name_of}
-use Rattle.pls_names.specs.Front.{Front, after, followed, name_front, worded}
+use Rattle.pls_names.specs.Front.{Front, after, followed, name_front, word_front}
 use Rattle.pls_names.specs.laws.FrontLaws.{after_is, either_found, name_found, worded_is}
 use Rattle.pls_names.specs.laws.NamedLaws.{laws_of}
-use Rattle.pls_property.specs.Expression.{Expression, And, Bridgeless, Diameter, IsWritable, Map, Of, Or, depth_of}
+use Rattle.pls_property.specs.Expression.{Expression, And, Bridgeless, Diameter, CanBeWritten, Map, Of, Or, depth_of}
 use Rattle.pls_scheme_text.specs.declared.fronts.Join.{Join}
 use Rattle.pls_scheme_text.specs.declared.fronts.Join.TheVariants.{Both, Either}
 use Rattle.pls_scheme_text.specs.ExpressionText.{expression_text}
-use Rattle.pls_scheme_text.specs.inner.Fronts.{close_front, close_map, close_pair, digits_ahead, edges_front, expression_front, inner_front, join_front, joined, leaf_front, map_front, number_front, pair_front, property_front, second_front}
+use Rattle.pls_scheme_text.specs.inner.Fronts.{close_front, close_map, close_pair, digits_ahead, edges_front, expression_front, inner_front, join_front, expression_of_two, leaf_front, map_front, number_front, pair_front, property_front, second_front}
 use Rattle.pls_scheme_text.specs.laws.NumberFrontLaws.{number_is, number_read}
 
 -- an expression is at least 1 deep
@@ -51,7 +51,7 @@ opening_of Both = codes "and("
 opening_of Either = codes "or("
 
 joined_text : (join : Join) (first second : Expression) (rest : List ℕ)
-    → expression_text (joined join first second) ++ rest
+    → expression_text (expression_of_two join first second) ++ rest
     ≡ opening_of join ++ behind_opening (expression_text first) (expression_text second) rest
 joined_text Both first second rest =
     pair_onto (codes "and(") (expression_text first) (expression_text second) rest
@@ -92,7 +92,7 @@ IsReadAs inside below scheme = (rest : List ℕ) → digits_ahead rest ≡ 0
 -- two in front are read, where the parts are
 pair_read : (inside : Bool) (below : ℕ) (join : Join) (first second : Expression)
     → IsReadAs inside below first → IsReadAs inside below second
-    → IsReadAs inside (suc below) (joined join first second)
+    → IsReadAs inside (suc below) (expression_of_two join first second)
 pair_read inside below join first second one two rest none =
     let behind = behind_opening (expression_text first) (expression_text second) rest in
     ap (expression_front inside (suc below)) (joined_text join first second rest)
@@ -117,7 +117,7 @@ unfolding leaf_front
 name_read inside below name rest none =
     leaf_read inside below (name_of name ++ rest) (Of name) rest (rw ((laws_of name).read rest) refl)
 
-diameter_read : (below most : ℕ) → IsWritable true (Diameter most)
+diameter_read : (below most : ℕ) → CanBeWritten true (Diameter most)
     → IsReadAs true below (Diameter most)
 unfolding leaf_front
 diameter_read below most small rest none =
@@ -130,7 +130,7 @@ bridgeless_read below rest none = leaf_read true below _ Bridgeless rest refl
 
 -- an expression in front is read, where it is not too deep and no digit follows it
 pub front_read : (inside : Bool) (below : ℕ) (scheme : Expression) → depth_of scheme ≤ below + 1
-    → IsWritable inside scheme → IsReadAs inside below scheme
+    → CanBeWritten inside scheme → IsReadAs inside below scheme
 front_read inside below (Of name) shallow written = name_read inside below name
 front_read true below (Diameter most) shallow written = diameter_read below most written
 front_read true below Bridgeless shallow written = bridgeless_read below
@@ -159,7 +159,7 @@ pub record IsInFront (inside : Bool) (below : ℕ) (text : List ℕ) (found : Fr
   where
     pub stands : text ≡ expression_text found.item ++ found.rest
     pub shallow : depth_of found.item ≤ below + 1
-    pub written : IsWritable inside found.item
+    pub written : CanBeWritten inside found.item
 
 named_is : (inside : Bool) (below : ℕ) (text : List ℕ) (found : Front Expression)
     → option_map (λ name. followed (Of name.item) name.rest) (name_front text) ≡ Some found
@@ -177,7 +177,7 @@ named_is inside below text found is = by (name_front text) refl is
         (record { stands = name_found text name at; shallow = omega arith; written = tt })
 
 bridgeless_is : (below : ℕ) (text : List ℕ) (found : Front Expression)
-    → worded Bridgeless (codes "bridgeless") text ≡ Some found → IsInFront true below text found
+    → word_front Bridgeless (codes "bridgeless") text ≡ Some found → IsInFront true below text found
 bridgeless_is below text found is =
     let one = worded_is Bridgeless (codes "bridgeless") text found is in
     let same : followed Bridgeless found.rest ≡ found =
@@ -209,7 +209,7 @@ diameter_is below text found is = by (edges_front text) refl is
 property_is : (below : ℕ) (text : List ℕ) (found : Front Expression)
     → property_front text ≡ Some found → IsInFront true below text found
 property_is below text found is =
-    elim (either_found (worded Bridgeless (codes "bridgeless") text)
+    elim (either_found (word_front Bridgeless (codes "bridgeless") text)
     (option_map (λ most. followed (Diameter most.item) most.rest) (edges_front text)) found is) [
       | inl here ↦ bridgeless_is below text found here
       | inr here ↦ diameter_is below text found here
@@ -241,25 +241,25 @@ close_is item text found is = worded_is item (codes ")") text found is
 join_is : (text : List ℕ) (opened : Front Join) → join_front text ≡ Some opened
     → text ≡ opening_of opened.item ++ opened.rest
 join_is text opened is =
-    elim (either_found (worded Both (codes "and(") text) (worded Either (codes "or(") text) opened is) [
+    elim (either_found (word_front Both (codes "and(") text) (word_front Either (codes "or(") text) opened is) [
       | inl here ↦ one Both here
       | inr here ↦ one Either here
     ]
   where
-    one : (join : Join) → worded join (opening_of join) text ≡ Some opened
+    one : (join : Join) → word_front join (opening_of join) text ≡ Some opened
         → text ≡ opening_of opened.item ++ opened.rest
     one join here =
         let is = worded_is join (opening_of join) text opened here in
         is.1 ∙ ap (λ (join : Join). opening_of join ++ opened.rest) is.0
 
 joined_deep : (join : Join) (first second : Expression)
-    → depth_of (joined join first second) ≡ 1 + max (depth_of first) (depth_of second)
+    → depth_of (expression_of_two join first second) ≡ 1 + max (depth_of first) (depth_of second)
 joined_deep Both first second = refl
 joined_deep Either first second = refl
 
 joined_writable : (inside : Bool) (join : Join) (first second : Expression)
-    → IsWritable inside first → IsWritable inside second
-    → IsWritable inside (joined join first second)
+    → CanBeWritten inside first → CanBeWritten inside second
+    → CanBeWritten inside (expression_of_two join first second)
 joined_writable inside Both first second one two = (one, two)
 joined_writable inside Either first second one two = (one, two)
 
@@ -292,7 +292,7 @@ module _ (below : ℕ) (parts_are : (inside : Bool) (text : List ℕ) (found : F
       whole first one behind comma second two closes =
           let front = parts_are inside opened.rest first one in
           let back = parts_are inside behind second two in
-          let pair = joined opened.item first.item second.item in
+          let pair = expression_of_two opened.item first.item second.item in
           let end = close_is pair second.rest found closes in
           let same : followed pair found.rest ≡ found =
           ap (λ (item : Expression). followed item found.rest) end.0 in

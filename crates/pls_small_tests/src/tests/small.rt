@@ -178,11 +178,22 @@ fn closes(edges: u32, a: u32, b: u32, c: u32) -> bool {
 
 // The text of a network.
 pub(super) fn text_of(alloc: Global, net: Small) -> Result<String, AllocError> {
+    text_with(alloc, net, 0, 0)
+}
+
+// The text of a network in which the first node has this mark, and each node this number.
+pub(super) fn text_with(
+    alloc: Global,
+    net: Small,
+    mark: u32,
+    number: u32,
+) -> Result<String, AllocError> {
     let mut text = String::from_str(alloc, "network\n")?;
     for node in 0..net.nodes.min(4) {
+        let mark = if node == 0 { mark } else { 0 };
         let line = match net.pointer(node) {
-            0 => format!(in alloc; "node {node} - 0 0\n")?,
-            up => format!(in alloc; "node {node} {} 0 0\n", up - 1)?,
+            0 => format!(in alloc; "node {node} - {mark} {number}\n")?,
+            up => format!(in alloc; "node {node} {} {mark} {number}\n", up - 1)?,
         };
         text.push_str(line.as_str())?;
         for nbr in 0..net.nodes.min(4) {
@@ -217,7 +228,7 @@ fn is_as_decided(alloc: Global, net: Small) -> Result<bool, Fail> {
     Ok(
         marks(alloc, &Tree::<Gamma>::new(), &read)? == is_tree(net)
             && marks(alloc, &Forest::<Gamma>::new(), &read)? == is_forest(net)
-            && marks(alloc, &Bipartite::new(), &read)? == is_bipartite(net)
+            && marks(alloc, &Bipartite::<Gamma>::new(), &read)? == is_bipartite(net)
             && marks(alloc, &Acyclic::<Gamma>::new(), &read)? == is_acyclic(net),
     )
 }

@@ -1,17 +1,18 @@
 -- Maps that were decided in a round, each once for all nodes that have it.
 use Rattle.std.specs.Prelude.{◌≡◌, ℕ, Bool, List, slice_get, Option, Some}
 use Rattle.pls_model.specs.declared.row.NodeRow.{NodeRow}
+use Rattle.pls_numbers.specs.Shape.{said_by}
 use Rattle.pls_universal.specs.declared.map.MapLabel.{MapLabel}
 use Rattle.pls_universal.specs.declared.deciding.DecidedMap.{DecidedMap}
 use Rattle.pls_universal.specs.declared.deciding.DecidedMaps.{DecidedMaps}
-use Rattle.pls_universal.specs.Reading.{map_label}
+use Rattle.pls_universal.specs.Reading.{map_shape}
 use Rattle.pls_universal.specs.inner.Stating.{IsStated}
 
 -- this was found out of the map of a label
-pub record IsDecided (takes : List Bool → Option (ℕ × List Bool)) (test : List NodeRow → Bool)
+pub record IsDecidedMap (takes : List Bool → Option (ℕ × List Bool)) (test : List NodeRow → Bool)
     (bits : List Bool) (map : DecidedMap) : Type 0 where
   pub own : MapLabel
-  pub read : map_label takes bits ≡ Some own
+  pub read : said_by map_shape takes bits ≡ Some own
   pub stated : IsStated test own.rows map.stated
 
 -- so was each of the maps
@@ -19,14 +20,14 @@ pub record AreDecided (takes : List Bool → Option (ℕ × List Bool)) (test : 
     (labels : List (List Bool)) (decided : DecidedMaps) : Type 0 where
   pub each : (number : ℕ) (map : DecidedMap) → slice_get decided.maps.items number ≡ Some map
       → (bits : List Bool) × (slice_get labels map.place ≡ Some bits)
-      × IsDecided takes test bits map
+      × IsDecidedMap takes test bits map
 
 -- the map with this number was found out of the map of this label
 pub record IsNumberOf (takes : List Bool → Option (ℕ × List Bool)) (test : List NodeRow → Bool)
     (decided : DecidedMaps) (bits : List Bool) (number : ℕ) : Type 0 where
   pub map : DecidedMap
   pub at : slice_get decided.maps.items number ≡ Some map
-  pub found : IsDecided takes test bits map
+  pub found : IsDecidedMap takes test bits map
 
 -- the label at the place has this map behind its number
 pub record HasMapAt (takes : List Bool → Option (ℕ × List Bool)) (labels : List (List Bool))

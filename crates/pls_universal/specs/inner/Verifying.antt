@@ -7,9 +7,10 @@ use Rattle.pls_model.specs.declared.row.NodeRow.{NodeRow}
 use Rattle.pls_model.specs.Configuration.{row_of}
 use Rattle.pls_view.specs.declared.view.PortView.{PortView}
 use Rattle.pls_view.specs.Seen.{Seen, SeenPort, shown}
+use Rattle.pls_numbers.specs.Shape.{said_by}
 use Rattle.pls_scheme.specs.Reading.{read_ports}
 use Rattle.pls_universal.specs.declared.map.MapRow.{MapRow}
-use Rattle.pls_universal.specs.Reading.{map_label}
+use Rattle.pls_universal.specs.Reading.{map_shape}
 use Rattle.pls_universal.specs.Rules.{has_map, matched, same_record, same_state}
 
 -- what lent ports show
@@ -36,10 +37,10 @@ has_node takes rows view = option_map_or (is_seen takes view) (row_of rows view.
 -- whether the map of a label is this one, where the label can be read
 abbrev pub same_map : (List Bool → Option (ℕ × List Bool)) → List MapRow → List Bool → Option Bool
 same_map takes rows bits =
-    option_map (λ label. matched same_record label.rows rows) (map_label takes bits)
+    option_map (λ label. matched same_record label.rows rows) (said_by map_shape takes bits)
 
 -- whether the map of each port's label is this one, where each label can be read
 abbrev pub agreement : (List Bool → Option (ℕ × List Bool)) → List MapRow → List SeenPort
     → Option Bool
 agreement takes rows ports =
-    option_map (list_all (has_map rows)) (read_ports (map_label takes) ports)
+    option_map (list_all (has_map rows)) (read_ports (said_by map_shape takes) ports)

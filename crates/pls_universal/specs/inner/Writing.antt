@@ -1,8 +1,8 @@
--- Numbers that are written behind bits.
-use Rattle.std.specs.Prelude.{◌≡◌, ℕ, ◌++◌, Bool, List}
-use Rattle.pls_scheme.specs.Numbers.{AreCoded, codes_of}
+-- Ports that are written, of a label or of a network.
+use Rattle.std.specs.Prelude.{ℕ, List}
+use Rattle.std.specs.List.{flat_map}
+use Rattle.pls_universal.specs.Map.{numbers_of_port}
 
--- the new bits are the old ones and the codes of these numbers, which have codes
-pub record Adds (code : ℕ → List Bool) (numbers : List ℕ) (old new : List Bool) : Type 0 where
-  pub coded : AreCoded numbers
-  pub written : new ≡ old ++ codes_of code numbers
+-- the numbers of ports, by the neighbour and the weight of each
+abbrev pub numbers_of_ports : {X : Type 0} → (X → ℕ × ℕ) → List X → List ℕ
+numbers_of_ports pair ports = flat_map (λ port. numbers_of_port (pair port)) ports

@@ -1,180 +1,100 @@
--- Maps are read exactly where their codes stand.
-use Rattle.std.proofs.Common.{◌≡◌, ◌∙◌, ℕ, ◌++◌, Bool, List, [], ◌∷◌, length, get_or, Option, Some, None, option_map, refl, sym, ap, subst}
+-- Numbers are a map, or a label, exactly where they are its numbers.
+use Rattle.std.proofs.Common.{◌≡◌, ◌∙◌, ℕ, ◌++◌, List, [], ◌∷◌, Option, Some, None, option_map, refl, sym, ap}
 use Rattle.std.specs.List.{flat_map}
-use Rattle.std.specs.Option.{option_and_then}
-use Rattle.std.proofs.lemmas.List.{append-nil}
-use Rattle.std.proofs.lemmas.List.Concat.{flat_map-cons}
-use Rattle.std.proofs.lemmas.List.Elements.{All-cons, All-head, All-nil}
-use Rattle.pls_bits.specs.NumberCode.{TakesCodes, TakesOnly}
-use Rattle.pls_scheme.specs.Numbers.{AreCoded, codes_of}
-use Rattle.pls_scheme.specs.laws.CodeLaws.{at_places-all}
+use Rattle.pls_numbers.specs.Shape.{AreItsNumbers}
+use Rattle.pls_numbers.specs.Taking.{IsExact, many_off}
+use Rattle.pls_numbers.specs.laws.LeftLaws.{same_parts}
+use Rattle.pls_numbers.specs.laws.TakingLaws.{all_any, items_only, items_read, many_only, many_read}
+use Rattle.pls_universal.specs.declared.map.MapLabel.{MapLabel}
 use Rattle.pls_universal.specs.declared.map.MapRow.{MapRow}
-use Rattle.pls_universal.specs.Map.{IsMap, numbers_of_map, numbers_of_port, numbers_of_row}
-use Rattle.pls_universal.specs.Taking.{many_off, map_off, port_off, row_off, row_with}
-use Rattle.pls_universal.specs.laws.NumberLaws.{AreInFront, IsExact, Small, in_front_both, in_front_first, in_front_rest, many_only, many_read, same_parts}
+use Rattle.pls_universal.specs.Map.{numbers_of_label, numbers_of_map, numbers_of_port, numbers_of_row}
+use Rattle.pls_universal.specs.Reading.{map_in, map_label_with, label_in, map_shape, port_off, row_off, row_with, rows_shape}
 
--- a number alone
-abbrev alone : ℕ → List ℕ
-alone number = number ∷ []
+-- nothing more is asked
+abbrev Any : {X : Type 0} → X → Type 0
+Any x = Unit {0}
 
--- the numbers of numbers are they themselves
-each_alone : (numbers : List ℕ) → flat_map alone numbers ≡ numbers
-each_alone [] = refl
-each_alone (number ∷ numbers) = flat_map-cons alone number numbers
-    ∙ ap (λ (list : List ℕ). number ∷ list) (each_alone numbers)
+port_only : (list : List ℕ) (port : ℕ × ℕ) (rest : List ℕ) → port_off list ≡ Some (port, rest)
+    → (list ≡ numbers_of_port port ++ rest) × Any port
+port_only [] port rest is = absurd (cc)
+port_only (nbr ∷ []) port rest is = absurd (cc)
+port_only (nbr ∷ weight ∷ more) port rest is =
+    let one : ℕ × ℕ = (nbr, weight) in
+    let same = same_parts (one, more) (port, rest) is in
+    rw (sym same.0, sym same.1) (refl, tt)
 
--- the port of two numbers, and the bits behind it
-abbrev port_with : List ℕ × List Bool → (ℕ × ℕ) × List Bool
-port_with taken = ((get_or taken.0 0 0, get_or taken.0 1 0), taken.1)
+exact_port : IsExact port_off numbers_of_port Any
+exact_port = record { read = λ port rest any. refl; only = port_only }
 
-module _ (code : ℕ → List Bool) (takes : List Bool → Option (ℕ × List Bool))
-    (taken : TakesCodes code takes) (only : TakesOnly code takes) where
-  abbrev Front : List Bool → List ℕ → List Bool → Type 0
-  Front bits numbers rest = AreInFront code bits numbers rest
+row_only : (list : List ℕ) (row : MapRow) (rest : List ℕ) → row_off list ≡ Some (row, rest)
+    → (list ≡ numbers_of_row row ++ rest) × Any row
+row_only [] row rest is = absurd (cc)
+row_only (id ∷ []) row rest is = absurd (cc)
+row_only (id ∷ up ∷ []) row rest is = absurd (cc)
+row_only (id ∷ up ∷ mark ∷ []) row rest is = absurd (cc)
+row_only (id ∷ up ∷ mark ∷ num ∷ []) row rest is = absurd (cc)
+row_only (id ∷ up ∷ mark ∷ num ∷ degree ∷ more) row rest is =
+    by (many_off port_off degree more) refl is
+  where
+    by : (found : Option (List (ℕ × ℕ) × List ℕ)) → many_off port_off degree more ≡ found
+        → option_map (row_with id up mark num) found ≡ Some (row, rest)
+        → (id ∷ up ∷ mark ∷ num ∷ degree ∷ more ≡ numbers_of_row row ++ rest) × Any row
+    by None read is = absurd (cc)
+    by (Some found) read is =
+        let same = same_parts (row_with id up mark num found) (row, rest) is in
+        let all = many_only port_off numbers_of_port Any exact_port degree more found.0 found.1
+        read in
+        rw (sym same.0, sym same.1) (
+          ap (λ (tail : List ℕ). id ∷ up ∷ mark ∷ num ∷ degree ∷ tail) all.1
+              ∙ ap (λ (degree : ℕ). id ∷ up ∷ mark ∷ num ∷ degree
+              ∷ (flat_map numbers_of_port found.0 ++ found.1)) (sym all.0),
+          tt,
+        )
 
-  exact_number : IsExact code takes alone
-  exact_number = record {
-    read = λ x bits rest front.
-        ap takes (front.written ∙ ap (λ (front : List Bool). front ++ rest) (append-nil (code x)))
-        ∙ taken x rest (All-head Small x [] front.coded);
-    only = λ bits x rest is.
-        let found = only bits x rest is in record {
-          coded = All-cons Small x [] found.0 (All-nil Small);
-          written = found.1
-              ∙ ap (λ (front : List Bool). front ++ rest) (sym (append-nil (code x)));
-        };
-  }
+exact_row : IsExact row_off numbers_of_row Any
+exact_row = record {
+  read = λ row rest any. ap (option_map (row_with row.id row.up row.mark row.num))
+      (many_read port_off numbers_of_port Any exact_port row.ports rest (all_any row.ports));
+  only = row_only;
+}
 
-  -- so many numbers
-  numbers_read : (numbers : List ℕ) (bits rest : List Bool) → Front bits numbers rest
-      → many_off takes (length numbers) bits ≡ Some (numbers, rest)
-  numbers_read numbers bits rest front = many_read code takes alone exact_number numbers bits rest
-      (subst (λ (list : List ℕ). Front bits list rest) (sym (each_alone numbers)) front)
+rows_only : (list : List ℕ) (rows : List MapRow) → map_in list ≡ Some rows
+    → (list ≡ numbers_of_map rows) × Any rows
+rows_only [] rows is = absurd (cc)
+rows_only (count ∷ rest) rows is =
+    let all = items_only row_off numbers_of_row Any exact_row count rest rows is in (
+      ap (λ (tail : List ℕ). count ∷ tail) all.1
+          ∙ ap (λ (count : ℕ). count ∷ flat_map numbers_of_row rows) (sym all.0),
+      tt,
+    )
 
-  numbers_only : (count : ℕ) (bits : List Bool) (numbers : List ℕ) (rest : List Bool)
-      → many_off takes count bits ≡ Some (numbers, rest)
-      → (length numbers ≡ count) × Front bits numbers rest
-  numbers_only count bits numbers rest is =
-      let found = many_only code takes alone exact_number count bits numbers rest is in
-      (found.0, subst (λ (list : List ℕ). Front bits list rest) (each_alone numbers) found.1)
+-- numbers are a map exactly where they are its numbers
+pub rows_numbers : AreItsNumbers rows_shape
+rows_numbers list rows = (
+  rows_only list rows,
+  λ its. ap map_in its.0 ∙ items_read row_off numbers_of_row Any exact_row rows (all_any rows),
+)
 
-  exact_port : IsExact code (port_off takes) numbers_of_port
-  exact_port = record {
-    read = λ port bits rest front.
-        ap (option_map port_with) (numbers_read (numbers_of_port port) bits rest front);
-    only = λ bits port rest is. by bits port rest (many_off takes 2 bits) refl is;
-  }
-    where
-      by : (bits : List Bool) (port : ℕ × ℕ) (rest : List Bool)
-          → (found : Option (List ℕ × List Bool)) → many_off takes 2 bits ≡ found
-          → option_map port_with found ≡ Some (port, rest) → Front bits (numbers_of_port port) rest
-      by bits port rest None read is = absurd (cc)
-      by bits port rest (Some found) read is =
-          let (same, left) : ((get_or found.0 0 0, get_or found.0 1 0) ≡ port) × (found.1 ≡ rest) =
-          same_parts (port_with found) (port, rest) is in
-          let codes = numbers_only 2 bits found.0 found.1 read in
-          let two : get_or found.0 0 0 ∷ get_or found.0 1 0 ∷ [] ≡ found.0 =
-          at_places-all found.0 2 codes.0 in
-          rw (sym same, sym left) (subst (λ (list : List ℕ). Front bits list found.1) (sym two)
-          codes.1)
+label_only : (list : List ℕ) (label : MapLabel) → label_in list ≡ Some label
+    → (list ≡ numbers_of_label label) × Any label
+label_only [] label is = absurd (cc)
+label_only (own ∷ rest) label is = by (map_in rest) refl is
+  where
+    by : (found : Option (List MapRow)) → map_in rest ≡ found
+        → option_map (map_label_with own) found ≡ Some label
+        → (own ∷ rest ≡ numbers_of_label label) × Any label
+    by None read is = absurd (cc)
+    by (Some rows) read is =
+        let same : map_label_with own rows ≡ label = cc in
+        rw (sym same) (
+          ap (λ (tail : List ℕ). own ∷ tail) ((rows_numbers rest rows).0 read).0,
+          tt,
+        )
 
-  -- where the ports are, as many as the fifth number says, there is a record
-  row_read : (row : MapRow) (bits rest : List Bool) → Front bits (numbers_of_row row) rest
-      → row_off takes bits ≡ Some (row, rest)
-  row_read row bits rest front =
-      let head : List ℕ = row.id ∷ row.up ∷ row.mark ∷ row.num ∷ length row.ports ∷ [] in
-      let ports : List ℕ = flat_map numbers_of_port row.ports in
-      let behind : List Bool = codes_of code ports ++ rest in
-      let first : many_off takes 5 bits ≡ Some (head, behind) =
-      numbers_read head bits behind (in_front_first code bits head ports rest front) in
-      let others : many_off (port_off takes) (length row.ports) behind ≡ Some (row.ports, rest) =
-      many_read code (port_off takes) numbers_of_port exact_port row.ports behind rest
-      (in_front_rest code bits head ports rest front) in
-      ap (option_and_then (λ (head : List ℕ × List Bool). option_map (row_with head.0)
-      (many_off (port_off takes) (get_or head.0 4 0) head.1))) first
-      ∙ ap (option_map (row_with head)) others
-
-  row_only : (bits : List Bool) (row : MapRow) (rest : List Bool)
-      → row_off takes bits ≡ Some (row, rest) → Front bits (numbers_of_row row) rest
-  row_only bits row rest is = by (many_off takes 5 bits) refl is
-    where
-      onward : (head : List ℕ) (behind : List Bool) → many_off takes 5 bits ≡ Some (head, behind)
-          → (more : Option (List (ℕ × ℕ) × List Bool))
-          → many_off (port_off takes) (get_or head 4 0) behind ≡ more
-          → option_map (row_with head) more ≡ Some (row, rest)
-          → Front bits (numbers_of_row row) rest
-      onward head behind first None read is = absurd (cc)
-      onward head behind first (Some more) read is =
-          let (same, left) : ((row_with head more).0 ≡ row) × (more.1 ≡ rest) =
-          same_parts (row_with head more) (row, rest) is in
-          let front = numbers_only 5 bits head behind first in
-          let ports = many_only code (port_off takes) numbers_of_port exact_port (get_or head 4 0)
-          behind more.0 more.1 read in
-          let five : get_or head 0 0 ∷ get_or head 1 0 ∷ get_or head 2 0 ∷ get_or head 3 0
-          ∷ get_or head 4 0 ∷ [] ≡ head =
-          at_places-all head 5 front.0 in
-          let all : numbers_of_row (row_with head more).0
-          ≡ head ++ flat_map numbers_of_port more.0 =
-          ap (λ (count : ℕ). get_or head 0 0 ∷ get_or head 1 0 ∷ get_or head 2 0 ∷ get_or head 3 0
-          ∷ count ∷ flat_map numbers_of_port more.0) ports.0
-          ∙ ap (λ (list : List ℕ). list ++ flat_map numbers_of_port more.0) five in
-          subst (λ (rest : List Bool). Front bits (numbers_of_row row) rest) left
-          (subst (λ (row : MapRow). Front bits (numbers_of_row row) more.1) same
-          (subst (λ (list : List ℕ). Front bits list more.1) (sym all)
-          (in_front_both code bits head behind (flat_map numbers_of_port more.0) more.1 front.1
-          ports.1)))
-
-      by : (found : Option (List ℕ × List Bool)) → many_off takes 5 bits ≡ found
-          → option_and_then (λ (head : List ℕ × List Bool). option_map (row_with head.0)
-          (many_off (port_off takes) (get_or head.0 4 0) head.1)) found ≡ Some (row, rest)
-          → Front bits (numbers_of_row row) rest
-      by None first is = absurd (cc)
-      by (Some found) first is =
-          onward found.0 found.1 first (many_off (port_off takes) (get_or found.0 4 0) found.1) refl
-          is
-
-  exact_row : IsExact code (row_off takes) numbers_of_row
-  exact_row = record { read = row_read; only = row_only }
-
-  -- a map is read from its bits, with nothing left
-  pub map_read : (rows : List MapRow) (bits : List Bool) → IsMap code rows bits
-      → map_off takes bits ≡ Some (rows, [])
-  map_read rows bits is =
-      let count : List ℕ = alone (length rows) in
-      let all : List ℕ = flat_map numbers_of_row rows in
-      let behind : List Bool = codes_of code all ++ [] in
-      let front : Front bits (count ++ all) [] = record {
-        coded = is.coded;
-        written = is.written ∙ sym (append-nil (codes_of code (numbers_of_map rows)));
-      } in
-      let first : takes bits ≡ Some (length rows, behind) =
-      exact_number.read (length rows) bits behind (in_front_first code bits count all [] front) in
-      ap (option_and_then (λ (count : ℕ × List Bool). many_off (row_off takes) count.0 count.1))
-      first
-      ∙ many_read code (row_off takes) numbers_of_row exact_row rows behind []
-      (in_front_rest code bits count all [] front)
-
-  -- and bits that are read to their end are the map's
-  pub map_only : (rows : List MapRow) (bits : List Bool) (count : ℕ) (behind : List Bool)
-      → takes bits ≡ Some (count, behind) → many_off (row_off takes) count behind ≡ Some (rows, [])
-      → IsMap code rows bits
-  map_only rows bits count behind first others =
-      let one = exact_number.only bits count behind first in
-      let more = many_only code (row_off takes) numbers_of_row exact_row count behind rows []
-      others in
-      let all = in_front_both code bits (alone count) behind (flat_map numbers_of_row rows) []
-      one more.1 in
-      let same : alone count ++ flat_map numbers_of_row rows ≡ numbers_of_map rows =
-      ap (λ (count : ℕ). count ∷ flat_map numbers_of_row rows) (sym more.0) in record {
-        coded = subst AreCoded same all.coded;
-        written = all.written
-            ∙ append-nil (codes_of code (alone count ++ flat_map numbers_of_row rows))
-            ∙ ap (codes_of code) same;
-      }
-
-  -- bits are one map at most
-  pub one_map : (bits : List Bool) (one other : List MapRow) → IsMap code one bits
-      → IsMap code other bits → one ≡ other
-  one_map bits one other first second =
-      (same_parts (one, []) (other, [])
-      (sym (map_read one bits first) ∙ map_read other bits second)).0
+-- and a label exactly where they are its numbers
+pub map_numbers : AreItsNumbers map_shape
+map_numbers list label = (
+  label_only list label,
+  λ its. ap label_in its.0 ∙ ap (option_map (map_label_with label.own))
+      ((rows_numbers (numbers_of_map label.rows) label.rows).1 (refl, tt)),
+)

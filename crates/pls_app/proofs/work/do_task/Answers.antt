@@ -8,7 +8,7 @@ use Rattle.pls_app.specs.declared.command.Command.TheVariants.{With}
 use Rattle.pls_app.specs.declared.command.Task.{Task}
 use Rattle.pls_app.specs.declared.command.Task.TheVariants.{Mark, Simulate, Recheck}
 use Rattle.pls_app.specs.Answer.{report}
-use Rattle.pls_app.specs.Command.{parts_of}
+use Rattle.pls_app.specs.Command.{input_parts_of}
 use Rattle.pls_app.specs.Meant.{judge_in}
 use Rattle.pls_app.specs.Reports.{decided_by}
 use Rattle.pls_app.specs.inner.Tasks.{Does, IsSimulated, RecheckedIn}
@@ -30,8 +30,8 @@ recheck-requires g c =
     let is = c.requires.input.1 in
     let list = c.unwrap-in-Recheck-2.result.items in
     let edits = ap (option_map (λ list. list.items)) c.unwrap-in-Recheck-2.ensures in
-    let unscheduled : (parts_of (With c.args.task c.args.scheme)).schedule ≡ false =
-    ap (λ (task : Task). (parts_of (With task c.args.scheme)).schedule) c.in-Recheck.is in
+    let unscheduled : (input_parts_of (With c.args.task c.args.scheme)).schedule ≡ false =
+    ap (λ (task : Task). (input_parts_of (With task c.args.scheme)).schedule) c.in-Recheck.is in
     record {
       input = record {
         each = labels_each _ _ c.args.input is c.unwrap-net.result c.unwrap-net.ensures
@@ -107,8 +107,8 @@ returns-in-Recheck-clause-does g c =
     let input = said c.args.input in
     let is = c.requires.input.1 in
     let list = c.unwrap-in-Recheck-2.result in
-    let unscheduled : (parts_of (With c.args.task c.args.scheme)).schedule ≡ false =
-    ap (λ (task : Task). (parts_of (With task c.args.scheme)).schedule) c.in-Recheck.is in
+    let unscheduled : (input_parts_of (With c.args.task c.args.scheme)).schedule ≡ false =
+    ap (λ (task : Task). (input_parts_of (With task c.args.scheme)).schedule) c.in-Recheck.is in
     IfOk-weaker c.recheck.result _ (λ answer. Does (With c.args.task scheme) input answer)
     (λ answer does. subst (λ (task : Task). Does (With task scheme) input answer)
     (sym c.in-Recheck.is) (does input (record {
@@ -129,8 +129,8 @@ returns-in-Recheck-clause-rechecked g c =
     let list = c.unwrap-in-Recheck-2.result in
     let old = g.B.Bench.asked c.args.bench.now in
     let new = g.B.Bench.asked c.recheck.new.bench in
-    let unscheduled : (parts_of (With c.args.task c.args.scheme)).schedule ≡ false =
-    ap (λ (task : Task). (parts_of (With task c.args.scheme)).schedule) c.in-Recheck.is in
+    let unscheduled : (input_parts_of (With c.args.task c.args.scheme)).schedule ≡ false =
+    ap (λ (task : Task). (input_parts_of (With task c.args.scheme)).schedule) c.in-Recheck.is in
     IfOk-weaker c.recheck.result _
     (λ answer. c.args.task ≡ Recheck → RecheckedIn scheme input answer.status old new)
     (λ answer found _. found input (record {

@@ -1,4 +1,3 @@
-use Rattle.std.proofs.Common.{arith}
 use Rattle.pls_bits.proofs.Pairs.{valued}
 use Rattle.pls_bits.proofs.hex_bytes.digit_value.Goals as goal
 

@@ -18,6 +18,6 @@ returns g c own other own_read own_is other_read other_is =
     c.compare_fronts-found.result own_is other_is c.min-shared.ensures
     (omega (arith, c.in_front-first.ensures, c.min.ensures))
     (omega (arith, c.in_front-first.ensures, c.min.ensures)) c.compare_fronts-found.ensures
-    g.C.NumCode.takes c.behind_front-here.result c.behind_front-there.result
+    c.behind_front-here.result.numbers c.behind_front-there.result.numbers
     c.compare_behind.result (c.behind_front-here.ensures own own_read)
     (c.behind_front-there.ensures other other_read) c.compare_behind.ensures

@@ -1,14 +1,18 @@
-use Rattle.std.proofs.Common.{◌≡◌, ◌∙◌, Some, true, is_some, sym, ap}
-use Rattle.pls_mst.specs.Labels.{head_off, levels_in}
+use Rattle.std.proofs.Common.{◌≡◌, ◌∙◌, true, sym, ap}
+use Rattle.std.specs.Option.{option_map}
+use Rattle.pls_numbers.specs.Shape.{if_clean}
+use Rattle.pls_numbers.specs.Numbers.{NumbersLeft}
+use Rattle.pls_numbers.specs.Taking.{are_items}
+use Rattle.pls_mst.specs.Labels.{level_off, mst_of}
+use Rattle.pls_mst.specs.inner.Glance.{glance_of}
 use Rattle.pls_mst.proofs.Fronts.{glance_there}
 use Rattle.pls_mst.proofs.glance.glance_at.Goals as goal
 
 pub returns-then-are_levels : goal.returns-then-are_levels
 returns-then-are_levels g c =
-    let takes = g.C.NumCode.takes in
-    let front : head_off takes c.args.bits.now ≡ Some (c.in_ok-head.head, c.read_head.new.cursor) =
-    ap (head_off takes) (sym c.cursor-cursor.ensures) ∙ c.in_ok-head.ensures.found in
-    let there : is_some (levels_in takes c.in_ok-head.head.count c.read_head.new.cursor) ≡ true =
+    let there : are_items level_off c.in_ok-head.head.count c.read_head.new.numbers ≡ true =
     c.in_ok-kept.ensures.left ∙ sym c.are_levels.ensures ∙ c.if-are_levels.true in
-    glance_there takes c.args.bits.now c.in_ok-head.head c.read_head.new.cursor
-    c.in_ok-kept.field-0.kept c.in_ok-kept.field-0.levels front there c.in_ok-kept.ensures.found
+    glance_there c.of-numbers.result c.in_ok-head.head c.read_head.new.numbers
+    c.in_ok-kept.field-0.kept c.in_ok-kept.field-0.levels c.in_ok-head.ensures.found there
+    c.in_ok-kept.ensures.found
+    ∙ ap (λ (left : NumbersLeft). option_map glance_of (if_clean mst_of left)) c.of-numbers.ensures

@@ -16,6 +16,6 @@ returns-then-head-past g c own read is =
 pub returns : goal.returns
 returns g c own read is =
     others_named own c.args.label.now.glance.now c.in_front-first.result c.front_has.result is
-    (omega (arith, c.in_front-first.ensures)) c.front_has.ensures g.C.NumCode.takes
-    c.behind_front-cursor.result c.all_have.result c.if-not-front_has.false
-    (c.behind_front-cursor.ensures own read) c.all_have.ensures
+    (omega (arith, c.in_front-first.ensures)) c.front_has.ensures
+    c.behind_front-numbers.result.numbers c.all_have.result c.if-not-front_has.false
+    (c.behind_front-numbers.ensures own read) c.all_have.ensures

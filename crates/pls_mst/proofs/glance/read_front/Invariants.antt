@@ -1,7 +1,8 @@
 use Rattle.std.proofs.Common.{◌-◌, ◌≤◌}
+use Rattle.pls_numbers.specs.Taking.{items_off}
+use Rattle.pls_numbers.specs.laws.BehindLaws.{AreBehind}
 use Rattle.pls_mst.specs.declared.glance.TheConstants.{FRONT}
-use Rattle.pls_mst.specs.inner.Reading.{levels_off}
-use Rattle.pls_mst.proofs.Behind.{AreBehind}
+use Rattle.pls_mst.specs.Labels.{level_off}
 use Rattle.pls_mst.proofs.Fronts.{IsKept}
 use Rattle.pls_mst.proofs.glance.read_front.Given as goal
 
@@ -9,7 +10,7 @@ use Rattle.pls_mst.proofs.glance.read_front.Given as goal
 abbrev pub invariant-loop-place : goal.invariant-loop-place
 invariant-loop-place g l = record {
   within : l.place ≤ l.first;
-  kept : IsKept FRONT l.place l.levels (levels_off g.C.NumCode.takes l.count l.initial.cursor)
-      (levels_off g.C.NumCode.takes (l.count - l.place) l.cursor);
-  behind : AreBehind g.C.NumCode.takes l.place l.initial.cursor l.cursor;
+  kept : IsKept FRONT l.place l.levels (items_off level_off l.count l.initial.numbers.numbers)
+      (items_off level_off (l.count - l.place) l.numbers.numbers);
+  behind : AreBehind level_off l.place l.initial.numbers l.numbers;
 }

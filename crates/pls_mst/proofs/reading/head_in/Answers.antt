@@ -1,11 +1,14 @@
-use Rattle.std.proofs.Common.{◌∙◌, sym, ap}
-use Rattle.pls_mst.specs.Labels.{head_off}
-use Rattle.pls_mst.proofs.Levels.{head_there}
+use Rattle.std.proofs.Common.{◌∙◌, Some, option_map, sym, ap}
+use Rattle.pls_numbers.specs.Shape.{if_clean}
+use Rattle.pls_numbers.specs.Numbers.{NumbersLeft}
+use Rattle.pls_mst.specs.Labels.{mst_of}
+use Rattle.pls_mst.specs.inner.Reading.{head_said}
+use Rattle.pls_mst.proofs.Labels.{a_label}
 use Rattle.pls_mst.proofs.reading.head_in.Goals as goal
 
 pub returns-then-are_levels : goal.returns-then-are_levels
 returns-then-are_levels g c =
-    let takes = g.C.NumCode.takes in
-    head_there takes c.args.bits.now c.in_ok-head.head c.read_head.new.cursor
-    (ap (head_off takes) (sym c.cursor-cursor.ensures) ∙ c.in_ok-head.ensures.found)
-    (sym c.are_levels.ensures ∙ c.if-are_levels.true)
+    let (label, said, front, levels) = a_label c.of-numbers.result c.read_head.new.numbers
+    c.in_ok-head.head c.in_ok-head.ensures.found (sym c.are_levels.ensures ∙ c.if-are_levels.true) in
+    ap Some (sym front) ∙ sym (ap (option_map head_said) said)
+    ∙ ap (λ (left : NumbersLeft). option_map head_said (if_clean mst_of left)) c.of-numbers.ensures

@@ -8,6 +8,6 @@ use Rattle.pls_scheme.proofs.holding.hold_everywhere.Given as goal
 -- the rules hold at the nodes so far
 abbrev pub invariant-loop-i : goal.invariant-loop-i
 invariant-loop-i g l =
-    (say : ℕ → g.row.R-Layout-Label.Denot) → AreSaidBy say l.net l.labels
+    (say : ℕ → g.row.R-Format-Label.Denot) → AreSaidBy say l.net l.labels
     → (place : ℕ) (row : NodeRow) → place < l.i → slice_get l.net place ≡ Some row
     → AllHold (g.R.Judgement.rules l.rules (read_where say row))

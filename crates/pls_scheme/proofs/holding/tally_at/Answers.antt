@@ -44,7 +44,7 @@ loop-p-preserved g c say said =
     let port : Port = get_or ports p some_port in
     let at : slice_get ports p ≡ Some port =
     slice_get-get_or ports p some_port c.loop-p-test.true in
-    let Label : Type 0 = g.row.R-Layout-Label.Denot in
+    let Label : Type 0 = g.row.R-Format-Label.Denot in
     let before : List (ReadPort Label) = map (port_where say) (take p ports) in
     let read : ReadPort Label = port_with port.weight c.index-labels-places.result in
     let same : read ≡ port_where say port =

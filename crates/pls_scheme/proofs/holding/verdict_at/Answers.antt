@@ -52,7 +52,7 @@ returns g c say said row at =
     let rows = c.args.net.now in
     let labels = c.args.labels.now in
     let ports : List Port = c.ports.result.now in
-    let Label : Type 0 = g.row.R-Layout-Label.Denot in
+    let Label : Type 0 = g.row.R-Format-Label.Denot in
     let state : State = c.node-id.result.1 in
     let ports_are : row.ports ≡ ports =
     given_at (λ (row : NodeRow). row.ports) (slice_get rows c.args.i) row ports

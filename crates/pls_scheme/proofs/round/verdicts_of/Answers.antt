@@ -3,6 +3,7 @@ use Rattle.std.proofs.lemmas.List.{length-map}
 use Rattle.pls_view.specs.Seen.{Seen, label_of, seen, views}
 use Rattle.pls_facts.proofs.Lists.{item_at, map-take_more}
 use Rattle.pls_scheme.specs.Reading.{judge_by}
+use Rattle.pls_numbers.specs.Shape.{said_by}
 use Rattle.pls_scheme.proofs.round.verdicts_of.Goals as goal
 
 pub loop-i-preserved : goal.loop-i-preserved
@@ -16,7 +17,7 @@ loop-i-preserved g c =
     item_at (views rows labels) c.loop-i.i (omega (arith, within, many)) in
     record {
       verdicts = c.in_ok-push.ensures.items
-          ∙ map-take_more (judge_by g.R.Layout.Layout.said (g.R.Judgement.rules c.args.rules.now))
+          ∙ map-take_more (judge_by (said_by (g.R.Format.Format.shape (g.R.Judgement.format c.args.rules.now)) g.R.Code.NumCode.takes) (g.R.Judgement.rules c.args.rules.now))
           (views rows labels) c.loop-i.i view c.loop-i.verdicts.items c.verdict_at.result
           c.loop-i.invariant.verdicts at (c.verdict_at.ensures view at);
       steps = omega (arith, c.tick.ensures, c.loop-i.invariant.steps);

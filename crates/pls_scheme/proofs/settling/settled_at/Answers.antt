@@ -10,6 +10,7 @@ use Rattle.pls_scheme.specs.Reading.{judge_by}
 use Rattle.pls_scheme.specs.inner.Looks.{seen_above, seen_in}
 use Rattle.pls_scheme.proofs.LookedAt.{above_kept, is_shown, kept_there, place_for_port, places_for_ports, pointer_some, read_there, shown_from}
 use Rattle.pls_scheme.proofs.Passing.{passed, read_to, unread}
+use Rattle.pls_numbers.specs.Shape.{said_by}
 use Rattle.pls_scheme.proofs.settling.settled_at.Goals as goal
 
 pub glance_above-above-requires-clause-pointer : goal.glance_above-above-requires-clause-pointer
@@ -21,9 +22,9 @@ glance_above-above-requires-clause-pointer g c =
 pub glance_above-above-requires-clause-within : goal.glance_above-above-requires-clause-within
 glance_above-above-requires-clause-within g c = λ p none within.
     let many : length c.args.looked.now ≡ length (g.L.Labels.listed c.args.labels.now) =
-    sym (length-map c.args.looked.now g.E.Kept.kept)
+    sym (length-map c.args.looked.now g.E.Kept.glance_in_memory)
     ∙ ap length c.requires.looked
-    ∙ length-map (g.L.Labels.listed c.args.labels.now) (seen_in g.R.Layout.Layout.said
+    ∙ length-map (g.L.Labels.listed c.args.labels.now) (seen_in (said_by (g.R.Format.Format.shape (g.R.Judgement.format c.args.rules.now)) g.R.Code.NumCode.takes)
     (g.R.JudgesInPlace.glance c.args.rules.now)) in
     let inside = c.places-places.ensures.within p none within in
     omega (arith, many, c.requires.each, inside)
@@ -31,9 +32,9 @@ glance_above-above-requires-clause-within g c = λ p none within.
 pub are_read-requires : goal.are_read-requires
 are_read-requires g c = λ p none within.
     let many : length c.args.looked.now ≡ length (g.L.Labels.listed c.args.labels.now) =
-    sym (length-map c.args.looked.now g.E.Kept.kept)
+    sym (length-map c.args.looked.now g.E.Kept.glance_in_memory)
     ∙ ap length c.requires.looked
-    ∙ length-map (g.L.Labels.listed c.args.labels.now) (seen_in g.R.Layout.Layout.said
+    ∙ length-map (g.L.Labels.listed c.args.labels.now) (seen_in (said_by (g.R.Format.Format.shape (g.R.Judgement.format c.args.rules.now)) g.R.Code.NumCode.takes)
     (g.R.JudgesInPlace.glance c.args.rules.now)) in
     let inside = c.places-places.ensures.within p none within in
     omega (arith, many, c.requires.each, inside)
@@ -42,7 +43,7 @@ pub returns-then-are_read : goal.returns-then-are_read
 returns-then-are_read g c view at =
     let rows = c.args.net.now in
     let labels = g.L.Labels.listed c.args.labels.now in
-    let said = g.R.Layout.Layout.said in
+    let said = said_by (g.R.Format.Format.shape (g.R.Judgement.format c.args.rules.now)) g.R.Code.NumCode.takes in
     let glance = g.R.JudgesInPlace.glance c.args.rules.now in
     let rules = g.R.Judgement.rules c.args.rules.now in
     let node = c.node-id.result in
@@ -50,14 +51,14 @@ returns-then-are_read g c view at =
     let ports : List Port = c.ports-ports.result.now in
     let places = c.places-places.result.now in
     let shown : Seen = shown_from rows labels node.0 node.1 bits ports in
-    let own = c.in_ok-glance.ensures ∙ kept_there said glance g.E.Kept.kept labels
+    let own = c.in_ok-glance.ensures ∙ kept_there said glance g.E.Kept.glance_in_memory labels
     c.args.looked.now c.requires.looked c.args.i bits c.index-looked-i.result c.bits-bits.ensures
     c.index-looked-i.is in
     let above : option_copied c.glance_above-above.result
     ≡ seen_above said glance shown.ports node.1.up =
     c.glance_above-above.ensures
     ∙ above_kept rows c.node-id.ensures.valid c.args.i ports c.ports-ports.ensures places
-    c.places-places.ensures.places said glance g.E.Kept.kept labels c.args.looked.now
+    c.places-places.ensures.places said glance g.E.Kept.glance_in_memory labels c.args.looked.now
     c.requires.looked c.requires.each node.1 c.node-id.ensures.state in
     subst (λ (view : Seen). c.in_ok-verdict.verdict ≡ judge_by said rules view)
     (is_shown rows labels c.args.i node.0 node.1 bits ports view
@@ -70,7 +71,7 @@ returns-then-are_read g c view at =
     (read_to said glance shown c.in_ok-glance.glance.now own (length shown.ports) (omega arith)
     (λ k port below there.
     ap is_some (sym (read_there rows c.node-id.ensures.valid c.args.i ports c.ports-ports.ensures
-    places c.places-places.ensures.places said glance g.E.Kept.kept labels c.args.looked.now
+    places c.places-places.ensures.places said glance g.E.Kept.glance_in_memory labels c.args.looked.now
     c.requires.looked c.requires.each k port there))
     ∙ c.are_read.ensures.read c.if-are_read.true k
     (place_for_port rows c.node-id.ensures.valid c.args.i ports c.ports-ports.ensures places
@@ -84,7 +85,7 @@ pub returns-else-are_read : goal.returns-else-are_read
 returns-else-are_read g c view at =
     let rows = c.args.net.now in
     let labels = g.L.Labels.listed c.args.labels.now in
-    let said = g.R.Layout.Layout.said in
+    let said = said_by (g.R.Format.Format.shape (g.R.Judgement.format c.args.rules.now)) g.R.Code.NumCode.takes in
     let glance = g.R.JudgesInPlace.glance c.args.rules.now in
     let rules = g.R.Judgement.rules c.args.rules.now in
     let node = c.node-id.result in
@@ -92,7 +93,7 @@ returns-else-are_read g c view at =
     let ports : List Port = c.ports-ports.result.now in
     let places = c.places-places.result.now in
     let shown : Seen = shown_from rows labels node.0 node.1 bits ports in
-    let own = c.in_ok-glance.ensures ∙ kept_there said glance g.E.Kept.kept labels
+    let own = c.in_ok-glance.ensures ∙ kept_there said glance g.E.Kept.glance_in_memory labels
     c.args.looked.now c.requires.looked c.args.i bits c.index-looked-i.result c.bits-bits.ensures
     c.index-looked-i.is in
     let (p, within, none) = c.are_read.ensures.unread c.if-are_read.false in
@@ -108,5 +109,5 @@ returns-else-are_read g c view at =
     c.bits-bits.ensures at)
     (unread said glance shown c.in_ok-glance.glance.now own rules p port there
     (sym none ∙ read_there rows c.node-id.ensures.valid c.args.i ports c.ports-ports.ensures
-    places c.places-places.ensures.places said glance g.E.Kept.kept labels c.args.looked.now
+    places c.places-places.ensures.places said glance g.E.Kept.glance_in_memory labels c.args.looked.now
     c.requires.looked c.requires.each p port there))

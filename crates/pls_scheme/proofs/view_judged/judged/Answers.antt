@@ -6,14 +6,15 @@ use Rattle.pls_scheme.specs.Reading.{is_pointer}
 use Rattle.pls_scheme.specs.inner.Looks.{seen_above, seen_in}
 use Rattle.pls_scheme.proofs.Passing.{above_more, above_none, pass_more, pass_opened, passed, unpassed}
 use Rattle.pls_scheme.proofs.view_judged.judged.Goals as goal
+use Rattle.pls_numbers.specs.Shape.{said_by}
 use Rattle.pls_scheme.proofs.view_judged.judged.Goals.{else-is_pointer, then-is_pointer}
 
 pub loop-place-init : goal.loop-place-init
 loop-place-init g c =
-    let said = g.R.Layout.Layout.said in
+    let said = said_by (g.R.Format.Format.shape (g.R.Judgement.format c.args.rules.now)) g.R.Code.NumCode.takes in
     let glance = g.R.JudgesInPlace.glance c.args.rules.now in
     let view = c.args.view.now in record {
-      passed = pass_opened said glance (g.R.JudgesInPlace.gathered c.args.rules.now) view
+      passed = pass_opened said glance (g.R.JudgesInPlace.tally_of c.args.rules.now) view
           c.in-Some.glance c.open-tally.result
           (sym c.in-Some.is ∙ c.look.ensures
           ∙ ap (λ (view : Seen). seen_in said glance view.own) c.view.view_is)
@@ -28,14 +29,14 @@ returns-in_default-look g c =
     rw (← c.view.view_is, ← c.deref-port-items.ensures)
     (item_mapped _ c.deref-port-items.result.now c.loop-place.place c.port-item.result
     c.loop-place-test.true c.port-item.is) in
-    unpassed g.R.Layout.Layout.said (g.R.JudgesInPlace.glance c.args.rules.now)
-    (g.R.JudgesInPlace.gathered c.args.rules.now) c.args.view.now
+    unpassed (said_by (g.R.Format.Format.shape (g.R.Judgement.format c.args.rules.now)) g.R.Code.NumCode.takes) (g.R.JudgesInPlace.glance c.args.rules.now)
+    (g.R.JudgesInPlace.tally_of c.args.rules.now) c.args.view.now
     (g.R.Judgement.rules c.args.rules.now) c.loop-place.place c.loop-place.tally port
     c.loop-place.invariant.passed at (sym c.in_default-look.is ∙ c.look-in-loop-place.ensures)
 
 pub loop-place-preserved : goal.loop-place-preserved
 loop-place-preserved g c =
-    let said = g.R.Layout.Layout.said in
+    let said = said_by (g.R.Format.Format.shape (g.R.Judgement.format c.args.rules.now)) g.R.Code.NumCode.takes in
     let glance = g.R.JudgesInPlace.glance c.args.rules.now in
     let view = c.args.view.now in
     let port : SeenPort = record { weight = c.port-item.result.weight; label = c.port-item.result.label } in
@@ -51,7 +52,7 @@ loop-place-preserved g c =
     c.in-Some-look.seen at port_seen in
     let test = sym (c.is_pointer.ensures
     ∙ ap (λ (up : Option ℕ). is_pointer up c.loop-place.place) up_is) in record {
-      passed = pass_more said glance (g.R.JudgesInPlace.gathered c.args.rules.now) view
+      passed = pass_more said glance (g.R.JudgesInPlace.tally_of c.args.rules.now) view
           c.loop-place.place c.loop-place.tally c.pass-tally.result port c.in-Some.glance
           c.in-Some-look.seen c.loop-place.invariant.passed at
           (sym c.in-Some.is ∙ c.look.ensures
@@ -72,7 +73,7 @@ loop-place-preserved g c =
 
 pub returns : goal.returns
 returns g c =
-    let said = g.R.Layout.Layout.said in
+    let said = said_by (g.R.Format.Format.shape (g.R.Judgement.format c.args.rules.now)) g.R.Code.NumCode.takes in
     let glance = g.R.JudgesInPlace.glance c.args.rules.now in
     let view = c.args.view.now in
     let id_is = ap (λ (view : Seen). view.id) c.view.view_is in
@@ -82,7 +83,7 @@ returns g c =
     ∙ ap length (sym c.deref-port-items.ensures) in
     let over = c.loop-place-test.false in
     let ends : length view.ports ≤ c.loop-place.place = omega (arith, many, over) in
-    passed said glance (g.R.JudgesInPlace.gathered c.args.rules.now) view
+    passed said glance (g.R.JudgesInPlace.tally_of c.args.rules.now) view
     (g.R.Judgement.rules c.args.rules.now) c.loop-place.place c.loop-place.tally c.in-Some.glance
     c.loop-place.above c.close.result ends c.loop-place.invariant.passed
     (sym c.in-Some.is ∙ c.look.ensures

@@ -3,7 +3,7 @@ use Rattle.std.proofs.lemmas.List.FromFn.{map-range_with_len_more}
 use Rattle.pls_model.specs.declared.row.NodeRow.{NodeRow}
 use Rattle.pls_model.specs.Configuration.{AreWithinLimits}
 use Rattle.pls_graph.specs.Build.{IsRefusal}
-use Rattle.pls_graph_edits.specs.Edits.{alone}
+use Rattle.pls_graph_edits.specs.Edits.{lone_node}
 use Rattle.pls_trial.specs.Generator.{nodes_alone}
 use Rattle.pls_trial.proofs.Alone.{memory_lacks, nodes_alone_within}
 use Rattle.pls_trial.proofs.trial.nodes_alone.Goals as goal
@@ -12,8 +12,8 @@ use Rattle.pls_trial.proofs.trial.nodes_alone.Goals as goal
 pub loop-i-preserved : goal.loop-i-preserved
 loop-i-preserved c =
     c.in_ok-node.ensures.added
-    ∙ ap (λ (rows : List NodeRow). rows ++ alone (c.loop-i.i + 1) 0 0 ∷ []) c.loop-i.invariant
-    ∙ sym (map-range_with_len_more (λ id. alone id 0 0) 1 c.loop-i.i (c.loop-i.i + 1) (omega arith))
+    ∙ ap (λ (rows : List NodeRow). rows ++ lone_node (c.loop-i.i + 1) 0 0 ∷ []) c.loop-i.invariant
+    ∙ sym (map-range_with_len_more (λ id. lone_node id 0 0) 1 c.loop-i.i (c.loop-i.i + 1) (omega arith))
 
 -- all nodes
 all : (c : goal.After-loop-i) → c.loop-i.builder ≡ nodes_alone c.args.nodes

@@ -8,7 +8,7 @@ use Rattle.pls_colour.specs.laws.BipartiteLaws.{bipartite_met, bipartite_show}
 use Rattle.pls_colour.proofs.bipartite_scheme.BipartiteRulesMarker.right_labels.Goals as goal
 
 pub returns-then-hold_everywhere-clause-holds : goal.returns-then-hold_everywhere-clause-holds
-returns-then-hold_everywhere-clause-holds c =
+returns-then-hold_everywhere-clause-holds g c =
     let rows = c.args.net.now in
     (decided_by_rules bipartite_rules IsBipartite bipartite_says bipartite_show bipartite_met rows
     c.is_valid.ensures c.requires c.deref.result.now
@@ -17,7 +17,7 @@ returns-then-hold_everywhere-clause-holds c =
     c.if-hold_everywhere.true
 
 pub returns-else-hold_everywhere-clause-lacking : goal.returns-else-hold_everywhere-clause-lacking
-returns-else-hold_everywhere-clause-lacking c has =
+returns-else-hold_everywhere-clause-lacking g c has =
     let rows = c.args.net.now in
     false≢true (sym c.if-hold_everywhere.false
     ∙ (decided_by_rules bipartite_rules IsBipartite bipartite_says bipartite_show bipartite_met rows

@@ -3,7 +3,7 @@ use Rattle.pls_model.specs.declared.row.NodeRow.{NodeRow}
 use Rattle.pls_graph_edits.specs.declared.edit_error.EditError.TheVariants.{Absent}
 use Rattle.pls_graph_edits.specs.Edits.{leave_refusal, left}
 use Rattle.pls_edits.specs.declared.edit.Edit.TheVariants.{Leave}
-use Rattle.pls_recheck.specs.After.{after}
+use Rattle.pls_recheck.specs.After.{watch_after}
 use Rattle.pls_recheck.specs.Watch.{IsCurrent, Snapshot}
 use Rattle.pls_recheck.proofs.Carried.{Kept}
 use Rattle.pls_recheck.proofs.Carrying.{leave_current, leave_keeps, leave_makes}
@@ -79,7 +79,7 @@ returns-clause-ok c =
       c.remove-3.ensures.items,
       c.remove-4.ensures.items,
     ) refl)
-    ∙ ap (after (Leave c.args.id)) c.self.view_is
+    ∙ ap (watch_after (Leave c.args.id)) c.self.view_is
 
 pub returns-clause-current : goal.returns-clause-current
 returns-clause-current c = λ judge current.

@@ -5,7 +5,7 @@ use Rattle.pls_model.specs.Configuration.{ids_of}
 use Rattle.pls_graph_edits.specs.declared.edit_error.EditError.TheVariants.{Absent, Full}
 use Rattle.pls_graph_edits.specs.Edits.{are_linked}
 use Rattle.pls_edits.specs.Edited.{label_refusal}
-use Rattle.pls_recheck.specs.After.{after}
+use Rattle.pls_recheck.specs.After.{watch_after}
 use Rattle.pls_recheck.specs.Watch.{IsCurrent, Snapshot}
 use Rattle.pls_edits.specs.declared.edit.Edit.{Edit}
 use Rattle.pls_edits.specs.declared.edit.Edit.TheVariants.{Label}
@@ -79,7 +79,7 @@ returns-clause-ok c =
     snapshot_after edit before rows c.replace.new.self (marked (ids_of rows) new) refl refl put
     (touched_now rows rows c.len.ensures.valid c.len.ensures.valid labels labels refl old new
     c.self.invariant.a_flag c.self.invariant.a_flag passes more kept)
-    ∙ ap (after edit) c.self.view_is
+    ∙ ap (watch_after edit) c.self.view_is
 
 pub returns-clause-current : goal.returns-clause-current
 returns-clause-current c = λ judge current.

@@ -2,7 +2,7 @@ use Rattle.std.proofs.Common.{◌≡◌, ◌∙◌, ℕ, Bool, ◌==◌, ◌||�
 use Rattle.pls_model.specs.declared.row.NodeRow.{NodeRow}
 use Rattle.pls_model.specs.Configuration.{ids_of}
 use Rattle.pls_graph_edits.specs.Edits.{weighing}
-use Rattle.pls_recheck.specs.After.{after}
+use Rattle.pls_recheck.specs.After.{watch_after}
 use Rattle.pls_recheck.specs.Watch.{IsCurrent, Snapshot}
 use Rattle.pls_edits.specs.declared.edit.Edit.{Edit}
 use Rattle.pls_edits.specs.declared.edit.Edit.TheVariants.{Weight}
@@ -52,7 +52,7 @@ returns-clause-ok c =
     (touched_now rows network c.len.ensures.valid c.touch_ends.ensures.valid labels labels ids old new
     c.self.invariant.a_flag (same_many rows network ids old c.self.invariant.a_flag)
     (λ node. (c.args.a == node) || (c.args.b == node)) c.touch_ends.ensures.touched kept)
-    ∙ ap (after edit) c.self.view_is
+    ∙ ap (watch_after edit) c.self.view_is
 
 pub returns-clause-current : goal.returns-clause-current
 returns-clause-current c = λ judge current.

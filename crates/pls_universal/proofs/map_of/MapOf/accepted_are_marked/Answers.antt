@@ -1,9 +1,10 @@
 use Rattle.std.proofs.Common.{List}
 use Rattle.std.specs.Bool.{⊤}
 use Rattle.pls_model.specs.declared.row.NodeRow.{NodeRow}
-use Rattle.pls_scheme.specs.laws.CodeLaws.{one_spelling}
+use Rattle.pls_numbers.specs.Shape.{IsSpelled}
+use Rattle.pls_numbers.specs.laws.FormatLaws.{one_spelling}
 use Rattle.pls_scheme.specs.laws.Marking.{marked_once}
-use Rattle.pls_universal.specs.Map.{IsMapLabel, numbers_of_label}
+use Rattle.pls_universal.specs.Reading.{map_shape}
 use Rattle.pls_universal.specs.Rules.{map_says}
 use Rattle.pls_universal.specs.laws.MapMet.{map_right_once}
 use Rattle.pls_universal.proofs.AcceptedMaps.{accepted_marked}
@@ -17,7 +18,7 @@ returns-clause-marked g c =
 
 pub returns-clause-alone : goal.returns-clause-alone
 returns-clause-alone g c others theirs =
-    marked_once (IsMapLabel g.C.NumCode.code) (λ (rows : List NodeRow). ⊤) map_says
-    (λ label. one_spelling g.C.NumCode.code (numbers_of_label label))
+    marked_once (IsSpelled map_shape g.C.NumCode.code) (λ (rows : List NodeRow). ⊤) map_says
+    (one_spelling map_shape g.C.NumCode.code)
     (map_right_once (λ (rows : List NodeRow). ⊤)) c.args.net.now others c.args.labels.now
     c.is_valid.ensures c.requires.connected tt theirs (returns-clause-marked g c)

@@ -3,7 +3,8 @@ use Rattle.pls_view.specs.Seen.{views}
 use Rattle.pls_view.proofs.Views.{own_at}
 use Rattle.pls_facts.proofs.Lists.{map-take_more}
 use Rattle.pls_scheme.specs.Reading.{judge_by}
-use Rattle.pls_universal.specs.Reading.{map_label}
+use Rattle.pls_numbers.specs.Shape.{said_by}
+use Rattle.pls_universal.specs.Reading.{map_shape}
 use Rattle.pls_universal.specs.Rules.{map_rules}
 use Rattle.pls_universal.proofs.map_of.MapOfChecker.round.Goals as goal
 
@@ -40,7 +41,7 @@ pub loop-i-preserved : goal.loop-i-preserved
 loop-i-preserved g c = record {
   verdicts =
       c.in_ok-push.ensures.items
-      ∙ map-take_more (judge_by (map_label g.C.NumCode.takes)
+      ∙ map-take_more (judge_by (said_by map_shape g.C.NumCode.takes)
       (map_rules (g.P.Tested.test c.args.self.now.property)))
       (views c.args.net.now (g.L.Labels.listed c.args.labels.now)) c.loop-i.i _ c.loop-i.verdicts.items
       c.in_ok-verdict.verdict c.loop-i.invariant.verdicts c.in_ok-view.ensures.shows

@@ -2,7 +2,8 @@ use Rattle.std.proofs.Common.{◌≡◌, map, take}
 use Rattle.pls_base.specs.Steps.{up_by}
 use Rattle.pls_view.specs.Seen.{views}
 use Rattle.pls_scheme.specs.Reading.{judge_by}
-use Rattle.pls_universal.specs.Reading.{map_label}
+use Rattle.pls_numbers.specs.Shape.{said_by}
+use Rattle.pls_universal.specs.Reading.{map_shape}
 use Rattle.pls_universal.specs.Rules.{map_rules}
 use Rattle.pls_universal.specs.inner.Deciding.{AreDecided}
 use Rattle.pls_universal.proofs.map_of.MapOfChecker.round.Given as goal
@@ -11,8 +12,10 @@ use Rattle.pls_universal.proofs.map_of.MapOfChecker.round.Given as goal
 abbrev pub invariant-loop-i : goal.invariant-loop-i
 invariant-loop-i g l = record {
   verdicts : l.verdicts.items
-      ≡ map (judge_by (map_label g.C.NumCode.takes) (map_rules (g.P.Tested.test l.self.property)))
+      ≡ map (judge_by (said_by map_shape g.C.NumCode.takes)
+      (map_rules (g.P.Tested.test l.self.property)))
       (take l.i (views l.net (g.L.Labels.listed l.labels)));
   steps : l.steps ≡ up_by l.i l.fn.steps;
-  decided : AreDecided g.C.NumCode.takes (g.P.Tested.test l.self.property) (g.L.Labels.listed l.labels) l.decided;
+  decided : AreDecided g.C.NumCode.takes (g.P.Tested.test l.self.property)
+      (g.L.Labels.listed l.labels) l.decided;
 }

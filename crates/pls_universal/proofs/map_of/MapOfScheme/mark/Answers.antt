@@ -6,12 +6,14 @@ use Rattle.pls_graph.proofs.Members.{Contains-from_place}
 use Rattle.pls_facts.proofs.Lists.{item_at}
 use Rattle.pls_graph.specs.declared.size.Size.{Size}
 use Rattle.pls_graph.specs.Size.{size_of}
+use Rattle.pls_numbers.specs.Shape.{IsSpelled, said_by}
+use Rattle.pls_numbers.specs.laws.FormatLaws.{said_spells}
 use Rattle.pls_scheme.specs.Theorem.{AreWords}
 use Rattle.pls_scheme.proofs.Markings.{marked_accepted}
-use Rattle.pls_universal.specs.Map.{IsMapLabel, map_of}
-use Rattle.pls_universal.specs.Reading.{map_label_with, map_label}
+use Rattle.pls_universal.specs.Map.{map_of}
+use Rattle.pls_universal.specs.Reading.{map_label_with, map_shape}
 use Rattle.pls_universal.specs.Rules.{map_rules, map_says}
-use Rattle.pls_universal.specs.laws.LabelLaws.{map_label-spells}
+use Rattle.pls_universal.specs.laws.MapLaws.{map_numbers}
 use Rattle.pls_universal.specs.laws.MapMet.{map_met, map_one_right}
 use Rattle.pls_universal.proofs.map_of.MapOfScheme.mark.Goals as goal
 
@@ -26,9 +28,9 @@ returns-clause-accepted g c =
       max_weight = omega (arith, ap (λ (size : Size). size.max_weight) c.size.ensures);
       max_mark = omega (arith, ap (λ (size : Size). size.max_mark) c.size.ensures);
     } in
-    marked_accepted (λ bits label. IsMapLabel code bits label) (map_says rows) rows
-    c.in_ok-labels.labels c.in_ok-labels.ensures c.is_valid.ensures (map_label takes)
-    (λ bits label is. (map_label-spells code takes g.met.C.NumCode.takes_codes
+    marked_accepted (λ bits label. IsSpelled map_shape code bits label) (map_says rows) rows
+    c.in_ok-labels.labels c.in_ok-labels.ensures c.is_valid.ensures (said_by map_shape takes)
+    (λ bits label is. (said_spells map_shape map_numbers code takes g.met.C.NumCode.takes_codes
     g.met.C.NumCode.takes_only bits label).1 is) (map_rules (g.P.Tested.test property))
     (map_met (g.P.Tested.test property) (g.P.Property.holds property)
     (g.met.P.Tested.test_law property) rows c.is_valid.ensures c.requires
@@ -45,7 +47,8 @@ returns-clause-short g c k d within =
     (slice_get-get_or labels k d within) in
     let right : label ≡ map_label_with row.id (map_of rows) =
     map_one_right rows row label (map_label_with row.id (map_of rows)) says (refl, refl) in
-    let short = c.maps_are_short.ensures row (get_or labels k d) (Contains-from_place rows k row at)
-    (subst (IsMapLabel g.C.NumCode.code (get_or labels k d)) right is) in
+    let short = c.maps_are_short.ensures.short row (get_or labels k d)
+    (Contains-from_place rows k row at)
+    (subst (IsSpelled map_shape g.C.NumCode.code (get_or labels k d)) right is) in
     let one = get_or-le-sum_by (λ (label : List Bool). length label) labels k d within in
     omega (arith, short, one, c.total.ensures)

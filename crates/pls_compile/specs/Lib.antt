@@ -1,0 +1,6 @@
+pub mod RuleMeaning
+pub mod Code
+pub mod Readable
+pub mod ReadLabels
+pub mod RuleMachine
+pub mod Listing

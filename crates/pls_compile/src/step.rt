@@ -1,0 +1,128 @@
+//! One step of the rule machine.
+
+ghost use Rattle.std.specs.Prelude.{◌≡◌, ◌<◌, ◌^◌};
+ghost use Rattle.std.specs.Option.{is_some};
+ghost use Rattle.pls_scheme.specs.Reading.{is_pointer, target};
+ghost use Rattle.pls_compile.specs.RuleMachine.{IsAble, act, came_to, put_above, step};
+ghost use Rattle.pls_compile.specs.RuleMeaning.{weight_at};
+ghost use Rattle.pls_compile.specs.declared.instr.Instr.TheVariants.{Nb, NbUp, NbWeight};
+
+use crate::instr::Instr;
+use crate::machine::Machine;
+use crate::operators::one_if;
+use crate::sees::Sees;
+use pls_model::Verdict;
+
+// One step of a machine that is not stuck: the verdict, if it answers. It takes no memory.
+#[inline(always)]
+pub(crate) fn step_on<S: Sees>(machine: &mut Machine, code: &[Instr], node: &S) -> Option<Verdict>
+    requires { IsAble (step code.now (S.sight node.now) machine.old) }
+    ensures { step code.now (S.sight node.now) machine.old ≡ came_to result machine.new }
+{
+    let instr = code[machine.place()];
+    act_on(machine, instr, node)
+}
+
+// What an instruction does.
+#[inline(always)]
+fn act_on<S: Sees>(machine: &mut Machine, instr: Instr, node: &S) -> Option<Verdict>
+    requires able { IsAble (act (S.sight node.now) instr machine.old) }
+    requires within { machine.old.place < 2 ^ 63 }
+    ensures { act (S.sight node.now) instr machine.old ≡ came_to result machine.new }
+{
+    match instr {
+        Instr::Push(number) => machine.put(u128::from(number)),
+        Instr::Id => machine.put(u128::from(node.id())),
+        Instr::Mark => machine.put(u128::from(node.state().mark)),
+        Instr::Num => machine.put(u128::from(node.state().num)),
+        Instr::Degree => machine.put(u128::from(node.degree())),
+        Instr::Pointed => machine.put(one_if(node.state().up.is_some())),
+        Instr::My(field) => machine.put(u128::from(node.own(field))),
+        Instr::Up(field) => put_above(machine, field, node),
+        Instr::Nb(field) => put_beside(machine, field, node),
+        Instr::UpWeight => machine.put(u128::from(weight_above(node))),
+        Instr::NbWeight => put_weight_beside(machine, node),
+        Instr::NbUp => put_is_above(machine, node),
+        Instr::Add => machine.combine(Instr::Add),
+        Instr::Mask => machine.combine(Instr::Mask),
+        Instr::Eq => machine.combine(Instr::Eq),
+        Instr::Lt => machine.combine(Instr::Lt),
+        Instr::Le => machine.combine(Instr::Le),
+        Instr::Not => machine.negate(),
+        Instr::Both => machine.combine(Instr::Both),
+        Instr::Either => machine.combine(Instr::Either),
+        Instr::Begin => machine.begin(),
+        Instr::More(end) => machine.more(end, node.degree()),
+        Instr::Next(start) => machine.turn(start, node.degree()),
+        Instr::Rule(number) => machine.rule(number),
+        Instr::Accept => Some(Verdict::Accept),
+    }
+}
+
+// Puts a field of the label at the port that the node points at, and 0 where it points at none.
+#[inline(always)]
+fn put_above<S: Sees>(machine: &mut Machine, field: u8, node: &S) -> Option<Verdict>
+    requires able { IsAble (put_above field (target (S.sight node.now)) machine.old) }
+    requires within { machine.old.place < 2 ^ 63 }
+    ensures { put_above field (target (S.sight node.now)) machine.old ≡ came_to result machine.new }
+{
+    match node.state().up {
+        Some(port) => machine.put(u128::from(node.beside(port, field))),
+        None => machine.put(0),
+    }
+}
+
+// Puts a field of the label at the innermost port.
+#[inline(always)]
+fn put_beside<S: Sees>(machine: &mut Machine, field: u8, node: &S) -> Option<Verdict>
+    requires able { IsAble (act (S.sight node.now) (Nb field) machine.old) }
+    requires within { machine.old.place < 2 ^ 63 }
+    ensures { act (S.sight node.now) (Nb field) machine.old ≡ came_to result machine.new }
+{
+    let port = machine.port();
+    machine.put(u128::from(node.beside(port, field)))
+}
+
+// Puts the weight of the innermost port.
+#[inline(always)]
+fn put_weight_beside<S: Sees>(machine: &mut Machine, node: &S) -> Option<Verdict>
+    requires able { IsAble (act (S.sight node.now) NbWeight machine.old) }
+    requires within { machine.old.place < 2 ^ 63 }
+    ensures { act (S.sight node.now) NbWeight machine.old ≡ came_to result machine.new }
+{
+    let port = machine.port();
+    machine.put(u128::from(node.weight(port)))
+}
+
+// Puts 1 where the node points at the innermost port, else 0.
+#[inline(always)]
+fn put_is_above<S: Sees>(machine: &mut Machine, node: &S) -> Option<Verdict>
+    requires able { IsAble (act (S.sight node.now) NbUp machine.old) }
+    requires within { machine.old.place < 2 ^ 63 }
+    ensures { act (S.sight node.now) NbUp machine.old ≡ came_to result machine.new }
+{
+    let port = machine.port();
+    machine.put(one_if(is_pointer(node.state().up, port)))
+}
+
+// The weight of the port that the node points at, and 0 where it points at none.
+#[inline(always)]
+fn weight_above<S: Sees>(node: &S) -> u32
+    ensures { result ≡ weight_at (target (S.sight node.now)) }
+{
+    match node.state().up {
+        Some(port) => node.weight(port),
+        None => 0,
+    }
+}
+
+// Whether a pointer is a port.
+#[inline(always)]
+fn is_pointer(up: Option<u32>, port: u32) -> bool
+    ensures { result ≡ is_pointer up port }
+{
+    match up {
+        Some(place) => place == port,
+        None => false,
+    }
+}

@@ -1,0 +1,5 @@
+pub mod Numbers
+pub mod Shape
+pub mod Fixed
+pub mod Taking
+pub mod laws

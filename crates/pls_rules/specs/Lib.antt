@@ -1,0 +1,4 @@
+pub mod Formula
+pub mod RuleSet
+pub mod HeldTrees
+pub mod Builtin

@@ -1,0 +1,2 @@
+pub mod SameWeights
+pub mod laws

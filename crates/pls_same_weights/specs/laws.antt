@@ -1,0 +1,2 @@
+-- The laws of the scheme.
+pub mod SameWeightsLaws

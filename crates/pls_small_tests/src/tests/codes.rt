@@ -1,0 +1,121 @@
+//! Labels in two number codes, on all connected networks of up to four nodes with all pointers:
+//! what is marked in the one code is what is marked in the other once it is converted, and back
+//! again, and all nodes accept it there. How many networks are marked was counted by a plain
+//! program.
+
+ghost use Rattle.pls_model.specs.Walk.{IsConnected};
+
+use super::joined;
+use super::small::{SETS, Small, are_joined, text_with};
+use pls_base::Steps;
+use pls_bits::{Delta, Gamma, NumCode};
+use pls_combine::AnyScheme;
+use pls_graph::Network;
+use pls_scheme::{Scheme, certifies};
+use pls_scheme_text::read_expression;
+use pls_view::LabelStore;
+use std::alloc::Global;
+use std::test::Fail;
+
+// The expressions that are tried, and how many of the networks each marks.
+const EXPRESSIONS: &[(&str, u32)] = &[
+    ("tree", 533),
+    ("forest", 1566),
+    ("bipartite", 844),
+    ("acyclic", 601),
+    ("leader", 2855),
+    ("count", 2855),
+    ("spt", 191),
+    ("mst", 533),
+    ("map(diameter:2)", 2423),
+    ("and(leader,map(bridgeless))", 1391),
+    ("or(tree,and(acyclic,count))", 1058),
+];
+
+// Whether these labels of a scheme are the others once they are converted to another code.
+fn are_converted<C: NumCode, D: NumCode>(
+    alloc: Global,
+    scheme: &AnyScheme<C>,
+    labels: &LabelStore,
+    others: &LabelStore,
+) -> Result<bool, Fail> {
+    for i in 0..labels.len() {
+        let Some(found) = scheme.convert_label::<D>(alloc, &labels.bits(i))? else {
+            return Ok(false);
+        };
+        if i >= others.len() || !found.bits().equal(others.bits(i)) {
+            return Ok(false);
+        }
+    }
+    Ok(labels.len() == others.len())
+}
+
+// Whether a connected network is marked in both codes alike, or in neither.
+fn is_marked(
+    alloc: Global,
+    gamma: &AnyScheme<Gamma>,
+    delta: &AnyScheme<Delta>,
+    net: &Network,
+) -> Result<bool, Fail>
+    requires { IsConnected net.now }
+{
+    let (labels, others) = match (gamma.mark(alloc, net)?, delta.mark(alloc, net)?) {
+        (Some(labels), Some(others)) => (labels, others),
+        (None, None) => return Ok(false),
+        _ => return Err(Fail::from("marked in one code alone")),
+    };
+    let alike = are_converted::<Gamma, Delta>(alloc, gamma, &labels, &others)?
+        && are_converted::<Delta, Gamma>(alloc, delta, &others, &labels)?
+        && certifies(alloc, delta, net, &others, &mut Steps::new())?;
+    if alike {
+        Ok(true)
+    } else {
+        Err(Fail::from("marked otherwise in the other code"))
+    }
+}
+
+// The expression of a text, in a number code.
+fn scheme_of<C: NumCode>(alloc: Global, text: &str) -> Result<AnyScheme<C>, Fail> {
+    match read_expression(alloc, text) {
+        Ok(tree) => Ok(AnyScheme::new(tree)),
+        Err(_) => Err(Fail::from("no expression")),
+    }
+}
+
+// How many networks of so many nodes with these edges and all pointers an expression marks.
+fn count_marked(alloc: Global, text: &str, nodes: u32, edges: u32) -> Result<u32, Fail> {
+    let gamma = scheme_of::<Gamma>(alloc, text)?;
+    let delta = scheme_of::<Delta>(alloc, text)?;
+    let mut count = 0_u32;
+    for pointers in 0..256 {
+        let net = Small {
+            nodes,
+            edges,
+            pointers,
+        };
+        if net.is_proper() {
+            let read = joined(alloc, text_with(alloc, net, 1, nodes)?.as_str())?;
+            if is_marked(alloc, &gamma, &delta, &read)? {
+                count = count.saturating_add(1);
+            }
+        }
+    }
+    Ok(count)
+}
+
+#[test]
+fn labels_of_all_small_networks_in_two_codes(rt: HostRuntime) -> Result<(), Fail> {
+    for (text, due) in EXPRESSIONS {
+        let mut count = 0_u32;
+        for (nodes, sets) in SETS {
+            for edges in 0..*sets {
+                if are_joined(edges, *nodes) {
+                    let marked = count_marked(rt.alloc(), text, *nodes, edges)?;
+                    count = count.saturating_add(marked);
+                }
+            }
+        }
+        assert!(rt; count == *due, "{text} marks {count}");
+    }
+    Ok(())
+}
