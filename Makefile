@@ -40,4 +40,4 @@ believed:
 
 # Needs ./pls, a shell and awk.
 examples: pls
-	sh tools/examples.sh README.md docs/TUTORIAL.md examples/README.md
+	sh tools/examples.sh README.md docs/TUTORIAL.md docs/RULES.md examples/README.md

@@ -65,6 +65,19 @@ printf 'edits\njoin 9 0 0\nlink 2 9 1\nlabel 9 1 80\nround\nunlink 2 9\nleave 9\
 try edited recheck bipartite
 try net bound 'and(bipartite,acyclic)'
 try none trial 5:7
+"$top/pls" rules tree > set
+"$top/pls" mark tree < "$chain" | cat "$chain" - set > ruled
+cat "$top/examples/independent.txt" "$top/examples/independent.rules" > chosen
+for input in ruled chosen; do
+    try "$input" judge
+    try "$input" judge --json
+done
+try set code
+try "$top/examples/independent.rules" code
+try none rules tree
+"$top/pls" mark leader < "$leader" | cat "$leader" - > marked
+try "$leader" mark leader --code delta
+try marked convert leader
 
 echo "$runs runs, $wrong wrong"
 [ "$wrong" -eq 0 ]

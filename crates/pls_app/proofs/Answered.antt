@@ -1,23 +1,24 @@
 -- Which answers belong to which words and bytes.
-use Rattle.std.proofs.Common.{◌≡◌, ◌≢◌, ◌∙◌, ℕ, ◌+◌, Bool, true, false, List, [], Option, Some, None, IfOk, inl, inr, Result, Ok, Err, OnOk, ap, subst, refl, sym, arith, if◌then◌else◌}
+use Rattle.std.proofs.Common.{◌≡◌, ◌≢◌, ◌∙◌, ℕ, ◌+◌, ◌<◌, length, Bool, true, false, List, [], Option, Some, None, IfOk, inl, inr, Result, Ok, Err, OnOk, ap, subst, refl, sym, arith, if◌then◌else◌}
 use Rattle.std.specs.Io.KnownBytes.{Appends}
+use Rattle.pls_base.specs.Streams.{LosesFirst}
 use Rattle.pls_base.specs.declared.text_error.TextError.{TextError}
 use Rattle.pls_base.specs.declared.text_error.TextError.TheVariants.{Limit, NoMemory}
 use Rattle.pls_base.specs.declared.text_error.Quantity.TheVariants.{Input as InputBytes}
-use Rattle.pls_base.specs.Streams.{LosesFirst}
 use Rattle.pls_model.specs.Walk.{IsConnected}
 use Rattle.pls_model.specs.declared.status.Status.{Status}
 use Rattle.pls_model.specs.declared.status.Status.TheVariants.{Done, No, Refused, Limit as OverLimit}
 use Rattle.pls_report.specs.Report.{all_accept}
-use Rattle.pls_property.specs.Expression.{Expression}
 use Rattle.pls_model.specs.declared.limits.TheConstants.{MAX_INPUT}
 use Rattle.pls_inputs.specs.Parts.{Input, nothing, rows_in}
 use Rattle.pls_inputs.specs.Order.{IsInput, IsNoInput}
 use Rattle.pls_app.specs.declared.command.Command.{Command}
-use Rattle.pls_app.specs.declared.command.Command.TheVariants.{With, Trial}
-use Rattle.pls_app.specs.declared.command.Task.{Task}
-use Rattle.pls_app.specs.declared.command.Task.TheVariants.{Mark, Verify, Simulate, Recheck, Bound}
-use Rattle.pls_app.specs.Command.{IsCommand, IsUsage, input_parts_of}
+use Rattle.pls_app.specs.declared.command.Command.TheVariants.{ByRules, Print, Trial, With}
+use Rattle.pls_app.specs.declared.command.Task.TheVariants.{Mark, Verify, Simulate, Recheck, Bound, Convert}
+use Rattle.pls_app.specs.declared.command.RuleTask.TheVariants.{Code, Judge}
+use Rattle.pls_names.specs.declared.scheme_name.SchemeName.{SchemeName}
+use Rattle.pls_app.specs.Ruled.{printed}
+use Rattle.pls_app.specs.Command.{IsCommand, IsUsage, input_parts_of, read_by, reads}
 use Rattle.pls_app.specs.Reports.{ends_well}
 use Rattle.pls_app.specs.Said.{Answer}
 use Rattle.pls_app.specs.Answer.{Answers, IsAnswer, IsApart, IsRefused, Reads, Yields, outcomes_in, refusal, usage}
@@ -28,12 +29,16 @@ use Rattle.pls_app.proofs.Commands.{one_command}
 use Rattle.pls_app.proofs.OneAnswer.{one_answer}
 
 -- more bytes than the limit are refused
-pub too_long : (task : Task) (scheme : Expression) (old new : Option (List ℕ)) (bytes : List ℕ)
-    → LosesFirst old new (MAX_INPUT + 1) → old ≡ Some bytes
-    → IsRefused (With task scheme) bytes (Limit InputBytes)
-too_long task scheme old new bytes lost told =
+pub too_long : (command : Command) → reads command ≡ true → (old new : Option (List ℕ))
+    (bytes : List ℕ) → LosesFirst old new (MAX_INPUT + 1) → old ≡ Some bytes
+    → IsRefused command bytes (Limit InputBytes)
+too_long command wants old new bytes lost told =
     let here : LosesFirst (Some bytes) new (MAX_INPUT + 1) = rw told at lost in
-    inl (inl (refl, omega (arith, here.0)))
+    let long : MAX_INPUT < length bytes = omega (arith, here.0) in
+    inl (inl (
+      refl,
+      subst (λ (read : Bool). MAX_INPUT < length (if read then bytes else [])) (sym wants) long,
+    ))
 
 -- an input that is refused is answered so
 pub refused_answer : (command : Command) (bytes : List ℕ) (error : TextError) (answer : Answer)
@@ -52,13 +57,13 @@ command_answer words bytes command answer is answers = inr (command, is, answers
 
 -- no bytes are the input of a command that has no parts
 abbrev blank : Input
-blank = record { network = None; labels = None; schedule = None; edits = None }
+blank = record { network = None; labels = None; schedule = None; edits = None; rules = None }
 
 blank_is : IsInput nothing [] blank
 blank_is = record {
   short = omega arith;
   says = record {
-    has = record { network = tt; labels = tt; schedule = tt; edits = tt };
+    has = record { network = tt; labels = tt; schedule = tt; edits = tt; rules = tt };
     is = refl;
   };
   accepted = refl;
@@ -79,6 +84,53 @@ trial_answers bytes nodes seed answer tried =
       yields = tried;
     })
 
+-- and that which prints a rule set
+pub print_answers : (bytes : List ℕ) (name : SchemeName) (answer : Answer) → answer ≡ printed name
+    → Answers (Print name) bytes answer
+print_answers bytes name answer same =
+    inr (record {
+      input = blank;
+      is = blank_is;
+      takes = record { joined = all_joined; accepted = refl };
+      yields = same;
+    })
+
+-- an answer depends on no more of the bytes than is read of them
+again : (command : Command) (bytes : List ℕ) (answer : Answer) → Answers command [] answer
+    → read_by command [] ≡ read_by command bytes → Answers command bytes answer
+again command bytes answer answers same =
+    let parts = input_parts_of command in
+    elim answers [
+      | inl refused ↦ inl (
+        refused.0,
+        elim refused.1 [
+          | inl none ↦
+              inl (subst (λ (read : List ℕ). IsNoInput parts read refused.0) same none)
+          | inr found ↦ inr (
+            found.0,
+            subst (λ (read : List ℕ). IsInput parts read found.0) same found.1,
+            found.2,
+          )
+        ],
+        refused.2,
+      )
+      | inr works ↦
+          inr (record {
+            input = works.input;
+            is = subst (λ (read : List ℕ). IsInput parts read works.input) same works.is;
+            takes = works.takes;
+            yields = works.yields;
+          })
+    ]
+
+-- a command that reads nothing has the same answer to all bytes
+pub unread_answers : (command : Command) (bytes : List ℕ) (answer : Answer)
+    → reads command ≡ false → Answers command [] answer → Answers command bytes answer
+unread_answers (With task scheme) bytes answer none answers = absurd (cc)
+unread_answers (ByRules task) bytes answer none answers = absurd (cc)
+unread_answers (Trial nodes seed) bytes answer none answers = again (Trial nodes seed) bytes answer answers refl
+unread_answers (Print name) bytes answer none answers = again (Print name) bytes answer answers refl
+
 -- the command of the words is one
 pub same_command : (words : List (List ℕ)) (command other : Command) (bytes : List ℕ)
     (answer : Answer) → IsCommand words command → IsCommand words other
@@ -88,26 +140,26 @@ same_command words command other bytes answer is is_other answers =
     (one_command words command other is is_other) answers
 
 -- what is no input is answered so
-pub answered_by_refusal : {E : Type 0} (task : Task) (scheme : Expression) (bytes : List ℕ)
+pub answered_by_refusal : {E : Type 0} (command : Command) (bytes : List ℕ)
     (error : TextError) (r : Result Answer E)
-    → (error ≢ NoMemory → IsNoInput (input_parts_of (With task scheme)) bytes error)
+    → (error ≢ NoMemory → IsNoInput (input_parts_of command) (read_by command bytes) error)
     → IfOk r (λ answer. answer ≡ refusal error) → OnOk r (error ≢ NoMemory)
-    → IfOk r (λ answer. Answers (With task scheme) bytes answer)
-answered_by_refusal task scheme bytes error (Ok answer) refused says some =
-    refused_answer (With task scheme) bytes error answer (inl (refused some)) says
-answered_by_refusal task scheme bytes error (Err e) refused says some = tt
+    → IfOk r (λ answer. Answers command bytes answer)
+answered_by_refusal command bytes error (Ok answer) refused says some =
+    refused_answer command bytes error answer (inl (refused some)) says
+answered_by_refusal command bytes error (Err e) refused says some = tt
 
 -- so is an input whose network is not one whole
-pub answered_apart : {E : Type 0} (task : Task) (scheme : Expression) (bytes : List ℕ)
+pub answered_apart : {E : Type 0} (command : Command) (bytes : List ℕ)
     (input : Input) (error : TextError) (r : Result Answer E)
-    → Reads (With task scheme) bytes input
+    → Reads command bytes input
     → (error ≢ NoMemory → IsApart (rows_in input) error)
     → IfOk r (λ answer. answer ≡ refusal error) → OnOk r (error ≢ NoMemory)
-    → IfOk r (λ answer. Answers (With task scheme) bytes answer)
-answered_apart task scheme bytes input error (Ok answer) is apart says some =
-    refused_answer (With task scheme) bytes error answer
+    → IfOk r (λ answer. Answers command bytes answer)
+answered_apart command bytes input error (Ok answer) is apart says some =
+    refused_answer command bytes error answer
     (inr (input, is, inl (apart some))) says
-answered_apart task scheme bytes input error (Err e) is apart says some = tt
+answered_apart command bytes input error (Err e) is apart says some = tt
 
 -- the answer to a refusal is told
 pub tells_refusal : (words : List (List ℕ)) (command : Command) (bytes : List ℕ) (error : TextError)
@@ -154,7 +206,7 @@ ends_so answer other same ends =
 -- what a command answers to an input is `Done` or `No`
 yields_end : (command : Command) (input : Input) (answer : Answer) → Yields command input answer
     → IsJudged answer.status
-yields_end (With Mark scheme) input answer yields = elim yields [
+yields_end (With (Mark code) scheme) input answer yields = elim yields [
   | inl marked ↦ inl (ap (λ (answer : Answer). answer.status) marked.3)
   | inr fails ↦ inr (ap (λ (answer : Answer). answer.status) fails.1)
 ]
@@ -165,9 +217,17 @@ yields_end (With (Simulate json) scheme) input answer yields =
     (report_ends (all_accept (outcomes_in (With (Simulate json) scheme) input)))
 yields_end (With Recheck scheme) input answer yields =
     ends_so answer _ yields.2 (report_ends (ends_well yields.0))
-yields_end (With Bound scheme) input answer yields =
+yields_end (With (Bound code) scheme) input answer yields =
+    inl (ap (λ (answer : Answer). answer.status) yields)
+yields_end (With Convert scheme) input answer yields =
     inl (ap (λ (answer : Answer). answer.status) yields)
 yields_end (Trial nodes seed) input answer yields = inl yields.ends
+yields_end (ByRules (Judge json)) input answer yields =
+    ends_so answer _ yields (report_ends (all_accept (outcomes_in (ByRules (Judge json)) input)))
+yields_end (ByRules Code) input answer yields =
+    inl (ap (λ (answer : Answer). answer.status) yields)
+yields_end (Print name) input answer yields =
+    inl (ap (λ (answer : Answer). answer.status) yields)
 
 -- `Done` and `No` are no refusals
 no_refusal : (status : Status) → IsJudged status → IsRefusalStatus status → ⊥

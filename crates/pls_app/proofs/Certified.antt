@@ -1,5 +1,5 @@
 -- Labels that `mark` wrote are read back with their network.
-use Rattle.std.proofs.Common.{◌≡◌, ◌∙◌, ℕ, ◌*◌, ◌≤◌, inl, inr, Bool, false, List, [], ◌∷◌, ◌++◌, length, All, Option, Some, None, append-nil, ap, subst, refl, sym, arith}
+use Rattle.std.proofs.Common.{◌≡◌, ◌∙◌, ℕ, ◌*◌, ◌≤◌, inl, inr, Bool, true, false, List, [], ◌∷◌, ◌++◌, length, All, Option, Some, None, append-nil, ap, subst, refl, sym, arith}
 use Rattle.std.specs.Option.{unwrap_or}
 use Rattle.std.proofs.Math.Nat.{suc-mul}
 use Rattle.std.proofs.lemmas.List.{length-map}
@@ -16,18 +16,21 @@ use Rattle.pls_netfile.specs.NetworkText.{AreRows, network_lines, network_text}
 use Rattle.pls_view.specs.Labels.{bits_together}
 use Rattle.pls_labelfile.specs.LabelsText.{AreLabels, labels_lines, named}
 use Rattle.pls_labelfile.specs.LabelsScan.{total_bits}
+use Rattle.pls_labelfile.proofs.LabelsPart.{either_may}
 use Rattle.pls_labelfile.proofs.Named.{named_no_misfit, net_labels_fit, total_bits-named}
 use Rattle.pls_property.specs.Expression.{Expression}
 use Rattle.pls_schedule.specs.ScheduleText.{AreEvents, schedule_lines}
 use Rattle.pls_edits.specs.EditsText.{AreEdits, edits_lines}
-use Rattle.pls_inputs.specs.Parts.{Has, Input, input_lines, parts_with_labels, lines_of, net_labels_text, network, rows_in, with_labels}
+use Rattle.pls_rules_part.specs.RulesText.{AreRulesSaid, rules_lines}
+use Rattle.pls_inputs.specs.declared.parts.Parts.{Parts}
+use Rattle.pls_inputs.specs.Parts.{Has, Input, input_lines, parts_with_labels, lines_of, net_labelling, net_labels_text, network, rows_in, with_labels}
 use Rattle.pls_inputs.specs.Order.{IsInput, over, refusals}
 use Rattle.pls_inputs.proofs.Facts.{IsReadable, readable, there}
 use Rattle.pls_inputs.proofs.WithinLimits.{few_of, within}
-use Rattle.pls_app.specs.declared.code_name.CodeName.TheVariants.{Gamma}
+use Rattle.pls_bits.specs.declared.code_name.CodeName.{CodeName}
 use Rattle.pls_app.specs.declared.command.Command.TheVariants.{With}
 use Rattle.pls_app.specs.declared.command.Task.{Task}
-use Rattle.pls_app.specs.declared.command.Task.TheVariants.{Mark, Verify, Simulate, Recheck, Bound}
+use Rattle.pls_app.specs.declared.command.Task.TheVariants.{Mark, Verify, Simulate, Recheck, Bound, Convert}
 use Rattle.pls_app.specs.Command.{input_parts_of}
 use Rattle.pls_app.specs.Meant.{Shows, bound_in, room_in}
 use Rattle.pls_app.specs.Said.{Answer}
@@ -51,11 +54,11 @@ together_short most (label ∷ labels) short =
     )
 
 -- marked labels that are not refused have few bits together
-marked_few : (scheme : Expression) (rows : List NodeRow) (labels : List (List Bool))
-    → over Labels MAX_BITS (room_in Gamma scheme rows) ≡ None → Shows Gamma scheme rows labels
+marked_few : (code : CodeName) (scheme : Expression) (rows : List NodeRow) (labels : List (List Bool))
+    → over Labels MAX_BITS (room_in code scheme rows) ≡ None → Shows code scheme rows labels
     → bits_together labels ≤ MAX_BITS
-marked_few scheme rows labels accepted shows =
-    let longest : ℕ = bound_in Gamma scheme rows in
+marked_few code scheme rows labels accepted shows =
+    let longest : ℕ = bound_in code scheme rows in
     let each : All (λ label. length label ≤ longest) labels =
     λ place other within. omega (arith, shows.short place other within) in
     let few = few_of Labels MAX_BITS (length rows * longest) accepted in
@@ -63,16 +66,21 @@ marked_few scheme rows labels accepted shows =
     ap (λ (count : ℕ). count * longest) shows.each in
     omega (arith, together_short longest labels each, few, many)
 
+-- a network with labels of its nodes, and nothing more
+abbrev pub labelled : CodeName → List NodeRow → List (List Bool) → Input
+labelled code rows labels = record {
+  network = Some rows;
+  labels = Some (net_labelling code rows labels);
+  schedule = None;
+  edits = None;
+  rules = None;
+}
+
 -- nothing refuses a network with its labels
-labelled_accepted : (rows : List NodeRow) (labels : List (List Bool)) → IsReadable rows
+labelled_accepted : (code : CodeName) (rows : List NodeRow) (labels : List (List Bool)) → IsReadable rows
     → length labels ≡ length rows → bits_together labels ≤ MAX_BITS
-    → first_of (refusals (record {
-      network = Some rows;
-      labels = Some (named (ids_of rows) labels);
-      schedule = None;
-      edits = None;
-    })) ≡ None
-labelled_accepted rows labels known each small =
+    → first_of (refusals (labelled code rows labels)) ≡ None
+labelled_accepted code rows labels known each small =
     let ids : List ℕ = ids_of rows in
     let many : length labels ≡ length ids =
     each ∙ sym (length-map rows (λ (row : NodeRow). row.id)) in
@@ -85,75 +93,103 @@ labelled_accepted rows labels known each small =
       named_no_misfit ids labels many,
     ) refl
 
--- the text of a network and the labels that show its property are an input
-marked_input : (scheme : Expression) (bytes : List ℕ) (input : Input) (labels : List (List Bool))
-    → IsInput network bytes input
-    → over Labels MAX_BITS (room_in Gamma scheme (rows_in input)) ≡ None
-    → Shows Gamma scheme (rows_in input) labels
-    → IsInput parts_with_labels (bytes ++ net_labels_text (rows_in input) labels) (with_labels input labels)
-marked_input scheme bytes input labels is accepted shows =
+-- its text is an input, where the labels have few bits together
+labelled_input : (code : CodeName) (rows : List NodeRow) (labels : List (List Bool))
+    → IsReadable rows → length labels ≡ length rows → bits_together labels ≤ MAX_BITS
+    → IsInput parts_with_labels (network_text rows ++ net_labels_text code rows labels)
+    (labelled code rows labels)
+labelled_input code rows labels known each small = record {
+  short = omega (arith, text_fits code rows labels known.network known.ranges small);
+  says = record {
+    has = record {
+      network = known.ranges;
+      labels = record {
+        fits = net_labels_fit rows labels known.ranges small;
+        code = either_may code;
+      };
+      schedule = tt;
+      edits = tt;
+      rules = tt;
+    };
+    is = sym (text_of-append (network_lines rows) (labels_lines (net_labelling code rows labels)))
+        ∙ ap (λ (behind : List (List ℕ)). text_of (network_lines rows ++ behind))
+        (sym (append-nil (labels_lines (net_labelling code rows labels))));
+  };
+  accepted = labelled_accepted code rows labels known each small;
+}
+
+-- a part that is not wanted is not there
+gone : {X : Type 0} (Fits : X → Type 0) (part : Option X) → Has false Fits part → part ≡ None
+gone Fits None has = refl
+gone Fits (Some value) has = absurd has
+
+-- an input that has a network and no more than its labels, with other labels
+pub relabelled : (parts : Parts) (bytes : List ℕ) (input : Input) → IsInput parts bytes input
+    → parts.network ≡ true → parts.schedule ≡ false → parts.edits ≡ false
+    → parts.rules ≡ false → (code : CodeName) (labels : List (List Bool)) → length labels ≡ length (rows_in input)
+    → bits_together labels ≤ MAX_BITS
+    → IsInput parts_with_labels
+    (network_text (rows_in input) ++ net_labels_text code (rows_in input) labels)
+    (with_labels code input labels)
+relabelled parts bytes input is wanted unscheduled unedited unruled code labels each small =
     let rows : List NodeRow = rows_in input in
-    let known = readable network bytes input is refl in
-    let small = marked_few scheme rows labels accepted shows in
+    let found = there AreRows input.network
+    (subst (λ (wanted : Bool). Has wanted AreRows input.network) wanted is.says.has.network) in
+    let of_network : input.network ≡ Some rows = found.1
+    ∙ ap Some (sym (ap (λ (network : Option (List NodeRow)). unwrap_or network []) found.1)) in
+    let no_schedule : input.schedule ≡ None = gone AreEvents input.schedule
+    (subst (λ (wanted : Bool). Has wanted AreEvents input.schedule) unscheduled
+    is.says.has.schedule) in
+    let no_edits : input.edits ≡ None = gone AreEdits input.edits
+    (subst (λ (wanted : Bool). Has wanted AreEdits input.edits) unedited is.says.has.edits) in
+    let no_rules : input.rules ≡ None = gone AreRulesSaid input.rules
+    (subst (λ (wanted : Bool). Has wanted AreRulesSaid input.rules) unruled is.says.has.rules) in
+    let same : with_labels code input labels ≡ labelled code rows labels = λ i. record {
+      network = of_network i;
+      labels = Some (net_labelling code rows labels);
+      schedule = no_schedule i;
+      edits = no_edits i;
+      rules = no_rules i;
+    } in
+    subst (IsInput parts_with_labels (network_text rows ++ net_labels_text code rows labels))
+    (sym same)
+    (labelled_input code rows labels (readable parts bytes input is wanted) each small)
+
+-- the text of a network and the labels that show its property are an input
+marked_input : (code : CodeName) (scheme : Expression) (bytes : List ℕ) (input : Input)
+    (labels : List (List Bool)) → IsInput network bytes input
+    → over Labels MAX_BITS (room_in code scheme (rows_in input)) ≡ None
+    → Shows code scheme (rows_in input) labels
+    → IsInput parts_with_labels (bytes ++ net_labels_text code (rows_in input) labels)
+    (with_labels code input labels)
+marked_input code scheme bytes input labels is accepted shows =
+    let rows : List NodeRow = rows_in input in
+    let small = marked_few code scheme rows labels accepted shows in
     let found = there AreRows input.network is.says.has.network in
     let of_network : input.network ≡ Some rows = found.1
     ∙ ap Some (sym (ap (λ (network : Option (List NodeRow)). unwrap_or network []) found.1)) in
-    let no_labels : input.labels ≡ None = gone AreLabels input.labels is.says.has.labels in
+    let no_labels : input.labels ≡ None = gone (AreLabels false) input.labels is.says.has.labels in
     let no_schedule : input.schedule ≡ None = gone AreEvents input.schedule is.says.has.schedule in
     let no_edits : input.edits ≡ None = gone AreEdits input.edits is.says.has.edits in
-    let whole : Input = record {
-      network = Some rows;
-      labels = Some (named (ids_of rows) labels);
-      schedule = None;
-      edits = None;
-    } in
-    let same : with_labels input labels ≡ whole = λ i. record {
-      network = of_network i;
-      labels = Some (named (ids_of rows) labels);
-      schedule = no_schedule i;
-      edits = no_edits i;
-    } in
+    let no_rules : input.rules ≡ None = gone AreRulesSaid input.rules is.says.has.rules in
     let alone : input_lines input ≡ network_lines rows = (λ i.
     lines_of network_lines (of_network i) ++ (lines_of labels_lines (no_labels i)
-    ++ (lines_of schedule_lines (no_schedule i) ++ lines_of edits_lines (no_edits i))))
+    ++ (lines_of schedule_lines (no_schedule i) ++ (lines_of edits_lines (no_edits i)
+    ++ lines_of rules_lines (no_rules i)))))
     ∙ append-nil (network_lines rows) in
     let front : bytes ≡ network_text rows = is.says.is ∙ ap text_of alone in
-    let text : List ℕ = net_labels_text rows labels in
-    let both : bytes ++ text ≡ network_text rows ++ text =
-    ap (λ (front : List ℕ). front ++ text) front in
-    subst (IsInput parts_with_labels (bytes ++ text)) (sym same) (record {
-      short = omega (
-        arith,
-        ap (length {A = ℕ}) both,
-        text_fits rows labels known.network known.ranges small,
-      );
-      says = record {
-        has = record {
-          network = known.ranges;
-          labels = net_labels_fit rows labels known.ranges small;
-          schedule = tt;
-          edits = tt;
-        };
-        is = both
-            ∙ sym (text_of-append (network_lines rows) (labels_lines (named (ids_of rows) labels)))
-            ∙ ap (λ (behind : List (List ℕ)). text_of (network_lines rows ++ behind))
-            (sym (append-nil (labels_lines (named (ids_of rows) labels))));
-      };
-      accepted = labelled_accepted rows labels known shows.each small;
-    })
-  where
-    gone : {X : Type 0} (Fits : X → Type 0) (part : Option X) → Has false Fits part → part ≡ None
-    gone Fits None has = refl
-    gone Fits (Some value) has = absurd has
+    subst (λ (front : List ℕ). IsInput parts_with_labels
+    (front ++ net_labels_text code rows labels) (with_labels code input labels)) (sym front)
+    (relabelled network bytes input is refl refl refl refl code labels shows.each small)
 
 -- what `mark` answered certifies the text of the network
-pub certified : (scheme : Expression) (bytes : List ℕ) (input : Input) (answer : Answer)
-    → IsInput network bytes input → Does (With Mark scheme) input answer
-    → ShowsIn scheme (rows_in input) answer.text → answer.status ≡ Done
-    → Certifies scheme bytes answer.text
-certified scheme bytes input answer is does shown done =
+pub certified : (code : CodeName) (scheme : Expression) (bytes : List ℕ) (input : Input) (answer : Answer)
+    → IsInput network bytes input → Does (With (Mark code) scheme) input answer
+    → ShowsIn code scheme (rows_in input) answer.text → answer.status ≡ Done
+    → Certifies code scheme bytes answer.text
+certified code scheme bytes input answer is does shown done =
     let rows : List NodeRow = rows_in input in
-    let accepted : over Labels MAX_BITS (room_in Gamma scheme rows) ≡ None = elim does [
+    let accepted : over Labels MAX_BITS (room_in code scheme rows) ≡ None = elim does [
       | inl refused ↦
           absurd (refused_not_done refused.0
           (sym (ap (λ (answer : Answer). answer.status) refused.2) ∙ done))
@@ -167,18 +203,21 @@ certified scheme bytes input answer is does shown done =
       text_is = shown.is;
       read_back =
           subst (λ (text : List ℕ). IsInput parts_with_labels (bytes ++ text)
-          (with_labels input shown.labels)) (sym shown.is)
-          (marked_input scheme bytes input shown.labels is accepted shown.shows);
+          (with_labels code input shown.labels)) (sym shown.is)
+          (marked_input code scheme bytes input shown.labels is accepted shown.shows);
     }
 
 -- so it is where the task is `mark`
-pub certified_mark : (task : Task) (scheme : Expression) (bytes : List ℕ) (input : Input)
-    (answer : Answer) → task ≡ Mark → IsInput (input_parts_of (With task scheme)) bytes input
-    → Does (With task scheme) input answer → ShowsIn scheme (rows_in input) answer.text
-    → answer.status ≡ Done → Certifies scheme bytes answer.text
-certified_mark Mark scheme bytes input answer task is does shown done =
-    certified scheme bytes input answer is does shown done
-certified_mark (Verify json) scheme bytes input answer task is does shown done = absurd (cc)
-certified_mark (Simulate json) scheme bytes input answer task is does shown done = absurd (cc)
-certified_mark Recheck scheme bytes input answer task is does shown done = absurd (cc)
-certified_mark Bound scheme bytes input answer task is does shown done = absurd (cc)
+pub certified_mark : (task : Task) (code : CodeName) (scheme : Expression) (bytes : List ℕ) (input : Input)
+    (answer : Answer) → task ≡ Mark code → IsInput (input_parts_of (With task scheme)) bytes input
+    → Does (With task scheme) input answer → ShowsIn code scheme (rows_in input) answer.text
+    → answer.status ≡ Done → Certifies code scheme bytes answer.text
+certified_mark (Mark other) code scheme bytes input answer task is does shown done =
+    let same : other ≡ code = cc in
+    certified code scheme bytes input answer is
+    (subst (λ (code : CodeName). Does (With (Mark code) scheme) input answer) same does) shown done
+certified_mark (Verify json) code scheme bytes input answer task is does shown done = absurd (cc)
+certified_mark (Simulate json) code scheme bytes input answer task is does shown done = absurd (cc)
+certified_mark Recheck code scheme bytes input answer task is does shown done = absurd (cc)
+certified_mark Convert code scheme bytes input answer task is does shown done = absurd (cc)
+certified_mark (Bound other) code scheme bytes input answer task is does shown done = absurd (cc)

@@ -4,6 +4,8 @@ use Rattle.std.proofs.lemmas.Bool.Decides.{nat_tests}
 use Rattle.std.proofs.lemmas.Option.{same_Some}
 use Rattle.std.proofs.lemmas.Slice.Eq.{bytes_eq-Decides}
 use Rattle.pls_words.specs.Words.{Said, said_by_words}
+use Rattle.pls_words.specs.declared.given.Flag.{Flag}
+use Rattle.pls_words.specs.declared.given.Flag.TheVariants.{Bare, Coded, Json}
 use Rattle.pls_scheme_text.specs.declared.scheme_error.SchemeError.{SchemeError}
 use Rattle.pls_property.specs.Expression.{Expression, IsSmall}
 use Rattle.pls_scheme_text.specs.ExpressionText.{IsNoScheme, expression_text}
@@ -12,9 +14,12 @@ use Rattle.pls_scheme_text.proofs.Refusals.{kept_text, refused_text}
 use Rattle.pls_model.specs.declared.limits.TheConstants.{MAX_NODES}
 use Rattle.pls_app.specs.declared.trial_words.TheConstants.{MAX_SEED}
 use Rattle.pls_app.specs.declared.command.Command.{Command}
-use Rattle.pls_app.specs.declared.command.Command.TheVariants.{With, Trial}
+use Rattle.pls_app.specs.declared.command.Command.TheVariants.{ByRules, Print, Trial, With}
 use Rattle.pls_app.specs.declared.command.Task.{Task}
-use Rattle.pls_app.specs.Command.{IsCommandOrNot, IsSaid, task_named}
+use Rattle.pls_app.specs.declared.command.RuleTask.{RuleTask}
+use Rattle.pls_names.specs.declared.scheme_name.SchemeName.{SchemeName}
+use Rattle.pls_app.specs.Command.{IsCommandOrNot, IsSaid, printed_said, rule_task_said, task_named}
+use Rattle.pls_app.proofs.Commands.{not_said}
 use Rattle.pls_app.specs.TrialWords.{trial_word}
 
 -- some number up to a bound passes a test, or none does
@@ -89,9 +94,9 @@ module _ (said : Said) (word : List ℕ) (argued : said.argument ≡ Some word) 
   -- a task with a scheme, or none
   task_or_not : ((command : Command) × IsSaid said command)
       ⊎ ((task : Task) (scheme : Expression) → IsSaid said (With task scheme) → ⊥)
-  task_or_not = by (task_named said.command said.json) refl (schemed word)
+  task_or_not = by (task_named said.command said.flag) refl (schemed word)
     where
-      by : (named : Option Task) → task_named said.command said.json ≡ named
+      by : (named : Option Task) → task_named said.command said.flag ≡ named
           → ((scheme : Expression) × IsSmall scheme × (word ≡ expression_text scheme))
           ⊎ IsNoScheme word
           → ((command : Command) × IsSaid said command)
@@ -107,32 +112,34 @@ module _ (said : Said) (word : List ℕ) (argued : said.argument ≡ Some word) 
   trial_or_not : ((command : Command) × IsSaid said command)
       ⊎ ((nodes seed : ℕ) → IsSaid said (Trial nodes seed) → ⊥)
   trial_or_not =
-      by (bytes_eq said.command (codes "trial")) said.json refl refl (tried word MAX_NODES MAX_SEED)
+      by (bytes_eq said.command (codes "trial")) said.flag refl refl (tried word MAX_NODES MAX_SEED)
     where
-      by : (is_trial json : Bool) → bytes_eq said.command (codes "trial") ≡ is_trial
-          → said.json ≡ json
+      by : (is_trial : Bool) (flag : Flag) → bytes_eq said.command (codes "trial") ≡ is_trial
+          → said.flag ≡ flag
           → ((nodes : ℕ) × (nodes ≤ MAX_NODES)
           × ((seed : ℕ) × (seed ≤ MAX_SEED) × Tries word nodes seed))
           ⊎ ((nodes : ℕ) → nodes ≤ MAX_NODES
           → ((seed : ℕ) × (seed ≤ MAX_SEED) × Tries word nodes seed) → ⊥)
           → ((command : Command) × IsSaid said command)
           ⊎ ((nodes seed : ℕ) → IsSaid said (Trial nodes seed) → ⊥)
-      by false json is lines found = inr (λ nodes seed trial.
+      by false flag is bare found = inr (λ nodes seed trial.
           let other : false ≡ true =
           sym is ∙ (bytes_eq-Decides said.command (codes "trial")).1 trial.command in absurd (cc))
-      by true true is lines found = inr (λ nodes seed trial.
-          let other : true ≡ false = sym lines ∙ trial.lines in absurd (cc))
-      by true false is lines (inl found) =
+      by true Json is bare found = inr (λ nodes seed trial.
+          let other : Json ≡ Bare = sym bare ∙ trial.bare in absurd (cc))
+      by true (Coded code) is bare found = inr (λ nodes seed trial.
+          let other : Coded code ≡ Bare = sym bare ∙ trial.bare in absurd (cc))
+      by true Bare is bare (inl found) =
           let seed = found.2 in inl (
             Trial found.0 seed.0,
             record {
               command = (bytes_eq-Decides said.command (codes "trial")).0 is;
               argument = argued ∙ ap Some seed.2.2;
-              lines = lines;
+              bare = bare;
               size = record { some = seed.2.0; few = found.1; first = seed.2.1; last = seed.1 };
             },
           )
-      by true false is lines (inr none) = inr (λ nodes seed trial.
+      by true Bare is bare (inr none) = inr (λ nodes seed trial.
           none nodes trial.size.few (
             seed,
             trial.size.last,
@@ -143,29 +150,39 @@ module _ (said : Said) (word : List ℕ) (argued : said.argument ≡ Some word) 
             ),
           ))
 
+-- a task with a rule set, or a rule set to be printed, or neither
+ruled_or_not : (said : Said) → ((command : Command) × IsSaid said command)
+    ⊎ ((rule_task_said said ≡ None) × (printed_said said ≡ None))
+ruled_or_not said = by (rule_task_said said) (printed_said said) refl refl
+  where
+    by : (task : Option RuleTask) (name : Option SchemeName) → rule_task_said said ≡ task
+        → printed_said said ≡ name → ((command : Command) × IsSaid said command)
+        ⊎ ((rule_task_said said ≡ None) × (printed_said said ≡ None))
+    by (Some task) name is prints = inl (ByRules task, is)
+    by None (Some name) is prints = inl (Print name, prints)
+    by None None is prints = inr (is, prints)
+
 -- what was said is a command, or is none
 said_or_not : (said : Said)
     → ((command : Command) × IsSaid said command) ⊎ ((command : Command) → IsSaid said command → ⊥)
-said_or_not said = by said.argument refl
+said_or_not said = elim (ruled_or_not said) [
+  | inl found ↦ inl found
+  | inr none ↦ by none said.argument refl
+]
   where
-    none : ((task : Task) (scheme : Expression) → IsSaid said (With task scheme) → ⊥)
-        → ((nodes seed : ℕ) → IsSaid said (Trial nodes seed) → ⊥)
-        → (command : Command) → IsSaid said command → ⊥
-    none no_task no_trial (With task scheme) is = no_task task scheme is
-    none no_task no_trial (Trial nodes seed) is = no_trial nodes seed is
-
-    by : (argument : Option (List ℕ)) → said.argument ≡ argument
+    by : (rule_task_said said ≡ None) × (printed_said said ≡ None) → (argument : Option (List ℕ))
+        → said.argument ≡ argument
         → ((command : Command) × IsSaid said command)
         ⊎ ((command : Command) → IsSaid said command → ⊥)
-    by None argued = inr (none (λ task scheme is.
+    by none None argued = inr (not_said said none.0 none.1 (λ task scheme is.
         let other : None ≡ Some (expression_text scheme) = sym argued ∙ is.1 in cc)
         (λ nodes seed is.
         let other : None ≡ Some (trial_word nodes seed) = sym argued ∙ is.argument in cc))
-    by (Some word) argued = elim (task_or_not said word argued) [
+    by none (Some word) argued = elim (task_or_not said word argued) [
       | inl found ↦ inl found
       | inr no_task ↦ elim (trial_or_not said word argued) [
         | inl found ↦ inl found
-        | inr no_trial ↦ inr (none no_task no_trial)
+        | inr no_trial ↦ inr (not_said said none.0 none.1 no_task no_trial)
       ]
     ]
 

@@ -12,8 +12,7 @@ use Rattle.pls_edits.specs.declared.edit_line.EditLine.TheVariants.{Round}
 use Rattle.pls_edits.specs.EditsText.{AreEdits}
 use Rattle.pls_edits.specs.inner.Tally.{is_closed}
 use Rattle.pls_edits.proofs.Counted.{are_closed}
-use Rattle.pls_inputs.specs.Parts.{Input, edits_in, labels_in, rows_in}
-use Rattle.pls_app.specs.declared.code_name.CodeName.TheVariants.{Gamma}
+use Rattle.pls_inputs.specs.Parts.{Input, code_in, edits_in, labels_in, rows_in}
 use Rattle.pls_app.specs.Meant.{Holds, judge_in}
 use Rattle.pls_base.specs.declared.text_error.TextError.{TextError}
 use Rattle.pls_base.specs.declared.text_error.TextError.TheVariants.{Sense}
@@ -44,15 +43,15 @@ all_played judge input mid now first reports old asked new one others =
 
 module _ (scheme : Expression) (input : Input) (now : Situation) (reports : List Report)
     (old new : ℕ)
-    (played : AddsReports (judge_in Gamma scheme) (begun input) now [] reports
+    (played : AddsReports (judge_in (code_in input) scheme) (begun input) now [] reports
     (Round ∷ (edits_in input)) old new) where
   -- these are the reports of the input
-  pub are_reports : ReportInput (judge_in Gamma scheme) input reports
+  pub are_reports : ReportInput (judge_in (code_in input) scheme) input reports
   are_reports =
-      subst (ReportInput (judge_in Gamma scheme) input) (sym played.added) played.are
+      subst (ReportInput (judge_in (code_in input) scheme) input) (sym played.added) played.are
 
   -- and the bench was asked once for each node that they say was checked
-  pub are_asked : (reports : List Report) × ReportInput (judge_in Gamma scheme) input reports
+  pub are_asked : (reports : List Report) × ReportInput (judge_in (code_in input) scheme) input reports
       × (new ≡ up_by (checked_in reports) old)
   are_asked = (
     reports,
@@ -64,7 +63,7 @@ module _ (scheme : Expression) (input : Input) (now : Situation) (reports : List
   pub all_well : AreEdits (edits_in input) → IsNetwork now.rows → length now.labels ≡ length now.rows
       → ends_well reports ≡ true → Holds scheme (edited_by (edits_in input) (rows_in input))
   all_well edits network each well =
-      let judge = judge_in Gamma scheme in
+      let judge = judge_in (code_in input) scheme in
       let ends : EndsIn judge (behind_all (Round ∷ (edits_in input)) (begun input)) =
       ends_so judge Round (edits_in input) (begun input) 0 reports
       (round_first (edits_in input) (are_closed (edits_in input) edits)) are_reports well in
@@ -72,7 +71,7 @@ module _ (scheme : Expression) (input : Input) (now : Situation) (reports : List
       let rows : now.rows ≡ edited_by (edits_in input) (rows_in input) =
       ap (λ (now : Situation). now.rows) played.is ∙ rows_after (Round ∷ (edits_in input)) (begun input) in
       subst (Holds scheme) rows
-      (round_holds scheme now.rows now.labels network here.connected each here.accepted)
+      (round_holds (code_in input) scheme now.rows now.labels network here.connected each here.accepted)
 
   -- so the answer with the reports says
   pub all_found : AreEdits (edits_in input) → IsNetwork now.rows → length now.labels ≡ length now.rows

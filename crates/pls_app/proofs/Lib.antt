@@ -5,6 +5,8 @@ pub mod OneRefusal
 pub mod OneAnswer
 pub mod Answered
 pub mod Proved
+pub mod NamedSets
+pub mod InWords
 pub mod TextLengths
 pub mod Certified
 pub mod Told
@@ -17,6 +19,8 @@ pub mod Trials
 pub mod Rounds
 pub mod RoundsWritten
 pub mod Lonely
+pub mod Converts
+pub mod Conversions
 pub mod Worked
 pub mod Decided
 pub mod Verified

@@ -7,14 +7,15 @@ use Rattle.pls_trial.specs.Generator.{trial_of}
 use Rattle.pls_property.specs.Expression.{Expression}
 use Rattle.pls_combine.specs.laws.ExpressionLaws.{expression_marked_once}
 use Rattle.pls_edits.specs.declared.edit_line.EditLine.TheVariants.{Round}
-use Rattle.pls_inputs.specs.Parts.{Input, edits_in, rows_in}
+use Rattle.pls_inputs.specs.Parts.{Input, code_in, edits_in, rows_in}
 use Rattle.pls_inputs.proofs.Facts.{readable}
 use Rattle.pls_inputs.proofs.OneInput.{one_input}
-use Rattle.pls_app.specs.declared.code_name.CodeName.{CodeName}
-use Rattle.pls_app.specs.declared.code_name.CodeName.TheVariants.{Gamma}
+use Rattle.pls_bits.specs.declared.code_name.CodeName.{CodeName}
+use Rattle.pls_bits.specs.declared.code_name.CodeName.TheVariants.{Gamma}
+use Rattle.pls_app.specs.declared.command.RuleTask.TheVariants.{Code, Judge}
 use Rattle.pls_app.specs.declared.command.Command.{Command}
-use Rattle.pls_app.specs.declared.command.Command.TheVariants.{With, Trial}
-use Rattle.pls_app.specs.declared.command.Task.TheVariants.{Mark, Verify, Simulate, Recheck, Bound}
+use Rattle.pls_app.specs.declared.command.Command.TheVariants.{ByRules, Print, Trial, With}
+use Rattle.pls_app.specs.declared.command.Task.TheVariants.{Mark, Verify, Simulate, Recheck, Bound, Convert}
 use Rattle.pls_app.specs.Command.{input_parts_of, read_by}
 use Rattle.pls_app.specs.Meant.{number_code_of, judge_in}
 use Rattle.pls_app.specs.Reports.{begun}
@@ -32,7 +33,7 @@ one_mark : (code : CodeName) (scheme : Expression) (rows : List NodeRow) (answer
 one_mark code scheme rows answer other network one two = elim one [
   | inl mine ↦ elim two [
     | inl theirs ↦
-        mine.3 ∙ ap (labels_answer rows)
+        mine.3 ∙ ap (labels_answer code rows)
         (expression_marked_once (number_code_of code) scheme rows mine.0 theirs.0 network mine.1.joined
         mine.1.has mine.2 theirs.2) ∙ sym theirs.3
     | inr fails ↦ absurd (fails.0.lacks mine.1.has)
@@ -60,18 +61,22 @@ one_tried nodes seed answer other one two =
 one_yield : (command : Command) (bytes : List ℕ) (input : Input) (answer other : Answer)
     → Reads command bytes input → Yields command input answer → Yields command input other
     → answer ≡ other
-one_yield (With Mark scheme) bytes input answer other is one two =
-    one_mark Gamma scheme (rows_in input) answer other
-    (readable (input_parts_of (With Mark scheme)) bytes input is refl).network one two
+one_yield (With (Mark code) scheme) bytes input answer other is one two =
+    one_mark code scheme (rows_in input) answer other
+    (readable (input_parts_of (With (Mark code) scheme)) bytes input is refl).network one two
 one_yield (With (Verify json) scheme) bytes input answer other is one two = one ∙ sym two
 one_yield (With (Simulate json) scheme) bytes input answer other is one two = one ∙ sym two
 one_yield (With Recheck scheme) bytes input answer other is one two =
-    let same = one_reports (judge_in Gamma scheme) (Round ∷ edits_in input) (begun input) 0 one.0
+    let same = one_reports (judge_in (code_in input) scheme) (Round ∷ edits_in input) (begun input) 0 one.0
     two.0 one.1 two.1 in
     one.2 ∙ ap reported same ∙ sym two.2
-one_yield (With Bound scheme) bytes input answer other is one two = one ∙ sym two
+one_yield (With (Bound code) scheme) bytes input answer other is one two = one ∙ sym two
+one_yield (With Convert scheme) bytes input answer other is one two = one ∙ sym two
 one_yield (Trial nodes seed) bytes input answer other is one two =
     one_tried nodes seed answer other one two
+one_yield (ByRules (Judge json)) bytes input answer other is one two = one ∙ sym two
+one_yield (ByRules Code) bytes input answer other is one two = one ∙ sym two
+one_yield (Print name) bytes input answer other is one two = one ∙ sym two
 
 -- a command on bytes has one answer
 one_of_command : (command : Command) (bytes : List ℕ) (answer other : Answer)

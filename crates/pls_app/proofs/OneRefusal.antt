@@ -17,20 +17,21 @@ use Rattle.pls_inputs.specs.Parts.{Has, Input, rows_in}
 use Rattle.pls_inputs.proofs.Facts.{readable}
 use Rattle.pls_inputs.proofs.OneInput.{no_refusal, one_input, one_refusal as one_no_input}
 use Rattle.pls_app.specs.declared.command.Command.{Command}
-use Rattle.pls_app.specs.declared.command.Command.TheVariants.{With, Trial}
+use Rattle.pls_app.specs.declared.command.Command.TheVariants.{With}
 use Rattle.pls_app.specs.declared.command.Task.{Task}
-use Rattle.pls_app.specs.declared.command.Task.TheVariants.{Mark, Verify, Simulate, Recheck, Bound}
+use Rattle.pls_app.specs.declared.command.Task.TheVariants.{Mark, Verify, Simulate, Recheck, Bound, Convert}
 use Rattle.pls_app.specs.Command.{input_parts_of, read_by}
 use Rattle.pls_app.specs.Answer.{IsRefused, Reads, RefusesInput, TakesInput}
 
 -- a task with a scheme reads a network
 pub wants_network : (task : Task) (scheme : Expression)
     → (input_parts_of (With task scheme)).network ≡ true
-wants_network Mark scheme = refl
+wants_network (Mark code) scheme = refl
 wants_network (Verify json) scheme = refl
 wants_network (Simulate json) scheme = refl
 wants_network Recheck scheme = refl
-wants_network Bound scheme = refl
+wants_network (Bound code) scheme = refl
+wants_network Convert scheme = refl
 
 -- the smallest node is a node
 smallest_in : (rows : List NodeRow) → IsNetwork rows → Contains (ids_of rows) (smallest_id rows)
@@ -67,12 +68,7 @@ one_apart rows id other one two = by (nat_lt id other) (nat_lt other id) refl re
 apart_is : (command : Command) (bytes : List ℕ) (input : Input) (id : ℕ)
     → Reads command bytes input → IsFirstApart (rows_in input) id
     → IsConnected (rows_in input) → ⊥
-apart_is (With task scheme) bytes input id is apart connected =
-    apart_from (rows_in input) id
-    (readable (input_parts_of (With task scheme)) bytes input is (wants_network task scheme)).network
-    apart connected
-apart_is (Trial nodes seed) bytes input id is apart connected =
-    no_node (rows_in input) id (none input.network is.says.has.network) apart.node
+apart_is command bytes input id is apart connected = by (input_parts_of command).network refl
   where
     none : (network : Option (List NodeRow)) → Has false AreRows network
         → unwrap_or network [] ≡ []
@@ -82,6 +78,17 @@ apart_is (Trial nodes seed) bytes input id is apart connected =
     no_node : (rows : List NodeRow) (id : ℕ) → rows ≡ [] → Contains (ids_of rows) id → ⊥
     no_node [] id empty among = omega (arith, among.1)
     no_node (row ∷ rows) id empty among = absurd (cc)
+
+    by : (wanted : Bool) → (input_parts_of command).network ≡ wanted → ⊥
+    by true wanted =
+        apart_from (rows_in input) id
+        (readable (input_parts_of command) (read_by command bytes) input is wanted).network
+        apart connected
+    by false unwanted =
+        no_node (rows_in input) id
+        (none input.network
+        (subst (λ (wanted : Bool). Has wanted AreRows input.network) unwanted is.says.has.network))
+        apart.node
 
 -- a command refuses an input in one way
 one_asked : (command : Command) (bytes : List ℕ) (input : Input) (error other : TextError)

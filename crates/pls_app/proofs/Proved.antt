@@ -20,20 +20,20 @@ use Rattle.pls_sim.specs.declared.outcome.Outcome.{Outcome}
 use Rattle.pls_sim.specs.declared.outcome.Outcome.TheVariants.{Decided}
 use Rattle.pls_sim.specs.Schedule.{outcome_after, outcome_of, played_by, unheard}
 use Rattle.pls_report.specs.Report.{all_accept, all_verdicts_accept, is_accepting}
-use Rattle.pls_bits.specs.Gamma.{gamma_code, gamma_takes}
 use Rattle.pls_bits.specs.NumberCode.{TakesOnly}
+use Rattle.pls_bits.specs.laws.DeltaLaws.{delta_takes-only}
 use Rattle.pls_bits.specs.laws.GammaLaws.{gamma_takes-only}
 use Rattle.pls_property.specs.Expression.{Expression}
 use Rattle.pls_combine.specs.laws.ExpressionLaws.{expression_sound}
-use Rattle.pls_inputs.specs.Parts.{Input, events_in, labels_in, rows_in}
+use Rattle.pls_inputs.specs.Parts.{Input, code_in, events_in, labels_in, rows_in}
 use Rattle.pls_inputs.proofs.Facts.{each, readable}
-use Rattle.pls_app.specs.declared.code_name.CodeName.{CodeName}
-use Rattle.pls_app.specs.declared.code_name.CodeName.TheVariants.{Gamma}
+use Rattle.pls_bits.specs.declared.code_name.CodeName.{CodeName}
+use Rattle.pls_bits.specs.declared.code_name.CodeName.TheVariants.{Delta, Gamma}
 use Rattle.pls_app.specs.declared.command.Command.{Command}
-use Rattle.pls_app.specs.declared.command.Command.TheVariants.{With, Trial}
-use Rattle.pls_app.specs.declared.command.Task.TheVariants.{Mark, Verify, Simulate, Recheck, Bound}
+use Rattle.pls_app.specs.declared.command.Command.TheVariants.{ByRules, Print, Trial, With}
+use Rattle.pls_app.specs.declared.command.Task.TheVariants.{Mark, Verify, Simulate, Recheck, Bound, Convert}
 use Rattle.pls_app.specs.Command.{Checks, input_parts_of, read_by}
-use Rattle.pls_app.specs.Meant.{Holds, judge_in}
+use Rattle.pls_app.specs.Meant.{Holds, judge_in, number_code_of, takes_of}
 use Rattle.pls_app.specs.Reports.{decided_by}
 use Rattle.pls_app.specs.Said.{Answer}
 use Rattle.pls_app.specs.Answer.{Answers, Yields, outcomes_in, refusal_status}
@@ -78,45 +78,54 @@ played_accept judge rows labels events all =
 -- the outcomes that a command reports all accept only where all nodes do
 all_judged : (scheme : Expression) (command : Command) (input : Input) → Checks scheme command
     → all_accept (outcomes_in command input) ≡ true
-    → AllAccept (judge_in Gamma scheme) (rows_in input) (labels_in input)
-all_judged scheme (With Mark other) input checks all = absurd checks
+    → AllAccept (judge_in (code_in input) scheme) (rows_in input) (labels_in input)
+all_judged scheme (With (Mark code) other) input checks all = absurd checks
 all_judged scheme (With (Verify json) other) input checks all =
-    subst (λ (scheme : Expression). AllAccept (judge_in Gamma scheme) (rows_in input)
+    subst (λ (scheme : Expression). AllAccept (judge_in (code_in input) scheme) (rows_in input)
     (labels_in input)) (sym checks)
-    (decided_accept (judge_in Gamma other) (rows_in input) (labels_in input) all)
+    (decided_accept (judge_in (code_in input) other) (rows_in input) (labels_in input) all)
 all_judged scheme (With (Simulate json) other) input checks all =
-    subst (λ (scheme : Expression). AllAccept (judge_in Gamma scheme) (rows_in input)
+    subst (λ (scheme : Expression). AllAccept (judge_in (code_in input) scheme) (rows_in input)
     (labels_in input)) (sym checks)
-    (played_accept (judge_in Gamma other) (rows_in input) (labels_in input) (events_in input) all)
+    (played_accept (judge_in (code_in input) other) (rows_in input) (labels_in input) (events_in input) all)
 all_judged scheme (With Recheck other) input checks all = absurd checks
-all_judged scheme (With Bound other) input checks all = absurd checks
+all_judged scheme (With (Bound code) other) input checks all = absurd checks
+all_judged scheme (With Convert other) input checks all = absurd checks
 all_judged scheme (Trial nodes seed) input checks all = absurd checks
+all_judged scheme (ByRules task) input checks all = absurd checks
+all_judged scheme (Print name) input checks all = absurd checks
 
 -- a command that checks labels reads a network and one label for each node
 wants_labels : (scheme : Expression) (command : Command) → Checks scheme command
     → ((input_parts_of command).network ≡ true) × ((input_parts_of command).labels ≡ true)
-wants_labels scheme (With Mark other) checks = absurd checks
+wants_labels scheme (With (Mark code) other) checks = absurd checks
 wants_labels scheme (With (Verify json) other) checks = (refl, refl)
 wants_labels scheme (With (Simulate json) other) checks = (refl, refl)
 wants_labels scheme (With Recheck other) checks = absurd checks
-wants_labels scheme (With Bound other) checks = absurd checks
+wants_labels scheme (With (Bound code) other) checks = absurd checks
+wants_labels scheme (With Convert other) checks = absurd checks
 wants_labels scheme (Trial nodes seed) checks = absurd checks
+wants_labels scheme (ByRules task) checks = absurd checks
+wants_labels scheme (Print name) checks = absurd checks
 
 -- and its status says whether all outcomes accept
 ends_by : (scheme : Expression) (command : Command) (input : Input) (answer : Answer)
     → Checks scheme command → Yields command input answer
     → answer.status ≡ (if all_accept (outcomes_in command input) then Done else No)
-ends_by scheme (With Mark other) input answer checks yields = absurd checks
+ends_by scheme (With (Mark code) other) input answer checks yields = absurd checks
 ends_by scheme (With (Verify json) other) input answer checks yields =
     ap (λ (answer : Answer). answer.status) yields
 ends_by scheme (With (Simulate json) other) input answer checks yields =
     ap (λ (answer : Answer). answer.status) yields
 ends_by scheme (With Recheck other) input answer checks yields = absurd checks
-ends_by scheme (With Bound other) input answer checks yields = absurd checks
+ends_by scheme (With (Bound code) other) input answer checks yields = absurd checks
+ends_by scheme (With Convert other) input answer checks yields = absurd checks
 ends_by scheme (Trial nodes seed) input answer checks yields = absurd checks
+ends_by scheme (ByRules task) input answer checks yields = absurd checks
+ends_by scheme (Print name) input answer checks yields = absurd checks
 
 -- `Done` says that all do, and `No` that some does not
-done_all : (all : Bool) → (if all then Done else No) ≡ Done → all ≡ true
+pub done_all : (all : Bool) → (if all then Done else No) ≡ Done → all ≡ true
 done_all true done = refl
 done_all false done = absurd (cc)
 
@@ -145,19 +154,20 @@ refused_not_judged error status same judged = elim judged [
   | inr ends ↦ refused_not_no error (sym same ∙ ends)
 ]
 
--- the gamma code is taken from the front of its own codes alone
-gamma_only : TakesOnly gamma_code gamma_takes
-gamma_only = λ bits number rest taken. gamma_takes-only bits number rest taken
+-- each code is taken from the front of its own codes alone
+takes_only : (code : CodeName) → TakesOnly (number_code_of code) (takes_of code)
+takes_only Gamma = λ bits number rest taken. gamma_takes-only bits number rest taken
+takes_only Delta = λ bits number rest taken. delta_takes-only bits number rest taken
 
 -- a network whose nodes all accept its labels, and that is one whole, has the property
 pub accepted_holds : (code : CodeName) (scheme : Expression) (rows : List NodeRow)
     (labels : List (List Bool)) → IsNetwork rows → IsConnected rows
     → length labels ≡ length rows → AllAccept (judge_in code scheme) rows labels
     → Holds scheme rows
-accepted_holds Gamma scheme rows labels network joined each accepted = record {
+accepted_holds code scheme rows labels network joined each accepted = record {
   joined = joined;
-  has = expression_sound gamma_code gamma_takes gamma_only scheme rows labels network joined each
-      accepted;
+  has = expression_sound (number_code_of code) (takes_of code) (takes_only code) scheme rows labels
+      network joined each accepted;
 }
 
 -- `Done` says that the network of the input has the property
@@ -176,7 +186,7 @@ done_proves scheme command bytes answer checks answers done = elim answers [
       record {
         input = input;
         is = works.is;
-        holds = accepted_holds Gamma scheme (rows_in input) (labels_in input)
+        holds = accepted_holds (code_in input) scheme (rows_in input) (labels_in input)
             (readable (input_parts_of command) (read_by command bytes) input works.is wants.0).network
             works.takes.joined
             (each (input_parts_of command) (read_by command bytes) input works.is wants.1)
@@ -225,9 +235,9 @@ no_rejects scheme command bytes answer checks answers ends = elim answers [
 ]
 
 -- `No` after `mark` says that the network lacks the property
-pub no_lacks : (scheme : Expression) (bytes : List ℕ) (answer : Answer)
-    → Answers (With Mark scheme) bytes answer → answer.status ≡ No → Lacks scheme bytes
-no_lacks scheme bytes answer answers ends = elim answers [
+pub no_lacks : (code : CodeName) (scheme : Expression) (bytes : List ℕ) (answer : Answer)
+    → Answers (With (Mark code) scheme) bytes answer → answer.status ≡ No → Lacks scheme bytes
+no_lacks code scheme bytes answer answers ends = elim answers [
   | inl refused ↦
       absurd (refused_not_no refused.0
       (sym (ap (λ (answer : Answer). answer.status) refused.2) ∙ ends))
@@ -250,10 +260,10 @@ verdicts_accept judge rows labels all = λ k d within.
     k d within)
 
 -- a network whose nodes all accept its labels, and that is connected, has the property
-pub round_holds : (scheme : Expression) (rows : List NodeRow) (labels : List (List Bool))
+pub round_holds : (code : CodeName) (scheme : Expression) (rows : List NodeRow) (labels : List (List Bool))
     → IsNetwork rows → IsConnected rows → length labels ≡ length rows
-    → all_verdicts_accept (round_by (judge_in Gamma scheme) rows labels) ≡ true
+    → all_verdicts_accept (round_by (judge_in code scheme) rows labels) ≡ true
     → Holds scheme rows
-round_holds scheme rows labels network connected each all =
-    accepted_holds Gamma scheme rows labels network connected each
-    (verdicts_accept (judge_in Gamma scheme) rows labels all)
+round_holds code scheme rows labels network connected each all =
+    accepted_holds code scheme rows labels network connected each
+    (verdicts_accept (judge_in code scheme) rows labels all)

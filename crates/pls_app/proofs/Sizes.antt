@@ -14,6 +14,8 @@ use Rattle.pls_netfile.specs.NetworkText.{FitsPort, FitsRow}
 use Rattle.pls_base.specs.Steps.{capped}
 use Rattle.pls_scheme.specs.Theorem.{AreWords}
 use Rattle.pls_bits.specs.Gamma.{gamma_code}
+use Rattle.pls_bits.specs.NumberCode.{IsShort}
+use Rattle.pls_bits.specs.laws.GammaLaws.{gamma_short}
 use Rattle.pls_property.specs.Expression.{Expression, IsSmall}
 use Rattle.pls_combine.specs.Expression.{longest_of}
 use Rattle.pls_combine.proofs.Bounds.{short_expression}
@@ -67,19 +69,22 @@ words_of rows readable =
       max_mark = omega (arith, marks);
     }
 
--- the bound of a small expression on a network that was read
-pub bound_small : (scheme : Expression) (rows : List NodeRow) → IsSmall scheme → IsReadable rows
-    → longest_of gamma_code scheme (size_of rows) ≤ 2 ^ 30
-bound_small scheme rows small readable =
-    short_expression scheme rows small readable.network (words_of rows readable)
+-- the bound of a small expression on a network that was read, under a code with short codes
+bound_small : (code : ℕ → List Bool) → IsShort code → (scheme : Expression) (rows : List NodeRow)
+    → IsSmall scheme → IsReadable rows → longest_of code scheme (size_of rows) ≤ 2 ^ 30
+bound_small code short scheme rows small readable =
+    short_expression code short scheme rows small readable.network (words_of rows readable)
 
 -- so it is answered as it is
-pub bound_answered : (scheme : Expression) (rows : List NodeRow) → IsSmall scheme
-    → IsReadable rows
-    → capped (longest_of gamma_code scheme (size_of rows))
-    ≡ longest_of gamma_code scheme (size_of rows)
-bound_answered scheme rows small readable =
-    omega (arith, bound_small scheme rows small readable)
+pub bound_answered : (code : ℕ → List Bool) → IsShort code → (scheme : Expression)
+    (rows : List NodeRow) → IsSmall scheme → IsReadable rows
+    → capped (longest_of code scheme (size_of rows)) ≡ longest_of code scheme (size_of rows)
+bound_answered code short scheme rows small readable =
+    omega (arith, bound_small code short scheme rows small readable)
+
+-- the gamma code has short codes
+gamma_is_short : IsShort gamma_code
+gamma_is_short = λ number small. gamma_short number
 
 -- so is that of a trial
 pub tried_answered : (rows : List NodeRow) → IsNetwork rows → AreWords (size_of rows)
@@ -91,7 +96,7 @@ tried_answered rows net words =
       shallow = omega arith;
       writable = tt;
     } in
-    omega (arith, short_expression tried_scheme rows small net words)
+    omega (arith, short_expression gamma_code gamma_is_short tried_scheme rows small net words)
 
 -- at least one times a number is at least the number
 greater : (count bits : ℕ) → 1 ≤ count → bits ≤ count * bits

@@ -1,17 +1,18 @@
 -- From what a run was due to tell, what it told.
-use Rattle.std.proofs.Common.{◌≡◌, ◌∙◌, ℕ, true, false, List, Option, Some, Result, Ok, Err, IsOk, MatchResult, inl, inr, length, refl, subst, sym}
+use Rattle.std.proofs.Common.{◌≡◌, ◌∙◌, ℕ, false, List, Option, Result, Ok, Err, IsOk, MatchResult, inl, inr, length, refl, subst, sym}
 use Rattle.pls_base.specs.Streams.{Rose}
 use Rattle.pls_model.specs.declared.status.Status.{Status}
 use Rattle.pls_model.specs.declared.status.Status.TheVariants.{Done, No, Usage, Refused, ReadFault, WriteFault, NoMemory, Limit}
 use Rattle.pls_app.specs.declared.command.Command.{Command}
+use Rattle.pls_bits.specs.declared.code_name.CodeName.{CodeName}
 use Rattle.pls_property.specs.Expression.{Expression}
 use Rattle.pls_app.specs.Command.{IsCommand, IsUsage, reads}
 use Rattle.pls_app.specs.Said.{Answer}
 use Rattle.pls_app.specs.Answer.{Answers, IsAnswer}
-use Rattle.pls_app.specs.inner.Tasks.{IsWorked}
+use Rattle.pls_app.specs.inner.Tasks.{IsWorked, Offers}
 use Rattle.pls_app.proofs.Answered.{command_answer}
 use Rattle.pls_app.proofs.Commands.{one_command}
-use Rattle.pls_app.specs.Run.{Certifies, Concerns, EndsAs, IsAnswered, IsUnread, TellsAnswer, TellsPart, TookCertificate}
+use Rattle.pls_app.specs.Run.{Certifies, Concerns, Converts, EndsAs, IsAnswered, IsUnread, TellsAnswer, TellsPart, TookCertificate, TookConversion}
 use Rattle.pls_app.specs.inner.Causes.{Told}
 
 -- an answer that was told in the end
@@ -44,12 +45,23 @@ told_done due status before after old new text told done = elim told [
 ]
 
 -- the sink of a run that ends in `Done` took the whole text
-pub took_certificate : (scheme : Expression) (bytes text : List ℕ) (due status : Status)
-    (before after : ℕ) (old new : Option (List ℕ)) → Certifies scheme bytes text
+pub took_certificate : (code : CodeName) (scheme : Expression) (bytes text : List ℕ) (due status : Status)
+    (before after : ℕ) (old new : Option (List ℕ)) → Certifies code scheme bytes text
     → Told due status before after old new text → status ≡ Done
-    → TookCertificate scheme bytes old new
-took_certificate scheme bytes text due status before after old new certifies told done = elim told [
+    → TookCertificate code scheme bytes old new
+took_certificate code scheme bytes text due status before after old new certifies told done = elim told [
   | inl whole ↦ record { text = text; took = whole.1; certifies = certifies }
+  | inr part ↦ absurd (let other : WriteFault ≡ Done = cc in cc)
+]
+
+-- and that of a conversion
+pub took_conversion : (scheme : Expression) (bytes text : List ℕ) (due status : Status)
+    (before after : ℕ) (old new : Option (List ℕ)) → (due ≡ Done → Converts scheme bytes text)
+    → Told due status before after old new text → status ≡ Done
+    → TookConversion scheme bytes old new
+took_conversion scheme bytes text due status before after old new converts told done = elim told [
+  | inl whole ↦
+      record { text = text; took = whole.1; converts = converts (sym whole.0 ∙ done) }
   | inr part ↦ absurd (let other : WriteFault ≡ Done = cc in cc)
 ]
 
@@ -133,15 +145,13 @@ unread_command words due command is unread = elim unread [
   )
 ]
 
--- a command that reads is answered on what the source tells
-pub told_bytes : (words : List (List ℕ)) (command : Command) (left : Option (List ℕ))
-    (bytes : List ℕ) → IsCommand words command → reads command ≡ true
-    → Concerns words left bytes → left ≡ Some bytes
-told_bytes words command left bytes is wants concerns = elim concerns [
-  | inl told ↦ told
-  | inr unread ↦
-      let none : true ≡ false =
-      sym wants ∙ (unread_command words unread.0 command is unread.1).0 in absurd (cc)
+-- a command is answered on what the source tells, or on nothing
+pub offered : (words : List (List ℕ)) (command : Command) (left : Option (List ℕ))
+    (bytes : List ℕ) → IsCommand words command → Concerns words left bytes
+    → Offers command left bytes
+offered words command left bytes is concerns = elim concerns [
+  | inl told ↦ inr told
+  | inr unread ↦ inl (unread_command words unread.0 command is unread.1).0
 ]
 
 -- a run that answers `usage` was due to

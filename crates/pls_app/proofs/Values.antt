@@ -1,6 +1,6 @@
 -- The values of an input that was read.
 use Rattle.std.proofs.Common.{◌≡◌, ◌∙◌, ℕ, ◌+◌, ◌≤◌, ◌^◌, Bool, true, false, List, [], ◌∷◌, ◌++◌, map, length, Option, Some, None, option_map, length-append, ap, subst, refl, sym, arith}
-use Rattle.std.specs.Option.{unwrap_or}
+use Rattle.std.specs.Option.{option_map_or, unwrap_or}
 use Rattle.std.proofs.lemmas.List.{length-map}
 use Rattle.std.proofs.lemmas.Option.{same_Some}
 use Rattle.pls_model.specs.declared.limits.TheConstants.{MAX_INPUT}
@@ -8,18 +8,23 @@ use Rattle.pls_model.specs.declared.row.NodeRow.{NodeRow}
 use Rattle.pls_model.specs.Configuration.{ids_of}
 use Rattle.pls_lines.specs.Text.{text_of}
 use Rattle.pls_netfile.specs.NetworkText.{network_lines}
-use Rattle.pls_labelfile.specs.LabelsText.{labels_lines, named}
+use Rattle.pls_labelfile.specs.LabelsText.{labels_lines}
 use Rattle.pls_labelfile.proofs.Named.{bare-named}
 use Rattle.pls_schedule.specs.declared.event.Event.{Event}
 use Rattle.pls_schedule.specs.ScheduleText.{schedule_lines}
 use Rattle.pls_edits.specs.declared.edit_line.EditLine.{EditLine}
 use Rattle.pls_edits.specs.EditsText.{AreEdits, AreFew, edits_lines, rounds_of}
+use Rattle.pls_rules.specs.declared.rule_set.RuleSet.{RuleSet}
+use Rattle.pls_rules.specs.HeldTrees.{set_of}
+use Rattle.pls_rules.specs.RuleSet.{AreRules, rules_of}
+use Rattle.pls_rules_part.specs.RulesText.{rules_lines, said_of_set, set_said}
 use Rattle.pls_inputs.specs.declared.input.Input.{Input as Read}
 use Rattle.pls_inputs.specs.declared.parts.Parts.{Parts}
-use Rattle.pls_inputs.specs.Parts.{Has, Input, edits_in, labels_in, lines_of, rows_in}
+use Rattle.pls_inputs.specs.Parts.{Has, Input, edits_in, labels_in, lines_of, net_labelling, rows_in}
 use Rattle.pls_inputs.specs.Order.{edits_heading, schedule_heading}
-use Rattle.pls_inputs.specs.Read.{AreEach, IsFirstLine, IsRead, said}
+use Rattle.pls_inputs.specs.Read.{AreEach, IsFirstLine, IsRead, IsSensible, said}
 use Rattle.pls_inputs.proofs.Facts.{few}
+use Rattle.pls_app.specs.Ruled.{set_in}
 
 -- the items of a list that is there
 pub items_are : {V X : Type 0} (part : Option V) (list : V) (items : V → List X) → part ≡ Some list
@@ -53,19 +58,19 @@ lines_fit (line ∷ lines) =
     omega (arith, lines_fit lines, length-append line (10 ∷ text_of lines))
 
 -- so no heading stands far behind the bytes
-headings_small : (bytes : List ℕ) (network labels schedule edits : List (List ℕ))
+headings_small : (bytes : List ℕ) (network labels schedule others : List (List ℕ))
     → length bytes ≤ MAX_INPUT
-    → bytes ≡ text_of (network ++ (labels ++ (schedule ++ edits)))
+    → bytes ≡ text_of (network ++ (labels ++ (schedule ++ others)))
     → length network + length labels + length schedule ≤ MAX_INPUT
-headings_small bytes network labels schedule edits short is =
+headings_small bytes network labels schedule others short is =
     omega (
       arith,
       short,
       ap (length {A = ℕ}) is,
-      lines_fit (network ++ (labels ++ (schedule ++ edits))),
-      length-append network (labels ++ (schedule ++ edits)),
-      length-append labels (schedule ++ edits),
-      length-append schedule edits,
+      lines_fit (network ++ (labels ++ (schedule ++ others))),
+      length-append network (labels ++ (schedule ++ others)),
+      length-append labels (schedule ++ others),
+      length-append schedule others,
     )
 
 -- the first line of a schedule stands behind its heading
@@ -90,7 +95,8 @@ module _ (parts : Parts) (bytes : List ℕ) (read : Read) (is : IsRead parts byt
   whole =
       headings_small bytes (lines_of network_lines (said read).network)
       (lines_of labels_lines (said read).labels) (lines_of schedule_lines (said read).schedule)
-      (lines_of edits_lines (said read).edits) is.is.short is.is.says.is
+      (lines_of edits_lines (said read).edits ++ lines_of rules_lines (said read).rules) is.is.short
+      is.is.says.is
 
   module _ (net : List NodeRow) (network : read.network ≡ Some net) (store : List (List Bool))
       (labels : read.labels ≡ Some store) where
@@ -101,10 +107,11 @@ module _ (parts : Parts) (bytes : List ℕ) (read : Read) (is : IsRead parts byt
     -- they are those of the input
     pub labels_are : labels_in (said read) ≡ store
     labels_are =
-        let ids : List ℕ = ids_of (rows_in (said read)) in
-        ap (λ (labels : Option (List (List Bool))).
-        map (λ label. label.bits) (unwrap_or (option_map (named ids) labels) [])) labels
-        ∙ bare-named ids store (labels_each ∙ ap length (sym (rows_are read net network))
+        let rows : List NodeRow = rows_in (said read) in
+        ap (λ (labels : Option (List (List Bool))). map (λ label. label.bits)
+        (option_map_or (λ said. said.labels) (option_map (net_labelling read.code rows) labels) []))
+        labels
+        ∙ bare-named (ids_of rows) store (labels_each ∙ ap length (sym (rows_are read net network))
         ∙ sym (length-map (rows_in (said read)) (λ (row : NodeRow). row.id)))
 
   module _ (events : List Event) (schedule : (said read).schedule ≡ Some events) where
@@ -145,3 +152,18 @@ module _ (parts : Parts) (bytes : List ℕ) (read : Read) (is : IsRead parts byt
             ap (λ (edits : List EditLine). length (rounds_of edits)) same,
           );
         }
+
+  module _ (set : RuleSet) (rules : read.rules ≡ Some set) where
+    sensible : IsSensible (Some set)
+    sensible = subst IsSensible rules is.rules
+
+    -- a rule set that was read makes sense
+    pub rules_sense : AreRules (set_of set)
+    rules_sense = sensible.0
+
+    -- it is that of the input
+    pub set_is : set_in (said read) ≡ set_of set
+    set_is =
+        ap (λ (rules : Option RuleSet). option_map_or set_said
+        (option_map (λ set. said_of_set (set_of set)) rules) (rules_of [] [])) rules
+        ∙ sensible.1

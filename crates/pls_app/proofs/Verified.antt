@@ -1,9 +1,11 @@
 -- `verify` is `Done` on labels that `mark` wrote.
-use Rattle.std.proofs.Common.{◌≡◌, ◌∙◌, ℕ, ◌==◌, Bool, true, false, if◌then◌else◌, List, [], ◌∷◌, ◌++◌, codes, Some, inr, ap, refl, subst, sym}
+use Rattle.std.proofs.Common.{◌≡◌, ◌∙◌, ℕ, ◌==◌, Bool, true, false, if◌then◌else◌, List, [], ◌∷◌, ◌++◌, codes, Option, Some, None, option_and_then, inr, ap, refl, subst, sym}
+use Rattle.std.specs.List.{list_any}
 use Rattle.std.proofs.lemmas.List.{length-map}
 use Rattle.std.proofs.lemmas.List.Folds.{list_all-map}
 use Rattle.std.proofs.lemmas.List.Sums.{list_all-from_AllPass}
-use Rattle.pls_words.specs.Words.{said_by_words}
+use Rattle.pls_words.specs.Words.{Said, flag_cut, said_beside, said_by_words, said_with}
+use Rattle.pls_words.specs.declared.given.Flag.TheVariants.{Bare}
 use Rattle.pls_model.specs.declared.row.NodeRow.{NodeRow}
 use Rattle.pls_model.specs.declared.status.Status.TheVariants.{Done, No}
 use Rattle.pls_model.specs.declared.verdict.Verdict.{Verdict}
@@ -18,7 +20,7 @@ use Rattle.pls_property.specs.Expression.{Expression, IsSmall}
 use Rattle.pls_scheme_text.specs.ExpressionText.{expression_text}
 use Rattle.pls_scheme_text.proofs.Letters.{first_letter}
 use Rattle.pls_inputs.specs.Parts.{Input, labels_in, rows_in, with_labels}
-use Rattle.pls_app.specs.declared.code_name.CodeName.TheVariants.{Gamma}
+use Rattle.pls_bits.specs.declared.code_name.CodeName.{CodeName}
 use Rattle.pls_app.specs.declared.command.Command.TheVariants.{With}
 use Rattle.pls_app.specs.declared.command.Task.TheVariants.{Verify}
 use Rattle.pls_app.specs.Command.{IsCommand}
@@ -33,8 +35,13 @@ use Rattle.pls_app.proofs.Answered.{command_answer}
 -- a word that does not begin with `-` stands behind `verify`
 behind_verify : (first : ℕ) (rest : List ℕ) → (first == 45) ≡ false
     → said_by_words (codes "verify" ∷ (first ∷ rest) ∷ [])
-    ≡ Some (record { command = codes "verify"; argument = Some (first ∷ rest); json = false })
-behind_verify first rest plain = rw plain refl
+    ≡ Some (record { command = codes "verify"; argument = Some (first ∷ rest); flag = Bare })
+behind_verify first rest plain =
+    let words : List (List ℕ) = codes "verify" ∷ (first ∷ rest) ∷ [] in
+    let cut : flag_cut words ≡ Some (Bare, words) = rw plain refl in
+    let said : Option Said = said_with Bare words in
+    ap (option_and_then said_beside) cut
+    ∙ ap (λ (dashed : Bool). if list_any (λ b. b) (false ∷ dashed ∷ []) then None else said) plain
 
 -- the words of a scheme's `verify` are that command
 verify_is : (scheme : Expression) → IsSmall scheme
@@ -42,9 +49,9 @@ verify_is : (scheme : Expression) → IsSmall scheme
 verify_is scheme small =
     let text : List ℕ = expression_text scheme in
     let letter = first_letter scheme in record {
-      said = record { command = codes "verify"; argument = Some text; json = false };
+      said = record { command = codes "verify"; argument = Some text; flag = Bare };
       says = subst (λ (text : List ℕ). said_by_words (codes "verify" ∷ text ∷ [])
-          ≡ Some (record { command = codes "verify"; argument = Some text; json = false }))
+          ≡ Some (record { command = codes "verify"; argument = Some text; flag = Bare }))
           (sym letter.2) (behind_verify letter.0 letter.1 letter.3);
       is = (refl, refl, small);
     }
@@ -59,13 +66,13 @@ accepted_all judge rows labels accepted =
     (λ k d within. ap (λ (verdict : Verdict). is_accepting (Decided verdict)) (accepted k d within))
 
 -- `verify` on bytes followed by labels that certify their network
-pub verified : (scheme : Expression) (bytes text : List ℕ) → IsSmall scheme
-    → Certifies scheme bytes text → IsDone (verify_words scheme) (bytes ++ text)
-verified scheme bytes text small certifies =
-    let judge : Seen → Verdict = judge_in Gamma scheme in
+pub verified : (code : CodeName) (scheme : Expression) (bytes text : List ℕ) → IsSmall scheme
+    → Certifies code scheme bytes text → IsDone (verify_words scheme) (bytes ++ text)
+verified code scheme bytes text small certifies =
+    let judge : Seen → Verdict = judge_in code scheme in
     let rows : List NodeRow = rows_in certifies.input in
     let labels : List (List Bool) = certifies.labels in
-    let input : Input = with_labels certifies.input labels in
+    let input : Input = with_labels code certifies.input labels in
     let command = With (Verify false) scheme in
     let answer : Answer = report false false (outcomes_in command input) in
     let same : labels_in input ≡ labels =

@@ -8,28 +8,31 @@ use Rattle.pls_base.specs.Quantity.{quantity_text}
 use Rattle.pls_model.specs.declared.status.Status.{Status}
 use Rattle.pls_model.specs.declared.status.Status.TheVariants.{Done, No, Usage, Refused, Limit as OverLimit, NoMemory as OutOfMemory}
 use Rattle.pls_model.specs.declared.row.NodeRow.{NodeRow}
-use Rattle.pls_model.specs.Configuration.{ids_of}
 use Rattle.pls_model.specs.Walk.{IsConnected}
 use Rattle.pls_graph.specs.Connected.{IsFirstApart}
 use Rattle.pls_lines.specs.Text.{line_of, text_of}
-use Rattle.pls_labelfile.specs.LabelsText.{labels_text, named}
 use Rattle.pls_model.specs.declared.limits.TheConstants.{MAX_BITS}
 use Rattle.pls_sim.specs.declared.outcome.Outcome.{Outcome}
 use Rattle.pls_sim.specs.Schedule.{played_by}
 use Rattle.pls_report.specs.Report.{all_accept, report_text}
 use Rattle.pls_property.specs.Expression.{Expression}
 use Rattle.pls_json.specs.Json.{json_text}
-use Rattle.pls_inputs.specs.Parts.{Input, edits_in, events_in, labels_in, rows_in}
+use Rattle.pls_inputs.specs.Parts.{Input, code_in, edits_in, events_in, labels_in, net_labels_text, rows_in}
 use Rattle.pls_inputs.specs.Order.{IsInput, IsNoInput, edits_heading, over, schedule_heading}
-use Rattle.pls_app.specs.declared.code_name.CodeName.{CodeName}
-use Rattle.pls_app.specs.declared.code_name.CodeName.TheVariants.{Gamma}
+use Rattle.pls_bits.specs.declared.code_name.CodeName.{CodeName}
+use Rattle.pls_bits.specs.declared.code_name.CodeName.TheVariants.{Delta}
+use Rattle.pls_app.specs.declared.command.RuleTask.TheVariants.{Code, Judge}
 use Rattle.pls_app.specs.declared.command.Command.{Command}
-use Rattle.pls_app.specs.declared.command.Command.TheVariants.{With, Trial}
-use Rattle.pls_app.specs.declared.command.Task.TheVariants.{Mark, Verify, Simulate, Recheck, Bound}
+use Rattle.pls_app.specs.declared.command.Command.TheVariants.{ByRules, Print, Trial, With}
+use Rattle.pls_app.specs.declared.command.Task.TheVariants.{Mark, Verify, Simulate, Recheck, Bound, Convert}
 use Rattle.pls_app.specs.Command.{IsCommand, IsUsage, input_parts_of, read_by}
 use Rattle.pls_app.specs.Meant.{AreMarks, Fails, Holds, bound_in, judge_in, room_in}
+use Rattle.pls_app.specs.Convert.{converted_labels, unconverted}
 use Rattle.pls_app.specs.Unapplied.{unapplied}
 use Rattle.pls_app.specs.Inapplicable.{inapplicable}
+use Rattle.pls_bits.specs.Gamma.{gamma_takes}
+use Rattle.pls_compile.specs.RuleMeaning.{meaning}
+use Rattle.pls_app.specs.Ruled.{listed, printed, set_in}
 use Rattle.pls_app.specs.Reports.{Report, ReportInput, decided_by, ends_well, reports_text}
 use Rattle.pls_app.specs.Said.{Answer}
 use Rattle.pls_app.specs.Trial.{IsTrialAnswer}
@@ -75,10 +78,10 @@ bounded number = record {
 abbrev pub no : Answer
 no = record { status = No; text = text_of (codes "no" ∷ []) }
 
--- the answer with the labels of a network
-abbrev pub labels_answer : List NodeRow → List (List Bool) → Answer
-labels_answer rows labels =
-    record { status = Done; text = labels_text (named (ids_of rows) labels) }
+-- the answer with the labels of a network, under a code
+abbrev pub labels_answer : CodeName → List NodeRow → List (List Bool) → Answer
+labels_answer code rows labels =
+    record { status = Done; text = net_labels_text code rows labels }
 
 -- the answer with the reports of rounds
 abbrev pub reported : List Report → Answer
@@ -90,34 +93,43 @@ reported reports = record {
 -- the outcomes that a command reports
 abbrev pub outcomes_in : Command → Input → List (ℕ × Outcome)
 outcomes_in (With (Verify json) scheme) input =
-    decided_by (judge_in Gamma scheme) (rows_in input) (labels_in input)
+    decided_by (judge_in (code_in input) scheme) (rows_in input) (labels_in input)
 outcomes_in (With (Simulate json) scheme) input =
-    played_by (judge_in Gamma scheme) (rows_in input) (labels_in input) (events_in input)
+    played_by (judge_in (code_in input) scheme) (rows_in input) (labels_in input) (events_in input)
+outcomes_in (ByRules (Judge json)) input =
+    decided_by (meaning gamma_takes (set_in input)) (rows_in input) (labels_in input)
 outcomes_in other input = []
 
 -- the answer to `mark` on a network: its labels, where it has the property, else `no`
 abbrev pub Marks : CodeName → Expression → List NodeRow → Answer → Type 0
 Marks code scheme rows answer =
     ((labels : List (List Bool)) × Holds scheme rows × AreMarks code scheme rows labels
-    × (answer ≡ labels_answer rows labels))
+    × (answer ≡ labels_answer code rows labels))
     ⊎ (Fails scheme rows × (answer ≡ no))
 
 -- the answer to `recheck` on an input: the reports of its rounds
-abbrev pub Rechecks : CodeName → Expression → Input → Answer → Type 0
-Rechecks code scheme input answer =
-    (reports : List Report) × ReportInput (judge_in code scheme) input reports
+abbrev pub Rechecks : Expression → Input → Answer → Type 0
+Rechecks scheme input answer =
+    (reports : List Report) × ReportInput (judge_in (code_in input) scheme) input reports
     × (answer ≡ reported reports)
 
 -- the answer of a command to an input that it does not refuse
 abbrev pub Yields : Command → Input → Answer → Type 0
-Yields (With Mark scheme) input answer = Marks Gamma scheme (rows_in input) answer
+Yields (With (Mark code) scheme) input answer = Marks code scheme (rows_in input) answer
 Yields (With (Verify json) scheme) input answer =
     answer ≡ report json false (outcomes_in (With (Verify json) scheme) input)
 Yields (With (Simulate json) scheme) input answer =
     answer ≡ report json true (outcomes_in (With (Simulate json) scheme) input)
-Yields (With Recheck scheme) input answer = Rechecks Gamma scheme input answer
-Yields (With Bound scheme) input answer = answer ≡ bounded (bound_in Gamma scheme (rows_in input))
+Yields (With Recheck scheme) input answer = Rechecks scheme input answer
+Yields (With (Bound code) scheme) input answer =
+    answer ≡ bounded (bound_in code scheme (rows_in input))
+Yields (With Convert scheme) input answer =
+    answer ≡ labels_answer Delta (rows_in input) (converted_labels scheme input)
 Yields (Trial nodes seed) input answer = IsTrialAnswer nodes seed answer
+Yields (ByRules (Judge json)) input answer =
+    answer ≡ report json false (outcomes_in (ByRules (Judge json)) input)
+Yields (ByRules Code) input answer = answer ≡ listed (set_in input)
+Yields (Print name) input answer = answer ≡ printed name
 
 -- 17: the error names the smallest node that the edges do not join to the smallest of all
 abbrev pub IsApart : List NodeRow → TextError → Type 0
@@ -125,11 +137,13 @@ IsApart rows error = (id : ℕ) × (error ≡ Sense APART id) × IsFirstApart ro
 
 -- what a command asks of an input besides
 abbrev pub work_refusal : Command → Input → Option TextError
-work_refusal (With Mark scheme) input = over Labels MAX_BITS (room_in Gamma scheme (rows_in input))
+work_refusal (With (Mark code) scheme) input =
+    over Labels MAX_BITS (room_in code scheme (rows_in input))
 work_refusal (With (Simulate json) scheme) input =
     unapplied (rows_in input) (schedule_heading input + 1) (events_in input)
 work_refusal (With Recheck scheme) input =
     inapplicable (rows_in input) (labels_in input) (edits_heading input + 1) (edits_in input)
+work_refusal (With Convert scheme) input = unconverted scheme input
 work_refusal other input = None
 
 -- why a command refuses an input: its network is not one whole, or else what it asks besides

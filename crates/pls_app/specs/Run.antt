@@ -9,17 +9,22 @@ use Rattle.pls_model.specs.Walk.{IsConnected}
 use Rattle.pls_model.specs.declared.status.Status.TheVariants.{Done, No, Usage, Refused, ReadFault, WriteFault, NoMemory, Limit}
 use Rattle.pls_sim.specs.declared.outcome.Outcome.{Outcome}
 use Rattle.pls_report.specs.Report.{is_accepting}
-use Rattle.pls_property.specs.Expression.{Expression}
+use Rattle.pls_property.specs.Expression.{Expression, Of}
 use Rattle.pls_model.specs.declared.limits.TheConstants.{MAX_INPUT}
-use Rattle.pls_inputs.specs.Parts.{Input, parts_with_edits, edits_in, parts_with_labels, net_labels_text, network, rows_in, with_labels}
+use Rattle.pls_inputs.specs.Parts.{Input, code_in, parts_with_edits, edits_in, parts_with_gamma, parts_with_labels, parts_with_rules, net_labels_text, network, rows_in, with_labels}
 use Rattle.pls_inputs.specs.Order.{IsInput}
-use Rattle.pls_app.specs.declared.code_name.CodeName.TheVariants.{Gamma}
+use Rattle.pls_bits.specs.declared.code_name.CodeName.{CodeName}
+use Rattle.pls_bits.specs.declared.code_name.CodeName.TheVariants.{Delta}
+use Rattle.pls_netfile.specs.NetworkText.{network_text}
+use Rattle.pls_names.specs.declared.scheme_name.SchemeName.{SchemeName}
+use Rattle.pls_builtin.specs.Builtin.{set_of_name}
 use Rattle.pls_app.specs.declared.command.Command.{Command}
 use Rattle.pls_app.specs.declared.command.Command.TheVariants.{With}
-use Rattle.pls_app.specs.declared.command.Task.TheVariants.{Recheck}
+use Rattle.pls_app.specs.declared.command.Task.TheVariants.{Recheck, Verify}
 use Rattle.pls_app.specs.Command.{IsCommand, IsUsage, reads}
 use Rattle.pls_app.specs.Meant.{Fails, Holds, Shows, judge_in}
 use Rattle.pls_app.specs.Reports.{Report, ReportInput, checked_in, edited_by}
+use Rattle.pls_app.specs.Ruled.{set_in}
 use Rattle.pls_app.specs.Said.{Answer}
 use Rattle.pls_app.specs.Answer.{IsAnswer, IsRefused, Reads, outcomes_in, refusal, refusal_status}
 
@@ -136,22 +141,50 @@ pub record SomeRejects (command : Command) (bytes : List ℕ) : Type 0 where
   pub among : Contains (outcomes_in command input) node
   pub rejected : is_accepting node.1 ≡ false
 
--- the text is that of labels which show the property of the network of the bytes, and the bytes
--- followed by the text are the same network with these labels
-pub record Certifies (scheme : Expression) (bytes text : List ℕ) : Type 0 where
+-- the text is that of labels which show the property of the network of the bytes under the code,
+-- and the bytes followed by the text are the same network with these labels
+pub record Certifies (code : CodeName) (scheme : Expression)
+    (bytes text : List ℕ) : Type 0 where
   pub input : Input
   pub labels : List (List Bool)
   pub is : IsInput network bytes input
-  pub shows : Shows Gamma scheme (rows_in input) labels
-  pub text_is : text ≡ net_labels_text (rows_in input) labels
-  pub read_back : IsInput parts_with_labels (bytes ++ text) (with_labels input labels)
+  pub shows : Shows code scheme (rows_in input) labels
+  pub text_is : text ≡ net_labels_text code (rows_in input) labels
+  pub read_back : IsInput parts_with_labels (bytes ++ text) (with_labels code input labels)
 
 -- the sink took such a text
-pub record TookCertificate (scheme : Expression) (bytes : List ℕ)
+pub record TookCertificate (code : CodeName) (scheme : Expression) (bytes : List ℕ)
     (old new : Option (List ℕ)) : Type 0 where
   pub text : List ℕ
   pub took : Appends old new text
-  pub certifies : Certifies scheme bytes text
+  pub certifies : Certifies code scheme bytes text
+
+-- the text is that of labels in the delta code, and the network of the bytes followed by the text is
+-- the same network with these labels, of which `verify` has the same outcomes as of those of the bytes
+pub record Converts (scheme : Expression) (bytes text : List ℕ) : Type 0 where
+  pub input : Input
+  pub labels : List (List Bool)
+  pub is : IsInput parts_with_gamma bytes input
+  pub text_is : text ≡ net_labels_text Delta (rows_in input) labels
+  pub read_back : IsInput parts_with_labels (network_text (rows_in input) ++ text)
+      (with_labels Delta input labels)
+  pub alike : outcomes_in (With (Verify false) scheme) (with_labels Delta input labels)
+      ≡ outcomes_in (With (Verify false) scheme) input
+
+-- the sink took such a text
+pub record TookConversion (scheme : Expression) (bytes : List ℕ)
+    (old new : Option (List ℕ)) : Type 0 where
+  pub text : List ℕ
+  pub took : Appends old new text
+  pub converts : Converts scheme bytes text
+
+-- the bytes are a network, labels and a rule set, and where the set is the one that has the name of a
+-- scheme, the network has the property of that scheme
+pub record ProvesByRules (bytes : List ℕ) : Type 0 where
+  pub input : Input
+  pub is : IsInput parts_with_rules bytes input
+  pub holds : (name : SchemeName) → set_of_name name ≡ Some (set_in input)
+      → Holds (Of name) (rows_in input)
 
 -- the network of the bytes lacks the property
 pub record Lacks (scheme : Expression) (bytes : List ℕ) : Type 0 where
@@ -172,7 +205,7 @@ pub record RoseByChecked (scheme : Expression) (bytes : List ℕ) (old new : ℕ
   pub is : IsInput parts_with_edits bytes input
   pub joined : IsConnected (rows_in input)
   pub reports : List Report
-  pub are : ReportInput (judge_in Gamma scheme) input reports
+  pub are : ReportInput (judge_in (code_in input) scheme) input reports
   pub rose : new ≡ up_by (checked_in reports) old
 
 -- the run ends with what it found of the network

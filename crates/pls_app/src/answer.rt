@@ -8,6 +8,7 @@ ghost use Rattle.pls_app.specs.inner.Tasks.{IsWorked};
 
 use crate::round_report::RoundReport;
 use pls_base::{NoMemory, Status, TextError};
+use pls_bits::CodeName;
 use pls_graph::Network;
 use pls_json::json_report;
 use pls_report::all_accept;
@@ -32,6 +33,7 @@ pub(crate) enum Content {
     Written(Vec<u8>),
     /// The labels of a network, which become text as they are written.
     Labels {
+        code: CodeName,
         net: Network,
         labels: LabelStore,
     },

@@ -1,12 +1,13 @@
 //! The one call that does all that the program does.
 
-ghost use Rattle.std.specs.Prelude.{◌≡◌, ◌⊎◌, ℕ, List, Some, IsOk, OnErr, OnOk, length};
+ghost use Rattle.std.specs.Prelude.{◌≡◌, ◌⊎◌, ℕ, Bool, List, Some, IsOk, OnErr, OnOk, length};
 ghost use Rattle.std.specs.Io.KnownBytes.{Appends};
 ghost use Rattle.pls_base.specs.Streams.{AppendsPart, Rose};
+ghost use Rattle.pls_bits.specs.declared.code_name.CodeName.{CodeName};
 ghost use Rattle.pls_words.specs.Words.{words_in};
 ghost use Rattle.pls_property.specs.Expression.{Expression};
 ghost use Rattle.pls_app.specs.Command.{Checks, IsUsage};
-ghost use Rattle.pls_app.specs.Run.{Asks, Concerns, Consumes, CountsAsked, EndsAs, HasItsCause, HoldsAfter, IsAnswered, IsJudged, IsSureOfAnswer, IsUnread, Lacks, Proves, RefusesExactly, SomeRejects, TellsAnswer, TellsPart, TookCertificate};
+ghost use Rattle.pls_app.specs.Run.{Asks, Concerns, Consumes, CountsAsked, EndsAs, HasItsCause, HoldsAfter, IsAnswered, IsJudged, IsSureOfAnswer, IsUnread, Lacks, Proves, ProvesByRules, RefusesExactly, SomeRejects, TellsAnswer, TellsPart, TookCertificate, TookConversion};
 ghost use Rattle.pls_app.specs.inner.Causes.{Told};
 ghost use Rattle.pls_app.specs.Answer.{IsRefused};
 ghost use Rattle.pls_app.specs.Reports.{reports_text};
@@ -14,10 +15,9 @@ ghost use Rattle.pls_base.specs.declared.text_error.TextError.{TextError as Erro
 ghost use Rattle.pls_app.specs.inner.Written.{text_in};
 
 use crate::answer::{Answer, Content, usage};
-use crate::command::{Command, Task, read_command};
+use crate::command::{Command, RuleTask, Task, read_command};
 use crate::from_source::answer_from;
 use crate::round_report::RoundReport;
-use crate::trial::trial;
 use pls_base::{Fault, NoMemory, Sink, Source, Status, write_all};
 use pls_labelfile::stream_labels;
 use pls_recheck::Bench;
@@ -43,16 +43,23 @@ pub fn run<'w, S: Source, K: Sink, B: Bench>(
     ensures rejects { (scheme : Expression) (command : Command) (bytes : List ℕ)
         → Asks (words_in words.now) (S.left source.old) command bytes → Checks scheme command
         → result ≡ Status.No → SomeRejects command bytes }
-    ensures mark { (scheme : Expression) (bytes : List ℕ)
-        → Asks (words_in words.now) (S.left source.old) (Command.With Task.Mark scheme) bytes
+    ensures mark { (code : CodeName) (scheme : Expression) (bytes : List ℕ)
+        → Asks (words_in words.now) (S.left source.old) (Command.With (Task.Mark code) scheme) bytes
         → result ≡ Status.Done
-        → TookCertificate scheme bytes (K.taken sink.old) (K.taken sink.new) }
-    ensures mark_no { (scheme : Expression) (bytes : List ℕ)
-        → Asks (words_in words.now) (S.left source.old) (Command.With Task.Mark scheme) bytes
+        → TookCertificate code scheme bytes (K.taken sink.old) (K.taken sink.new) }
+    ensures mark_no { (code : CodeName) (scheme : Expression) (bytes : List ℕ)
+        → Asks (words_in words.now) (S.left source.old) (Command.With (Task.Mark code) scheme) bytes
         → result ≡ Status.No → Lacks scheme bytes }
     ensures recheck { (scheme : Expression) (bytes : List ℕ)
         → Asks (words_in words.now) (S.left source.old) (Command.With Task.Recheck scheme) bytes
         → result ≡ Status.Done → HoldsAfter scheme bytes }
+    ensures convert { (scheme : Expression) (bytes : List ℕ)
+        → Asks (words_in words.now) (S.left source.old) (Command.With Task.Convert scheme) bytes
+        → result ≡ Status.Done
+        → TookConversion scheme bytes (K.taken sink.old) (K.taken sink.new) }
+    ensures judge { (json : Bool) (bytes : List ℕ)
+        → Asks (words_in words.now) (S.left source.old) (Command.ByRules (RuleTask.Judge json)) bytes
+        → result ≡ Status.Done → ProvesByRules bytes }
 
     // How often the bench was asked.
     ensures asked { CountsAsked (words_in words.now) (S.left source.old) result
@@ -95,16 +102,10 @@ pub fn run<'w, S: Source, K: Sink, B: Bench>(
     match read_command(alloc, words) {
         Err(NoMemory) => Status::NoMemory,
         Ok(None) => tell(sink, &usage()),
-        Ok(Some(Command::Trial { nodes, seed })) => match trial(alloc, nodes, seed) {
+        Ok(Some(command)) => match answer_from(alloc, command, source, bench) {
             Ok(answer) => tell(sink, &answer),
-            Err(NoMemory) => Status::NoMemory,
+            Err(status) => status,
         },
-        Ok(Some(Command::With { task, scheme })) => {
-            match answer_from(alloc, task, scheme, source, bench) {
-                Ok(answer) => tell(sink, &answer),
-                Err(status) => status,
-            }
-        }
     }
 }
 
@@ -132,7 +133,7 @@ fn write_content<K: Sink>(sink: &mut K, content: &Content) -> Result<(), Fault>
     match content {
         Content::Known(text) => write_all(sink, text),
         Content::Written(text) => write_all(sink, text),
-        Content::Labels { net, labels } => stream_labels(net, labels, sink),
+        Content::Labels { code, net, labels } => stream_labels(net, labels, *code, sink),
         Content::Report { simulated, rows } => write_report(rows, *simulated, sink),
         Content::Rounds(reports) => write_rounds(reports, sink),
     }

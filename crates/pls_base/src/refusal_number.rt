@@ -32,3 +32,13 @@ pub const EDIT: u8 = 30;
 
 /// An event names no node, no port of its node, or no emit before it.
 pub const EVENT: u8 = 40;
+
+/// A rule set names a field twice, names one that it does not have, or asks of a neighbour outside
+/// of all quantifiers.
+pub const FIELD: u8 = 50;
+
+/// A rule is nested too deep.
+pub const DEPTH: u8 = 51;
+
+/// A label cannot be read, so that it has no other form.
+pub const UNREAD: u8 = 60;

@@ -21,3 +21,4 @@ mod with_checker;
 
 pub use any_scheme::{AnyScheme, SchemeTree};
 pub use laws::{has_short_bound, is_small};
+pub use pls_property::AnyProperty;

@@ -14,11 +14,8 @@ pub mod Stepping
 pub mod ListingLines
 pub mod FieldNumbers
 pub mod ReadLabels
-pub mod Agreeing
-pub mod FixedFields
-pub mod TreeAgrees
-pub mod BipartiteAgrees
 pub mod ShownPorts
 pub mod Judging
+pub mod TableRead
+pub mod TableJudged
 pub mod Steppable
-pub mod Worked

@@ -89,7 +89,7 @@ fn weights_fit(ports: &[PortView<'_>])
 
 // A number of 32 bits is one of 64.
 #[inline(always)]
-fn is_word(number: u32)
+pub(crate) fn is_word(number: u32)
     ensures { number < 2 ^ 64 }
 {
     let _number = number;

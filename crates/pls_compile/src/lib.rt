@@ -4,18 +4,18 @@
 //! else; [`listing`] is the code as a text, and [`Machine`] runs it, one [`Instr`] a step. A machine
 //! is never stuck on the code of a set that makes sense: 40 numbers of 128 bits and 2 ports are
 //! room for all of them. [`RuleChecker`] is a set as a [`Checker`](pls_scheme::Checker): it reads
-//! labels by the set's fields, runs the code at each node, and takes no memory. [`builtin_agrees`]
-//! says that the sets that have names judge as the schemes of these names.
+//! labels by the set's fields, runs the code at each node, and takes no memory.
 //!
 //! Definitions stand in `specs/`: `RuleMeaning` has what a set means (`meaning`), `Code` the code
 //! of expressions, `RuleMachine` what a step does, `Listing` the text, `ReadLabels` what a node
 //! reads. What rule sets are stands in `pls_rules`.
 #![tactic(auto)]
 
-mod builtin;
 mod code;
 mod emit;
+mod field_table;
 mod fields;
+mod in_network;
 mod in_view;
 mod instr;
 mod listing_text;
@@ -27,7 +27,6 @@ mod run;
 mod sees;
 mod step;
 
-pub use builtin::builtin_agrees;
 pub use code::{Code, compile};
 pub use instr::Instr;
 pub use listing_text::listing;

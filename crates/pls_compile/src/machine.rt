@@ -52,6 +52,16 @@ impl Machine {
         }
     }
 
+    // Goes back to the start. The stack lies behind `top`, so its numbers need not be cleared.
+    #[inline(always)]
+    pub(crate) fn restart(&mut self)
+        ensures { self.new ≡ start }
+    {
+        self.place = 0;
+        self.top = MOST_NUMBERS;
+        self.inner = MOST_PORTS;
+    }
+
     // The place in the code.
     #[inline(always)]
     pub(crate) fn place(&self) -> usize

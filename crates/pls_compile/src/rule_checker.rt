@@ -1,25 +1,32 @@
 //! Rule sets as verifiers.
 
-ghost use Rattle.std.specs.Prelude.{◌≡◌, IfOk};
+ghost use Rattle.std.specs.Prelude.{◌≡◌, ◌<◌, Some, length, map, slice_get, IfOk};
 ghost use Rattle.pls_bits.specs.Gamma.{gamma_takes};
+ghost use Rattle.pls_view.specs.Seen.{Seen, views};
 ghost use Rattle.pls_rules.specs.HeldTrees.{set_of};
 ghost use Rattle.pls_rules.specs.RuleSet.{AreRules, kinds_of};
+ghost use Rattle.pls_compile.specs.ReadLabels.{numbers_in};
 ghost use Rattle.pls_compile.specs.RuleMeaning.{meaning};
 
 use crate::code::{Code, compile};
+use crate::field_table::FieldTable;
 use crate::fields::{are_read, read_fields};
+use crate::in_network::{InNetwork, node_fits};
 use crate::in_view::{InView, view_fits};
+use crate::machine::Machine;
 use crate::run::run_code;
 use pls_base::{NoMemory, Steps};
+use pls_graph::Network;
 use pls_model::Verdict;
 use pls_numbers::Fields;
 use pls_rules::RuleSet;
 use pls_scheme::Checker;
-use pls_view::View;
+use pls_view::{Labels, View};
 use std::alloc::Global;
 use std::marker::Model;
 
-/// A verifier by a rule set, seen as the set. It runs the set's code.
+/// A verifier by a rule set, seen as the set. It runs the set's code. In a round each label is read
+/// once, into a table for all nodes, and no view is made.
 #[derive(Drop)]
 pub struct RuleChecker {
     set: RuleSet,
@@ -86,7 +93,45 @@ impl RuleChecker {
         }
         view_fits(view);
         let node = InView { kinds, view };
-        run_code(&self.set, self.code.instructions(), &node)
+        let mut machine = Machine::start();
+        run_code(&mut machine, &self.set, self.code.instructions(), &node)
+    }
+
+    // The verdict of the node at a place, by what all labels say.
+    fn verdict_at<L: Labels>(
+        &self,
+        machine: &mut Machine,
+        net: &Network,
+        labels: &L,
+        table: &FieldTable,
+        i: usize,
+    ) -> Verdict
+        requires each { length (L.listed labels.now) ≡ length net.now }
+        requires table { table.now
+            ≡ map (numbers_in (kinds_of (set_of self.now).fields)) (L.listed labels.now) }
+        requires within { i < length net.now }
+        ensures { (view : Seen) → slice_get (views net.now (L.listed labels.now)) i ≡ Some view
+            → result ≡ meaning gamma_takes (set_of self.now) view }
+    {
+        let (id, state) = net.node(i);
+        let ports = net.ports(i);
+        let places = net.places(i);
+        let Some(own) = table.label(i) else {
+            return Verdict::Reject { leaf: 1, rule: 1 };
+        };
+        if !table.are_read(places) {
+            return Verdict::Reject { leaf: 1, rule: 2 };
+        }
+        node_fits(id, &state, ports);
+        let node = InNetwork {
+            id,
+            state,
+            own,
+            ports,
+            places,
+            table,
+        };
+        run_code(machine, &self.set, self.code.instructions(), &node)
     }
 }
 
@@ -126,6 +171,23 @@ impl Checker for RuleChecker {
     ) -> Result<Verdict, NoMemory> {
         steps.tick();
         Ok(self.verdict_on(view))
+    }
+
+    fn round<L: Labels>(
+        &self,
+        alloc: Global,
+        net: &Network,
+        labels: &L,
+        steps: &mut Steps,
+    ) -> Result<Vec<Verdict>, NoMemory> {
+        let table = FieldTable::of(alloc, self.format.kinds.as_slice(), labels)?;
+        let mut machine = Machine::start();
+        let mut verdicts = Vec::with_capacity(alloc, net.len())?;
+        for i in 0..net.len() {
+            steps.tick();
+            verdicts.push(self.verdict_at(&mut machine, net, labels, &table, i))?;
+        }
+        Ok(verdicts)
     }
 
     ghost leaf_law = { λ set. judge_by-leaf

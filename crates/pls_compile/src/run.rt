@@ -15,16 +15,22 @@ use crate::step::step_on;
 use pls_model::Verdict;
 use pls_rules::RuleSet;
 
-// The verdict of the rules on a node whose labels are read, by their code. It takes no memory.
-pub(crate) fn run_code<S: Sees>(set: &RuleSet, code: &[Instr], node: &S) -> Verdict
+// The verdict of the rules on a node whose labels are read, by their code, on a machine that is lent
+// in any state. It takes no memory.
+pub(crate) fn run_code<S: Sees>(
+    machine: &mut Machine,
+    set: &RuleSet,
+    code: &[Instr],
+    node: &S,
+) -> Verdict
     requires sensible { AreRules (set_of set.now) }
     requires code { code.now ≡ code_of_rules (set_of set.now).rules }
     requires node { IsReadable (length (set_of set.now).fields) (S.sight node.now) }
     ensures { result ≡ judged_from 3 (rules_hold (set_of set.now).rules (S.sight node.now)) }
 {
-    let mut machine = Machine::start();
+    machine.restart();
     loop {
-        if let Some(verdict) = step_on(&mut machine, code, node) {
+        if let Some(verdict) = step_on(machine, code, node) {
             return verdict;
         }
     }

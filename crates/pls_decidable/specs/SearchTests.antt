@@ -7,7 +7,7 @@ use Rattle.pls_model.specs.Configuration.{has_repeat, ids_of}
 use Rattle.pls_model.specs.Walk.{Edge, edges_of}
 use Rattle.pls_facts.specs.SpanningTree.{is_root, pointed_edges}
 use Rattle.pls_facts.specs.Lightest.{weight_of}
-use Rattle.pls_facts.specs.Classes.{class_of}
+use Rattle.pls_facts.specs.Classes.{joins_all}
 use Rattle.pls_facts.specs.Bipartite.{differ}
 
 -- all lists of so many items out of these
@@ -58,11 +58,6 @@ abbrev pub acyclic_test : List NodeRow → Bool
 acyclic_test rows =
     list_all (λ nodes. list_all (λ last. not (is_cycle (edges_of rows) last nodes)) (ids_of rows))
     (lists_up_to (ids_of rows) (length rows))
-
--- the edges join all nodes: they put each two into one class
-abbrev pub joins_all : List Edge → List ℕ → Bool
-joins_all edges nodes =
-    list_all (λ u. list_all (λ v. class_of edges u == class_of edges v) nodes) nodes
 
 -- all lists of one edge fewer than there are nodes that join all nodes
 abbrev pub spanning_trees : List Edge → List ℕ → List (List Edge)

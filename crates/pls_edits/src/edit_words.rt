@@ -13,11 +13,9 @@ use crate::number_words::{state_after, three_numbers};
 use pls_base::NoMemory;
 use pls_labelfile::LabelLine;
 use pls_lines::{LineKind, after_line, one_number, two_numbers};
-use pls_model::MAX_NUM;
+use pls_model::{MAX_NUM, MAX_WORD};
 use std::alloc::Global;
 use std::marker::Model;
-
-const MOST: u64 = 0xffff_ffff;
 
 /// What a line of an edits part says, seen as the [`EditLine`]. The word for a label's bits is
 /// lent.
@@ -115,21 +113,21 @@ fn plain_edit(text: &[u8]) -> Option<(Edit, &[u8])>
     if let Some((id, state, rest)) = state_after(text, b"state") {
         return Some((Edit::State { id, state }, rest));
     }
-    if let Some((a, b, weight, rest)) = three_numbers(text, b"weight", MOST) {
+    if let Some((a, b, weight, rest)) = three_numbers(text, b"weight", MAX_WORD) {
         let weight = weight as u32;
         return Some((Edit::Weight { a, b, weight }, rest));
     }
-    if let Some((a, b, weight, rest)) = three_numbers(text, b"link", MOST) {
+    if let Some((a, b, weight, rest)) = three_numbers(text, b"link", MAX_WORD) {
         let weight = weight as u32;
         return Some((Edit::Link { a, b, weight }, rest));
     }
-    if let Some((a, b, rest)) = two_numbers(text, b"unlink", MOST) {
+    if let Some((a, b, rest)) = two_numbers(text, b"unlink", MAX_WORD) {
         let (a, b) = (a as u32, b as u32);
         return Some((Edit::Unlink { a, b }, rest));
     }
     if let Some((id, mark, num, rest)) = three_numbers(text, b"join", MAX_NUM) {
         return Some((Edit::Join { id, mark, num }, rest));
     }
-    let (id, rest) = one_number(text, b"leave", MOST)?;
+    let (id, rest) = one_number(text, b"leave", MAX_WORD)?;
     Some((Edit::Leave { id: id as u32 }, rest))
 }

@@ -1,5 +1,6 @@
 -- The classes into which edges put nodes: nodes of one class are exactly those that are joined.
-use Rattle.std.specs.Prelude.{ℕ, ◌==◌, cond, List, [], ◌∷◌}
+use Rattle.std.specs.Prelude.{ℕ, ◌==◌, cond, Bool, List, [], ◌∷◌}
+use Rattle.std.specs.List.{list_all}
 use Rattle.pls_model.specs.Walk.{Edge}
 
 -- where a class is put into another: the class of a node, by what it was before
@@ -12,3 +13,8 @@ abbrev pub class_of : List Edge → ℕ → ℕ
 class_of [] node = node
 class_of (edge ∷ edges) node =
     moved (class_of edges edge.a) (class_of edges edge.b) (class_of edges node)
+
+-- the edges join all nodes: they put each two into one class
+abbrev pub joins_all : List Edge → List ℕ → Bool
+joins_all edges nodes =
+    list_all (λ u. list_all (λ v. class_of edges u == class_of edges v) nodes) nodes

@@ -1,6 +1,6 @@
 -- Which limits an input passes.
 use Rattle.std.proofs.Common.{◌≡◌, ◌∙◌, ℕ, ◌-◌, ◌≤◌, ◌<◌, ◌^◌, Bool, true, false, List, [], ◌∷◌, ◌++◌, length, nat_lt, Option, Some, None, if◌then◌else◌, ap, refl, arith}
-use Rattle.std.specs.Option.{unwrap_or}
+use Rattle.std.specs.Option.{option_map_or, unwrap_or}
 use Rattle.std.proofs.lemmas.Bool.Decides.{nat_tests}
 use Rattle.pls_base.specs.declared.text_error.TextError.{TextError}
 use Rattle.pls_base.specs.declared.text_error.TextError.TheVariants.{Limit}
@@ -10,7 +10,7 @@ use Rattle.pls_model.specs.declared.row.NodeRow.{NodeRow}
 use Rattle.pls_model.specs.declared.limits.TheConstants.{MAX_BITS, MAX_LINES, MAX_NODES, MAX_PORTS, MAX_ROUNDS}
 use Rattle.pls_model.specs.Configuration.{first_of, ports_in}
 use Rattle.pls_netfile.specs.NetworkScan.{TellsNetwork, WrittenNetwork}
-use Rattle.pls_labelfile.specs.LabelsText.{NamedLabel}
+use Rattle.pls_labelfile.specs.LabelsText.{Labelling}
 use Rattle.pls_labelfile.specs.LabelsScan.{WrittenLabels, total_bits}
 use Rattle.pls_base.specs.Steps.{capped}
 use Rattle.pls_schedule.specs.declared.event.Event.{Event}
@@ -114,16 +114,16 @@ ports_told None (Some rows) tells = absurd tells
 ports_told (Some text) None tells = absurd tells
 ports_told (Some text) (Some rows) tells = tells.ports
 
-bits_told : (line : ℕ) (text : Option WrittenLabels) (labels : Option (List NamedLabel))
+bits_told : (line : ℕ) (text : Option WrittenLabels) (labels : Option Labelling)
     → TellsIfAny (TellsLabelsAt line) text labels
     → over Bits MAX_BITS (count_in (λ text. text.bits) text)
-    ≡ over Bits MAX_BITS (total_bits (unwrap_or labels []))
+    ≡ over Bits MAX_BITS (total_bits (option_map_or (λ said. said.labels) labels []))
 bits_told line None None tells = refl
-bits_told line None (Some labels) tells = absurd tells
+bits_told line None (Some said) tells = absurd tells
 bits_told line (Some text) None tells = absurd tells
-bits_told line (Some text) (Some labels) tells =
+bits_told line (Some text) (Some said) tells =
     ap (over Bits MAX_BITS) tells.sum
-    ∙ capped_over Bits MAX_BITS (total_bits labels) (omega arith)
+    ∙ capped_over Bits MAX_BITS (total_bits said.labels) (omega arith)
 
 events_told : (line : ℕ) (text : Option WrittenSchedule) (events : Option (List Event))
     → TellsIfAny (TellsScheduleAt line) text events

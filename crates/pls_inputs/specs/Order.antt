@@ -14,7 +14,8 @@ use Rattle.pls_labelfile.specs.LabelsScan.{total_bits}
 use Rattle.pls_labelfile.specs.Misfit.{misfit}
 use Rattle.pls_labelfile.specs.Refusal.{misfit_error}
 use Rattle.pls_schedule.specs.ScheduleText.{schedule_lines}
-use Rattle.pls_edits.specs.EditsText.{rounds_of}
+use Rattle.pls_edits.specs.EditsText.{edits_lines, rounds_of}
+use Rattle.pls_rules_part.specs.RulesText.{rules_refusal}
 use Rattle.pls_inputs.specs.declared.parts.Parts.{Parts}
 use Rattle.pls_inputs.specs.Parts.{AreLines, Input, IsInputText, edits_in, events_in, lines_of, named_in, rows_in}
 
@@ -27,6 +28,9 @@ schedule_heading input = labels_heading input + length (lines_of labels_lines in
 
 abbrev pub edits_heading : Input → ℕ
 edits_heading input = schedule_heading input + length (lines_of schedule_lines input.schedule)
+
+abbrev pub rules_heading : Input → ℕ
+rules_heading input = edits_heading input + length (lines_of edits_lines input.edits)
 
 -- a quantity that passes its limit
 abbrev pub over : Quantity → ℕ → ℕ → Option TextError
@@ -43,13 +47,14 @@ limits input =
     ∷ over Rounds MAX_ROUNDS (length (rounds_of (edits_in input)))
     ∷ []
 
--- what makes no sense: the first of 10 to 16 of the rows, and then 20, the first line of the labels
--- part that does not fit the nodes
+-- what makes no sense: the first of 10 to 16 of the rows; then 20, the first line of the labels part
+-- that does not fit the nodes; then 51 or 50, by the first line of the rules part that makes none
 abbrev pub senses : Input → List (Option TextError)
 senses input =
     option_map text_error_of (refusal_of (rows_in input))
     ∷ option_map (misfit_error (labels_heading input))
-    (option_and_then (misfit (ids_of (rows_in input))) input.labels)
+    (option_and_then (λ said. misfit (ids_of (rows_in input)) said.labels) input.labels)
+    ∷ option_and_then (rules_refusal (rules_heading input)) input.rules
     ∷ []
 
 -- the refusals of what the parts say, in their order

@@ -2,22 +2,25 @@
 use Rattle.std.specs.Prelude.{◌≡◌, ℕ, ◌+◌, Bool, List, [], length, Option, Some, None, option_map, ⊤}
 use Rattle.std.specs.Option.{unwrap_or}
 use Rattle.pls_model.specs.declared.row.NodeRow.{NodeRow}
-use Rattle.pls_model.specs.Configuration.{ids_of}
-use Rattle.pls_labelfile.specs.LabelsText.{named}
 use Rattle.pls_schedule.specs.declared.event.Event.{Event}
 use Rattle.pls_edits.specs.declared.edit_line.EditLine.{EditLine}
+use Rattle.pls_rules.specs.declared.rule_set.RuleSet.{RuleSet}
+use Rattle.pls_rules.specs.HeldTrees.{set_of}
+use Rattle.pls_rules.specs.RuleSet.{AreRules}
+use Rattle.pls_rules_part.specs.RulesText.{said_of_set, set_said}
 use Rattle.pls_inputs.specs.declared.input.Input.{Input as Read}
 use Rattle.pls_inputs.specs.declared.parts.Parts.{Parts}
-use Rattle.pls_inputs.specs.Parts.{Input}
+use Rattle.pls_inputs.specs.Parts.{Input, code_in, net_labelling}
 use Rattle.pls_inputs.specs.Order.{IsInput, edits_heading, schedule_heading}
 
 -- what was read, part by part
 abbrev pub said : Read → Input
 said read = record {
   network = read.network;
-  labels = option_map (named (ids_of (unwrap_or read.network []))) read.labels;
+  labels = option_map (net_labelling read.code (unwrap_or read.network [])) read.labels;
   schedule = option_map (λ list. list.items) read.schedule;
   edits = option_map (λ list. list.items) read.edits;
+  rules = option_map (λ set. said_of_set (set_of set)) read.rules;
 }
 
 -- there is a label for each node, where there are both
@@ -32,8 +35,15 @@ IsFirstLine (Some events) edits input line = line ≡ schedule_heading input + 1
 IsFirstLine None (Some edits) input line = line ≡ edits_heading input + 1
 IsFirstLine None None input line = ⊤
 
+-- the rule set makes sense, and is the one that the part says which is written of it
+abbrev pub IsSensible : Option RuleSet → Type 0
+IsSensible None = ⊤
+IsSensible (Some set) = AreRules (set_of set) × (set_said (said_of_set (set_of set)) ≡ set_of set)
+
 -- what was read is an input with these parts
 pub record IsRead (parts : Parts) (bytes : List ℕ) (read : Read) : Type 0 where
   pub is : IsInput parts bytes (said read)
   pub each : AreEach read.network read.labels
+  pub code : read.code ≡ code_in (said read)
   pub line : IsFirstLine (said read).schedule (said read).edits (said read) read.first_line
+  pub rules : IsSensible read.rules

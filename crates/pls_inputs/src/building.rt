@@ -1,13 +1,15 @@
 //! What the texts of parts say, as values in memory.
 
 ghost use Rattle.std.specs.Prelude.{IfErr, IfOk, option_map};
-ghost use Rattle.pls_inputs.specs.inner.Built.{AreBuilt, AreListed, AreEditsIfAny, AreRefused, AreUnlisted, AreUnmade, IsBuilt, IsUnbuilt};
+ghost use Rattle.pls_inputs.specs.inner.Built.{AreBuilt, AreListed, AreEditsIfAny, AreRefused, AreUnlisted, AreUnmade, IsBuilt, IsNoSet, IsSetIfAny, IsUnbuilt};
 
 use pls_base::TextError;
 use pls_edits::{EditLine, EditsText};
 use pls_graph::Network;
 use pls_labelfile::LabelsText;
 use pls_netfile::ReadNetwork;
+use pls_rules::RuleSet;
+use pls_rules_part::RulesText;
 use pls_schedule::{Event, ScheduleText};
 use pls_view::LabelStore;
 use std::alloc::Global;
@@ -68,6 +70,20 @@ pub(crate) fn list_edits(
 {
     match edits {
         Some(text) => Ok(Some(text.list(alloc)?)),
+        None => Ok(None),
+    }
+}
+
+// The rule set that a text says, where there is one, or why it is refused.
+pub(crate) fn build_rules(
+    alloc: Global,
+    rules: &Option<RulesText<'_>>,
+) -> Result<Option<RuleSet>, TextError>
+    ensures built { IfOk result (λ set. IsSetIfAny rules.now set) }
+    ensures refused { IfErr result (λ error. IsNoSet rules.now error) }
+{
+    match rules {
+        Some(text) => Ok(Some(text.build(alloc)?)),
         None => Ok(None),
     }
 }

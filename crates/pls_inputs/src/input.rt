@@ -3,16 +3,19 @@
 ghost use Rattle.std.specs.Prelude.{◌≡◌, ◌≢◌, ◌≤◌, IfErr, IfOk, length, true};
 ghost use Rattle.pls_inputs.specs.Order.{IsNoInput};
 ghost use Rattle.pls_inputs.specs.Read.{IsRead};
-ghost use Rattle.pls_inputs.specs.inner.Built.{first_line_of};
+ghost use Rattle.pls_inputs.specs.inner.Built.{code_of, first_line_of};
 
-use crate::building::{build_labels, build_network, list_edits, list_events};
+use crate::building::{build_labels, build_network, build_rules, list_edits, list_events};
 use crate::parts::Parts;
 use crate::scanning::scan_parts;
 use crate::texts::{Texts, test_limits};
 use pls_base::TextError;
+use pls_bits::CodeName;
 use pls_edits::{EditLine, EditsText};
 use pls_graph::Network;
+use pls_labelfile::LabelsText;
 use pls_model::MAX_INPUT;
+use pls_rules::RuleSet;
 use pls_schedule::{Event, ScheduleText};
 use pls_view::LabelStore;
 use std::alloc::Global;
@@ -24,10 +27,14 @@ pub struct Input {
     pub network: Option<Network>,
     /// The labels of its nodes, in their order.
     pub labels: Option<LabelStore>,
+    /// The number code of the labels, the gamma code where it has none.
+    pub code: CodeName,
     /// The events of a round.
     pub schedule: Option<Vec<Event>>,
     /// The edits, and the rounds between them.
     pub edits: Option<Vec<EditLine>>,
+    /// The rule set.
+    pub rules: Option<RuleSet>,
     /// The number of the line of the first event or edit, 0 where it has no part for them.
     pub first_line: u64,
 }
@@ -48,19 +55,34 @@ pub fn read_input(alloc: Global, parts: Parts, bytes: &[u8]) -> Result<Input, Te
         labels: named,
         schedule: events,
         edits: lines,
+        rules: expressions,
     } = texts;
     let network = build_network(alloc, rows)?;
     let labels = build_labels(alloc, &named, &network)?;
+    let code = code(&named);
     let schedule = list_events(alloc, &events)?;
     let edits = list_edits(alloc, &lines)?;
+    let rules = build_rules(alloc, &expressions)?;
     let first_line = first_line(&events, &lines);
     Ok(Input {
         network,
         labels,
+        code,
         schedule,
         edits,
+        rules,
         first_line,
     })
+}
+
+// The number code of labels, the gamma code where there are none.
+fn code(labels: &Option<LabelsText<'_>>) -> CodeName
+    ensures { result ≡ code_of labels.now }
+{
+    match labels {
+        Some(text) => text.code(),
+        None => CodeName::Gamma,
+    }
 }
 
 // The number of the line of the first event or edit, 0 where there is no part for them.

@@ -4,6 +4,8 @@ ghost use Rattle.std.specs.Prelude.{IfErr, IfOk, OnOk};
 ghost use Rattle.pls_lines.specs.Fault.{NamesFirstFault};
 ghost use Rattle.pls_lines.specs.Lines.{IsFormFault};
 ghost use Rattle.pls_lines.specs.Part.{PassesFormat};
+ghost use Rattle.pls_labelfile.specs.LabelsScan.{PassesPart};
+ghost use Rattle.pls_labelfile.specs.LabelsText.{IsLabelsPart};
 ghost use Rattle.pls_netfile.specs.NetworkScan.{PassesNetwork};
 ghost use Rattle.pls_netfile.specs.NetworkText.{IsNetworkPart};
 ghost use Rattle.pls_inputs.specs.Parts.{AreLines};
@@ -13,9 +15,10 @@ use crate::parts::Parts;
 use crate::texts::Texts;
 use pls_base::TextError;
 use pls_edits::EditsText;
-use pls_labelfile::LabelsText;
+use pls_labelfile::{LabelsText, scan_labels};
 use pls_lines::{Lines, Part};
 use pls_netfile::{ReadNetwork, pass_network};
+use pls_rules_part::RulesText;
 use pls_schedule::ScheduleText;
 use std::alloc::Global;
 
@@ -31,9 +34,10 @@ pub(crate) fn scan_parts<'a>(
 {
     let mut lines = Lines::new(bytes);
     let network = pass_network_if(alloc, parts.network, &mut lines)?;
-    let labels = pass_if::<LabelsText<'a>>(parts.labels, &mut lines)?;
+    let labels = pass_labels_if(parts.labels, parts.delta, &mut lines)?;
     let schedule = pass_if::<ScheduleText<'a>>(parts.schedule, &mut lines)?;
     let edits = pass_if::<EditsText<'a>>(parts.edits, &mut lines)?;
+    let rules = pass_if::<RulesText<'a>>(parts.rules, &mut lines)?;
     if !lines.at_end() {
         return Err(lines.form_error());
     }
@@ -42,6 +46,7 @@ pub(crate) fn scan_parts<'a>(
         labels,
         schedule,
         edits,
+        rules,
     })
 }
 
@@ -60,6 +65,27 @@ fn pass_network_if<'a>(
         return Ok(None);
     }
     let part = pass_network(alloc, lines)?;
+    Ok(Some(part))
+}
+
+// Passes the labels that stand next where they are wanted, or names their first faulty line, where
+// `delta` says whether they may be under the delta code. It takes no memory.
+fn pass_labels_if<'a>(
+    wanted: bool,
+    delta: bool,
+    lines: &mut Lines<'a>,
+) -> Result<Option<LabelsText<'a>>, TextError>
+    ensures passed { IfOk result
+        (λ part. PassesIf wanted (PassesPart delta) lines.old lines.new part) }
+    ensures format { OnOk result
+        (PassesFormat (If wanted (IsLabelsPart delta)) lines.old lines.new) }
+    ensures form { IfErr result
+        (λ error. IsFormFault (If wanted (IsLabelsPart delta)) lines.old error) }
+{
+    if !wanted {
+        return Ok(None);
+    }
+    let part = scan_labels(lines, delta)?;
     Ok(Some(part))
 }
 

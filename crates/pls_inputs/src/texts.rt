@@ -10,6 +10,7 @@ use pls_edits::EditsText;
 use pls_labelfile::LabelsText;
 use pls_model::{MAX_BITS, MAX_LINES, MAX_NODES, MAX_PORTS, MAX_ROUNDS};
 use pls_netfile::ReadNetwork;
+use pls_rules_part::RulesText;
 use pls_schedule::ScheduleText;
 
 /// The texts of the parts of an input, as they were scanned; `None` where there is no such part.
@@ -19,6 +20,7 @@ pub(crate) struct Texts<'a> {
     pub(crate) labels: Option<LabelsText<'a>>,
     pub(crate) schedule: Option<ScheduleText<'a>>,
     pub(crate) edits: Option<EditsText<'a>>,
+    pub(crate) rules: Option<RulesText<'a>>,
 }
 
 // Refuses texts with too much of a quantity, in the order of the limits. It takes no memory.

@@ -10,14 +10,15 @@ use Rattle.pls_model.specs.Configuration.{ids_of}
 use Rattle.pls_lines.specs.Text.{text_of}
 use Rattle.pls_lines.specs.laws.Fronts.{text_of-append}
 use Rattle.pls_bits.specs.Hex.{hex_digits}
-use Rattle.pls_labelfile.specs.LabelsText.{NamedLabel, hex_word, label_line, label_of_words, labels_text, named}
+use Rattle.pls_bits.specs.declared.code_name.CodeName.{CodeName}
+use Rattle.pls_labelfile.specs.LabelsText.{NamedLabel, hex_word, label_line, label_of_words, labelling_of, labels_heading, labels_text, named}
 use Rattle.pls_labelfile.specs.laws.LabelLaws.{words_behind}
 use Rattle.pls_labelfile.proofs.Named.{named-none, named-split, named-take}
 
 -- the lines of a labels part up to the labels of the first nodes
-abbrev pub lines_so_far : List NodeRow → List (List Bool) → ℕ → List (List ℕ)
-lines_so_far rows labels count =
-    codes "labels" ∷ map label_line (named (take count (ids_of rows)) (take count labels))
+abbrev pub lines_so_far : CodeName → List NodeRow → List (List Bool) → ℕ → List (List ℕ)
+lines_so_far code rows labels count =
+    labels_heading code ∷ map label_line (named (take count (ids_of rows)) (take count labels))
 
 -- the lines of a labels part behind those
 abbrev pub lines_behind : List NodeRow → List (List Bool) → ℕ → List (List ℕ)
@@ -45,35 +46,35 @@ digits_more digits more k is =
     ∙ sym (take-add (16 * k) 16 digits) ∙ ap (λ (n : ℕ). take n digits) (sym next)
 
 -- the line of one label more
-pub one_line_more : (rows : List NodeRow) (labels : List (List Bool)) (place id : ℕ)
+pub one_line_more : (code : CodeName) (rows : List NodeRow) (labels : List (List Bool)) (place id : ℕ)
     (bits : List Bool) → option_map (λ row. row.id) (slice_get rows place) ≡ Some id
     → slice_get labels place ≡ Some bits
-    → text_of (lines_so_far rows labels place)
+    → text_of (lines_so_far code rows labels place)
     ++ text_of (label_line (record { id = id; bits = bits }) ∷ [])
-    ≡ text_of (lines_so_far rows labels (place + 1))
-one_line_more rows labels place id bits id_at bits_at =
+    ≡ text_of (lines_so_far code rows labels (place + 1))
+one_line_more code rows labels place id bits id_at bits_at =
     let label : NamedLabel = record { id = id; bits = bits } in
     let ids_at : slice_get (ids_of rows) place ≡ Some id =
     slice_get-map (λ (row : NodeRow). row.id) rows place ∙ id_at in
     let front = named (take place (ids_of rows)) (take place labels) in
-    let lines : lines_so_far rows labels place ++ label_line label ∷ []
-    ≡ lines_so_far rows labels (place + 1) =
-    ap (λ (lines : List (List ℕ)). codes "labels" ∷ lines)
+    let lines : lines_so_far code rows labels place ++ label_line label ∷ []
+    ≡ lines_so_far code rows labels (place + 1) =
+    ap (λ (lines : List (List ℕ)). labels_heading code ∷ lines)
     (sym (map_push label_line front label)
     ∙ ap (map label_line) (sym (named-take (ids_of rows) labels place id bits ids_at bits_at)
     ∙ ap (λ (n : ℕ). named (take n (ids_of rows)) (take n labels)) (sym (add-one place)))) in
-    sym (text_of-append (lines_so_far rows labels place) (label_line label ∷ [])) ∙ ap text_of lines
+    sym (text_of-append (lines_so_far code rows labels place) (label_line label ∷ [])) ∙ ap text_of lines
 
 -- the lines up to some labels and those behind them
-pub whole_text : (rows : List NodeRow) (labels : List (List Bool)) (count : ℕ)
-    → text_of (lines_so_far rows labels count) ++ text_of (lines_behind rows labels count)
-    ≡ labels_text (named (ids_of rows) labels)
-whole_text rows labels count =
+pub whole_text : (code : CodeName) (rows : List NodeRow) (labels : List (List Bool)) (count : ℕ)
+    → text_of (lines_so_far code rows labels count) ++ text_of (lines_behind rows labels count)
+    ≡ labels_text (labelling_of code (named (ids_of rows) labels))
+whole_text code rows labels count =
     let ids = ids_of rows in
     let front = named (take count ids) (take count labels) in
     let back = named (drop count ids) (drop count labels) in
-    sym (text_of-append (lines_so_far rows labels count) (lines_behind rows labels count))
-    ∙ ap (λ (lines : List (List ℕ)). text_of (codes "labels" ∷ lines))
+    sym (text_of-append (lines_so_far code rows labels count) (lines_behind rows labels count))
+    ∙ ap (λ (lines : List (List ℕ)). text_of (labels_heading code ∷ lines))
     (sym (append_assoc (map label_line front) (map label_line back) (codes "end" ∷ []))
     ∙ ap (λ (lines : List (List ℕ)). lines ++ codes "end" ∷ [])
     (sym (map-append label_line front back)

@@ -2,16 +2,17 @@
 use Rattle.std.proofs.Common.{◌≡◌, Some, None, true, false, [], ◌∷◌, ◌++◌, codes, refl}
 use Rattle.std.specs.Fmt.{digits}
 use Rattle.pls_bits.specs.Hex.{hex_digits}
-use Rattle.pls_labelfile.specs.LabelsText.{labels_text, named}
+use Rattle.pls_bits.specs.declared.code_name.CodeName.TheVariants.{Delta, Gamma}
+use Rattle.pls_labelfile.specs.LabelsText.{labelling_of, labels_text, named}
 use Rattle.pls_labelfile.specs.Misfit.{misfit}
 
 -- labels of one bit, of none, and of nine
-some : labels_text (record { id = 1; bits = true ∷ [] } ∷ record { id = 20; bits = [] }
+some : labels_text (labelling_of Gamma (record { id = 1; bits = true ∷ [] } ∷ record { id = 20; bits = [] }
     ∷ record {
       id = 21;
       bits = true ∷ false ∷ false ∷ false ∷ false ∷ false ∷ false ∷ true ∷ true
           ∷ [];
-    } ∷ [])
+    } ∷ []))
     ≡ codes "labels\nlabel 1 1 "
     ++ (hex_digits (true ∷ [])
     ++ (codes "\nlabel 20 0 -\nlabel 21 9 "
@@ -19,6 +20,10 @@ some : labels_text (record { id = 1; bits = true ∷ [] } ∷ record { id = 20; 
     ++ codes "\nend\n")))
 unfolding digits
 some = refl
+
+-- no label, under the delta code
+none : labels_text (labelling_of Delta []) ≡ codes "labels delta\nend\n"
+none = refl
 
 -- each node has its label
 all_fit : misfit (1 ∷ 20 ∷ []) (named (1 ∷ 20 ∷ []) ([] ∷ [] ∷ [])) ≡ None

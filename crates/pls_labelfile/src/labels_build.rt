@@ -4,7 +4,7 @@ ghost use Rattle.std.specs.Prelude.{◌≡◌, ◌+◌, ◌*◌, ◌<◌, ◌≤
 ghost use Rattle.pls_model.specs.Configuration.{ids_of};
 ghost use Rattle.pls_model.specs.declared.limits.TheConstants.{MAX_NODES};
 ghost use Rattle.pls_lines.specs.ListPart.{NextItem, Remains};
-ghost use Rattle.pls_labelfile.specs.LabelsText.{FitsLabel, NamedLabel, label_line};
+ghost use Rattle.pls_labelfile.specs.LabelsText.{FitsLabel, Labelling, NamedLabel, label_line};
 ghost use Rattle.pls_labelfile.specs.LabelsScan.{TellsLabels, total_bits};
 ghost use Rattle.pls_labelfile.specs.Misfit.{misfit};
 ghost use Rattle.pls_labelfile.specs.Refusal.{IsLabelsRefusal, labels_refusal};
@@ -28,14 +28,15 @@ impl<'a> LabelsText<'a> {
     /// node than the one whose turn it is, a label when every node has one, or the `end` before
     /// that. `NoMemory` for want of memory.
     pub fn build(&self, alloc: Global, net: &Network) -> Result<LabelStore, TextError>
-        ensures ok { (labels : List NamedLabel) → TellsLabels self.now.text labels
-            → IfOk result (λ store. store ≡ map (λ label. label.bits) labels) }
-        ensures named { (labels : List NamedLabel) → TellsLabels self.now.text labels
-            → OnOk result (map (λ label. label.id) labels ≡ ids_of net.now) }
-        ensures accepted { (labels : List NamedLabel) → TellsLabels self.now.text labels
-            → OnOk result (labels_refusal (ids_of net.now) self.now.number labels ≡ None) }
-        ensures refused { (labels : List NamedLabel) → TellsLabels self.now.text labels
-            → IfErr result (λ error. IsLabelsRefusal (ids_of net.now) self.now.number labels error) }
+        ensures ok { (said : Labelling) → TellsLabels self.now.text said
+            → IfOk result (λ store. store ≡ map (λ label. label.bits) said.labels) }
+        ensures named { (said : Labelling) → TellsLabels self.now.text said
+            → OnOk result (map (λ label. label.id) said.labels ≡ ids_of net.now) }
+        ensures accepted { (said : Labelling) → TellsLabels self.now.text said
+            → OnOk result (labels_refusal (ids_of net.now) self.now.number said.labels ≡ None) }
+        ensures refused { (said : Labelling) → TellsLabels self.now.text said
+            → IfErr result (λ error.
+            IsLabelsRefusal (ids_of net.now) self.now.number said.labels error) }
     {
         if self.part.kept.bits > MAX_BITS {
             return Err(TextError::Limit(Quantity::Bits));
@@ -56,8 +57,8 @@ impl<'a> LabelsText<'a> {
     // A reader of the lines behind the heading.
     fn behind_heading(&self) -> Lines<'a>
         ensures said { SaysLabels result.rest }
-        ensures remains { (labels : List NamedLabel) → TellsLabels self.now.text labels
-            → Remains FitsLabel label_line result.rest labels }
+        ensures remains { (said : Labelling) → TellsLabels self.now.text said
+            → Remains FitsLabel label_line result.rest said.labels }
     {
         self.part.behind_heading()
     }

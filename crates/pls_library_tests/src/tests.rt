@@ -1,8 +1,9 @@
-//! Tests of bits, networks, texts, views and rechecks.
+//! Tests of bits, networks, components, texts, views and rechecks.
 
 mod base;
 mod bits;
 mod codes;
+mod components;
 mod edits;
 mod graph;
 mod labelfile;

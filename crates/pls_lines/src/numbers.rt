@@ -4,8 +4,7 @@ ghost use Rattle.std.specs.Prelude.{◌≡◌, ◌≢◌, ℕ, ◌+◌, ◌<◌,
 ghost use Rattle.pls_lines.specs.inner.Digits.{BeginsDigit};
 
 use crate::words::after_byte;
-
-const MOST_OF_32_BITS: u64 = 0xffff_ffff;
+use pls_model::MAX_WORD;
 
 /// A number up to `most` at the front of a text, and what follows the byte `end` behind it; `None`
 /// where they do not stand there.
@@ -33,7 +32,7 @@ pub fn u32_before(text: &[u8], end: u8) -> Option<(u32, &[u8])>
     ensures none { IfNone result ((number : ℕ) (rest : List ℕ) → number < 2 ^ 32
         → text.now ≢ decimal number ++ end ∷ rest) }
 {
-    let (number, rest) = number_before(text, end, MOST_OF_32_BITS)?;
+    let (number, rest) = number_before(text, end, MAX_WORD)?;
     Some((number as u32, rest))
 }
 

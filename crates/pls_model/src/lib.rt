@@ -14,7 +14,7 @@ mod status;
 mod verdict;
 
 pub use limits::{
-    MAX_BITS, MAX_DEGREE, MAX_INPUT, MAX_LINES, MAX_NODES, MAX_NUM, MAX_PORTS, MAX_ROUNDS,
+    MAX_BITS, MAX_DEGREE, MAX_INPUT, MAX_LINES, MAX_NODES, MAX_NUM, MAX_PORTS, MAX_ROUNDS, MAX_WORD,
 };
 pub use refusal::BuildError;
 pub use row::{NodePorts, NodeRow, Port, State};

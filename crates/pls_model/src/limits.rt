@@ -12,6 +12,10 @@ pub const MAX_PORTS: usize = 262_144;
 /// The greatest number of ports of one node, which has at most one to each other node.
 pub const MAX_DEGREE: usize = 32_767;
 
+/// The greatest number of 32 bits, 2^32 - 1: of identities, marks, weights and ports, and in the
+/// lines of events and edits.
+pub const MAX_WORD: u64 = 4_294_967_295;
+
 /// The greatest `num` of a state, 2^62.
 pub const MAX_NUM: u64 = 4_611_686_018_427_387_904;
 

@@ -1,9 +1,11 @@
-//! What stands at the front of a text: a word, and the name of a scheme.
+//! The name of a scheme at the front of a text.
 
-ghost use Rattle.std.specs.Prelude.{◌≡◌, ◌≢◌, ◌++◌, ℕ, List, MatchOption, option_map};
-ghost use Rattle.pls_names.specs.Front.{after, first_name, name_front, found_front};
+ghost use Rattle.std.specs.Prelude.{◌≡◌, option_map};
+ghost use Rattle.pls_fronts.specs.Front.{found_front};
+ghost use Rattle.pls_names.specs.Front.{first_name, name_front};
 
 use crate::scheme_name::{SchemeName, all_names, name_of};
+use pls_fronts::after;
 
 /// The name at the front of a text, and what follows it.
 pub fn name_front(text: &[u8]) -> Option<(SchemeName, &[u8])>
@@ -21,19 +23,4 @@ fn first_name<'a>(names: &[SchemeName], text: &'a [u8]) -> Option<(SchemeName, &
         Some(rest) => Some((*name, rest)),
         None => first_name(others, text),
     }
-}
-
-/// What follows a word at the front of a text.
-pub fn after<'a>(text: &'a [u8], word: &[u8]) -> Option<&'a [u8]>
-    ensures { option_map (λ rest. rest.now) result ≡ after word.now text.now }
-{
-    after_word(text, word)
-}
-
-// The same, by the word.
-fn after_word<'a>(text: &'a [u8], word: &[u8]) -> Option<&'a [u8]>
-    ensures { MatchOption result ((rest : List ℕ) → text.now ≢ word.now ++ rest)
-        (λ rest. text.now ≡ word.now ++ rest.now) }
-{
-    text.strip_prefix(word)
 }

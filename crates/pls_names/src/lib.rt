@@ -14,7 +14,7 @@ mod named;
 pub mod scheme_name;
 mod with_checker;
 
-pub use front::{after, name_front};
+pub use front::name_front;
 pub use named::Named;
 pub use scheme_name::{SchemeName, name_of};
 pub use with_checker::WithChecker;

@@ -13,9 +13,16 @@ is_accepting (Decided Accept) = true
 is_accepting (Decided (Reject leaf rule)) = false
 is_accepting (Waiting ports) = false
 
--- all nodes accept
+-- all nodes accept, where this is the outcome of what stands beside each identity
+abbrev pub accept_by : {X : Type 0} → (X → Outcome) → List (ℕ × X) → Bool
+accept_by outcome rows = list_all (λ row. is_accepting (outcome row.1)) rows
+
+-- so with outcomes, and with verdicts
 abbrev pub all_accept : List (ℕ × Outcome) → Bool
-all_accept rows = list_all (λ row. is_accepting row.1) rows
+all_accept rows = accept_by (λ outcome. outcome) rows
+
+abbrev pub all_verdicts_accept : List (ℕ × Verdict) → Bool
+all_verdicts_accept rows = accept_by Decided rows
 
 -- the node rejects
 abbrev pub is_rejecting : Outcome → Bool
@@ -28,9 +35,15 @@ abbrev pub is_waiting : Outcome → Bool
 is_waiting (Decided verdict) = false
 is_waiting (Waiting ports) = true
 
--- how many of the nodes reject
+-- how many of the nodes reject, likewise
+abbrev pub rejecting_by : {X : Type 0} → (X → Outcome) → List (ℕ × X) → ℕ
+rejecting_by outcome rows = count_by (λ row. is_rejecting (outcome row.1)) rows
+
 abbrev pub rejecting : List (ℕ × Outcome) → ℕ
-rejecting rows = count_by (λ row. is_rejecting row.1) rows
+rejecting rows = rejecting_by (λ outcome. outcome) rows
+
+abbrev pub rejecting_verdicts : List (ℕ × Verdict) → ℕ
+rejecting_verdicts rows = rejecting_by Decided rows
 
 -- how many of the nodes wait
 abbrev pub waiting : List (ℕ × Outcome) → ℕ
@@ -59,13 +72,6 @@ waiting_words simulated rows =
 abbrev pub closing_line : Bool → List (ℕ × Outcome) → List ℕ
 closing_line simulated rows =
     line_of (codes "rejecting" ∷ decimal (rejecting rows) ∷ waiting_words simulated rows)
-
--- of nodes with their verdicts, whether all accept, and how many reject
-abbrev pub all_verdicts_accept : List (ℕ × Verdict) → Bool
-all_verdicts_accept rows = list_all (λ row. is_accepting (Decided row.1)) rows
-
-abbrev pub rejecting_verdicts : List (ℕ × Verdict) → ℕ
-rejecting_verdicts rows = count_by (λ row. is_rejecting (Decided row.1)) rows
 
 -- `yes` or `no`
 abbrev pub yes_or_no : Bool → List ℕ

@@ -1,4 +1,3 @@
 pub mod Formula
 pub mod RuleSet
 pub mod HeldTrees
-pub mod Builtin

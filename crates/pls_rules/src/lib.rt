@@ -5,8 +5,7 @@
 //! [`RuleSet`] is a set as it is held: [`Field`]s, and a [`BoolExpr`] for each rule, whose numbers
 //! are [`NumExpr`]s. Definitions stand in `specs/`: `Formula` has the trees of the language apart
 //! from how they are held, `RuleSet` which sets make sense (`AreRules`), `HeldTrees` the set that
-//! is held (`set_of`), `Builtin` the sets that have names. What a set means stands in
-//! `pls_compile`.
+//! is held (`set_of`). What a set means stands in `pls_compile`.
 #![tactic(auto)]
 
 mod expr;

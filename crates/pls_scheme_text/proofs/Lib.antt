@@ -1,4 +1,3 @@
-pub mod Depths
 pub mod Letters
 pub mod Refusals
 pub mod Worked

@@ -7,9 +7,10 @@ use Rattle.std.proofs.lemmas.Option.{same_Some}
 use Rattle.pls_scheme_text.specs.declared.scheme_error.SchemeError.{SchemeError}
 use Rattle.pls_scheme_text.specs.declared.scheme_error.SchemeError.TheVariants.{NoMemory, NotAScheme, TooDeep, TooMany}
 use Rattle.pls_property.specs.Expression.{Expression, IsSmall, CanBeWritten, depth_of, names_of}
-use Rattle.pls_scheme_text.specs.ExpressionText.{HasTooManyNames, IsNoExpression, IsNoScheme, IsTooDeep, deepest, expression_text}
-use Rattle.pls_names.specs.Front.{Front}
-use Rattle.pls_scheme_text.specs.inner.Fronts.{whole_item, count_front, expression_front, expression_in, names_in, scheme_refusal_of}
+use Rattle.pls_scheme_text.specs.ExpressionText.{HasTooManyNames, IsNoExpression, IsNoScheme, IsTooDeep, expression_text}
+use Rattle.pls_fronts.specs.Depth.{deepest}
+use Rattle.pls_fronts.specs.Front.{Front, whole_item}
+use Rattle.pls_scheme_text.specs.inner.Fronts.{count_front, expression_front, expression_in, names_in, scheme_refusal_of}
 use Rattle.pls_scheme_text.specs.laws.DepthLaws.{deep_text}
 use Rattle.pls_scheme_text.specs.laws.TextLaws.{expression_in-is, expression_in-text, one_expression}
 

@@ -1,13 +1,13 @@
 //! Expressions at the front of a text: how many names they have, and what they are.
 
 ghost use Rattle.std.specs.Prelude.{◌≡◌, IfOk, option_map};
-ghost use Rattle.pls_names.specs.Front.{found_front};
+ghost use Rattle.pls_fronts.specs.Front.{found_front};
 ghost use Rattle.pls_property.specs.Held.{expression_of};
 ghost use Rattle.pls_scheme_text.specs.inner.Fronts.{count_front, expression_front, expression_of_two, found_tree};
 
 use crate::fronts::{Join, join_front, leaf_front, map_front};
 use pls_base::NoMemory;
-use pls_names::after;
+use pls_fronts::after;
 use pls_property::ExpressionTree;
 use std::alloc::Global;
 

@@ -2,14 +2,14 @@
 //! memory.
 
 ghost use Rattle.std.specs.Prelude.{◌≡◌, IfSome, option_map};
-ghost use Rattle.pls_names.specs.Front.{found_front};
+ghost use Rattle.pls_fronts.specs.Front.{found_front};
 ghost use Rattle.pls_property.specs.Expression.{names_of};
 ghost use Rattle.pls_property.specs.Held.{expression_of};
-ghost use Rattle.pls_scheme_text.specs.inner.Fronts.{digits_ahead, edges_front, join_front, leaf_front, map_front, number_front, property_front, found_tree};
+ghost use Rattle.pls_scheme_text.specs.inner.Fronts.{edges_front, join_front, leaf_front, map_front, property_front, found_tree};
 
-use pls_base::read_decimal;
+use pls_fronts::{after, number_front};
 use pls_model::MAX_NODES;
-use pls_names::{after, name_front};
+use pls_names::name_front;
 use pls_property::ExpressionTree;
 
 // How two expressions are joined.
@@ -73,29 +73,6 @@ fn property_front(text: &[u8]) -> Option<(ExpressionTree, &[u8])>
 fn edges_front(text: &[u8]) -> Option<(u32, &[u8])>
     ensures { option_map found_front result ≡ edges_front text.now }
 {
-    number_front(after(text, b"diameter:")?)
-}
-
-// The number that all digits at the front of a text spell, where it is at most 32767, and what
-// follows them.
-fn number_front(text: &[u8]) -> Option<(u32, &[u8])>
-    ensures { option_map found_front result ≡ number_front text.now }
-{
-    let (digits, rest) = text.split_at(digits_ahead(text));
-    let number = read_decimal(digits, MAX_NODES as u64 - 1)?;
-    Some((number as u32, rest))
-}
-
-// How many digits stand at the front of a text.
-fn digits_ahead(text: &[u8]) -> usize
-    ensures { result ≡ digits_ahead text.now }
-{
-    let mut count = 0;
-    for character in text {
-        if !character.is_ascii_digit() {
-            return count;
-        }
-        count += 1;
-    }
-    count
+    let (most, rest) = number_front(after(text, b"diameter:")?, MAX_NODES as u64 - 1)?;
+    Some((most as u32, rest))
 }

@@ -1,17 +1,18 @@
 //! Expressions of schemes as texts.
 
-ghost use Rattle.std.specs.Prelude.{◌≡◌, ◌≤◌, ◌↔◌, ◌⊎◌, ◌++◌, true, IfOk, IfErr, OnOk, Some, nat_lt};
+ghost use Rattle.std.specs.Prelude.{◌≡◌, ◌↔◌, ◌⊎◌, ◌++◌, true, IfOk, IfErr, OnOk, Some};
 ghost use Rattle.std.specs.Option.{is_some};
 ghost use Rattle.std.specs.Result.{IsErrOf};
 ghost use Rattle.std.specs.String.{string_bytes};
 ghost use Rattle.pls_property.specs.Expression.{IsSmall};
 ghost use Rattle.pls_property.specs.Held.{expression_of};
-ghost use Rattle.pls_scheme_text.specs.ExpressionText.{HasTooManyNames, IsNoExpression, IsNoScheme, IsTooDeep, deepest, depth_after, expression_text};
+ghost use Rattle.pls_scheme_text.specs.ExpressionText.{HasTooManyNames, IsNoExpression, IsNoScheme, IsTooDeep, expression_text};
 ghost use Rattle.pls_scheme_text.specs.inner.Fronts.{expression_in, names_in, scheme_refusal_of};
 
 use crate::expression_fronts::{names_front, tree_front};
 use crate::scheme_error::SchemeError;
 use pls_base::NoMemory;
+use pls_fronts::is_deeper;
 use pls_names::name_of;
 use pls_property::ExpressionTree;
 use std::alloc::Global;
@@ -47,39 +48,13 @@ pub fn read_expression(alloc: Global, text: &str) -> Result<ExpressionTree, Sche
 fn refusal_of(text: &[u8]) -> Option<SchemeError>
     ensures { result ≡ scheme_refusal_of text.now }
 {
-    if is_too_deep(text) {
+    if is_deeper(text, MOST_DEPTH) {
         return Some(SchemeError::TooDeep);
     }
     match names_in(text) {
         None => Some(SchemeError::NotAScheme),
         Some(names) if names > MOST_NAMES => Some(SchemeError::TooMany),
         Some(_) => None,
-    }
-}
-
-// Whether parentheses stand more than 7 deep somewhere. It takes no memory.
-fn is_too_deep(text: &[u8]) -> bool
-    ensures { result ≡ nat_lt 7 (deepest 0 text.now) }
-{
-    let mut depth: u8 = 0;
-    for character in text {
-        depth = depth_after(depth, *character);
-        if depth > MOST_DEPTH {
-            return true;
-        }
-    }
-    false
-}
-
-// How deep parentheses stand behind a character.
-fn depth_after(depth: u8, character: u8) -> u8
-    requires { depth ≤ 7 }
-    ensures { result ≡ depth_after depth character }
-{
-    match character {
-        b'(' => depth + 1,
-        b')' => depth.saturating_sub(1),
-        _ => depth,
     }
 }
 

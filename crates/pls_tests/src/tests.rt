@@ -1,9 +1,11 @@
 //! The worked examples, as tables of schemes, inputs, texts and statuses.
 
+mod codes;
 mod colours;
 mod expressions;
 mod recheck;
 mod refusals;
+mod rules;
 mod simulate;
 mod streams;
 mod trees;
@@ -82,6 +84,23 @@ fn assert_runs<'t>(
         let input = format!(in alloc; "{front}{back}")?;
         let well = ends_as(alloc, &[command, *scheme], &input, text, *status)?;
         assert!(rt; well, "{command} {scheme} of {input}");
+    }
+    Ok(())
+}
+
+// Runs words on inputs, each in three parts with the text that is due, and asserts the text and the
+// status.
+fn assert_inputs<'w>(
+    rt: &impl Abort,
+    alloc: Global,
+    words: &[&'w str],
+    examples: &[[&'w str; 4]],
+    status: Status,
+) -> Result<(), Fail> {
+    for [network, labels, rules, text] in examples {
+        let input = format!(in alloc; "{network}{labels}{rules}")?;
+        let well = ends_as(alloc, words, &input, text, status)?;
+        assert!(rt; well, "{text} of {input}");
     }
     Ok(())
 }

@@ -8,7 +8,7 @@ use Rattle.pls_model.specs.declared.row.State.{State}
 use Rattle.pls_model.specs.declared.row.NodeRow.{NodeRow}
 use Rattle.pls_model.specs.Configuration.{IsNetwork, ids_of, ports_in, refusal_of, row_of}
 use Rattle.pls_model.specs.Walk.{IsConnected, edges_of}
-use Rattle.pls_facts.specs.Classes.{class_of}
+use Rattle.pls_facts.specs.Classes.{joins_all}
 use Rattle.pls_scheme.specs.Reading.{Read, ReadPort}
 use Rattle.pls_universal.specs.declared.map.MapLabel.{MapLabel}
 use Rattle.pls_universal.specs.declared.map.MapRow.{MapRow}
@@ -74,14 +74,9 @@ is_within_limits rows =
     nat_le 1 (length rows) && nat_le (length rows) MAX_NODES
     && nat_le (ports_in (nodes_of rows)) MAX_PORTS && list_all is_small rows
 
--- the numbers of a list are all the same
-abbrev pub are_one : List ℕ → Bool
-are_one [] = true
-are_one (first ∷ others) = list_all (λ other. first == other) others
-
--- one node stands for all nodes, where each edge puts the classes of its ends together
+-- the edges join all nodes
 abbrev pub is_joined : List NodeRow → Bool
-is_joined rows = are_one (map (class_of (edges_of rows)) (ids_of rows))
+is_joined rows = joins_all (edges_of rows) (ids_of rows)
 
 -- rule 3: own is the identity
 abbrev pub names_itself : Read MapLabel → Bool

@@ -9,11 +9,8 @@ ghost use Rattle.pls_universal.specs.inner.Stating.{IsNetworkOf, is_pointer_smal
 use crate::map::MapRow;
 use pls_base::NoMemory;
 use pls_graph::{BuildError, Network, NodePorts, NodeRow, Port, State, connected};
-use pls_model::{MAX_NODES, MAX_NUM, MAX_PORTS};
+use pls_model::{MAX_NODES, MAX_NUM, MAX_PORTS, MAX_WORD};
 use std::alloc::Global;
-
-// The greatest number of 32 bits.
-const MAX_WORD: u64 = 4_294_967_295;
 
 // The connected network that the records of a map state, or `None` where they state none. The one
 // error is want of memory.

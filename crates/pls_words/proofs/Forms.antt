@@ -1,172 +1,235 @@
--- Words of the form have one of seven shapes, and in each `clap` finds what they say.
-use Rattle.std.proofs.Common.{◌≡◌, ℕ, Bool, true, false, List, [], ◌∷◌, Some, codes, length, sym, subst, inl, inr, ap, arith, cond, refl, slice_get, count_by, ◌+◌, not}
+-- Words that say something have one of twelve shapes, and in each `clap` finds what they say.
+use Rattle.std.proofs.Common.{◌≡◌, ◌∙◌, Bool, true, false, ◌||◌, List, [], ◌∷◌, ◌++◌, Option, Some, None, option_and_then, option_map, bytes_eq, codes, sym, subst, ap, refl, if◌then◌else◌}
+use Rattle.std.specs.List.{list_any}
 use Rattle.std.proofs.lemmas.Slice.Eq.{bytes_eq-Decides}
-use Rattle.std.proofs.lemmas.List.Filters.{length-filter_both}
-use Rattle.std.proofs.lemmas.List.Sums.{length-filter, sum_by-cons}
+use Rattle.std.proofs.lemmas.Option.{same_Some}
+use Rattle.std.proofs.lemmas.List.{append-nil}
 use Rattle.clap.specs.Words.{Text, first_of, one_of, matches_of, takes}
-use Rattle.pls_words.specs.Words.{is_dashed, is_json, is_stray, others_in}
-use Rattle.pls_words.specs.inner.Formed.{IsFormed}
-use Rattle.pls_words.specs.inner.Parser.{flag_text, parser}
-use Rattle.pls_words.proofs.Shapes.{flag, one, two, flag_first, flag_last, flag_two, flag_between, two_flag}
+use Rattle.pls_bits.specs.declared.code_name.CodeName.{CodeName}
+use Rattle.pls_bits.specs.declared.code_name.CodeName.TheVariants.{Gamma, Delta}
+use Rattle.pls_words.specs.declared.given.Flag.{Flag}
+use Rattle.pls_words.specs.declared.given.Flag.TheVariants.{Bare, Json, Coded}
+use Rattle.pls_words.specs.Words.{Said, code_cut, code_named, flag_cut, is_code, is_dashed, is_json, said_beside, said_by_words, said_with}
+use Rattle.pls_words.specs.inner.Parser.{code_word, name_of_code, parser, switch_of}
+use Rattle.pls_words.proofs.Turns.{coded, json}
+use Rattle.pls_words.proofs.Shapes.{Reads, code_between, code_first, code_last, code_two, json_between, json_first, json_last, json_two, one, two, two_code, two_json}
 
--- what `clap` finds is what the words say
-pub record ReadsAs (words : List Text) : Type 0 where
-  pub command : first_of (codes "command") (matches_of parser words) ≡ slice_get (others_in words) 0
-  pub argument : first_of (codes "argument") (matches_of parser words) ≡ slice_get (others_in words) 1
-  pub json : one_of (codes "json") (matches_of parser words) ≡ Some (flag_text words)
-  pub taken : takes parser words ≡ true
+-- the words of a flag
+abbrev pub flag_words : Flag → List Text
+flag_words Bare = []
+flag_words Json = json ∷ []
+flag_words (Coded code) = coded ∷ (name_of_code code ∷ [])
 
-is_flag : (word : Text) → is_json word ≡ true → flag ≡ word
-is_flag word e = sym ((bytes_eq-Decides word flag).0 e)
+-- the words are these others, with a flag somewhere between them
+pub record Stands (words : List Text) (flag : Flag) (others : List Text) : Type 0 where
+  pub front : List Text
+  pub back : List Text
+  pub are : others ≡ front ++ back
+  pub whole : words ≡ front ++ (flag_words flag ++ back)
 
--- a word alone
-of_one : (a : Text) (x y : Bool) → is_json a ≡ x → is_dashed a ≡ y → IsFormed (a ∷ [])
-    → ReadsAs (a ∷ [])
-of_one a true y ea da h =
-    let counted = simp ea at h.one_or_two in
-    elim counted [ inl e ↦ absurd (omega arith) | inr e ↦ absurd (omega arith) ]
-of_one a false true ea da h = let plain = simp (ea, da) at h.plain in absurd (omega arith)
-of_one a false false ea da h =
-    let r = one a da in
-    record {
-      command = simp ea r.command;
-      argument = simp ea r.argument;
-      json = simp ea r.json;
-      taken = r.taken;
-    }
+abbrev pub Cut : Type 0
+Cut = Flag × List Text
 
-after_flag : (b : Text) → is_json b ≡ false → is_dashed b ≡ false → ReadsAs (flag ∷ b ∷ [])
-after_flag b eb plain =
-    let r = flag_first b plain in
-    record {
-      command = simp eb r.command;
-      argument = simp eb r.argument;
-      json = simp eb r.json;
-      taken = r.taken;
-    }
+name_is : (word : Text) (code : CodeName) → code_named word ≡ Some code → word ≡ name_of_code code
+name_is word code is = by (bytes_eq word (codes "gamma")) (bytes_eq word (codes "delta")) refl refl is
+  where
+    by : (gamma delta : Bool) → bytes_eq word (codes "gamma") ≡ gamma
+        → bytes_eq word (codes "delta") ≡ delta
+        → (if gamma then Some Gamma else (if delta then Some Delta else None)) ≡ Some code
+        → word ≡ name_of_code code
+    by true delta is_gamma is_delta found =
+        (bytes_eq-Decides word (codes "gamma")).0 is_gamma
+        ∙ ap name_of_code (same_Some Gamma code found)
+    by false true is_gamma is_delta found =
+        (bytes_eq-Decides word (codes "delta")).0 is_delta
+        ∙ ap name_of_code (same_Some Delta code found)
+    by false false is_gamma is_delta found = absurd (cc)
 
-before_flag : (a : Text) → is_json a ≡ false → is_dashed a ≡ false → ReadsAs (a ∷ flag ∷ [])
-before_flag a ea plain =
-    let r = flag_last a plain in
-    record {
-      command = simp ea r.command;
-      argument = simp ea r.argument;
-      json = simp ea r.json;
-      taken = r.taken;
-    }
+code_stands : (words : List Text) (cut : Cut) → code_cut words ≡ Some cut
+    → Stands (coded ∷ words) cut.0 cut.1
+code_stands [] cut is = absurd (cc)
+code_stands (name ∷ others) cut is = by (code_named name) refl is
+  where
+    by : (found : Option CodeName) → code_named name ≡ found
+        → option_map (λ code. (Coded code, others)) found ≡ Some cut
+        → Stands (coded ∷ (name ∷ others)) cut.0 cut.1
+    by None is_named is_cut = absurd (cc)
+    by (Some code) is_named is_cut =
+        subst (λ (cut : Cut). Stands (coded ∷ (name ∷ others)) cut.0 cut.1)
+        (same_Some (Coded code, others) cut is_cut)
+        (record {
+          front = [];
+          back = others;
+          are = refl;
+          whole = ap (λ (word : Text). coded ∷ (word ∷ others)) (name_is name code is_named);
+        })
 
--- two words that do not begin with `-`
-of_plain_two : (a b : Text) → is_json a ≡ false → is_json b ≡ false → is_dashed a ≡ false
-    → is_dashed b ≡ false → ReadsAs (a ∷ b ∷ [])
-of_plain_two a b ea eb da db =
-    let r = two a b da db in
-    record {
-      command = simp (ea, eb) r.command;
-      argument = simp (ea, eb) r.argument;
-      json = simp (ea, eb) r.json;
-      taken = r.taken;
-    }
+-- where a flag is cut out, it stands between the others
+pub stands : (words : List Text) (cut : Cut) → flag_cut words ≡ Some cut → Stands words cut.0 cut.1
+stands [] cut is =
+    subst (λ (cut : Cut). Stands [] cut.0 cut.1) (same_Some (Bare, []) cut is)
+    (record { front = []; back = []; are = refl; whole = refl })
+stands (word ∷ others) cut is = by (is_json word) (is_code word) refl refl is (stands others)
+  where
+    Later : Type 0
+    Later = (found : Cut) → flag_cut others ≡ Some found → Stands others found.0 found.1
 
--- a word that is not stray and not the flag does not begin with `-`
-plain_first : (a : Text) (others : List Text) (y : Bool) → is_json a ≡ false → is_dashed a ≡ y
-    → count_by is_stray (a ∷ others) ≡ 0 → is_dashed a ≡ false
-plain_first a others false ea da none = da
-plain_first a others true ea da none =
-    let stray : is_stray a ≡ true = simp (ea, da) in
-    let counted : cond {A = ℕ} (is_stray a) 1 0 ≡ 1 = ap (λ b. cond {A = ℕ} b 1 0) stray in
-    absurd (omega (arith, counted, none, sum_by-cons (λ word. cond (is_stray word) 1 0) a others))
+    behind : (found : Option Cut) → flag_cut others ≡ found
+        → option_map (λ (cut : Cut). (cut.0, word ∷ cut.1)) found ≡ Some cut → Later
+        → Stands (word ∷ others) cut.0 cut.1
+    behind None found_is is later = absurd (cc)
+    behind (Some found) found_is is shorter =
+        let later = shorter found found_is in
+        subst (λ (cut : Cut). Stands (word ∷ others) cut.0 cut.1)
+        (same_Some (found.0, word ∷ found.1) cut is)
+        (record {
+          front = word ∷ later.front;
+          back = later.back;
+          are = ap (λ (others : List Text). word ∷ others) later.are;
+          whole = ap (λ (others : List Text). word ∷ others) later.whole;
+        })
 
-plain_others : (a : Text) (others : List Text) → count_by is_stray (a ∷ others) ≡ 0
-    → count_by is_stray others ≡ 0
-plain_others a others none = omega (arith, sum_by-cons (λ word. cond (is_stray word) 1 0) a others)
+    by : (flag code : Bool) → is_json word ≡ flag → is_code word ≡ code
+        → (if flag then Some (Json, others) else (if code then code_cut others
+        else option_map (λ (cut : Cut). (cut.0, word ∷ cut.1)) (flag_cut others))) ≡ Some cut
+        → Later → Stands (word ∷ others) cut.0 cut.1
+    by true code is_flag is_code' found later =
+        subst (λ (cut : Cut). Stands (word ∷ others) cut.0 cut.1)
+        (same_Some (Json, others) cut found)
+        (record {
+          front = [];
+          back = others;
+          are = refl;
+          whole = ap (λ (word : Text). word ∷ others) ((bytes_eq-Decides word json).0 is_flag);
+        })
+    by false true is_flag is_code' found later =
+        subst (λ (word : Text). Stands (word ∷ others) cut.0 cut.1)
+        (sym ((bytes_eq-Decides word coded).0 is_code')) (code_stands others cut found)
+    by false false is_flag is_code' found later = behind (flag_cut others) refl found later
 
-of_two : (a b : Text) (x y : Bool) → is_json a ≡ x → is_json b ≡ y → IsFormed (a ∷ b ∷ [])
-    → ReadsAs (a ∷ b ∷ [])
-of_two a b true true ea eb h = let twice = simp (ea, eb) at h.once in absurd (omega arith)
-of_two a b true false ea eb h =
-    let plain = plain_first b [] (is_dashed b) eb refl (plain_others a (b ∷ []) h.plain) in
-    subst (λ w. ReadsAs (w ∷ b ∷ [])) (is_flag a ea) (after_flag b eb plain)
-of_two a b false true ea eb h =
-    let plain = plain_first a (b ∷ []) (is_dashed a) ea refl h.plain in
-    subst (λ w. ReadsAs (a ∷ w ∷ [])) (is_flag b eb) (before_flag a ea plain)
-of_two a b false false ea eb h =
-    of_plain_two a b ea eb (plain_first a (b ∷ []) (is_dashed a) ea refl h.plain)
-    (plain_first b [] (is_dashed b) eb refl (plain_others a (b ∷ []) h.plain))
+-- what `clap` finds is what was said
+abbrev ReadsSaid : List Text → Said → Type 0
+ReadsSaid words said =
+    Reads words said.command said.argument (switch_of said.flag) (code_word said.flag)
 
--- the flag first, in the middle, last
-three_first : (b d : Text) → is_json b ≡ false → is_json d ≡ false → is_dashed b ≡ false
-    → is_dashed d ≡ false → ReadsAs (flag ∷ b ∷ d ∷ [])
-three_first b d eb ed p q =
-    let r = flag_two b d p q in
-    record {
-      command = simp (eb, ed) r.command;
-      argument = simp (eb, ed) r.argument;
-      json = simp (eb, ed) r.json;
-      taken = r.taken;
-    }
+plain_name : (code : CodeName) → is_dashed (name_of_code code) ≡ false
+plain_name Gamma = refl
+plain_name Delta = refl
 
-three_between : (a d : Text) → is_json a ≡ false → is_json d ≡ false → is_dashed a ≡ false
-    → is_dashed d ≡ false → ReadsAs (a ∷ flag ∷ d ∷ [])
-three_between a d ea ed p q =
-    let r = flag_between a d p q in
-    record {
-      command = simp (ea, ed) r.command;
-      argument = simp (ea, ed) r.argument;
-      json = simp (ea, ed) r.json;
-      taken = r.taken;
-    }
+-- a flag and one word
+with_one : (flag : Flag) (a : Text) → is_dashed a ≡ false → (front back : List Text)
+    → a ∷ [] ≡ front ++ back
+    → Reads (front ++ (flag_words flag ++ back)) a None (switch_of flag) (code_word flag)
+with_one flag a plain [] back are =
+    subst (λ (back : List Text). Reads (flag_words flag ++ back) a None (switch_of flag)
+    (code_word flag)) are (by flag)
+  where
+    by : (flag : Flag)
+        → Reads (flag_words flag ++ (a ∷ [])) a None (switch_of flag) (code_word flag)
+    by Bare = one a plain
+    by Json = json_first a plain
+    by (Coded code) = code_first a (name_of_code code) plain (plain_name code)
+with_one flag a plain (first ∷ []) back are =
+    let same : a ≡ first = cc in
+    let none : [] ≡ back = cc in
+    subst (λ (first : Text). Reads (first ∷ (flag_words flag ++ back)) a None (switch_of flag)
+    (code_word flag)) same
+    (subst (λ (back : List Text). Reads (a ∷ (flag_words flag ++ back)) a None (switch_of flag)
+    (code_word flag)) none (by flag))
+  where
+    by : (flag : Flag)
+        → Reads (a ∷ (flag_words flag ++ [])) a None (switch_of flag) (code_word flag)
+    by Bare = one a plain
+    by Json = json_last a plain
+    by (Coded code) = code_last a (name_of_code code) plain (plain_name code)
+with_one flag a plain (first ∷ next ∷ front) back are = absurd (cc)
 
-three_last : (a b : Text) → is_json a ≡ false → is_json b ≡ false → is_dashed a ≡ false
-    → is_dashed b ≡ false → ReadsAs (a ∷ b ∷ flag ∷ [])
-three_last a b ea eb p q =
-    let r = two_flag a b p q in
-    record {
-      command = simp (ea, eb) r.command;
-      argument = simp (ea, eb) r.argument;
-      json = simp (ea, eb) r.json;
-      taken = r.taken;
-    }
+-- a flag and two words
+with_two : (flag : Flag) (a b : Text) → is_dashed a ≡ false → is_dashed b ≡ false
+    → (front back : List Text) → a ∷ (b ∷ []) ≡ front ++ back
+    → Reads (front ++ (flag_words flag ++ back)) a (Some b) (switch_of flag) (code_word flag)
+with_two flag a b p q [] back are =
+    subst (λ (back : List Text). Reads (flag_words flag ++ back) a (Some b) (switch_of flag)
+    (code_word flag)) are (by flag)
+  where
+    by : (flag : Flag)
+        → Reads (flag_words flag ++ (a ∷ (b ∷ []))) a (Some b) (switch_of flag) (code_word flag)
+    by Bare = two a b p q
+    by Json = json_two a b p q
+    by (Coded code) = code_two a b (name_of_code code) p q (plain_name code)
+with_two flag a b p q (first ∷ []) back are =
+    let same : a ≡ first = cc in
+    let rest : b ∷ [] ≡ back = cc in
+    subst (λ (first : Text). Reads (first ∷ (flag_words flag ++ back)) a (Some b) (switch_of flag)
+    (code_word flag)) same
+    (subst (λ (back : List Text). Reads (a ∷ (flag_words flag ++ back)) a (Some b)
+    (switch_of flag) (code_word flag)) rest (by flag))
+  where
+    by : (flag : Flag)
+        → Reads (a ∷ (flag_words flag ++ (b ∷ []))) a (Some b) (switch_of flag) (code_word flag)
+    by Bare = two a b p q
+    by Json = json_between a b p q
+    by (Coded code) = code_between a b (name_of_code code) p q (plain_name code)
+with_two flag a b p q (first ∷ next ∷ []) back are =
+    let same : a ≡ first = cc in
+    let also : b ≡ next = cc in
+    let none : [] ≡ back = cc in
+    subst (λ (first : Text). Reads (first ∷ (next ∷ (flag_words flag ++ back))) a (Some b)
+    (switch_of flag) (code_word flag)) same
+    (subst (λ (next : Text). Reads (a ∷ (next ∷ (flag_words flag ++ back))) a (Some b)
+    (switch_of flag) (code_word flag)) also
+    (subst (λ (back : List Text). Reads (a ∷ (b ∷ (flag_words flag ++ back))) a (Some b)
+    (switch_of flag) (code_word flag)) none (by flag)))
+  where
+    by : (flag : Flag)
+        → Reads (a ∷ (b ∷ (flag_words flag ++ []))) a (Some b) (switch_of flag) (code_word flag)
+    by Bare = two a b p q
+    by Json = two_json a b p q
+    by (Coded code) = two_code a b (name_of_code code) p q (plain_name code)
+with_two flag a b p q (first ∷ next ∷ third ∷ front) back are = absurd (cc)
 
-of_three : (a b d : Text) (x y z : Bool) → is_json a ≡ x → is_json b ≡ y → is_json d ≡ z
-    → IsFormed (a ∷ b ∷ d ∷ []) → ReadsAs (a ∷ b ∷ d ∷ [])
-of_three a b d true true z ea eb ed h = let twice = simp (ea, eb) at h.once in absurd (omega arith)
-of_three a b d true false true ea eb ed h =
-    let twice = simp (ea, eb, ed) at h.once in absurd (omega arith)
-of_three a b d false true true ea eb ed h =
-    let twice = simp (ea, eb, ed) at h.once in absurd (omega arith)
-of_three a b d true false false ea eb ed h =
-    let none = plain_others a (b ∷ d ∷ []) h.plain in
-    subst (λ w. ReadsAs (w ∷ b ∷ d ∷ [])) (is_flag a ea)
-    (three_first b d eb ed (plain_first b (d ∷ []) (is_dashed b) eb refl none)
-    (plain_first d [] (is_dashed d) ed refl (plain_others b (d ∷ []) none)))
-of_three a b d false true false ea eb ed h =
-    let none = plain_others a (b ∷ d ∷ []) h.plain in
-    subst (λ w. ReadsAs (a ∷ w ∷ d ∷ [])) (is_flag b eb)
-    (three_between a d ea ed (plain_first a (b ∷ d ∷ []) (is_dashed a) ea refl h.plain)
-    (plain_first d [] (is_dashed d) ed refl (plain_others b (d ∷ []) none)))
-of_three a b d false false true ea eb ed h =
-    let none = plain_others a (b ∷ d ∷ []) h.plain in
-    subst (λ w. ReadsAs (a ∷ b ∷ w ∷ [])) (is_flag d ed)
-    (three_last a b ea eb (plain_first a (b ∷ d ∷ []) (is_dashed a) ea refl h.plain)
-    (plain_first b (d ∷ []) (is_dashed b) eb refl none))
-of_three a b d false false false ea eb ed h =
-    let counted = simp (ea, eb, ed) at h.one_or_two in
-    elim counted [ inl e ↦ absurd (omega arith) | inr e ↦ absurd (omega arith) ]
+-- what stands beside a flag
+beside : (cut : Cut) (said : Said) → said_beside cut ≡ Some said → (front back : List Text)
+    → cut.1 ≡ front ++ back → ReadsSaid (front ++ (flag_words cut.0 ++ back)) said
+beside (flag, []) said is front back are = absurd (cc)
+beside (flag, a ∷ []) said is front back are = by (is_dashed a) refl is
+  where
+    by : (dashed : Bool) → is_dashed a ≡ dashed
+        → (if dashed || false then None else said_with flag (a ∷ [])) ≡ Some said
+        → ReadsSaid (front ++ (flag_words flag ++ back)) said
+    by true is_dash is = absurd (cc)
+    by false is_dash is =
+        subst (ReadsSaid (front ++ (flag_words flag ++ back)))
+        (same_Some (record { command = a; argument = None; flag = flag }) said is)
+        (with_one flag a is_dash front back are)
+beside (flag, a ∷ b ∷ []) said is front back are = by (is_dashed a) (is_dashed b) refl refl is
+  where
+    by : (one other : Bool) → is_dashed a ≡ one → is_dashed b ≡ other
+        → (if one || (other || false) then None else said_with flag (a ∷ (b ∷ []))) ≡ Some said
+        → ReadsSaid (front ++ (flag_words flag ++ back)) said
+    by true other is_one is_other is = absurd (cc)
+    by false true is_one is_other is = absurd (cc)
+    by false false is_one is_other is =
+        subst (ReadsSaid (front ++ (flag_words flag ++ back)))
+        (same_Some (record { command = a; argument = Some b; flag = flag }) said is)
+        (with_two flag a b is_one is_other front back are)
+beside (flag, a ∷ b ∷ c ∷ others) said is front back are =
+    absurd (by (list_any is_dashed (a ∷ (b ∷ (c ∷ others)))) is)
+  where
+    by : (dashed : Bool)
+        → (if dashed then None else said_with flag (a ∷ (b ∷ (c ∷ others)))) ≡ Some said → ⊥
+    by true is = cc
+    by false is = cc
 
--- the flag and the others are all words
-pub length-others : (words : List Text)
-    → count_by is_json words + length (others_in words) ≡ length words
-length-others words =
-    rw (← length-filter is_json words)
-    (length-filter_both is_json (λ word. not (is_json word)) (λ word. refl) words)
-
--- what `clap` finds in words of the form
-pub reads : (words : List Text) → IsFormed words → ReadsAs words
-reads [] h = elim h.one_or_two [ inl e ↦ absurd (omega arith) | inr e ↦ absurd (omega arith) ]
-reads (a ∷ []) h = of_one a (is_json a) (is_dashed a) refl refl h
-reads (a ∷ b ∷ []) h = of_two a b (is_json a) (is_json b) refl refl h
-reads (a ∷ b ∷ d ∷ []) h = of_three a b d (is_json a) (is_json b) (is_json d) refl refl refl h
-reads (a ∷ b ∷ d ∷ e ∷ others) h =
-    let whole = length-others (a ∷ b ∷ d ∷ e ∷ others) in
-    let once = h.once in
-    elim h.one_or_two [ inl n ↦ absurd (omega arith) | inr n ↦ absurd (omega arith) ]
+-- what `clap` finds in words that say something
+pub reads : (words : List Text) (said : Said) → said_by_words words ≡ Some said
+    → ReadsSaid words said
+reads words said is = by (flag_cut words) refl is
+  where
+    by : (found : Option Cut) → flag_cut words ≡ found
+        → option_and_then said_beside found ≡ Some said → ReadsSaid words said
+    by None cut_is is = absurd (cc)
+    by (Some cut) cut_is is =
+        let here = stands words cut cut_is in
+        subst (λ (words : List Text). ReadsSaid words said) (sym here.whole)
+        (beside cut said is here.front here.back here.are)

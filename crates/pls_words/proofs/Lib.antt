@@ -1,3 +1,4 @@
+mod Turns
 mod Shapes
 mod Forms
 mod Said

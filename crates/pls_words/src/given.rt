@@ -1,6 +1,18 @@
 //! What words say.
 
+use pls_bits::CodeName;
 use std::marker::Model;
+
+/// The flag among words.
+#[derive(Clone, Copy, Debug, PartialEq, Eq)]
+pub enum Flag {
+    /// None.
+    Bare,
+    /// `--json`.
+    Json,
+    /// `--code` with the name of a number code behind it.
+    Coded(CodeName),
+}
 
 /// What the words behind the program's name say; seen as the texts of its words.
 #[derive(Drop)]
@@ -9,8 +21,8 @@ pub struct Given<'w> {
     pub command: &'w str,
     /// The second, if there is one.
     pub argument: Option<&'w str>,
-    /// Whether `--json` stands among them.
-    pub json: bool,
+    /// The flag that stands among them.
+    pub flag: Flag,
 }
 
 impl<'w> Model for Given<'w> {
@@ -22,6 +34,6 @@ impl<'w> Model for Given<'w> {
     ghost view = { λ given. record {
       command = given.command.now;
       argument = option_map (λ word. word.now) given.argument;
-      json = given.json;
+      flag = given.flag;
     } };
 }

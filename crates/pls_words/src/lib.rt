@@ -1,12 +1,12 @@
 //! The words of a command line, read with `clap`.
 //!
-//! [`read_words`] answers a command, the word behind it and whether `--json` stands among them, or
-//! that the words are of no such form; `specs/Words` says which. What the words name is for the
+//! [`read_words`] answers a command, the word behind it and the flag among them, or that the words
+//! are of no such form; `specs/Words` says which. What the words name is for the
 //! layer above. No other crate reads `clap`.
 #![tactic(auto)]
 
 mod given;
 mod reading;
 
-pub use given::Given;
+pub use given::{Flag, Given};
 pub use reading::read_words;

@@ -1,20 +1,25 @@
-//! Words read with `clap`, where they are of the one form.
+//! Words read with `clap`, where they say something.
 
-ghost use Rattle.std.specs.Prelude.{◌≡◌, ◌↔◌, ◌⊎◌, ◌<◌, ◌≤◌, Some, IfOk, IfErr, IsTrue, count_by, length, slice_get};
-ghost use Rattle.clap.specs.Words.{app_of, kind_of};
-ghost use Rattle.pls_words.specs.Words.{is_json, is_stray, others_in, said_by_words, words_in};
-ghost use Rattle.pls_words.specs.inner.Formed.{IsFormed};
+ghost use Rattle.std.specs.Prelude.{◌≡◌, ◌↔◌, ◌⊎◌, ◌≤◌, ℕ, List, Option, Some, IfOk, IfErr, IfSome, IsTrue, length};
+ghost use Rattle.std.specs.List.{list_any};
+ghost use Rattle.clap.specs.Words.{kind_of, app_of};
+ghost use Rattle.pls_words.specs.Words.{Said, code_named, is_code, is_dashed, is_json, said_by_words, words_in};
+ghost use Rattle.pls_words.specs.inner.Formed.{IsFormed, count_beside, plain_count};
 ghost use Rattle.pls_words.specs.inner.Parser.{HasWords, parser};
 
-use crate::given::Given;
+use crate::given::{Flag, Given};
 use clap::error::ErrorKind;
 use clap::{Arg, ArgAction, ArgMatches, Command, Error};
 use pls_base::NoMemory;
+use pls_bits::CodeName;
 use std::alloc::{AllocError, Global};
 
+// The most words that say something: two, and `--code` with its name.
+const MOST: usize = 4;
+
 /// What words say, or `None` where they are not of the form: one or two words, none of which begins
-/// with `-`, and `--json` at most once, at any place. The one error is want of memory.
-#[tactic(auto, using(crate::proofs::Said::unformed, crate::proofs::Said::said_formed))]
+/// with `-`, and at most one flag, at any place: `--json`, or `--code` with `gamma` or `delta` behind
+/// it. The one error is want of memory.
 pub fn read_words<'w>(alloc: Global, words: &'w [&'w str]) -> Result<Option<Given<'w>>, NoMemory>
     ensures { IfOk result (λ given. given ≡ said_by_words (words_in words.entry.now)) }
 {
@@ -24,63 +29,102 @@ pub fn read_words<'w>(alloc: Global, words: &'w [&'w str]) -> Result<Option<Give
     Ok(Some(given_in(alloc, words)?))
 }
 
-// Whether words are of the form.
-#[tactic(auto, using(crate::proofs::Said::formed, crate::proofs::Said::left_over))]
+// Whether words say something.
 fn is_formed(words: &[&str]) -> bool
     ensures { IsTrue result ↔ IsFormed (words_in words.now) }
 {
-    let flags = flags_in(words);
-    if flags > 1 || stray_in(words) > 0 {
-        return false;
+    words.len() <= MOST && is_one_or_two(count_beside(words))
+}
+
+// Whether a count is 1 or 2.
+fn is_one_or_two(count: Option<usize>) -> bool
+    ensures { IsTrue result ↔ ((count ≡ Some 1) ⊎ (count ≡ Some 2)) }
+{
+    matches!(count, Some(1 | 2))
+}
+
+// How many words stand beside the flag, where none of them begins with `-`.
+fn count_beside(words: &[&str]) -> Option<usize>
+    ensures count { result ≡ count_beside (words_in words.now) }
+    ensures few { IfSome result (λ count. count ≤ length words.now) }
+{
+    let Some((word, others)) = words.split_first() else {
+        return Some(0);
+    };
+    if is_json(word) {
+        return plain_count(others);
     }
-    is_one_or_two(words.len() - flags)
+    if is_code(word) {
+        let (name, others) = others.split_first()?;
+        code_named(name)?;
+        return plain_count(others);
+    }
+    let count = count_beside(others)?;
+    if is_dashed(word) {
+        return None;
+    }
+    Some(count + 1)
 }
 
-// How often the flag stands among words.
-fn flags_in(words: &[&str]) -> usize
-    ensures count { result ≡ count_by is_json (words_in words.now) }
-    ensures few { result ≤ length words.now }
+// How many words there are, where none of them begins with `-`.
+fn plain_count(words: &[&str]) -> Option<usize>
+    ensures count { result ≡ plain_count (words_in words.now) }
+    ensures few { IfSome result (λ count. count ≤ length words.now) }
 {
-    words.iter().filter(|word| is_json(word)).count()
+    if has_dashed(words) {
+        None
+    } else {
+        Some(words.len())
+    }
 }
 
-// How many words begin with `-` and are not the flag.
-fn stray_in(words: &[&str]) -> usize
-    ensures { result ≡ count_by is_stray (words_in words.now) }
+// Whether one of the words begins with `-`.
+fn has_dashed(words: &[&str]) -> bool
+    ensures { result ≡ list_any is_dashed (words_in words.now) }
 {
-    words.iter().filter(|word| is_stray(word)).count()
+    match words.split_first() {
+        Some((word, others)) => is_dashed(word) || has_dashed(others),
+        None => false,
+    }
 }
 
-// Whether a number is 1 or 2.
-fn is_one_or_two(number: usize) -> bool
-    ensures { IsTrue result ↔ ((number ≡ 1) ⊎ (number ≡ 2)) }
-{
-    number == 1 || number == 2
-}
-
-// Whether a word is the flag.
+// Whether a word is `--json`.
 fn is_json(word: &str) -> bool
     ensures { result ≡ is_json word.now }
 {
     word == "--json"
 }
 
-// Whether a word begins with `-` and is not the flag.
-fn is_stray(word: &str) -> bool
-    ensures { result ≡ is_stray word.now }
+// Whether a word is `--code`.
+fn is_code(word: &str) -> bool
+    ensures { result ≡ is_code word.now }
 {
-    !is_json(word) && word.as_bytes().first() == Some(&b'-')
+    word == "--code"
 }
 
-// What words of the form say.
+// Whether a word begins with `-`.
+fn is_dashed(word: &str) -> bool
+    ensures { result ≡ is_dashed word.now }
+{
+    word.as_bytes().first() == Some(&b'-')
+}
+
+// The number code that a word names.
+fn code_named(word: &str) -> Option<CodeName>
+    ensures { result ≡ code_named word.now }
+{
+    match word {
+        "gamma" => Some(CodeName::Gamma),
+        "delta" => Some(CodeName::Delta),
+        _ => None,
+    }
+}
+
+// What words say of which `clap` is asked.
 fn given_in<'w>(alloc: Global, words: &'w [&'w str]) -> Result<Given<'w>, NoMemory>
     requires { IsFormed (words_in words.now) }
-    ensures command { IfOk result
-        (λ given. slice_get (others_in (words_in words.entry.now)) 0 ≡ Some given.command) }
-    ensures argument { IfOk result
-        (λ given. given.argument ≡ slice_get (others_in (words_in words.entry.now)) 1) }
-    ensures json { IfOk result
-        (λ given. IsTrue given.json ↔ (0 < count_by is_json (words_in words.entry.now))) }
+    ensures { IfOk result (λ given. (said : Said)
+        → said_by_words (words_in words.entry.now) ≡ Some said → given ≡ said) }
 {
     let matches = match matches_of(alloc, words) {
         Ok(matches) => matches,
@@ -95,14 +139,29 @@ fn given_in<'w>(alloc: Global, words: &'w [&'w str]) -> Result<Given<'w>, NoMemo
     Ok(Given {
         command,
         argument: matches.get_str("argument"),
-        json: matches.get_flag("json"),
+        flag: flag_in(&matches),
     })
 }
 
-// What `clap` finds in words of the form. It fails for want of memory alone.
+// The flag that `clap` finds.
+fn flag_in(matches: &ArgMatches<'_>) -> Flag
+    ensures { (said : Said) → HasWords said matches.now → result ≡ said.flag }
+{
+    if matches.get_flag("json") {
+        return Flag::Json;
+    }
+    match matches.get_str("code") {
+        Some("gamma") => Flag::Coded(CodeName::Gamma),
+        Some(_) => Flag::Coded(CodeName::Delta),
+        None => Flag::Bare,
+    }
+}
+
+// What `clap` finds in words that say something. It fails for want of memory alone.
 fn matches_of<'w>(alloc: Global, words: &'w [&'w str]) -> Result<ArgMatches<'w>, Error>
     requires { IsFormed (words_in words.now) }
-    ensures found { IfOk result (HasWords (words_in words.entry.now)) }
+    ensures found { IfOk result (λ matches. (said : Said)
+        → said_by_words (words_in words.entry.now) ≡ Some said → HasWords said matches) }
     ensures memory { IfErr result (λ error. kind_of error ≡ ErrorKind.OutOfMemory) }
 {
     parser(alloc)?.try_get_matches_from(words)
@@ -117,10 +176,12 @@ fn parser<'a>(alloc: Global) -> Result<Command<'a>, AllocError>
     let json = Arg::new(alloc, "json")
         .long("json")
         .action(ArgAction::SetTrue);
+    let code = Arg::new(alloc, "code").long("code");
     Command::new(alloc, "pls")
         .no_binary_name(true)
         .disable_help_flag(true)
         .arg(name)?
         .arg(argument)?
-        .arg(json)
+        .arg(json)?
+        .arg(code)
 }

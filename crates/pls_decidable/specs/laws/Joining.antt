@@ -1,41 +1,17 @@
--- Edges that join all nodes: the test of that is right, edges that join all nodes and are as few as
--- a tree has are distinct, and the lists of such edges are the spanning trees.
-use Rattle.std.proofs.Common.{◌≡◌, ◌∙◌, ◌+◌, ◌-◌, ◌≤◌, ◌==◌, ◌↔◌, ℕ, inl, inr, Bool, List, length, get_or, sym, subst, arith, Contains, remove}
-use Rattle.std.specs.List.{list_all}
-use Rattle.std.proofs.lemmas.Bool.{eq-eqb, eqb-true}
+-- Edges that join all nodes: where they are as few as a tree has they are distinct, and the lists of
+-- such edges are the spanning trees.
+use Rattle.std.proofs.Common.{◌≡◌, ◌∙◌, ◌+◌, ◌-◌, ◌≤◌, ◌↔◌, ℕ, inl, inr, Bool, List, length, get_or, sym, subst, arith, Contains, remove}
 use Rattle.std.proofs.lemmas.List.{get_or_default}
 use Rattle.std.proofs.lemmas.List.Edits.{get_or-remove_below, length-remove}
-use Rattle.pls_model.specs.Walk.{AreJoined, Edge, JoinAll}
+use Rattle.pls_model.specs.Walk.{Edge, JoinAll}
 use Rattle.pls_graph.proofs.Members.{Contains-filter, Contains-from_filter}
-use Rattle.pls_facts.specs.Classes.{class_of}
+use Rattle.pls_facts.specs.Classes.{joins_all}
 use Rattle.pls_facts.specs.SpanningTree.{AreDistinct, IsSpanningTree}
-use Rattle.pls_facts.proofs.Classes.{class-joined, joined-class, one_class}
+use Rattle.pls_facts.proofs.Classes.{class-joined, joins_all-JoinAll, one_class}
 use Rattle.pls_facts.proofs.Distinct.{Contains-remove}
 use Rattle.pls_facts.proofs.Paths.{AreJoined-among}
-use Rattle.pls_decidable.specs.SearchTests.{all_lists, joins_all, spanning_trees}
+use Rattle.pls_decidable.specs.SearchTests.{all_lists, spanning_trees}
 use Rattle.pls_decidable.specs.laws.AllLists.{Contains-all_lists, Contains-from_all_lists}
-use Rattle.pls_decidable.specs.laws.Tested.{Tells, all_tells}
-
-module _ (edges : List Edge) (nodes : List ℕ) where
-  -- the test of what they join is right
-  pub joined_tells : Tells (joins_all edges nodes) (JoinAll edges nodes)
-  joined_tells = (
-    λ passes u v u_in v_in. each.0 passes u u_in v v_in,
-    λ joined. each.1 (λ u u_in v v_in. joined u v u_in v_in),
-  )
-    where
-      class_tells : (u v : ℕ) → Tells (class_of edges u == class_of edges v) (AreJoined edges u v)
-      class_tells u v = (
-        λ same. joined-class edges u v (eqb-true (class_of edges u) (class_of edges v) same),
-        λ joined. eq-eqb (class_of edges u) (class_of edges v) (class-joined edges u v joined),
-      )
-
-      each : Tells (joins_all edges nodes)
-          ((u : ℕ) → Contains nodes u → (v : ℕ) → Contains nodes v → AreJoined edges u v)
-      each = all_tells (λ u. list_all (λ v. class_of edges u == class_of edges v) nodes)
-          (λ u. (v : ℕ) → Contains nodes v → AreJoined edges u v) nodes
-          (λ u u_in. all_tells (λ v. class_of edges u == class_of edges v) (AreJoined edges u) nodes
-          (λ v v_in. class_tells u v))
 
 -- edges that join distinct nodes and are one fewer than these differ
 pub few_differ : (edges : List Edge) (nodes : List ℕ) → AreDistinct nodes
@@ -73,7 +49,7 @@ spanning_listed edges nodes distinct some tree = (
       let kept = Contains-from_filter passes lists tree in' in
       let listed = Contains-from_all_lists edges (length nodes - 1) tree kept.0 in
       let few : length tree + 1 ≡ length nodes = omega (arith, listed.0, some) in
-      let joined = (joined_tells tree nodes).0 kept.1 in
+      let joined = (joins_all-JoinAll tree nodes).0 kept.1 in
       record {
         among = listed.1;
         distinct = few_differ tree nodes distinct few joined;
@@ -85,7 +61,7 @@ spanning_listed edges nodes distinct some tree = (
       Contains-filter passes lists tree
       (subst (λ (count : ℕ). Contains (all_lists edges count) tree) many
       (Contains-all_lists edges tree spans.among))
-      ((joined_tells tree nodes).1 spans.joined),
+      ((joins_all-JoinAll tree nodes).1 spans.joined),
 )
   where
     passes : List Edge → Bool

@@ -22,7 +22,8 @@ use Rattle.pls_facts.proofs.PortEdges.{IsGraph-network}
 use Rattle.pls_facts.proofs.Trees.{length-pointed_edges}
 use Rattle.pls_decidable.specs.SearchTests.{acyclic_test, all_lists, bipartite_test, colour_of, has_ends, is_colouring, is_cycle, is_walk, lists_up_to, mst_test, spanning_trees}
 use Rattle.pls_decidable.specs.laws.AllLists.{AreAmong, Contains-all_lists, Contains-lists_up_to}
-use Rattle.pls_decidable.specs.laws.Joining.{few_differ, joined_tells, spanning_listed}
+use Rattle.pls_facts.proofs.Classes.{joins_all-JoinAll}
+use Rattle.pls_decidable.specs.laws.Joining.{few_differ, spanning_listed}
 use Rattle.pls_decidable.specs.laws.Tested.{Tells, all_tells, any_tells, both_tells, either_tells, most_tells, not_tells, same_tells}
 
 -- two truth values differ
@@ -216,7 +217,7 @@ module _ (rows : List NodeRow) (net : IsNetwork rows) where
   mst_tells = let pointed = weight_of (pointed_edges rows) in
       both_tells
       (both_tells (same_tells (count_by is_root rows) 1)
-      (joined_tells (pointed_edges rows) (ids_of rows)))
+      (joins_all-JoinAll (pointed_edges rows) (ids_of rows)))
       (all_tells (λ tree. nat_le pointed (weight_of tree)) (λ tree. pointed ≤ weight_of tree) trees
       (λ tree in'. most_tells pointed (weight_of tree)))
 

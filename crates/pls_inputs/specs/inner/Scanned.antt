@@ -7,17 +7,19 @@ use Rattle.pls_lines.specs.Counted.{counted}
 use Rattle.pls_lines.specs.Lines.{Left}
 use Rattle.pls_lines.specs.Text.{text_of}
 use Rattle.pls_netfile.specs.NetworkScan.{TellsNetwork}
-use Rattle.pls_labelfile.specs.LabelsText.{NamedLabel}
+use Rattle.pls_labelfile.specs.LabelsText.{Labelling}
 use Rattle.pls_labelfile.specs.LabelsScan.{TellsLabels, WrittenLabels, total_bits}
 use Rattle.pls_base.specs.Steps.{capped}
 use Rattle.pls_schedule.specs.declared.event.Event.{Event}
 use Rattle.pls_schedule.specs.ScheduleText.{TellsSchedule, WrittenSchedule}
 use Rattle.pls_edits.specs.declared.edit_line.EditLine.{EditLine}
 use Rattle.pls_edits.specs.EditsText.{TellsEdits, WrittenEdits, rounds_of}
+use Rattle.pls_rules_part.specs.RulesScan.{TellsRules, WrittenRules}
+use Rattle.pls_rules_part.specs.RulesText.{RulesSaid}
 use Rattle.pls_inputs.specs.declared.parts.Parts.{Parts}
 use Rattle.pls_inputs.specs.declared.texts.Texts.{Texts}
 use Rattle.pls_inputs.specs.Parts.{HasParts, Input, input_lines}
-use Rattle.pls_inputs.specs.Order.{edits_heading, labels_heading, over, schedule_heading}
+use Rattle.pls_inputs.specs.Order.{edits_heading, labels_heading, over, rules_heading, schedule_heading}
 
 -- the lines of a part where it is wanted, and else none
 abbrev pub If : Bool → (List (List ℕ) → Type 0) → List (List ℕ) → Type 0
@@ -41,10 +43,11 @@ TellsIfAny Told (Some text) (Some part) = Told text part
 
 -- the labels are those of the text, whose heading is the line of this number
 pub record TellsLabelsAt (heading : ℕ) (written : WrittenLabels)
-    (labels : List NamedLabel) : Type 0 where
-  pub tells : TellsLabels written.text labels
+    (said : Labelling) : Type 0 where
+  pub tells : TellsLabels written.text said
+  pub code : written.code ≡ said.code
   pub number : written.number ≡ heading
-  pub sum : written.bits ≡ capped (total_bits labels)
+  pub sum : written.bits ≡ capped (total_bits said.labels)
 
 -- so it is with events
 pub record TellsScheduleAt (heading : ℕ) (written : WrittenSchedule)
@@ -61,6 +64,11 @@ pub record TellsEditsAt (heading : ℕ) (written : WrittenEdits)
   pub lines : written.events ≡ counted edits
   pub rounds : written.rounds ≡ counted (rounds_of edits)
 
+-- and with rules
+pub record TellsRulesAt (heading : ℕ) (written : WrittenRules) (said : RulesSaid) : Type 0 where
+  pub tells : TellsRules written.text said
+  pub number : written.number ≡ heading
+
 -- the bytes are the text of an input with these parts, which were scanned
 pub record IsScanned (parts : Parts) (bytes : List ℕ) (texts : Texts) : Type 0 where
   pub input : Input
@@ -70,6 +78,7 @@ pub record IsScanned (parts : Parts) (bytes : List ℕ) (texts : Texts) : Type 0
   pub labels : TellsIfAny (TellsLabelsAt (labels_heading input)) texts.labels input.labels
   pub schedule : TellsIfAny (TellsScheduleAt (schedule_heading input)) texts.schedule input.schedule
   pub edits : TellsIfAny (TellsEditsAt (edits_heading input)) texts.edits input.edits
+  pub rules : TellsIfAny (TellsRulesAt (rules_heading input)) texts.rules input.rules
 
 -- what was counted of a text, 0 where there is none
 abbrev pub count_in : {X : Type 0} → (X → ℕ) → Option X → ℕ

@@ -1,21 +1,22 @@
 -- The lines of labels: plain, none of them `end`, and told by what they say.
-use Rattle.std.proofs.Common.{◌≡◌, ◌≢◌, ℕ, ◌<◌, ◌≤◌, ◌^◌, Bool, true, List, [], ◌∷◌, ◌++◌, length, codes, decimal, refl, sym, ◌∙◌, ap, arith}
-use Rattle.std.specs.List.{list_all}
+use Rattle.std.proofs.Common.{◌≡◌, ◌≢◌, ℕ, ◌<◌, ◌≤◌, ◌^◌, Bool, true, List, [], ◌∷◌, ◌++◌, drop, length, codes, decimal, refl, sym, ◌∙◌, ap, arith}
+use Rattle.std.specs.List.{All, list_all}
 use Rattle.std.proofs.lemmas.Bool.{and_parts}
 use Rattle.std.proofs.lemmas.Bool.Decides.{nat_tests}
 use Rattle.std.proofs.lemmas.List.Elements.{All-nil}
 use Rattle.pls_bits.specs.Hex.{hex_digits, is_lower_digit}
+use Rattle.pls_bits.specs.declared.code_name.CodeName.{CodeName}
+use Rattle.pls_bits.specs.declared.code_name.CodeName.TheVariants.{Delta, Gamma}
 use Rattle.pls_bits.proofs.Text.{hex_digits-is_lower, hex_digits-injective, length-hex_digits}
 use Rattle.pls_lines.specs.Plain.{LacksItem}
-use Rattle.pls_lines.specs.LineKind.{Always, IsLineKind, alone}
+use Rattle.pls_lines.specs.LineKind.{IsLineKind}
 use Rattle.pls_lines.specs.Part.{IsSomePart}
 use Rattle.pls_lines.specs.ListPart.{IsListKind}
 use Rattle.pls_lines.specs.laws.NumberWords.{decimal_lacks, same_number, behind_word}
-use Rattle.pls_lines.specs.laws.LineWords.{first_word, fixed_kind, line_lacks, same_head}
+use Rattle.pls_lines.specs.laws.LineWords.{first_word, line_lacks, same_head}
 use Rattle.pls_lines.specs.laws.ListLaws.{list_is_some_part}
-use Rattle.pls_labelfile.specs.LabelsText.{NamedLabel, FitsLabel, AreLabels, IsLabelsPart, hex_word, label_line, label_of_words}
+use Rattle.pls_labelfile.specs.LabelsText.{FitsLabel, IsLabelsPart, MayHead, NamedLabel, hex_word, label_line, label_of_words, labels_heading}
 use Rattle.pls_labelfile.specs.inner.HexWord.{word_length}
-use Rattle.pls_labelfile.specs.declared.labels_tally.LabelsHeading.{LabelsHeading}
 
 -- a byte below the digits is none of lower-case hex digits
 lower_lacks : (byte : ℕ) (digits : List ℕ) → byte < 48 → list_all is_lower_digit digits ≡ true
@@ -124,24 +125,81 @@ label_lines = record {
   one = same_label;
 }
 
--- and so is the heading
-pub labels_headings : IsLineKind {X = LabelsHeading} Always (alone (codes "labels"))
-labels_headings =
-    fixed_kind (codes "labels")
+-- no heading has a line feed
+pub heading_plain : (code : CodeName) → LacksItem 10 (labels_heading code)
+heading_plain Gamma =
     (omega arith, (omega arith, (omega arith, (omega arith, (omega arith, (omega arith, tt))))))
-    (λ e. omega (arith, same_head 108 101 _ _ e)) (λ a b. refl)
+heading_plain Delta = (
+  omega arith,
+  (
+    omega arith,
+    (
+      omega arith,
+      (
+        omega arith,
+        (
+          omega arith,
+          (
+            omega arith,
+            (
+              omega arith,
+              (
+                omega arith,
+                (
+                  omega arith,
+                  (
+                    omega arith,
+                    (
+                      omega arith,
+                      (
+                        omega arith,
+                        tt,
+                      ),
+                    ),
+                  ),
+                ),
+              ),
+            ),
+          ),
+        ),
+      ),
+    ),
+  ),
+)
+
+-- none is `end`
+heading_no_end : (code : CodeName) → labels_heading code ≢ codes "end"
+heading_no_end Gamma e = omega (arith, same_head 108 101 _ _ e)
+heading_no_end Delta e = omega (arith, same_head 108 101 _ _ e)
+
+-- and a line that one of them begins tells which of them
+pub same_heading : (a b : CodeName) (x y : List ℕ)
+    → labels_heading a ++ 10 ∷ x ≡ labels_heading b ++ 10 ∷ y → a ≡ b
+same_heading Gamma Gamma x y e = refl
+same_heading Gamma Delta x y e = absurd (omega (arith, same_head 10 32 _ _ (ap (drop 6) e)))
+same_heading Delta Gamma x y e = absurd (omega (arith, same_head 32 10 _ _ (ap (drop 6) e)))
+same_heading Delta Delta x y e = refl
+
+-- so the headings that may stand in a place are a kind of line
+pub labels_headings : (delta : Bool) → IsLineKind (MayHead delta) labels_heading
+labels_headings delta = record {
+  plain = λ code may. heading_plain code;
+  no_end = λ code may. heading_no_end code;
+  one = λ a b may_a may_b e.
+      same_heading a b [] [] (ap (λ (line : List ℕ). line ++ 10 ∷ []) e);
+}
 
 -- labels that fit are lists of a part
-pub labels_list : IsListKind {H = LabelsHeading} Always FitsLabel AreLabels
-labels_list = record {
-  heading = record {};
+pub labels_list : (delta : Bool) → IsListKind (MayHead delta) FitsLabel (All FitsLabel)
+labels_list delta = record {
+  heading = Gamma;
   headed = tt;
   fits = λ items are. are;
   some = record { more = []; are = All-nil FitsLabel };
 }
 
 -- so there is a labels part, and it tells where it ends
-pub labels_some_part : IsSomePart IsLabelsPart
-labels_some_part =
-    list_is_some_part Always (alone (codes "labels")) FitsLabel label_line AreLabels
-    labels_headings label_lines labels_list
+pub labels_some_part : (delta : Bool) → IsSomePart (IsLabelsPart delta)
+labels_some_part delta =
+    list_is_some_part (MayHead delta) labels_heading FitsLabel label_line (All FitsLabel)
+    (labels_headings delta) label_lines (labels_list delta)

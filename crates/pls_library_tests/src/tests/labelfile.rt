@@ -3,7 +3,10 @@
 use super::{line_of, network};
 use pls_base::{Fault, MemSink, TextError};
 use pls_graph::Network;
-use pls_labelfile::{read_labels, stream_labels, write_labels, written_is_read};
+use pls_labelfile::{
+    MAX_BITS, read_labels, scan_labels, stream_labels, write_labels, written_is_read,
+};
+use pls_lines::Lines;
 use std::alloc::Global;
 use std::test::Fail;
 
@@ -12,29 +15,36 @@ const THREE: &str = "network\nnode 1 - 0 0\nnode 20 - 0 0\nnode 21 - 0 0\nend\n"
 
 // The text of the labels that a text is read as.
 fn written(alloc: Global, net: &Network, text: &[u8]) -> Result<Vec<u8>, Fail> {
-    let labels = read_labels(alloc, text, net)?;
-    Ok(write_labels(alloc, net, &labels)?)
+    let (code, labels) = read_labels(alloc, text, net)?;
+    Ok(write_labels(alloc, net, &labels, code)?)
 }
 
 // How many labels are read of the text of those that a text is read as, and their bits together.
 fn read_again(alloc: Global, net: &Network, text: &[u8]) -> Result<(usize, u64), Fail> {
-    let labels = read_labels(alloc, text, net)?;
-    let again = written_is_read(alloc, net, &labels)?;
+    let (code, labels) = read_labels(alloc, text, net)?;
+    if labels.total() > MAX_BITS {
+        return Err(Fail::from("too many bits"));
+    }
+    let (_, again) = written_is_read(alloc, net, &labels, code)?;
     Ok((again.len(), again.total()))
 }
 
 #[test]
 fn the_text_that_was_read_is_written(rt: HostRuntime) -> Result<(), Fail> {
     let net = network(rt.alloc(), THREE)?;
-    let text = b"labels\nlabel 1 17 318d80\nlabel 20 0 -\nlabel 21 1 00\nend\n".as_slice();
-    assert!(rt;
-        written(rt.alloc(), &net, text)?.as_slice() == text,
-        "the text"
-    );
-    assert!(rt;
-        read_again(rt.alloc(), &net, text)? == (3, 18),
-        "read again"
-    );
+    for heading in ["labels", "labels delta"] {
+        let text = format!(in rt.alloc();
+            "{heading}\nlabel 1 17 318d80\nlabel 20 0 -\nlabel 21 1 00\nend\n"
+        )?;
+        assert!(rt;
+            written(rt.alloc(), &net, text.as_bytes())?.as_slice() == text.as_bytes(),
+            "the text with {heading}"
+        );
+        assert!(rt;
+            read_again(rt.alloc(), &net, text.as_bytes())? == (3, 18),
+            "read again with {heading}"
+        );
+    }
     Ok(())
 }
 
@@ -54,16 +64,16 @@ fn a_long_text_is_written_in_pieces(rt: HostRuntime) -> Result<(), Fail> {
     let net = network(rt.alloc(), THREE)?;
     let long = long_text(rt.alloc())?;
     let text = long.as_bytes();
-    let labels = read_labels(rt.alloc(), text, &net)?;
+    let (code, labels) = read_labels(rt.alloc(), text, &net)?;
     let mut whole = MemSink::new(rt.alloc(), 5100, 4096, Vec::new(rt.alloc()))?;
     let mut torn = MemSink::new(rt.alloc(), 5100, 4096, vec![in rt.alloc(); 2]?)?;
     assert!(rt;
-        stream_labels(&net, &labels, &mut whole).is_ok(),
+        stream_labels(&net, &labels, code, &mut whole).is_ok(),
         "all is taken"
     );
     assert!(rt; whole.bytes() == text, "the text");
     assert!(rt;
-        stream_labels(&net, &labels, &mut torn) == Err(Fault),
+        stream_labels(&net, &labels, code, &mut torn) == Err(Fault),
         "the second write fails"
     );
     assert!(rt; text.starts_with(torn.bytes()), "a front of the text");
@@ -77,6 +87,10 @@ const FAULTY: &[(&str, u64)] = &[
     ("labels", 1),
     ("label 1 0 -\n", 1),
     ("labels \nend\n", 1),
+    ("labels gamma\nend\n", 1),
+    ("labels delta \nend\n", 1),
+    ("labels delta", 1),
+    ("labels delta\nlabel 1 0\nend\n", 2),
     ("labels\n", 2),
     ("labels\nend", 2),
     ("labels\n\nend\n", 2),
@@ -104,6 +118,24 @@ const FAULTY: &[(&str, u64)] = &[
         6,
     ),
 ];
+
+// Parts, and the first faulty line of each where only the gamma code may be named, 0 where there is
+// none.
+const GAMMA_ALONE: &[(&str, u64)] = &[
+    ("labels\nlabel 1 0 -\nend\n", 0),
+    ("labels\nlabel 1 0\nend\n", 2),
+    ("labels delta\nlabel 1 0 -\nend\n", 1),
+    ("labels delta\nlabel 1 0\nend\n", 1),
+    ("labels delta", 1),
+];
+
+#[test]
+fn the_delta_code_is_named_where_it_may_be(rt: HostRuntime) {
+    for (text, line) in GAMMA_ALONE {
+        let read = scan_labels(&mut Lines::new(text.as_bytes()), false);
+        assert!(rt; line_of(&read) == *line, "line {line} of {text}");
+    }
+}
 
 // The first label that is not that of a node of the three: a text, and its line.
 const OTHER: &[(&str, u64)] = &[

@@ -2,7 +2,7 @@
 
 use super::network;
 use pls_base::Steps;
-use pls_bits::Gamma;
+use pls_bits::{CodeName, Gamma};
 use pls_colour::Bipartite;
 use pls_graph_edits::EditError;
 use pls_labelfile::{read_labels, write_labels};
@@ -19,7 +19,7 @@ const COLOURS: &str = "labels\nlabel 1 1 00\nlabel 2 1 80\nend\n";
 
 // Whether the network and its labels are as at first.
 fn is_as_at_first<J: Judge>(alloc: Global, recheck: &Recheck<J>) -> Result<bool, Fail> {
-    let labels = write_labels(alloc, recheck.network(), recheck.labels())?;
+    let labels = write_labels(alloc, recheck.network(), recheck.labels(), CodeName::Gamma)?;
     let net = write_network(alloc, recheck.network())?;
     Ok(net.as_slice() == PAIR.as_bytes() && labels.as_slice() == COLOURS.as_bytes())
 }
@@ -77,7 +77,7 @@ fn verdicts<J: Judge>(alloc: Global, recheck: &mut Recheck<J>) -> Result<(u32, u
 fn a_node_joins_and_leaves(rt: HostRuntime) -> Result<(), Fail> {
     let alloc = rt.alloc();
     let net = network(alloc, PAIR)?;
-    let labels = read_labels(alloc, COLOURS.as_bytes(), &net)?;
+    let (_, labels) = read_labels(alloc, COLOURS.as_bytes(), &net)?;
     let mut tally = Tally::new();
     let judge = Counted::new(Bipartite::<Gamma>::new(), &mut tally);
     let mut recheck = Recheck::start(alloc, net, labels, judge)?;

@@ -169,7 +169,7 @@ fn first_verdict(alloc: Global, text: &str, labels: [&str; 3]) -> Result<Verdict
     let lines = format!(in alloc;
         "labels\nlabel 1 {first}\nlabel 2 {second}\nlabel 3 {third}\nend\n"
     )?;
-    let Ok(store) = read_labels(alloc, lines.as_bytes(), &net) else {
+    let Ok((_, store)) = read_labels(alloc, lines.as_bytes(), &net) else {
         return Err(Fail::from("labels refused"));
     };
     let verdicts = scheme.round(alloc, &net, &store, &mut Steps::new())?;

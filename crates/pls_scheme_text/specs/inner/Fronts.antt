@@ -1,13 +1,13 @@
 -- What stands at the front of a text, read from the left: an expression with so many levels below
 -- it, inside of `map` or not.
-use Rattle.std.specs.Prelude.{ℕ, zero, suc, ◌+◌, ◌==◌, ◌&&◌, nat_lt, min, Bool, true, false, List, [], ◌∷◌, length, take, drop, codes, decimal, Option, Some, None, option_map, option_and_then, if◌then◌else◌}
+use Rattle.std.specs.Prelude.{ℕ, zero, suc, ◌-◌, nat_lt, min, Bool, true, false, List, codes, Option, Some, None, option_map, option_and_then, if◌then◌else◌}
 use Rattle.std.specs.Borrow.{Bor}
-use Rattle.std.specs.Char.{is_ascii_digit}
 use Rattle.std.specs.Option.{option_map_or, option_or}
-use Rattle.std.specs.Str.{bytes_eq}
-use Rattle.std.specs.Str.Parse.{digits_value}
 use Rattle.pls_model.specs.declared.limits.TheConstants.{MAX_NODES}
-use Rattle.pls_names.specs.Front.{Front, after, followed, name_front, word_front}
+use Rattle.pls_fronts.specs.Depth.{deepest}
+use Rattle.pls_fronts.specs.Front.{Front, after, followed, whole_item, word_front}
+use Rattle.pls_fronts.specs.NumberFront.{number_front}
+use Rattle.pls_names.specs.Front.{name_front}
 use Rattle.pls_property.specs.declared.expression_tree.ExpressionTree.{ExpressionTree}
 use Rattle.pls_property.specs.Held.{expression_of}
 use Rattle.pls_property.specs.Expression.{Expression, And, Bridgeless, Diameter, Map, Of, Or, names_of}
@@ -15,26 +15,10 @@ use Rattle.pls_scheme_text.specs.declared.fronts.Join.{Join}
 use Rattle.pls_scheme_text.specs.declared.fronts.Join.TheVariants.{Both, Either}
 use Rattle.pls_scheme_text.specs.declared.scheme_error.SchemeError.{SchemeError}
 use Rattle.pls_scheme_text.specs.declared.scheme_error.SchemeError.TheVariants.{NotAScheme, TooDeep, TooMany}
-use Rattle.pls_scheme_text.specs.ExpressionText.{deepest}
-
--- how many digits stand in front
-abbrev pub digits_ahead : List ℕ → ℕ
-digits_ahead [] = 0
-digits_ahead (character ∷ text) = if is_ascii_digit character then 1 + digits_ahead text else 0
-
--- the number below 32768 that these are the decimal of, and what follows them
-abbrev pub spelled : List ℕ → List ℕ → Option (Front ℕ)
-spelled digits rest =
-    if nat_lt (digits_value 10 digits) MAX_NODES && bytes_eq digits (decimal (digits_value 10 digits))
-    then Some (followed (digits_value 10 digits) rest) else None
-
--- the number that all digits in front spell
-abbrev pub number_front : List ℕ → Option (Front ℕ)
-number_front text = spelled (take (digits_ahead text) text) (drop (digits_ahead text) text)
 
 -- the number of edges of a diameter
 abbrev pub edges_front : List ℕ → Option (Front ℕ)
-edges_front text = option_and_then number_front (after (codes "diameter:") text)
+edges_front text = option_and_then (number_front (MAX_NODES - 1)) (after (codes "diameter:") text)
 
 -- a property that has no scheme of its own
 abbrev pub property_front : List ℕ → Option (Front Expression)
@@ -103,10 +87,6 @@ found_tree found = followed (expression_of found.0) found.1.now
 -- how many names an expression has, counted up to 255
 abbrev pub count_front : Front Expression → Front ℕ
 count_front front = followed (min (names_of front.item) 255) front.rest
-
--- what is found where nothing follows
-abbrev pub whole_item : {A : Type 0} → Front A → Option A
-whole_item front = if length front.rest == 0 then Some front.item else None
 
 -- the expression, at most 8 deep, that is the whole of a text
 abbrev pub expression_in : List ℕ → Option Expression

@@ -1,19 +1,23 @@
 -- What stands at the front of a text: an expression is read where its text stands, and nowhere else.
-use Rattle.std.proofs.Common.{◌≡◌, ◌∙◌, inl, inr, ℕ, max, zero, suc, ◌+◌, ◌≤◌, ◌++◌, Bool, true, false, List, codes, decimal, Option, Some, None, option_map, refl, sym, ap, subst, arith}
+use Rattle.std.proofs.Common.{◌≡◌, ◌∙◌, inl, inr, ℕ, max, zero, suc, ◌+◌, ◌-◌, ◌≤◌, ◌++◌, Bool, true, false, List, codes, decimal, Option, Some, None, option_map, refl, sym, ap, subst, arith}
 use Rattle.std.specs.Option.{option_and_then, option_map_or}
 use Rattle.std.proofs.lemmas.List.{append_assoc}
 use Rattle.std.proofs.lemmas.Option.{option_and_then_some, same_Some}
 use Rattle.pls_names.specs.declared.scheme_name.SchemeName.{SchemeName}
 use Rattle.pls_names.specs.Named.{name_of}
-use Rattle.pls_names.specs.Front.{Front, after, followed, name_front, word_front}
-use Rattle.pls_names.specs.laws.FrontLaws.{after_is, either_found, name_found, worded_is}
+use Rattle.pls_fronts.specs.Front.{Front, after, followed, word_front}
+use Rattle.pls_fronts.specs.NumberFront.{digits_ahead, number_front}
+use Rattle.pls_fronts.specs.laws.FrontLaws.{after_is, either_found, worded_is}
+use Rattle.pls_fronts.specs.laws.NumberFrontLaws.{number_is, number_read}
+use Rattle.pls_model.specs.declared.limits.TheConstants.{MAX_NODES}
+use Rattle.pls_names.specs.Front.{name_front}
+use Rattle.pls_names.specs.laws.FrontLaws.{name_found}
 use Rattle.pls_names.specs.laws.NamedLaws.{laws_of}
 use Rattle.pls_property.specs.Expression.{Expression, And, Bridgeless, Diameter, CanBeWritten, Map, Of, Or, depth_of}
 use Rattle.pls_scheme_text.specs.declared.fronts.Join.{Join}
 use Rattle.pls_scheme_text.specs.declared.fronts.Join.TheVariants.{Both, Either}
 use Rattle.pls_scheme_text.specs.ExpressionText.{expression_text}
-use Rattle.pls_scheme_text.specs.inner.Fronts.{close_front, close_map, close_pair, digits_ahead, edges_front, expression_front, inner_front, join_front, expression_of_two, leaf_front, map_front, number_front, pair_front, property_front, second_front}
-use Rattle.pls_scheme_text.specs.laws.NumberFrontLaws.{number_is, number_read}
+use Rattle.pls_scheme_text.specs.inner.Fronts.{close_front, close_map, close_pair, edges_front, expression_front, inner_front, join_front, expression_of_two, leaf_front, map_front, pair_front, property_front, second_front}
 
 -- an expression is at least 1 deep
 pub deep_some : (scheme : Expression) → 1 ≤ depth_of scheme
@@ -122,7 +126,7 @@ diameter_read : (below most : ℕ) → CanBeWritten true (Diameter most)
 unfolding leaf_front
 diameter_read below most small rest none =
     leaf_read true below (codes "diameter:" ++ (decimal most ++ rest)) (Diameter most) rest
-    (rw (number_read most small rest none) refl)
+    (rw (number_read (MAX_NODES - 1) most (omega (arith, small)) (omega (arith, small)) rest none) refl)
 
 bridgeless_read : (below : ℕ) → IsReadAs true below Bridgeless
 unfolding leaf_front
@@ -195,16 +199,16 @@ diameter_is below text found is = by (edges_front text) refl is
         → IsInFront true below text found
     by None at same = absurd (cc)
     by (Some most) at same =
-        option_and_then_some number_front (after (codes "diameter:") text) most at
+        option_and_then_some (number_front (MAX_NODES - 1)) (after (codes "diameter:") text) most at
         (λ behind word number.
         let one : followed (Diameter most.item) most.rest ≡ found =
         same_Some (followed (Diameter most.item) most.rest) found same in
-        let front = number_is behind most number in
+        let front = number_is (MAX_NODES - 1) behind most number in
         let stands : text ≡ expression_text (Diameter most.item) ++ most.rest =
         after_is (codes "diameter:") text behind word
         ∙ ap (λ (t : List ℕ). codes "diameter:" ++ t) front.0 in
         subst (IsInFront true below text) one
-        (record { stands = stands; shallow = omega arith; written = front.1 }))
+        (record { stands = stands; shallow = omega arith; written = omega (arith, front.1) }))
 
 property_is : (below : ℕ) (text : List ℕ) (found : Front Expression)
     → property_front text ≡ Some found → IsInFront true below text found

@@ -1,17 +1,14 @@
 -- Texts of expressions are read again, and are one each.
-use Rattle.std.proofs.Common.{◌≡◌, ◌∙◌, ℕ, ◌+◌, ◌≤◌, ◌==◌, ◌++◌, Bool, true, false, List, [], ◌∷◌, length, Some, None, if◌then◌else◌, refl, sym, ap, subst, arith}
+use Rattle.std.proofs.Common.{◌≡◌, ◌∙◌, ℕ, ◌+◌, ◌≤◌, ◌++◌, false, List, [], Some, sym, refl, ap, subst, arith}
 use Rattle.std.specs.Option.{option_and_then}
-use Rattle.std.proofs.lemmas.Bool.{eqb-true}
 use Rattle.std.proofs.lemmas.List.{append-nil}
 use Rattle.std.proofs.lemmas.Option.{option_and_then_some, same_Some}
 use Rattle.pls_property.specs.Expression.{Expression, CanBeWritten, depth_of}
 use Rattle.pls_scheme_text.specs.ExpressionText.{expression_text}
-use Rattle.pls_names.specs.Front.{Front, followed}
-use Rattle.pls_scheme_text.specs.inner.Fronts.{whole_item, expression_front, expression_in}
+use Rattle.pls_fronts.specs.Front.{Front, followed, whole_item}
+use Rattle.pls_fronts.specs.laws.FrontLaws.{whole_is}
+use Rattle.pls_scheme_text.specs.inner.Fronts.{expression_front, expression_in}
 use Rattle.pls_scheme_text.specs.laws.FrontLaws.{front_is, front_read}
-
-nothing_found : (scheme : Expression) → None ≡ Some scheme → ⊥
-nothing_found scheme is = absurd (cc)
 
 -- the whole of a text is an expression of at most 8 levels exactly where it is the expression's
 pub expression_in-text : (scheme : Expression) → depth_of scheme ≤ 8 → CanBeWritten false scheme
@@ -31,22 +28,11 @@ pub expression_in-is : (text : List ℕ) (scheme : Expression) → expression_in
 expression_in-is text scheme is =
     option_and_then_some whole_item (expression_front false 7 text) scheme is at
   where
-    empty : (rest : List ℕ) → length rest ≡ 0 → rest ≡ []
-    empty [] none = refl
-    empty (character ∷ rest) none = absurd (omega (arith, none))
-
-    ended : (found : Front Expression) (b : Bool) → (length found.rest == 0) ≡ b
-        → (if b then Some found.item else None) ≡ Some scheme
-        → (found.item ≡ scheme) × (found.rest ≡ [])
-    ended found true end same =
-        (same_Some found.item scheme same, empty found.rest (eqb-true (length found.rest) 0 end))
-    ended found false end same = absurd (nothing_found scheme same)
-
     at : (found : Front Expression) → expression_front false 7 text ≡ Some found
         → whole_item found ≡ Some scheme → IsTextOf text scheme
     at found stands whole =
         let front = front_is false 7 text found stands in
-        let end = ended found (length found.rest == 0) refl whole in
+        let end = whole_is found scheme whole in
         record {
           written = front.stands ∙ ap (λ (rest : List ℕ). expression_text found.item ++ rest) end.1
               ∙ append-nil (expression_text found.item) ∙ ap expression_text end.0;

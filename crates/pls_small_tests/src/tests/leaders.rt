@@ -3,7 +3,7 @@
 use super::small::{SETS, Small, are_joined, has, marks};
 use super::{joined, network};
 use pls_base::Steps;
-use pls_bits::Gamma;
+use pls_bits::{CodeName, Gamma};
 use pls_labelfile::{read_labels, write_labels};
 use pls_leader::{Count, Leader};
 use pls_model::Verdict;
@@ -28,7 +28,7 @@ const NONE: &str = "network\nnode 1 - 0 0\nport 2 1\nnode 2 - 0 0\nport 1 1\nend
 fn marks_as<S: Scheme>(alloc: Global, scheme: &S, text: &str) -> Result<Vec<u8>, Fail> {
     let net = joined(alloc, text)?;
     match scheme.mark(alloc, &net)? {
-        Some(labels) => Ok(write_labels(alloc, &net, &labels)?),
+        Some(labels) => Ok(write_labels(alloc, &net, &labels, CodeName::Gamma)?),
         None => Ok(b"no".to_vec(alloc)?),
     }
 }
@@ -56,7 +56,7 @@ fn leaders_and_numbers_are_marked(rt: HostRuntime) -> Result<(), Fail> {
 // The rules by which the nodes of a network reject these labels, a digit a node, 0 where it accepts.
 fn judged<V: Checker>(alloc: Global, checker: &V, text: &str, labels: &str) -> Result<u32, Fail> {
     let net = network(alloc, text)?;
-    let store = read_labels(alloc, labels.as_bytes(), &net)?;
+    let (_, store) = read_labels(alloc, labels.as_bytes(), &net)?;
     let mut rules = 0_u32;
     for verdict in &checker.round(alloc, &net, &store, &mut Steps::new())? {
         rules = rules.wrapping_mul(10).wrapping_add(rule_of(*verdict));

@@ -13,11 +13,10 @@ use Rattle.pls_model.specs.declared.row.Port.{Port}
 use Rattle.pls_model.specs.declared.row.State.{State}
 use Rattle.pls_model.specs.declared.row.NodeRow.{NodeRow}
 use Rattle.pls_model.specs.Configuration.{IsNetwork, ids_of, ports_in, refusal_of, row_of}
-use Rattle.pls_model.specs.Walk.{Edge, IsConnected, edges_of}
+use Rattle.pls_model.specs.Walk.{IsConnected, edges_of}
 use Rattle.pls_graph.specs.Size.{greatest, size_of, weights_of}
-use Rattle.pls_graph.proofs.Members.{Contains-first, Contains-flat_map, Contains-from_map, Contains-later, Contains-map}
-use Rattle.pls_facts.specs.Classes.{class_of}
-use Rattle.pls_facts.proofs.Classes.{class-joined}
+use Rattle.pls_graph.proofs.Members.{Contains-first, Contains-flat_map, Contains-later, Contains-map}
+use Rattle.pls_facts.proofs.Classes.{joins_all-JoinAll}
 use Rattle.pls_facts.proofs.Greatest.{in_greatest}
 use Rattle.pls_facts.proofs.Neighbours.{neighbour_row, within_greatest}
 use Rattle.pls_facts.proofs.Pointed.{row_of_id}
@@ -27,7 +26,7 @@ use Rattle.pls_scheme.proofs.SaidPorts.{all_ports_pass}
 use Rattle.pls_universal.specs.declared.map.MapLabel.{MapLabel}
 use Rattle.pls_universal.specs.declared.map.MapRow.{MapRow}
 use Rattle.pls_universal.specs.Map.{map_of, port_stated, row_stated, up_stated}
-use Rattle.pls_universal.specs.Rules.{IsTestOf, are_one, has_map, is_joined, is_network, is_node_right, is_port_right, is_port_small, is_small, is_within_limits, is_word, map_rules, map_says, matched, node_of, nodes_of, port_of, same_port, same_record, same_state, same_up, up_of}
+use Rattle.pls_universal.specs.Rules.{IsTestOf, has_map, is_joined, is_network, is_node_right, is_port_right, is_port_small, is_small, is_within_limits, is_word, map_rules, map_says, matched, node_of, nodes_of, port_of, same_port, same_record, same_state, same_up, up_of}
 
 -- lists match themselves, where each item passes with itself
 pub matched-itself : {X : Type 0} (test : X → X → Bool) → ((x : X) → test x x ≡ true) → (xs : List X)
@@ -76,23 +75,9 @@ pub nodes-back : (rows : List NodeRow) → nodes_of (map_of rows) ≡ rows
 nodes-back [] = refl
 nodes-back (row ∷ rows) = rw (node-back row, nodes-back rows) refl
 
--- numbers that are the same at any two places are one
-same-one : (numbers : List ℕ) → ((a b : ℕ) → Contains numbers a → Contains numbers b → a ≡ b)
-    → are_one numbers ≡ true
-same-one [] same = refl
-same-one (first ∷ others) same = list_all-from_AllPass (λ other. first == other) others
-    (λ i d within. eq-eqb first (get_or others i d) (same first (get_or others i d)
-    (Contains-first first others)
-    (Contains-later first others (get_or others i d) (Contains-get_or others i d within))))
-
--- where all are joined, one node stands for all
+-- where all are joined, the test passes
 pub connected-joined : (rows : List NodeRow) → IsConnected rows → is_joined rows ≡ true
-connected-joined rows connected =
-    let edges : List Edge = edges_of rows in
-    same-one (map (class_of edges) (ids_of rows)) (λ a b a_in b_in.
-    let (u, u_in, is_a) = Contains-from_map (class_of edges) (ids_of rows) a a_in in
-    let (v, v_in, is_b) = Contains-from_map (class_of edges) (ids_of rows) b b_in in
-    sym is_a ∙ class-joined edges u v (connected u v u_in v_in) ∙ is_b)
+connected-joined rows = (joins_all-JoinAll (edges_of rows) (ids_of rows)).1
 
 module _ (rows : List NodeRow) (net : IsNetwork rows) (words : AreWords (size_of rows)) where
   id_small : (row : NodeRow) → Contains rows row → is_word row.id ≡ true

@@ -1,9 +1,9 @@
 -- What the single rules say.
-use Rattle.std.proofs.Common.{◌≡◌, ◌∙◌, ℕ, ◌≤◌, ◌==◌, ◌&&◌, inl, inr, Bool, true, false, nat_le, List, [], ◌∷◌, map, length, Contains, Option, Some, None, is_none, refl, sym, ap, arith, All, get_or}
+use Rattle.std.proofs.Common.{◌≡◌, ℕ, ◌≤◌, ◌==◌, ◌&&◌, Bool, true, false, nat_le, List, [], ◌∷◌, length, Option, Some, None, is_none, refl, ap, arith, All, get_or}
 use Rattle.std.specs.List.{list_all}
 use Rattle.std.proofs.lemmas.Bool.{eqb-true, leb-true}
 use Rattle.std.proofs.lemmas.List.{length-map}
-use Rattle.std.proofs.lemmas.List.Elements.{All-contains, All-map}
+use Rattle.std.proofs.lemmas.List.Elements.{All-map}
 use Rattle.std.proofs.lemmas.List.Sums.{AllPass-from_list_all}
 use Rattle.pls_model.specs.declared.row.State.{State}
 use Rattle.pls_model.specs.declared.row.NodeRow.{NodeRow}
@@ -11,11 +11,9 @@ use Rattle.pls_model.specs.declared.refusal.BuildError.{BuildError}
 use Rattle.pls_model.specs.declared.limits.TheConstants.{MAX_NODES, MAX_NUM, MAX_PORTS}
 use Rattle.pls_model.specs.Configuration.{AreWithinLimits, IsNetwork, ids_of, ports_in, refusal_of}
 use Rattle.pls_model.specs.Walk.{IsConnected, edges_of}
-use Rattle.pls_graph.proofs.Members.{Contains-cons_cases, Contains-map}
-use Rattle.pls_facts.specs.Classes.{class_of}
-use Rattle.pls_facts.proofs.Classes.{joined-class}
+use Rattle.pls_facts.proofs.Classes.{joins_all-JoinAll}
 use Rattle.pls_universal.specs.declared.map.MapRow.{MapRow}
-use Rattle.pls_universal.specs.Rules.{are_one, is_joined, is_network, is_port_small, is_small, is_within_limits, matched, node_of, nodes_of, same_port, same_record, same_state, same_up}
+use Rattle.pls_universal.specs.Rules.{is_joined, is_network, is_port_small, is_small, is_within_limits, matched, node_of, nodes_of, same_port, same_record, same_state, same_up}
 
 -- where two tests pass, each does
 pub both_pass : (a b : Bool) → (a && b) ≡ true → (a ≡ true) × (b ≡ true)
@@ -80,26 +78,9 @@ state-same one other is =
         → make a b c ≡ make d e f
     parts a b c d e f one two three = rw (one, two, three) refl
 
--- what is all the same is the same at any two
-one-same : (numbers : List ℕ) → are_one numbers ≡ true → (a b : ℕ) → Contains numbers a
-    → Contains numbers b → a ≡ b
-one-same [] all a b one other = absurd (omega (arith, one.1))
-one-same (first ∷ others) all a b one other = sym (to a one) ∙ to b other
-  where
-    to : (c : ℕ) → Contains (first ∷ others) c → first ≡ c
-    to c in' = elim (Contains-cons_cases first others c in') [
-      | inl same ↦ same
-      | inr later ↦ eqb-true first c (All-contains (λ other. (first == other) ≡ true) others c
-          (AllPass-from_list_all (λ other. first == other) others all) later)
-    ]
-
--- where one node stands for all, all are joined
+-- where the test passes, all are joined
 pub joined-connected : (rows : List NodeRow) → is_joined rows ≡ true → IsConnected rows
-joined-connected rows all u v u_in v_in =
-    let class : ℕ → ℕ = class_of (edges_of rows) in
-    joined-class (edges_of rows) u v
-    (one-same (map class (ids_of rows)) all (class u) (class v)
-    (Contains-map class (ids_of rows) u u_in) (Contains-map class (ids_of rows) v v_in))
+joined-connected rows = (joins_all-JoinAll (edges_of rows) (ids_of rows)).0
 
 -- no refusal
 none-is : (refusal : Option BuildError) → is_none refusal ≡ true → refusal ≡ None

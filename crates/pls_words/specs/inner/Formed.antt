@@ -1,9 +1,18 @@
 -- Words of which `clap` is asked.
-use Rattle.std.specs.Prelude.{◌≡◌, ◌≤◌, ℕ, ◌⊎◌, List, count_by, length}
-use Rattle.pls_words.specs.Words.{is_json, is_stray, others_in}
+use Rattle.std.specs.Prelude.{◌≡◌, ℕ, List, length, Option, Some, None, if◌then◌else◌, option_and_then}
+use Rattle.std.specs.List.{list_any}
+use Rattle.pls_words.specs.declared.given.Flag.{Flag}
+use Rattle.pls_words.specs.Words.{Said, flag_cut, is_dashed, said_by_words}
 
--- the flag at most once, and one or two others, none of which begins with `-`
+-- the words say something
 pub record IsFormed (words : List (List ℕ)) : Type 0 where
-  pub once : count_by is_json words ≤ 1
-  pub one_or_two : (length (others_in words) ≡ 1) ⊎ (length (others_in words) ≡ 2)
-  pub plain : count_by is_stray words ≡ 0
+  pub said : Said
+  pub is : said_by_words words ≡ Some said
+
+-- how many words there are, where none begins with `-`
+abbrev pub plain_count : List (List ℕ) → Option ℕ
+plain_count words = if list_any is_dashed words then None else Some (length words)
+
+-- how many of them stand beside the flag
+abbrev pub count_beside : List (List ℕ) → Option ℕ
+count_beside words = option_and_then (λ cut. plain_count cut.1) (flag_cut words)

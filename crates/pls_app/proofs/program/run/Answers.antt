@@ -1,20 +1,21 @@
-use Rattle.std.proofs.Common.{◌≡◌, ◌∙◌, true, false, ap, refl, subst, sym, ℕ, List, inl, inr}
+use Rattle.std.proofs.Common.{◌≡◌, ◌∙◌, true, refl, subst, sym, ℕ, List, inl, inr}
 use Rattle.pls_words.specs.Words.{words_in}
 use Rattle.pls_model.specs.declared.status.Status.{Status}
-use Rattle.pls_model.specs.declared.status.Status.TheVariants.{Done, Usage}
-use Rattle.pls_property.specs.Expression.{Expression}
 use Rattle.pls_app.specs.declared.command.Command.{Command}
-use Rattle.pls_app.specs.declared.command.Command.TheVariants.{With, Trial}
-use Rattle.pls_app.specs.declared.command.Task.TheVariants.{Mark, Recheck}
-use Rattle.pls_app.specs.Command.{Checks, IsCommand, IsUsage, reads}
+use Rattle.pls_app.specs.declared.command.Command.TheVariants.{ByRules, With}
+use Rattle.pls_app.specs.declared.command.RuleTask.TheVariants.{Judge}
+use Rattle.pls_app.specs.declared.command.Task.TheVariants.{Convert, Mark, Recheck}
+use Rattle.pls_app.specs.Command.{IsCommand, IsUsage, reads}
 use Rattle.pls_app.specs.Answer.{usage}
-use Rattle.pls_app.specs.Run.{Certifies, EndsAs, IsAnswered}
+use Rattle.pls_app.specs.Run.{EndsAs, IsAnswered}
 use Rattle.pls_app.specs.inner.Tasks.{IsWorked}
-use Rattle.pls_app.proofs.Answered.{refusal_has_cause, same_command, tells_refusal, trial_answers, unrefused_judged, usage_answer}
-use Rattle.pls_app.proofs.Asked.{counts_command, counts_none, counts_other, told_judged}
+use Rattle.pls_app.proofs.Answered.{refusal_has_cause, same_command, tells_refusal, unrefused_judged, usage_answer}
+use Rattle.pls_app.proofs.Asked.{counts_command, counts_fault, counts_none, told_judged}
 use Rattle.pls_app.proofs.Commands.{one_command}
 use Rattle.pls_app.proofs.Consumed.{lost_nothing}
-use Rattle.pls_app.proofs.Told.{tells, tells_command, tells_part, tells_part_of, told_answered, told_done, told_no, told_ends, told_sure, told_usage, told_bytes, took_certificate, unread_command, unread_usage, worked_answered}
+use Rattle.pls_app.proofs.Conversions.{done_converts}
+use Rattle.pls_app.proofs.NamedSets.{done_judges}
+use Rattle.pls_app.proofs.Told.{tells, tells_command, tells_part, tells_part_of, told_answered, told_done, told_no, told_ends, told_sure, told_usage, offered, took_certificate, took_conversion, unread_command, unread_usage, worked_answered}
 use Rattle.pls_app.proofs.Proved.{done_proves, no_lacks, no_rejects}
 use Rattle.pls_app.proofs.program.run.Goals as goal
 
@@ -70,16 +71,16 @@ returns-in-Ok-None-clause-rejects g c scheme command bytes asks checks ends =
     absurd (none command asks.asked)
 
 pub returns-in-Ok-None-clause-mark : goal.returns-in-Ok-None-clause-mark
-returns-in-Ok-None-clause-mark g c scheme bytes asks done =
+returns-in-Ok-None-clause-mark g c code scheme bytes asks done =
     let words : List (List ℕ) = words_in c.args.words.now in
     let none : IsUsage words = c.in-Ok-None.ensures.none c.in-Ok-None.field-0-is in
-    absurd (none (With Mark scheme) asks.asked)
+    absurd (none (With (Mark code) scheme) asks.asked)
 
 pub returns-in-Ok-None-clause-mark_no : goal.returns-in-Ok-None-clause-mark_no
-returns-in-Ok-None-clause-mark_no g c scheme bytes asks ends =
+returns-in-Ok-None-clause-mark_no g c code scheme bytes asks ends =
     let words : List (List ℕ) = words_in c.args.words.now in
     let none : IsUsage words = c.in-Ok-None.ensures.none c.in-Ok-None.field-0-is in
-    absurd (none (With Mark scheme) asks.asked)
+    absurd (none (With (Mark code) scheme) asks.asked)
 
 pub returns-in-Ok-None-clause-recheck : goal.returns-in-Ok-None-clause-recheck
 returns-in-Ok-None-clause-recheck g c scheme bytes asks done =
@@ -119,219 +120,116 @@ returns-in-Ok-None-clause-asked g c =
     let none : IsUsage words = c.in-Ok-None.ensures.none c.in-Ok-None.field-0-is in
     counts_none words _ _ _ none
 
-pub returns-in-Ok-answer_from-clause-check : goal.returns-in-Ok-answer_from-clause-check
-returns-in-Ok-answer_from-clause-check g c scheme other bytes asks checks done =
+pub returns-in-Ok-None-clause-convert : goal.returns-in-Ok-None-clause-convert
+returns-in-Ok-None-clause-convert g c scheme bytes asks done =
     let words : List (List ℕ) = words_in c.args.words.now in
-    let command : Command = With c.in-Ok-Some-With.task c.in-Ok-Some-With.scheme in
-    let is : IsCommand words command =
-    rw (c.in-Ok-Some-With.field-0-is, c.in-Ok-Some-With.field-0-0-is)
-    at c.in-Ok-Some-With.ensures.some in
+    let none : IsUsage words = c.in-Ok-None.ensures.none c.in-Ok-None.field-0-is in
+    absurd (none (With Convert scheme) asks.asked)
+
+pub returns-in-Ok-None-clause-judge : goal.returns-in-Ok-None-clause-judge
+returns-in-Ok-None-clause-judge g c json bytes asks done =
+    let words : List (List ℕ) = words_in c.args.words.now in
+    let none : IsUsage words = c.in-Ok-None.ensures.none c.in-Ok-None.field-0-is in
+    absurd (none (ByRules (Judge json)) asks.asked)
+
+pub returns-in-Ok-clause-check : goal.returns-in-Ok-clause-check
+returns-in-Ok-clause-check g c scheme other bytes asks checks done =
+    let words : List (List ℕ) = words_in c.args.words.now in
+    let command : Command = c.in-Ok-Some.command in
+    let is : IsCommand words command = rw c.in-Ok-Some.field-0-is at c.in-Ok-Some.ensures.some in
     let answers =
     same_command words command other bytes _ is asks.asked
-    (c.in-Ok-answer_from.ensures.answer bytes asks.told) in
+    (c.in-Ok.ensures.answer bytes (inr asks.told)) in
     done_proves scheme other bytes _ checks answers
-    (told_done _ _ _ _ _ _ _ c.tell-in-Ok-answer_from.ensures.told done)
+    (told_done _ _ _ _ _ _ _ c.tell-in-Ok.ensures.told done)
 
-pub returns-in-Ok-answer_from-clause-rejects : goal.returns-in-Ok-answer_from-clause-rejects
-returns-in-Ok-answer_from-clause-rejects g c scheme other bytes asks checks ends =
+pub returns-in-Ok-clause-rejects : goal.returns-in-Ok-clause-rejects
+returns-in-Ok-clause-rejects g c scheme other bytes asks checks ends =
     let words : List (List ℕ) = words_in c.args.words.now in
-    let command : Command = With c.in-Ok-Some-With.task c.in-Ok-Some-With.scheme in
-    let is : IsCommand words command =
-    rw (c.in-Ok-Some-With.field-0-is, c.in-Ok-Some-With.field-0-0-is)
-    at c.in-Ok-Some-With.ensures.some in
+    let command : Command = c.in-Ok-Some.command in
+    let is : IsCommand words command = rw c.in-Ok-Some.field-0-is at c.in-Ok-Some.ensures.some in
     let answers =
     same_command words command other bytes _ is asks.asked
-    (c.in-Ok-answer_from.ensures.answer bytes asks.told) in
+    (c.in-Ok.ensures.answer bytes (inr asks.told)) in
     no_rejects scheme other bytes _ checks answers
-    (told_no _ _ _ _ _ _ _ c.tell-in-Ok-answer_from.ensures.told ends)
+    (told_no _ _ _ _ _ _ _ c.tell-in-Ok.ensures.told ends)
 
-pub returns-in-Ok-answer_from-clause-mark : goal.returns-in-Ok-answer_from-clause-mark
-returns-in-Ok-answer_from-clause-mark g c scheme bytes asks done =
+pub returns-in-Ok-clause-mark : goal.returns-in-Ok-clause-mark
+returns-in-Ok-clause-mark g c code scheme bytes asks done =
     let words : List (List ℕ) = words_in c.args.words.now in
-    let command : Command = With c.in-Ok-Some-With.task c.in-Ok-Some-With.scheme in
-    let is : IsCommand words command =
-    rw (c.in-Ok-Some-With.field-0-is, c.in-Ok-Some-With.field-0-0-is)
-    at c.in-Ok-Some-With.ensures.some in
-    let same : command ≡ With Mark scheme = one_command words command (With Mark scheme) is asks.asked in
-    let tasks : c.in-Ok-Some-With.task ≡ Mark = cc in
-    let schemes : c.in-Ok-Some-With.scheme ≡ scheme = cc in
-    let certifies =
-    c.in-Ok-answer_from.ensures.certified bytes asks.told tasks
-    (told_done _ _ _ _ _ _ _ c.tell-in-Ok-answer_from.ensures.told done) in
-    took_certificate scheme bytes _ _ _ _ _ _ _
-    (subst (λ (scheme : Expression). Certifies scheme bytes c.in-Ok-answer_from.answer.text) schemes
-    certifies)
-    c.tell-in-Ok-answer_from.ensures.told done
+    let command : Command = c.in-Ok-Some.command in
+    let is : IsCommand words command = rw c.in-Ok-Some.field-0-is at c.in-Ok-Some.ensures.some in
+    let same = one_command words command (With (Mark code) scheme) is asks.asked in
+    took_certificate code scheme bytes _ _ _ _ _ _ _
+    (c.in-Ok.ensures.certified bytes asks.told code scheme same
+    (told_done _ _ _ _ _ _ _ c.tell-in-Ok.ensures.told done))
+    c.tell-in-Ok.ensures.told done
 
-pub returns-in-Ok-answer_from-clause-mark_no : goal.returns-in-Ok-answer_from-clause-mark_no
-returns-in-Ok-answer_from-clause-mark_no g c scheme bytes asks ends =
+pub returns-in-Ok-clause-mark_no : goal.returns-in-Ok-clause-mark_no
+returns-in-Ok-clause-mark_no g c code scheme bytes asks ends =
     let words : List (List ℕ) = words_in c.args.words.now in
-    let command : Command = With c.in-Ok-Some-With.task c.in-Ok-Some-With.scheme in
-    let is : IsCommand words command =
-    rw (c.in-Ok-Some-With.field-0-is, c.in-Ok-Some-With.field-0-0-is)
-    at c.in-Ok-Some-With.ensures.some in
+    let command : Command = c.in-Ok-Some.command in
+    let is : IsCommand words command = rw c.in-Ok-Some.field-0-is at c.in-Ok-Some.ensures.some in
     let answers =
-    same_command words command (With Mark scheme) bytes _ is asks.asked
-    (c.in-Ok-answer_from.ensures.answer bytes asks.told) in
-    no_lacks scheme bytes _ answers (told_no _ _ _ _ _ _ _ c.tell-in-Ok-answer_from.ensures.told ends)
+    same_command words command (With (Mark code) scheme) bytes _ is asks.asked
+    (c.in-Ok.ensures.answer bytes (inr asks.told)) in
+    no_lacks code scheme bytes _ answers (told_no _ _ _ _ _ _ _ c.tell-in-Ok.ensures.told ends)
 
-pub returns-in-Ok-answer_from-clause-text : goal.returns-in-Ok-answer_from-clause-text
-returns-in-Ok-answer_from-clause-text g c bytes told answered =
+pub returns-in-Ok-clause-recheck : goal.returns-in-Ok-clause-recheck
+returns-in-Ok-clause-recheck g c scheme bytes asks done =
     let words : List (List ℕ) = words_in c.args.words.now in
-    let command : Command = With c.in-Ok-Some-With.task c.in-Ok-Some-With.scheme in
-    let is : IsCommand words command =
-    rw (c.in-Ok-Some-With.field-0-is, c.in-Ok-Some-With.field-0-0-is)
-    at c.in-Ok-Some-With.ensures.some in
-    tells_command words bytes command c.in-Ok-answer_from.answer _ _ _ _ _ is
-    (c.in-Ok-answer_from.ensures.answer bytes (told_bytes words command _ bytes is refl told))
-    c.tell-in-Ok-answer_from.ensures.told answered
+    let command : Command = c.in-Ok-Some.command in
+    let is : IsCommand words command = rw c.in-Ok-Some.field-0-is at c.in-Ok-Some.ensures.some in
+    (c.in-Ok.ensures.rechecked bytes asks.told).held scheme
+    (one_command words command (With Recheck scheme) is asks.asked)
+    (told_done _ _ _ _ _ _ _ c.tell-in-Ok.ensures.told done)
 
-pub returns-in-Ok-answer_from-clause-part : goal.returns-in-Ok-answer_from-clause-part
-returns-in-Ok-answer_from-clause-part g c bytes told fault =
+pub returns-in-Ok-clause-convert : goal.returns-in-Ok-clause-convert
+returns-in-Ok-clause-convert g c scheme bytes asks done =
     let words : List (List ℕ) = words_in c.args.words.now in
-    let command : Command = With c.in-Ok-Some-With.task c.in-Ok-Some-With.scheme in
-    let is : IsCommand words command =
-    rw (c.in-Ok-Some-With.field-0-is, c.in-Ok-Some-With.field-0-0-is)
-    at c.in-Ok-Some-With.ensures.some in
-    tells_part_of words bytes command c.in-Ok-answer_from.answer _ _ _ _ _ is
-    (c.in-Ok-answer_from.ensures.answer bytes (told_bytes words command _ bytes is refl told))
-    (worked_answered _ c.in-Ok-answer_from.ensures.worked) c.tell-in-Ok-answer_from.ensures.told fault
+    let command : Command = c.in-Ok-Some.command in
+    let is : IsCommand words command = rw c.in-Ok-Some.field-0-is at c.in-Ok-Some.ensures.some in
+    let answers =
+    same_command words command (With Convert scheme) bytes _ is asks.asked
+    (c.in-Ok.ensures.answer bytes (inr asks.told)) in
+    took_conversion scheme bytes _ _ _ _ _ _ _ (λ ends. done_converts scheme bytes _ answers ends)
+    c.tell-in-Ok.ensures.told done
 
-pub returns-in-Ok-answer_from-clause-refused : goal.returns-in-Ok-answer_from-clause-refused
-returns-in-Ok-answer_from-clause-refused g c other bytes asks answered =
+pub returns-in-Ok-clause-judge : goal.returns-in-Ok-clause-judge
+returns-in-Ok-clause-judge g c json bytes asks done =
     let words : List (List ℕ) = words_in c.args.words.now in
-    let command : Command = With c.in-Ok-Some-With.task c.in-Ok-Some-With.scheme in
-    let is : IsCommand words command =
-    rw (c.in-Ok-Some-With.field-0-is, c.in-Ok-Some-With.field-0-0-is)
-    at c.in-Ok-Some-With.ensures.some in
-    let told = tells_command words bytes command c.in-Ok-answer_from.answer _ _ _ _ _ is
-    (c.in-Ok-answer_from.ensures.answer bytes asks.told) c.tell-in-Ok-answer_from.ensures.told
-    answered in
-    record {
-      told = λ error refused. tells_refusal words other bytes error _ _ _ asks.asked refused told;
-      caused = λ refusal. refusal_has_cause words other bytes _ _ _ asks.asked told refusal;
-    }
-
-pub returns-in-Ok-answer_from-clause-completes : goal.returns-in-Ok-answer_from-clause-completes
-returns-in-Ok-answer_from-clause-completes g c other bytes asks unrefused answered =
-    let words : List (List ℕ) = words_in c.args.words.now in
-    let command : Command = With c.in-Ok-Some-With.task c.in-Ok-Some-With.scheme in
-    let is : IsCommand words command =
-    rw (c.in-Ok-Some-With.field-0-is, c.in-Ok-Some-With.field-0-0-is)
-    at c.in-Ok-Some-With.ensures.some in
-    let told = tells_command words bytes command c.in-Ok-answer_from.answer _ _ _ _ _ is
-    (c.in-Ok-answer_from.ensures.answer bytes asks.told) c.tell-in-Ok-answer_from.ensures.told
-    answered in
-    unrefused_judged words other bytes _ _ _ asks.asked unrefused told
-
-pub returns-in-Ok-answer_from-clause-usage : goal.returns-in-Ok-answer_from-clause-usage
-returns-in-Ok-answer_from-clause-usage g c ends =
-    let words : List (List ℕ) = words_in c.args.words.now in
-    let command : Command = With c.in-Ok-Some-With.task c.in-Ok-Some-With.scheme in
-    let is : IsCommand words command =
-    rw (c.in-Ok-Some-With.field-0-is, c.in-Ok-Some-With.field-0-0-is)
-    at c.in-Ok-Some-With.ensures.some in
-    let due = told_usage _ _ _ _ _ _ _ c.tell-in-Ok-answer_from.ensures.told ends in
-    absurd (subst IsWorked due c.in-Ok-answer_from.ensures.worked)
-
-pub returns-in-Ok-answer_from-clause-answers : goal.returns-in-Ok-answer_from-clause-answers
-returns-in-Ok-answer_from-clause-answers g c read_all sure =
-    let words : List (List ℕ) = words_in c.args.words.now in
-    let command : Command = With c.in-Ok-Some-With.task c.in-Ok-Some-With.scheme in
-    let is : IsCommand words command =
-    rw (c.in-Ok-Some-With.field-0-is, c.in-Ok-Some-With.field-0-0-is)
-    at c.in-Ok-Some-With.ensures.some in
-    let due = worked_answered _ c.in-Ok-answer_from.ensures.worked in
-    inr (elim sure [
-      | inl held ↦ told_answered _ _ _ _ _ _ _ c.tell-in-Ok-answer_from.ensures.told due held
-      | inr sure ↦
-          let ends = told_sure words sure.0 c.in-Ok-answer_from.answer _ (g.K.Sink.IsSureOf c.args.sink.now)
-          command is (c.in-Ok-answer_from.ensures.answer sure.0 sure.1) sure.2
-          c.tell-in-Ok-answer_from.ensures.sure in
-          subst IsAnswered (sym ends) due
-    ])
-
-pub returns-in-Ok-answer_from-clause-unread : goal.returns-in-Ok-answer_from-clause-unread
-returns-in-Ok-answer_from-clause-unread g c due unread =
-    let words : List (List ℕ) = words_in c.args.words.now in
-    let command : Command = With c.in-Ok-Some-With.task c.in-Ok-Some-With.scheme in
-    let is : IsCommand words command =
-    rw (c.in-Ok-Some-With.field-0-is, c.in-Ok-Some-With.field-0-0-is)
-    at c.in-Ok-Some-With.ensures.some in
-    absurd (let none : true ≡ false = (unread_command words due command is unread).0 in cc)
-
-pub returns-in-Ok-answer_from-clause-recheck : goal.returns-in-Ok-answer_from-clause-recheck
-returns-in-Ok-answer_from-clause-recheck g c scheme bytes asks done =
-    let words : List (List ℕ) = words_in c.args.words.now in
-    let command : Command = With c.in-Ok-Some-With.task c.in-Ok-Some-With.scheme in
-    let is : IsCommand words command =
-    rw (c.in-Ok-Some-With.field-0-is, c.in-Ok-Some-With.field-0-0-is)
-    at c.in-Ok-Some-With.ensures.some in
-    let found = c.in-Ok-answer_from.ensures.rechecked bytes asks.told in
-    found.held scheme (one_command words command (With Recheck scheme) is asks.asked)
-    (told_done _ _ _ _ _ _ _ c.tell-in-Ok-answer_from.ensures.told done)
-
-pub returns-in-Ok-answer_from-clause-asked : goal.returns-in-Ok-answer_from-clause-asked
-returns-in-Ok-answer_from-clause-asked g c =
-    let words : List (List ℕ) = words_in c.args.words.now in
-    let command : Command = With c.in-Ok-Some-With.task c.in-Ok-Some-With.scheme in
-    let is : IsCommand words command =
-    rw (c.in-Ok-Some-With.field-0-is, c.in-Ok-Some-With.field-0-0-is)
-    at c.in-Ok-Some-With.ensures.some in
-    counts_command words _ command is c.in-Ok-answer_from.answer.status _ _ _
-    (told_judged _ _ _ _ _ _ _ c.tell-in-Ok-answer_from.ensures.told)
-    c.in-Ok-answer_from.ensures.rechecked
-    (λ none. c.in-Ok-answer_from.ensures.unasked
-    (λ task. none c.in-Ok-Some-With.scheme (ap (λ task. With task c.in-Ok-Some-With.scheme) task)))
+    let command : Command = c.in-Ok-Some.command in
+    let is : IsCommand words command = rw c.in-Ok-Some.field-0-is at c.in-Ok-Some.ensures.some in
+    let answers =
+    same_command words command (ByRules (Judge json)) bytes _ is asks.asked
+    (c.in-Ok.ensures.answer bytes (inr asks.told)) in
+    done_judges json bytes _ answers (told_done _ _ _ _ _ _ _ c.tell-in-Ok.ensures.told done)
 
 pub returns-in-Ok-clause-text : goal.returns-in-Ok-clause-text
 returns-in-Ok-clause-text g c bytes told answered =
     let words : List (List ℕ) = words_in c.args.words.now in
-    let command : Command = Trial c.in-Ok-Some-Trial.nodes c.in-Ok-Some-Trial.seed in
-    let is : IsCommand words command =
-    rw (c.in-Ok-Some-Trial.field-0-is, c.in-Ok-Some-Trial.field-0-0-is)
-    at c.in-Ok-Some-Trial.ensures.some in
+    let command : Command = c.in-Ok-Some.command in
+    let is : IsCommand words command = rw c.in-Ok-Some.field-0-is at c.in-Ok-Some.ensures.some in
     tells_command words bytes command c.in-Ok.answer _ _ _ _ _ is
-    (trial_answers bytes _ _ c.in-Ok.answer c.in-Ok.ensures.trial) c.tell-in-Ok.ensures.told answered
+    (c.in-Ok.ensures.answer bytes (offered words command _ bytes is told))
+    c.tell-in-Ok.ensures.told answered
 
 pub returns-in-Ok-clause-part : goal.returns-in-Ok-clause-part
 returns-in-Ok-clause-part g c bytes told fault =
     let words : List (List ℕ) = words_in c.args.words.now in
-    let command : Command = Trial c.in-Ok-Some-Trial.nodes c.in-Ok-Some-Trial.seed in
-    let is : IsCommand words command =
-    rw (c.in-Ok-Some-Trial.field-0-is, c.in-Ok-Some-Trial.field-0-0-is)
-    at c.in-Ok-Some-Trial.ensures.some in
-    let due = subst IsAnswered (sym c.in-Ok.ensures.done) tt in
+    let command : Command = c.in-Ok-Some.command in
+    let is : IsCommand words command = rw c.in-Ok-Some.field-0-is at c.in-Ok-Some.ensures.some in
     tells_part_of words bytes command c.in-Ok.answer _ _ _ _ _ is
-    (trial_answers bytes _ _ c.in-Ok.answer c.in-Ok.ensures.trial) due c.tell-in-Ok.ensures.told fault
-
-pub returns-in-Ok-clause-answers : goal.returns-in-Ok-clause-answers
-returns-in-Ok-clause-answers g c read_all sure =
-    let words : List (List ℕ) = words_in c.args.words.now in
-    let command : Command = Trial c.in-Ok-Some-Trial.nodes c.in-Ok-Some-Trial.seed in
-    let is : IsCommand words command =
-    rw (c.in-Ok-Some-Trial.field-0-is, c.in-Ok-Some-Trial.field-0-0-is)
-    at c.in-Ok-Some-Trial.ensures.some in
-    let due = subst IsAnswered (sym c.in-Ok.ensures.done) tt in
-    inr (elim sure [
-      | inl held ↦ told_answered _ _ _ _ _ _ _ c.tell-in-Ok.ensures.told due held
-      | inr sure ↦
-          let ends = told_sure words sure.0 c.in-Ok.answer _ (g.K.Sink.IsSureOf c.args.sink.now)
-          command is (trial_answers sure.0 _ _ c.in-Ok.answer c.in-Ok.ensures.trial) sure.2
-          c.tell-in-Ok.ensures.sure in
-          subst IsAnswered (sym ends) due
-    ])
+    (c.in-Ok.ensures.answer bytes (offered words command _ bytes is told))
+    (worked_answered _ c.in-Ok.ensures.worked) c.tell-in-Ok.ensures.told fault
 
 pub returns-in-Ok-clause-refused : goal.returns-in-Ok-clause-refused
 returns-in-Ok-clause-refused g c other bytes asks answered =
     let words : List (List ℕ) = words_in c.args.words.now in
-    let command : Command = Trial c.in-Ok-Some-Trial.nodes c.in-Ok-Some-Trial.seed in
-    let is : IsCommand words command =
-    rw (c.in-Ok-Some-Trial.field-0-is, c.in-Ok-Some-Trial.field-0-0-is)
-    at c.in-Ok-Some-Trial.ensures.some in
+    let command : Command = c.in-Ok-Some.command in
+    let is : IsCommand words command = rw c.in-Ok-Some.field-0-is at c.in-Ok-Some.ensures.some in
     let told = tells_command words bytes command c.in-Ok.answer _ _ _ _ _ is
-    (trial_answers bytes _ _ c.in-Ok.answer c.in-Ok.ensures.trial) c.tell-in-Ok.ensures.told
-    answered in
+    (c.in-Ok.ensures.answer bytes (inr asks.told)) c.tell-in-Ok.ensures.told answered in
     record {
       told = λ error refused. tells_refusal words other bytes error _ _ _ asks.asked refused told;
       caused = λ refusal. refusal_has_cause words other bytes _ _ _ asks.asked told refusal;
@@ -340,108 +238,69 @@ returns-in-Ok-clause-refused g c other bytes asks answered =
 pub returns-in-Ok-clause-completes : goal.returns-in-Ok-clause-completes
 returns-in-Ok-clause-completes g c other bytes asks unrefused answered =
     let words : List (List ℕ) = words_in c.args.words.now in
-    let command : Command = Trial c.in-Ok-Some-Trial.nodes c.in-Ok-Some-Trial.seed in
-    let is : IsCommand words command =
-    rw (c.in-Ok-Some-Trial.field-0-is, c.in-Ok-Some-Trial.field-0-0-is)
-    at c.in-Ok-Some-Trial.ensures.some in
+    let command : Command = c.in-Ok-Some.command in
+    let is : IsCommand words command = rw c.in-Ok-Some.field-0-is at c.in-Ok-Some.ensures.some in
     let told = tells_command words bytes command c.in-Ok.answer _ _ _ _ _ is
-    (trial_answers bytes _ _ c.in-Ok.answer c.in-Ok.ensures.trial) c.tell-in-Ok.ensures.told
-    answered in
+    (c.in-Ok.ensures.answer bytes (inr asks.told)) c.tell-in-Ok.ensures.told answered in
     unrefused_judged words other bytes _ _ _ asks.asked unrefused told
 
 pub returns-in-Ok-clause-usage : goal.returns-in-Ok-clause-usage
 returns-in-Ok-clause-usage g c ends =
-    let words : List (List ℕ) = words_in c.args.words.now in
-    let command : Command = Trial c.in-Ok-Some-Trial.nodes c.in-Ok-Some-Trial.seed in
-    let is : IsCommand words command =
-    rw (c.in-Ok-Some-Trial.field-0-is, c.in-Ok-Some-Trial.field-0-0-is)
-    at c.in-Ok-Some-Trial.ensures.some in
     let due = told_usage _ _ _ _ _ _ _ c.tell-in-Ok.ensures.told ends in
-    absurd (let other : Done ≡ Usage = sym c.in-Ok.ensures.done ∙ due in cc)
+    absurd (subst IsWorked due c.in-Ok.ensures.worked)
 
-pub returns-in-Ok-clause-check : goal.returns-in-Ok-clause-check
-returns-in-Ok-clause-check g c scheme other bytes asks checks done =
+pub returns-in-Ok-clause-answers : goal.returns-in-Ok-clause-answers
+returns-in-Ok-clause-answers g c read_all sure =
     let words : List (List ℕ) = words_in c.args.words.now in
-    let command : Command = Trial c.in-Ok-Some-Trial.nodes c.in-Ok-Some-Trial.seed in
-    let is : IsCommand words command =
-    rw (c.in-Ok-Some-Trial.field-0-is, c.in-Ok-Some-Trial.field-0-0-is)
-    at c.in-Ok-Some-Trial.ensures.some in
-    absurd (subst (Checks scheme) (one_command words other command asks.asked is) checks)
-
-pub returns-in-Ok-clause-rejects : goal.returns-in-Ok-clause-rejects
-returns-in-Ok-clause-rejects g c scheme other bytes asks checks ends =
-    let words : List (List ℕ) = words_in c.args.words.now in
-    let command : Command = Trial c.in-Ok-Some-Trial.nodes c.in-Ok-Some-Trial.seed in
-    let is : IsCommand words command =
-    rw (c.in-Ok-Some-Trial.field-0-is, c.in-Ok-Some-Trial.field-0-0-is)
-    at c.in-Ok-Some-Trial.ensures.some in
-    absurd (subst (Checks scheme) (one_command words other command asks.asked is) checks)
-
-pub returns-in-Ok-clause-mark : goal.returns-in-Ok-clause-mark
-returns-in-Ok-clause-mark g c scheme bytes asks ends =
-    let words : List (List ℕ) = words_in c.args.words.now in
-    let command : Command = Trial c.in-Ok-Some-Trial.nodes c.in-Ok-Some-Trial.seed in
-    let is : IsCommand words command =
-    rw (c.in-Ok-Some-Trial.field-0-is, c.in-Ok-Some-Trial.field-0-0-is)
-    at c.in-Ok-Some-Trial.ensures.some in
-    absurd (let same : With Mark scheme ≡ command =
-    one_command words (With Mark scheme) command asks.asked is in cc)
-
-pub returns-in-Ok-clause-mark_no : goal.returns-in-Ok-clause-mark_no
-returns-in-Ok-clause-mark_no g c scheme bytes asks ends =
-    let words : List (List ℕ) = words_in c.args.words.now in
-    let command : Command = Trial c.in-Ok-Some-Trial.nodes c.in-Ok-Some-Trial.seed in
-    let is : IsCommand words command =
-    rw (c.in-Ok-Some-Trial.field-0-is, c.in-Ok-Some-Trial.field-0-0-is)
-    at c.in-Ok-Some-Trial.ensures.some in
-    absurd (let same : With Mark scheme ≡ command =
-    one_command words (With Mark scheme) command asks.asked is in cc)
-
-pub returns-in-Ok-clause-recheck : goal.returns-in-Ok-clause-recheck
-returns-in-Ok-clause-recheck g c scheme bytes asks ends =
-    let words : List (List ℕ) = words_in c.args.words.now in
-    let command : Command = Trial c.in-Ok-Some-Trial.nodes c.in-Ok-Some-Trial.seed in
-    let is : IsCommand words command =
-    rw (c.in-Ok-Some-Trial.field-0-is, c.in-Ok-Some-Trial.field-0-0-is)
-    at c.in-Ok-Some-Trial.ensures.some in
-    absurd (let same : With Recheck scheme ≡ command =
-    one_command words (With Recheck scheme) command asks.asked is in cc)
+    let command : Command = c.in-Ok-Some.command in
+    let is : IsCommand words command = rw c.in-Ok-Some.field-0-is at c.in-Ok-Some.ensures.some in
+    let due = worked_answered _ c.in-Ok.ensures.worked in
+    inr (elim sure [
+      | inl held ↦ told_answered _ _ _ _ _ _ _ c.tell-in-Ok.ensures.told due held
+      | inr sure ↦
+          let ends = told_sure words sure.0 c.in-Ok.answer _ (g.K.Sink.IsSureOf c.args.sink.now)
+          command is (c.in-Ok.ensures.answer sure.0 (inr sure.1)) sure.2
+          c.tell-in-Ok.ensures.sure in
+          subst IsAnswered (sym ends) due
+    ])
 
 pub returns-in-Ok-clause-read : goal.returns-in-Ok-clause-read
 returns-in-Ok-clause-read g c =
     let words : List (List ℕ) = words_in c.args.words.now in
-    let command : Command = Trial c.in-Ok-Some-Trial.nodes c.in-Ok-Some-Trial.seed in
-    let is : IsCommand words command =
-    rw (c.in-Ok-Some-Trial.field-0-is, c.in-Ok-Some-Trial.field-0-0-is)
-    at c.in-Ok-Some-Trial.ensures.some in
+    let command : Command = c.in-Ok-Some.command in
+    let is : IsCommand words command = rw c.in-Ok-Some.field-0-is at c.in-Ok-Some.ensures.some in
     record {
       read = λ other asked wants answered.
-          let wants_it : reads command ≡ true =
-          subst (λ (command : Command). reads command ≡ true)
-          (one_command words other command asked is) wants in absurd (cc);
-      no_more = lost_nothing _;
+          c.in-Ok.ensures.read (subst (λ (command : Command). reads command ≡ true)
+          (one_command words other command asked is) wants);
+      no_more = c.answer_from.ensures.lost;
     }
 
 pub returns-in-Ok-clause-unread : goal.returns-in-Ok-clause-unread
 returns-in-Ok-clause-unread g c due unread =
     let words : List (List ℕ) = words_in c.args.words.now in
-    let command : Command = Trial c.in-Ok-Some-Trial.nodes c.in-Ok-Some-Trial.seed in
-    let is : IsCommand words command =
-    rw (c.in-Ok-Some-Trial.field-0-is, c.in-Ok-Some-Trial.field-0-0-is)
-    at c.in-Ok-Some-Trial.ensures.some in
+    let command : Command = c.in-Ok-Some.command in
+    let is : IsCommand words command = rw c.in-Ok-Some.field-0-is at c.in-Ok-Some.ensures.some in
+    let both = unread_command words due command is unread in
     let ends = told_ends _ _ _ _ _ _ _ c.tell-in-Ok.ensures.told in (
       subst (λ (due : Status). EndsAs due c.tell-in-Ok.result)
-          (c.in-Ok.ensures.done ∙ sym (unread_command words due command is unread).1) ends,
-      refl,
+          (c.in-Ok.ensures.done both.0 ∙ sym both.1) ends,
+      c.answer_from.ensures.unread both.0,
     )
 
 pub returns-in-Ok-clause-asked : goal.returns-in-Ok-clause-asked
 returns-in-Ok-clause-asked g c =
     let words : List (List ℕ) = words_in c.args.words.now in
-    let command : Command = Trial c.in-Ok-Some-Trial.nodes c.in-Ok-Some-Trial.seed in
-    let is : IsCommand words command =
-    rw (c.in-Ok-Some-Trial.field-0-is, c.in-Ok-Some-Trial.field-0-0-is)
-    at c.in-Ok-Some-Trial.ensures.some in
-    counts_other words _ _ _ (λ scheme asked.
-    let same : With Recheck scheme ≡ command =
-    one_command words (With Recheck scheme) command asked is in cc)
+    let command : Command = c.in-Ok-Some.command in
+    let is : IsCommand words command = rw c.in-Ok-Some.field-0-is at c.in-Ok-Some.ensures.some in
+    counts_command words _ command is c.in-Ok.answer.status _ _ _
+    (told_judged _ _ _ _ _ _ _ c.tell-in-Ok.ensures.told) c.in-Ok.ensures.rechecked
+    c.answer_from.ensures.unasked
+
+pub returns-in-Err-answer_from-clause-asked : goal.returns-in-Err-answer_from-clause-asked
+returns-in-Err-answer_from-clause-asked g c =
+    let words : List (List ℕ) = words_in c.args.words.now in
+    let command : Command = c.in-Ok-Some.command in
+    let is : IsCommand words command = rw c.in-Ok-Some.field-0-is at c.in-Ok-Some.ensures.some in
+    counts_fault words _ command is c.in-Err-answer_from.status _ _ _ _
+    c.in-Err-answer_from.ensures.cause c.answer_from.ensures.unasked

@@ -1,24 +1,33 @@
-use Rattle.std.proofs.Common.{◌≡◌, ◌∙◌, false, option_map, inr, ap, refl, subst, sym}
+use Rattle.std.proofs.Common.{◌≡◌, ◌∙◌, List, false, option_map, inr, ap, refl, subst, sym}
 use Rattle.std.proofs.lemmas.Result.{IfOk-weaker}
 use Rattle.pls_model.specs.Walk.{IsConnected}
-use Rattle.pls_inputs.specs.Parts.{Input, rows_in}
+use Rattle.pls_inputs.specs.Parts.{Input, code_in, labels_in, rows_in}
 use Rattle.pls_inputs.specs.Read.{said}
-use Rattle.pls_app.specs.declared.code_name.CodeName.TheVariants.{Gamma}
+use Rattle.pls_bits.specs.declared.code_name.CodeName.{CodeName}
+use Rattle.pls_graph.specs.Size.{size_of}
+use Rattle.pls_combine.specs.Expression.{judge_of, longest_of}
+use Rattle.pls_model.specs.declared.row.NodeRow.{NodeRow}
+use Rattle.pls_model.specs.declared.status.Status.TheVariants.{Done}
 use Rattle.pls_app.specs.declared.command.Command.TheVariants.{With}
 use Rattle.pls_app.specs.declared.command.Task.{Task}
-use Rattle.pls_app.specs.declared.command.Task.TheVariants.{Mark, Simulate, Recheck}
-use Rattle.pls_app.specs.Answer.{report}
+use Rattle.pls_app.specs.declared.command.Task.TheVariants.{Convert, Mark, Simulate, Recheck}
+use Rattle.pls_app.specs.Answer.{bounded, report}
 use Rattle.pls_app.specs.Command.{input_parts_of}
-use Rattle.pls_app.specs.Meant.{judge_in}
+use Rattle.pls_app.specs.Meant.{number_code_of, takes_of}
 use Rattle.pls_app.specs.Reports.{decided_by}
-use Rattle.pls_app.specs.inner.Tasks.{Does, IsSimulated, RecheckedIn}
+use Rattle.pls_app.specs.inner.Tasks.{Does, IsNamed, IsSimulated, RecheckedIn, ShowsIn, working_code}
 use Rattle.pls_app.proofs.Values.{edits_at, edits_few, edits_fit, edits_small, items_are, labels_are, labels_each, rows_are, schedule_at, schedule_small}
 use Rattle.pls_app.proofs.work.do_task.Goals as goal
 
-pub mark-requires : goal.mark-requires
-mark-requires g c =
+pub mark-requires-clause-connected : goal.mark-requires-clause-connected
+mark-requires-clause-connected g c =
     subst IsConnected (rows_are c.args.input c.unwrap-net.result c.unwrap-net.ensures)
     c.requires.joined
+
+pub mark-requires-clause-named : goal.mark-requires-clause-named
+mark-requires-clause-named g c =
+    subst (λ (task : Task). IsNamed (working_code task (said c.args.input)) g.C.NumCode.code
+    g.C.NumCode.takes) c.in-Mark.is c.requires.named
 
 pub simulate-requires-clause-line : goal.simulate-requires-clause-line
 simulate-requires-clause-line g c =
@@ -49,10 +58,66 @@ returns-in-Mark-clause-does g c =
     let rows = rows_are c.args.input c.unwrap-net.result c.unwrap-net.ensures in
     IfOk-weaker c.mark.result
     (λ answer. (input : Input) → rows_in input ≡ c.unwrap-net.result
-    → Does (With Mark scheme) input answer)
+    → Does (With (Mark c.in-Mark.code) scheme) input answer)
     (λ answer. Does (With c.args.task scheme) input answer)
     (λ answer does. subst (λ (task : Task). Does (With task scheme) input answer)
     (sym c.in-Mark.is) (does input rows)) c.mark.ensures.does
+
+pub returns-in-Mark-clause-shows : goal.returns-in-Mark-clause-shows
+returns-in-Mark-clause-shows g c =
+    let scheme = c.args.scheme in
+    let rows = rows_are c.args.input c.unwrap-net.result c.unwrap-net.ensures in
+    IfOk-weaker c.mark.result
+    (λ answer. answer.status ≡ Done
+    → ShowsIn c.in-Mark.code scheme c.unwrap-net.result answer.text)
+    (λ answer. (code : CodeName) → c.args.task ≡ Mark code → answer.status ≡ Done
+    → ShowsIn code scheme (rows_in (said c.args.input)) answer.text)
+    (λ answer shows code is done.
+    let tasks : Mark c.in-Mark.code ≡ Mark code = sym c.in-Mark.is ∙ is in
+    let codes : c.in-Mark.code ≡ code = cc in
+    subst (λ (code : CodeName). ShowsIn code scheme (rows_in (said c.args.input)) answer.text) codes
+    (subst (λ (rows : List NodeRow). ShowsIn c.in-Mark.code scheme rows answer.text) (sym rows)
+    (shows done))) c.mark.ensures.shows
+
+pub returns-in-Bound-clause-does : goal.returns-in-Bound-clause-does
+returns-in-Bound-clause-does g c =
+    let scheme = c.args.scheme in
+    let input = said c.args.input in
+    let net = c.unwrap-net.result in
+    let rows = rows_are c.args.input net c.unwrap-net.ensures in
+    let writes = c.requires.named.writes_so
+    ∙ ap (λ (task : Task). number_code_of (working_code task input)) c.in-Bound.is in
+    IfOk-weaker c.bound.result
+    (λ answer. answer ≡ bounded (longest_of g.C.NumCode.code scheme (size_of net)))
+    (λ answer. Does (With c.args.task scheme) input answer)
+    (λ answer same. subst (λ (task : Task). Does (With task scheme) input answer)
+    (sym c.in-Bound.is) (inr (
+      record { joined = c.requires.joined; accepted = refl },
+      same ∙ (λ i. bounded (longest_of (writes i) scheme (size_of (sym rows i)))),
+    ))) c.bound.ensures.bounded
+
+pub convert-requires-clause-connected : goal.convert-requires-clause-connected
+convert-requires-clause-connected g c =
+    subst IsConnected (rows_are c.args.input c.unwrap-net.result c.unwrap-net.ensures)
+    c.requires.joined
+
+pub returns-in-Convert-clause-does : goal.returns-in-Convert-clause-does
+returns-in-Convert-clause-does g c =
+    let scheme = c.args.scheme in
+    let input = said c.args.input in
+    let net = c.unwrap-net.result in
+    let store = c.unwrap-in-Convert.result in
+    let takes = c.requires.named.takes_so
+    ∙ ap (λ (task : Task). takes_of (working_code task input)) c.in-Convert.is in
+    let rows = rows_are c.args.input net c.unwrap-net.ensures in
+    let labels = labels_are _ _ c.args.input c.requires.input.1 net c.unwrap-net.ensures store
+    c.unwrap-in-Convert.ensures in
+    IfOk-weaker c.convert-in-Convert.result
+    (λ answer. (input : Input) → rows_in input ≡ net → labels_in input ≡ store
+    → g.C.NumCode.takes ≡ takes_of (code_in input) → Does (With Convert scheme) input answer)
+    (λ answer. Does (With c.args.task scheme) input answer)
+    (λ answer does. subst (λ (task : Task). Does (With task scheme) input answer)
+    (sym c.in-Convert.is) (does input rows labels takes)) c.convert-in-Convert.ensures.does
 
 pub returns-in-Verify-clause-does : goal.returns-in-Verify-clause-does
 returns-in-Verify-clause-does g c =
@@ -61,7 +126,9 @@ returns-in-Verify-clause-does g c =
     let json = c.in-Verify.json in
     let net = c.unwrap-net.result in
     let store = c.unwrap.result in
-    let judge = judge_in Gamma scheme in
+    let judge = judge_of g.C.NumCode.takes scheme in
+    let takes = c.requires.named.takes_so
+    ∙ ap (λ (task : Task). takes_of (working_code task input)) c.in-Verify.is in
     let rows = rows_are c.args.input net c.unwrap-net.ensures in
     let labels = labels_are _ _ c.args.input c.requires.input.1 net c.unwrap-net.ensures store
     c.unwrap.ensures in
@@ -71,7 +138,8 @@ returns-in-Verify-clause-does g c =
     (λ answer same. subst (λ (task : Task). Does (With task scheme) input answer)
     (sym c.in-Verify.is) (inr (
       record { joined = c.requires.joined; accepted = refl },
-      same ∙ ap (report json false) (λ i. decided_by judge (sym rows i) (sym labels i)),
+      same ∙ ap (report json false)
+          (λ i. decided_by (judge_of (takes i) scheme) (sym rows i) (sym labels i)),
     ))) c.verify-in-Verify.ensures.reports
 
 pub returns-in-Simulate-clause-does : goal.returns-in-Simulate-clause-does
@@ -83,6 +151,8 @@ returns-in-Simulate-clause-does g c =
     let net = c.unwrap-net.result in
     let store = c.unwrap-in-Simulate.result in
     let list = c.unwrap-in-Simulate-2.result in
+    let takes = c.requires.named.takes_so
+    ∙ ap (λ (task : Task). takes_of (working_code task input)) c.in-Simulate.is in
     let read : IsSimulated net store c.deref.result.now c.args.input.first_line input = record {
       joined = c.requires.joined;
       net = rows_are c.args.input net c.unwrap-net.ensures;
@@ -96,10 +166,11 @@ returns-in-Simulate-clause-does g c =
     IfOk-weaker c.simulate-in-Simulate.result
     (λ answer. (input : Input)
     → IsSimulated net store c.deref.result.now c.args.input.first_line input
+    → g.C.NumCode.takes ≡ takes_of (code_in input)
     → Does (With (Simulate json) scheme) input answer)
     (λ answer. Does (With c.args.task scheme) input answer)
     (λ answer does. subst (λ (task : Task). Does (With task scheme) input answer)
-    (sym c.in-Simulate.is) (does input read)) c.simulate-in-Simulate.ensures.does
+    (sym c.in-Simulate.is) (does input read takes)) c.simulate-in-Simulate.ensures.does
 
 pub returns-in-Recheck-clause-does : goal.returns-in-Recheck-clause-does
 returns-in-Recheck-clause-does g c =
@@ -107,11 +178,13 @@ returns-in-Recheck-clause-does g c =
     let input = said c.args.input in
     let is = c.requires.input.1 in
     let list = c.unwrap-in-Recheck-2.result in
+    let takes = c.requires.named.takes_so
+    ∙ ap (λ (task : Task). takes_of (working_code task input)) c.in-Recheck.is in
     let unscheduled : (input_parts_of (With c.args.task c.args.scheme)).schedule ≡ false =
     ap (λ (task : Task). (input_parts_of (With task c.args.scheme)).schedule) c.in-Recheck.is in
     IfOk-weaker c.recheck.result _ (λ answer. Does (With c.args.task scheme) input answer)
     (λ answer does. subst (λ (task : Task). Does (With task scheme) input answer)
-    (sym c.in-Recheck.is) (does input (record {
+    (sym c.in-Recheck.is) (does input takes (record {
       joined = c.requires.joined;
       net = rows_are c.args.input c.unwrap-net.result c.unwrap-net.ensures;
       store = labels_are _ _ c.args.input is c.unwrap-net.result c.unwrap-net.ensures
@@ -127,13 +200,15 @@ returns-in-Recheck-clause-rechecked g c =
     let input = said c.args.input in
     let is = c.requires.input.1 in
     let list = c.unwrap-in-Recheck-2.result in
+    let takes = c.requires.named.takes_so
+    ∙ ap (λ (task : Task). takes_of (working_code task input)) c.in-Recheck.is in
     let old = g.B.Bench.asked c.args.bench.now in
     let new = g.B.Bench.asked c.recheck.new.bench in
     let unscheduled : (input_parts_of (With c.args.task c.args.scheme)).schedule ≡ false =
     ap (λ (task : Task). (input_parts_of (With task c.args.scheme)).schedule) c.in-Recheck.is in
     IfOk-weaker c.recheck.result _
     (λ answer. c.args.task ≡ Recheck → RecheckedIn scheme input answer.status old new)
-    (λ answer found _. found input (record {
+    (λ answer found _. found input takes (record {
       joined = c.requires.joined;
       net = rows_are c.args.input c.unwrap-net.result c.unwrap-net.ensures;
       store = labels_are _ _ c.args.input is c.unwrap-net.result c.unwrap-net.ensures

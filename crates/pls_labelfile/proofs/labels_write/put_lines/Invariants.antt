@@ -7,4 +7,4 @@ abbrev pub invariant-loop-place : goal.invariant-loop-place
 invariant-loop-place g l =
     Wrote l.fn.gathered l.gathered (g.K.Sink.taken l.fn.sink) (g.K.Sink.taken l.sink)
     (g.K.Sink.faults l.fn.sink) (g.K.Sink.faults l.sink) (g.K.Sink.IsSureOf l.fn.sink)
-    (g.K.Sink.IsSureOf l.sink) (text_of (lines_so_far l.net l.labels l.place))
+    (g.K.Sink.IsSureOf l.sink) (text_of (lines_so_far l.fn.code l.net l.labels l.place))

@@ -4,6 +4,6 @@ use Rattle.pls_labelfile.proofs.LabelsPart.{labels_part, is_labels_part}
 use Rattle.pls_labelfile.proofs.laws.no_fault.Goals as goal
 
 pub returns : goal.returns
-returns c = λ labels rest old k fits stands fault.
-    no_fault IsLabelsPart (labels_lines labels) rest old k labels_part (is_labels_part labels fits)
-    stands fault
+returns c = λ delta said rest old k are stands fault.
+    no_fault (IsLabelsPart delta) (labels_lines said) rest old k (labels_part delta)
+    (is_labels_part delta said are) stands fault

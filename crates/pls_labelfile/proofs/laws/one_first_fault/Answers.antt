@@ -3,4 +3,4 @@ use Rattle.pls_labelfile.specs.LabelsText.{IsLabelsPart}
 use Rattle.pls_labelfile.proofs.laws.one_first_fault.Goals as goal
 
 pub returns : goal.returns
-returns c = one_first_fault IsLabelsPart
+returns c = λ delta. one_first_fault (IsLabelsPart delta)

@@ -1,0 +1,66 @@
+//! The answers to `judge`, `code` and `rules`.
+
+ghost use Rattle.std.specs.Prelude.{◌≡◌, false, length, IfOk, IsSome};
+ghost use Rattle.pls_bits.specs.Gamma.{gamma_takes};
+ghost use Rattle.pls_builtin.specs.Builtin.{set_of_name};
+ghost use Rattle.pls_compile.specs.RuleMeaning.{meaning};
+ghost use Rattle.pls_rules.specs.HeldTrees.{set_of};
+ghost use Rattle.pls_rules.specs.RuleSet.{AreRules};
+ghost use Rattle.pls_app.specs.Answer.{report};
+ghost use Rattle.pls_app.specs.Reports.{decided_by};
+ghost use Rattle.pls_app.specs.Ruled.{listed, printed};
+ghost use Rattle.pls_app.specs.inner.Tasks.{IsWorked};
+
+use crate::answer::{Answer, Content};
+use crate::verify::verify;
+use pls_base::{NoMemory, Status};
+use pls_builtin::builtin_set;
+use pls_compile::{RuleChecker, compile, listing};
+use pls_graph::Network;
+use pls_names::SchemeName;
+use pls_rules::RuleSet;
+use pls_rules_part::print_rules;
+use pls_view::LabelStore;
+use std::alloc::Global;
+
+// The report of the round of a rule set under labels.
+pub(crate) fn judge(
+    alloc: Global,
+    set: RuleSet,
+    json: bool,
+    net: &Network,
+    labels: &LabelStore,
+) -> Result<Answer, NoMemory>
+    requires each { length labels.now ≡ length net.now }
+    requires sense { AreRules (set_of set) }
+    ensures reports { IfOk result (λ answer. answer ≡ report json false
+        (decided_by (meaning gamma_takes (set_of set)) net.now labels.now)) }
+    ensures worked { IfOk result (λ answer. IsWorked answer.status) }
+{
+    let checker = RuleChecker::new(alloc, set)?;
+    verify(alloc, &checker, json, net, labels)
+}
+
+// The machine code of a rule set, as a text.
+pub(crate) fn list_code(alloc: Global, set: &RuleSet) -> Result<Answer, NoMemory>
+    requires { AreRules (set_of set.now) }
+    ensures { IfOk result (λ answer. answer ≡ listed (set_of set.now)) }
+{
+    let code = compile(alloc, set)?;
+    Ok(Answer {
+        status: Status::Done,
+        content: Content::Written(listing(alloc, &code)?),
+    })
+}
+
+// The rules part of the set that has the name of a scheme.
+pub(crate) fn print_named(alloc: Global, name: SchemeName) -> Result<Answer, NoMemory>
+    requires { IsSome (set_of_name name) }
+    ensures { IfOk result (λ answer. answer ≡ printed name) }
+{
+    let set = builtin_set(alloc, name)?.unwrap();
+    Ok(Answer {
+        status: Status::Done,
+        content: Content::Written(print_rules(alloc, &set)?),
+    })
+}

@@ -1,0 +1,12 @@
+pub mod Booleans
+pub mod Agreeing
+pub mod AtPorts
+pub mod FixedFields
+pub mod PointerAgrees
+pub mod DistanceAgrees
+pub mod LeaderAgrees
+pub mod CountAgrees
+pub mod BipartiteAgrees
+pub mod AcyclicAgrees
+pub mod Worked
+pub mod NamedAgrees

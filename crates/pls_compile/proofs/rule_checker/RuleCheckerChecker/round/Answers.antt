@@ -1,0 +1,33 @@
+use Rattle.std.proofs.Common.{◌≡◌, ◌∙◌, ◌+◌, length, slice_get, Some, arith}
+use Rattle.std.proofs.lemmas.List.{length-map}
+use Rattle.pls_bits.specs.Gamma.{gamma_takes}
+use Rattle.pls_view.specs.Seen.{Seen, label_of, seen, views}
+use Rattle.pls_facts.proofs.Lists.{item_at, map-take_more}
+use Rattle.pls_rules.specs.HeldTrees.{set_of}
+use Rattle.pls_compile.specs.RuleMeaning.{meaning}
+use Rattle.pls_compile.proofs.rule_checker.RuleCheckerChecker.round.Goals as goal
+
+pub loop-i-preserved : goal.loop-i-preserved
+loop-i-preserved g c =
+    let rows = c.args.net.now in
+    let labels = g.L.Labels.listed c.args.labels.now in
+    let within = c.loop-i-test.true in
+    let many : length (views rows labels) ≡ length rows =
+    length-map rows (seen (label_of rows labels)) in
+    let (view, at) : (view : Seen) × (slice_get (views rows labels) c.loop-i.i ≡ Some view) =
+    item_at (views rows labels) c.loop-i.i (omega (arith, within, many)) in
+    record {
+      verdicts = c.in_ok-push.ensures.items
+          ∙ map-take_more (meaning gamma_takes (set_of c.args.self.now))
+          (views rows labels) c.loop-i.i view c.loop-i.verdicts.items c.verdict_at.result
+          c.loop-i.invariant.verdicts at (c.verdict_at.ensures view at);
+      steps = omega (arith, c.tick.ensures, c.loop-i.invariant.steps);
+    }
+
+pub returns-in_err-push-clause-few_steps : goal.returns-in_err-push-clause-few_steps
+returns-in_err-push-clause-few_steps g c =
+    let within = c.loop-i-test.true in (
+      c.loop-i.i + 1,
+      omega (arith, within),
+      omega (arith, c.tick.ensures, c.loop-i.invariant.steps),
+    )

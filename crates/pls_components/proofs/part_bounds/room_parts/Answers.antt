@@ -1,0 +1,72 @@
+use Rattle.std.proofs.Common.{◌≡◌, ◌∙◌, ◌+◌, ◌*◌, ◌-◌, ◌^◌, ◌≤◌, ℕ, List, ap, length, min, slice_get, Some, sym, take, arith}
+use Rattle.std.specs.List.{sum_by}
+use Rattle.pls_graph.specs.declared.size.Size.{Size}
+use Rattle.pls_graph.specs.Size.{size_of}
+use Rattle.pls_model.specs.declared.row.NodeRow.{NodeRow}
+use Rattle.pls_graph.proofs.Members.{Contains-from_place}
+use Rattle.pls_base.specs.Steps.{capped}
+use Rattle.pls_components.specs.Components.{IsComponent, items_at}
+use Rattle.pls_components.specs.Parts.{room_of_parts}
+use Rattle.pls_components.proofs.Bounds.{saturated, sum-more}
+use Rattle.pls_components.proofs.Items.{length-items}
+use Rattle.pls_components.proofs.Part.{places_within}
+use Rattle.pls_components.proofs.PartPlaces.{only_one, part_places}
+use Rattle.pls_components.proofs.Whole.{whole_room}
+use Rattle.pls_components.proofs.part_bounds.room_parts.Goals as goal
+
+pub returns-then-len-eq1 : goal.returns-then-len-eq1
+returns-then-len-eq1 g c =
+    let net = c.args.net.now in
+    let parts = c.args.parts.now in
+    let longest : Size → ℕ = g.S.Scheme.longest c.args.scheme.now in
+    let alone = only_one parts (omega arith) in
+    let most : ℕ = longest (size_of net) in
+    let bound : c.bound-bound.result ≡ min most (2 ^ 64 - 1) =
+    c.bound-bound.ensures ∙ ap (λ (size : Size). capped (longest size)) c.size.ensures in
+    let product : c.bound-bound.result * c.len-nodes.result ≡ min most (2 ^ 64 - 1) * length net =
+    λ i. bound i * c.len-nodes.ensures.len i in
+    let capped = saturated 0 (length net) most (2 ^ 64 - 1) c.len-nodes.ensures.valid.limits.some in
+    let whole : room_of_parts longest net parts ≡ length net * most =
+    whole_room net c.len-nodes.ensures.valid parts c.requires alone.0 alone.1 longest in
+    let all : c.saturating_mul.result ≡ min (room_of_parts longest net parts) (2 ^ 64 - 1) =
+    omega (arith, c.saturating_mul.ensures, product, capped, whole) in
+    all
+
+pub loop-k-preserved : goal.loop-k-preserved
+loop-k-preserved g c =
+    let net = c.args.net.now in
+    let parts = c.args.parts.now in
+    let k = c.loop-k.k in
+    let limit : ℕ = 2 ^ 64 - 1 in
+    let longest : Size → ℕ = g.S.Scheme.longest c.args.scheme.now in
+    let f : List ℕ → ℕ = λ places. length places * longest (size_of (items_at net places)) in
+    let (places, at, same) : (places : List ℕ) × (slice_get parts k ≡ Some places)
+    × (items_at net places ≡ c.in_ok-part.part) =
+    part_places net parts k c.in_ok-part.part c.in_ok-part.ensures in
+    let is : IsComponent net places =
+    c.requires.each places (Contains-from_place parts k places at) in
+    let most : ℕ = longest (size_of (items_at net places)) in
+    let bound : c.bound-bound-in-loop-k.result ≡ min most (2 ^ 64 - 1) =
+    c.bound-bound-in-loop-k.ensures
+    ∙ ap (λ (size : Size). capped (longest size))
+    (c.size-in-loop-k.ensures ∙ ap size_of (sym same)) in
+    let many : c.len-in-loop-k.result ≡ length places =
+    c.len-in-loop-k.ensures.len ∙ sym (ap (length {A = NodeRow}) same)
+    ∙ length-items net places (places_within net c.len-nodes.ensures.valid places is) in
+    let product : c.bound-bound-in-loop-k.result * c.len-in-loop-k.result
+    ≡ min most (2 ^ 64 - 1) * length places = λ i. bound i * many i in
+    let some : 1 ≤ length places = let own = is.own.1 in omega arith in
+    let capped = saturated (sum_by f (take k parts)) (length places) most (2 ^ 64 - 1) some in
+    let more : sum_by f (take (k + 1) parts) ≡ sum_by f (take k parts) + f places =
+    sum-more f parts k places at in
+    let all : c.saturating_add-room.result ≡ min (sum_by f (take (k + 1) parts)) (2 ^ 64 - 1) =
+    omega (
+      arith,
+      c.saturating_add-room.ensures,
+      c.saturating_mul-in-loop-k.ensures,
+      product,
+      capped,
+      more,
+      c.loop-k.invariant,
+    ) in
+    all

@@ -1,0 +1,112 @@
+//! The components of a network, and each of them by itself.
+
+ghost use Rattle.std.specs.Prelude.{◌≡◌, ◌<◌, ◌++◌, ◌∷◌, ℕ, [], All, IfOk, OnOk, Some, length, map, slice_get};
+ghost use Rattle.pls_model.specs.declared.row.NodeRow.{NodeRow};
+ghost use Rattle.pls_components.specs.Components.{AreComponents, StandsIn, items_at};
+
+use pls_base::NoMemory;
+use pls_graph::{Network, NetworkBuilder};
+use std::alloc::Global;
+use std::marker::Model;
+
+// Which of the members are those of one component: `count` of them, the first at `start`.
+#[derive(Clone, Copy)]
+pub(crate) struct Span {
+    pub(crate) start: usize,
+    pub(crate) count: usize,
+}
+
+/// The components of a network in the order of their smallest identities, numbered from 0. They are
+/// seen as a list of lists: for each component the places of its nodes, rising.
+#[derive(Drop)]
+pub struct Components {
+    // The places of all nodes, component by component, so that no component has a vector of its own.
+    pub(crate) members: Vec<u32>,
+    pub(crate) spans: Vec<Span>,
+    // For each place the number of its component.
+    pub(crate) numbers: Vec<u32>,
+}
+
+impl Model for Components {
+    ghost use Rattle.std.specs.Prelude.{ℕ, List, map};
+
+    ghost Value = { List (List ℕ) };
+
+    ghost use Rattle.pls_components.specs.inner.Numbers.{AreSorted, AreSpans, span_items};
+
+    ghost view = { λ parts. map (span_items parts.members.items) parts.spans.items };
+
+    ghost invariant = { λ parts. AreSpans parts.members.items parts.spans.items
+        × AreSorted parts.numbers.items (map (span_items parts.members.items) parts.spans.items) };
+}
+
+impl Components {
+    /// How many components there are, one at least.
+    #[inline(always)]
+    pub fn len(&self) -> usize
+        ensures { result ≡ length self.now }
+    {
+        self.spans.len()
+    }
+
+    /// The places of the nodes of component `k`, rising.
+    #[inline(always)]
+    pub fn members(&self, k: usize) -> &[u32]
+        requires { k < length self.now }
+        ensures { slice_get self.now k ≡ Some result.now }
+    {
+        let span = self.spans[k];
+        &self.members[span.start..span.start + span.count]
+    }
+
+    /// The number of the component that has the node at place `i`.
+    #[inline(always)]
+    pub fn of(&self, i: usize) -> u32
+        requires { (k : ℕ) × StandsIn self.now k i }
+        ensures { StandsIn self.now result i }
+    {
+        self.numbers[i]
+    }
+
+    /// Component `k` by itself: the network of its rows, which is connected. The one error is want
+    /// of memory.
+    pub fn part(&self, alloc: Global, net: &Network, k: usize) -> Result<Network, NoMemory>
+        requires made { AreComponents net.now self.now }
+        requires within { k < length self.now }
+        ensures { IfOk result
+            (λ part. slice_get (map (items_at net.now) self.now) k ≡ Some part) }
+    {
+        // A network is valid.
+        net.len();
+        let rows = rows_of(alloc, net, self.members(k))?;
+        match rows.build(alloc) {
+            Ok(part) => Ok(part),
+            // No refusal is met by the rows of a component, so that memory was short.
+            Err(_) => Err(NoMemory),
+        }
+    }
+}
+
+fn rows_of(alloc: Global, net: &Network, places: &[u32]) -> Result<NetworkBuilder, NoMemory>
+    requires { All (λ place. place < length net.now) places.now }
+    ensures { IfOk result (λ rows. rows ≡ items_at net.now places.now) }
+{
+    let mut rows = NetworkBuilder::with_capacity(alloc, places.len(), 0)?;
+    for place in places {
+        put_row(&mut rows, net, *place as usize)?;
+    }
+    Ok(rows)
+}
+
+fn put_row(rows: &mut NetworkBuilder, net: &Network, place: usize) -> Result<(), NoMemory>
+    requires { place < length net.now }
+    ensures { OnOk result ((row : NodeRow) → slice_get net.now place ≡ Some row
+        → rows.new ≡ rows.old ++ row ∷ []) }
+{
+    let (id, state) = net.node(place);
+    rows.node(id, state)?;
+    for port in net.ports(place) {
+        rows.port(*port)?;
+    }
+    Ok(())
+}

@@ -1,0 +1,69 @@
+//! How the components of a network are found.
+
+ghost use Rattle.std.specs.Prelude.{◌≡◌, IfOk, replicate};
+ghost use Rattle.pls_model.specs.Walk.{IsConnected};
+ghost use Rattle.pls_components.specs.Components.{AreComponents};
+
+use crate::buckets::buckets_of;
+use crate::component_list::{Components, Span};
+use crate::flood::{all_numbers, number_all};
+use pls_base::NoMemory;
+use pls_graph::{Network, connected};
+use std::alloc::Global;
+
+/// The components of a network, in the order of their smallest identities. It takes time in nodes
+/// and ports, which are gone over once where the network is connected and twice where it is not. The
+/// one error is want of memory.
+pub fn components(alloc: Global, net: &Network) -> Result<Components, NoMemory>
+    ensures { IfOk result (λ parts. AreComponents net.now parts) }
+{
+    match connected(alloc, net)? {
+        None => one_component(alloc, net),
+        Some(_) => several_components(alloc, net),
+    }
+}
+
+fn one_component(alloc: Global, net: &Network) -> Result<Components, NoMemory>
+    requires { IsConnected net.now }
+    ensures { IfOk result (λ parts. AreComponents net.now parts) }
+{
+    // A network is valid.
+    let count = net.len();
+    let numbers = all_zero(alloc, count)?;
+    let mut members = Vec::with_capacity(alloc, count)?;
+    for place in 0..count {
+        members.push(place as u32)?;
+    }
+    let mut spans = Vec::new(alloc);
+    spans.push(Span { start: 0, count })?;
+    Ok(Components {
+        members,
+        spans,
+        numbers,
+    })
+}
+
+// The one component has the number 0, and each place is in it.
+fn all_zero(alloc: Global, count: usize) -> Result<Vec<u32>, NoMemory>
+    ensures { IfOk result (λ numbers. numbers.items ≡ replicate count 0) }
+{
+    Ok(vec![in alloc; 0u32; count]?)
+}
+
+// The places are sorted by the numbers of their components, which rise with the smallest identities.
+fn several_components(alloc: Global, net: &Network) -> Result<Components, NoMemory>
+    ensures { IfOk result (λ parts. AreComponents net.now parts) }
+{
+    // A network is valid.
+    net.len();
+    let numbered = number_all(alloc, net)?;
+    let numbers = all_numbers(alloc, numbered.0.as_slice())?;
+    let buckets = buckets_of(alloc, numbers.as_slice(), numbered.1)?;
+    let spread = buckets.spread(alloc, numbers.as_slice(), numbered.1)?;
+    let (members, spans) = spread;
+    Ok(Components {
+        members,
+        spans,
+        numbers,
+    })
+}

@@ -1,0 +1,70 @@
+//! How long the labels of a network are, whose components are marked each by itself.
+
+ghost use Rattle.std.specs.Prelude.{◌≡◌, IfOk, max};
+ghost use Rattle.pls_base.specs.Steps.{capped};
+ghost use Rattle.pls_components.specs.Components.{AreComponents};
+ghost use Rattle.pls_components.specs.Parts.{bound_of_parts, room_of_parts};
+
+use crate::component_list::Components;
+use pls_base::NoMemory;
+use pls_graph::Network;
+use pls_scheme::Scheme;
+use std::alloc::Global;
+
+/// The greatest number of bits of a marked label, where each component is marked by itself: the
+/// greatest of the scheme's bounds for the components, or `u64::MAX` where it is greater. The one
+/// error is want of memory.
+pub fn bound_parts<S: Scheme>(
+    alloc: Global,
+    scheme: &S,
+    net: &Network,
+    parts: &Components,
+) -> Result<u64, NoMemory>
+    requires { AreComponents net.now parts.now }
+    ensures { IfOk result
+        (λ bound. bound ≡ capped (bound_of_parts (S.longest scheme.now) net.now parts.now)) }
+{
+    // A network is valid.
+    net.len();
+    if parts.len() == 1 {
+        return Ok(scheme.bound(&net.size()));
+    }
+    let mut most = 0;
+    for k in 0..parts.len() {
+        let part = parts.part(alloc, net, k)?;
+        most = greater(most, scheme.bound(&part.size()));
+    }
+    Ok(most)
+}
+
+/// The greatest number of bits of all marked labels together: the sum over the components of nodes
+/// times bound, or `u64::MAX` where it is greater. The one error is want of memory.
+pub fn room_parts<S: Scheme>(
+    alloc: Global,
+    scheme: &S,
+    net: &Network,
+    parts: &Components,
+) -> Result<u64, NoMemory>
+    requires { AreComponents net.now parts.now }
+    ensures { IfOk result
+        (λ room. room ≡ capped (room_of_parts (S.longest scheme.now) net.now parts.now)) }
+{
+    let nodes = net.len() as u64;
+    if parts.len() == 1 {
+        let bound = scheme.bound(&net.size());
+        return Ok(bound.saturating_mul(nodes));
+    }
+    let mut room: u64 = 0;
+    for k in 0..parts.len() {
+        let part = parts.part(alloc, net, k)?;
+        let bound = scheme.bound(&part.size());
+        room = room.saturating_add(bound.saturating_mul(part.len() as u64));
+    }
+    Ok(room)
+}
+
+fn greater(one: u64, other: u64) -> u64
+    ensures { result ≡ max one other }
+{
+    one.max(other)
+}

@@ -1,0 +1,2 @@
+pub mod DepthFrom
+pub mod Found

@@ -1,0 +1,4 @@
+pub mod FrontLaws
+pub mod NumberFrontLaws
+pub mod LetterFrontLaws
+pub mod DepthLaws

@@ -1,0 +1,120 @@
+//! Small networks: all of up to three nodes, and a part of those of four.
+
+use pls_graph::Network;
+use pls_netfile::read_network;
+use std::alloc::Global;
+use std::test::Fail;
+
+// A network of up to four nodes, 0 to 3: its edges, one bit a pair of nodes; for each node two bits
+// of its pointer, 0 for none, else the number of the port and one; and one bit a node that is
+// marked and knows how many nodes there are.
+#[derive(Clone, Copy)]
+struct Plan {
+    nodes: u32,
+    edges: u32,
+    pointers: u32,
+    marks: u32,
+}
+
+// The bits of a number from a place on.
+fn above(bits: u32, place: u32) -> u32 {
+    bits.wrapping_shr(place)
+}
+
+// The weight of the edge between two nodes, or `None` where there is none.
+fn weight(edges: u32, a: u32, b: u32) -> Option<u32> {
+    let pair = match (a.min(b), a.max(b)) {
+        (0, 1) => 0,
+        (0, 2) => 1,
+        (1, 2) => 2,
+        (0, 3) => 3,
+        (1, 3) => 4,
+        _ => 5,
+    };
+    // Two edges of weight 1 may be lighter than one of weight 3.
+    if a != b && above(edges, pair) & 1 == 1 {
+        Some(if pair & 1 == 1 { 3 } else { 1 })
+    } else {
+        None
+    }
+}
+
+impl Plan {
+    // The text of the network, or `None` where some pointer is no port's.
+    fn text(self, alloc: Global) -> Result<Option<String>, Fail> {
+        let mut text = String::from_str(alloc, "network\n")?;
+        for node in 0..self.nodes.min(4) {
+            let mut ports = String::new(alloc);
+            let mut degree = 0_u32;
+            for nbr in 0..self.nodes.min(4) {
+                if let Some(weight) = weight(self.edges, node, nbr) {
+                    ports.push_str(format!(in alloc; "port {nbr} {weight}\n")?.as_str())?;
+                    degree = degree.saturating_add(1);
+                }
+            }
+            let pointer = above(self.pointers, node.saturating_mul(2)) & 3;
+            if pointer > degree {
+                return Ok(None);
+            }
+            text.push_str(self.line(alloc, node, pointer)?.as_str())?;
+            text.push_str(ports.as_str())?;
+        }
+        text.push_str("end\n")?;
+        Ok(Some(text))
+    }
+
+    // The line of a node.
+    fn line(self, alloc: Global, node: u32, pointer: u32) -> Result<String, Fail> {
+        let mark = above(self.marks, node) & 1;
+        let number = if mark == 1 { self.nodes } else { 0 };
+        Ok(match pointer {
+            0 => format!(in alloc; "node {node} - {mark} {number}\n")?,
+            up => format!(in alloc; "node {node} {} {mark} {number}\n", up - 1)?,
+        })
+    }
+
+    // The network, where each pointer is a port's.
+    fn network(self, alloc: Global) -> Result<Option<Network>, Fail> {
+        match self.text(alloc)? {
+            None => Ok(None),
+            Some(text) => match read_network(alloc, text.as_str().as_bytes()) {
+                Ok(net) => Ok(Some(net)),
+                Err(_) => Err(Fail::from("refused")),
+            },
+        }
+    }
+}
+
+// For so many nodes, how many sets of edges, choices of pointers and choices of marks there are.
+const CHOICES: &[(u32, u32, u32, u32)] = &[
+    (1, 1, 1, 2),
+    (2, 2, 16, 4),
+    (3, 8, 64, 8),
+    (4, 64, 256, 16),
+];
+
+// The networks of up to four nodes with all edges, pointers and marks; of those of four nodes each
+// set of edges and each choice of pointers has one choice of marks, and one in seven is taken.
+pub(super) fn networks(alloc: Global) -> Result<Vec<Network>, Fail> {
+    let mut nets = Vec::new(alloc);
+    for (nodes, sets, choices, most) in CHOICES {
+        let (nodes, step) = (*nodes, if *nodes == 4 { 7 } else { 1 });
+        for number in 0..sets.saturating_mul(*choices) {
+            let edges = number.checked_rem(*sets).unwrap_or(0);
+            let pointers = number.checked_div(*sets).unwrap_or(0);
+            for marks in 0..*most {
+                let plan = Plan {
+                    nodes,
+                    edges,
+                    pointers,
+                    marks,
+                };
+                let is_taken = step == 1 || number % 7 == 0 && marks == number / 7 % 16;
+                if is_taken && let Some(net) = plan.network(alloc)? {
+                    nets.push(net)?;
+                }
+            }
+        }
+    }
+    Ok(nets)
+}

@@ -1,0 +1,185 @@
+//! Rules parts: the first line that is not of the form, and the first that makes no sense.
+
+use super::repeated;
+use pls_base::TextError;
+use pls_lines::Lines;
+use pls_rules_part::{read_rules, scan_rules};
+use std::alloc::Global;
+use std::test::Fail;
+
+// Texts, and the first line that is not of the form.
+const FORMS: &[(&str, u64)] = &[
+    ("", 1),
+    ("rules", 1),
+    ("rule\n", 1),
+    ("rules \nfield depth num\nend\n", 1),
+    ("rules\n", 2),
+    ("rules\nend\n", 2),
+    ("rules\nrule eq(id,0)\nend\n", 2),
+    ("rules\n\nfield depth num\nend\n", 2),
+    ("rules\nfield depth\nend\n", 2),
+    ("rules\nfield depth num \nend\n", 2),
+    ("rules\nfield  depth num\nend\n", 2),
+    ("rules\n field depth num\nend\n", 2),
+    ("rules\nfield depth num\r\nend\n", 2),
+    ("rules\nfield depth number\nend\n", 2),
+    ("rules\nfield depth bit num\nend\n", 2),
+    ("rules\nfield Depth num\nend\n", 2),
+    ("rules\nfield depth1 num\nend\n", 2),
+    ("rules\nfield weight num\nend\n", 2),
+    ("rules\nfield up bit\nend\n", 2),
+    ("rules\nfield abcdefghijklmnopq num\nend\n", 2),
+    ("rules\nfield depth num\n", 3),
+    ("rules\nfield depth num\nend", 3),
+    ("rules\nfield depth num\nend \n", 3),
+    ("rules\nfield depth num\nend\n\n", 4),
+    ("rules\nfield depth num\nend\nend\n", 4),
+    ("rules\nfield depth num\nfield root\nend\n", 3),
+    ("rules\nfield depth num\nrule\nend\n", 3),
+    ("rules\nfield depth num\nrule \nend\n", 3),
+    ("rules\nfield depth num\nrule eq(id,00)\nend\n", 3),
+    ("rules\nfield depth num\nrule eq(id, 0)\nend\n", 3),
+    ("rules\nfield depth num\nrule eq(id,0) \nend\n", 3),
+    (
+        "rules\nfield depth num\nrule eq(id,0)\nfield root num\nend\n",
+        4,
+    ),
+    ("rules\nfield depth num\nrule eq(id,0)\nrule eq(id,0)", 4),
+    // The form of each line comes before the sense of any.
+    (
+        "rules\nfield depth num\nrule eq(my.root,0)\nrule eq(id,00)\nend\n",
+        4,
+    ),
+    (
+        "rules\nfield depth num\nfield depth num\nrule all(any(all(eq(id,0))))\n",
+        5,
+    ),
+];
+
+// Texts, and the number and the line by which they are refused.
+const REFUSED: &[(&str, u8, u64)] = &[
+    ("rules\nfield depth num\nrule eq(my.root,0)\nend\n", 50, 3),
+    ("rules\nfield depth num\nrule eq(nb.depth,0)\nend\n", 50, 3),
+    (
+        "rules\nfield depth num\nrule all(any(all(eq(id,0))))\nend\n",
+        51,
+        3,
+    ),
+    (
+        "rules\nfield depth num\nrule all(any(all(eq(my.root,0))))\nend\n",
+        51,
+        3,
+    ),
+    (
+        "rules\nfield root num\nfield depth num\nrule eq(my.rank,up.root)\nend\n",
+        50,
+        4,
+    ),
+    (
+        "rules\nfield depth num\nrule eq(my.root,0)\nrule all(any(all(eq(id,0))))\nend\n",
+        50,
+        3,
+    ),
+    (
+        "rules\nfield depth num\nrule all(any(all(eq(id,0))))\nrule eq(my.root,0)\nend\n",
+        51,
+        3,
+    ),
+    (
+        "rules\nfield depth num\nfield depth bit\nrule all(any(all(eq(id,0))))\nend\n",
+        50,
+        3,
+    ),
+    (
+        "rules\nfield a num\nfield b num\nfield a num\nfield b num\nrule eq(my.c,0)\nend\n",
+        50,
+        4,
+    ),
+    (
+        "rules\nfield depth num\nrule eq(my.depth,0)\n\
+         rule ((((((((((((((((((((((((((((((((my.root\nend\n",
+        51,
+        4,
+    ),
+];
+
+// What refuses a rules part, if something does: a number, 0 for the form, and a line.
+fn fault_of(alloc: Global, text: &str) -> Result<Option<(u8, u64)>, Fail> {
+    match read_rules(alloc, text.as_bytes()) {
+        Ok(_) => Ok(None),
+        Err(TextError::Form(line)) => Ok(Some((0, line))),
+        Err(TextError::Sense { number, place }) => Ok(Some((number, place))),
+        Err(_) => Err(Fail::from("refused otherwise")),
+    }
+}
+
+#[test]
+fn the_first_faulty_line_is_named(rt: HostRuntime) -> Result<(), Fail> {
+    for (text, line) in FORMS {
+        let found = fault_of(rt.alloc(), text)?;
+        assert!(rt; found == Some((0, *line)), "form of {text}");
+    }
+    for (text, number, line) in REFUSED {
+        let found = fault_of(rt.alloc(), text)?;
+        assert!(rt; found == Some((*number, *line)), "sense of {text}");
+    }
+    Ok(())
+}
+
+// How many fields and rules a part has, and the line that is not of the form, 0 for none.
+const COUNTS: &[(u32, u32, u64)] = &[
+    (1, 0, 0),
+    (8, 0, 0),
+    (9, 0, 10),
+    (8, 32, 0),
+    (9, 32, 10),
+    (1, 33, 35),
+    (8, 33, 42),
+];
+
+// A part with so many fields and rules.
+fn part_of(alloc: Global, fields: u32, rules: u32) -> Result<String, Fail> {
+    let mut text = String::from_str(alloc, "rules\n")?;
+    for field in 0..fields {
+        let letters = repeated(alloc, "a", field, "b")?;
+        text.push_str(format!(in alloc; "field {letters} num\n")?.as_str())?;
+    }
+    text.push_str(repeated(alloc, "rule eq(my.b,1)\n", rules, "end\n")?.as_str())?;
+    Ok(text)
+}
+
+#[test]
+fn there_are_up_to_8_fields_and_32_rules(rt: HostRuntime) -> Result<(), Fail> {
+    for (fields, rules, line) in COUNTS {
+        let text = part_of(rt.alloc(), *fields, *rules)?;
+        let due = if *line == 0 { None } else { Some((0, *line)) };
+        let found = fault_of(rt.alloc(), text.as_str())?;
+        assert!(rt; found == due, "{fields} fields, {rules} rules");
+    }
+    Ok(())
+}
+
+// Two parts, of which the second is refused; its line is counted from the front of the first.
+const PARTS: &str = "rules\nfield id num\nrule eq(my.id,0)\nend\n\
+                     rules\nfield abcdefghijklmnop bit\nfield num num\nrule eq(my.id,0)\nend\nend\n";
+
+#[test]
+fn lines_are_counted_over_parts(rt: HostRuntime) -> Result<(), Fail> {
+    let mut lines = Lines::new(PARTS.as_bytes());
+    let Ok(first) = scan_rules(&mut lines) else {
+        return Err(Fail::from("the first is refused"));
+    };
+    assert!(rt; first.build(rt.alloc()).is_ok(), "the first is read");
+    assert!(rt; lines.number() == 5, "the line behind the first");
+    let Ok(second) = scan_rules(&mut lines) else {
+        return Err(Fail::from("the second is refused"));
+    };
+    assert!(rt; lines.rest() == b"end\n".as_slice(), "what follows both");
+    match second.build(rt.alloc()) {
+        Err(TextError::Sense { number, place }) => {
+            assert!(rt; number == 50 && place == 8, "{number} at {place}");
+        }
+        _ => return Err(Fail::from("the second is read")),
+    }
+    Ok(())
+}

@@ -1,0 +1,176 @@
+//! Verdicts of rule sets on small networks: each set that has the name of a scheme judges as the
+//! scheme, and a set of no name as a plain program.
+
+ghost use Rattle.std.specs.Prelude.{IfOk};
+
+use super::networks::networks;
+use pls_base::Steps;
+use pls_bits::{BitBuf, Bits, Gamma};
+use pls_builtin::builtin;
+use pls_combine::AnyScheme;
+use pls_compile::RuleChecker;
+use pls_graph::{Network, connected};
+use pls_scheme::{Checker, Scheme, Verdict};
+use pls_scheme_text::read_expression;
+use pls_view::{LabelStore, View};
+use std::alloc::Global;
+use std::test::Fail;
+
+// The sets that have names, and the greatest number of a rule of each.
+const NAMES: &[(&str, u32)] = &[
+    ("leader", 6),
+    ("tree", 5),
+    ("forest", 4),
+    ("spt", 6),
+    ("bipartite", 3),
+    ("acyclic", 4),
+    ("count", 8),
+];
+
+// The bit of the rule by which a verdict rejects, and bit 0 where it accepts.
+fn bit_of(verdict: Verdict) -> Result<u32, Fail> {
+    match verdict {
+        Verdict::Accept => Ok(1),
+        Verdict::Reject { leaf: 1, rule } => Ok(1_u32.wrapping_shl(u32::from(rule))),
+        Verdict::Reject { .. } => Err(Fail::from("another leaf")),
+    }
+}
+
+// The bits of the rules by which nodes reject these labels, where a set judges as a scheme, in the
+// round and view by view.
+fn judged<S: Checker>(
+    alloc: Global,
+    checker: &RuleChecker,
+    scheme: &S,
+    net: &Network,
+    labels: &LabelStore,
+) -> Result<u32, Fail> {
+    if labels.len() != net.len() {
+        return Err(Fail::from("not one label a node"));
+    }
+    let due = scheme.round(alloc, net, labels, &mut Steps::new())?;
+    let found = checker.round(alloc, net, labels, &mut Steps::new())?;
+    let mut bits = 0_u32;
+    for i in 0..net.len() {
+        let view = View::of(alloc, net, labels, i)?;
+        let verdict = checker.verify(alloc, &view, &mut Steps::new())?;
+        if due.get(i) != Some(&verdict) || found.get(i) != Some(&verdict) {
+            return Err(Fail::from("judged otherwise"));
+        }
+        bits |= bit_of(verdict)?;
+    }
+    Ok(bits)
+}
+
+// A copy of a label with the bit at a place turned, and without change where there is none.
+fn turned(alloc: Global, label: &Bits<'_>, place: usize) -> Result<BitBuf, Fail> {
+    let mut bits = BitBuf::new(alloc);
+    for i in 0..label.len() {
+        bits.push(label.bit(i) != (i == place))?;
+    }
+    Ok(bits)
+}
+
+// The labels, each at the place before its own, and the first at the last.
+fn moved(alloc: Global, labels: &LabelStore) -> Result<LabelStore, Fail> {
+    let mut others = LabelStore::blank(alloc, labels.len())?;
+    for i in 0..labels.len() {
+        let place = if i == 0 { labels.len() - 1 } else { i - 1 };
+        put(&mut others, place, &label_at(alloc, labels, i)?)?;
+    }
+    Ok(others)
+}
+
+// The bits of the rules by which nodes reject these labels: as they are, each at another node, with
+// each of their bits turned, and with each of them empty; then they are as they were.
+fn judged_when_changed<S: Checker>(
+    alloc: Global,
+    checker: &RuleChecker,
+    scheme: &S,
+    net: &Network,
+    labels: &mut LabelStore,
+) -> Result<u32, Fail> {
+    let mut bits = judged(alloc, checker, scheme, net, labels)?;
+    bits |= judged(alloc, checker, scheme, net, &moved(alloc, labels)?)?;
+    for i in 0..labels.len() {
+        let label = label_at(alloc, labels, i)?;
+        for place in 0..label.len() {
+            put(labels, i, &turned(alloc, &label.bits(), place)?)?;
+            bits |= judged(alloc, checker, scheme, net, labels)?;
+        }
+        put(labels, i, &BitBuf::new(alloc))?;
+        bits |= judged(alloc, checker, scheme, net, labels)?;
+        put(labels, i, &label)?;
+    }
+    Ok(bits)
+}
+
+// A copy of the label at a place.
+fn label_at(alloc: Global, labels: &LabelStore, i: usize) -> Result<BitBuf, Fail> {
+    if i >= labels.len() {
+        return Err(Fail::from("no label"));
+    }
+    turned(alloc, &labels.bits(i), usize::MAX)
+}
+
+// Puts a label at a place.
+fn put(labels: &mut LabelStore, i: usize, label: &BitBuf) -> Result<(), Fail> {
+    if i >= labels.len() {
+        return Err(Fail::from("no label"));
+    }
+    labels.replace(i, label)?;
+    Ok(())
+}
+
+// The bits of the rules by which nodes of the networks reject what a scheme marks them with. One
+// that it does not mark gets the labels of the network before.
+fn judged_all(
+    alloc: Global,
+    checker: &RuleChecker,
+    scheme: &AnyScheme<Gamma>,
+    nets: &[Network],
+) -> Result<u32, Fail> {
+    let mut labels = LabelStore::blank(alloc, 1)?;
+    let mut bits = 0_u32;
+    for net in nets {
+        if connected(alloc, net)?.is_none() {
+            if let Some(marked) = scheme.mark(alloc, net)? {
+                labels = marked;
+            } else if labels.len() != net.len() {
+                labels = LabelStore::blank(alloc, net.len())?;
+            }
+            bits |= judged_when_changed(alloc, checker, scheme, net, &mut labels)?;
+        }
+    }
+    Ok(bits)
+}
+
+// The verifier by the set of a name.
+fn checker_of(alloc: Global, name: &str) -> Result<RuleChecker, Fail> {
+    match builtin(alloc, name)? {
+        Some(set) => Ok(RuleChecker::new(alloc, set)?),
+        None => Err(Fail::from("no set")),
+    }
+}
+
+// The scheme of a name.
+fn scheme_of(alloc: Global, name: &str) -> Result<AnyScheme<Gamma>, Fail> {
+    match read_expression(alloc, name) {
+        Ok(tree) => Ok(AnyScheme::new(tree)),
+        Err(_) => Err(Fail::from("no scheme")),
+    }
+}
+
+#[test]
+fn sets_judge_as_schemes_of_their_names(rt: HostRuntime) -> Result<(), Fail> {
+    let nets = networks(rt.alloc())?;
+    for (name, rules) in NAMES {
+        let checker = checker_of(rt.alloc(), name)?;
+        let scheme = scheme_of(rt.alloc(), name)?;
+        let bits = judged_all(rt.alloc(), &checker, &scheme, nets.as_slice())?;
+        // Some node accepts, and by each rule some node rejects.
+        let due = 2_u32.wrapping_shl(*rules).wrapping_sub(1);
+        assert!(rt; bits == due, "{name}: rules {bits}");
+    }
+    Ok(())
+}

@@ -1,0 +1,12 @@
+pub mod Tests
+pub mod PartLaws
+pub mod NameLaws
+pub mod AtomLaws
+pub mod OpeningLaws
+pub mod FormulaLaws
+pub mod ReadLaws
+pub mod RuleDepths
+pub mod Characters
+pub mod RuleLaws
+pub mod SenseLaws
+pub mod PrintLaws

@@ -1,0 +1,6 @@
+-- What private functions say to each other.
+pub mod Words
+pub mod Tally
+pub mod Adding
+pub mod Progress
+pub mod Printed

@@ -1,0 +1,3 @@
+-- The laws of the rules part.
+pub mod LineLaws
+pub mod SenseLaws
