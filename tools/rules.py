@@ -12,6 +12,7 @@ parentheses too deep, a byte changed, labels out of order or unreadable. Every f
 built-in one, for which `verify` has to write what `judge` does. Where something differs, the seed
 and the smallest such input that was found are written, and the status is 1.
 """
+import itertools
 import random
 import re
 import subprocess
@@ -90,8 +91,20 @@ ATOMS = ['0', '00', '01', str(MOST), str(MOST + 1), '9' * 19, '1' + '0' * 19, '9
 BYTES = list('\n\r\0 \t(),.09azAZ_-\xe9\xff')
 
 
+# rules of one fault each, of two at once, and of none
+FAULTY_RULES = ['eq(my.b,0)', 'eq(nb.a,0)', 'any(all(any(eq(id,0))))', 'any(all(any(eq(my.b,0))))',
+                'eq(my.b,nb.a)', 'eq(my.a', 'eq(my.a,0)', 'id', '']
+FAULTY_FIELDS = ['a bit', 'up num', 'a word', 'b num']
+
+
 def fixed_texts(rng):
-    """The built-in sets, and sets at the limits and one beyond."""
+    """The built-in sets, sets at the limits and one beyond, and all pairs of faulty lines."""
+    for first, second in itertools.product(FAULTY_RULES, repeat=2):
+        yield part_of(['a num'], [first, second])
+    for field, rule in itertools.product(FAULTY_FIELDS, FAULTY_RULES):
+        yield part_of(['a num', field], [rule])
+    for fields in itertools.product(FAULTY_FIELDS, repeat=2):
+        yield part_of(['a num', *fields], [])
     yield from map(built_in, BUILT_IN)
     for atom in ATOMS:
         yield part_of(['a num'], [f'eq({atom},0)'])
