@@ -295,14 +295,19 @@ def label_words(bits):
     return f'{len(bits)} ' + ''.join(f'{int(whole[i:i + 4], 2):x}' for i in range(0, len(whole), 4))
 
 
-def is_connected(net):
+def far_from_first(net):
+    """The identities of the nodes that no walk joins to the smallest."""
     found, ahead = set(), [min(net)]
     while ahead:
         place = ahead.pop()
         if place not in found:
             found.add(place)
             ahead += [nbr for nbr, _ in net[place]['ports']]
-    return len(found) == len(net)
+    return set(net) - found
+
+
+def is_connected(net):
+    return not far_from_first(net)
 
 
 def report(expression, net, labels, number, checked):

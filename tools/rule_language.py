@@ -5,7 +5,7 @@ code and its listing, the machine that runs it, the meaning of a set at a node, 
 import json
 import re
 
-from edits import label_words, take, text_of
+from edits import far_from_first, label_words, take, text_of
 
 MOST = 2 ** 63 - 2
 PARTS = {'B': {'eq': 'NN', 'lt': 'NN', 'le': 'NN', 'same': 'BB', 'both': 'BB', 'either': 'BB',
@@ -270,17 +270,6 @@ def verdict(node, own, ports, trees, lines):
     sides = [(weight, list(label.values())) for weight, label in ports]
     assert found == run(lines, node, list(own.values()), sides)
     return found
-
-
-def far_from_first(net):
-    """The identities of the nodes that no walk joins to the smallest."""
-    found, ahead = set(), [min(net)]
-    while ahead:
-        place = ahead.pop()
-        if place not in found:
-            found.add(place)
-            ahead += [nbr for nbr, _ in net[place]['ports']]
-    return set(net) - found
 
 
 def labels_part(labels):
