@@ -1,0 +1,2 @@
+-- The laws of lists that close.
+pub mod ClosedLists

@@ -1,0 +1,15 @@
+pub mod Worked
+pub mod More
+pub mod Keep
+pub mod Arrival
+pub mod Numbers
+pub mod Numbered
+pub mod NumberedArrival
+pub mod Arrived
+pub mod Laws
+pub mod Given
+pub mod Spelled
+pub mod Room
+pub mod Stocked
+pub mod Looked
+pub mod Table

@@ -1,0 +1,139 @@
+use Rattle.std.proofs.Common.{◌≡◌, ◌∙◌, ◌<◌, ◌+◌, ◌==◌, length, get_or, position, Option, Some, is_none, sym, ap, arith}
+use Rattle.std.proofs.lemmas.Option.{slice_get_within}
+use Rattle.pls_model.specs.declared.row.NodeRow.{NodeRow}
+use Rattle.pls_model.specs.Configuration.{row_of}
+use Rattle.pls_sim.specs.Applying.{refused_if}
+use Rattle.pls_sim.specs.declared.event_error.EventError.TheVariants.{NoNode}
+use Rattle.pls_sim.proofs.Numbering.{value_at}
+use Rattle.pls_sim.proofs.Refusing.{at_place, none_found, place_within}
+use Rattle.pls_watch.specs.declared.turn.Turn.TheVariants.{Relabel}
+use Rattle.pls_watch.specs.Turning.{Turned}
+use Rattle.pls_watch.proofs.More.{newest_few}
+use Rattle.pls_watch.proofs.Keep.{kept_relabel, rooms_more, round_relabel}
+use Rattle.pls_watch.specs.inner.Numbers.{relabelled}
+use Rattle.pls_watch.proofs.Arrived.{by_round}
+use Rattle.pls_watch.proofs.Numbers.{few_given}
+use Rattle.pls_watch.proofs.Numbered.{numbered_relabel}
+use Rattle.pls_watch.proofs.versions.Versions.relabel.Goals as goal
+
+pub returns-in_default-clause-refused : goal.returns-in_default-clause-refused
+returns-in_default-clause-refused c =
+    let none = none_found c.self.inside.net.now c.args.node
+    (sym c.place_of.ensures ∙ c.in_default.is) in
+    by_round c.args.self.now (Relabel c.args.node) c.requires
+    ∙ ap (λ (turned : Turned). refused_if (is_none (row_of turned.network c.args.node)) NoNode)
+    (sym c.self.view_is)
+    ∙ ap (λ (o : Option NodeRow). refused_if (is_none o) NoNode) none
+
+pub returns-clause-applies : goal.returns-clause-applies
+returns-clause-applies c =
+    let rows = c.self.inside.net.now in
+    let found : position (λ row. c.args.node == row.id) rows ≡ Some c.in-Some.place =
+    sym c.place_of.ensures ∙ c.in-Some.is in
+    let at = at_place rows c.self.invariant.1.is_network c.args.node c.in-Some.place
+    (place_within rows c.args.node c.in-Some.place found) found in
+    by_round c.args.self.now (Relabel c.args.node) c.requires
+    ∙ ap (λ (turned : Turned). refused_if (is_none (row_of turned.network c.args.node)) NoNode)
+    (sym c.self.view_is)
+    ∙ ap (λ (o : Option NodeRow). refused_if (is_none o) NoNode) at.found
+
+pub overflow_add-index_mut : goal.overflow_add-index_mut
+overflow_add-index_mut c =
+    let old = c.self.inside in
+    let rows = old.net.now in
+    let kept = c.self.invariant.1 in
+    let found : position (λ row. c.args.node == row.id) rows ≡ Some c.in-Some.place =
+    sym c.place_of.ensures ∙ c.in-Some.is in
+    let at = at_place rows kept.is_network c.args.node c.in-Some.place
+    (place_within rows c.args.node c.in-Some.place found) found in
+    let value : get_or old.newest.items c.in-Some.place 0 ≡ c.index_mut.result.now =
+    value_at old.newest.items c.in-Some.place c.index_mut.result.now
+    (omega (arith, slice_get_within rows c.in-Some.place at.row at.stands, kept.each_node))
+    c.index_mut.ensures.value in
+    omega (
+      arith,
+      value,
+      kept.are_newest c.in-Some.place at.row at.stands,
+      newest_few old.turns.items at.row.id,
+      old.turns.ok,
+    )
+
+pub invariant_of-self : goal.invariant_of-self
+invariant_of-self c =
+    let old = c.self.inside in
+    let rows = old.net.now in
+    let kept = c.self.invariant.1 in
+    let found : position (λ row. c.args.node == row.id) rows ≡ Some c.in-Some.place =
+    sym c.place_of.ensures ∙ c.in-Some.is in
+    let at = at_place rows kept.is_network c.args.node c.in-Some.place
+    (place_within rows c.args.node c.in-Some.place found) found in
+    let value : get_or old.newest.items c.in-Some.place 0 ≡ c.index_mut.result.now =
+    value_at old.newest.items c.in-Some.place c.index_mut.result.now
+    (omega (arith, slice_get_within rows c.in-Some.place at.row at.stands, kept.each_node))
+    c.index_mut.ensures.value in
+    let room : length old.turns.items < old.most =
+    omega (
+      arith,
+      c.requires,
+      ap (λ (turned : Turned). turned.most) c.self.view_is,
+      ap (λ (turned : Turned). length turned.turns) c.self.view_is,
+    ) in
+    let label : get_or old.newest_labels.items c.in-Some.place 0 ≡ c.index.result.now =
+    value_at old.newest_labels.items c.in-Some.place c.index.result.now
+    (omega (
+      arith,
+      slice_get_within rows c.in-Some.place at.row at.stands,
+      c.self.invariant.3.each_node,
+    ))
+    c.index.ensures in
+    let number : length rows + length (relabelled old.turns.items) ≡ c.len.result + c.len-2.result =
+    omega (arith, c.len.ensures, c.len-2.ensures, c.self.invariant.3.each_given, old.earlier.ok.0)
+    in
+    rw (
+      c.push_reserved.ensures.items,
+      c.push_reserved.ensures.capacity,
+      c.push_reserved-2.ensures.items,
+      c.push_reserved-2.ensures.capacity,
+      ← value,
+      ← label,
+      ← number,
+    ) (
+      round_relabel rows old.most old.turns.items c.args.node old.sim c.self.invariant.0,
+      kept_relabel rows old.turns.items _ _ _ _ kept c.args.node c.in-Some.place at.row at.stands
+          at.is,
+      rooms_more old.most _ _ _ old.turns.items _ room c.self.invariant.2,
+      numbered_relabel rows old.turns.items _ _ _ _ c.self.invariant.3 _ _ _ _ kept c.args.node
+          c.in-Some.place at.row at.stands at.is,
+      c.self.invariant.4,
+    )
+
+pub push_reserved-requires : goal.push_reserved-requires
+push_reserved-requires c =
+    let old = c.self.inside in
+    omega (
+      arith,
+      c.requires,
+      ap (λ (turned : Turned). turned.most) c.self.view_is,
+      ap (λ (turned : Turned). length turned.turns) c.self.view_is,
+      old.earlier.ok.0,
+      c.self.invariant.3.each_given,
+      few_given old.turns.items,
+      c.self.invariant.4.for_earlier,
+    )
+
+pub overflow_cast-number : goal.overflow_cast-number
+overflow_cast-number c =
+    let old = c.self.inside in
+    omega (
+      arith,
+      c.requires,
+      ap (λ (turned : Turned). turned.most) c.self.view_is,
+      ap (λ (turned : Turned). length turned.turns) c.self.view_is,
+      c.len.ensures,
+      c.len-2.ensures,
+      old.earlier.ok.0,
+      c.self.invariant.3.each_given,
+      few_given old.turns.items,
+      c.self.invariant.4.small,
+      c.self.invariant.1.is_network.limits.few_nodes,
+    )

@@ -1,0 +1,5 @@
+-- What private functions say to each other.
+pub mod Held
+pub mod Numbers
+pub mod Stock
+pub mod Known

@@ -1,0 +1,34 @@
+-- What a node knows of the labels: its own newest one, and those that it holds of its neighbours.
+use Rattle.std.specs.Prelude.{◌≡◌, ℕ, ◌+◌, ◌<◌, All, Bool, List, [], map, length, slice_get, slice_index_or, Some}
+use Rattle.pls_model.specs.declared.row.Port.{Port}
+use Rattle.pls_model.specs.declared.row.NodeRow.{NodeRow}
+use Rattle.pls_graph.specs.Places.{beside}
+use Rattle.pls_watch.specs.declared.turn.Turn.{Turn}
+use Rattle.pls_watch.specs.Labelled.{turns_of}
+use Rattle.pls_watch.specs.Versions.{held, newest}
+use Rattle.pls_watch.specs.Watching.{Watched}
+use Rattle.pls_watch.specs.inner.Numbers.{IsLabel}
+
+-- the labels of these numbers
+abbrev pub known_labels : List (List Bool) → List ℕ → List (List Bool)
+known_labels labels numbers = map (λ number. slice_index_or labels number []) numbers
+
+-- a number for each node, of a label that there is
+pub record IsTable (watched : Watched) (numbers : List ℕ) : Type 0 where
+  pub long : length numbers ≡ length watched.network
+  pub within : All (λ number. number < length watched.network + watched.relabels) numbers
+
+-- the numbers beside the node at a place, so far, are those of what it holds
+abbrev pub AreKnown : List NodeRow → List Turn → ℕ → NodeRow → ℕ → List ℕ → Type 0
+AreKnown rows turns place row count numbers =
+    (p : ℕ) (at : Port) (version : ℕ) → p < count → slice_get row.ports p ≡ Some at
+    → held rows turns row.id at.nbr ≡ Some version
+    → IsLabel rows turns at.nbr version
+    (slice_index_or numbers (slice_index_or (beside rows place) p 0) 0)
+
+-- the numbers at the places of a node and of its neighbours are those of what it knows
+pub record IsKnown (watched : Watched) (place : ℕ) (row : NodeRow) (numbers : List ℕ) : Type 0 where
+  pub own : IsLabel watched.network (turns_of watched.events) row.id
+      (newest (turns_of watched.events) row.id) (slice_index_or numbers place 0)
+  pub others : AreKnown watched.network (turns_of watched.events) place row (length row.ports)
+      numbers

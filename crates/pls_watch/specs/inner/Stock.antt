@@ -1,0 +1,55 @@
+-- The labels of a watch in one store: the first of all nodes in their order, and then each as it is
+-- given.
+use Rattle.std.specs.Prelude.{◌≡◌, ℕ, ◌+◌, ◌*◌, ◌≤◌, ◌^◌, Bool, List, [], ◌∷◌, length, take, slice_index_or}
+use Rattle.pls_model.specs.declared.row.NodeRow.{NodeRow}
+use Rattle.pls_model.specs.Configuration.{IsNetwork}
+use Rattle.pls_view.specs.Stored.{Stored}
+use Rattle.pls_watch_part.specs.declared.watch_event.WatchEvent.{WatchEvent}
+use Rattle.pls_watch_part.specs.declared.watch_event.WatchEvent.TheVariants as Watches
+use Rattle.pls_watch_part.specs.WatchText.{watch_event}
+use Rattle.pls_watch.specs.declared.turn.Turn.{Turn}
+use Rattle.pls_watch.specs.declared.turn.Turn.TheVariants.{Plain, Relabel}
+use Rattle.pls_watch.specs.Labelled.{bits_given}
+use Rattle.pls_watch.specs.Turning.{Turned}
+use Rattle.pls_watch.specs.Watching.{Watched}
+use Rattle.pls_watch.specs.inner.Numbers.{relabelled}
+
+-- the events of the turns, where these are the labels that are given, from one of this place on
+abbrev pub spelled : (ℕ → List Bool) → ℕ → List Turn → List WatchEvent
+spelled label place [] = []
+spelled label place (Plain event ∷ turns) = watch_event event ∷ spelled label place turns
+spelled label place (Relabel node ∷ turns) =
+    Watches.Relabel node (label place) ∷ spelled label (place + 1) turns
+
+-- the label that is given at a place, which stands behind those of all nodes
+abbrev pub given_label : ℕ → List (List Bool) → ℕ → List Bool
+given_label nodes labels place = slice_index_or labels (nodes + place) []
+
+-- the events that were taken
+abbrev pub events_of : Turned → List (List Bool) → List WatchEvent
+events_of turned labels = spelled (given_label (length turned.network) labels) 0 turned.turns
+
+-- what a watch is seen as, by what it keeps
+abbrev pub watched_by : Turned → Stored → ℕ → ℕ → Watched
+watched_by turned stored relabels bits = record {
+  network = turned.network;
+  start = take (length turned.network) stored.labels;
+  most = turned.most;
+  relabels = relabels;
+  bits = bits;
+  events = events_of turned stored.labels;
+}
+
+-- the store has room for as many labels and bits as are still taken
+pub record IsStocked (rows : List NodeRow) (turned : Turned) (stored : Stored)
+    (relabels bits given given_bits : ℕ) : Type 0 where
+  pub valid : IsNetwork turned.network
+  pub network : turned.network ≡ rows
+  pub long : length stored.labels ≡ length rows + relabels
+  pub count : given ≡ length (relabelled turned.turns)
+  pub few : given ≤ relabels
+  pub sum : given_bits ≡ bits_given (events_of turned stored.labels)
+  pub few_bits : given_bits ≤ bits
+  pub room : bits + 64 * relabels ≤ stored.spare + given_bits + 64 * given
+  pub small : relabels ≤ 1048576
+  pub small_bits : bits ≤ 2 ^ 28

@@ -1,0 +1,21 @@
+//! Labels that change while messages are under way: each label has versions, an emit carries the
+//! one that its node has then, and a node holds the greatest that it has heard.
+//!
+//! A [`Watch`] is seen as its network, the labels at the start, what it takes, and the list of the
+//! [`WatchEvent`]s that it has taken (`specs/Watching`). What a node holds, which of it is stale
+//! and what becomes of the node are said over that list (`specs/Versions`, `specs/Labelled`), in
+//! the words of the schedule of `pls_sim`. [`Watch::start`] takes all memory of the steps.
+#![tactic(auto)]
+
+mod known_labels;
+mod looks;
+mod stock;
+mod turn;
+mod versions;
+mod watch;
+
+pub use pls_base::NoMemory;
+pub use pls_sim::{EventError, Outcome, PortNumbers};
+pub use pls_watch_part::WatchEvent;
+pub use turn::Turn;
+pub use watch::Watch;

@@ -1,0 +1,203 @@
+//! What has become of the nodes.
+
+ghost use Rattle.std.specs.Prelude.{◌≡◌, ◌≢◌, ◌<◌, ◌+◌, ℕ, [], length, slice_get, IfOk, IfSome, OnErr, Some};
+ghost use Rattle.pls_model.specs.declared.row.NodeRow.{NodeRow};
+ghost use Rattle.pls_view.specs.Seen.{seen};
+ghost use Rattle.pls_scheme.specs.Judging.{RoseByAtMost};
+ghost use Rattle.pls_sim.specs.Schedule.{unheard};
+ghost use Rattle.pls_watch.specs.Labelled.{turns_of};
+ghost use Rattle.pls_watch.specs.Versions.{known, newest, plain_of};
+ghost use Rattle.pls_watch.specs.Watching.{look_of, outcome_in, stale_in, version_of_label};
+ghost use Rattle.pls_watch.specs.inner.Known.{AreKnown, IsKnown, IsTable};
+
+use crate::known_labels::KnownLabels;
+use crate::versions::noughts;
+use crate::watch::Watch;
+use pls_base::{NoMemory, Steps};
+use pls_model::Verdict;
+use pls_scheme::Checker;
+use pls_sim::{Outcome, PortNumbers};
+use pls_view::View;
+use std::alloc::Global;
+
+impl<'n> Watch<'n> {
+    /// What has become of the node at place `i`: it waits where it has not heard at some port since
+    /// its last restart, and else it has decided as the checker judges its view, with its own
+    /// newest label and the versions that it holds of its neighbours' labels.
+    ///
+    /// It takes a table of as many numbers as there are nodes: for all nodes ask
+    /// [`Watch::outcomes`]. The one error is want of memory.
+    pub fn outcome<K: Checker>(
+        &self,
+        alloc: Global,
+        i: usize,
+        checker: &K,
+        steps: &mut Steps,
+    ) -> Result<Outcome, NoMemory>
+        requires { i < length self.now.network }
+        ensures outcome { IfOk result (λ outcome. (row : NodeRow)
+            → slice_get self.now.network i ≡ Some row
+            → outcome ≡ outcome_in (K.judge checker.now) self.now row) }
+        ensures few_steps { RoseByAtMost 1 steps.old steps.new }
+    {
+        let mut table = noughts(alloc, self.net.len())?;
+        self.outcome_by(alloc, i, &mut table, checker, steps)
+    }
+
+    /// What has become of each node, with its identity, and the numbers of its stale ports, in the
+    /// order of the nodes: the rows of a look. It is linear in the ports and in the bits that the
+    /// checker reads. The one error is want of memory.
+    pub fn outcomes<K: Checker>(
+        &self,
+        alloc: Global,
+        checker: &K,
+        steps: &mut Steps,
+    ) -> Result<Vec<(u32, Outcome, PortNumbers)>, NoMemory>
+        ensures look { IfOk result
+            (λ rows. rows.items ≡ look_of (K.judge checker.now) self.now) }
+        ensures few_steps { RoseByAtMost (length self.now.network) steps.old steps.new }
+    {
+        let mut table = noughts(alloc, self.net.len())?;
+        let mut rows = Vec::with_capacity(alloc, self.net.len())?;
+        for i in 0..self.net.len() {
+            rows.push(self.look_at(alloc, i, &mut table, checker, steps)?)?;
+        }
+        Ok(rows)
+    }
+
+    /// The numbers of the ports of the node at place `i` whose held version is not the neighbour's
+    /// newest. The one error is want of memory, which does not come where there is no such port.
+    pub fn stale(&self, alloc: Global, i: usize) -> Result<PortNumbers, NoMemory>
+        requires { i < length self.now.network }
+        ensures ports { IfOk result (λ numbers. (row : NodeRow)
+            → slice_get self.now.network i ≡ Some row → numbers ≡ stale_in self.now row) }
+        ensures no_memory { OnErr result ((row : NodeRow)
+            → slice_get self.now.network i ≡ Some row → stale_in self.now row ≢ []) }
+    {
+        let numbers = self.versions.stale(alloc, i)?;
+        Ok(PortNumbers::from_vec(numbers))
+    }
+
+    // The identity, the outcome and the stale ports of the node at place i.
+    fn look_at<K: Checker>(
+        &self,
+        alloc: Global,
+        i: usize,
+        table: &mut Vec<u32>,
+        checker: &K,
+        steps: &mut Steps,
+    ) -> Result<(u32, Outcome, PortNumbers), NoMemory>
+        requires place { i < length self.now.network }
+        requires table { IsTable self.now table.old.items }
+        ensures table { IsTable self.now table.new.items }
+        ensures shows { IfOk result (λ shown. (row : NodeRow)
+            → slice_get self.now.network i ≡ Some row
+            → shown ≡ (
+              row.id,
+              outcome_in (K.judge checker.now) self.now row,
+              stale_in self.now row,
+            )) }
+        ensures few_steps { RoseByAtMost 1 steps.old steps.new }
+    {
+        let stale = self.stale(alloc, i)?;
+        let outcome = self.outcome_by(alloc, i, table, checker, steps)?;
+        Ok((self.net.node(i).0, outcome, stale))
+    }
+
+    // The outcome of the node at place i. What the node knows is written into a table.
+    fn outcome_by<K: Checker>(
+        &self,
+        alloc: Global,
+        i: usize,
+        table: &mut Vec<u32>,
+        checker: &K,
+        steps: &mut Steps,
+    ) -> Result<Outcome, NoMemory>
+        requires place { i < length self.now.network }
+        requires table { IsTable self.now table.old.items }
+        ensures table { IsTable self.now table.new.items }
+        ensures outcome { IfOk result (λ outcome. (row : NodeRow)
+            → slice_get self.now.network i ≡ Some row
+            → outcome ≡ outcome_in (K.judge checker.now) self.now row) }
+        ensures few_steps { RoseByAtMost 1 steps.old steps.new }
+    {
+        let numbers = self.versions.unheard(alloc, i)?;
+        if !numbers.is_empty() {
+            return Ok(Outcome::Waiting(PortNumbers::from_vec(numbers)));
+        }
+        self.know(i, table);
+        let verdict = self.verdict(alloc, i, table.as_slice(), checker, steps)?;
+        Ok(Outcome::Decided(verdict))
+    }
+
+    // Writes into a table the number of the own newest label of the node at place i, and at the
+    // places of its neighbours those of the labels that it holds.
+    fn know(&self, i: usize, table: &mut Vec<u32>)
+        requires place { i < length self.now.network }
+        requires table { IsTable self.now table.old.items }
+        ensures table { IsTable self.now table.new.items }
+        ensures known { (row : NodeRow) → slice_get self.now.network i ≡ Some row
+            → IsKnown self.now i row table.new.items }
+    {
+        for port in 0..self.net.ports(i).len() {
+            self.know_port(i, port, table);
+        }
+        table[i] = self.versions.newest(i).1;
+    }
+
+    // Writes the number of the label that the node at place i holds at a port, if it holds one, at
+    // the place of the neighbour.
+    fn know_port(&self, i: usize, port: usize, table: &mut Vec<u32>)
+        requires place { i < length self.now.network }
+        requires port { IfSome (slice_get self.now.network i) (λ row. port < length row.ports) }
+        requires table { IsTable self.now table.old.items }
+        requires known { (row : NodeRow) → slice_get self.now.network i ≡ Some row
+            → AreKnown self.now.network (turns_of self.now.events) i row port table.old.items }
+        ensures table { IsTable self.now table.new.items }
+        ensures known { (row : NodeRow) → slice_get self.now.network i ≡ Some row
+            → AreKnown self.now.network (turns_of self.now.events) i row (port + 1)
+            table.new.items }
+    {
+        let Some((_, number)) = self.versions.held(i, port) else {
+            return;
+        };
+        table[self.net.places(i)[port] as usize] = number;
+    }
+
+    // The verdict on what the node at place i knows, where it has heard at all ports.
+    fn verdict<K: Checker>(
+        &self,
+        alloc: Global,
+        i: usize,
+        table: &[u32],
+        checker: &K,
+        steps: &mut Steps,
+    ) -> Result<Verdict, NoMemory>
+        requires place { i < length self.now.network }
+        requires table { IsTable self.now table.now }
+        requires known { (row : NodeRow) → slice_get self.now.network i ≡ Some row
+            → IsKnown self.now i row table.now }
+        ensures verdict { IfOk result (λ verdict. (row : NodeRow)
+            → slice_get self.now.network i ≡ Some row
+            → unheard self.now.network (plain_of (turns_of self.now.events)) row ≡ []
+            → verdict ≡ K.judge checker.now (seen (λ other. version_of_label self.now other
+            (known self.now.network (turns_of self.now.events) row.id other)) row)) }
+        ensures few_steps { RoseByAtMost 1 steps.old steps.new }
+    {
+        let labels = KnownLabels::of(&self.labels, table);
+        let view = View::of(alloc, self.net, &labels, i)?;
+        checker.verify(alloc, &view, steps)
+    }
+
+    /// Where no port of the node at place `i` is unheard or stale, its outcome is the judgement
+    /// with the newest labels of all nodes.
+    pub fn fresh_is_round<K: Checker>(&self, i: usize, checker: &K)
+        requires { i < length self.now.network }
+        ensures { (row : NodeRow) → slice_get self.now.network i ≡ Some row
+            → unheard self.now.network (plain_of (turns_of self.now.events)) row ≡ []
+            → stale_in self.now row ≡ []
+            → outcome_in (K.judge checker.now) self.now row
+            ≡ Outcome.Decided (K.judge checker.now (seen (λ other. version_of_label self.now other
+            (newest (turns_of self.now.events) other)) row)) }
+    {}
+}

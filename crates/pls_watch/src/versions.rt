@@ -1,0 +1,361 @@
+//! The versions that nodes have and hold of labels.
+
+ghost use Rattle.std.specs.Prelude.{◌≡◌, ◌≢◌, ◌<◌, ◌≤◌, ℕ, [], cond, false, length, max, option_map, replicate, slice_get, IfErr, IfOk, IfSome, OnErr, OnOk, None, Some};
+ghost use Rattle.std.specs.List.{AllByRecursion};
+ghost use Rattle.pls_model.specs.declared.limits.TheConstants.{MAX_LINES};
+ghost use Rattle.pls_model.specs.declared.row.NodeRow.{NodeRow};
+ghost use Rattle.pls_model.specs.declared.row.Port.{Port};
+ghost use Rattle.pls_sim.specs.Applying.{names_no_node, names_no_port};
+ghost use Rattle.pls_sim.specs.Schedule.{emits_of, unheard};
+ghost use Rattle.pls_sim.specs.inner.Kept.{NamesEmit};
+ghost use Rattle.pls_watch.specs.Versions.{held, is_fresh, newest, plain_of, stale};
+ghost use Rattle.pls_watch.specs.Turning.{turn_refusal, turning};
+ghost use Rattle.pls_watch.specs.inner.Held.{AreBoth};
+ghost use Rattle.pls_watch.specs.inner.Numbers.{ArePlaces, IsLabel, IsOneOf};
+
+use crate::turn::Turn;
+use pls_base::NoMemory;
+use pls_graph::Network;
+use pls_schedule::Event;
+use pls_sim::{EventError, Sim};
+use std::alloc::Global;
+use std::marker::Model;
+
+/// The versions that nodes have and hold, seen as the network, how many turns are taken in all, and
+/// the list of those that were taken.
+#[derive(Drop)]
+pub(crate) struct Versions<'n> {
+    net: &'n Network,
+    sim: Sim<'n>,
+    most: usize,
+    turns: Vec<Turn>,
+    // For each node its newest version, and the number of that label.
+    newest: Vec<u32>,
+    newest_labels: Vec<u32>,
+    // For each emit the version that it carries, the number of that label, and the place of the
+    // node to which it goes.
+    carried: Vec<u32>,
+    carried_labels: Vec<u32>,
+    ends: Vec<u32>,
+    // For each port, numbered through, the version that is held and the number of that label, where
+    // something was heard.
+    held: Vec<u32>,
+    held_labels: Vec<u32>,
+    // For each label that was given the number of the one that its node had before.
+    earlier: Vec<u32>,
+}
+
+impl<'n> Model for Versions<'n> {
+    ghost use Rattle.std.specs.Vec.{vec_capacity};
+    ghost use Rattle.pls_watch.specs.Turning.{Turned};
+    ghost use Rattle.pls_watch.specs.inner.Held.{AreKept, IsRound, Rooms};
+    ghost use Rattle.pls_watch.specs.inner.Numbers.{AreNumbered, NumberRooms};
+
+    ghost Value = { Turned };
+
+    ghost view = { λ watch. record {
+      network = watch.net.now;
+      most = watch.most;
+      turns = watch.turns.items;
+    } };
+
+    ghost invariant = { λ watch. IsRound watch.net.now watch.most watch.turns.items watch.sim
+        × AreKept watch.net.now watch.turns.items watch.newest.items watch.carried.items
+        watch.ends.items watch.held.items
+        × Rooms watch.most watch.turns.items (vec_capacity watch.turns)
+        (vec_capacity watch.carried) (vec_capacity watch.ends)
+        × AreNumbered watch.net.now watch.turns.items watch.newest_labels.items
+        watch.carried_labels.items watch.held_labels.items watch.earlier.items
+        × NumberRooms watch.most (vec_capacity watch.carried_labels)
+        (vec_capacity watch.earlier) };
+}
+
+impl<'n> Versions<'n> {
+    /// No turn was taken, and nothing has been heard. The one error is want of memory.
+    pub(crate) fn start(
+        alloc: Global,
+        net: &'n Network,
+        most: usize,
+    ) -> Result<Versions<'n>, NoMemory>
+        requires few { most ≤ MAX_LINES }
+        ensures network { IfOk result (λ watch. watch.network ≡ net.now) }
+        ensures most { IfOk result (λ watch. watch.most ≡ most) }
+        ensures none { IfOk result (λ watch. watch.turns ≡ []) }
+    {
+        let sim = Sim::start(alloc, net, most)?;
+        let held = noughts(alloc, sim.ports())?;
+        let held_labels = noughts(alloc, sim.ports())?;
+        Ok(Versions {
+            net,
+            sim,
+            most,
+            turns: Vec::with_capacity(alloc, most)?,
+            newest: noughts(alloc, net.len())?,
+            newest_labels: places_of(alloc, net)?,
+            carried: Vec::with_capacity(alloc, most)?,
+            carried_labels: Vec::with_capacity(alloc, most)?,
+            ends: Vec::with_capacity(alloc, most)?,
+            held,
+            held_labels,
+            earlier: Vec::with_capacity(alloc, most)?,
+        })
+    }
+
+    /// Takes one more turn, in constant time but for the search of an identity, and without memory.
+    /// A turn that does not apply changes nothing.
+    pub(crate) fn step(&mut self, turn: Turn) -> Result<(), EventError>
+        ensures taken { OnOk result (self.new ≡ turning turn self.old) }
+        ensures applies { OnOk result (turn_refusal self.old turn ≡ None) }
+        ensures refused { IfErr result (λ error. turn_refusal self.old turn ≡ Some error) }
+        ensures unchanged { OnErr result (self.new ≡ self.old) }
+    {
+        if self.turns.len() >= self.most {
+            return Err(EventError::Full);
+        }
+        match turn {
+            Turn::Plain(Event::Emit { node, port }) => self.emit(node, port),
+            Turn::Plain(Event::Arrive(number)) => self.arrive(number),
+            Turn::Plain(Event::Restart(node)) => self.restart(node),
+            Turn::Relabel(node) => self.relabel(node),
+        }
+    }
+
+    // Takes an emit.
+    fn emit(&mut self, node: u32, port: u32) -> Result<(), EventError>
+        requires { length self.old.turns < self.old.most }
+        ensures taken { OnOk result
+            (self.new ≡ turning (Turn.Plain (Event.Emit node port)) self.old) }
+        ensures applies { OnOk result
+            (turn_refusal self.old (Turn.Plain (Event.Emit node port)) ≡ None) }
+        ensures refused { IfErr result (λ error.
+            turn_refusal self.old (Turn.Plain (Event.Emit node port)) ≡ Some error) }
+        ensures unchanged { OnErr result (self.new ≡ self.old) }
+    {
+        self.sim.step(Event::Emit { node, port })?;
+        let (from, to) = ends_of(self.net, node, port);
+        self.carried.push_reserved(self.newest[from]);
+        self.carried_labels.push_reserved(self.newest_labels[from]);
+        self.ends.push_reserved(to);
+        self.turns
+            .push_reserved(Turn::Plain(Event::Emit { node, port }));
+        Ok(())
+    }
+
+    // Takes an arrive.
+    fn arrive(&mut self, number: u32) -> Result<(), EventError>
+        requires { length self.old.turns < self.old.most }
+        ensures taken { OnOk result
+            (self.new ≡ turning (Turn.Plain (Event.Arrive number)) self.old) }
+        ensures applies { OnOk result
+            (turn_refusal self.old (Turn.Plain (Event.Arrive number)) ≡ None) }
+        ensures refused { IfErr result (λ error.
+            turn_refusal self.old (Turn.Plain (Event.Arrive number)) ≡ Some error) }
+        ensures unchanged { OnErr result (self.new ≡ self.old) }
+    {
+        if number == 0 || number as usize > self.carried.len() {
+            return Err(EventError::NoEmit);
+        }
+        let place = number as usize - 1;
+        let at = self.sim.arrives_at(number);
+        let heard = self.sim.heard_at(self.ends[place] as usize, at);
+        self.sim.step(Event::Arrive(number))?;
+        let came = (self.carried[place], self.carried_labels[place]);
+        let (version, label) = later(heard, (self.held[at], self.held_labels[at]), came);
+        self.held[at] = version;
+        self.held_labels[at] = label;
+        self.turns.push_reserved(Turn::Plain(Event::Arrive(number)));
+        Ok(())
+    }
+
+    // Takes a restart: what is held counts no more, since nothing was heard. No port is walked.
+    fn restart(&mut self, node: u32) -> Result<(), EventError>
+        requires { length self.old.turns < self.old.most }
+        ensures taken { OnOk result
+            (self.new ≡ turning (Turn.Plain (Event.Restart node)) self.old) }
+        ensures applies { OnOk result
+            (turn_refusal self.old (Turn.Plain (Event.Restart node)) ≡ None) }
+        ensures refused { IfErr result (λ error.
+            turn_refusal self.old (Turn.Plain (Event.Restart node)) ≡ Some error) }
+        ensures unchanged { OnErr result (self.new ≡ self.old) }
+    {
+        self.sim.step(Event::Restart(node))?;
+        self.turns.push_reserved(Turn::Plain(Event::Restart(node)));
+        Ok(())
+    }
+
+    // Takes a relabel.
+    fn relabel(&mut self, node: u32) -> Result<(), EventError>
+        requires { length self.old.turns < self.old.most }
+        ensures taken { OnOk result (self.new ≡ turning (Turn.Relabel node) self.old) }
+        ensures applies { OnOk result (turn_refusal self.old (Turn.Relabel node) ≡ None) }
+        ensures refused { IfErr result
+            (λ error. turn_refusal self.old (Turn.Relabel node) ≡ Some error) }
+        ensures unchanged { OnErr result (self.new ≡ self.old) }
+    {
+        let Some(place) = self.net.place_of(node) else {
+            return Err(EventError::NoNode);
+        };
+        let number = self.net.len() + self.earlier.len();
+        self.earlier.push_reserved(self.newest_labels[place]);
+        self.newest[place] += 1;
+        self.newest_labels[place] = number as u32;
+        self.turns.push_reserved(Turn::Relabel(node));
+        Ok(())
+    }
+
+    /// The newest version of the label of the node at place `i`, and the number of that label.
+    pub(crate) fn newest(&self, i: usize) -> (u32, u32)
+        requires { i < length self.now.network }
+        ensures version { (row : NodeRow) → slice_get self.now.network i ≡ Some row
+            → result.0 ≡ newest self.now.turns row.id }
+        ensures label { (row : NodeRow) → slice_get self.now.network i ≡ Some row
+            → IsLabel self.now.network self.now.turns row.id result.0 result.1 }
+    {
+        (self.newest[i], self.newest_labels[i])
+    }
+
+    /// The numbers of emits that arrived are those of emits.
+    pub(crate) fn numbered(&self)
+        ensures { AllByRecursion (NamesEmit (length (emits_of (plain_of self.now.turns))))
+            (plain_of self.now.turns) }
+    {
+        let _ = self.turns.len();
+    }
+
+    /// What the node at place `i` holds at its port of this number: the version of the neighbour's
+    /// label, and the number of that label; `None` where it has not heard there.
+    pub(crate) fn held(&self, i: usize, port: usize) -> Option<(u32, u32)>
+        requires place { i < length self.now.network }
+        requires port { IfSome (slice_get self.now.network i) (λ row. port < length row.ports) }
+        ensures version { (row : NodeRow) (at : Port) → slice_get self.now.network i ≡ Some row
+            → slice_get row.ports port ≡ Some at
+            → option_map (λ label. label.0) result
+            ≡ held self.now.network self.now.turns row.id at.nbr }
+        ensures label { IfSome result (λ label. (row : NodeRow) (at : Port)
+            → slice_get self.now.network i ≡ Some row → slice_get row.ports port ≡ Some at
+            → IsLabel self.now.network self.now.turns at.nbr label.0 label.1) }
+    {
+        if !self.sim.heard(i, port) {
+            return None;
+        }
+        let number = self.sim.number_of(i, port);
+        Some((self.held[number], self.held_labels[number]))
+    }
+
+    /// Whether what the node at place `i` holds at its port of this number is the newest, if it
+    /// holds something.
+    pub(crate) fn is_fresh(&self, i: usize, port: usize) -> bool
+        requires place { i < length self.now.network }
+        requires port { IfSome (slice_get self.now.network i) (λ row. port < length row.ports) }
+        ensures { (row : NodeRow) (at : Port) → slice_get self.now.network i ≡ Some row
+            → slice_get row.ports port ≡ Some at
+            → result ≡ is_fresh self.now.network self.now.turns row.id at.nbr }
+    {
+        let newest = self.newest_beside(i, port);
+        match self.held(i, port) {
+            Some((version, _)) => version == newest,
+            None => true,
+        }
+    }
+
+    // The newest version of the label of the neighbour at a port.
+    fn newest_beside(&self, i: usize, port: usize) -> u32
+        requires place { i < length self.now.network }
+        requires port { IfSome (slice_get self.now.network i) (λ row. port < length row.ports) }
+        ensures { (row : NodeRow) (at : Port) → slice_get self.now.network i ≡ Some row
+            → slice_get row.ports port ≡ Some at → result ≡ newest self.now.turns at.nbr }
+    {
+        self.newest[self.net.places(i)[port] as usize]
+    }
+
+    /// The numbers of the stale ports of the node at place `i`, in rising order. The one error is
+    /// want of memory, which does not come where there is no such port.
+    pub(crate) fn stale(&self, alloc: Global, i: usize) -> Result<Vec<u32>, NoMemory>
+        requires { i < length self.now.network }
+        ensures ports { IfOk result (λ numbers. (row : NodeRow)
+            → slice_get self.now.network i ≡ Some row
+            → numbers.items ≡ stale self.now.network self.now.turns row) }
+        ensures no_memory { OnErr result ((row : NodeRow) → slice_get self.now.network i ≡ Some row
+            → stale self.now.network self.now.turns row ≢ []) }
+    {
+        let mut numbers = Vec::new(alloc);
+        for port in 0..self.net.ports(i).len() {
+            if self.is_fresh(i, port) {
+                continue;
+            }
+            numbers.push(port as u32)?;
+        }
+        Ok(numbers)
+    }
+
+    /// The numbers of the ports at which the node at place `i` has not heard since its last
+    /// restart, in rising order. The one error is want of memory, which does not come where there
+    /// is no such port.
+    pub(crate) fn unheard(&self, alloc: Global, i: usize) -> Result<Vec<u32>, NoMemory>
+        requires { i < length self.now.network }
+        ensures ports { IfOk result (λ numbers. (row : NodeRow)
+            → slice_get self.now.network i ≡ Some row
+            → numbers.items ≡ unheard self.now.network (plain_of self.now.turns) row) }
+        ensures no_memory { OnErr result ((row : NodeRow) → slice_get self.now.network i ≡ Some row
+            → unheard self.now.network (plain_of self.now.turns) row ≢ []) }
+    {
+        self.sim.unheard(alloc, i)
+    }
+
+    /// The number of a version of the label of the node at place `i`, in as many steps as there are
+    /// later ones.
+    pub(crate) fn number_of(&self, i: usize, version: u64) -> u32
+        requires place { i < length self.now.network }
+        requires version { (row : NodeRow) → slice_get self.now.network i ≡ Some row
+            → version ≤ newest self.now.turns row.id }
+        ensures { (row : NodeRow) → slice_get self.now.network i ≡ Some row
+            → IsLabel self.now.network self.now.turns row.id version result }
+    {
+        let (mut at, mut number) = self.newest(i);
+        while at as u64 > version {
+            number = self.earlier[number as usize - self.net.len()];
+            at -= 1;
+        }
+        number
+    }
+}
+
+// The later of two versions, or the second where nothing was heard, each with its label.
+fn later(heard: bool, old: (u32, u32), came: (u32, u32)) -> (u32, u32)
+    ensures version { result.0 ≡ cond heard (max old.0 came.0) came.0 }
+    ensures label { IsOneOf heard old.0 old.1 came.0 came.1 result.0 result.1 }
+{
+    if heard && old.0 > came.0 { old } else { came }
+}
+
+// That many noughts.
+pub(crate) fn noughts(alloc: Global, count: usize) -> Result<Vec<u32>, NoMemory>
+    ensures { IfOk result (λ list. list.items ≡ replicate count 0) }
+{
+    Ok(vec![in alloc; 0; count]?)
+}
+
+// The place of each node.
+fn places_of(alloc: Global, net: &Network) -> Result<Vec<u32>, NoMemory>
+    ensures { IfOk result (λ places. ArePlaces (length net.now) places.items) }
+{
+    let mut places = Vec::with_capacity(alloc, net.len())?;
+    for i in 0..net.len() {
+        places.push(i as u32)?;
+    }
+    Ok(places)
+}
+
+// The places of the nodes from and to which an emit goes.
+fn ends_of(net: &Network, node: u32, port: u32) -> (usize, u32)
+    requires node { names_no_node net.now (Event.Emit node port) ≡ false }
+    requires port { names_no_port net.now (Event.Emit node port) ≡ false }
+    ensures { AreBoth net.now node port result.0 result.1 }
+{
+    // A network is valid.
+    net.len();
+    match net.place_of(node) {
+        Some(place) => (place, net.places(place)[port as usize]),
+        None => (0, 0),
+    }
+}

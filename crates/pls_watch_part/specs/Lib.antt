@@ -1,0 +1,3 @@
+pub mod WatchText
+pub mod inner
+pub mod laws

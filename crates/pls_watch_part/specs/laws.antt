@@ -1,0 +1,2 @@
+-- The laws of the line and of the part.
+pub mod WatchLaws

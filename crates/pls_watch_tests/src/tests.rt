@@ -1,0 +1,74 @@
+//! Tests of labels that change while messages are under way.
+
+mod plain;
+mod rows;
+mod texts;
+
+ghost use Rattle.std.specs.Prelude.{◌≡◌, IfOk, length};
+
+use pls_base::{Steps, TextError};
+use pls_bits::Gamma;
+use pls_colour::Bipartite;
+use pls_graph::Network;
+use pls_labelfile::read_labels;
+use pls_model::Verdict;
+use pls_netfile::read_network;
+use pls_sim::{Outcome, PortNumbers};
+use pls_view::LabelStore;
+use pls_watch::Watch;
+use std::alloc::Global;
+use std::test::Fail;
+
+// The network of a text.
+fn network(alloc: Global, text: &str) -> Result<Network, Fail> {
+    match read_network(alloc, text.as_bytes()) {
+        Ok(net) => Ok(net),
+        Err(_) => Err(Fail::from("no network")),
+    }
+}
+
+// The labels of a text, one for each node of a network.
+fn labels(alloc: Global, net: &Network, text: &str) -> Result<LabelStore, Fail>
+    ensures { IfOk result (λ labels. length labels ≡ length net.now) }
+{
+    match read_labels(alloc, text.as_bytes(), net) {
+        Ok((_, labels)) => Ok(labels),
+        Err(_) => Err(Fail::from("no labels")),
+    }
+}
+
+// Each of these ports as a bit of a number.
+fn bits_of(ports: &PortNumbers) -> u32 {
+    let mut bits = 0_u32;
+    for port in ports.as_slice() {
+        bits |= 1_u32.wrapping_shl(*port);
+    }
+    bits
+}
+
+// What a look shows of a node: its identity, 0 where it accepts, 1 where it rejects, and 2 where it
+// waits, the ports for which it waits, and its stale ports.
+type Shown = (u32, u32, u32, u32);
+
+// What a look shows of all nodes, where labels are colours.
+fn look(alloc: Global, watch: &Watch<'_>) -> Result<Vec<Shown>, Fail> {
+    let rows = watch.outcomes(alloc, &Bipartite::<Gamma>::new(), &mut Steps::new())?;
+    let mut shown = Vec::new(alloc);
+    for (id, outcome, stale) in &rows {
+        let (kind, waits) = match outcome {
+            Outcome::Decided(Verdict::Accept) => (0, 0),
+            Outcome::Decided(Verdict::Reject { leaf: _, rule: _ }) => (1, 0),
+            Outcome::Waiting(ports) => (2, bits_of(ports)),
+        };
+        shown.push((*id, kind, waits, bits_of(stale)))?;
+    }
+    Ok(shown)
+}
+
+// The line where a text is not of its form, and 0 where that is not what is wrong with it.
+fn line_of<T>(read: &Result<T, TextError>) -> u64 {
+    match read {
+        Err(TextError::Form(line)) => *line,
+        _ => 0,
+    }
+}

@@ -1,0 +1,127 @@
+//! Worked rows on two nodes.
+
+use super::{Shown, labels, look, network};
+use pls_lines::Lines;
+use pls_sim::EventError;
+use pls_watch::Watch;
+use pls_watch_part::{WatchLine, scan_watch};
+use std::alloc::Global;
+use std::test::Fail;
+
+// Two linked nodes, and their colours.
+const PAIR: &str = "network\nnode 1 - 0 0\nport 2 1\nnode 2 - 0 0\nport 1 1\nend\n";
+
+const COLOURS: &str = "labels\nlabel 1 1 00\nlabel 2 1 80\nend\n";
+
+// The lines of a part, and what the last look shows.
+const ROWS: &[(&str, &[Shown])] = &[
+    ("look\n", &[(1, 2, 1, 0), (2, 2, 1, 0)]),
+    (
+        "emit 1 0\nemit 2 0\narrive 1\narrive 2\nrelabel 1 1 80\nlook\n",
+        &[(1, 1, 0, 0), (2, 0, 0, 1)],
+    ),
+    (
+        "emit 1 0\nrelabel 1 1 80\nrelabel 2 1 00\nemit 1 0\nemit 2 0\narrive 3\narrive 2\narrive 1\nlook\n",
+        &[(1, 0, 0, 0), (2, 0, 0, 0)],
+    ),
+    (
+        "relabel 2 1 00\nemit 1 0\narrive 1\nlook\nrestart 2\nlook\n",
+        &[(1, 2, 1, 0), (2, 2, 1, 0)],
+    ),
+    (
+        "emit 1 0\narrive 1\nrelabel 2 1 00\nrestart 1\narrive 1\nlook\n",
+        &[(1, 2, 1, 0), (2, 1, 0, 0)],
+    ),
+];
+
+// What the last look of a part shows.
+fn last_look(alloc: Global, lines: &str) -> Result<Vec<Shown>, Fail> {
+    let net = network(alloc, PAIR)?;
+    let colours = labels(alloc, &net, COLOURS)?;
+    let text = format!(in alloc; "watch\n{lines}end\n")?;
+    let Ok(part) = scan_watch(&mut Lines::new(text.as_bytes())) else {
+        return Err(Fail::from("refused"));
+    };
+    let Ok(list) = part.list(alloc) else {
+        return Err(Fail::from("no list"));
+    };
+    let mut watch = Watch::start(alloc, &net, &colours, 100, 10, 100)?;
+    let mut shown = Vec::new(alloc);
+    for line in &list {
+        match line {
+            WatchLine::Event(event) => watch.step(event)?,
+            WatchLine::Look => shown = look(alloc, &watch)?,
+        }
+    }
+    Ok(shown)
+}
+
+#[test]
+fn rows_on_two_nodes(rt: HostRuntime) -> Result<(), Fail> {
+    for (lines, shown) in ROWS {
+        assert!(rt;
+            last_look(rt.alloc(), lines)?.as_slice() == *shown,
+            "the rows of {lines}"
+        );
+    }
+    Ok(())
+}
+
+// Lines whose last event is refused, and why, where at most five events, two relabels and three
+// bits are taken.
+const REFUSED: &[(&str, EventError)] = &[
+    ("arrive 1\nlook\n", EventError::NoEmit),
+    ("arrive 0\nlook\n", EventError::NoEmit),
+    ("emit 1 0\narrive 2\nlook\n", EventError::NoEmit),
+    ("emit 3 0\nlook\n", EventError::NoNode),
+    ("emit 1 1\nlook\n", EventError::NoPort),
+    ("restart 3\nlook\n", EventError::NoNode),
+    ("relabel 3 1 80\nlook\n", EventError::NoNode),
+    (
+        "relabel 1 1 80\nrelabel 1 1 80\nrelabel 9 1 80\nlook\n",
+        EventError::Full,
+    ),
+    ("relabel 1 2 80\nrelabel 1 2 80\nlook\n", EventError::Full),
+    (
+        "restart 1\nrestart 1\nrestart 1\nrestart 1\nrestart 1\nrestart 9\nlook\n",
+        EventError::Full,
+    ),
+];
+
+// Why an event of a part is refused, and whether the look behind it shows what the one before it
+// does.
+fn refusal(alloc: Global, lines: &str) -> Result<Option<EventError>, Fail> {
+    let net = network(alloc, PAIR)?;
+    let colours = labels(alloc, &net, COLOURS)?;
+    let text = format!(in alloc; "watch\n{lines}end\n")?;
+    let Ok(part) = scan_watch(&mut Lines::new(text.as_bytes())) else {
+        return Err(Fail::from("refused"));
+    };
+    let Ok(list) = part.list(alloc) else {
+        return Err(Fail::from("no list"));
+    };
+    let mut watch = Watch::start(alloc, &net, &colours, 5, 2, 3)?;
+    for line in &list {
+        if let WatchLine::Event(event) = line {
+            let before = look(alloc, &watch)?;
+            if let Err(error) = watch.step(event) {
+                if look(alloc, &watch)?.as_slice() == before.as_slice() {
+                    return Ok(Some(error));
+                }
+                return Err(Fail::from("a refused event changed something"));
+            }
+        }
+    }
+    Ok(None)
+}
+
+#[test]
+fn refused_events_change_nothing(rt: HostRuntime) -> Result<(), Fail> {
+    for (lines, error) in REFUSED {
+        assert!(rt;
+            refusal(rt.alloc(), lines)? == Some(*error),
+            "the refusal of {lines}"
+        );
+    }
+    Ok(())
+}
