@@ -1,0 +1,4 @@
+pub mod Ring
+pub mod Crossing
+pub mod TwoRings
+pub mod inner

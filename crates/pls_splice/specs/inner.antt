@@ -1,0 +1,3 @@
+pub mod Round
+pub mod Keys
+pub mod Finding

@@ -1,0 +1,90 @@
+//! Crossing at worked examples.
+
+use super::{labels_of, plain_ring};
+use pls_graph::Network;
+use pls_splice::{Pair, Ring, cross, find, leaderless, two_rings, views_stay};
+use std::test::Fail;
+
+// Whether the node at place `i` has ports to these two and no other, of weight 1.
+fn has_ports(net: &Network, i: usize, first: u32, second: u32) -> bool {
+    if i >= net.len() {
+        return false;
+    }
+    let ports = net.ports(i);
+    ports.len() == 2
+        && ports[0].nbr == first
+        && ports[1].nbr == second
+        && ports[0].weight == 1
+        && ports[1].weight == 1
+}
+
+#[test]
+fn eight_nodes_in_two_colours_become_four_and_four(rt: HostRuntime) -> Result<(), Fail> {
+    let eight = plain_ring(rt.alloc(), 8)?;
+    let labels = labels_of(rt.alloc(), &[0, 1, 0, 1, 0, 1, 0, 1], 1)?;
+    let Ok(ring) = Ring::read(rt.alloc(), &eight) else {
+        return Err(Fail::from("no ring"));
+    };
+    if labels.len() != eight.len() {
+        return Err(Fail::from("not eight labels"));
+    }
+    let Some(pair) = find(rt.alloc(), &ring, &eight, &labels)? else {
+        return Err(Fail::from("no pair"));
+    };
+    assert!(rt;
+        pair == Pair {
+            first: 0,
+            second: 4
+        },
+        "edges 0 and 4"
+    );
+    let made = cross(rt.alloc(), &ring, &eight, &labels, pair)?;
+    let due = [
+        (6, 8),
+        (5, 3),
+        (2, 4),
+        (3, 5),
+        (4, 2),
+        (1, 7),
+        (6, 8),
+        (7, 1),
+    ];
+    for (i, ports) in due.iter().enumerate() {
+        assert!(rt;
+            has_ports(&made, i, ports.0, ports.1),
+            "the node at place {i}"
+        );
+    }
+    assert!(rt; made.len() == 8, "eight nodes");
+    views_stay(&ring, &eight, &labels, pair);
+    leaderless(&ring, &eight, &labels, pair);
+    two_rings(&ring, &eight, &labels, pair);
+    Ok(())
+}
+
+#[test]
+fn there_may_be_no_pair(rt: HostRuntime) -> Result<(), Fail> {
+    let cases = [
+        (6, &[0, 1, 0, 1, 0, 1][..], "six nodes in two colours"),
+        (8, &[0, 1, 2, 3, 4, 5, 6, 7][..], "eight labels"),
+        (
+            8,
+            &[0, 1, 2, 3, 0, 2, 1, 4][..],
+            "tails without their heads",
+        ),
+        (5, &[0, 0, 0, 0, 0][..], "two nodes at most on a side"),
+    ];
+    for (count, words, message) in &cases {
+        let net = plain_ring(rt.alloc(), *count)?;
+        let labels = labels_of(rt.alloc(), *words, 3)?;
+        let Ok(ring) = Ring::read(rt.alloc(), &net) else {
+            return Err(Fail::from("no ring"));
+        };
+        if labels.len() != net.len() {
+            return Err(Fail::from("not as many labels"));
+        }
+        let found = find(rt.alloc(), &ring, &net, &labels)?;
+        assert!(rt; found.is_none(), "{message}");
+    }
+    Ok(())
+}
