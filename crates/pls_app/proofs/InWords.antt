@@ -1,9 +1,10 @@
 -- What a command is that some words are.
-use Rattle.std.proofs.Common.{◌≡◌, Bool, true, false, List, ℕ, codes, bytes_eq, Option, Some, None, option_and_then, if◌then◌else◌, refl}
+use Rattle.std.proofs.Common.{◌≡◌, Bool, true, false, List, ℕ, codes, bytes_eq, Option, Some, None, option_and_then, if◌then◌else◌, refl, subst}
+use Rattle.std.proofs.lemmas.Option.{same_Some}
 use Rattle.std.specs.Option.{IsSome}
 use Rattle.pls_property.specs.Expression.{Expression, IsSmall}
 use Rattle.pls_names.specs.declared.scheme_name.SchemeName.{SchemeName}
-use Rattle.pls_names.specs.declared.scheme_name.SchemeName.TheVariants.{Acyclic, Bipartite, Count, Forest, Leader, MinimumSpanningTree, ShortestPathTree, Tree}
+use Rattle.pls_names.specs.declared.scheme_name.SchemeName.TheVariants.{Acyclic, Bipartite, Count, Forest, Leader, ShortestPathTree, Tree}
 use Rattle.pls_builtin.specs.Builtin.{name_with_set, set_of_name}
 use Rattle.pls_words.specs.Words.{Said}
 use Rattle.pls_app.specs.declared.command.Command.TheVariants.{Print, Trial, With}
@@ -18,40 +19,35 @@ small_scheme task scheme said = said.1.is.2
 pub trial_size : (nodes seed : ℕ) → IsInWords (Trial nodes seed) → IsTrialSize nodes seed
 trial_size nodes seed said = said.1.is.size
 
--- no word names the set of `mst`
-no_lightest : (a b c d e f g : Bool)
+-- a set that stands under one name stands under another that is the same
+same_set : (one other : SchemeName) → Some one ≡ Some other → IsSome (set_of_name one)
+    → IsSome (set_of_name other)
+same_set one other same has =
+    subst (λ (name : SchemeName). IsSome (set_of_name name)) (same_Some one other same) has
+
+-- a name that a word names has a set
+has_set : (a b c d e f g : Bool) (name : SchemeName)
     → (if a then Some Leader else (if b then Some Tree else (if c then Some Forest
     else (if d then Some ShortestPathTree else (if e then Some Bipartite
     else (if f then Some Acyclic else (if g then Some Count else None)))))))
-    ≡ Some MinimumSpanningTree → ⊥
-no_lightest true b c d e f g is = cc
-no_lightest false true c d e f g is = cc
-no_lightest false false true d e f g is = cc
-no_lightest false false false true e f g is = cc
-no_lightest false false false false true f g is = cc
-no_lightest false false false false false true g is = cc
-no_lightest false false false false false false true is = cc
-no_lightest false false false false false false false is = cc
-
--- a name that a word names has a set
-has_set : (name : SchemeName) → (name ≡ MinimumSpanningTree → ⊥) → IsSome (set_of_name name)
-has_set Leader other = refl
-has_set Tree other = refl
-has_set Forest other = refl
-has_set ShortestPathTree other = refl
-has_set Bipartite other = refl
-has_set Acyclic other = refl
-has_set Count other = refl
-has_set MinimumSpanningTree other = absurd (other refl)
+    ≡ Some name → IsSome (set_of_name name)
+has_set true b c d e f g name is = same_set Leader name is refl
+has_set false true c d e f g name is = same_set Tree name is refl
+has_set false false true d e f g name is = same_set Forest name is refl
+has_set false false false true e f g name is = same_set ShortestPathTree name is refl
+has_set false false false false true f g name is = same_set Bipartite name is refl
+has_set false false false false false true g name is = same_set Acyclic name is refl
+has_set false false false false false false true name is = same_set Count name is refl
+has_set false false false false false false false name is = absurd (cc)
 
 named_set : (word : Option (List ℕ)) (name : SchemeName)
     → option_and_then name_with_set word ≡ Some name → IsSome (set_of_name name)
 named_set None name is = absurd (cc)
-named_set (Some word) name is = has_set name (λ lightest.
-    no_lightest (bytes_eq word (codes "leader")) (bytes_eq word (codes "tree"))
+named_set (Some word) name is =
+    has_set (bytes_eq word (codes "leader")) (bytes_eq word (codes "tree"))
     (bytes_eq word (codes "forest")) (bytes_eq word (codes "spt"))
     (bytes_eq word (codes "bipartite")) (bytes_eq word (codes "acyclic"))
-    (bytes_eq word (codes "count")) (rw lightest at is))
+    (bytes_eq word (codes "count")) name is
 
 pub printed_set : (name : SchemeName) → IsInWords (Print name) → IsSome (set_of_name name)
 printed_set name said = by said.1.said (bytes_eq said.1.said.command (codes "rules")) said.1.is

@@ -3,7 +3,7 @@ use Rattle.std.proofs.Common.{◌≡◌, ◌∙◌, ℕ, Bool, List, length, Opt
 use Rattle.std.proofs.lemmas.Option.{same_Some}
 use Rattle.pls_view.specs.Seen.{Seen}
 use Rattle.pls_names.specs.declared.scheme_name.SchemeName.{SchemeName}
-use Rattle.pls_names.specs.declared.scheme_name.SchemeName.TheVariants.{Acyclic, Bipartite, Count, Forest, Leader, MinimumSpanningTree, ShortestPathTree, Tree}
+use Rattle.pls_names.specs.declared.scheme_name.SchemeName.TheVariants.{Acyclic, Bipartite, Count, Forest, Leader, MinimumSpanningTree, PathMax, ShortestPathTree, Tree}
 use Rattle.pls_names.specs.Named.{judge_named}
 use Rattle.pls_rules.specs.RuleSet.{Rules}
 use Rattle.pls_compile.specs.RuleMeaning.{meaning}
@@ -37,3 +37,4 @@ named_agrees Bipartite view within =
 named_agrees Acyclic view within = by_set Acyclic acyclic_set view (acyclic_agrees view within)
 named_agrees Count view within = by_set Count count_set view (count_agrees view within)
 named_agrees MinimumSpanningTree view within = λ set is. absurd (cc)
+named_agrees PathMax view within = λ set is. absurd (cc)

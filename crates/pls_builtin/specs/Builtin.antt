@@ -4,7 +4,7 @@ use Rattle.pls_rules.specs.declared.field.Field.{Field}
 use Rattle.pls_numbers.specs.declared.kind.FieldKind.{FieldKind}
 use Rattle.pls_numbers.specs.declared.kind.FieldKind.TheVariants.{Num as Coded, Bit}
 use Rattle.pls_names.specs.declared.scheme_name.SchemeName.{SchemeName}
-use Rattle.pls_names.specs.declared.scheme_name.SchemeName.TheVariants.{Acyclic, Bipartite, Count, Forest, Leader, MinimumSpanningTree, ShortestPathTree, Tree}
+use Rattle.pls_names.specs.declared.scheme_name.SchemeName.TheVariants.{Acyclic, Bipartite, Count, Forest, Leader, MinimumSpanningTree, PathMax, ShortestPathTree, Tree}
 use Rattle.pls_rules.specs.Formula.{Eq, Lt, Le, Same, Both, Either, Not, All, Any, Number, Id, Mark, Num, Pointed, My, Up, UpWeight, Nb, NbWeight, Add, Sum}
 use Rattle.pls_rules.specs.RuleSet.{Rules, rules_of}
 
@@ -91,6 +91,7 @@ set_of_name Bipartite = Some bipartite_set
 set_of_name Acyclic = Some acyclic_set
 set_of_name Count = Some count_set
 set_of_name MinimumSpanningTree = None
+set_of_name PathMax = None
 
 -- the scheme whose name is a word that names a set too
 abbrev pub name_with_set : List ℕ → Option SchemeName

@@ -43,7 +43,7 @@ fn set_by_name(alloc: Global, name: SchemeName) -> Result<Option<RuleSet>, NoMem
         SchemeName::Bipartite => Ok(Some(bipartite(alloc)?)),
         SchemeName::Acyclic => Ok(Some(acyclic(alloc)?)),
         SchemeName::Count => Ok(Some(count(alloc)?)),
-        SchemeName::MinimumSpanningTree => Ok(None),
+        SchemeName::MinimumSpanningTree | SchemeName::PathMax => Ok(None),
     }
 }
 

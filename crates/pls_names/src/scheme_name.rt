@@ -8,6 +8,7 @@ pub use pls_colour::{Acyclic, Bipartite};
 pub use pls_distance::Spt;
 pub use pls_leader::{Count, Leader};
 pub use pls_mst::Mst;
+pub use pls_pathmax::PathMax;
 pub use pls_pointer::{Forest, Tree};
 
 /// The name of a basic scheme.
@@ -29,6 +30,9 @@ pub enum SchemeName {
     ShortestPathTree,
     /// `mst`: the pointers make a tree, and no spanning tree weighs less than its edges.
     MinimumSpanningTree,
+    /// `pathmax`: the same as `mst`, with labels that tell the greatest weights on the paths to
+    /// centroids.
+    PathMax,
 }
 
 /// The word that names a scheme.
@@ -44,11 +48,12 @@ pub fn name_of(name: SchemeName) -> &'static str
         SchemeName::Count => "count",
         SchemeName::ShortestPathTree => "spt",
         SchemeName::MinimumSpanningTree => "mst",
+        SchemeName::PathMax => "pathmax",
     }
 }
 
 // All names.
-pub(crate) fn all_names() -> [SchemeName; 8]
+pub(crate) fn all_names() -> [SchemeName; 9]
     ensures { result ≡ all_names }
 {
     [
@@ -60,6 +65,7 @@ pub(crate) fn all_names() -> [SchemeName; 8]
         SchemeName::Count,
         SchemeName::ShortestPathTree,
         SchemeName::MinimumSpanningTree,
+        SchemeName::PathMax,
     ]
 }
 
@@ -99,6 +105,10 @@ macro_rules! by_name {
             }
             $crate::SchemeName::MinimumSpanningTree => {
                 let $scheme = $crate::scheme_name::Mst::<$C>::new();
+                $done
+            }
+            $crate::SchemeName::PathMax => {
+                let $scheme = $crate::scheme_name::PathMax::<$C>::new();
                 $done
             }
         }

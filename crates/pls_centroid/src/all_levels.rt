@@ -1,0 +1,128 @@
+//! Level upon level, until each node has been a centroid.
+
+ghost use Rattle.std.specs.Prelude.{◌≡◌, ◌≤◌, ◌*◌, ◌^◌, All, None, length, map, slice_index_or, IfOk};
+ghost use Rattle.std.specs.List.{list_all};
+ghost use Rattle.pls_facts.specs.Parents.{NoParentsReturn};
+ghost use Rattle.pls_facts.specs.SpanningTree.{IsTree};
+ghost use Rattle.pls_search.specs.SubtreeSizes.{AreParentsWithin, HasParentAt};
+ghost use Rattle.pls_centroid.specs.Levels.{AreCentroidLists};
+ghost use Rattle.pls_centroid.specs.inner.Rooted.{AreBehindParents};
+ghost use Rattle.pls_centroid.specs.inner.Rounds.{AreAllRounds, AreListsOf, IsRooted, entries_at, said_on};
+
+use crate::centroid_list::CentroidList;
+use crate::level::CentroidLevel;
+use crate::rooted::{order_of, parents_of, weights_of};
+use crate::round::round_of;
+use pls_base::NoMemory;
+use pls_graph::Network;
+use pls_search::pointer_depths;
+use std::alloc::Global;
+
+/// The centroid levels of each node, in the order of the nodes, of a network whose pointers make a
+/// tree. A node of n has at most log2 n + 1 of them, rounded down. The one error is want of memory.
+pub fn centroid_levels(alloc: Global, net: &Network) -> Result<Vec<CentroidList>, NoMemory>
+    requires tree { IsTree net.now }
+    ensures levels { IfOk result (λ lists. AreCentroidLists net.now lists.items) }
+    ensures few { IfOk result (λ lists.
+        All (λ list. 2 ^ length list ≤ 2 * length net.now) lists.items) }
+{
+    let count = net.len();
+    let Some(depths) = pointer_depths(alloc, net)? else {
+        // No chain of pointers of a tree returns.
+        unreachable!()
+    };
+    let depths = depths.as_slice();
+    let order = order_of(alloc, depths)?;
+    let order = order.as_slice();
+    let parents = parents_of(alloc, net)?;
+    let parents = parents.as_slice();
+    let weights = weights_of(alloc, net)?;
+    let weights = weights.as_slice();
+    let rounds = all_rounds(alloc, net, order, parents, weights)?;
+    let rounds = rounds.as_slice();
+    let lists = lists_of(alloc, rounds, count)?;
+    Ok(lists)
+}
+
+// What the rounds say, one after another, until each node has been a centroid.
+fn all_rounds(
+    alloc: Global,
+    net: &Network,
+    order: &[usize],
+    parents: &[Option<usize>],
+    weights: &[u32],
+) -> Result<Vec<Vec<Option<CentroidLevel>>>, NoMemory>
+    requires rooted { IsRooted net.now parents.now weights.now }
+    requires few { length parents.now ≤ 32768 }
+    requires each { length parents.now ≡ length net.now }
+    requires weights { length weights.now ≡ length parents.now }
+    requires inside { AreParentsWithin parents.now }
+    requires never_returns { NoParentsReturn (HasParentAt parents.now) }
+    requires order { AreBehindParents parents.now order.now }
+    ensures { IfOk result (λ rounds.
+        AreAllRounds net.now (map (λ round. round.items) rounds.items)) }
+{
+    let mut rounds = Vec::new(alloc);
+    let mut taken = vec![in alloc; false; parents.len()]?;
+    for _ in 0..parents.len() {
+        if are_all(taken.as_slice()) {
+            return Ok(rounds);
+        }
+        let round = round_of(alloc, net, order, parents, weights, taken.as_slice())?;
+        rounds.push(round.said)?;
+        taken = round.taken;
+    }
+    Ok(rounds)
+}
+
+// Whether all places are taken away.
+fn are_all(taken: &[bool]) -> bool
+    ensures { result ≡ list_all (λ flag. flag) taken.now }
+{
+    taken.iter().all(|flag| *flag)
+}
+
+// For each of so many places what the rounds say of it.
+fn lists_of(
+    alloc: Global,
+    rounds: &[Vec<Option<CentroidLevel>>],
+    count: usize,
+) -> Result<Vec<CentroidList>, NoMemory>
+    ensures { IfOk result (λ lists. AreListsOf (map (λ round. round.items) rounds.now) count
+        lists.items) }
+{
+    let mut lists = Vec::with_capacity(alloc, count)?;
+    for place in 0..count {
+        lists.push(list_at(alloc, rounds, place)?)?;
+    }
+    Ok(lists)
+}
+
+// What the rounds say of a place, up to the first that says nothing.
+fn list_at(
+    alloc: Global,
+    rounds: &[Vec<Option<CentroidLevel>>],
+    place: usize,
+) -> Result<CentroidList, NoMemory>
+    ensures { IfOk result (λ list.
+        list ≡ said_on (entries_at (map (λ round. round.items) rounds.now) place)) }
+{
+    let mut levels = Vec::new(alloc);
+    for round in rounds {
+        let Some(level) = level_at(round.as_slice(), place) else {
+            return Ok(CentroidList::from_vec(levels));
+        };
+        levels.push(level)?;
+    }
+    Ok(CentroidList::from_vec(levels))
+}
+
+// What a round says of a place, and nothing where there is no such place.
+fn level_at(round: &[Option<CentroidLevel>], place: usize) -> Option<CentroidLevel>
+    ensures { result ≡ slice_index_or round.now place None }
+{
+    match round.get(place) {
+        Some(entry) => *entry,
+        None => None,
+    }
+}

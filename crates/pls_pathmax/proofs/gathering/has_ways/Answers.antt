@@ -1,0 +1,44 @@
+use Rattle.std.proofs.Common.{◌≡◌, ◌∙◌, ◌+◌, ◌||◌, ℕ, inl, inr, Bool, false, get_or, length, sym, ap, arith}
+use Rattle.std.proofs.lemmas.Bool.{cases_Bool}
+use Rattle.pls_scheme.specs.Reading.{reading}
+use Rattle.pls_centroid.specs.declared.level.CentroidLevel.{CentroidLevel}
+use Rattle.pls_pathmax.specs.declared.gathering.TheConstants.{WINDOW}
+use Rattle.pls_pathmax.specs.declared.label.PathMaxHead.{PathMaxHead}
+use Rattle.pls_pathmax.specs.inner.OnePass.{is_own_level}
+use Rattle.pls_pathmax.proofs.LevelsLeft.{nothing_behind, slice_get-behind}
+use Rattle.pls_pathmax.proofs.MorePorts.{led_on_many}
+use Rattle.pls_pathmax.proofs.Windows.{ways_fail, ways_hold}
+use Rattle.pls_pathmax.proofs.gathering.has_ways.Goals as goal
+
+pub returns-then-not-pass_levels : goal.returns-then-not-pass_levels
+returns-then-not-pass_levels g c id state mine ports said front flags =
+    let first : ℕ = c.args.first in
+    let missing = c.pass_levels.ensures.missing c.if-not-pass_levels.true mine.levels
+    (c.levels_of-numbers.ensures mine said) in
+    sym (ways_hold (reading id state mine ports) first c.args.led_on.now flags
+    (λ k level within at.
+    let none = nothing_behind mine.levels first (first + k) missing (omega arith) in
+    absurd (let wrong = sym none ∙ at in cc)))
+
+pub returns : goal.returns
+returns g c id state mine ports said front flags =
+    let first : ℕ = c.args.first in
+    let own : mine.own ≡ c.args.own.now.glance.now.own =
+    ap (λ (head : PathMaxHead). head.own) front in
+    let left = c.pass_levels.ensures.passed c.if-not-pass_levels.false mine.levels
+    (c.levels_of-numbers.ensures mine said) in
+    let many : length c.args.led_on.now ≡ WINDOW =
+    ap length flags ∙ led_on_many first (reading id state mine ports) in
+    let way_by : CentroidLevel → ℕ → ℕ → Bool =
+    λ level k name. is_own_level name level || get_or c.args.led_on.now k false in
+    elim (cases_Bool c.have_ways.result) [
+      | inl holds ↦ holds ∙ sym (ways_hold (reading id state mine ports) first c.args.led_on.now
+          flags (λ k level within at. ap (way_by level k) own
+          ∙ c.have_ways.ensures.hold holds _ left k level (omega (arith, within, many))
+          (slice_get-behind mine.levels first k ∙ at)))
+      | inr fails ↦
+          let (k, level, within, at, way) = c.have_ways.ensures.fail fails _ left in
+          fails ∙ sym (ways_fail (reading id state mine ports) first c.args.led_on.now flags k level
+          (omega (arith, within, many)) (sym (slice_get-behind mine.levels first k) ∙ at)
+          (ap (way_by level k) own ∙ way))
+    ]

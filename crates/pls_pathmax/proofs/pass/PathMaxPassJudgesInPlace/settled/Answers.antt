@@ -1,0 +1,9 @@
+use Rattle.std.proofs.Common.{◌≡◌, ◌∙◌, false, refl, sym}
+use Rattle.pls_scheme.specs.Reading.{reading}
+use Rattle.pls_pathmax.specs.Rules.{is_placed_in_tree}
+use Rattle.pls_pathmax.proofs.pass.PathMaxPassJudgesInPlace.settled.Goals as goal
+
+pub returns-else-is_placed : goal.returns-else-is_placed
+returns-else-is_placed g c label ports said glance above =
+    let placed : is_placed_in_tree (reading c.args.id c.args.state label ports) ≡ false =
+    sym (c.is_placed.ensures label ports glance above) ∙ c.if-is_placed.false in rw placed refl

@@ -1,0 +1,4 @@
+-- What private functions say to each other.
+pub mod Reading
+pub mod OnePass
+pub mod Making

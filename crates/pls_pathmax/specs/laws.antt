@@ -1,0 +1,10 @@
+-- What the laws of the scheme rest on: proofs, which nobody has to believe.
+pub mod LabelLaws
+pub mod Levelwise
+pub mod InTree
+pub mod Kept
+pub mod Passed
+pub mod Sound
+pub mod Met
+pub mod Fits
+pub mod PathMaxLaws

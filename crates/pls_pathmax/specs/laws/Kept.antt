@@ -1,0 +1,258 @@
+-- What the rules of `pathmax` say of labels that a function of the identity gives: the tests as
+-- facts, and the other way round.
+use Rattle.std.proofs.Common.{◌≡◌, ◌∙◌, ℕ, ◌+◌, ◌≤◌, ◌==◌, ◌⊎◌, inl, inr, nat_le, Bool, true, false, ◌&&◌, ◌||◌, map, slice_get, Contains, Option, Some, None, is_some, refl, sym, ap}
+use Rattle.std.specs.List.{enumerate_from, list_any, zip}
+use Rattle.std.specs.Option.{option_and_then, option_map, option_map_or}
+use Rattle.std.proofs.lemmas.Bool.{and_parts, eqb-true, leb-true, or_cases, true≢false}
+use Rattle.std.proofs.lemmas.Option.{slice_get-map}
+use Rattle.pls_model.specs.declared.row.Port.{Port}
+use Rattle.pls_model.specs.declared.row.NodeRow.{NodeRow}
+use Rattle.pls_graph.proofs.Finds.{from_option_map}
+use Rattle.pls_scheme.specs.Judging.{AllHold}
+use Rattle.pls_scheme.specs.Reading.{ReadPort, port_where, read_where, target}
+use Rattle.pls_scheme.proofs.SaidPorts.{passes_port}
+use Rattle.pls_facts.specs.Pointer.{pointed_port}
+use Rattle.pls_centroid.specs.declared.level.CentroidLevel.{CentroidLevel}
+use Rattle.pls_pathmax.specs.declared.label.PathMaxLabel.{PathMaxLabel}
+use Rattle.pls_pathmax.specs.Rules.{follows_target, has_way, is_heavy_outside, is_in_tree, is_root_of_tree, leads_on, leads_on_at, meet_lightly, other_edges_are_heavy, pathmax_rules}
+use Rattle.pls_pathmax.specs.laws.Levelwise.{PassAt, passes_from_0, some_from_0, some_place}
+
+-- whether the edge at a port is in the tree, as the two nodes tell
+abbrev pub said_in : (ℕ → PathMaxLabel) → NodeRow → ℕ → Port → Bool
+said_in say row number port = is_in_tree row.state.up (say row.id) number (port_where say port)
+
+-- at this port the neighbour has the level of this number, and it leads on
+pub record LeadsOn (say : ℕ → PathMaxLabel) (row : NodeRow) (number : ℕ) (mine : CentroidLevel)
+    : Type 0 where
+  pub place : ℕ
+  pub port : Port
+  pub theirs : CentroidLevel
+  pub at : slice_get row.ports place ≡ Some port
+  pub within : said_in say row place port ≡ true
+  pub has : slice_get (say port.nbr).levels number ≡ Some theirs
+  pub same : theirs.centroid ≡ mine.centroid
+  pub nearer : mine.hops ≡ theirs.hops + 1
+  pub light : theirs.greatest ≤ mine.greatest
+  pub also : port.weight ≤ mine.greatest
+
+-- on some level both nodes at a port have one centroid, and no greatest weight above that of the
+-- port
+pub record Meets (say : ℕ → PathMaxLabel) (row : NodeRow) (port : Port) : Type 0 where
+  pub number : ℕ
+  pub mine : CentroidLevel
+  pub theirs : CentroidLevel
+  pub at : slice_get (say row.id).levels number ≡ Some mine
+  pub there : slice_get (say port.nbr).levels number ≡ Some theirs
+  pub same : mine.centroid ≡ theirs.centroid
+  pub light : mine.greatest ≤ port.weight
+  pub also : theirs.greatest ≤ port.weight
+
+-- what the rules of a node say
+pub record KeepsRules (say : ℕ → PathMaxLabel) (row : NodeRow) : Type 0 where
+  -- it says its identity; without pointer it says that it is the root, at depth 0; else that it is
+  -- one deeper than the node that it points at, which is its parent
+  pub own : (say row.id).own ≡ row.id
+  pub top : row.state.up ≡ None → ((say row.id).depth ≡ 0) × ((say row.id).root ≡ row.id)
+      × ((say row.id).parent ≡ (say row.id).own)
+  pub below : (port : Port) → pointed_port row ≡ Some port
+      → ((say row.id).depth ≡ (say port.nbr).depth + 1)
+      × ((say row.id).parent ≡ (say port.nbr).own)
+  -- its neighbours say the same root
+  pub alike : (port : Port) → Contains row.ports port → (say port.nbr).root ≡ (say row.id).root
+  -- on each level it is the centroid, or some port leads on
+  pub onward : (number : ℕ) (mine : CentroidLevel) → slice_get (say row.id).levels number
+      ≡ Some mine
+      → ((mine.hops ≡ 0) × (mine.centroid ≡ (say row.id).own)) ⊎ LeadsOn say row number mine
+  -- at each port that is not in the tree, both nodes meet lightly
+  pub outside : (place : ℕ) (port : Port) → slice_get row.ports place ≡ Some port
+      → said_in say row place port ≡ false → Meets say row port
+
+module _ (say : ℕ → PathMaxLabel) (row : NodeRow) where
+  abbrev mine : PathMaxLabel
+  mine = say row.id
+
+  -- what is read at the port that the node points at
+  pub target_is : target (read_where say row) ≡ option_map (port_where say) (pointed_port row)
+  target_is = by row.state.up
+    where
+      by : (up : Option ℕ) → option_and_then (slice_get (map (port_where say) row.ports)) up
+          ≡ option_map (port_where say) (option_and_then (slice_get row.ports) up)
+      by None = refl
+      by (Some number) = slice_get-map (port_where say) row.ports number
+
+  -- what is asked of the port that it points at holds there
+  asked_of_target : (test : ReadPort PathMaxLabel → Bool)
+      → option_map_or test (target (read_where say row)) true ≡ true → (port : Port)
+      → pointed_port row ≡ Some port → test (port_where say port) ≡ true
+  asked_of_target test holds port pointed =
+      sym (ap (λ (read : Option (ReadPort PathMaxLabel)). option_map_or test read true)
+      (target_is ∙ ap (option_map (port_where say)) pointed)) ∙ holds
+
+  -- and the other way round
+  pub of_target : (test : ReadPort PathMaxLabel → Bool)
+      → ((port : Port) → pointed_port row ≡ Some port → test (port_where say port) ≡ true)
+      → option_map_or test (target (read_where say row)) true ≡ true
+  of_target test each =
+      ap (λ (read : Option (ReadPort PathMaxLabel)). option_map_or test read true) target_is
+      ∙ by (pointed_port row) refl
+    where
+      by : (pointed : Option Port) → pointed_port row ≡ pointed
+          → option_map_or test (option_map (port_where say) pointed) true ≡ true
+      by None is = refl
+      by (Some port) is = each port is
+
+  -- where the node has no pointer, what else is asked of it holds
+  pub without_pointer : (test : Bool) → (is_some row.state.up || test) ≡ true → row.state.up ≡ None
+      → test ≡ true
+  without_pointer test holds none = rw none at holds
+
+  -- a test of an item that is there
+  there_passes : (test : CentroidLevel → Bool) (found : Option CentroidLevel)
+      → option_map_or test found false ≡ true
+      → (level : CentroidLevel) × (found ≡ Some level) × (test level ≡ true)
+  there_passes test None passes = absurd (true≢false (sym passes))
+  there_passes test (Some level) passes = (level, refl, passes)
+
+  -- the port of a place, as it is read
+  pub read_at : (place : ℕ) (port : Port) → slice_get row.ports place ≡ Some port
+      → slice_get (map (port_where say) row.ports) place ≡ Some (port_where say port)
+  read_at place port at = slice_get-map (port_where say) row.ports place
+      ∙ ap (option_map (port_where say)) at
+
+  pub at_read : (place : ℕ) (read : ReadPort PathMaxLabel)
+      → slice_get (map (port_where say) row.ports) place ≡ Some read
+      → (port : Port) × (slice_get row.ports place ≡ Some port) × (port_where say port ≡ read)
+  at_read place read at = from_option_map (port_where say) (slice_get row.ports place) read
+      (sym (slice_get-map (port_where say) row.ports place) ∙ at)
+
+  -- the tests of rule 5, as facts
+  leads_from : (number : ℕ) (level : CentroidLevel) (place : ℕ) (port : Port)
+      → slice_get row.ports place ≡ Some port
+      → leads_on_at (read_where say row) number level place (port_where say port) ≡ true
+      → LeadsOn say row number level
+  leads_from number level place port at passes =
+      let parts = and_parts (said_in say row place port)
+      (option_map_or (leads_on level port.weight) (slice_get (say port.nbr).levels number) false)
+      passes in
+      let (theirs, has, leads) : (theirs : CentroidLevel)
+      × (slice_get (say port.nbr).levels number ≡ Some theirs)
+      × (leads_on level port.weight theirs ≡ true) =
+      there_passes (leads_on level port.weight) (slice_get (say port.nbr).levels number) parts.1 in
+      let first = and_parts (theirs.centroid == level.centroid) (level.hops == theirs.hops + 1
+      && (nat_le theirs.greatest level.greatest && nat_le port.weight level.greatest)) leads in
+      let second = and_parts (level.hops == theirs.hops + 1)
+      (nat_le theirs.greatest level.greatest && nat_le port.weight level.greatest) first.1 in
+      let third = and_parts (nat_le theirs.greatest level.greatest)
+      (nat_le port.weight level.greatest) second.1 in
+      record {
+        place = place;
+        port = port;
+        theirs = theirs;
+        at = at;
+        within = parts.0;
+        has = has;
+        same = eqb-true theirs.centroid level.centroid first.0;
+        nearer = eqb-true level.hops (theirs.hops + 1) second.0;
+        light = leb-true theirs.greatest level.greatest third.0;
+        also = leb-true port.weight level.greatest third.1;
+      }
+
+  way_from : (number : ℕ) (level : CentroidLevel)
+      → has_way (read_where say row) number level ≡ true
+      → ((level.hops ≡ 0) × (level.centroid ≡ mine.own)) ⊎ LeadsOn say row number level
+  way_from number level passes =
+      elim (or_cases (level.hops == 0 && level.centroid == mine.own)
+      (list_any (λ (numbered : ℕ × ReadPort PathMaxLabel).
+      leads_on_at (read_where say row) number level numbered.0 numbered.1)
+      (enumerate_from 0 (map (port_where say) row.ports))) passes) [
+        | inl own ↦
+            let parts = and_parts (level.hops == 0) (level.centroid == mine.own) own in
+            inl (eqb-true level.hops 0 parts.0, eqb-true level.centroid mine.own parts.1)
+        | inr some ↦
+            let (place, read, at, leads) : (place : ℕ) × (read : ReadPort PathMaxLabel)
+            × (slice_get (map (port_where say) row.ports) place ≡ Some read)
+            × (leads_on_at (read_where say row) number level place read ≡ true) =
+            some_from_0 (leads_on_at (read_where say row) number level)
+            (map (port_where say) row.ports) some in
+            let (port, has, is) : (port : Port) × (slice_get row.ports place ≡ Some port)
+            × (port_where say port ≡ read) = at_read place read at in
+            inr (leads_from number level place port has
+            (ap (leads_on_at (read_where say row) number level place) is ∙ leads))
+      ]
+
+  -- those of rule 6
+  pub meets_from : (place : ℕ) (port : Port) → slice_get row.ports place ≡ Some port
+      → is_heavy_outside (read_where say row) place (port_where say port) ≡ true
+      → said_in say row place port ≡ false → Meets say row port
+  meets_from place port at passes out =
+      elim (or_cases (said_in say row place port)
+      (list_any (λ (both : CentroidLevel × CentroidLevel). meet_lightly port.weight both.0 both.1)
+      (zip mine.levels (say port.nbr).levels)) passes) [
+        | inl within ↦ absurd (true≢false (sym within ∙ out))
+        | inr some ↦
+            let found : PassAt (meet_lightly port.weight) mine.levels (say port.nbr).levels =
+            some_place (meet_lightly port.weight) mine.levels (say port.nbr).levels some in
+            let first = and_parts (found.one.centroid == found.other.centroid)
+            (nat_le found.one.greatest port.weight && nat_le found.other.greatest port.weight)
+            found.passes in
+            let second = and_parts (nat_le found.one.greatest port.weight)
+            (nat_le found.other.greatest port.weight) first.1 in
+            record {
+              number = found.place;
+              mine = found.one;
+              theirs = found.other;
+              at = found.at;
+              there = found.there;
+              same = eqb-true found.one.centroid found.other.centroid first.0;
+              light = leb-true found.one.greatest port.weight second.0;
+              also = leb-true found.other.greatest port.weight second.1;
+            }
+      ]
+
+  -- rule 6 at the ports
+  pub heavy_meets : other_edges_are_heavy (read_where say row) ≡ true → (place : ℕ) (port : Port)
+      → slice_get row.ports place ≡ Some port → said_in say row place port ≡ false
+      → Meets say row port
+  heavy_meets heavy place port at out = meets_from place port at
+      (passes_from_0 (is_heavy_outside (read_where say row)) (map (port_where say) row.ports)
+      heavy place (port_where say port) (read_at place port at)) out
+
+  -- the tests give what the rules say
+  pub kept_rules : AllHold (pathmax_rules (read_where say row)) → KeepsRules say row
+  kept_rules hold = record {
+    own = eqb-true mine.own row.id placed.0;
+    top = λ none.
+        let root = and_parts (mine.depth == 0) (mine.root == row.id && mine.parent == mine.own)
+        (without_pointer (is_root_of_tree (read_where say row)) placed.1 none) in
+        let names = and_parts (mine.root == row.id) (mine.parent == mine.own) root.1 in (
+          eqb-true mine.depth 0 root.0,
+          eqb-true mine.root row.id names.0,
+          eqb-true mine.parent mine.own names.1,
+        );
+    below = λ port pointed.
+        let follows = and_parts (mine.depth == (say port.nbr).depth + 1)
+        (mine.parent == (say port.nbr).own) (asked_of_target (λ (port : ReadPort PathMaxLabel).
+        mine.depth == port.label.depth + 1 && mine.parent == port.label.own) placed.2 port pointed)
+        in (
+          eqb-true mine.depth ((say port.nbr).depth + 1) follows.0,
+          eqb-true mine.parent (say port.nbr).own follows.1,
+        );
+    alike = λ port has. eqb-true (say port.nbr).root mine.root
+        (passes_port (λ (port : ReadPort PathMaxLabel). port.label.root == mine.root) say row.ports
+        hold.1.0 port has);
+    onward = λ number level at. way_from number level
+        (passes_from_0 (has_way (read_where say row)) mine.levels hold.1.1.0 number level at);
+    outside = heavy_meets hold.1.1.1.0;
+  }
+    where
+      -- rule 3, in its parts
+      placed : (mine.own == row.id ≡ true)
+          × ((is_some row.state.up || is_root_of_tree (read_where say row)) ≡ true)
+          × (follows_target (read_where say row) ≡ true)
+      placed =
+          let names = and_parts (mine.own == row.id)
+          ((is_some row.state.up || is_root_of_tree (read_where say row))
+          && follows_target (read_where say row)) hold.0 in
+          let stands = and_parts (is_some row.state.up || is_root_of_tree (read_where say row))
+          (follows_target (read_where say row)) names.1 in
+          (names.0, stands.0, stands.1)

@@ -1,0 +1,104 @@
+//! The levels of a node and those of a neighbour, side by side.
+
+ghost use Rattle.std.specs.Prelude.{◌≡◌, ℕ, ◌+◌, ◌<◌, ◌==◌, ◌&&◌, ◌||◌, List, length, false, slice_get, slice_index_or};
+ghost use Rattle.std.specs.List.{list_any, zip};
+ghost use Rattle.pls_centroid.specs.declared.level.CentroidLevel.{CentroidLevel};
+ghost use Rattle.pls_pathmax.specs.Rules.{leads_on, meet_lightly};
+ghost use Rattle.pls_pathmax.specs.inner.OnePass.{leads_from};
+ghost use Rattle.pls_pathmax.specs.inner.Reading.{AreLeft};
+
+use crate::reading::{pass_levels, read_level};
+use pls_bits::NumCode;
+use pls_centroid::CentroidLevel;
+use pls_numbers::Numbers;
+use pls_scheme::is_one_more;
+
+// Notes at each flag whether the neighbour's level leads on from the own one, beside what is noted:
+// the flags are those of the levels behind the first so many.
+pub(crate) fn note_ways<C: NumCode>(
+    mine: &mut Numbers<'_, C>,
+    theirs: &mut Numbers<'_, C>,
+    weight: u64,
+    first: u64,
+    flags: &mut [bool],
+)
+    ensures { (here there : List CentroidLevel) → AreLeft mine.old here → AreLeft theirs.old there
+        → (k : ℕ) → k < length flags.old → slice_index_or flags.new k false
+        ≡ (slice_index_or flags.old k false
+        || leads_from weight (slice_get here (first + k)) (slice_get there (first + k))) }
+{
+    if !pass_levels(mine, first) {
+        return;
+    }
+    if !pass_levels(theirs, first) {
+        return;
+    }
+    note_ways_on(mine, theirs, weight, flags);
+}
+
+// Notes at each flag whether the neighbour's level leads on from the own one, beside what is noted.
+fn note_ways_on<C: NumCode>(
+    mine: &mut Numbers<'_, C>,
+    theirs: &mut Numbers<'_, C>,
+    weight: u64,
+    flags: &mut [bool],
+)
+    ensures { (here there : List CentroidLevel) → AreLeft mine.old here → AreLeft theirs.old there
+        → (k : ℕ) → k < length flags.old → slice_index_or flags.new k false
+        ≡ (slice_index_or flags.old k false
+        || leads_from weight (slice_get here k) (slice_get there k)) }
+{
+    for number in 0..flags.len() {
+        let Some(here) = read_level(mine) else {
+            return;
+        };
+        let Some(there) = read_level(theirs) else {
+            return;
+        };
+        flags[number] = is_led_on(flags[number], &here, weight, &there);
+    }
+}
+
+// Whether a flag is set, or a neighbour's level leads on from the own one along an edge of this
+// weight.
+#[inline(always)]
+fn is_led_on(flag: bool, mine: &CentroidLevel, weight: u64, theirs: &CentroidLevel) -> bool
+    ensures { result ≡ (flag || leads_on mine.now weight theirs.now) }
+{
+    let light = theirs.greatest <= mine.greatest && weight <= mine.greatest;
+    let nearer = theirs.centroid == mine.centroid && (is_one_more(mine.hops, theirs.hops) && light);
+    flag || nearer
+}
+
+// Whether the two nodes meet lightly on one of so many levels, as far as there are both.
+pub(crate) fn meet_somewhere<C: NumCode>(
+    mine: &mut Numbers<'_, C>,
+    theirs: &mut Numbers<'_, C>,
+    count: u64,
+    weight: u64,
+) -> bool
+    ensures { (here there : List CentroidLevel) → AreLeft mine.old here → AreLeft theirs.old there
+        → length here ≡ count → result ≡ list_any (λ both. meet_lightly weight both.0 both.1)
+        (zip here there) }
+{
+    for _ in 0..count {
+        let Some(here) = read_level(mine) else {
+            return false;
+        };
+        let Some(there) = read_level(theirs) else {
+            return false;
+        };
+        if meet_lightly(weight, &here, &there) {
+            return true;
+        }
+    }
+    false
+}
+
+// Whether two nodes have one centroid, and neither greatest weight is above this one.
+#[inline(always)]
+pub(crate) fn meet_lightly(weight: u64, mine: &CentroidLevel, theirs: &CentroidLevel) -> bool
+    ensures { result ≡ meet_lightly weight mine.now theirs.now }
+{
+    mine.centroid == theirs.centroid && (mine.greatest <= weight && theirs.greatest <= weight)
+}

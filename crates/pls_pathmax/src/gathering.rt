@@ -1,0 +1,206 @@
+//! What a node gathers of its ports, one after another.
+
+ghost use Rattle.std.specs.Prelude.{◌≡◌, ℕ, ◌<◌, ◌==◌, ◌++◌, ◌&&◌, ◌||◌, List, [], ◌∷◌, Some, false, length, slice_get, slice_index_or, true};
+ghost use Rattle.std.specs.List.{list_any, zip};
+ghost use Rattle.pls_model.specs.declared.row.State.{State};
+ghost use Rattle.pls_numbers.specs.Shape.{said_by};
+ghost use Rattle.pls_scheme.specs.Reading.{ReadPort, is_pointer, port_with, reading};
+ghost use Rattle.pls_centroid.specs.declared.level.CentroidLevel.{CentroidLevel};
+ghost use Rattle.pls_pathmax.specs.declared.label.PathMaxLabel.{PathMaxLabel};
+ghost use Rattle.pls_pathmax.specs.Labels.{pathmax_shape};
+ghost use Rattle.pls_pathmax.specs.Rules.{meet_lightly};
+ghost use Rattle.pls_pathmax.specs.declared.gathering.TheConstants.{WINDOW};
+ghost use Rattle.pls_pathmax.specs.inner.OnePass.{gathered_from, has_ways_from, is_own_level, led_on_from, with_leads};
+ghost use Rattle.pls_pathmax.specs.inner.Reading.{AreLeft, head_said};
+
+use crate::comparing::{meet_somewhere, note_ways};
+use crate::label::PathMaxHead;
+use crate::reading::{levels_of, pass_levels, read_level};
+use pls_bits::NumCode;
+use pls_centroid::CentroidLevel;
+use pls_numbers::Numbers;
+use pls_scheme::Looked;
+
+// On how many levels rule 5 is asked in one pass over the ports. A right label has one level more
+// than the logarithm to the base 2 of the number of nodes says, so one pass is enough for it.
+pub(crate) const WINDOW: usize = 64;
+
+// What is known of the ports so far.
+#[derive(Clone, Copy, Debug, PartialEq, Eq)]
+pub(crate) struct Gathered {
+    // The neighbours name the own root.
+    pub(crate) agrees: bool,
+    // On some level the node meets each neighbour lightly that is not beside it in the tree.
+    pub(crate) heavy: bool,
+    // On which levels some port in the tree leads on to the centroid.
+    pub(crate) led_on: [bool; WINDOW],
+}
+
+impl Gathered {
+    // Before the first port.
+    pub(crate) fn before() -> Gathered
+        ensures { (first id : ℕ) (state : State) (label : PathMaxLabel)
+            → result ≡ gathered_from first (reading id state label []) }
+    {
+        Gathered {
+            agrees: true,
+            heavy: true,
+            led_on: [false; WINDOW],
+        }
+    }
+}
+
+// What is gathered with one more port, the one at this place, where rule 5 is asked of the levels
+// from the one of this number on.
+pub(crate) fn with_port<C: NumCode>(
+    first: u64,
+    up: Option<u32>,
+    own: &Looked<'_, PathMaxHead>,
+    before: Gathered,
+    place: usize,
+    weight: u32,
+    label: &Looked<'_, PathMaxHead>,
+) -> Gathered
+    ensures { (id : ℕ) (state : State) (mine theirs : PathMaxLabel)
+        (ports : List (ReadPort PathMaxLabel)) → state.up ≡ up → length ports ≡ place
+        → said_by pathmax_shape C.takes own.now.bits.now ≡ Some mine
+        → head_said mine ≡ own.now.glance.now
+        → said_by pathmax_shape C.takes label.now.bits.now ≡ Some theirs
+        → head_said theirs ≡ label.now.glance.now
+        → before ≡ gathered_from first (reading id state mine ports)
+        → result ≡ gathered_from first
+        (reading id state mine (ports ++ port_with weight theirs ∷ [])) }
+{
+    let weight = u64::from(weight);
+    let agrees = agrees_too(before.agrees, own.glance, label.glance);
+    let led_on = before.led_on;
+    if is_in_tree(up, place, own.glance.own, label.glance.parent) {
+        let led_on = led_on_with::<C>(first, own, weight, label, led_on);
+        Gathered {
+            agrees,
+            heavy: before.heavy,
+            led_on,
+        }
+    } else {
+        let heavy = is_heavy_too::<C>(before.heavy, own, weight, label);
+        Gathered {
+            agrees,
+            heavy,
+            led_on,
+        }
+    }
+}
+
+// Whether the edge at the port of this number is in the tree: the port is the pointer, or the
+// neighbour's parent is the node of this name.
+#[inline(always)]
+pub(crate) fn is_in_tree(up: Option<u32>, number: usize, own: u64, parent: u64) -> bool
+    ensures { result ≡ (is_pointer up number || parent == own) }
+{
+    let pointer = match up {
+        Some(port) => port as usize == number,
+        None => false,
+    };
+    pointer || parent == own
+}
+
+// On which levels some port leads on, with one neighbour more whose port is in the tree.
+fn led_on_with<C: NumCode>(
+    first: u64,
+    own: &Looked<'_, PathMaxHead>,
+    weight: u64,
+    label: &Looked<'_, PathMaxHead>,
+    before: [bool; WINDOW],
+) -> [bool; WINDOW]
+    ensures { (mine theirs : PathMaxLabel)
+        → said_by pathmax_shape C.takes own.now.bits.now ≡ Some mine
+        → said_by pathmax_shape C.takes label.now.bits.now ≡ Some theirs
+        → length before ≡ WINDOW
+        → result ≡ with_leads first weight mine.levels theirs.levels before }
+{
+    let mut flags = before;
+    let mut mine = levels_of::<C>(own.bits);
+    let mut theirs = levels_of::<C>(label.bits);
+    note_ways(&mut mine, &mut theirs, weight, first, &mut flags);
+    flags
+}
+
+// Whether so it was, and the neighbour names the own root.
+#[inline(always)]
+fn agrees_too(before: bool, own: &PathMaxHead, theirs: &PathMaxHead) -> bool
+    ensures { result ≡ (before && theirs.now.root == own.now.root) }
+{
+    before && theirs.root == own.root
+}
+
+// Whether so it was, and the node and a neighbour meet lightly on some level that both have.
+fn is_heavy_too<C: NumCode>(
+    before: bool,
+    own: &Looked<'_, PathMaxHead>,
+    weight: u64,
+    label: &Looked<'_, PathMaxHead>,
+) -> bool
+    ensures { (mine theirs : PathMaxLabel)
+        → said_by pathmax_shape C.takes own.now.bits.now ≡ Some mine
+        → head_said mine ≡ own.now.glance.now
+        → said_by pathmax_shape C.takes label.now.bits.now ≡ Some theirs
+        → result ≡ (before && list_any (λ both. meet_lightly weight both.0 both.1)
+        (zip mine.levels theirs.levels)) }
+{
+    if !before {
+        return false;
+    }
+    let mut mine = levels_of::<C>(own.bits);
+    let mut theirs = levels_of::<C>(label.bits);
+    meet_somewhere(&mut mine, &mut theirs, own.glance.count, weight)
+}
+
+// Whether rule 5 holds on the levels from the one of this number on, as many as there are flags,
+// where these say on which some port leads on.
+pub(crate) fn has_ways<C: NumCode>(
+    first: u64,
+    own: &Looked<'_, PathMaxHead>,
+    led_on: &[bool; WINDOW],
+) -> bool
+    ensures { (id : ℕ) (state : State) (mine : PathMaxLabel) (ports : List (ReadPort PathMaxLabel))
+        → said_by pathmax_shape C.takes own.now.bits.now ≡ Some mine
+        → head_said mine ≡ own.now.glance.now
+        → led_on.now ≡ led_on_from first (reading id state mine ports)
+        → result ≡ has_ways_from first (reading id state mine ports) }
+{
+    let mut numbers = levels_of::<C>(own.bits);
+    if !pass_levels(&mut numbers, first) {
+        return true;
+    }
+    have_ways(&mut numbers, own.glance.own, led_on)
+}
+
+// Whether on each of the levels that come next, as many as there are flags, the node of this name
+// is the centroid, or the flag says that some port leads on.
+pub(crate) fn have_ways<C: NumCode>(numbers: &mut Numbers<'_, C>, own: u64, led_on: &[bool]) -> bool
+    ensures hold { result ≡ true → (levels : List CentroidLevel) → AreLeft numbers.old levels
+        → (k : ℕ) (level : CentroidLevel) → k < length led_on.now → slice_get levels k ≡ Some level
+        → (is_own_level own level || slice_index_or led_on.now k false) ≡ true }
+    ensures fail { result ≡ false → (levels : List CentroidLevel) → AreLeft numbers.old levels
+        → (k : ℕ) × (level : CentroidLevel) × (k < length led_on.now)
+        × (slice_get levels k ≡ Some level)
+        × ((is_own_level own level || slice_index_or led_on.now k false) ≡ false) }
+{
+    for number in 0..led_on.len() {
+        let Some(level) = read_level(numbers) else {
+            return true;
+        };
+        if !has_way(own, &level, led_on[number]) {
+            return false;
+        }
+    }
+    true
+}
+
+// Whether the node of this name is the centroid of the level, without a hop, or some port leads on.
+#[inline(always)]
+fn has_way(own: u64, level: &CentroidLevel, led_on: bool) -> bool
+    ensures { result ≡ (is_own_level own level.now || led_on) }
+{
+    (level.hops == 0 && level.centroid == own) || led_on
+}

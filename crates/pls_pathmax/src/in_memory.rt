@@ -1,0 +1,128 @@
+//! Views of labels with more levels than one pass asks for, judged in one pass with memory for the
+//! flags of all levels.
+
+ghost use Rattle.std.specs.Prelude.{◌≡◌, ℕ, ◌<◌, ◌&&◌, ◌||◌, List, length, Some, false, slice_get, slice_index_or, IfOk};
+ghost use Rattle.pls_numbers.specs.Shape.{said_by};
+ghost use Rattle.pls_view.specs.Seen.{Seen, views};
+ghost use Rattle.pls_scheme.specs.Basic.{verdict_by};
+ghost use Rattle.pls_scheme.specs.Reading.{ReadPort, port_with, read_ports, reading};
+ghost use Rattle.pls_pathmax.specs.declared.label.PathMaxLabel.{PathMaxLabel};
+ghost use Rattle.pls_pathmax.specs.Labels.{pathmax_shape};
+ghost use Rattle.pls_pathmax.specs.Rules.{is_in_tree, pathmax_rules};
+ghost use Rattle.pls_pathmax.specs.inner.OnePass.{is_led_on, leads_from, one_pass_rules};
+
+use crate::comparing::note_ways;
+use crate::gathering::{WINDOW, have_ways, is_in_tree};
+use crate::pathmax::{head_of, is_settled};
+use crate::reading::levels_of;
+use pls_base::NoMemory;
+use pls_bits::{Bits, NumCode};
+use pls_graph::Network;
+use pls_model::Verdict;
+use pls_view::{Labels, View};
+use std::alloc::Global;
+
+// The verdict of the node at a place by all rules, where this is that of the first pass. The one
+// error is want of memory.
+pub(crate) fn verdict_of_node<C: NumCode, L: Labels>(
+    alloc: Global,
+    net: &Network,
+    labels: &L,
+    i: usize,
+    verdict: Verdict,
+) -> Result<Verdict, NoMemory>
+    requires each { length (L.listed labels.now) ≡ length net.now }
+    requires within { i < length net.now }
+    requires first { (view : Seen) → slice_get (views net.now (L.listed labels.now)) i ≡ Some view
+        → verdict ≡ verdict_by pathmax_shape (one_pass_rules 0) C.takes view }
+    ensures { IfOk result (λ found. (view : Seen)
+        → slice_get (views net.now (L.listed labels.now)) i ≡ Some view
+        → found ≡ verdict_by pathmax_shape pathmax_rules C.takes view) }
+{
+    let view = View::of(alloc, net, labels, i)?;
+    let found = verdict_of_view::<C>(alloc, &view, verdict)?;
+    Ok(found)
+}
+
+// The verdict on a view by all rules, where this is that of the first pass. The one error is want
+// of memory.
+fn verdict_of_view<C: NumCode>(
+    alloc: Global,
+    view: &View<'_>,
+    verdict: Verdict,
+) -> Result<Verdict, NoMemory>
+    requires { verdict ≡ verdict_by pathmax_shape (one_pass_rules 0) C.takes view.now }
+    ensures { IfOk result (λ found.
+        found ≡ verdict_by pathmax_shape pathmax_rules C.takes view.now) }
+{
+    if is_settled(&verdict) {
+        return Ok(verdict);
+    }
+    let Some(own) = head_of::<C>(&view.own) else {
+        // Else the verdict is settled.
+        unreachable!()
+    };
+    if own.count <= WINDOW as u64 {
+        return Ok(verdict);
+    }
+    let mut flags = vec![in alloc; false; own.count as usize]?;
+    let flags = flags.as_mut_slice();
+    note_ports::<C>(view, own.own, flags);
+    let mut numbers = levels_of::<C>(&view.own);
+    if have_ways(&mut numbers, own.own, flags) {
+        return Ok(verdict);
+    }
+    Ok(Verdict::Reject { leaf: 1, rule: 5 })
+}
+
+// Notes at each flag whether some port in the tree of the node of this name leads on from its level
+// of this number.
+fn note_ports<C: NumCode>(view: &View<'_>, own: u64, flags: &mut [bool])
+    requires { (k : ℕ) → k < length flags.old → slice_index_or flags.old k false ≡ false }
+    ensures { (mine : PathMaxLabel) (ports : List (ReadPort PathMaxLabel))
+        → said_by pathmax_shape C.takes view.now.own ≡ Some mine
+        → read_ports (said_by pathmax_shape C.takes) view.now.ports ≡ Some ports
+        → mine.own ≡ own → (k : ℕ) → k < length flags.old → slice_index_or flags.new k false
+        ≡ is_led_on (reading view.now.id view.now.state mine ports) k }
+{
+    for (place, port) in view.ports.iter().enumerate() {
+        note_port::<C>(
+            &view.own,
+            own,
+            view.state.up,
+            place,
+            port.weight,
+            &port.label,
+            flags,
+        );
+    }
+}
+
+// Notes at each flag whether this port is in the tree and leads on, beside what is noted.
+fn note_port<C: NumCode>(
+    bits: &Bits<'_>,
+    own: u64,
+    up: Option<u32>,
+    place: usize,
+    weight: u32,
+    label: &Bits<'_>,
+    flags: &mut [bool],
+)
+    ensures { (mine theirs : PathMaxLabel)
+        → said_by pathmax_shape C.takes bits.now ≡ Some mine
+        → said_by pathmax_shape C.takes label.now ≡ Some theirs → mine.own ≡ own → (k : ℕ)
+        → k < length flags.old → slice_index_or flags.new k false
+        ≡ (slice_index_or flags.old k false
+        || (is_in_tree up mine place (port_with weight theirs)
+        && leads_from weight (slice_get mine.levels k) (slice_get theirs.levels k))) }
+{
+    let Some(head) = head_of::<C>(label) else {
+        return;
+    };
+    if !is_in_tree(up, place, own, head.parent) {
+        return;
+    }
+    let mut mine = levels_of::<C>(bits);
+    let mut theirs = levels_of::<C>(label);
+    note_ways(&mut mine, &mut theirs, u64::from(weight), 0, flags);
+}

@@ -1,0 +1,114 @@
+//! The rules of the scheme `pathmax` in one pass over the ports.
+
+ghost use Rattle.std.specs.Prelude.{◌≡◌};
+
+use crate::format::PathMaxFormat;
+use crate::gathering::{Gathered, has_ways, with_port};
+use crate::label::PathMaxHead;
+use crate::placing::is_placed;
+use crate::reading::head_in;
+use pls_bits::{Bits, NumCode};
+use pls_model::{State, Verdict};
+use pls_scheme::{Judgement, JudgesInPlace, Looked, judged_from};
+use std::marker::PhantomData;
+
+// The rules of spanning trees of least weight by centroids, of which rule 5 is asked of up to 64
+// levels: what can be told without memory in one pass over the ports.
+#[derive(Clone, Copy, Debug, PartialEq, Eq)]
+pub(crate) struct PathMaxPass<C> {
+    code: PhantomData<C>,
+    format: PathMaxFormat,
+    // The number of the first of these levels.
+    first: u64,
+}
+
+impl<C> PathMaxPass<C> {
+    // The pass in which rule 5 is asked of the levels from the one of this number on.
+    pub(crate) fn from_level(first: u64) -> Self
+        ensures { result.first ≡ first }
+    {
+        PathMaxPass {
+            code: PhantomData,
+            format: PathMaxFormat,
+            first,
+        }
+    }
+}
+
+impl<C: NumCode> Judgement for PathMaxPass<C> {
+    ghost use Rattle.pls_pathmax.specs.inner.OnePass.{one_pass_rules};
+
+    type Code = C;
+
+    type Format = PathMaxFormat;
+
+    ghost format = { λ s. s.format };
+
+    ghost rules = { λ s. one_pass_rules s.first };
+
+    fn format(&self) -> &PathMaxFormat {
+        &self.format
+    }
+}
+
+impl<C: NumCode> JudgesInPlace for PathMaxPass<C> {
+    ghost use Rattle.pls_pathmax.specs.inner.OnePass.{gathered_from};
+    ghost use Rattle.pls_pathmax.specs.inner.Reading.{head_said};
+
+    type Glance = PathMaxHead;
+
+    type Memory = Option<PathMaxHead>;
+
+    type Tally = Gathered;
+
+    ghost glance = { λ _ label. head_said label };
+
+    ghost tally_of = { λ s view. gathered_from s.first view };
+
+    fn look(&self, bits: &Bits<'_>) -> Option<PathMaxHead> {
+        head_in::<C>(bits)
+    }
+
+    fn open(&self, _own: &PathMaxHead) -> Gathered {
+        Gathered::before()
+    }
+
+    fn pass(
+        &self,
+        up: Option<u32>,
+        own: &Looked<'_, PathMaxHead>,
+        tally: Gathered,
+        place: usize,
+        weight: u32,
+        label: &Looked<'_, PathMaxHead>,
+    ) -> Gathered {
+        with_port::<C>(self.first, up, own, tally, place, weight, label)
+    }
+
+    fn settled(
+        &self,
+        id: u32,
+        state: State,
+        own: &Looked<'_, PathMaxHead>,
+        above: Option<&PathMaxHead>,
+    ) -> Option<Verdict> {
+        if is_placed(id, state, own.glance, above) {
+            None
+        } else {
+            Some(Verdict::Reject { leaf: 1, rule: 3 })
+        }
+    }
+
+    fn close(
+        &self,
+        id: u32,
+        state: State,
+        own: &Looked<'_, PathMaxHead>,
+        above: Option<&PathMaxHead>,
+        tally: Gathered,
+    ) -> Verdict {
+        let placed = is_placed(id, state, own.glance, above);
+        let ways = has_ways::<C>(self.first, own, &tally.led_on);
+        judged_from(3, &[placed, tally.agrees, ways, tally.heavy])
+    }
+}

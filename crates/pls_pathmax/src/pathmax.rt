@@ -1,0 +1,154 @@
+//! The scheme `pathmax`: what it states of its own, and how a node judges by it.
+
+ghost use Rattle.std.specs.Prelude.{◌≡◌, List, length, Some, true, false, IsOk, IfOk};
+ghost use Rattle.pls_numbers.specs.Shape.{said_by};
+ghost use Rattle.pls_scheme.specs.Basic.{verdict_by};
+ghost use Rattle.pls_scheme.specs.Reading.{ReadPort, reading};
+ghost use Rattle.pls_pathmax.specs.declared.label.PathMaxLabel.{PathMaxLabel};
+ghost use Rattle.pls_pathmax.specs.Labels.{pathmax_shape};
+ghost use Rattle.pls_pathmax.specs.Rules.{pathmax_rules};
+ghost use Rattle.pls_pathmax.specs.inner.Reading.{head_said};
+ghost use Rattle.pls_pathmax.specs.inner.OnePass.{HaveFurtherWays, IsReadThrough, is_by_rule_5, is_settled, one_pass_rules};
+
+use crate::format::PathMaxFormat;
+use crate::gathering::WINDOW;
+use crate::label::PathMaxHead;
+use crate::pass::PathMaxPass;
+use crate::reading::read_head;
+use pls_base::{NoMemory, Steps};
+use pls_bits::{Bits, NumCode};
+use pls_model::Verdict;
+use pls_numbers::Numbers;
+use pls_scheme::{Basic, Checker, Judgement};
+use pls_view::View;
+use std::alloc::Global;
+use std::marker::PhantomData;
+
+/// What the scheme states of its own: how labels are written, the rules, the property, and what
+/// labels are right.
+#[derive(Clone, Copy, Debug, PartialEq, Eq)]
+pub struct PathMaxRules<C> {
+    code: PhantomData<C>,
+    format: PathMaxFormat,
+}
+
+impl<C> Default for PathMaxRules<C> {
+    fn default() -> Self {
+        PathMaxRules {
+            code: PhantomData,
+            format: PathMaxFormat,
+        }
+    }
+}
+
+impl<C: NumCode> Judgement for PathMaxRules<C> {
+    ghost use Rattle.pls_pathmax.specs.Rules.{pathmax_rules};
+
+    type Code = C;
+
+    type Format = PathMaxFormat;
+
+    ghost format = { λ s. s.format };
+
+    ghost rules = { λ _. pathmax_rules };
+
+    fn format(&self) -> &PathMaxFormat {
+        &self.format
+    }
+}
+
+// The judge that asks rule 5 of the levels from the one of this number on.
+pub(crate) fn pass_from<C>(first: u64) -> Basic<PathMaxPass<C>>
+    ensures { result.rules.first ≡ first }
+{
+    Basic {
+        rules: PathMaxPass::from_level(first),
+    }
+}
+
+// The verdict on a view by all rules, where this is that of the first pass.
+pub(crate) fn verdict_by_passes<C: NumCode>(
+    alloc: Global,
+    view: &View<'_>,
+    verdict: Verdict,
+) -> Result<Verdict, NoMemory>
+    requires { verdict ≡ verdict_by pathmax_shape (one_pass_rules 0) C.takes view.now }
+    ensures verdict { IfOk result (λ found.
+        found ≡ verdict_by pathmax_shape pathmax_rules C.takes view.now) }
+    ensures no_memory { IsOk result }
+{
+    if is_settled(&verdict) {
+        return Ok(verdict);
+    }
+    let count = count_of::<C>(&view.own);
+    let holds = have_further_ways::<C>(alloc, view, count)?;
+    if holds {
+        return Ok(verdict);
+    }
+    Ok(Verdict::Reject { leaf: 1, rule: 5 })
+}
+
+// Whether rule 5 holds on the levels behind those of the first pass, of so many, in as many further
+// passes as it takes. It takes no memory.
+fn have_further_ways<C: NumCode>(
+    alloc: Global,
+    view: &View<'_>,
+    count: u64,
+) -> Result<bool, NoMemory>
+    ensures ways { IfOk result (λ holds. (own : PathMaxLabel) (ports : List (ReadPort PathMaxLabel))
+        → IsReadThrough (said_by pathmax_shape C.takes) view.now own ports
+        → length own.levels ≡ count
+        → HaveFurtherWays (reading view.now.id view.now.state own ports) holds) }
+    ensures no_memory { IsOk result }
+{
+    let mut first = WINDOW as u64;
+    while first < count {
+        let mut scratch = Steps::new();
+        let verdict = pass_from::<C>(first).verify(alloc, view, &mut scratch)?;
+        if is_by_rule_5(&verdict) {
+            return Ok(false);
+        }
+        first = first.saturating_add(WINDOW as u64);
+    }
+    Ok(true)
+}
+
+// How many levels a label states, and 0 where the bits are none.
+fn count_of<C: NumCode>(bits: &Bits<'_>) -> u64
+    ensures { (label : PathMaxLabel) → said_by pathmax_shape C.takes bits.now ≡ Some label
+        → result ≡ length label.levels }
+{
+    match head_of::<C>(bits) {
+        Some(head) => head.count,
+        None => 0,
+    }
+}
+
+// What stands in front of the levels of a label.
+pub(crate) fn head_of<C: NumCode>(bits: &Bits<'_>) -> Option<PathMaxHead>
+    ensures { (label : PathMaxLabel) → said_by pathmax_shape C.takes bits.now ≡ Some label
+        → result ≡ Some (head_said label) }
+{
+    let mut numbers = Numbers::<C>::of(bits);
+    read_head(&mut numbers)
+}
+
+// Whether a verdict stands whatever rule 5 says of further levels.
+pub(crate) fn is_settled(verdict: &Verdict) -> bool
+    ensures { result ≡ is_settled verdict.now }
+{
+    match verdict {
+        Verdict::Accept => false,
+        Verdict::Reject { leaf: _, rule } => *rule < 6,
+    }
+}
+
+// Whether a verdict is that rule 5 fails.
+fn is_by_rule_5(verdict: &Verdict) -> bool
+    ensures { result ≡ is_by_rule_5 verdict.now }
+{
+    match verdict {
+        Verdict::Accept => false,
+        Verdict::Reject { leaf: _, rule } => *rule == 5,
+    }
+}

@@ -1,0 +1,208 @@
+//! Spanning trees of least weight by centroids, as a scheme.
+
+ghost use Rattle.std.specs.Prelude.{◌≡◌, IfOk};
+ghost use Rattle.pls_numbers.specs.Shape.{recoded};
+ghost use Rattle.pls_pathmax.specs.Labels.{pathmax_shape};
+
+use crate::format::PathMaxFormat;
+use crate::in_memory::verdict_of_node;
+use crate::label::{PathMaxHead, PathMaxLabel};
+use crate::pathmax::{PathMaxRules, pass_from, verdict_by_passes};
+use crate::reading::head_in;
+use pls_base::{NoMemory, Steps};
+use pls_bits::{BitBuf, Bits, NumCode};
+use pls_facts::is_valid;
+use pls_graph::{Network, Size};
+use pls_model::Verdict;
+use pls_numbers::{Format, recode};
+use pls_scheme::{Checker, Marker, Property, Remembers, Scheme, labels_of};
+use pls_view::{LabelStore, Labels, View};
+use std::alloc::Global;
+
+/// The scheme of spanning trees of least weight by centroids, whose labels are written in the
+/// number code `C`.
+#[derive(Clone, Copy, Debug, PartialEq, Eq)]
+pub struct PathMax<C> {
+    /// The rules, which the marker knows.
+    pub rules: PathMaxRules<C>,
+}
+
+impl<C> PathMax<C> {
+    /// The scheme. It takes no memory.
+    pub fn new() -> Self {
+        PathMax {
+            rules: PathMaxRules::default(),
+        }
+    }
+}
+
+impl<C: NumCode> PathMax<C> {
+    /// The label that the bits are, written in the number code `D`, or `None` where they are no
+    /// label. The one error is want of memory.
+    pub fn convert_label<D: NumCode>(
+        &self,
+        alloc: Global,
+        bits: &Bits<'_>,
+    ) -> Result<Option<BitBuf>, NoMemory>
+        ensures { IfOk result (λ found. found ≡ recoded pathmax_shape C.takes D.code bits.now) }
+    {
+        recode::<PathMaxFormat, C, D>(&PathMaxFormat, alloc, bits)
+    }
+}
+
+impl<C: NumCode> Checker for PathMax<C> {
+    ghost use Rattle.std.specs.Prelude.{true, false, refl};
+    ghost use Rattle.pls_numbers.specs.Shape.{said_by};
+    ghost use Rattle.pls_scheme.specs.Basic.{verdict_by};
+    ghost use Rattle.pls_scheme.specs.laws.LeafLaws.{judge_by-leaf};
+    ghost use Rattle.pls_pathmax.specs.Labels.{pathmax_shape};
+    ghost use Rattle.pls_pathmax.specs.Rules.{pathmax_rules};
+
+    ghost judge = { λ _ view. verdict_by pathmax_shape pathmax_rules C.takes view };
+
+    ghost leaves = { λ _. 1 };
+
+    ghost lends = { λ _. true };
+
+    ghost TAKES_MEMORY = { false };
+
+    const TAKES_MEMORY: bool = false;
+
+    fn leaves(&self) -> u8 {
+        1
+    }
+
+    fn lends(&self) -> bool {
+        true
+    }
+
+    fn verify(
+        &self,
+        alloc: Global,
+        view: &View<'_>,
+        steps: &mut Steps,
+    ) -> Result<Verdict, NoMemory> {
+        let verdict = pass_from::<C>(0).verify(alloc, view, steps)?;
+        verdict_by_passes::<C>(alloc, view, verdict)
+    }
+
+    fn round<L: Labels>(
+        &self,
+        alloc: Global,
+        net: &Network,
+        labels: &L,
+        steps: &mut Steps,
+    ) -> Result<Vec<Verdict>, NoMemory> {
+        let first = pass_from::<C>(0).round(alloc, net, labels, steps)?;
+        let first = first.as_slice();
+        let mut verdicts = Vec::with_capacity(alloc, net.len())?;
+        for i in 0..net.len() {
+            let verdict = verdict_of_node::<C, L>(alloc, net, labels, i, first[i])?;
+            verdicts.push(verdict)?;
+        }
+        Ok(verdicts)
+    }
+
+    ghost leaf_law = { λ _. judge_by-leaf (said_by pathmax_shape C.takes) pathmax_rules };
+
+    ghost lends_law = { λ _ _. refl };
+}
+
+impl<C: NumCode> Remembers for PathMax<C> {
+    ghost use Rattle.pls_numbers.specs.Shape.{said_by};
+    ghost use Rattle.pls_scheme.specs.inner.Looks.{seen_in};
+    ghost use Rattle.pls_pathmax.specs.Labels.{pathmax_shape};
+    ghost use Rattle.pls_pathmax.specs.inner.Reading.{head_said};
+
+    type Memory = Option<PathMaxHead>;
+
+    ghost told = { λ _ bits. seen_in (said_by pathmax_shape C.takes) head_said bits };
+
+    fn remember(&self, _alloc: Global, bits: &Bits<'_>) -> Result<Option<PathMaxHead>, NoMemory> {
+        Ok(head_in::<C>(bits))
+    }
+
+    fn verdict_at(
+        &self,
+        alloc: Global,
+        net: &Network,
+        labels: &LabelStore,
+        memories: &[Option<PathMaxHead>],
+        i: usize,
+    ) -> Result<Verdict, NoMemory> {
+        let verdict = pass_from::<C>(0).verdict_at(alloc, net, labels, memories, i)?;
+        verdict_of_node::<C, LabelStore>(alloc, net, labels, i, verdict)
+    }
+}
+
+impl<C: NumCode> Property for PathMax<C> {
+    ghost use Rattle.pls_facts.specs.MinimumSpanningTree.{IsMinimumSpanningTree};
+
+    ghost holds = { λ _ rows. IsMinimumSpanningTree rows };
+
+    fn decide(&self, alloc: Global, net: &Network) -> Result<bool, NoMemory> {
+        self.rules.decide(alloc, net)
+    }
+}
+
+impl<C: NumCode> Scheme for PathMax<C> {
+    ghost use Rattle.pls_numbers.specs.Shape.{IsSpelled, IsWritable, said_by};
+    ghost use Rattle.pls_numbers.specs.laws.FormatLaws.{has_spelling, one_spelling, said_spells};
+    ghost use Rattle.pls_facts.specs.MinimumSpanningTree.{IsMinimumSpanningTree};
+    ghost use Rattle.pls_scheme.specs.Basic.{AreMarkedBy};
+    ghost use Rattle.pls_scheme.specs.laws.Marking.{marked_once, one_said, sound_by};
+    ghost use Rattle.pls_pathmax.specs.Labels.{pathmax_shape};
+    ghost use Rattle.pls_pathmax.specs.PathMax.{PathMaxSays, longest_pathmax};
+    ghost use Rattle.pls_pathmax.specs.Rules.{pathmax_rules};
+    ghost use Rattle.pls_pathmax.specs.laws.LabelLaws.{pathmax_numbers};
+    ghost use Rattle.pls_pathmax.specs.laws.PathMaxLaws.{pathmax_one_right, pathmax_show};
+
+    type Label = PathMaxLabel;
+
+    ghost layout = { λ _ bits label. IsSpelled pathmax_shape C.code bits label };
+
+    ghost writable = { λ _ label. IsWritable pathmax_shape label };
+
+    ghost marked = { λ _ rows labels. AreMarkedBy pathmax_shape PathMaxSays C.code rows labels };
+
+    ghost longest = { λ _ size. longest_pathmax C.code size };
+
+    fn read_label(&self, alloc: Global, bits: Bits<'_>) -> Result<Option<PathMaxLabel>, NoMemory> {
+        PathMaxFormat.read::<C>(alloc, &bits)
+    }
+
+    fn write_label(&self, alloc: Global, label: &PathMaxLabel) -> Result<BitBuf, NoMemory> {
+        let mut bits = BitBuf::new(alloc);
+        PathMaxFormat.append::<C>(&mut bits, label)?;
+        Ok(bits)
+    }
+
+    fn bound(&self, size: &Size) -> u64 {
+        self.rules.longest(size)
+    }
+
+    fn mark(&self, alloc: Global, net: &Network) -> Result<Option<LabelStore>, NoMemory> {
+        is_valid(net);
+        // So its identities, weights and marks are numbers of 32 bits.
+        net.size();
+        let Some(said) = self.rules.right_labels(alloc, net)? else {
+            return Ok(None);
+        };
+        let labels = labels_of::<PathMaxFormat, C>(alloc, &PathMaxFormat, &said)?;
+        Ok(Some(labels))
+    }
+
+    ghost reads_back_law = { λ _. has_spelling pathmax_shape C.code };
+
+    ghost one_spelling_law = { λ _. one_spelling pathmax_shape C.code };
+
+    ghost one_label_law = { λ _. one_said (said_by pathmax_shape C.takes)
+        (IsSpelled pathmax_shape C.code)
+        (said_spells pathmax_shape pathmax_numbers C.code C.takes C.takes_codes C.takes_only) };
+
+    ghost sound_law = { λ _. sound_by (said_by pathmax_shape C.takes) pathmax_rules
+        IsMinimumSpanningTree pathmax_show };
+
+    ghost one_marking_law = { λ _. marked_once (IsSpelled pathmax_shape C.code)
+        IsMinimumSpanningTree PathMaxSays (one_spelling pathmax_shape C.code) pathmax_one_right };
+}

@@ -1,0 +1,33 @@
+//! Tests of centroid levels and of the scheme `pathmax`.
+
+ghost use Rattle.pls_model.specs.Walk.{IsConnected};
+ghost use Rattle.std.specs.Prelude.{IfOk};
+
+mod levels;
+mod long_labels;
+mod marked;
+mod small;
+
+use pls_graph::{Network, connected};
+use pls_netfile::read_network;
+use std::alloc::Global;
+use std::test::Fail;
+
+// The network of a text.
+fn network(alloc: Global, text: &str) -> Result<Network, Fail> {
+    match read_network(alloc, text.as_bytes()) {
+        Ok(net) => Ok(net),
+        Err(_) => Err(Fail::from("refused")),
+    }
+}
+
+// The connected network of a text.
+fn joined(alloc: Global, text: &str) -> Result<Network, Fail>
+    ensures { IfOk result (λ net. IsConnected net) }
+{
+    let net = network(alloc, text)?;
+    if connected(alloc, &net)?.is_some() {
+        return Err(Fail::from("in parts"));
+    }
+    Ok(net)
+}
