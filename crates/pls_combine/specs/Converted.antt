@@ -1,5 +1,6 @@
 -- Labels of expressions under another number code.
-use Rattle.std.specs.Prelude.{ℕ, Bool, true, false, List, [], ◌∷◌, Option, Some, None, option_map, option_and_then}
+use Rattle.std.specs.Prelude.{ℕ, ◌+◌, Bool, true, false, List, [], ◌∷◌, map, Option, Some, None, is_some, if◌then◌else◌, option_map, option_and_then}
+use Rattle.std.specs.Option.{unwrap_or}
 use Rattle.pls_numbers.specs.Shape.{recoded}
 use Rattle.pls_universal.specs.Reading.{map_shape}
 use Rattle.pls_names.specs.Named.{converted_named}
@@ -37,3 +38,13 @@ converted takes code (And first second) bits =
 converted takes code (Or first second) bits =
     by_tag (converted takes code first) (converted takes code second) bits
 converted takes code property bits = recoded map_shape takes code bits
+
+-- all labels, each as what it becomes
+abbrev pub all_converted : (List Bool → Option (List Bool)) → List (List Bool) → List (List Bool)
+all_converted to labels = map (λ bits. unwrap_or (to bits) []) labels
+
+-- the place of the first that becomes nothing
+abbrev pub first_unread : (List Bool → Option (List Bool)) → List (List Bool) → Option ℕ
+first_unread to [] = None
+first_unread to (bits ∷ labels) =
+    if is_some (to bits) then option_map (λ place. place + 1) (first_unread to labels) else Some 0

@@ -6,7 +6,8 @@
 //! parts all labels once and judges the parts each in a round of its own.
 //! [`AnyScheme::with_checker`] hands a checker that remembers labels to whoever asks, and
 //! [`AnyScheme::in_code`] changes the number code, and [`AnyScheme::convert_label`] that of a label
-//! (`specs/Converted`).
+//! (`specs/Converted`); [`AnyScheme::convert_labels`] that of all labels, and reads no map again
+//! that the label before has too.
 //!
 //! Proofs may cite `specs/laws/ExpressionLaws`, and of `proofs/` how long labels are (`Bounds`).
 #![tactic(auto)]

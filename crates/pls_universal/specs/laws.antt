@@ -4,3 +4,4 @@ pub mod RuleLaws
 pub mod MapShow
 pub mod MapMet
 pub mod ShortMaps
+pub mod MapRecoded

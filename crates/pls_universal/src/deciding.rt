@@ -149,7 +149,7 @@ fn words_of(alloc: Global, map: &Bits<'_>) -> Result<Vec<u64>, NoMemory> {
 }
 
 // Whether the map of a label is this one, bit by bit.
-fn has_map<C: NumCode>(label: &Bits<'_>, map: &Bits<'_>) -> bool
+pub(crate) fn has_map<C: NumCode>(label: &Bits<'_>, map: &Bits<'_>) -> bool
     ensures { result ≡ true → (own : ℕ) × (C.takes label.now ≡ Some (own, map.now)) }
 {
     match parts::<C>(label) {

@@ -7,7 +7,8 @@
 //! writes labels ([`MapLabel`]); a map may state any number of records: room is made as they come,
 //! never by a count that is stated. [`write_map`] writes the map of a network, [`map_labels`]
 //! labels one, and [`map_bound`] tells the length of its longest label at most (`specs/Bound`:
-//! `longest_map`).
+//! `longest_map`). [`recode_beside`] writes a label in another number code, and copies the map
+//! where another label with the same one was written before.
 //!
 //! `specs/Rules` says what a node asks of the maps in its view (`map_rules`), by the test of the
 //! property. [`Tested::maps_are_right`] is the theorem: where the rules hold at all
@@ -25,6 +26,7 @@ mod map;
 mod map_of;
 mod marking;
 mod reading;
+mod recoding;
 mod stating;
 mod tested;
 mod verifying;
@@ -35,5 +37,6 @@ pub use format::MapFormat;
 pub use map::{MapLabel, MapRow, PortList, RowList};
 pub use map_of::MapOf;
 pub use marking::map_labels;
+pub use recoding::recode_beside;
 pub use tested::Tested;
 pub use writing::write_map;
