@@ -5,12 +5,12 @@ use Rattle.pls_base.specs.Streams.{LosesFirst}
 use Rattle.pls_base.specs.declared.text_error.TextError.{TextError}
 use Rattle.pls_base.specs.declared.text_error.TextError.TheVariants.{Limit, NoMemory}
 use Rattle.pls_base.specs.declared.text_error.Quantity.TheVariants.{Input as InputBytes}
-use Rattle.pls_model.specs.Walk.{IsConnected}
 use Rattle.pls_model.specs.declared.status.Status.{Status}
 use Rattle.pls_model.specs.declared.status.Status.TheVariants.{Done, No, Refused, Limit as OverLimit}
 use Rattle.pls_report.specs.Report.{all_accept}
 use Rattle.pls_model.specs.declared.limits.TheConstants.{MAX_INPUT}
-use Rattle.pls_inputs.specs.Parts.{Input, nothing, rows_in}
+use Rattle.pls_components.proofs.Empty.{empty_parts}
+use Rattle.pls_inputs.specs.Parts.{Input, nothing}
 use Rattle.pls_inputs.specs.Order.{IsInput, IsNoInput}
 use Rattle.pls_app.specs.declared.command.Command.{Command}
 use Rattle.pls_app.specs.declared.command.Command.TheVariants.{ByRules, Print, Trial, With}
@@ -21,10 +21,10 @@ use Rattle.pls_app.specs.Ruled.{printed}
 use Rattle.pls_app.specs.Command.{IsCommand, IsUsage, input_parts_of, read_by, reads}
 use Rattle.pls_app.specs.Reports.{ends_well}
 use Rattle.pls_app.specs.Said.{Answer}
-use Rattle.pls_app.specs.Answer.{Answers, IsAnswer, IsApart, IsRefused, Reads, Yields, outcomes_in, refusal, usage}
+use Rattle.pls_app.specs.Answer.{Answers, IsAnswer, IsRefused, Reads, RefusesInput, Yields, outcomes_in, refusal, usage}
 use Rattle.pls_app.specs.Trial.{IsTrialAnswer}
 use Rattle.pls_app.specs.Run.{IsAnswered, IsJudged, IsRefusalStatus, TellsAnswer, TellsRefusal}
-use Rattle.pls_app.specs.inner.Tasks.{Does}
+use Rattle.pls_app.specs.inner.Tasks.{DoesWork}
 use Rattle.pls_app.proofs.Commands.{one_command}
 use Rattle.pls_app.proofs.OneAnswer.{one_answer}
 
@@ -69,10 +69,6 @@ blank_is = record {
   accepted = refl;
 }
 
--- a network without a node is one whole
-all_joined : IsConnected []
-all_joined = λ u v first second. absurd (omega (arith, first.1))
-
 -- so is the answer to a trial
 pub trial_answers : (bytes : List ℕ) (nodes seed : ℕ) (answer : Answer)
     → IsTrialAnswer nodes seed answer → Answers (Trial nodes seed) bytes answer
@@ -80,7 +76,8 @@ trial_answers bytes nodes seed answer tried =
     inr (record {
       input = blank;
       is = blank_is;
-      takes = record { joined = all_joined; accepted = refl };
+      parts = [];
+      takes = record { components = empty_parts; accepted = refl };
       yields = tried;
     })
 
@@ -91,7 +88,8 @@ print_answers bytes name answer same =
     inr (record {
       input = blank;
       is = blank_is;
-      takes = record { joined = all_joined; accepted = refl };
+      parts = [];
+      takes = record { components = empty_parts; accepted = refl };
       yields = same;
     })
 
@@ -118,6 +116,7 @@ again command bytes answer answers same =
           inr (record {
             input = works.input;
             is = subst (λ (read : List ℕ). IsInput parts read works.input) same works.is;
+            parts = works.parts;
             takes = works.takes;
             yields = works.yields;
           })
@@ -149,18 +148,6 @@ answered_by_refusal command bytes error (Ok answer) refused says some =
     refused_answer command bytes error answer (inl (refused some)) says
 answered_by_refusal command bytes error (Err e) refused says some = tt
 
--- so is an input whose network is not one whole
-pub answered_apart : {E : Type 0} (command : Command) (bytes : List ℕ)
-    (input : Input) (error : TextError) (r : Result Answer E)
-    → Reads command bytes input
-    → (error ≢ NoMemory → IsApart (rows_in input) error)
-    → IfOk r (λ answer. answer ≡ refusal error) → OnOk r (error ≢ NoMemory)
-    → IfOk r (λ answer. Answers command bytes answer)
-answered_apart command bytes input error (Ok answer) is apart says some =
-    refused_answer command bytes error answer
-    (inr (input, is, inl (apart some))) says
-answered_apart command bytes input error (Err e) is apart says some = tt
-
 -- the answer to a refusal is told
 pub tells_refusal : (words : List (List ℕ)) (command : Command) (bytes : List ℕ) (error : TextError)
     (status : Status) (old new : Option (List ℕ)) → IsCommand words command
@@ -187,10 +174,23 @@ answer_of_command words bytes command answer is answers = elim answers [
 
 -- a command answers what its refusal or its work says
 pub does_answer : (command : Command) (bytes : List ℕ) (input : Input) (answer : Answer)
-    → Reads command bytes input → Does command input answer → Answers command bytes answer
-does_answer command bytes input answer is does = elim does [
-  | inl refused ↦ inl (refused.0, inr (input, is, refused.1), refused.2)
-  | inr done ↦ inr (record { input = input; is = is; takes = done.0; yields = done.1 })
+    → Reads command bytes input → DoesWork command input answer → Answers command bytes answer
+does_answer command bytes input answer is work = elim work.does [
+  | inl refused ↦
+      let refuses : RefusesInput command input refused.0 = record {
+        parts = work.parts;
+        components = work.components;
+        refused = refused.1;
+      } in
+      inl (refused.0, inr (input, is, refuses), refused.2)
+  | inr done ↦
+      inr (record {
+        input = input;
+        is = is;
+        parts = work.parts;
+        takes = record { components = work.components; accepted = done.0 };
+        yields = done.1;
+      })
 ]
 
 -- a report is `Done` or `No`
@@ -204,29 +204,29 @@ ends_so answer other same ends =
     subst IsJudged (sym (ap (λ (answer : Answer). answer.status) same)) ends
 
 -- what a command answers to an input is `Done` or `No`
-yields_end : (command : Command) (input : Input) (answer : Answer) → Yields command input answer
-    → IsJudged answer.status
-yields_end (With (Mark code) scheme) input answer yields = elim yields [
-  | inl marked ↦ inl (ap (λ (answer : Answer). answer.status) marked.3)
-  | inr fails ↦ inr (ap (λ (answer : Answer). answer.status) fails.1)
+yields_end : (command : Command) (input : Input) (parts : List (List ℕ)) (answer : Answer)
+    → Yields command input parts answer → IsJudged answer.status
+yields_end (With (Mark code) scheme) input parts answer yields = elim yields [
+  | inl marked ↦ inl (ap (λ (answer : Answer). answer.status) marked.2)
+  | inr lacks ↦ inr (ap (λ (answer : Answer). answer.status) lacks.2)
 ]
-yields_end (With (Verify json) scheme) input answer yields =
+yields_end (With (Verify json) scheme) input parts answer yields =
     ends_so answer _ yields (report_ends (all_accept (outcomes_in (With (Verify json) scheme) input)))
-yields_end (With (Simulate json) scheme) input answer yields =
+yields_end (With (Simulate json) scheme) input parts answer yields =
     ends_so answer _ yields
     (report_ends (all_accept (outcomes_in (With (Simulate json) scheme) input)))
-yields_end (With Recheck scheme) input answer yields =
+yields_end (With Recheck scheme) input parts answer yields =
     ends_so answer _ yields.2 (report_ends (ends_well yields.0))
-yields_end (With (Bound code) scheme) input answer yields =
+yields_end (With (Bound code) scheme) input parts answer yields =
     inl (ap (λ (answer : Answer). answer.status) yields)
-yields_end (With Convert scheme) input answer yields =
+yields_end (With Convert scheme) input parts answer yields =
     inl (ap (λ (answer : Answer). answer.status) yields)
-yields_end (Trial nodes seed) input answer yields = inl yields.ends
-yields_end (ByRules (Judge json)) input answer yields =
+yields_end (Trial nodes seed) input parts answer yields = inl yields.ends
+yields_end (ByRules (Judge json)) input parts answer yields =
     ends_so answer _ yields (report_ends (all_accept (outcomes_in (ByRules (Judge json)) input)))
-yields_end (ByRules Code) input answer yields =
+yields_end (ByRules Code) input parts answer yields =
     inl (ap (λ (answer : Answer). answer.status) yields)
-yields_end (Print name) input answer yields =
+yields_end (Print name) input parts answer yields =
     inl (ap (λ (answer : Answer). answer.status) yields)
 
 -- `Done` and `No` are no refusals
@@ -258,7 +258,7 @@ refusal_has_cause words command bytes status old new is told refusal =
     elim (answer_of_command words bytes command told.answer is told.is) [
       | inl refused ↦ (refused.0, refused.1)
       | inr works ↦
-          absurd (no_refusal told.answer.status (yields_end command works.input told.answer works.yields)
+          absurd (no_refusal told.answer.status (yields_end command works.input works.parts told.answer works.yields)
           (subst IsRefusalStatus told.ends refusal))
     ]
 
@@ -272,5 +272,5 @@ unrefused_judged words command bytes status old new is unrefused told =
       | inl refused ↦ absurd (unrefused refused.0 refused.1)
       | inr works ↦
           subst IsJudged (sym told.ends)
-          (yields_end command works.input told.answer works.yields)
+          (yields_end command works.input works.parts told.answer works.yields)
     ]

@@ -1,5 +1,6 @@
 -- Labels that `mark` wrote are read back with their network.
-use Rattle.std.proofs.Common.{◌≡◌, ◌∙◌, ℕ, ◌*◌, ◌≤◌, inl, inr, Bool, true, false, List, [], ◌∷◌, ◌++◌, length, All, Option, Some, None, append-nil, ap, subst, refl, sym, arith}
+use Rattle.std.specs.List.{sum_by}
+use Rattle.std.proofs.Common.{◌≡◌, ◌∙◌, ℕ, ◌*◌, ◌≤◌, inl, inr, Bool, true, false, List, [], ◌∷◌, ◌++◌, length, All, Contains, Option, Some, None, append-nil, ap, subst, refl, sym, arith}
 use Rattle.std.specs.Option.{unwrap_or}
 use Rattle.std.proofs.Math.Nat.{suc-mul}
 use Rattle.std.proofs.lemmas.List.{length-map}
@@ -9,7 +10,9 @@ use Rattle.pls_base.specs.declared.text_error.Quantity.TheVariants.{Nodes, Ports
 use Rattle.pls_model.specs.declared.limits.TheConstants.{MAX_BITS, MAX_NODES, MAX_PORTS}
 use Rattle.pls_model.specs.declared.row.NodeRow.{NodeRow}
 use Rattle.pls_model.specs.declared.status.Status.TheVariants.{Done}
-use Rattle.pls_model.specs.Configuration.{first_of, ids_of, ports_in}
+use Rattle.pls_model.specs.Configuration.{IsNetwork, first_of, ids_of, ports_in}
+use Rattle.pls_graph.specs.Size.{size_of}
+use Rattle.pls_graph.proofs.Members.{Contains-first, Contains-later}
 use Rattle.pls_lines.specs.Text.{text_of}
 use Rattle.pls_lines.specs.laws.Fronts.{text_of-append}
 use Rattle.pls_netfile.specs.NetworkText.{AreRows, network_lines, network_text}
@@ -19,6 +22,10 @@ use Rattle.pls_labelfile.specs.LabelsScan.{total_bits}
 use Rattle.pls_labelfile.proofs.LabelsPart.{either_may}
 use Rattle.pls_labelfile.proofs.Named.{named_no_misfit, net_labels_fit, total_bits-named}
 use Rattle.pls_property.specs.Expression.{Expression}
+use Rattle.pls_components.specs.Components.{AreComponents, IsComponent, items_at}
+use Rattle.pls_components.proofs.Items.{length-items}
+use Rattle.pls_components.proofs.Part.{places_within}
+use Rattle.pls_components.proofs.Partition.{sum_of_parts}
 use Rattle.pls_schedule.specs.ScheduleText.{AreEvents, schedule_lines}
 use Rattle.pls_edits.specs.EditsText.{AreEdits, edits_lines}
 use Rattle.pls_rules_part.specs.RulesText.{AreRulesSaid, rules_lines}
@@ -32,10 +39,10 @@ use Rattle.pls_app.specs.declared.command.Command.TheVariants.{With}
 use Rattle.pls_app.specs.declared.command.Task.{Task}
 use Rattle.pls_app.specs.declared.command.Task.TheVariants.{Mark, Verify, Simulate, Recheck, Bound, Convert}
 use Rattle.pls_app.specs.Command.{input_parts_of}
-use Rattle.pls_app.specs.Meant.{Shows, bound_in, room_in}
+use Rattle.pls_app.specs.Meant.{Shows, longest_in, room_in}
 use Rattle.pls_app.specs.Said.{Answer}
 use Rattle.pls_app.specs.Run.{Certifies}
-use Rattle.pls_app.specs.inner.Tasks.{Does, ShowsIn}
+use Rattle.pls_app.specs.inner.Tasks.{DoesWork, ShowsIn}
 use Rattle.pls_app.proofs.Proved.{refused_not_done}
 use Rattle.pls_app.proofs.TextLengths.{text_fits}
 
@@ -54,17 +61,40 @@ together_short most (label ∷ labels) short =
     )
 
 -- marked labels that are not refused have few bits together
-marked_few : (code : CodeName) (scheme : Expression) (rows : List NodeRow) (labels : List (List Bool))
-    → over Labels MAX_BITS (room_in code scheme rows) ≡ None → Shows code scheme rows labels
+marked_few : (code : CodeName) (scheme : Expression) (rows : List NodeRow) (parts : List (List ℕ))
+    (labels : List (List Bool)) → IsNetwork rows → AreComponents rows parts
+    → over Labels MAX_BITS (room_in code scheme rows parts) ≡ None → Shows code scheme rows labels
     → bits_together labels ≤ MAX_BITS
-marked_few code scheme rows labels accepted shows =
-    let longest : ℕ = bound_in code scheme rows in
-    let each : All (λ label. length label ≤ longest) labels =
-    λ place other within. omega (arith, shows.short place other within) in
-    let few = few_of Labels MAX_BITS (length rows * longest) accepted in
-    let many : length labels * longest ≡ length rows * longest =
-    ap (λ (count : ℕ). count * longest) shows.each in
-    omega (arith, together_short longest labels each, few, many)
+marked_few code scheme rows parts labels network are accepted shows =
+    let few = few_of Labels MAX_BITS (room_in code scheme rows parts) accepted in
+    let all : sum_by (λ places. sum_by length (items_at labels places)) parts ≡ sum_by length labels =
+    sum_of_parts rows network parts are (length {A = Bool}) labels shows.each in
+    omega (arith, few, all, below parts (λ places in'. in'))
+  where
+    one : (places : List ℕ) → IsComponent rows places → sum_by length (items_at labels places)
+        ≤ length places * longest_in code scheme (size_of (items_at rows places))
+    one places is =
+        let longest : ℕ = longest_in code scheme (size_of (items_at rows places)) in
+        let each : All (λ label. length label ≤ longest) (items_at labels places) =
+        λ place other within. omega (arith, shows.short places is place other within) in
+        let many : length (items_at labels places) ≡ length places =
+        length-items labels places (λ k d within.
+        omega (arith, places_within rows network places is k d within, shows.each)) in
+        let product : length (items_at labels places) * longest ≡ length places * longest =
+        ap (λ (count : ℕ). count * longest) many in
+        omega (arith, together_short longest (items_at labels places) each, product)
+
+    below : (some : List (List ℕ)) → ((places : List ℕ) → Contains some places → Contains parts places)
+        → sum_by (λ places. sum_by length (items_at labels places)) some
+        ≤ room_in code scheme rows some
+    below [] among = omega arith
+    below (places ∷ some) among =
+        let here = one places (are.each places (among places (Contains-first places some))) in
+        let rest = below some (λ others in'. among others (Contains-later places some others in')) in
+        let left = sum_by-cons (λ (places : List ℕ). sum_by length (items_at labels places)) places some in
+        let right = sum_by-cons (λ (places : List ℕ). length places
+        * longest_in code scheme (size_of (items_at rows places))) places some in
+        omega arith
 
 -- a network with labels of its nodes, and nothing more
 abbrev pub labelled : CodeName → List NodeRow → List (List Bool) → Input
@@ -157,14 +187,16 @@ relabelled parts bytes input is wanted unscheduled unedited unruled code labels 
 
 -- the text of a network and the labels that show its property are an input
 marked_input : (code : CodeName) (scheme : Expression) (bytes : List ℕ) (input : Input)
-    (labels : List (List Bool)) → IsInput network bytes input
-    → over Labels MAX_BITS (room_in code scheme (rows_in input)) ≡ None
+    (parts : List (List ℕ)) (labels : List (List Bool)) → IsInput network bytes input
+    → AreComponents (rows_in input) parts
+    → over Labels MAX_BITS (room_in code scheme (rows_in input) parts) ≡ None
     → Shows code scheme (rows_in input) labels
     → IsInput parts_with_labels (bytes ++ net_labels_text code (rows_in input) labels)
     (with_labels code input labels)
-marked_input code scheme bytes input labels is accepted shows =
+marked_input code scheme bytes input parts labels is are accepted shows =
     let rows : List NodeRow = rows_in input in
-    let small = marked_few code scheme rows labels accepted shows in
+    let small = marked_few code scheme rows parts labels (readable network bytes input is refl).network
+    are accepted shows in
     let found = there AreRows input.network is.says.has.network in
     let of_network : input.network ≡ Some rows = found.1
     ∙ ap Some (sym (ap (λ (network : Option (List NodeRow)). unwrap_or network []) found.1)) in
@@ -184,38 +216,41 @@ marked_input code scheme bytes input labels is accepted shows =
 
 -- what `mark` answered certifies the text of the network
 pub certified : (code : CodeName) (scheme : Expression) (bytes : List ℕ) (input : Input) (answer : Answer)
-    → IsInput network bytes input → Does (With (Mark code) scheme) input answer
+    → IsInput network bytes input → DoesWork (With (Mark code) scheme) input answer
     → ShowsIn code scheme (rows_in input) answer.text → answer.status ≡ Done
     → Certifies code scheme bytes answer.text
-certified code scheme bytes input answer is does shown done =
+certified code scheme bytes input answer is work shown done =
     let rows : List NodeRow = rows_in input in
-    let accepted : over Labels MAX_BITS (room_in code scheme rows) ≡ None = elim does [
+    let accepted : over Labels MAX_BITS (room_in code scheme rows work.parts) ≡ None = elim work.does [
       | inl refused ↦
           absurd (refused_not_done refused.0
           (sym (ap (λ (answer : Answer). answer.status) refused.2) ∙ done))
-      | inr yields ↦ yields.0.accepted
+      | inr yields ↦ yields.0
     ] in
     record {
       input = input;
       labels = shown.labels;
       is = is;
+      parts = work.parts;
+      components = work.components;
       shows = shown.shows;
       text_is = shown.is;
       read_back =
           subst (λ (text : List ℕ). IsInput parts_with_labels (bytes ++ text)
           (with_labels code input shown.labels)) (sym shown.is)
-          (marked_input code scheme bytes input shown.labels is accepted shown.shows);
+          (marked_input code scheme bytes input work.parts shown.labels is work.components accepted
+          shown.shows);
     }
 
 -- so it is where the task is `mark`
 pub certified_mark : (task : Task) (code : CodeName) (scheme : Expression) (bytes : List ℕ) (input : Input)
     (answer : Answer) → task ≡ Mark code → IsInput (input_parts_of (With task scheme)) bytes input
-    → Does (With task scheme) input answer → ShowsIn code scheme (rows_in input) answer.text
+    → DoesWork (With task scheme) input answer → ShowsIn code scheme (rows_in input) answer.text
     → answer.status ≡ Done → Certifies code scheme bytes answer.text
 certified_mark (Mark other) code scheme bytes input answer task is does shown done =
     let same : other ≡ code = cc in
     certified code scheme bytes input answer is
-    (subst (λ (code : CodeName). Does (With (Mark code) scheme) input answer) same does) shown done
+    (subst (λ (code : CodeName). DoesWork (With (Mark code) scheme) input answer) same does) shown done
 certified_mark (Verify json) code scheme bytes input answer task is does shown done = absurd (cc)
 certified_mark (Simulate json) code scheme bytes input answer task is does shown done = absurd (cc)
 certified_mark Recheck code scheme bytes input answer task is does shown done = absurd (cc)

@@ -28,7 +28,7 @@ use Rattle.pls_names.specs.laws.Recoding.{Changes, IsCode, changed}
 use Rattle.pls_sim.specs.declared.outcome.Outcome.{Outcome}
 use Rattle.pls_sim.specs.declared.outcome.Outcome.TheVariants.{Decided}
 use Rattle.pls_property.specs.Expression.{Expression}
-use Rattle.pls_combine.specs.Converted.{converted}
+use Rattle.pls_combine.specs.Converted.{all_converted, converted, first_unread}
 use Rattle.pls_combine.specs.Expression.{judge_of}
 use Rattle.pls_combine.specs.laws.ConvertedLaws.{expression_alike}
 use Rattle.pls_combine.specs.laws.ConvertedRounds.{rounds_alike}
@@ -39,7 +39,7 @@ use Rattle.pls_inputs.proofs.WithinLimits.{few_of}
 use Rattle.pls_app.specs.declared.command.Command.TheVariants.{With}
 use Rattle.pls_app.specs.declared.command.Task.TheVariants.{Convert}
 use Rattle.pls_app.specs.Answer.{Answers}
-use Rattle.pls_app.specs.Convert.{all_converted, converted_labels, first_unread, unconverted}
+use Rattle.pls_app.specs.Convert.{converted_labels, unconverted}
 use Rattle.pls_app.specs.Meant.{converted_in, judge_in}
 use Rattle.pls_app.specs.Reports.{decided_by}
 use Rattle.pls_app.specs.Run.{Converts}

@@ -71,7 +71,7 @@ module _ (scheme : Expression) (input : Input) (now : Situation) (reports : List
       let rows : now.rows ≡ edited_by (edits_in input) (rows_in input) =
       ap (λ (now : Situation). now.rows) played.is ∙ rows_after (Round ∷ (edits_in input)) (begun input) in
       subst (Holds scheme) rows
-      (round_holds (code_in input) scheme now.rows now.labels network here.connected each here.accepted)
+      (round_holds (code_in input) scheme now.rows now.labels network each here)
 
   -- so the answer with the reports says
   pub all_found : AreEdits (edits_in input) → IsNetwork now.rows → length now.labels ≡ length now.rows

@@ -29,7 +29,7 @@ use Rattle.pls_report.specs.Report.{all_accept}
 use Rattle.pls_app.specs.Ruled.{set_in}
 use Rattle.pls_app.specs.Run.{ProvesByRules}
 use Rattle.pls_app.specs.Said.{Answer}
-use Rattle.pls_app.proofs.Proved.{accepted_holds, decided_accept, done_all, refused_not_done}
+use Rattle.pls_app.proofs.Proved.{accepted_holds, round_accepts, done_all, refused_not_done}
 
 -- a pointer that is the number of a port, if there is one
 points_within : (up : Option ℕ) (degree : ℕ) → ((port : ℕ) → up ≡ Some port → port < degree)
@@ -72,13 +72,13 @@ done_judges json bytes answer answers done = elim answers [
       done_all (all_accept (outcomes_in (ByRules (Judge json)) input))
       (sym (ap (λ (answer : Answer). answer.status) works.yields) ∙ done) in
       let accepted : AllAccept (meaning gamma_takes (set_in input)) rows (labels_in input) =
-      decided_accept (meaning gamma_takes (set_in input)) rows (labels_in input) all in
+      round_accepts (meaning gamma_takes (set_in input)) rows (labels_in input) all in
       let known = readable parts_with_rules bytes input works.is refl in
       record {
         input = input;
         is = works.is;
         holds = λ name named.
-            accepted_holds Gamma (Of name) rows (labels_in input) known.network works.takes.joined
+            accepted_holds Gamma (Of name) rows (labels_in input) known.network
             (each parts_with_rules bytes input works.is refl)
             (named_accept name (set_in input) rows (labels_in input) known.network named accepted);
       }

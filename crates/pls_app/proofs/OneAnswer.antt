@@ -4,8 +4,13 @@ use Rattle.pls_model.specs.declared.row.NodeRow.{NodeRow}
 use Rattle.pls_model.specs.Configuration.{IsNetwork}
 use Rattle.pls_lines.specs.Text.{text_of}
 use Rattle.pls_trial.specs.Generator.{trial_of}
-use Rattle.pls_property.specs.Expression.{Expression}
+use Rattle.pls_property.specs.Expression.{Expression, HasProperty}
+use Rattle.pls_combine.specs.Expression.{IsMarked}
 use Rattle.pls_combine.specs.laws.ExpressionLaws.{expression_marked_once}
+use Rattle.pls_components.specs.Components.{AreComponents, HasInEach}
+use Rattle.pls_components.specs.Parts.{AreLacking}
+use Rattle.pls_components.proofs.OneMarking.{one_labelling, one_lacking}
+use Rattle.pls_graph.proofs.Members.{Contains-first}
 use Rattle.pls_edits.specs.declared.edit_line.EditLine.TheVariants.{Round}
 use Rattle.pls_inputs.specs.Parts.{Input, code_in, edits_in, rows_in}
 use Rattle.pls_inputs.proofs.Facts.{readable}
@@ -20,27 +25,40 @@ use Rattle.pls_app.specs.Command.{input_parts_of, read_by}
 use Rattle.pls_app.specs.Meant.{number_code_of, judge_in}
 use Rattle.pls_app.specs.Reports.{begun}
 use Rattle.pls_app.specs.Said.{Answer}
-use Rattle.pls_app.specs.Answer.{Answers, IsAnswer, Marks, Reads, Yields, labels_answer, refusal, reported}
+use Rattle.pls_app.specs.Answer.{Answers, IsAnswer, Marks, Reads, Works, Yields, labels_answer, no, refusal, reported}
 use Rattle.pls_app.specs.Trial.{IsTrialAnswer, trial_line, tried_scheme}
 use Rattle.pls_app.proofs.Commands.{one_command}
-use Rattle.pls_app.proofs.OneRefusal.{one_refusal, refused_untaken}
+use Rattle.pls_app.proofs.OneRefusal.{one_parts, one_refusal, refused_untaken}
 use Rattle.pls_app.proofs.Rechecked.{one_reports}
 
+-- not all components have a property that some of them lack
+not_both : (holds : List NodeRow → Type 0) (rows : List NodeRow) (ids : List ℕ)
+    → HasInEach holds rows → AreLacking holds rows ids → ⊥
+not_both holds rows [] has lacking = lacking.some refl
+not_both holds rows (id ∷ ids) has lacking =
+    let found = lacking.each id (Contains-first id ids) in
+    found.1.lacks (has found.0 found.1.component)
+
 -- the marks of a network have one answer
-one_mark : (code : CodeName) (scheme : Expression) (rows : List NodeRow) (answer other : Answer)
-    → IsNetwork rows → Marks code scheme rows answer → Marks code scheme rows other
-    → answer ≡ other
-one_mark code scheme rows answer other network one two = elim one [
+one_mark : (code : CodeName) (scheme : Expression) (rows : List NodeRow) (parts : List (List ℕ))
+    (answer other : Answer) → IsNetwork rows → AreComponents rows parts
+    → Marks code scheme rows parts answer → Marks code scheme rows parts other → answer ≡ other
+one_mark code scheme rows parts answer other network are one two = elim one [
   | inl mine ↦ elim two [
     | inl theirs ↦
-        mine.3 ∙ ap (labels_answer code rows)
-        (expression_marked_once (number_code_of code) scheme rows mine.0 theirs.0 network mine.1.joined
-        mine.1.has mine.2 theirs.2) ∙ sym theirs.3
-    | inr fails ↦ absurd (fails.0.lacks mine.1.has)
+        let labels : mine.0 ≡ theirs.0 =
+        one_labelling rows network (HasProperty scheme) (IsMarked (number_code_of code) scheme)
+        (expression_marked_once (number_code_of code) scheme) parts are mine.1.holds mine.0 theirs.0
+        mine.1.each theirs.1.each mine.1.marks theirs.1.marks in
+        mine.2 ∙ ap (labels_answer code rows) labels ∙ sym theirs.2
+    | inr lacks ↦ absurd (not_both (HasProperty scheme) rows lacks.0 mine.1.holds lacks.1)
   ]
-  | inr fails ↦ elim two [
-    | inl theirs ↦ absurd (fails.0.lacks theirs.1.has)
-    | inr too ↦ fails.1 ∙ sym too.1
+  | inr lacks ↦ elim two [
+    | inl theirs ↦ absurd (not_both (HasProperty scheme) rows lacks.0 theirs.1.holds lacks.1)
+    | inr too ↦
+        let ids : lacks.0 ≡ too.0 =
+        one_lacking (HasProperty scheme) rows lacks.0 too.0 lacks.1 too.1 in
+        lacks.2 ∙ ap (no parts) ids ∙ sym too.2
   ]
 ]
 
@@ -50,7 +68,7 @@ one_tried : (nodes seed : ℕ) (answer other : Answer) → IsTrialAnswer nodes s
 one_tried nodes seed answer other one two =
     let labels : one.labels ≡ two.labels =
     expression_marked_once (number_code_of Gamma) tried_scheme (trial_of nodes seed) one.labels two.labels
-    one.valid one.shows.holds.joined one.shows.holds.has one.marked two.marked in
+    one.valid one.marked.joined one.marked.has one.marked.marked two.marked.marked in
     let texts : answer.text ≡ other.text =
     one.text ∙ ap (λ (labels : List (List Bool)). text_of (trial_line (trial_of nodes seed) labels ∷ []))
     labels ∙ sym two.text in
@@ -58,25 +76,39 @@ one_tried nodes seed answer other one two =
     λ i. record { status = ends i; text = texts i }
 
 -- a command answers an input in one way
-one_yield : (command : Command) (bytes : List ℕ) (input : Input) (answer other : Answer)
-    → Reads command bytes input → Yields command input answer → Yields command input other
-    → answer ≡ other
-one_yield (With (Mark code) scheme) bytes input answer other is one two =
-    one_mark code scheme (rows_in input) answer other
-    (readable (input_parts_of (With (Mark code) scheme)) bytes input is refl).network one two
-one_yield (With (Verify json) scheme) bytes input answer other is one two = one ∙ sym two
-one_yield (With (Simulate json) scheme) bytes input answer other is one two = one ∙ sym two
-one_yield (With Recheck scheme) bytes input answer other is one two =
+one_yield : (command : Command) (bytes : List ℕ) (input : Input) (parts : List (List ℕ))
+    (answer other : Answer) → Reads command bytes input → AreComponents (rows_in input) parts
+    → Yields command input parts answer → Yields command input parts other → answer ≡ other
+one_yield (With (Mark code) scheme) bytes input parts answer other is are one two =
+    one_mark code scheme (rows_in input) parts answer other
+    (readable (input_parts_of (With (Mark code) scheme)) bytes input is refl).network are one two
+one_yield (With (Verify json) scheme) bytes input parts answer other is are one two = one ∙ sym two
+one_yield (With (Simulate json) scheme) bytes input parts answer other is are one two = one ∙ sym two
+one_yield (With Recheck scheme) bytes input parts answer other is are one two =
     let same = one_reports (judge_in (code_in input) scheme) (Round ∷ edits_in input) (begun input) 0 one.0
     two.0 one.1 two.1 in
     one.2 ∙ ap reported same ∙ sym two.2
-one_yield (With (Bound code) scheme) bytes input answer other is one two = one ∙ sym two
-one_yield (With Convert scheme) bytes input answer other is one two = one ∙ sym two
-one_yield (Trial nodes seed) bytes input answer other is one two =
+one_yield (With (Bound code) scheme) bytes input parts answer other is are one two = one ∙ sym two
+one_yield (With Convert scheme) bytes input parts answer other is are one two = one ∙ sym two
+one_yield (Trial nodes seed) bytes input parts answer other is are one two =
     one_tried nodes seed answer other one two
-one_yield (ByRules (Judge json)) bytes input answer other is one two = one ∙ sym two
-one_yield (ByRules Code) bytes input answer other is one two = one ∙ sym two
-one_yield (Print name) bytes input answer other is one two = one ∙ sym two
+one_yield (ByRules (Judge json)) bytes input parts answer other is are one two = one ∙ sym two
+one_yield (ByRules Code) bytes input parts answer other is are one two = one ∙ sym two
+one_yield (Print name) bytes input parts answer other is are one two = one ∙ sym two
+
+-- what a command takes it answers in one way
+one_work : (command : Command) (bytes : List ℕ) (answer other : Answer)
+    → Works command bytes answer → Works command bytes other → answer ≡ other
+one_work command bytes answer other one two =
+    let inputs : two.input ≡ one.input =
+    one_input (input_parts_of command) (read_by command bytes) two.input one.input two.is one.is in
+    let are : AreComponents (rows_in one.input) two.parts =
+    subst (λ (input : Input). AreComponents (rows_in input) two.parts) inputs two.takes.components in
+    let parts : two.parts ≡ one.parts =
+    one_parts command bytes one.input two.parts one.parts one.is are one.takes.components in
+    one_yield command bytes one.input one.parts answer other one.is one.takes.components one.yields
+    (subst (λ (parts : List (List ℕ)). Yields command one.input parts other) parts
+    (subst (λ (input : Input). Yields command input two.parts other) inputs two.yields))
 
 -- a command on bytes has one answer
 one_of_command : (command : Command) (bytes : List ℕ) (answer other : Answer)
@@ -87,16 +119,14 @@ one_of_command command bytes answer other one two = elim one [
         refused.2 ∙ ap refusal (one_refusal command bytes refused.0 too.0 refused.1 too.1)
         ∙ sym too.2
     | inr works ↦
-        absurd (refused_untaken command bytes refused.0 works.input refused.1 works.is works.takes)
+        absurd (refused_untaken command bytes refused.0 works.input works.parts refused.1 works.is
+        works.takes)
   ]
   | inr works ↦ elim two [
     | inl refused ↦
-        absurd (refused_untaken command bytes refused.0 works.input refused.1 works.is works.takes)
-    | inr too ↦
-        let same = one_input (input_parts_of command) (read_by command bytes) too.input works.input too.is
-        works.is in
-        one_yield command bytes works.input answer other works.is works.yields
-        (subst (λ (input : Input). Yields command input other) same too.yields)
+        absurd (refused_untaken command bytes refused.0 works.input works.parts refused.1 works.is
+        works.takes)
+    | inr too ↦ one_work command bytes answer other works too
   ]
 ]
 

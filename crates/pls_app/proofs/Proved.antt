@@ -1,7 +1,7 @@
 -- What `Done` and `No` say of a network.
-use Rattle.std.proofs.Common.{◌≡◌, ◌∙◌, ℕ, Contains, [], ◌∷◌, Bool, true, false, List, map, length, All, if◌then◌else◌, inl, inr, get_or, refl, subst, sym, ap}
+use Rattle.std.proofs.Common.{◌≡◌, ◌∙◌, ℕ, [], ◌∷◌, Bool, true, false, List, map, length, All, if◌then◌else◌, inl, inr, get_or, refl, subst, sym, ap}
 use Rattle.std.proofs.lemmas.List.Folds.{list_all-map}
-use Rattle.std.proofs.lemmas.List.Sums.{AllPass-from_list_all}
+use Rattle.std.proofs.lemmas.List.Sums.{AllPass-from_list_all, list_all-from_AllPass}
 use Rattle.std.proofs.lemmas.List.Elements.{All-map}
 use Rattle.pls_graph.proofs.Members.{Contains-first, Contains-later}
 use Rattle.pls_base.specs.declared.text_error.TextError.{TextError}
@@ -13,7 +13,6 @@ use Rattle.pls_model.specs.declared.verdict.Verdict.{Verdict}
 use Rattle.pls_model.specs.declared.verdict.Verdict.TheVariants.{Accept, Reject}
 use Rattle.pls_view.specs.Seen.{Seen, label_of, seen, views}
 use Rattle.pls_model.specs.Configuration.{IsNetwork}
-use Rattle.pls_model.specs.Walk.{IsConnected}
 use Rattle.pls_scheme.specs.Judging.{AllAccept, round_by}
 use Rattle.pls_schedule.specs.declared.event.Event.{Event}
 use Rattle.pls_sim.specs.declared.outcome.Outcome.{Outcome}
@@ -23,7 +22,11 @@ use Rattle.pls_report.specs.Report.{all_accept, all_verdicts_accept, is_acceptin
 use Rattle.pls_bits.specs.NumberCode.{TakesOnly}
 use Rattle.pls_bits.specs.laws.DeltaLaws.{delta_takes-only}
 use Rattle.pls_bits.specs.laws.GammaLaws.{gamma_takes-only}
-use Rattle.pls_property.specs.Expression.{Expression}
+use Rattle.pls_components.specs.Components.{IsComponent, items_at}
+use Rattle.pls_components.specs.Parts.{AcceptAt}
+use Rattle.pls_components.proofs.Items.{All-items, items-map}
+use Rattle.pls_components.proofs.Local.{part_holds}
+use Rattle.pls_property.specs.Expression.{Expression, HasProperty}
 use Rattle.pls_combine.specs.laws.ExpressionLaws.{expression_sound}
 use Rattle.pls_inputs.specs.Parts.{Input, code_in, events_in, labels_in, rows_in}
 use Rattle.pls_inputs.proofs.Facts.{each, readable}
@@ -33,11 +36,11 @@ use Rattle.pls_app.specs.declared.command.Command.{Command}
 use Rattle.pls_app.specs.declared.command.Command.TheVariants.{ByRules, Print, Trial, With}
 use Rattle.pls_app.specs.declared.command.Task.TheVariants.{Mark, Verify, Simulate, Recheck, Bound, Convert}
 use Rattle.pls_app.specs.Command.{Checks, input_parts_of, read_by}
-use Rattle.pls_app.specs.Meant.{Holds, judge_in, number_code_of, takes_of}
+use Rattle.pls_app.specs.Meant.{Holds, LacksAt, judge_in, number_code_of, takes_of}
 use Rattle.pls_app.specs.Reports.{decided_by}
 use Rattle.pls_app.specs.Said.{Answer}
-use Rattle.pls_app.specs.Answer.{Answers, Yields, outcomes_in, refusal_status}
-use Rattle.pls_app.specs.Run.{IsJudged, Lacks, Proves, SomeRejects}
+use Rattle.pls_app.specs.Answer.{Answers, Reads, Yields, outcomes_in, refusal_status}
+use Rattle.pls_app.specs.Run.{IsJudged, Lacks, Notices, Proves, SomeFails, SomeRejects}
 
 -- a verdict that is decided and accepting accepts
 accepts : (verdict : Verdict) → is_accepting (Decided verdict) ≡ true → verdict ≡ Accept
@@ -57,43 +60,69 @@ each_accepts outcome xs all = λ k d within.
     AllPass-from_list_all (λ x. is_accepting (outcome x).1) xs
     (sym (list_all-map (λ row. is_accepting row.1) outcome xs) ∙ all) k d within
 
--- a round in which all accept
+-- a round in which the nodes at some places accept
 pub decided_accept : (judge : Seen → Verdict) (rows : List NodeRow) (labels : List (List Bool))
+    (places : List ℕ) → all_accept (items_at (decided_by judge rows labels) places) ≡ true
+    → AcceptAt judge rows labels places
+decided_accept judge rows labels places all =
+    let outcome : Seen → ℕ × Outcome = λ view. (view.id, Decided (judge view)) in
+    let own : List Seen = items_at (views rows labels) places in
+    λ k d within. accepts (judge (get_or own k d))
+    (each_accepts outcome own
+    (ap all_accept (sym (items-map outcome (views rows labels) places)) ∙ all) k d within)
+
+-- and one in which all do
+pub round_accepts : (judge : Seen → Verdict) (rows : List NodeRow) (labels : List (List Bool))
     → all_accept (decided_by judge rows labels) ≡ true → AllAccept judge rows labels
-decided_accept judge rows labels all = λ k d within.
+round_accepts judge rows labels all = λ k d within.
     accepts (judge (get_or (views rows labels) k d))
     (each_accepts (λ view. (view.id, Decided (judge view))) (views rows labels) all k d within)
 
--- a round that is played, in which all accept
+-- a round that is played, in which the nodes at some places accept
 played_accept : (judge : Seen → Verdict) (rows : List NodeRow) (labels : List (List Bool))
-    (events : List Event) → all_accept (played_by judge rows labels events) ≡ true
-    → AllAccept judge rows labels
-played_accept judge rows labels events all =
+    (events : List Event) (places : List ℕ)
+    → all_accept (items_at (played_by judge rows labels events) places) ≡ true
+    → AcceptAt judge rows labels places
+played_accept judge rows labels events places all =
     let view : NodeRow → Seen = seen (label_of rows labels) in
-    All-map (λ (view : Seen). judge view ≡ Accept) view rows (λ k d within.
-    let row = get_or rows k d in
+    let outcome : NodeRow → ℕ × Outcome =
+    λ row. (row.id, outcome_of judge rows labels events row) in
+    let own : List NodeRow = items_at rows places in
+    subst (All (λ (view : Seen). judge view ≡ Accept)) (sym (items-map view rows places))
+    (All-map (λ (view : Seen). judge view ≡ Accept) view own (λ k d within.
+    let row = get_or own k d in
     accepts_after (unheard rows events row) (judge (view row))
-    (each_accepts (λ row. (row.id, outcome_of judge rows labels events row)) rows all k d within))
+    (each_accepts outcome own
+    (ap all_accept (sym (items-map outcome rows places)) ∙ all) k d within)))
 
--- the outcomes that a command reports all accept only where all nodes do
-all_judged : (scheme : Expression) (command : Command) (input : Input) → Checks scheme command
-    → all_accept (outcomes_in command input) ≡ true
-    → AllAccept (judge_in (code_in input) scheme) (rows_in input) (labels_in input)
-all_judged scheme (With (Mark code) other) input checks all = absurd checks
-all_judged scheme (With (Verify json) other) input checks all =
-    subst (λ (scheme : Expression). AllAccept (judge_in (code_in input) scheme) (rows_in input)
-    (labels_in input)) (sym checks)
-    (decided_accept (judge_in (code_in input) other) (rows_in input) (labels_in input) all)
-all_judged scheme (With (Simulate json) other) input checks all =
-    subst (λ (scheme : Expression). AllAccept (judge_in (code_in input) scheme) (rows_in input)
-    (labels_in input)) (sym checks)
-    (played_accept (judge_in (code_in input) other) (rows_in input) (labels_in input) (events_in input) all)
-all_judged scheme (With Recheck other) input checks all = absurd checks
-all_judged scheme (With (Bound code) other) input checks all = absurd checks
-all_judged scheme (With Convert other) input checks all = absurd checks
-all_judged scheme (Trial nodes seed) input checks all = absurd checks
-all_judged scheme (ByRules task) input checks all = absurd checks
-all_judged scheme (Print name) input checks all = absurd checks
+-- the outcomes that a command reports of some nodes all accept only where the nodes do
+all_judged : (scheme : Expression) (command : Command) (input : Input) (places : List ℕ)
+    → Checks scheme command → all_accept (items_at (outcomes_in command input) places) ≡ true
+    → AcceptAt (judge_in (code_in input) scheme) (rows_in input) (labels_in input) places
+all_judged scheme (With (Mark code) other) input places checks all = absurd checks
+all_judged scheme (With (Verify json) other) input places checks all =
+    subst (λ (scheme : Expression). AcceptAt (judge_in (code_in input) scheme) (rows_in input)
+    (labels_in input) places) (sym checks)
+    (decided_accept (judge_in (code_in input) other) (rows_in input) (labels_in input) places all)
+all_judged scheme (With (Simulate json) other) input places checks all =
+    subst (λ (scheme : Expression). AcceptAt (judge_in (code_in input) scheme) (rows_in input)
+    (labels_in input) places) (sym checks)
+    (played_accept (judge_in (code_in input) other) (rows_in input) (labels_in input)
+    (events_in input) places all)
+all_judged scheme (With Recheck other) input places checks all = absurd checks
+all_judged scheme (With (Bound code) other) input places checks all = absurd checks
+all_judged scheme (With Convert other) input places checks all = absurd checks
+all_judged scheme (Trial nodes seed) input places checks all = absurd checks
+all_judged scheme (ByRules task) input places checks all = absurd checks
+all_judged scheme (Print name) input places checks all = absurd checks
+
+-- where all outcomes accept, those of some nodes do
+pub some_accept : (outcomes : List (ℕ × Outcome)) (places : List ℕ) → all_accept outcomes ≡ true
+    → all_accept (items_at outcomes places) ≡ true
+some_accept outcomes places all =
+    let test : ℕ × Outcome → Bool = λ row. is_accepting row.1 in
+    list_all-from_AllPass test (items_at outcomes places)
+    (All-items outcomes (λ row. test row ≡ true) (AllPass-from_list_all test outcomes all) places)
 
 -- a command that checks labels reads a network and one label for each node
 wants_labels : (scheme : Expression) (command : Command) → Checks scheme command
@@ -109,20 +138,20 @@ wants_labels scheme (ByRules task) checks = absurd checks
 wants_labels scheme (Print name) checks = absurd checks
 
 -- and its status says whether all outcomes accept
-ends_by : (scheme : Expression) (command : Command) (input : Input) (answer : Answer)
-    → Checks scheme command → Yields command input answer
+ends_by : (scheme : Expression) (command : Command) (input : Input) (parts : List (List ℕ))
+    (answer : Answer) → Checks scheme command → Yields command input parts answer
     → answer.status ≡ (if all_accept (outcomes_in command input) then Done else No)
-ends_by scheme (With (Mark code) other) input answer checks yields = absurd checks
-ends_by scheme (With (Verify json) other) input answer checks yields =
+ends_by scheme (With (Mark code) other) input parts answer checks yields = absurd checks
+ends_by scheme (With (Verify json) other) input parts answer checks yields =
     ap (λ (answer : Answer). answer.status) yields
-ends_by scheme (With (Simulate json) other) input answer checks yields =
+ends_by scheme (With (Simulate json) other) input parts answer checks yields =
     ap (λ (answer : Answer). answer.status) yields
-ends_by scheme (With Recheck other) input answer checks yields = absurd checks
-ends_by scheme (With (Bound code) other) input answer checks yields = absurd checks
-ends_by scheme (With Convert other) input answer checks yields = absurd checks
-ends_by scheme (Trial nodes seed) input answer checks yields = absurd checks
-ends_by scheme (ByRules task) input answer checks yields = absurd checks
-ends_by scheme (Print name) input answer checks yields = absurd checks
+ends_by scheme (With Recheck other) input parts answer checks yields = absurd checks
+ends_by scheme (With (Bound code) other) input parts answer checks yields = absurd checks
+ends_by scheme (With Convert other) input parts answer checks yields = absurd checks
+ends_by scheme (Trial nodes seed) input parts answer checks yields = absurd checks
+ends_by scheme (ByRules task) input parts answer checks yields = absurd checks
+ends_by scheme (Print name) input parts answer checks yields = absurd checks
 
 -- `Done` says that all do, and `No` that some does not
 pub done_all : (all : Bool) → (if all then Done else No) ≡ Done → all ≡ true
@@ -159,18 +188,39 @@ takes_only : (code : CodeName) → TakesOnly (number_code_of code) (takes_of cod
 takes_only Gamma = λ bits number rest taken. gamma_takes-only bits number rest taken
 takes_only Delta = λ bits number rest taken. delta_takes-only bits number rest taken
 
--- a network whose nodes all accept its labels, and that is one whole, has the property
-pub accepted_holds : (code : CodeName) (scheme : Expression) (rows : List NodeRow)
-    (labels : List (List Bool)) → IsNetwork rows → IsConnected rows
-    → length labels ≡ length rows → AllAccept (judge_in code scheme) rows labels
-    → Holds scheme rows
-accepted_holds code scheme rows labels network joined each accepted = record {
-  joined = joined;
-  has = expression_sound (number_code_of code) (takes_of code) (takes_only code) scheme rows labels
-      network joined each accepted;
-}
+-- a component whose nodes all accept the labels has the property
+part_accepted : (code : CodeName) (scheme : Expression) (rows : List NodeRow)
+    (labels : List (List Bool)) → IsNetwork rows → length labels ≡ length rows
+    → (places : List ℕ) → IsComponent rows places
+    → AcceptAt (judge_in code scheme) rows labels places
+    → HasProperty scheme (items_at rows places)
+part_accepted code scheme rows labels network each places is accepted =
+    part_holds rows network labels each places is (judge_in code scheme) (HasProperty scheme)
+    (expression_sound (number_code_of code) (takes_of code) (takes_only code) scheme) accepted
 
--- `Done` says that the network of the input has the property
+-- where all nodes accept, each component has it
+pub accepted_holds : (code : CodeName) (scheme : Expression) (rows : List NodeRow)
+    (labels : List (List Bool)) → IsNetwork rows → length labels ≡ length rows
+    → AllAccept (judge_in code scheme) rows labels → Holds scheme rows
+accepted_holds code scheme rows labels network each accepted = λ places is.
+    part_accepted code scheme rows labels network each places is
+    (All-items (views rows labels) (λ (view : Seen). judge_in code scheme view ≡ Accept) accepted
+    places)
+
+-- a component whose outcomes all accept has the property
+component_holds : (scheme : Expression) (command : Command) (bytes : List ℕ) (input : Input)
+    (places : List ℕ) → Checks scheme command → Reads command bytes input
+    → IsComponent (rows_in input) places
+    → all_accept (items_at (outcomes_in command input) places) ≡ true
+    → HasProperty scheme (items_at (rows_in input) places)
+component_holds scheme command bytes input places checks is component all =
+    let wants = wants_labels scheme command checks in
+    part_accepted (code_in input) scheme (rows_in input) (labels_in input)
+    (readable (input_parts_of command) (read_by command bytes) input is wants.0).network
+    (each (input_parts_of command) (read_by command bytes) input is wants.1) places component
+    (all_judged scheme command input places checks all)
+
+-- `Done` says that each component of the network of the input has the property
 pub done_proves : (scheme : Expression) (command : Command) (bytes : List ℕ) (answer : Answer)
     → Checks scheme command → Answers command bytes answer → answer.status ≡ Done
     → Proves scheme command bytes
@@ -181,30 +231,23 @@ done_proves scheme command bytes answer checks answers done = elim answers [
   | inr works ↦
       let input : Input = works.input in
       let all = done_all (all_accept (outcomes_in command input))
-      (sym (ends_by scheme command input answer checks works.yields) ∙ done) in
-      let wants = wants_labels scheme command checks in
+      (sym (ends_by scheme command input works.parts answer checks works.yields) ∙ done) in
       record {
         input = input;
         is = works.is;
-        holds = accepted_holds (code_in input) scheme (rows_in input) (labels_in input)
-            (readable (input_parts_of command) (read_by command bytes) input works.is wants.0).network
-            works.takes.joined
-            (each (input_parts_of command) (read_by command bytes) input works.is wants.1)
-            (all_judged scheme command input checks all);
+        holds = λ places component.
+            component_holds scheme command bytes input places checks works.is component
+            (some_accept (outcomes_in command input) places all);
       }
 ]
 
 -- where not all outcomes accept, some does not
-some_fails : (rows : List (ℕ × Outcome)) → all_accept rows ≡ false
-    → (node : ℕ × Outcome) × Contains rows node × (is_accepting node.1 ≡ false)
+some_fails : (rows : List (ℕ × Outcome)) → all_accept rows ≡ false → SomeFails rows
 some_fails [] all = absurd (cc)
 some_fails (row ∷ rows) all = by (is_accepting row.1) refl (λ e. some_fails rows e) all
   where
-    Found : List (ℕ × Outcome) → Type 0
-    Found among = (node : ℕ × Outcome) × Contains among node × (is_accepting node.1 ≡ false)
-
-    by : (test : Bool) → is_accepting row.1 ≡ test → (all_accept rows ≡ false → Found rows)
-        → all_accept (row ∷ rows) ≡ false → Found (row ∷ rows)
+    by : (test : Bool) → is_accepting row.1 ≡ test → (all_accept rows ≡ false → SomeFails rows)
+        → all_accept (row ∷ rows) ≡ false → SomeFails (row ∷ rows)
     by true is later all =
         let rest : all_accept rows ≡ false = rw is at all in
         let found = later rest in
@@ -222,30 +265,64 @@ no_rejects scheme command bytes answer checks answers ends = elim answers [
   | inr works ↦
       let input : Input = works.input in
       let some = no_some (all_accept (outcomes_in command input))
-      (sym (ends_by scheme command input answer checks works.yields) ∙ ends) in
-      let found = some_fails (outcomes_in command input) some in
+      (sym (ends_by scheme command input works.parts answer checks works.yields) ∙ ends) in
       record {
         input = input;
         is = works.is;
-        joined = works.takes.joined;
-        node = found.0;
-        among = found.1;
-        rejected = found.2;
+        fails = some_fails (outcomes_in command input) some;
       }
 ]
 
--- `No` after `mark` says that the network lacks the property
+-- of a component that lacks the property some node fails
+notice_one : (scheme : Expression) (command : Command) (bytes : List ℕ) (input : Input)
+    (places : List ℕ) → Checks scheme command → Reads command bytes input
+    → LacksAt scheme (rows_in input) places → (all : Bool)
+    → all_accept (items_at (outcomes_in command input) places) ≡ all
+    → SomeFails (items_at (outcomes_in command input) places)
+notice_one scheme command bytes input places checks is lacks true all =
+    absurd (lacks.lacks
+    (component_holds scheme command bytes input places checks is lacks.component all))
+notice_one scheme command bytes input places checks is lacks false all =
+    some_fails (items_at (outcomes_in command input) places) all
+
+-- so what was judged says of each
+pub judged_notices : (scheme : Expression) (command : Command) (bytes : List ℕ) (answer : Answer)
+    → Checks scheme command → Answers command bytes answer → IsJudged answer.status
+    → Notices scheme command bytes
+judged_notices scheme command bytes answer checks answers judged = elim answers [
+  | inl refused ↦
+      absurd (refused_not_judged refused.0 answer.status
+      (ap (λ (answer : Answer). answer.status) refused.2) judged)
+  | inr works ↦ record {
+    input = works.input;
+    is = works.is;
+    notices = λ places lacks.
+        notice_one scheme command bytes works.input places checks works.is lacks
+        (all_accept (items_at (outcomes_in command works.input) places)) refl;
+  }
+]
+
+-- `No` after `mark` says which components lack the property
 pub no_lacks : (code : CodeName) (scheme : Expression) (bytes : List ℕ) (answer : Answer)
-    → Answers (With (Mark code) scheme) bytes answer → answer.status ≡ No → Lacks scheme bytes
+    → Answers (With (Mark code) scheme) bytes answer → answer.status ≡ No
+    → Lacks scheme bytes answer.text
 no_lacks code scheme bytes answer answers ends = elim answers [
   | inl refused ↦
       absurd (refused_not_no refused.0
       (sym (ap (λ (answer : Answer). answer.status) refused.2) ∙ ends))
   | inr works ↦ elim works.yields [
     | inl labels ↦
-        absurd (let other : Done ≡ No = sym (ap (λ (answer : Answer). answer.status) labels.3)
+        absurd (let other : Done ≡ No = sym (ap (λ (answer : Answer). answer.status) labels.2)
         ∙ ends in cc)
-    | inr fails ↦ record { input = works.input; is = works.is; fails = fails.0 }
+    | inr lacks ↦ record {
+      input = works.input;
+      is = works.is;
+      parts = works.parts;
+      components = works.takes.components;
+      ids = lacks.0;
+      lacking = lacks.1;
+      says = ap (λ (answer : Answer). answer.text) lacks.2;
+    }
   ]
 ]
 
@@ -259,11 +336,11 @@ verdicts_accept judge rows labels all = λ k d within.
     (sym (list_all-map (λ row. is_accepting (Decided row.1)) row (views rows labels)) ∙ all)
     k d within)
 
--- a network whose nodes all accept its labels, and that is connected, has the property
-pub round_holds : (code : CodeName) (scheme : Expression) (rows : List NodeRow) (labels : List (List Bool))
-    → IsNetwork rows → IsConnected rows → length labels ≡ length rows
+-- of a network whose nodes all accept its labels each component has the property
+pub round_holds : (code : CodeName) (scheme : Expression) (rows : List NodeRow)
+    (labels : List (List Bool)) → IsNetwork rows → length labels ≡ length rows
     → all_verdicts_accept (round_by (judge_in code scheme) rows labels) ≡ true
     → Holds scheme rows
-round_holds code scheme rows labels network connected each all =
-    accepted_holds code scheme rows labels network connected each
+round_holds code scheme rows labels network each all =
+    accepted_holds code scheme rows labels network each
     (verdicts_accept (judge_in code scheme) rows labels all)

@@ -1,7 +1,6 @@
 -- The greatest numbers of a network that can stand in a text.
-use Rattle.std.proofs.Common.{◌≡◌, ◌∙◌, ℕ, ◌*◌, ◌-◌, ◌^◌, ◌≤◌, ◌<◌, Bool, true, false, List, [], ◌∷◌, map, All, Contains, ap, subst, refl, sym, arith}
+use Rattle.std.proofs.Common.{◌≡◌, ◌∙◌, ℕ, ◌-◌, ◌^◌, ◌≤◌, ◌<◌, Bool, true, false, List, [], ◌∷◌, map, All, Contains, Some, None, if◌then◌else◌, ap, refl, sym, arith}
 use Rattle.std.specs.Prelude.{flat_map, nat_lt}
-use Rattle.std.proofs.Math.Nat.{le-mul_of_pos_right, mul_comm}
 use Rattle.std.proofs.lemmas.Bool.Decides.{nat_tests}
 use Rattle.std.proofs.lemmas.Bool.{lt-ltb}
 use Rattle.std.proofs.lemmas.List.Elements.{All-cons, All-contains, All-head, All-map, All-nil, All-tail}
@@ -19,7 +18,14 @@ use Rattle.pls_bits.specs.laws.GammaLaws.{gamma_short}
 use Rattle.pls_property.specs.Expression.{Expression, IsSmall}
 use Rattle.pls_combine.specs.Expression.{longest_of}
 use Rattle.pls_combine.proofs.Bounds.{short_expression}
+use Rattle.pls_components.specs.Components.{AreComponents, IsComponent, items_at}
+use Rattle.pls_components.specs.Parts.{bound_of_parts}
+use Rattle.pls_components.proofs.Items.{All-items}
+use Rattle.pls_components.proofs.Part.{part_network}
 use Rattle.pls_app.specs.Trial.{tried_scheme}
+use Rattle.pls_base.specs.declared.text_error.Quantity.{Quantity}
+use Rattle.pls_base.specs.declared.text_error.TextError.TheVariants.{Limit}
+use Rattle.pls_inputs.specs.Order.{over}
 use Rattle.pls_inputs.proofs.Facts.{IsReadable}
 
 -- where each number is below a bound, so is the greatest
@@ -75,12 +81,31 @@ bound_small : (code : ℕ → List Bool) → IsShort code → (scheme : Expressi
 bound_small code short scheme rows small readable =
     short_expression code short scheme rows small readable.network (words_of rows readable)
 
--- so it is answered as it is
+-- so is the greatest of the bounds for its components, which is answered as it is
 pub bound_answered : (code : ℕ → List Bool) → IsShort code → (scheme : Expression)
-    (rows : List NodeRow) → IsSmall scheme → IsReadable rows
-    → capped (longest_of code scheme (size_of rows)) ≡ longest_of code scheme (size_of rows)
-bound_answered code short scheme rows small readable =
-    omega (arith, bound_small code short scheme rows small readable)
+    (rows : List NodeRow) (parts : List (List ℕ)) → IsSmall scheme → IsReadable rows
+    → AreComponents rows parts
+    → capped (bound_of_parts (longest_of code scheme) rows parts)
+    ≡ bound_of_parts (longest_of code scheme) rows parts
+bound_answered code short scheme rows parts small readable are =
+    omega (arith, few parts (λ places in'. in'))
+  where
+    few : (some : List (List ℕ)) → ((places : List ℕ) → Contains some places → Contains parts places)
+        → bound_of_parts (longest_of code scheme) rows some ≤ 2 ^ 30
+    few [] among = omega arith
+    few (places ∷ some) among =
+        let is : IsComponent rows places = are.each places (among places (Contains-first places some)) in
+        let network = part_network rows readable.network places is in
+        let one : longest_of code scheme (size_of (items_at rows places)) ≤ 2 ^ 30 =
+        bound_small code short scheme (items_at rows places) small (record {
+          network = network;
+          ranges = record {
+            some = network.limits.some;
+            each = All-items rows FitsRow readable.ranges.each places;
+          };
+        }) in
+        let rest = few some (λ others in'. among others (Contains-later places some others in')) in
+        omega arith
 
 -- the gamma code has short codes
 gamma_is_short : IsShort gamma_code
@@ -98,26 +123,24 @@ tried_answered rows net words =
     } in
     omega (arith, short_expression gamma_code gamma_is_short tried_scheme rows small net words)
 
--- at least one times a number is at least the number
-greater : (count bits : ℕ) → 1 ≤ count → bits ≤ count * bits
-greater count bits some =
-    subst (λ (product : ℕ). bits ≤ product) (mul_comm bits count)
-    (le-mul_of_pos_right bits (omega (arith, some)))
-
--- as many labels as nodes pass the limit where they do with the bound that is answered
-pub over_answered : (count most longest : ℕ) → 1 ≤ count → most < 2 ^ 64 - 1
-    → nat_lt most (count * capped longest) ≡ nat_lt most (count * longest)
-over_answered count most longest some small = by (nat_lt longest (2 ^ 64 - 1)) refl
+-- a number passes a limit where it does as it is answered
+pub over_capped : (most total : ℕ) → most < 2 ^ 64 - 1
+    → nat_lt most (capped total) ≡ nat_lt most total
+over_capped most total small = by (nat_lt total (2 ^ 64 - 1)) refl
   where
-    by : (b : Bool) → nat_lt longest (2 ^ 64 - 1) ≡ b
-        → nat_lt most (count * capped longest) ≡ nat_lt most (count * longest)
+    by : (b : Bool) → nat_lt total (2 ^ 64 - 1) ≡ b → nat_lt most (capped total) ≡ nat_lt most total
     by true less =
-        let same : capped longest ≡ longest = grind (arith, nat_tests) in
-        ap (λ (bits : ℕ). nat_lt most (count * bits)) same
+        let same : capped total ≡ total = grind (arith, nat_tests) in
+        ap (nat_lt most) same
     by false less =
-        let many : 2 ^ 64 - 1 ≤ longest = grind (arith, nat_tests) in
-        let capped_here : 2 ^ 64 - 1 ≤ capped longest = omega (arith, many) in
-        let one : most < count * capped longest =
-        omega (arith, small, capped_here, greater count (capped longest) some) in
-        let two : most < count * longest = omega (arith, small, many, greater count longest some) in
-        lt-ltb most (count * capped longest) one ∙ sym (lt-ltb most (count * longest) two)
+        let many : 2 ^ 64 - 1 ≤ total = grind (arith, nat_tests) in
+        let one : most < capped total = omega (arith, small, many) in
+        let two : most < total = omega (arith, small, many) in
+        lt-ltb most (capped total) one ∙ sym (lt-ltb most total two)
+
+-- so it is refused where it is
+pub over_room : (quantity : Quantity) (most total answered : ℕ) → most < 2 ^ 64 - 1
+    → answered ≡ capped total → over quantity most total ≡ over quantity most answered
+over_room quantity most total answered small is =
+    ap (λ (b : Bool). if b then Some (Limit quantity) else None) (sym (over_capped most total small))
+    ∙ ap (over quantity most) (sym is)

@@ -12,7 +12,7 @@ use Rattle.pls_app.specs.Answer.{Answers, IsAnswer}
 use Rattle.pls_app.specs.inner.Tasks.{IsWorked, Offers}
 use Rattle.pls_app.proofs.Answered.{command_answer}
 use Rattle.pls_app.proofs.Commands.{one_command}
-use Rattle.pls_app.specs.Run.{Certifies, Concerns, Converts, EndsAs, IsAnswered, IsUnread, TellsAnswer, TellsPart, TookCertificate, TookConversion}
+use Rattle.pls_app.specs.Run.{Certifies, Concerns, Converts, EndsAs, IsAnswered, IsUnread, TellsAnswer, TellsPart, TookCertificate, TookConversion, TookLack, Lacks}
 use Rattle.pls_app.specs.inner.Causes.{Told}
 
 -- an answer that was told in the end
@@ -52,6 +52,15 @@ pub took_certificate : (code : CodeName) (scheme : Expression) (bytes text : Lis
 took_certificate code scheme bytes text due status before after old new certifies told done = elim told [
   | inl whole ↦ record { text = text; took = whole.1; certifies = certifies }
   | inr part ↦ absurd (let other : WriteFault ≡ Done = cc in cc)
+]
+
+-- and that of one that ends in `No`
+pub took_lack : (scheme : Expression) (bytes text : List ℕ) (due status : Status)
+    (before after : ℕ) (old new : Option (List ℕ)) → (due ≡ No → Lacks scheme bytes text)
+    → Told due status before after old new text → status ≡ No → TookLack scheme bytes old new
+took_lack scheme bytes text due status before after old new lacks told ends = elim told [
+  | inl whole ↦ record { text = text; took = whole.1; lacks = lacks (sym whole.0 ∙ ends) }
+  | inr part ↦ absurd (let other : WriteFault ≡ No = cc in cc)
 ]
 
 -- and that of a conversion

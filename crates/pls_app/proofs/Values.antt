@@ -7,7 +7,8 @@ use Rattle.pls_model.specs.declared.limits.TheConstants.{MAX_INPUT}
 use Rattle.pls_model.specs.declared.row.NodeRow.{NodeRow}
 use Rattle.pls_model.specs.Configuration.{ids_of}
 use Rattle.pls_lines.specs.Text.{text_of}
-use Rattle.pls_netfile.specs.NetworkText.{network_lines}
+use Rattle.pls_netfile.specs.NetworkText.{AreRows, network_lines}
+use Rattle.pls_components.specs.Components.{AreComponents}
 use Rattle.pls_labelfile.specs.LabelsText.{labels_lines}
 use Rattle.pls_labelfile.proofs.Named.{bare-named}
 use Rattle.pls_schedule.specs.declared.event.Event.{Event}
@@ -21,7 +22,7 @@ use Rattle.pls_rules_part.specs.RulesText.{rules_lines, said_of_set, set_said}
 use Rattle.pls_inputs.specs.declared.input.Input.{Input as Read}
 use Rattle.pls_inputs.specs.declared.parts.Parts.{Parts}
 use Rattle.pls_inputs.specs.Parts.{Has, Input, edits_in, labels_in, lines_of, net_labelling, rows_in}
-use Rattle.pls_inputs.specs.Order.{edits_heading, schedule_heading}
+use Rattle.pls_inputs.specs.Order.{IsInput, edits_heading, schedule_heading}
 use Rattle.pls_inputs.specs.Read.{AreEach, IsFirstLine, IsRead, IsSensible, said}
 use Rattle.pls_inputs.proofs.Facts.{few}
 use Rattle.pls_app.specs.Ruled.{set_in}
@@ -167,3 +168,16 @@ module _ (parts : Parts) (bytes : List ℕ) (read : Read) (is : IsRead parts byt
         ap (λ (rules : Option RuleSet). option_map_or set_said
         (option_map (λ set. said_of_set (set_of set)) rules) (rules_of [] [])) rules
         ∙ sensible.1
+
+-- the components of a network that an input says are those of the input
+pub made_of : (input : Input) (net : List NodeRow) (parts : List (List ℕ)) → rows_in input ≡ net
+    → AreComponents net parts → AreComponents (rows_in input) parts
+made_of input net parts same are =
+    subst (λ (rows : List NodeRow). AreComponents rows parts) (sym same) are
+
+-- no rows are read where no network is wanted
+pub no_rows : (parts : Parts) (bytes : List ℕ) (input : Input) → IsInput parts bytes input
+    → parts.network ≡ false → rows_in input ≡ []
+no_rows parts bytes input is unwanted =
+    ap (λ (network : Option (List NodeRow)). unwrap_or network [])
+    (gone AreRows parts.network input.network unwanted is.says.has.network)

@@ -27,7 +27,7 @@ use Rattle.pls_app.specs.Command.{IsCommand}
 use Rattle.pls_app.specs.Meant.{judge_in}
 use Rattle.pls_app.specs.Reports.{decided_by}
 use Rattle.pls_app.specs.Said.{Answer}
-use Rattle.pls_app.specs.Answer.{outcomes_in, report}
+use Rattle.pls_app.specs.Answer.{reports_on}
 use Rattle.pls_app.specs.Run.{Certifies}
 use Rattle.pls_app.specs.Verified.{IsDone, verify_words}
 use Rattle.pls_app.proofs.Answered.{command_answer}
@@ -74,7 +74,7 @@ verified code scheme bytes text small certifies =
     let labels : List (List Bool) = certifies.labels in
     let input : Input = with_labels code certifies.input labels in
     let command = With (Verify false) scheme in
-    let answer : Answer = report false false (outcomes_in command input) in
+    let answer : Answer = reports_on command false false input certifies.parts in
     let same : labels_in input ≡ labels =
     bare-named (ids_of rows) labels
     (certifies.shows.each ∙ sym (length-map rows (λ (row : NodeRow). row.id))) in
@@ -87,7 +87,8 @@ verified code scheme bytes text small certifies =
           (verify_is scheme small) (inr (record {
             input = input;
             is = certifies.read_back;
-            takes = record { joined = certifies.shows.holds.joined; accepted = refl };
+            parts = certifies.parts;
+            takes = record { components = certifies.components; accepted = refl };
             yields = refl;
           }));
       done = ap (λ (all : Bool). if all then Done else No) all;

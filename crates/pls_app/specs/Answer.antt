@@ -1,6 +1,5 @@
 -- What a run answers: a status and a text, from its words and its input.
-use Rattle.std.specs.Prelude.{◌≡◌, ◌⊎◌, ℕ, ◌+◌, Bool, true, false, List, [], ◌∷◌, codes, decimal, Option, Some, None, if◌then◌else◌}
-use Rattle.pls_base.specs.declared.refusal_number.TheConstants.{APART}
+use Rattle.std.specs.Prelude.{◌≡◌, ◌⊎◌, ℕ, ◌+◌, Bool, true, false, List, [], ◌∷◌, codes, decimal, length, map, Option, Some, None, if◌then◌else◌}
 use Rattle.pls_base.specs.declared.text_error.TextError.{TextError}
 use Rattle.pls_base.specs.declared.text_error.TextError.TheVariants.{Form, Limit, Sense, NoMemory}
 use Rattle.pls_base.specs.declared.text_error.Quantity.TheVariants.{Labels}
@@ -8,13 +7,14 @@ use Rattle.pls_base.specs.Quantity.{quantity_text}
 use Rattle.pls_model.specs.declared.status.Status.{Status}
 use Rattle.pls_model.specs.declared.status.Status.TheVariants.{Done, No, Usage, Refused, Limit as OverLimit, NoMemory as OutOfMemory}
 use Rattle.pls_model.specs.declared.row.NodeRow.{NodeRow}
-use Rattle.pls_model.specs.Walk.{IsConnected}
-use Rattle.pls_graph.specs.Connected.{IsFirstApart}
 use Rattle.pls_lines.specs.Text.{line_of, text_of}
 use Rattle.pls_model.specs.declared.limits.TheConstants.{MAX_BITS}
 use Rattle.pls_sim.specs.declared.outcome.Outcome.{Outcome}
 use Rattle.pls_sim.specs.Schedule.{played_by}
+use Rattle.pls_report.specs.declared.part_row.PartRow.{PartRow}
 use Rattle.pls_report.specs.Report.{all_accept, report_text}
+use Rattle.pls_report.specs.PartLines.{if_several}
+use Rattle.pls_components.specs.Components.{AreComponents}
 use Rattle.pls_property.specs.Expression.{Expression}
 use Rattle.pls_json.specs.Json.{json_text}
 use Rattle.pls_inputs.specs.Parts.{Input, code_in, edits_in, events_in, labels_in, net_labels_text, rows_in}
@@ -26,7 +26,8 @@ use Rattle.pls_app.specs.declared.command.Command.{Command}
 use Rattle.pls_app.specs.declared.command.Command.TheVariants.{ByRules, Print, Trial, With}
 use Rattle.pls_app.specs.declared.command.Task.TheVariants.{Mark, Verify, Simulate, Recheck, Bound, Convert}
 use Rattle.pls_app.specs.Command.{IsCommand, IsUsage, input_parts_of, read_by}
-use Rattle.pls_app.specs.Meant.{AreMarks, Fails, Holds, bound_in, judge_in, room_in}
+use Rattle.pls_app.specs.Meant.{AreMarks, Holds, NameLacking, bound_in, judge_in, room_in}
+use Rattle.pls_app.specs.PartRows.{part_rows}
 use Rattle.pls_app.specs.Convert.{converted_labels, unconverted}
 use Rattle.pls_app.specs.Unapplied.{unapplied}
 use Rattle.pls_app.specs.Inapplicable.{inapplicable}
@@ -60,11 +61,16 @@ refusal_line NoMemory = []
 abbrev pub refusal : TextError → Answer
 refusal error = record { status = refusal_status error; text = text_of (refusal_line error ∷ []) }
 
--- the answer with a report: its text, in JSON or in lines, and whether all accept
-abbrev pub report : Bool → Bool → List (ℕ × Outcome) → Answer
-report json simulated rows = record {
-  status = if all_accept rows then Done else No;
-  text = if json then json_text rows else report_text simulated rows;
+-- the text of a report with what is told of the components, in JSON or in lines
+abbrev pub report_in : Bool → Bool → List PartRow → List (ℕ × Outcome) → List ℕ
+report_in json simulated parts outcomes =
+    if json then json_text parts outcomes else report_text simulated parts outcomes
+
+-- the answer with a report of what became of the nodes of a network with these components
+abbrev pub report : Bool → Bool → List NodeRow → List (List ℕ) → List (ℕ × Outcome) → Answer
+report json simulated rows parts outcomes = record {
+  status = if all_accept outcomes then Done else No;
+  text = report_in json simulated (part_rows rows parts outcomes) outcomes;
 }
 
 -- the answer with the number of bits that a label has at most
@@ -74,9 +80,13 @@ bounded number = record {
   text = text_of (line_of (codes "bound" ∷ decimal number ∷ []) ∷ []);
 }
 
--- the answer to a network that lacks the property
-abbrev pub no : Answer
-no = record { status = No; text = text_of (codes "no" ∷ []) }
+-- the answer to a network with these components, of which those with these smallest identities lack
+-- the property: they are named where there is more than one component
+abbrev pub no : List (List ℕ) → List ℕ → Answer
+no parts ids = record {
+  status = No;
+  text = text_of (line_of (codes "no" ∷ if_several parts (map decimal ids)) ∷ []);
+}
 
 -- the answer with the labels of a network, under a code
 abbrev pub labels_answer : CodeName → List NodeRow → List (List Bool) → Answer
@@ -100,12 +110,20 @@ outcomes_in (ByRules (Judge json)) input =
     decided_by (meaning gamma_takes (set_in input)) (rows_in input) (labels_in input)
 outcomes_in other input = []
 
--- the answer to `mark` on a network: its labels, where it has the property, else `no`
-abbrev pub Marks : CodeName → Expression → List NodeRow → Answer → Type 0
-Marks code scheme rows answer =
-    ((labels : List (List Bool)) × Holds scheme rows × AreMarks code scheme rows labels
+-- each component has the property, and these are its marked labels
+pub record AreMarked (code : CodeName) (scheme : Expression) (rows : List NodeRow)
+    (labels : List (List Bool)) : Type 0 where
+  pub holds : Holds scheme rows
+  pub each : length labels ≡ length rows
+  pub marks : AreMarks code scheme rows labels
+
+-- the answer to `mark` on a network with these components: its labels, where each has the property,
+-- else `no`
+abbrev pub Marks : CodeName → Expression → List NodeRow → List (List ℕ) → Answer → Type 0
+Marks code scheme rows parts answer =
+    ((labels : List (List Bool)) × AreMarked code scheme rows labels
     × (answer ≡ labels_answer code rows labels))
-    ⊎ (Fails scheme rows × (answer ≡ no))
+    ⊎ ((ids : List ℕ) × NameLacking scheme rows ids × (answer ≡ no parts ids))
 
 -- the answer to `recheck` on an input: the reports of its rounds
 abbrev pub Rechecks : Expression → Input → Answer → Type 0
@@ -113,48 +131,50 @@ Rechecks scheme input answer =
     (reports : List Report) × ReportInput (judge_in (code_in input) scheme) input reports
     × (answer ≡ reported reports)
 
--- the answer of a command to an input that it does not refuse
-abbrev pub Yields : Command → Input → Answer → Type 0
-Yields (With (Mark code) scheme) input answer = Marks code scheme (rows_in input) answer
-Yields (With (Verify json) scheme) input answer =
-    answer ≡ report json false (outcomes_in (With (Verify json) scheme) input)
-Yields (With (Simulate json) scheme) input answer =
-    answer ≡ report json true (outcomes_in (With (Simulate json) scheme) input)
-Yields (With Recheck scheme) input answer = Rechecks scheme input answer
-Yields (With (Bound code) scheme) input answer =
-    answer ≡ bounded (bound_in code scheme (rows_in input))
-Yields (With Convert scheme) input answer =
+-- the report of a command that judges nodes, of an input whose network has these components
+abbrev pub reports_on : Command → Bool → Bool → Input → List (List ℕ) → Answer
+reports_on command json simulated input parts =
+    report json simulated (rows_in input) parts (outcomes_in command input)
+
+-- the answer of a command to an input that it does not refuse, whose network has these components
+abbrev pub Yields : Command → Input → List (List ℕ) → Answer → Type 0
+Yields (With (Mark code) scheme) input parts answer = Marks code scheme (rows_in input) parts answer
+Yields (With (Verify json) scheme) input parts answer =
+    answer ≡ reports_on (With (Verify json) scheme) json false input parts
+Yields (With (Simulate json) scheme) input parts answer =
+    answer ≡ reports_on (With (Simulate json) scheme) json true input parts
+Yields (With Recheck scheme) input parts answer = Rechecks scheme input answer
+Yields (With (Bound code) scheme) input parts answer =
+    answer ≡ bounded (bound_in code scheme (rows_in input) parts)
+Yields (With Convert scheme) input parts answer =
     answer ≡ labels_answer Delta (rows_in input) (converted_labels scheme input)
-Yields (Trial nodes seed) input answer = IsTrialAnswer nodes seed answer
-Yields (ByRules (Judge json)) input answer =
-    answer ≡ report json false (outcomes_in (ByRules (Judge json)) input)
-Yields (ByRules Code) input answer = answer ≡ listed (set_in input)
-Yields (Print name) input answer = answer ≡ printed name
+Yields (Trial nodes seed) input parts answer = IsTrialAnswer nodes seed answer
+Yields (ByRules (Judge json)) input parts answer =
+    answer ≡ reports_on (ByRules (Judge json)) json false input parts
+Yields (ByRules Code) input parts answer = answer ≡ listed (set_in input)
+Yields (Print name) input parts answer = answer ≡ printed name
 
--- 17: the error names the smallest node that the edges do not join to the smallest of all
-abbrev pub IsApart : List NodeRow → TextError → Type 0
-IsApart rows error = (id : ℕ) × (error ≡ Sense APART id) × IsFirstApart rows id
-
--- what a command asks of an input besides
-abbrev pub work_refusal : Command → Input → Option TextError
-work_refusal (With (Mark code) scheme) input =
-    over Labels MAX_BITS (room_in code scheme (rows_in input))
-work_refusal (With (Simulate json) scheme) input =
+-- why a command refuses an input whose network has these components
+abbrev pub work_refusal : Command → Input → List (List ℕ) → Option TextError
+work_refusal (With (Mark code) scheme) input parts =
+    over Labels MAX_BITS (room_in code scheme (rows_in input) parts)
+work_refusal (With (Simulate json) scheme) input parts =
     unapplied (rows_in input) (schedule_heading input + 1) (events_in input)
-work_refusal (With Recheck scheme) input =
+work_refusal (With Recheck scheme) input parts =
     inapplicable (rows_in input) (labels_in input) (edits_heading input + 1) (edits_in input)
-work_refusal (With Convert scheme) input = unconverted scheme input
-work_refusal other input = None
+work_refusal (With Convert scheme) input parts = unconverted scheme input
+work_refusal other input parts = None
 
--- why a command refuses an input: its network is not one whole, or else what it asks besides
-abbrev pub RefusesInput : Command → Input → TextError → Type 0
-RefusesInput command input error = IsApart (rows_in input) error
-    ⊎ (IsConnected (rows_in input) × (work_refusal command input ≡ Some error))
+-- a command refuses an input
+pub record RefusesInput (command : Command) (input : Input) (error : TextError) : Type 0 where
+  pub parts : List (List ℕ)
+  pub components : AreComponents (rows_in input) parts
+  pub refused : work_refusal command input parts ≡ Some error
 
--- and so it does not
-pub record TakesInput (command : Command) (input : Input) : Type 0 where
-  pub joined : IsConnected (rows_in input)
-  pub accepted : work_refusal command input ≡ None
+-- it takes an input, whose network has these components
+pub record TakesInput (command : Command) (input : Input) (parts : List (List ℕ)) : Type 0 where
+  pub components : AreComponents (rows_in input) parts
+  pub accepted : work_refusal command input parts ≡ None
 
 -- what the command reads of the bytes is the input
 abbrev pub Reads : Command → List ℕ → Input → Type 0
@@ -169,8 +189,9 @@ IsRefused command bytes error = IsNoInput (input_parts_of command) (read_by comm
 pub record Works (command : Command) (bytes : List ℕ) (answer : Answer) : Type 0 where
   pub input : Input
   pub is : Reads command bytes input
-  pub takes : TakesInput command input
-  pub yields : Yields command input answer
+  pub parts : List (List ℕ)
+  pub takes : TakesInput command input parts
+  pub yields : Yields command input parts answer
 
 -- the answer to a command on bytes
 abbrev pub Answers : Command → List ℕ → Answer → Type 0

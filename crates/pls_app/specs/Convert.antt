@@ -1,6 +1,5 @@
 -- The command `convert`: the labels of an input are written in the delta code.
-use Rattle.std.specs.Prelude.{ℕ, ◌+◌, Bool, List, [], ◌∷◌, map, Option, Some, None, slice_get, is_some, if◌then◌else◌, option_map, option_and_then}
-use Rattle.std.specs.Option.{unwrap_or}
+use Rattle.std.specs.Prelude.{Bool, List, [], ◌∷◌, Option, slice_get, option_map, option_and_then}
 use Rattle.pls_base.specs.declared.refusal_number.TheConstants.{UNREAD}
 use Rattle.pls_base.specs.declared.text_error.TextError.{TextError}
 use Rattle.pls_base.specs.declared.text_error.TextError.TheVariants.{Sense}
@@ -9,19 +8,10 @@ use Rattle.pls_model.specs.declared.limits.TheConstants.{MAX_BITS}
 use Rattle.pls_model.specs.Configuration.{first_of, ids_of}
 use Rattle.pls_view.specs.Labels.{bits_together}
 use Rattle.pls_property.specs.Expression.{Expression}
+use Rattle.pls_combine.specs.Converted.{all_converted, first_unread}
 use Rattle.pls_inputs.specs.Order.{over}
 use Rattle.pls_inputs.specs.Parts.{Input, code_in, labels_in, rows_in}
 use Rattle.pls_app.specs.Meant.{converted_in}
-
--- all labels, each as what it becomes
-abbrev pub all_converted : (List Bool → Option (List Bool)) → List (List Bool) → List (List Bool)
-all_converted to labels = map (λ bits. unwrap_or (to bits) []) labels
-
--- the place of the first that becomes nothing
-abbrev pub first_unread : (List Bool → Option (List Bool)) → List (List Bool) → Option ℕ
-first_unread to [] = None
-first_unread to (bits ∷ labels) =
-    if is_some (to bits) then option_map (λ place. place + 1) (first_unread to labels) else Some 0
 
 -- the labels of an input in the delta code
 abbrev pub converted_labels : Expression → Input → List (List Bool)

@@ -1,15 +1,16 @@
 -- What a scheme means on a network, under a number code. Here alone this crate cites the property,
 -- the labels, the verdicts and the bound of a scheme.
-use Rattle.std.specs.Prelude.{◌≡◌, ℕ, ◌*◌, ◌≤◌, Bool, List, length, All, Option}
+use Rattle.std.specs.Prelude.{◌≡◌, ℕ, Bool, List, length, Option}
 use Rattle.pls_model.specs.declared.row.NodeRow.{NodeRow}
 use Rattle.pls_model.specs.declared.verdict.Verdict.{Verdict}
 use Rattle.pls_model.specs.Walk.{IsConnected}
 use Rattle.pls_bits.specs.Gamma.{gamma_code, gamma_takes}
 use Rattle.pls_bits.specs.Delta.{delta_code, delta_takes}
-use Rattle.pls_graph.specs.Size.{size_of}
+use Rattle.pls_graph.specs.declared.size.Size.{Size}
 use Rattle.pls_view.specs.Seen.{Seen}
 use Rattle.pls_scheme.specs.Judging.{AllAccept}
-use Rattle.pls_base.specs.Steps.{capped}
+use Rattle.pls_components.specs.Components.{FitsInEach, HasInEach}
+use Rattle.pls_components.specs.Parts.{AreLacking, AreWithinBound, LacksIn, bound_of_parts, room_of_parts}
 use Rattle.pls_property.specs.Expression.{Expression, HasProperty}
 use Rattle.pls_combine.specs.Converted.{converted}
 use Rattle.pls_combine.specs.Expression.{IsMarked, judge_of, longest_of}
@@ -33,32 +34,49 @@ judge_in code scheme = judge_of (takes_of code) scheme
 abbrev pub converted_in : CodeName → Expression → List Bool → Option (List Bool)
 converted_in code scheme = converted (takes_of code) delta_code scheme
 
--- the network is one whole, and has the property
-pub record Holds (scheme : Expression) (rows : List NodeRow) : Type 0 where
-  pub joined : IsConnected rows
-  pub has : HasProperty scheme rows
+-- each component of the network has the property by itself
+abbrev pub Holds : Expression → List NodeRow → Type 0
+Holds scheme rows = HasInEach (HasProperty scheme) rows
 
--- the network is one whole, and lacks it
-pub record Fails (scheme : Expression) (rows : List NodeRow) : Type 0 where
-  pub joined : IsConnected rows
-  pub lacks : HasProperty scheme rows → ⊥
+-- these are the places of a component, and it lacks the property
+abbrev pub LacksAt : Expression → List NodeRow → List ℕ → Type 0
+LacksAt scheme rows places = LacksIn (HasProperty scheme) rows places
 
--- these labels are marked
+-- these are the smallest identities of the components that lack it, rising, and there is one at least
+abbrev pub NameLacking : Expression → List NodeRow → List ℕ → Type 0
+NameLacking scheme rows ids = AreLacking (HasProperty scheme) rows ids
+
+-- the labels of each component are marked labels of it by itself
 abbrev pub AreMarks : CodeName → Expression → List NodeRow → List (List Bool) → Type 0
-AreMarks code scheme rows labels = IsMarked (number_code_of code) scheme rows labels
+AreMarks code scheme rows labels = FitsInEach (IsMarked (number_code_of code) scheme) rows labels
 
--- how many bits a marked label has at most, and all of them together
-abbrev pub bound_in : CodeName → Expression → List NodeRow → ℕ
-bound_in code scheme rows = longest_of (number_code_of code) scheme (size_of rows)
+-- how many bits a marked label of a connected network of this size has at most
+abbrev pub longest_in : CodeName → Expression → Size → ℕ
+longest_in code scheme size = longest_of (number_code_of code) scheme size
 
-abbrev pub room_in : CodeName → Expression → List NodeRow → ℕ
-room_in code scheme rows = length rows * bound_in code scheme rows
+-- how many bits a marked label has at most, and all of them together, where these are the components
+abbrev pub bound_in : CodeName → Expression → List NodeRow → List (List ℕ) → ℕ
+bound_in code scheme rows parts = bound_of_parts (longest_in code scheme) rows parts
 
--- labels that show the property: there is one for each node, all nodes accept them, and each is
--- within the bound
+abbrev pub room_in : CodeName → Expression → List NodeRow → List (List ℕ) → ℕ
+room_in code scheme rows parts = room_of_parts (longest_in code scheme) rows parts
+
+-- labels that show the property of each component: there is one for each node, all nodes accept them,
+-- and each is within the bound for its component
 pub record Shows (code : CodeName) (scheme : Expression) (rows : List NodeRow)
     (labels : List (List Bool)) : Type 0 where
   pub holds : Holds scheme rows
   pub each : length labels ≡ length rows
   pub accepted : AllAccept (judge_in code scheme) rows labels
-  pub short : All (λ label. length label ≤ capped (bound_in code scheme rows)) labels
+  pub short : FitsInEach (AreWithinBound (longest_in code scheme)) rows labels
+
+-- a connected network has the property, and these are its marked labels, which show it: there is one
+-- for each node, all nodes accept them, and each is within the bound
+pub record IsMarkedWhole (code : CodeName) (scheme : Expression) (rows : List NodeRow)
+    (labels : List (List Bool)) : Type 0 where
+  pub joined : IsConnected rows
+  pub has : HasProperty scheme rows
+  pub marked : IsMarked (number_code_of code) scheme rows labels
+  pub each : length labels ≡ length rows
+  pub accepted : AllAccept (judge_in code scheme) rows labels
+  pub short : AreWithinBound (longest_in code scheme) rows labels

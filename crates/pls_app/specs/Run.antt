@@ -5,10 +5,10 @@ use Rattle.pls_base.specs.declared.text_error.TextError.{TextError}
 use Rattle.pls_base.specs.Streams.{AppendsPart, LosesAtMost, Rose}
 use Rattle.pls_base.specs.Steps.{up_by}
 use Rattle.pls_model.specs.declared.status.Status.{Status}
-use Rattle.pls_model.specs.Walk.{IsConnected}
 use Rattle.pls_model.specs.declared.status.Status.TheVariants.{Done, No, Usage, Refused, ReadFault, WriteFault, NoMemory, Limit}
 use Rattle.pls_sim.specs.declared.outcome.Outcome.{Outcome}
 use Rattle.pls_report.specs.Report.{is_accepting}
+use Rattle.pls_components.specs.Components.{AreComponents, items_at}
 use Rattle.pls_property.specs.Expression.{Expression, Of}
 use Rattle.pls_model.specs.declared.limits.TheConstants.{MAX_INPUT}
 use Rattle.pls_inputs.specs.Parts.{Input, code_in, parts_with_edits, edits_in, parts_with_gamma, parts_with_labels, parts_with_rules, net_labels_text, network, rows_in, with_labels}
@@ -22,11 +22,11 @@ use Rattle.pls_app.specs.declared.command.Command.{Command}
 use Rattle.pls_app.specs.declared.command.Command.TheVariants.{With}
 use Rattle.pls_app.specs.declared.command.Task.TheVariants.{Recheck, Verify}
 use Rattle.pls_app.specs.Command.{IsCommand, IsUsage, reads}
-use Rattle.pls_app.specs.Meant.{Fails, Holds, Shows, judge_in}
+use Rattle.pls_app.specs.Meant.{Holds, LacksAt, NameLacking, Shows, judge_in}
 use Rattle.pls_app.specs.Reports.{Report, ReportInput, checked_in, edited_by}
 use Rattle.pls_app.specs.Ruled.{set_in}
 use Rattle.pls_app.specs.Said.{Answer}
-use Rattle.pls_app.specs.Answer.{IsAnswer, IsRefused, Reads, outcomes_in, refusal, refusal_status}
+use Rattle.pls_app.specs.Answer.{IsAnswer, IsRefused, Reads, no, outcomes_in, refusal, refusal_status}
 
 -- the words are this command, and the source tells these bytes
 pub record Asks (words : List (List ℕ)) (left : Option (List ℕ)) (command : Command)
@@ -125,29 +125,40 @@ pub record RefusesExactly (command : Command) (bytes : List ℕ) (status : Statu
       → TellsRefusal error status old new
   pub caused : IsRefusalStatus status → (error : TextError) × IsRefused command bytes error
 
--- the command reads an input from the bytes, and its network has the property
+-- the command reads an input from the bytes, and each component of its network has the property
 pub record Proves (scheme : Expression) (command : Command) (bytes : List ℕ) : Type 0 where
   pub input : Input
   pub is : Reads command bytes input
   pub holds : Holds scheme (rows_in input)
 
--- the command reads an input from the bytes, whose network is one whole, and some node rejects what
--- it sees, or still waits
+-- one of these nodes rejects what it sees, or still waits
+abbrev pub SomeFails : List (ℕ × Outcome) → Type 0
+SomeFails outcomes =
+    (node : ℕ × Outcome) × Contains outcomes node × (is_accepting node.1 ≡ false)
+
+-- the command reads an input from the bytes, and some node rejects what it sees, or still waits
 pub record SomeRejects (command : Command) (bytes : List ℕ) : Type 0 where
   pub input : Input
   pub is : Reads command bytes input
-  pub joined : IsConnected (rows_in input)
-  pub node : ℕ × Outcome
-  pub among : Contains (outcomes_in command input) node
-  pub rejected : is_accepting node.1 ≡ false
+  pub fails : SomeFails (outcomes_in command input)
 
--- the text is that of labels which show the property of the network of the bytes under the code,
--- and the bytes followed by the text are the same network with these labels
+-- the command reads an input from the bytes, and of each component that lacks the property the report
+-- has a node that rejects what it sees, or still waits
+pub record Notices (scheme : Expression) (command : Command) (bytes : List ℕ) : Type 0 where
+  pub input : Input
+  pub is : Reads command bytes input
+  pub notices : (places : List ℕ) → LacksAt scheme (rows_in input) places
+      → SomeFails (items_at (outcomes_in command input) places)
+
+-- the text is that of labels which show the property of each component of the network of the bytes
+-- under the code, and the bytes followed by the text are the same network with these labels
 pub record Certifies (code : CodeName) (scheme : Expression)
     (bytes text : List ℕ) : Type 0 where
   pub input : Input
   pub labels : List (List Bool)
   pub is : IsInput network bytes input
+  pub parts : List (List ℕ)
+  pub components : AreComponents (rows_in input) parts
   pub shows : Shows code scheme (rows_in input) labels
   pub text_is : text ≡ net_labels_text code (rows_in input) labels
   pub read_back : IsInput parts_with_labels (bytes ++ text) (with_labels code input labels)
@@ -179,31 +190,40 @@ pub record TookConversion (scheme : Expression) (bytes : List ℕ)
   pub converts : Converts scheme bytes text
 
 -- the bytes are a network, labels and a rule set, and where the set is the one that has the name of a
--- scheme, the network has the property of that scheme
+-- scheme, each component of the network has the property of that scheme
 pub record ProvesByRules (bytes : List ℕ) : Type 0 where
   pub input : Input
   pub is : IsInput parts_with_rules bytes input
   pub holds : (name : SchemeName) → set_of_name name ≡ Some (set_in input)
       → Holds (Of name) (rows_in input)
 
--- the network of the bytes lacks the property
-pub record Lacks (scheme : Expression) (bytes : List ℕ) : Type 0 where
+-- exactly these components of the network of the bytes lack the property, and the text is `no`, which
+-- names them where there is more than one component
+pub record Lacks (scheme : Expression) (bytes text : List ℕ) : Type 0 where
   pub input : Input
   pub is : IsInput network bytes input
-  pub fails : Fails scheme (rows_in input)
+  pub parts : List (List ℕ)
+  pub components : AreComponents (rows_in input) parts
+  pub ids : List ℕ
+  pub lacking : NameLacking scheme (rows_in input) ids
+  pub says : text ≡ (no parts ids).text
 
--- the network of the bytes is one whole, and has the property after all edits
+-- the sink took such a text
+pub record TookLack (scheme : Expression) (bytes : List ℕ) (old new : Option (List ℕ)) : Type 0 where
+  pub text : List ℕ
+  pub took : Appends old new text
+  pub lacks : Lacks scheme bytes text
+
+-- each component of the network of the bytes has the property after all edits
 pub record HoldsAfter (scheme : Expression) (bytes : List ℕ) : Type 0 where
   pub input : Input
   pub is : IsInput parts_with_edits bytes input
-  pub joined : IsConnected (rows_in input)
   pub holds : Holds scheme (edited_by (edits_in input) (rows_in input))
 
 -- the count rose by as many nodes as the reports of the rounds say were checked
 pub record RoseByChecked (scheme : Expression) (bytes : List ℕ) (old new : ℕ) : Type 0 where
   pub input : Input
   pub is : IsInput parts_with_edits bytes input
-  pub joined : IsConnected (rows_in input)
   pub reports : List Report
   pub are : ReportInput (judge_in (code_in input) scheme) input reports
   pub rose : new ≡ up_by (checked_in reports) old

@@ -1,20 +1,26 @@
 //! How a run ends, and the text that it writes.
 
-ghost use Rattle.std.specs.Prelude.{◌≡◌, ◌≢◌, if◌then◌else◌, IfOk, OnOk};
+ghost use Rattle.std.specs.Prelude.{◌≡◌, ◌≢◌, ◌++◌, if◌then◌else◌, length, string_bytes, IfOk, OnOk};
+ghost use Rattle.pls_components.specs.Components.{AreComponents};
 ghost use Rattle.pls_report.specs.Report.{all_accept};
+ghost use Rattle.pls_report.specs.PartLines.{if_several};
+ghost use Rattle.pls_report.specs.inner.Pieces.{spaced};
 ghost use Rattle.pls_app.specs.Answer.{no, refusal, refusal_status, report, reported, usage};
 ghost use Rattle.pls_app.specs.Reports.{ends_well};
 ghost use Rattle.pls_app.specs.inner.Tasks.{IsWorked};
 
+use crate::part_rows::part_rows;
 use crate::round_report::RoundReport;
 use pls_base::{NoMemory, Status, TextError};
 use pls_bits::CodeName;
+use pls_components::Components;
 use pls_graph::Network;
 use pls_json::json_report;
-use pls_report::all_accept;
+use pls_report::{PartRow, all_accept};
 use pls_sim::Outcome;
 use pls_view::LabelStore;
 use std::alloc::Global;
+use std::fmt::Write;
 use std::marker::Model;
 
 /// How a run ends, and the text that it writes.
@@ -40,6 +46,7 @@ pub(crate) enum Content {
     /// A report, which becomes text as it is written.
     Report {
         simulated: bool,
+        parts: Vec<PartRow>,
         rows: Vec<(u32, Outcome)>,
     },
     /// Reports of rounds, which become text as they are written.
@@ -65,14 +72,37 @@ pub(crate) fn usage() -> Answer
     }
 }
 
-// The answer to a network that lacks the property.
-pub(crate) fn no() -> Answer
-    ensures { result ≡ no }
+// The answer to a network of which the components with these smallest identities lack the property.
+// The one error is want of memory.
+pub(crate) fn no(alloc: Global, parts: &Components, ids: &[u32]) -> Result<Answer, NoMemory>
+    ensures says { IfOk result (λ answer. answer ≡ no parts.now ids.now) }
+    ensures worked { IfOk result (λ answer. IsWorked answer.status) }
 {
-    Answer {
+    let mut text = String::new(alloc);
+    text.push_str("no")?;
+    push_ids(&mut text, named_ids(parts, ids))?;
+    text.push_str("\n")?;
+    Ok(Answer {
         status: Status::No,
-        content: Content::Known(b"no\n"),
+        content: Content::Written(text.into_bytes()),
+    })
+}
+
+// One component is not named.
+fn named_ids<'a>(parts: &Components, ids: &'a [u32]) -> &'a [u32]
+    ensures { result.now ≡ if_several parts.now ids.now }
+{
+    if parts.len() > 1 { ids } else { &[] }
+}
+
+// Puts numbers behind a text, each behind a space.
+fn push_ids(text: &mut String, ids: &[u32]) -> Result<(), NoMemory>
+    ensures { OnOk result (string_bytes text.new ≡ string_bytes text.old ++ spaced ids.now) }
+{
+    for id in ids {
+        write!(text, " {id}")?;
     }
+    Ok(())
 }
 
 // The answer with a report of outcomes, each with the identity of its node. The one error is want of
@@ -81,16 +111,26 @@ pub(crate) fn report(
     alloc: Global,
     json: bool,
     simulated: bool,
+    net: &Network,
+    parts: &Components,
     rows: Vec<(u32, Outcome)>,
 ) -> Result<Answer, NoMemory>
-    ensures report { IfOk result (λ answer. answer ≡ report json simulated rows.items) }
+    requires made { AreComponents net.now parts.now }
+    requires each { length rows.items ≡ length net.now }
+    ensures report { IfOk result
+        (λ answer. answer ≡ report json simulated net.now parts.now rows.items) }
     ensures worked { IfOk result (λ answer. IsWorked answer.status) }
 {
     let status = round_status(&rows);
+    let parts = part_rows(alloc, net, parts, &rows)?;
     let content = if json {
-        Content::Written(json_report(alloc, &rows)?.into_bytes())
+        Content::Written(json_report(alloc, &rows, &parts)?.into_bytes())
     } else {
-        Content::Report { simulated, rows }
+        Content::Report {
+            simulated,
+            parts,
+            rows,
+        }
     };
     Ok(Answer { status, content })
 }

@@ -2,7 +2,8 @@
 
 ghost use Rattle.std.specs.Prelude.{◌≡◌, IfOk};
 ghost use Rattle.pls_combine.specs.Expression.{longest_of};
-ghost use Rattle.pls_graph.specs.Size.{size_of};
+ghost use Rattle.pls_components.specs.Components.{AreComponents};
+ghost use Rattle.pls_components.specs.Parts.{bound_of_parts};
 ghost use Rattle.pls_netfile.specs.NetworkText.{AreRows};
 ghost use Rattle.pls_property.specs.Expression.{IsSmall};
 ghost use Rattle.pls_app.specs.Answer.{bounded};
@@ -12,25 +13,28 @@ use crate::answer::{Answer, Content};
 use pls_base::{NoMemory, Status};
 use pls_bits::NumCode;
 use pls_combine::AnyScheme;
+use pls_components::{Components, bound_parts};
 use pls_graph::Network;
-use pls_scheme::Scheme;
 use std::alloc::Global;
 
-// How many bits a marked label of the network has at most.
+// How many bits a marked label of the network has at most. The one error is want of memory.
 pub(crate) fn bound<C: NumCode>(
     alloc: Global,
     scheme: &AnyScheme<C>,
     net: &Network,
+    parts: &Components,
 ) -> Result<Answer, NoMemory>
+    requires made { AreComponents net.now parts.now }
     requires small { IsSmall scheme.now }
     requires ranges { AreRows net.now }
     ensures bounded { IfOk result
-        (λ answer. answer ≡ bounded (longest_of C.code scheme.now (size_of net.now))) }
+        (λ answer. answer
+        ≡ bounded (bound_of_parts (longest_of C.code scheme.now) net.now parts.now)) }
     ensures worked { IfOk result (λ answer. IsWorked answer.status) }
 {
     // A network is valid.
     net.len();
-    let bound = scheme.bound(&net.size());
+    let bound = bound_parts(alloc, scheme, net, parts)?;
     let text = format!(in alloc; "bound {bound}\n")?;
     Ok(Answer {
         status: Status::Done,

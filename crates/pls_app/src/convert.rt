@@ -1,11 +1,8 @@
 //! The answer to `convert`.
 
-ghost use Rattle.std.specs.Prelude.{◌≡◌, ◌<◌, length, IfOk, IfSome, None, Some};
+ghost use Rattle.std.specs.Prelude.{◌≡◌, ℕ, List, length, IfOk, None, Some};
 ghost use Rattle.pls_base.specs.declared.refusal_number.TheConstants.{UNREAD as UNREAD_NUMBER};
 ghost use Rattle.pls_base.specs.declared.text_error.TextError.TheVariants.{Sense};
-ghost use Rattle.pls_bits.specs.Delta.{delta_code};
-ghost use Rattle.pls_combine.specs.Converted.{converted};
-ghost use Rattle.pls_model.specs.Walk.{IsConnected};
 ghost use Rattle.pls_inputs.specs.Parts.{Input, code_in, labels_in, rows_in};
 ghost use Rattle.pls_base.specs.declared.text_error.TextError.{TextError as Error};
 ghost use Rattle.pls_base.specs.declared.text_error.Quantity.TheVariants.{Bits};
@@ -14,7 +11,6 @@ ghost use Rattle.pls_model.specs.declared.limits.TheConstants.{MAX_BITS as MOST}
 ghost use Rattle.pls_view.specs.Labels.{bits_together};
 ghost use Rattle.pls_inputs.specs.Order.{over};
 ghost use Rattle.pls_app.specs.Answer.{labels_answer, refusal};
-ghost use Rattle.pls_app.specs.Convert.{all_converted, first_unread};
 ghost use Rattle.pls_app.specs.Meant.{takes_of};
 ghost use Rattle.pls_app.specs.inner.Tasks.{Does, IsWorked};
 
@@ -37,15 +33,15 @@ pub(crate) fn convert<C: NumCode>(
     net: Network,
     labels: &LabelStore,
 ) -> Result<Answer, NoMemory>
-    requires connected { IsConnected net }
-    requires each { length labels.now ≡ length net }
+    requires { length labels.now ≡ length net }
     ensures does { IfOk result (λ answer. (input : Input) → rows_in input ≡ net
         → labels_in input ≡ labels.now → C.takes ≡ takes_of (code_in input)
-        → Does (Command.With Task.Convert scheme.now) input answer) }
+        → (parts : List (List ℕ))
+        → Does (Command.With Task.Convert scheme.now) input parts answer) }
     ensures worked { IfOk result (λ answer. IsWorked answer.status) }
 {
-    let mut found = LabelStore::blank(alloc, labels.len())?;
-    match convert_all(alloc, scheme, labels, &mut found)? {
+    let mut found = LabelStore::blank_for(alloc, labels.len(), labels.total())?;
+    match scheme.convert_labels::<Delta>(alloc, labels, &mut found)? {
         Some(place) => refuse_unread(alloc, net.node(place).0),
         None => labels_within(alloc, net, found),
     }
@@ -79,28 +75,4 @@ fn refuse_unread(alloc: Global, id: u32) -> Result<Answer, NoMemory>
 {
     let (number, place) = (UNREAD, id as u64);
     refuse(alloc, TextError::Sense { number, place })
-}
-
-// Puts the labels in the delta code into a store with as many, up to the first that cannot be read,
-// and answers the place of that.
-fn convert_all<C: NumCode>(
-    alloc: Global,
-    scheme: &AnyScheme<C>,
-    labels: &LabelStore,
-    found: &mut LabelStore,
-) -> Result<Option<usize>, NoMemory>
-    requires { length found.old ≡ length labels.now }
-    ensures place { IfOk result (λ place.
-        place ≡ first_unread (converted C.takes delta_code scheme.now) labels.now) }
-    ensures within { IfOk result (λ place. IfSome place (λ place. place < length labels.now)) }
-    ensures all { IfOk result (λ place. place ≡ None
-        → found.new ≡ all_converted (converted C.takes delta_code scheme.now) labels.now) }
-{
-    for place in 0..labels.len() {
-        match scheme.convert_label::<Delta>(alloc, &labels.bits(place))? {
-            Some(label) => found.replace(place, &label)?,
-            None => return Ok(Some(place)),
-        }
-    }
-    Ok(None)
 }

@@ -1,12 +1,10 @@
 //! The answer to `mark`.
 
-ghost use Rattle.std.specs.Prelude.{◌≡◌, ◌*◌, length, IfErr, IfOk, OnOk, None, Some};
+ghost use Rattle.std.specs.Prelude.{◌≡◌, IfErr, IfOk, OnOk, None, Some};
 ghost use Rattle.pls_base.specs.declared.text_error.Quantity.TheVariants.{Labels};
 ghost use Rattle.pls_model.specs.declared.limits.TheConstants.{MAX_BITS as MOST};
-ghost use Rattle.pls_model.specs.Walk.{IsConnected};
 ghost use Rattle.pls_model.specs.declared.status.Status.TheVariants.{Done};
-ghost use Rattle.pls_combine.specs.Expression.{longest_of};
-ghost use Rattle.pls_graph.specs.Size.{size_of};
+ghost use Rattle.pls_components.specs.Components.{AreComponents};
 ghost use Rattle.pls_inputs.specs.Order.{over};
 ghost use Rattle.pls_inputs.specs.Parts.{Input, rows_in};
 ghost use Rattle.pls_app.specs.Answer.{Marks};
@@ -17,66 +15,66 @@ use crate::command::{Command, Task};
 use pls_base::{NoMemory, Quantity, Status, TextError};
 use pls_bits::{CodeName, NumCode};
 use pls_combine::AnyScheme;
+use pls_components::{Components, Marked, mark_parts, room_parts};
 use pls_graph::Network;
 use pls_model::MAX_BITS;
-use pls_scheme::Scheme;
 use std::alloc::Global;
 
-// The labels of a network, where it has the property of the scheme, else `no`; or the refusal of
-// labels that can be too long.
+// The labels of a network, where each component has the property of the scheme, else `no`; or the
+// refusal of labels that can be too long. The one error is want of memory.
 pub(crate) fn mark<C: NumCode>(
     alloc: Global,
     scheme: &AnyScheme<C>,
     code: CodeName,
     net: Network,
+    parts: &Components,
 ) -> Result<Answer, NoMemory>
-    requires connected { IsConnected net }
+    requires made { AreComponents net parts.now }
     requires named { IsNamed code C.code C.takes }
     ensures does { IfOk result (λ answer. (input : Input) → rows_in input ≡ net
-        → Does (Command.With (Task.Mark code) scheme.now) input answer) }
+        → Does (Command.With (Task.Mark code) scheme.now) input parts.now answer) }
     ensures worked { IfOk result (λ answer. IsWorked answer.status) }
     ensures shows { IfOk result (λ answer. answer.status ≡ Done
         → ShowsIn code scheme.now net answer.text) }
 {
-    match test_labels(scheme, &net) {
-        Ok(()) => mark_within(alloc, scheme, code, net),
+    let room = room_parts(alloc, scheme, &net, parts)?;
+    match test_room(room) {
+        Ok(()) => mark_within(alloc, scheme, code, net, parts),
         Err(error) => refuse(alloc, error),
     }
 }
 
 // Refuses labels that can have too many bits together.
-fn test_labels<C: NumCode>(scheme: &AnyScheme<C>, net: &Network) -> Result<(), TextError>
-    ensures within { OnOk result (over Labels MOST
-        (length net.now * longest_of C.code scheme.now (size_of net.now)) ≡ None) }
-    ensures refused { IfErr result (λ error. over Labels MOST
-        (length net.now * longest_of C.code scheme.now (size_of net.now)) ≡ Some error) }
+fn test_room(room: u64) -> Result<(), TextError>
+    ensures within { OnOk result (over Labels MOST room ≡ None) }
+    ensures refused { IfErr result (λ error. over Labels MOST room ≡ Some error) }
 {
-    let longest = scheme.bound(&net.size()) as u128;
-    if net.len() as u128 * longest > MAX_BITS as u128 {
+    if room > MAX_BITS {
         return Err(TextError::Limit(Quantity::Labels));
     }
     Ok(())
 }
 
-// The labels of a network, where it has the property of the scheme, else `no`.
+// The labels of a network, where each component has the property of the scheme, else `no`.
 fn mark_within<C: NumCode>(
     alloc: Global,
     scheme: &AnyScheme<C>,
     code: CodeName,
     net: Network,
+    parts: &Components,
 ) -> Result<Answer, NoMemory>
-    requires connected { IsConnected net }
+    requires made { AreComponents net parts.now }
     requires named { IsNamed code C.code C.takes }
-    ensures marks { IfOk result (λ answer. Marks code scheme.now net answer) }
+    ensures marks { IfOk result (λ answer. Marks code scheme.now net parts.now answer) }
     ensures worked { IfOk result (λ answer. IsWorked answer.status) }
     ensures shows { IfOk result (λ answer. answer.status ≡ Done
         → ShowsIn code scheme.now net answer.text) }
 {
-    match scheme.mark(alloc, &net)? {
-        Some(labels) => Ok(Answer {
+    match mark_parts(alloc, scheme, &net, parts)? {
+        Marked::Labels(labels) => Ok(Answer {
             status: Status::Done,
             content: Content::Labels { code, net, labels },
         }),
-        None => Ok(no()),
+        Marked::Lacking(ids) => no(alloc, parts, ids.as_slice()),
     }
 }

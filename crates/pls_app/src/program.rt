@@ -7,7 +7,7 @@ ghost use Rattle.pls_bits.specs.declared.code_name.CodeName.{CodeName};
 ghost use Rattle.pls_words.specs.Words.{words_in};
 ghost use Rattle.pls_property.specs.Expression.{Expression};
 ghost use Rattle.pls_app.specs.Command.{Checks, IsUsage};
-ghost use Rattle.pls_app.specs.Run.{Asks, Concerns, Consumes, CountsAsked, EndsAs, HasItsCause, HoldsAfter, IsAnswered, IsJudged, IsSureOfAnswer, IsUnread, Lacks, Proves, ProvesByRules, RefusesExactly, SomeRejects, TellsAnswer, TellsPart, TookCertificate, TookConversion};
+ghost use Rattle.pls_app.specs.Run.{Asks, Concerns, Consumes, CountsAsked, EndsAs, HasItsCause, HoldsAfter, IsAnswered, IsJudged, IsSureOfAnswer, IsUnread, Notices, Proves, ProvesByRules, RefusesExactly, SomeRejects, TellsAnswer, TellsPart, TookCertificate, TookConversion, TookLack};
 ghost use Rattle.pls_app.specs.inner.Causes.{Told};
 ghost use Rattle.pls_app.specs.Answer.{IsRefused};
 ghost use Rattle.pls_app.specs.Reports.{reports_text};
@@ -43,13 +43,17 @@ pub fn run<'w, S: Source, K: Sink, B: Bench>(
     ensures rejects { (scheme : Expression) (command : Command) (bytes : List ℕ)
         → Asks (words_in words.now) (S.left source.old) command bytes → Checks scheme command
         → result ≡ Status.No → SomeRejects command bytes }
+    ensures notices { (scheme : Expression) (command : Command) (bytes : List ℕ)
+        → Asks (words_in words.now) (S.left source.old) command bytes → Checks scheme command
+        → IsJudged result → Notices scheme command bytes }
     ensures mark { (code : CodeName) (scheme : Expression) (bytes : List ℕ)
         → Asks (words_in words.now) (S.left source.old) (Command.With (Task.Mark code) scheme) bytes
         → result ≡ Status.Done
         → TookCertificate code scheme bytes (K.taken sink.old) (K.taken sink.new) }
     ensures mark_no { (code : CodeName) (scheme : Expression) (bytes : List ℕ)
         → Asks (words_in words.now) (S.left source.old) (Command.With (Task.Mark code) scheme) bytes
-        → result ≡ Status.No → Lacks scheme bytes }
+        → result ≡ Status.No
+        → TookLack scheme bytes (K.taken sink.old) (K.taken sink.new) }
     ensures recheck { (scheme : Expression) (bytes : List ℕ)
         → Asks (words_in words.now) (S.left source.old) (Command.With Task.Recheck scheme) bytes
         → result ≡ Status.Done → HoldsAfter scheme bytes }
@@ -134,7 +138,11 @@ fn write_content<K: Sink>(sink: &mut K, content: &Content) -> Result<(), Fault>
         Content::Known(text) => write_all(sink, text),
         Content::Written(text) => write_all(sink, text),
         Content::Labels { code, net, labels } => stream_labels(net, labels, *code, sink),
-        Content::Report { simulated, rows } => write_report(rows, *simulated, sink),
+        Content::Report {
+            simulated,
+            parts,
+            rows,
+        } => write_report(rows, *simulated, parts, sink),
         Content::Rounds(reports) => write_rounds(reports, sink),
     }
 }

@@ -1,18 +1,16 @@
 //! The answer of a task with a rule set to the bytes of an input.
 
 ghost use Rattle.std.specs.Prelude.{◌≤◌, ℕ, List, length, IfOk};
-ghost use Rattle.pls_model.specs.Walk.{IsConnected};
-ghost use Rattle.pls_inputs.specs.Parts.{rows_in};
 ghost use Rattle.pls_inputs.specs.Read.{IsRead, said};
 ghost use Rattle.pls_app.specs.Answer.{Answers};
 ghost use Rattle.pls_app.specs.Command.{input_parts_of};
-ghost use Rattle.pls_app.specs.inner.Tasks.{Does, IsWorked};
+ghost use Rattle.pls_app.specs.inner.Tasks.{DoesWork, IsWorked};
 
 use crate::answer::{Answer, refuse};
 use crate::command::{Command, RuleTask};
 use crate::ruled::{judge, list_code};
-use crate::work::test_joined;
 use pls_base::NoMemory;
+use pls_components::components;
 use pls_inputs::{Input, read_input};
 use pls_model::MAX_INPUT;
 use std::alloc::Global;
@@ -29,40 +27,23 @@ pub(crate) fn answer_by_rules(
     ensures worked { IfOk result (λ answer. IsWorked answer.status) }
 {
     match read_input(alloc, task.parts(), bytes) {
-        Ok(input) => work_by_rules(alloc, task, bytes, input),
+        Ok(input) => do_rule_task(alloc, task, input),
         Err(error) => refuse(alloc, error),
     }
 }
 
 // The answer to a task on what its input says. The one error is want of memory.
-fn work_by_rules(
-    alloc: Global,
-    task: RuleTask,
-    bytes: &[u8],
-    input: Input,
-) -> Result<Answer, NoMemory>
-    requires { IsRead (input_parts_of (Command.ByRules task)) bytes.now input }
-    ensures answer { IfOk result (λ answer. Answers (Command.ByRules task) bytes.now answer) }
-    ensures worked { IfOk result (λ answer. IsWorked answer.status) }
-{
-    match test_joined(alloc, &input.network) {
-        Ok(()) => do_rule_task(alloc, task, input),
-        Err(error) => refuse(alloc, error),
-    }
-}
-
-// The answer to a task on an input whose network is one whole. The one error is want of memory.
 fn do_rule_task(alloc: Global, task: RuleTask, input: Input) -> Result<Answer, NoMemory>
-    requires input { (bytes : List ℕ) × IsRead (input_parts_of (Command.ByRules task)) bytes input }
-    requires joined { IsConnected (rows_in (said input)) }
-    ensures does { IfOk result (λ answer. Does (Command.ByRules task) (said input) answer) }
+    requires { (bytes : List ℕ) × IsRead (input_parts_of (Command.ByRules task)) bytes input }
+    ensures does { IfOk result (λ answer. DoesWork (Command.ByRules task) (said input) answer) }
     ensures worked { IfOk result (λ answer. IsWorked answer.status) }
 {
     let set = input.rules.unwrap();
     match task {
         RuleTask::Judge { json } => {
             let net = input.network.unwrap();
-            judge(alloc, set, json, &net, &input.labels.unwrap())
+            let parts = components(alloc, &net)?;
+            judge(alloc, set, json, &net, &parts, &input.labels.unwrap())
         }
         RuleTask::Code => list_code(alloc, &set),
     }

@@ -4,6 +4,7 @@ ghost use Rattle.std.specs.Prelude.{◌≡◌, false, length, IfOk, IsSome};
 ghost use Rattle.pls_bits.specs.Gamma.{gamma_takes};
 ghost use Rattle.pls_builtin.specs.Builtin.{set_of_name};
 ghost use Rattle.pls_compile.specs.RuleMeaning.{meaning};
+ghost use Rattle.pls_components.specs.Components.{AreComponents};
 ghost use Rattle.pls_rules.specs.HeldTrees.{set_of};
 ghost use Rattle.pls_rules.specs.RuleSet.{AreRules};
 ghost use Rattle.pls_app.specs.Answer.{report};
@@ -16,6 +17,7 @@ use crate::verify::verify;
 use pls_base::{NoMemory, Status};
 use pls_builtin::builtin_set;
 use pls_compile::{RuleChecker, compile, listing};
+use pls_components::Components;
 use pls_graph::Network;
 use pls_names::SchemeName;
 use pls_rules::RuleSet;
@@ -29,16 +31,18 @@ pub(crate) fn judge(
     set: RuleSet,
     json: bool,
     net: &Network,
+    parts: &Components,
     labels: &LabelStore,
 ) -> Result<Answer, NoMemory>
+    requires made { AreComponents net.now parts.now }
     requires each { length labels.now ≡ length net.now }
     requires sense { AreRules (set_of set) }
-    ensures reports { IfOk result (λ answer. answer ≡ report json false
+    ensures reports { IfOk result (λ answer. answer ≡ report json false net.now parts.now
         (decided_by (meaning gamma_takes (set_of set)) net.now labels.now)) }
     ensures worked { IfOk result (λ answer. IsWorked answer.status) }
 {
     let checker = RuleChecker::new(alloc, set)?;
-    verify(alloc, &checker, json, net, labels)
+    verify(alloc, &checker, json, net, parts, labels)
 }
 
 // The machine code of a rule set, as a text.

@@ -16,5 +16,6 @@ pub mod Whole
 mod Bounds
 pub mod Partition
 pub mod OneMarking
+pub mod Empty
 mod PartPlaces
 mod One

@@ -1,8 +1,8 @@
 //! The components of a network, and each of them by itself.
 
-ghost use Rattle.std.specs.Prelude.{◌≡◌, ◌<◌, ◌++◌, ◌∷◌, ℕ, [], All, IfOk, OnOk, Some, length, map, slice_get};
+ghost use Rattle.std.specs.Prelude.{◌≡◌, ◌<◌, ◌++◌, ◌∷◌, ℕ, List, [], All, IfOk, OnOk, Some, length, map, slice_get};
 ghost use Rattle.pls_model.specs.declared.row.NodeRow.{NodeRow};
-ghost use Rattle.pls_components.specs.Components.{AreComponents, StandsIn, items_at};
+ghost use Rattle.pls_components.specs.Components.{AreComponents, StandsIn, items_at, least_id};
 
 use pls_base::NoMemory;
 use pls_graph::{Network, NetworkBuilder};
@@ -66,6 +66,19 @@ impl Components {
         ensures { StandsIn self.now result i }
     {
         self.numbers[i]
+    }
+
+    /// The smallest identity of component `k`, by which it is named.
+    pub fn smallest_id(&self, net: &Network, k: usize) -> u32
+        requires made { AreComponents net.now self.now }
+        requires within { k < length self.now }
+        ensures { (places : List ℕ) → slice_get self.now k ≡ Some places
+            → result ≡ least_id net.now places }
+    {
+        // A network is valid.
+        net.len();
+        // Identities rise with the places, so that the smallest is that of the first.
+        net.node(self.members(k)[0] as usize).0
     }
 
     /// Component `k` by itself: the network of its rows, which is connected. The one error is want

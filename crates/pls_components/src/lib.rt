@@ -9,8 +9,9 @@
 //! Proofs above may cite `proofs/Items` (what stands at some places of a list), `proofs/Part` (a
 //! component by itself is a connected network), `proofs/Apart` (a network has one list of
 //! components), `proofs/Local` (views and verdicts in a component), `proofs/Whole` (a connected
-//! network is its one component), `proofs/Partition` (sums over components are sums over nodes) and
-//! `proofs/OneMarking` (components are marked in one way).
+//! network is its one component), `proofs/Empty` (without a node there is none), `proofs/Partition`
+//! (sums over components are sums over nodes) and `proofs/OneMarking` (components are marked in one
+//! way).
 #![tactic(auto)]
 
 mod buckets;

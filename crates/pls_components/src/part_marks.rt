@@ -1,7 +1,7 @@
 //! Marking a network whose components are marked each by itself.
 
 ghost use Rattle.std.specs.Prelude.{◌≡◌, ◌<◌, ◌∷◌, ℕ, List, Some, All, IfOk, OnOk, [], length, slice_get};
-ghost use Rattle.pls_components.specs.Components.{AreComponents, IsComponent, NumbersRise, least_id};
+ghost use Rattle.pls_components.specs.Components.{AreComponents, NumbersRise};
 ghost use Rattle.pls_components.specs.Parts.{AreLacking, AreShown, IfLabels, IfLacking};
 ghost use Rattle.pls_components.specs.inner.Marking.{ArePutAt, IsPartMarked};
 
@@ -41,7 +41,7 @@ pub fn mark_parts<S: Scheme>(
     // Behind a component that lacks the property the others are asked too, so that all are named.
     for k in 0..parts.len() {
         if !mark_part(alloc, scheme, net, parts, k, &mut bits, &mut labels)? {
-            ids.push(first_id(net, parts.members(k)))?;
+            ids.push(parts.smallest_id(net, k))?;
         }
     }
     if ids.is_empty() {
@@ -76,16 +76,6 @@ fn one_id(alloc: Global, id: u32) -> Result<IdList, NoMemory>
     let mut ids = Vec::new(alloc);
     ids.push(id)?;
     Ok(IdList { ids })
-}
-
-// Identities rise with the places, so that the smallest is that of the first.
-fn first_id(net: &Network, places: &[u32]) -> u32
-    requires { IsComponent net.now places.now }
-    ensures { result ≡ least_id net.now places.now }
-{
-    // A network is valid.
-    net.len();
-    net.node(places[0] as usize).0
 }
 
 // Whether component `k` has the property; if so, its labels stand at the places of its nodes.

@@ -1,5 +1,6 @@
--- The compact text of the value of a node is its text; and texts with commas between them.
-use Rattle.std.proofs.Common.{◌≡◌, ℕ, true, false, List, [], ◌∷◌, ◌++◌, ◌==◌, length, refl, sym, ap, append-nil, append_assoc, map, decimal, take, get_or, ◌∙◌, ◌+◌, ◌<◌, arith}
+-- The compact text of the value of a node or of a component is its text; and texts with commas
+-- between them.
+use Rattle.std.proofs.Common.{◌≡◌, ℕ, true, false, List, [], ◌∷◌, ◌++◌, ◌==◌, length, refl, sym, ap, append-nil, append_assoc, map, codes, decimal, take, get_or, ◌∙◌, ◌+◌, ◌<◌, arith}
 use Rattle.std.proofs.lemmas.Bool.{ne_eqb}
 use Rattle.std.proofs.lemmas.List.{length-map, length-take, map-append, take_more}
 use Rattle.serde_json.specs.Data.{Data}
@@ -9,8 +10,9 @@ use Rattle.serde_json.proofs.OnLiterals.{serde_json_on_literals}
 use Rattle.pls_model.specs.declared.verdict.Verdict.TheVariants.{Accept, Reject}
 use Rattle.pls_sim.specs.declared.outcome.Outcome.{Outcome}
 use Rattle.pls_sim.specs.declared.outcome.Outcome.TheVariants.{Decided, Waiting}
-use Rattle.pls_json.specs.Json.{behind_commas, with_commas, node_text}
-use Rattle.pls_json.specs.inner.Values.{after_others, node_data, number_data}
+use Rattle.pls_report.specs.declared.part_row.PartRow.{PartRow}
+use Rattle.pls_json.specs.Json.{behind_commas, with_commas, node_text, part_text}
+use Rattle.pls_json.specs.inner.Values.{after_others, node_data, number_data, part_data}
 
 module _ {X : Type 0} (value : X → Data) where
   -- where each item has its text, so have the items behind a first
@@ -57,6 +59,10 @@ node-text (id, Waiting ports) =
       append_assoc (with_commas (map decimal ports)) (93 ∷ []),
     ) refl
 
+pub part-text : (part : PartRow) → compact_text (part_data part) ≡ part_text part
+unfolding serde_json_on_literals
+part-text part = refl
+
 -- texts with one more behind them
 behind_commas-more : (texts : List (List ℕ)) (text : List ℕ)
     → behind_commas (texts ++ text ∷ []) ≡ behind_commas texts ++ (44 ∷ text)
@@ -75,27 +81,38 @@ with_commas-more (one ∷ texts) text =
     (sym (append_assoc one (behind_commas texts) (44 ∷ text)))
 
 -- the texts of so many rows and of one more
-pub one_more : (rows : List (ℕ × Outcome)) (i : ℕ) (row : ℕ × Outcome) (before old new : List ℕ)
-    → i < length rows → row ≡ get_or rows i row
-    → old ≡ before ++ with_commas (map node_text (take i rows))
-    → new ≡ old ++ after_others (i == 0) (node_text row)
-    → new ≡ before ++ with_commas (map node_text (take (i + 1) rows))
-one_more rows i row before old new below is was now =
-    now ∙ ap (λ (t : List ℕ). t ++ after_others (i == 0) (node_text row)) was
-    ∙ append_assoc before (with_commas (map node_text (take i rows)))
-    (after_others (i == 0) (node_text row))
+pub one_more : {X : Type 0} (text : X → List ℕ) (rows : List X) (i : ℕ) (row d : X)
+    (before old new : List ℕ) → i < length rows → row ≡ get_or rows i d
+    → old ≡ before ++ with_commas (map text (take i rows))
+    → new ≡ old ++ after_others (i == 0) (text row)
+    → new ≡ before ++ with_commas (map text (take (i + 1) rows))
+one_more {X} text rows i row d before old new below is was now =
+    now ∙ ap (λ (t : List ℕ). t ++ after_others (i == 0) (text row)) was
+    ∙ append_assoc before (with_commas (map text (take i rows))) (after_others (i == 0) (text row))
     ∙ ap (λ (t : List ℕ). before ++ t) (sym joined)
   where
     more : take (i + 1) rows ≡ take i rows ++ row ∷ []
-    more = take_more rows i row below ∙ ap (λ (r : ℕ × Outcome). take i rows ++ r ∷ []) (sym is)
+    more = take_more rows i d below ∙ ap (λ (r : X). take i rows ++ r ∷ []) (sym is)
 
-    long : length (map node_text (take i rows)) ≡ i
-    long = length-map (take i rows) node_text ∙ length-take i rows ∙ omega (arith, below)
+    long : length (map text (take i rows)) ≡ i
+    long = length-map (take i rows) text ∙ length-take i rows ∙ omega (arith, below)
 
-    joined : with_commas (map node_text (take (i + 1) rows))
-        ≡ with_commas (map node_text (take i rows)) ++ after_others (i == 0) (node_text row)
-    joined = ap (λ (l : List (ℕ × Outcome)). with_commas (map node_text l)) more
-        ∙ ap with_commas (map-append node_text (take i rows) (row ∷ []))
-        ∙ with_commas-more (map node_text (take i rows)) (node_text row)
-        ∙ ap (λ (n : ℕ). with_commas (map node_text (take i rows))
-        ++ after_others (n == 0) (node_text row)) long
+    joined : with_commas (map text (take (i + 1) rows))
+        ≡ with_commas (map text (take i rows)) ++ after_others (i == 0) (text row)
+    joined = ap (λ (l : List X). with_commas (map text l)) more
+        ∙ ap with_commas (map-append text (take i rows) (row ∷ []))
+        ∙ with_commas-more (map text (take i rows)) (text row)
+        ∙ ap (λ (n : ℕ). with_commas (map text (take i rows))
+        ++ after_others (n == 0) (text row)) long
+
+-- the pieces of a report, one behind the other
+pub in_order : {one two three four five : List ℕ} (parts nodes counts : List ℕ)
+    → one ≡ codes "{" → two ≡ one ++ parts → three ≡ two ++ codes "\"nodes\":["
+    → four ≡ three ++ nodes → five ≡ four ++ counts
+    → five ≡ codes "{" ++ (parts ++ (codes "\"nodes\":[" ++ (nodes ++ counts)))
+in_order {one} {two} {three} {four} {five} parts nodes counts a b c d e =
+    e ∙ ap (λ (t : List ℕ). t ++ counts) (d ∙ ap (λ (t : List ℕ). t ++ nodes)
+    (c ∙ ap (λ (t : List ℕ). t ++ codes "\"nodes\":[") (b ∙ ap (λ (t : List ℕ). t ++ parts) a)))
+    ∙ append_assoc ((codes "{" ++ parts) ++ codes "\"nodes\":[") nodes counts
+    ∙ append_assoc (codes "{" ++ parts) (codes "\"nodes\":[") (nodes ++ counts)
+    ∙ append_assoc (codes "{") parts (codes "\"nodes\":[" ++ (nodes ++ counts))

@@ -4,7 +4,9 @@ use Rattle.std.specs.Prelude.{ℕ, List, [], ◌∷◌, ◌++◌, codes, decimal
 use Rattle.pls_model.specs.declared.verdict.Verdict.TheVariants.{Accept, Reject}
 use Rattle.pls_sim.specs.declared.outcome.Outcome.{Outcome}
 use Rattle.pls_sim.specs.declared.outcome.Outcome.TheVariants.{Decided, Waiting}
+use Rattle.pls_report.specs.PartLines.{if_several}
 use Rattle.pls_report.specs.Report.{rejecting, waiting}
+use Rattle.pls_report.specs.declared.part_row.PartRow.{PartRow}
 
 -- texts, each behind a comma, which is 44
 abbrev pub behind_commas : List (List ℕ) → List ℕ
@@ -29,9 +31,22 @@ outcome_text (Waiting ports) =
 abbrev pub node_text : ℕ × Outcome → List ℕ
 node_text row = codes "{\"id\":" ++ (decimal row.0 ++ (44 ∷ outcome_text row.1))
 
+-- the object of a component
+abbrev pub part_text : PartRow → List ℕ
+part_text part =
+    codes "{\"id\":" ++ (decimal part.id ++ (codes ",\"nodes\":" ++ (decimal part.nodes
+    ++ (codes ",\"rejecting\":" ++ (decimal part.rejecting ++ (codes ",\"waiting\":"
+    ++ (decimal part.waiting ++ codes "}")))))))
+
+-- the components, where there are two or more
+abbrev pub parts_text : List PartRow → List ℕ
+parts_text parts = if_several parts
+    (codes "\"components\":[" ++ (with_commas (map part_text parts) ++ codes "],"))
+
 -- the whole text, with its line feed: } is 125, and a line feed 10
-abbrev pub json_text : List (ℕ × Outcome) → List ℕ
-json_text rows =
-    codes "{\"nodes\":[" ++ (with_commas (map node_text rows) ++ (codes "],\"rejecting\":"
+abbrev pub json_text : List PartRow → List (ℕ × Outcome) → List ℕ
+json_text parts rows =
+    codes "{" ++ (parts_text parts ++ (codes "\"nodes\":["
+    ++ (with_commas (map node_text rows) ++ (codes "],\"rejecting\":"
     ++ (decimal (rejecting rows) ++ (codes ",\"waiting\":"
-    ++ (decimal (waiting rows) ++ (125 ∷ 10 ∷ []))))))
+    ++ (decimal (waiting rows) ++ (125 ∷ 10 ∷ []))))))))

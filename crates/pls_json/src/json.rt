@@ -1,34 +1,49 @@
-//! The report of a round as JSON, node by node.
+//! The report of a round as JSON, object by object.
 
-ghost use Rattle.std.specs.Prelude.{◌≡◌, ◌++◌, map, string_bytes, IfOk, OnOk};
+ghost use Rattle.std.specs.Prelude.{◌≡◌, ◌++◌, ◌∷◌, [], codes, decimal, map, string_bytes, IfOk, OnOk};
 ghost use Rattle.serde_json.specs.Data.{array};
 ghost use Rattle.serde_json.specs.View.{items_of, view};
-ghost use Rattle.pls_json.specs.Json.{json_text, node_text, with_commas};
-ghost use Rattle.pls_json.specs.inner.Values.{after_others, node_data, number_data};
+ghost use Rattle.pls_json.specs.Json.{json_text, node_text, part_text, parts_text, with_commas};
+ghost use Rattle.pls_json.specs.inner.Values.{after_others, node_data, number_data, part_data};
 
 use pls_base::NoMemory;
 use pls_model::Verdict;
-use pls_report::{rejecting, waiting};
+use pls_report::{PartRow, rejecting, waiting};
 use pls_sim::Outcome;
 use serde_json::{Value, json};
 use std::alloc::{AllocError, Global};
 use std::fmt::Write;
 
 /// The report of nodes, each with its identity and its outcome, as one compact line of JSON
-/// (RFC 8259) and a line feed: an object with the nodes in their order, how many reject and how
-/// many wait, its keys in the order of the alphabet. The value of a node goes as soon as its text is
-/// there. The one error is want of memory.
-pub fn json_report(alloc: Global, rows: &[(u32, Outcome)]) -> Result<String, NoMemory>
-    ensures { IfOk result (λ text. string_bytes text ≡ json_text rows.now) }
+/// (RFC 8259) and a line feed: an object with the components (`parts`) in their order, where there
+/// are two or more, the nodes in theirs, how many reject and how many wait, its keys in the order
+/// of the alphabet. The value of a node or a component goes as soon as its text is there. The one
+/// error is want of memory.
+pub fn json_report(
+    alloc: Global,
+    rows: &[(u32, Outcome)],
+    parts: &[PartRow],
+) -> Result<String, NoMemory>
+    ensures { IfOk result (λ text. string_bytes text ≡ json_text parts.now rows.now) }
 {
     let mut text = String::new(alloc);
-    text.push_str("{\"nodes\":[")?;
+    text.push_str("{")?;
+    push_parts(alloc, &mut text, parts)?;
+    text.push_str("\"nodes\":[")?;
     push_nodes(alloc, &mut text, rows)?;
-    let rejecting = rejecting(rows);
-    let waiting = waiting(rows);
+    push_counts(&mut text, rejecting(rows), waiting(rows))?;
+    Ok(text)
+}
+
+// Adds how many nodes reject and how many wait, and closes the object.
+fn push_counts(text: &mut String, rejecting: usize, waiting: usize) -> Result<(), NoMemory>
+    ensures { OnOk result (string_bytes text.new ≡ string_bytes text.old
+        ++ (codes "],\"rejecting\":" ++ (decimal rejecting ++ (codes ",\"waiting\":"
+        ++ (decimal waiting ++ (125 ∷ 10 ∷ [])))))) }
+{
     write!(text, "],\"rejecting\":{rejecting},\"waiting\":{waiting}")?;
     text.push_str("}\n")?;
-    Ok(text)
+    Ok(())
 }
 
 // Adds the objects of nodes, with a comma between each two.
@@ -53,11 +68,64 @@ fn push_node(
         ≡ string_bytes text.old ++ after_others first (node_text row.now)) }
 {
     let object = node_object(alloc, row)?;
+    push_behind(text, first, &object)
+}
+
+// Adds the components, where there are two or more.
+fn push_parts(alloc: Global, text: &mut String, parts: &[PartRow]) -> Result<(), NoMemory>
+    ensures { OnOk result (string_bytes text.new ≡ string_bytes text.old ++ parts_text parts.now) }
+{
+    if parts.len() < 2 {
+        return Ok(());
+    }
+    text.push_str("\"components\":[")?;
+    push_each_part(alloc, text, parts)?;
+    text.push_str("],")?;
+    Ok(())
+}
+
+// Adds the objects of components, with a comma between each two.
+fn push_each_part(alloc: Global, text: &mut String, parts: &[PartRow]) -> Result<(), NoMemory>
+    ensures { OnOk result (string_bytes text.new
+        ≡ string_bytes text.old ++ with_commas (map part_text parts.now)) }
+{
+    for (i, part) in parts.iter().enumerate() {
+        let object = part_object(alloc, *part)?;
+        push_behind(text, i == 0, &object)?;
+    }
+    Ok(())
+}
+
+// Adds an object, behind a comma if it is not the first.
+fn push_behind(text: &mut String, first: bool, object: &str) -> Result<(), NoMemory>
+    ensures { OnOk result (string_bytes text.new
+        ≡ string_bytes text.old ++ after_others first object.now) }
+{
     if !first {
         text.push_str(",")?;
     }
-    text.push_str(&object)?;
+    text.push_str(object)?;
     Ok(())
+}
+
+// The object of a component as text.
+fn part_object(alloc: Global, part: PartRow) -> Result<String, NoMemory>
+    ensures { IfOk result (λ text. string_bytes text ≡ part_text part) }
+{
+    let text = part_value(alloc, part)?.to_string(alloc)?;
+    Ok(text)
+}
+
+// The value of a component.
+fn part_value(alloc: Global, part: PartRow) -> Result<Value, AllocError>
+    ensures { IfOk result (λ value. view value ≡ part_data part) }
+{
+    json!(in alloc; {
+        "id": part.id,
+        "nodes": part.nodes,
+        "rejecting": part.rejecting,
+        "waiting": part.waiting,
+    })
 }
 
 // The object of a node as text.

@@ -1,2 +1,4 @@
+pub mod Lines
+pub mod LookTexts
 pub mod Texts
 mod Worked

@@ -1,15 +1,16 @@
 -- The lines of a report, piece by piece.
-use Rattle.std.proofs.Common.{◌≡◌, ◌∙◌, ℕ, ◌+◌, ◌<◌, ◌≤◌, Bool, true, false, List, [], ◌∷◌, ◌++◌, map, take, drop, length, get_or, codes, decimal, refl, sym, ap, append-nil, append_assoc, arith}
+use Rattle.std.proofs.Common.{◌≡◌, ◌∙◌, ℕ, ◌+◌, ◌<◌, ◌≤◌, Bool, true, false, List, [], ◌∷◌, ◌++◌, map, take, drop, length, get_or, codes, decimal, refl, sym, ap, append-nil, arith}
 use Rattle.std.proofs.Math.Seq.{take-append-add}
 use Rattle.std.proofs.lemmas.Grind.{flat_map-append}
-use Rattle.std.proofs.lemmas.List.{length-take-le, map-append, take-append-drop, take-take, take_more, take_all}
+use Rattle.std.proofs.lemmas.List.{length-take-le, take-append-drop, take-take, take_more}
 use Rattle.pls_model.specs.declared.verdict.Verdict.{Verdict}
 use Rattle.pls_model.specs.declared.verdict.Verdict.TheVariants.{Accept, Reject}
-use Rattle.pls_lines.specs.Text.{line_of, text_of}
-use Rattle.pls_lines.specs.laws.Fronts.{text_of-append}
+use Rattle.pls_lines.specs.Text.{line_of}
 use Rattle.pls_sim.specs.declared.outcome.Outcome.{Outcome}
 use Rattle.pls_sim.specs.declared.outcome.Outcome.TheVariants.{Decided, Waiting}
+use Rattle.pls_report.specs.PartLines.{if_several, part_line}
 use Rattle.pls_report.specs.Report.{closing_line, outcome_line, rejecting, rejecting_verdicts, round_line, waiting}
+use Rattle.pls_report.specs.declared.part_row.PartRow.{PartRow}
 use Rattle.pls_report.specs.inner.Pieces.{connected_tail, outcome_tail, spaced, waiting_tail}
 
 -- one more number
@@ -30,7 +31,7 @@ spaced_rest numbers i =
     ∙ ap spaced (take-append-drop i numbers)
 
 -- a word and numbers, with a space before each
-line_spaced : (word : List ℕ) (numbers : List ℕ)
+pub line_spaced : (word : List ℕ) (numbers : List ℕ)
     → line_of (word ∷ map decimal numbers) ≡ word ++ spaced numbers
 line_spaced word [] = sym (append-nil word)
 line_spaced word (number ∷ numbers) =
@@ -71,32 +72,25 @@ pub round_text : (number checked : ℕ) (connected : Bool) (rows : List (ℕ × 
 round_text number checked true rows = refl
 round_text number checked false rows = refl
 
-module _ {X : Type 0} (line : X → List ℕ) (rows : List X) (i : ℕ) where
-  -- one more line
-  pub lines_more : (d : X) → i < length rows
-      → text_of (map line (take i rows)) ++ (line (get_or rows i d) ++ 10 ∷ [])
-      ≡ text_of (map line (take (i + 1) rows))
-  lines_more d within =
-      sym (rw (
-        take_more rows i d within,
-        map-append line (take i rows) (get_or rows i d ∷ []),
-        text_of-append (map line (take i rows)) (line (get_or rows i d) ∷ []),
-      ) refl)
+pub part_text : (simulated : Bool) (part : PartRow)
+    → ((codes "component " ++ decimal part.id) ++ ((codes " nodes " ++ decimal part.nodes)
+    ++ ((codes " rejecting " ++ decimal part.rejecting) ++ waiting_tail simulated part.waiting)))
+    ++ codes "\n" ≡ part_line simulated part ++ 10 ∷ []
+part_text true part = refl
+part_text false part =
+    ap (λ (tail : List ℕ). (codes "component " ++ (decimal part.id
+    ++ (codes " nodes " ++ (decimal part.nodes ++ tail)))) ++ codes "\n")
+    (append-nil (codes " rejecting " ++ decimal part.rejecting))
 
-  -- and the others behind it
-  pub lines_rest : (closing : List ℕ)
-      → text_of (map line (take i rows)) ++ text_of (map line (drop i rows) ++ closing ∷ [])
-      ≡ text_of (map line rows ++ closing ∷ [])
-  lines_rest closing =
-      sym (text_of-append (map line (take i rows)) (map line (drop i rows) ++ closing ∷ []))
-      ∙ ap text_of
-      (sym (append_assoc (map line (take i rows)) (map line (drop i rows)) (closing ∷ []))
-      ∙ ap (λ (lines : List (List ℕ)). lines ++ closing ∷ [])
-      (sym (map-append line (take i rows) (drop i rows))
-      ∙ ap (map line) (take-append-drop i rows)))
+-- of fewer than two components nothing is said, and of others all
+pub several_none : {X : Type 0} (parts : List PartRow) (said : List X) → length parts < 2
+    → if_several parts said ≡ []
+several_none [] said few = refl
+several_none (part ∷ []) said few = refl
+several_none (part ∷ next ∷ others) said few = absurd (omega (arith, few))
 
-  pub lines_closed : (closing : List ℕ) → length rows ≤ i
-      → text_of (map line (take i rows)) ++ (closing ++ 10 ∷ [])
-      ≡ text_of (map line rows ++ closing ∷ [])
-  lines_closed closing past =
-      rw (take_all i rows past) (sym (text_of-append (map line rows) (closing ∷ [])))
+pub several_all : {X : Type 0} (parts : List PartRow) (said : List X) → 2 ≤ length parts
+    → if_several parts said ≡ said
+several_all [] said many = absurd (omega (arith, many))
+several_all (part ∷ []) said many = absurd (omega (arith, many))
+several_all (part ∷ next ∷ others) said many = refl

@@ -1,2 +1,4 @@
+pub mod Look
+pub mod PartLines
 pub mod Report
 pub mod inner

@@ -1,11 +1,14 @@
--- The text of a report: a line for each node, and then how many reject.
-use Rattle.std.specs.Prelude.{ℕ, Bool, true, false, if◌then◌else◌, List, [], ◌∷◌, ◌++◌, map, count_by, codes, decimal}
+-- The text of a report: a line for each node, one for each component where there are several, and
+-- then how many nodes reject.
+use Rattle.std.specs.Prelude.{ℕ, Bool, true, false, List, [], ◌∷◌, ◌++◌, map, count_by, codes, decimal}
 use Rattle.std.specs.List.{list_all}
 use Rattle.pls_model.specs.declared.verdict.Verdict.{Verdict}
 use Rattle.pls_model.specs.declared.verdict.Verdict.TheVariants.{Accept, Reject}
 use Rattle.pls_lines.specs.Text.{line_of, text_of}
 use Rattle.pls_sim.specs.declared.outcome.Outcome.{Outcome}
 use Rattle.pls_sim.specs.declared.outcome.Outcome.TheVariants.{Decided, Waiting}
+use Rattle.pls_report.specs.PartLines.{if_several, part_line, waiting_words}
+use Rattle.pls_report.specs.declared.part_row.PartRow.{PartRow}
 
 -- the node accepts: it has decided, and not rejected
 abbrev pub is_accepting : Outcome → Bool
@@ -63,15 +66,11 @@ outcome_line row = line_of (codes "node" ∷ decimal row.0 ∷ outcome_words row
 abbrev pub decided_line : ℕ × Verdict → List ℕ
 decided_line row = outcome_line (row.0, Decided row.1)
 
--- `waiting W`, where the round was played from a schedule
-abbrev pub waiting_words : Bool → List (ℕ × Outcome) → List (List ℕ)
-waiting_words simulated rows =
-    if simulated then codes "waiting" ∷ decimal (waiting rows) ∷ [] else []
-
 -- `rejecting R`, or `rejecting R waiting W`
 abbrev pub closing_line : Bool → List (ℕ × Outcome) → List ℕ
 closing_line simulated rows =
-    line_of (codes "rejecting" ∷ decimal (rejecting rows) ∷ waiting_words simulated rows)
+    line_of (codes "rejecting" ∷ decimal (rejecting rows)
+    ∷ waiting_words simulated (waiting rows))
 
 -- `yes` or `no`
 abbrev pub yes_or_no : Bool → List ℕ
@@ -90,6 +89,9 @@ abbrev pub round_text : ℕ → ℕ → Bool → List (ℕ × Verdict) → List 
 round_text number checked connected rows =
     text_of (map decided_line rows ++ round_line number checked connected rows ∷ [])
 
--- the text of a report
-abbrev pub report_text : Bool → List (ℕ × Outcome) → List ℕ
-report_text simulated rows = text_of (map outcome_line rows ++ closing_line simulated rows ∷ [])
+-- the text of a report: a line for each node, a line for each component where there are several,
+-- and then how many nodes reject
+abbrev pub report_text : Bool → List PartRow → List (ℕ × Outcome) → List ℕ
+report_text simulated parts rows =
+    text_of (map outcome_line rows ++ (if_several parts (map (part_line simulated) parts)
+    ++ closing_line simulated rows ∷ []))

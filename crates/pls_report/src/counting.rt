@@ -49,8 +49,8 @@ fn is_accept(verdict: Verdict) -> bool
     matches!(verdict, Verdict::Accept)
 }
 
-// Whether a node accepts.
-fn accepts(outcome: &Outcome) -> bool
+/// Whether a node accepts.
+pub(crate) fn accepts(outcome: &Outcome) -> bool
     ensures { result ≡ is_accepting outcome.now }
 {
     match outcome {
@@ -59,8 +59,8 @@ fn accepts(outcome: &Outcome) -> bool
     }
 }
 
-// Whether a node rejects.
-fn rejects(outcome: &Outcome) -> bool
+/// Whether a node rejects.
+pub(crate) fn rejects(outcome: &Outcome) -> bool
     ensures { result ≡ is_rejecting outcome.now }
 {
     match outcome {
@@ -76,8 +76,8 @@ fn is_reject(verdict: Verdict) -> bool
     matches!(verdict, Verdict::Reject { .. })
 }
 
-// Whether a node waits.
-fn waits(outcome: &Outcome) -> bool
+/// Whether a node waits.
+pub(crate) fn waits(outcome: &Outcome) -> bool
     ensures { result ≡ is_waiting outcome.now }
 {
     match outcome {

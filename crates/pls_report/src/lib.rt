@@ -1,17 +1,27 @@
 //! Reports: a line for each node with its outcome, and then how many nodes reject.
 //!
 //! [`write_report`] writes the text of a report (`specs/Report`) into a sink, in pieces of a
-//! few KiB and without memory. [`rejecting`] and [`waiting`] count the nodes that it closes with,
-//! and [`all_accept`] tells whether there is none. [`write_round`] writes the report of a round in
-//! which touched nodes were judged again.
+//! few KiB and without memory, with a line for each component ([`PartRow`], `specs/PartLines`)
+//! where there are several. [`rejecting`] and [`waiting`] count the nodes that it closes with, and
+//! [`all_accept`] tells whether there is none. [`write_round`] writes the report of a round in
+//! which touched nodes were judged again. [`write_look`] writes what is seen at a look at a round
+//! in which labels change (`specs/Look`), and [`look_is_well`] tells whether all accept there on
+//! the newest labels.
 #![tactic(auto)]
 
 mod counting;
 mod decided;
+mod look;
+mod look_counting;
+mod part_lines;
+mod part_row;
 mod pieces;
 mod report;
 mod round;
 
 pub use counting::{all_accept, all_verdicts_accept, rejecting, waiting};
+pub use look::write_look;
+pub use look_counting::look_is_well;
+pub use part_row::PartRow;
 pub use report::write_report;
 pub use round::write_round;

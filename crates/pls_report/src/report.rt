@@ -1,44 +1,49 @@
 //! The text of a report, line by line.
 
-ghost use Rattle.std.specs.Prelude.{ℕ, ◌≤◌, ◌-◌, ◌++◌, ◌∷◌, [], codes, length, MatchResult, OnErr, OnOk};
+ghost use Rattle.std.specs.Prelude.{ℕ, ◌≤◌, ◌-◌, ◌++◌, ◌∷◌, [], length, map, MatchResult, OnErr, OnOk};
 ghost use Rattle.std.specs.Io.KnownBytes.{Appends};
 ghost use Rattle.pls_base.specs.Gathered.{Writes};
 ghost use Rattle.pls_base.specs.Streams.{AppendsPart, Rose, StaysSure};
+ghost use Rattle.pls_lines.specs.Text.{text_of};
 ghost use Rattle.pls_sim.specs.declared.outcome.Outcome.TheVariants.{Waiting};
-ghost use Rattle.pls_report.specs.Report.{closing_line, outcome_line, report_text, waiting};
-ghost use Rattle.pls_report.specs.inner.Pieces.{spaced, waiting_tail};
+ghost use Rattle.pls_report.specs.PartLines.{if_several, part_line};
+ghost use Rattle.pls_report.specs.Report.{closing_line, outcome_line, report_text};
 
 use crate::counting;
 use crate::decided::put_decided;
-use crate::pieces::put_spaced;
+use crate::part_lines::write_parts;
+use crate::part_row::PartRow;
+use crate::pieces::{put_listed, put_waiting};
 use pls_base::{Fault, Gathered, Sink};
 use pls_sim::Outcome;
 
 /// Writes the report of nodes, each with its identity and its outcome: a line for each, in their
-/// order, and then how many reject; of a round that was played (`simulated`), also how many wait.
-/// It takes no memory.
+/// order; where there are two components or more, a line for each of `parts`, in their order; and
+/// then how many nodes reject. Of a round that was played (`simulated`) the last lines also say how
+/// many wait. It takes no memory.
 ///
 /// `Fault` comes only where the sink's count of faults rose in this call; the sink has then taken a
 /// front of the text, but not all. A sink that is sure of so many bytes takes all.
 pub fn write_report<K: Sink>(
     rows: &[(u32, Outcome)],
     simulated: bool,
+    parts: &[PartRow],
     sink: &mut K,
 ) -> Result<(), Fault>
     ensures all { OnOk result (Appends (K.taken sink.old) (K.taken sink.new)
-        (report_text simulated rows.now)) }
+        (report_text simulated parts.now rows.now)) }
     ensures part { OnErr result (AppendsPart (K.taken sink.old) (K.taken sink.new)
-        (report_text simulated rows.now)) }
+        (report_text simulated parts.now rows.now)) }
     ensures fault { OnErr result (Rose (K.faults sink.old) (K.faults sink.new)) }
     ensures never_falls { K.faults sink.old ≤ K.faults sink.new }
     ensures sure { (most : ℕ) → K.IsSureOf sink.old most
-        → length (report_text simulated rows.now) ≤ most
+        → length (report_text simulated parts.now rows.now) ≤ most
         → MatchResult result (λ _. StaysSure (K.IsSureOf sink.new)
-        (most - length (report_text simulated rows.now)) (K.faults sink.old) (K.faults sink.new))
-        (λ _. ⊥) }
+        (most - length (report_text simulated parts.now rows.now)) (K.faults sink.old)
+        (K.faults sink.new)) (λ _. ⊥) }
 {
     let mut gathered = Gathered::new();
-    write_lines(rows, simulated, sink, &mut gathered)?;
+    write_lines(rows, simulated, parts, sink, &mut gathered)?;
     gathered.flush(sink)
 }
 
@@ -46,16 +51,34 @@ pub fn write_report<K: Sink>(
 fn write_lines<K: Sink>(
     rows: &[(u32, Outcome)],
     simulated: bool,
+    parts: &[PartRow],
     sink: &mut K,
     gathered: &mut Gathered,
 ) -> Result<(), Fault>
     ensures { Writes gathered.old gathered.new (K.taken sink.old) (K.taken sink.new)
         (K.faults sink.old) (K.faults sink.new) (K.IsSureOf sink.old) (K.IsSureOf sink.new)
-        result (report_text simulated rows.now) }
+        result (report_text simulated parts.now rows.now) }
 {
     for (id, outcome) in rows {
         write_node(sink, gathered, *id, outcome)?;
     }
+    write_last(rows, simulated, parts, sink, gathered)
+}
+
+// Writes what stands behind the lines of the nodes.
+fn write_last<K: Sink>(
+    rows: &[(u32, Outcome)],
+    simulated: bool,
+    parts: &[PartRow],
+    sink: &mut K,
+    gathered: &mut Gathered,
+) -> Result<(), Fault>
+    ensures { Writes gathered.old gathered.new (K.taken sink.old) (K.taken sink.new)
+        (K.faults sink.old) (K.faults sink.new) (K.IsSureOf sink.old) (K.IsSureOf sink.new)
+        result (text_of (if_several parts.now (map (part_line simulated) parts.now)
+        ++ closing_line simulated rows.now ∷ [])) }
+{
+    write_parts(parts, simulated, sink, gathered)?;
     write_closing(rows, simulated, sink, gathered)
 }
 
@@ -68,8 +91,7 @@ fn write_node<K: Sink>(
 ) -> Result<(), Fault>
     ensures { Writes gathered.old gathered.new (K.taken sink.old) (K.taken sink.new)
         (K.faults sink.old) (K.faults sink.new) (K.IsSureOf sink.old) (K.IsSureOf sink.new)
-        result
-        (outcome_line (id, outcome.now) ++ 10 ∷ []) }
+        result (outcome_line (id, outcome.now) ++ 10 ∷ []) }
 {
     match outcome {
         Outcome::Decided(verdict) => put_decided(sink, gathered, id, *verdict),
@@ -77,8 +99,8 @@ fn write_node<K: Sink>(
     }
 }
 
-// Writes the line of a node that waits.
-fn write_waiting_node<K: Sink>(
+/// Writes the line of a node that waits.
+pub(crate) fn write_waiting_node<K: Sink>(
     sink: &mut K,
     gathered: &mut Gathered,
     id: u32,
@@ -86,22 +108,11 @@ fn write_waiting_node<K: Sink>(
 ) -> Result<(), Fault>
     ensures { Writes gathered.old gathered.new (K.taken sink.old) (K.taken sink.new)
         (K.faults sink.old) (K.faults sink.new) (K.IsSureOf sink.old) (K.IsSureOf sink.new)
-        result
-        (outcome_line (id, Waiting ports.now) ++ 10 ∷ []) }
+        result (outcome_line (id, Waiting ports.now) ++ 10 ∷ []) }
 {
     gathered.put_numbered(sink, b"node ", id as u64)?;
-    write_ports(sink, gathered, ports)?;
+    put_listed(sink, gathered, b" waiting", ports)?;
     gathered.put(sink, b"\n")
-}
-
-// Writes what its line says behind its identity.
-fn write_ports<K: Sink>(sink: &mut K, gathered: &mut Gathered, ports: &[u32]) -> Result<(), Fault>
-    ensures { Writes gathered.old gathered.new (K.taken sink.old) (K.taken sink.new)
-        (K.faults sink.old) (K.faults sink.new) (K.IsSureOf sink.old) (K.IsSureOf sink.new)
-        result (codes " waiting" ++ spaced ports.now) }
-{
-    gathered.put(sink, b" waiting")?;
-    put_spaced(sink, gathered, ports)
 }
 
 // Writes the line that closes a report.
@@ -113,28 +124,9 @@ fn write_closing<K: Sink>(
 ) -> Result<(), Fault>
     ensures { Writes gathered.old gathered.new (K.taken sink.old) (K.taken sink.new)
         (K.faults sink.old) (K.faults sink.new) (K.IsSureOf sink.old) (K.IsSureOf sink.new)
-        result
-        (closing_line simulated rows.now ++ 10 ∷ []) }
+        result (closing_line simulated rows.now ++ 10 ∷ []) }
 {
     gathered.put_numbered(sink, b"rejecting ", counting::rejecting(rows) as u64)?;
-    write_waiting(rows, simulated, sink, gathered)?;
+    put_waiting(sink, gathered, simulated, counting::waiting(rows) as u64)?;
     gathered.put(sink, b"\n")
-}
-
-// Writes how many nodes wait, where that is asked.
-fn write_waiting<K: Sink>(
-    rows: &[(u32, Outcome)],
-    simulated: bool,
-    sink: &mut K,
-    gathered: &mut Gathered,
-) -> Result<(), Fault>
-    ensures { Writes gathered.old gathered.new (K.taken sink.old) (K.taken sink.new)
-        (K.faults sink.old) (K.faults sink.new) (K.IsSureOf sink.old) (K.IsSureOf sink.new)
-        result
-        (waiting_tail simulated (waiting rows.now)) }
-{
-    if !simulated {
-        return Ok(());
-    }
-    gathered.put_numbered(sink, b" waiting ", counting::waiting(rows) as u64)
 }

@@ -3,6 +3,7 @@
 ghost use Rattle.pls_model.specs.Walk.{IsConnected};
 ghost use Rattle.std.specs.Prelude.{IfOk};
 
+mod apart;
 mod codes;
 mod expressions;
 mod leaders;

@@ -2,6 +2,7 @@
 
 mod codes;
 mod colours;
+mod components;
 mod expressions;
 mod recheck;
 mod refusals;

@@ -26,7 +26,7 @@ fn is_within(net: Small, most: u32) -> bool {
 }
 
 // The expressions that are tried.
-const EXPRESSIONS: &[&str] = &[
+pub(super) const EXPRESSIONS: &[&str] = &[
     "and(tree,bipartite)",
     "or(tree,acyclic)",
     "and(forest,or(bipartite,acyclic))",
@@ -39,7 +39,7 @@ const EXPRESSIONS: &[&str] = &[
 ];
 
 // Whether a network has the property of each of them, by plain programs, in their order.
-fn expected(net: Small) -> [bool; 9] {
+pub(super) fn expected(net: Small) -> [bool; 9] {
     let tree = is_tree(net);
     let bipartite = is_bipartite(net);
     let acyclic = is_acyclic(net);

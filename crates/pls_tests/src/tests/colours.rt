@@ -1,6 +1,6 @@
 //! Worked examples of two-colourings.
 
-use super::{ALONE, APART, COLOURS, PAIR, RING, ROW, TRIANGLE, assert_runs};
+use super::{ALONE, COLOURS, PAIR, RING, ROW, TRIANGLE, assert_runs};
 use crate::run_in_memory;
 use pls_base::Status;
 use std::alloc::Global;
@@ -29,13 +29,11 @@ fn colours_are_judged(rt: HostRuntime) -> Result<(), Fail> {
     let same = "labels\nlabel 1 1 80\nlabel 2 1 80\nend\n";
     let two_bits = "labels\nlabel 1 2 00\nlabel 2 1 80\nend\n";
     let bare = "labels\nlabel 1 0 -\nlabel 2 1 80\nend\n";
-    let refused = ("refused 17 at 2\n", Status::Refused);
     let examples = [
         ("bipartite", [PAIR, COLOURS], (accepted, Status::Done)),
         ("bipartite", [PAIR, same], (rejected, Status::No)),
         ("bipartite", [PAIR, two_bits], (unread, Status::No)),
         ("bipartite", [PAIR, bare], (unread, Status::No)),
-        ("bipartite", [APART, same], refused),
     ];
     assert_runs(&rt, rt.alloc(), "verify", &examples)
 }

@@ -149,3 +149,19 @@ fn each_verdict_is_that_of_the_bench(rt: HostRuntime) -> Result<(), Fail> {
     );
     Ok(())
 }
+
+#[test]
+fn the_last_round_decides_by_verdicts_alone(rt: HostRuntime) -> Result<(), Fail> {
+    let alloc = rt.alloc();
+    let input = format!(in alloc; "{STAR}{STAR_COLOURS}edits\nunlink 1 4\nround\nend\n")?;
+    let all = "node 1 accept\nnode 2 accept\nnode 3 accept\nnode 4 accept\n";
+    let first = "round 0 checked 4 connected yes rejecting 0\n";
+    let last = "round 1 checked 2 connected no rejecting 0\n";
+    let text = format!(in alloc; "{all}{first}{all}{last}")?;
+    let words = ["recheck", "bipartite"];
+    assert!(rt;
+        ends_as(alloc, &words, &input, &text, Status::Done)?,
+        "the star in two"
+    );
+    Ok(())
+}

@@ -44,7 +44,6 @@ fn networks_are_refused(rt: HostRuntime) -> Result<(), Fail> {
         (one_way, "refused 14 at 1\n"),
         (weights, "refused 15 at 1\n"),
         (nowhere, "refused 16 at 1\n"),
-        ("node 1 - 0 0\nnode 2 - 0 0\nend\n", "refused 17 at 2\n"),
     ];
     for (body, text) in cases {
         let examples = [("tree", ["network\n", body], (text, Status::Refused))];

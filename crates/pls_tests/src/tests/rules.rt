@@ -86,7 +86,6 @@ fn faults_of_rules_have_their_order(rt: HostRuntime) -> Result<(), Fail> {
     let refused = [
         [PAIR, one, unknown, "refused 20 at 8\n"],
         [APART, COLOURS, unknown, "refused 50 at 11\n"],
-        [APART, COLOURS, OTHER_COLOURS, "refused 17 at 2\n"],
         [PAIR, delta, OTHER_COLOURS, "refused form at 7\n"],
         [PAIR, COLOURS, "", "refused form at 11\n"],
     ];

@@ -1,6 +1,6 @@
 //! Worked examples of rounds that are played from a schedule.
 
-use super::{APART, COLOURS, PAIR, ROW, ends_as, ends_by_bytes};
+use super::{COLOURS, PAIR, ROW, ends_as, ends_by_bytes};
 use pls_base::Status;
 use std::alloc::Global;
 use std::process::Abort;
@@ -70,9 +70,7 @@ fn the_first_event_that_does_not_apply_is_refused(rt: HostRuntime) -> Result<(),
         ("emit 1\n", "refused form at 12\n", refused),
         ("emit 1 0\nend\n", "refused form at 14\n", refused),
     ];
-    assert_plays(&rt, rt.alloc(), [PAIR, COLOURS], &cases)?;
-    let apart = [("arrive 1\n", "refused 17 at 2\n", refused)];
-    assert_plays(&rt, rt.alloc(), [APART, COLOURS], &apart)
+    assert_plays(&rt, rt.alloc(), [PAIR, COLOURS], &cases)
 }
 
 #[test]

@@ -40,6 +40,23 @@ fn trees_forests_and_networks_without_cycle_are_marked(rt: HostRuntime) -> Resul
 }
 
 #[test]
+fn lightest_trees_are_shown_by_centroids(rt: HostRuntime) -> Result<(), Fail> {
+    let alone = "labels\nlabel 5 26 318d46c0\nend\n";
+    let triangle = "labels\nlabel 1 31 495b4216\nlabel 2 20 4d24f0\nlabel 3 37 446db42098\nend\n";
+    let marked = [
+        ("pathmax", [ALONE, ""], (alone, Status::Done)),
+        ("pathmax", [TRIANGLE, ""], (triangle, Status::Done)),
+        ("pathmax", [TWO_TREES, ""], ("no\n", Status::No)),
+    ];
+    assert_runs(&rt, rt.alloc(), "mark", &marked)?;
+    let bounds = [("pathmax", [ALONE, ""], ("bound 30\n", Status::Done))];
+    assert_runs(&rt, rt.alloc(), "bound", &bounds)?;
+    let accepted = "node 1 accept\nnode 2 accept\nnode 3 accept\nrejecting 0\n";
+    let judged = [("pathmax", [TRIANGLE, triangle], (accepted, Status::Done))];
+    assert_runs(&rt, rt.alloc(), "verify", &judged)
+}
+
+#[test]
 fn a_depth_is_a_whole_label(rt: HostRuntime) -> Result<(), Fail> {
     let unread = ("node 5 reject 1 1\nrejecting 1\n", Status::No);
     let deep = ("node 5 reject 1 3\nrejecting 1\n", Status::No);

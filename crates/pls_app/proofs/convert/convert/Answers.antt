@@ -1,4 +1,4 @@
-use Rattle.std.proofs.Common.{◌≡◌, ◌∙◌, ℕ, Option, Some, None, IfOk, inl, inr, refl, subst, sym}
+use Rattle.std.proofs.Common.{◌≡◌, ◌∙◌, ℕ, List, Option, Some, None, IfOk, inl, inr, refl, sym}
 use Rattle.std.proofs.lemmas.Result.{IfOk-weaker}
 use Rattle.pls_base.specs.declared.refusal_number.TheConstants.{UNREAD}
 use Rattle.pls_base.specs.declared.text_error.TextError.{TextError}
@@ -7,7 +7,6 @@ use Rattle.pls_base.specs.declared.text_error.Quantity.TheVariants.{Bits}
 use Rattle.pls_bits.specs.Delta.{delta_code}
 use Rattle.pls_bits.specs.declared.code_name.CodeName.TheVariants.{Delta}
 use Rattle.pls_model.specs.declared.limits.TheConstants.{MAX_BITS}
-use Rattle.pls_model.specs.Walk.{IsConnected}
 use Rattle.pls_view.specs.Labels.{bits_together}
 use Rattle.pls_combine.specs.Converted.{converted}
 use Rattle.pls_inputs.specs.Order.{over}
@@ -29,60 +28,52 @@ returns-in-Some-clause-does g c =
     let id : ℕ = c.node.result.0 in
     IfOk-weaker c.refuse_unread.result (λ answer. answer ≡ refusal (Sense UNREAD id))
     (λ answer. (input : Input) → rows_in input ≡ net → labels_in input ≡ labels
-    → g.C.NumCode.takes ≡ takes_of (code_in input) → Does (With Convert scheme) input answer)
-    (λ answer says input rows same takes. inl (
+    → g.C.NumCode.takes ≡ takes_of (code_in input) → (parts : List (List ℕ))
+    → Does (With Convert scheme) input parts answer)
+    (λ answer says input rows same takes parts. inl (
       Sense UNREAD id,
-      inr (
-        subst IsConnected (sym rows) c.requires.connected,
-        unread_refused scheme input _ (λ i. converted (takes i) delta_code scheme) labels same net
-            c.in-Some.place id rows (sym c.in-Some.is ∙ c.in_ok-place.ensures.place)
-            c.node.ensures.id,
-      ),
+      unread_refused scheme input _ (λ i. converted (takes i) delta_code scheme) labels same net
+          c.in-Some.place id rows (sym c.in-Some.is ∙ c.in_ok-place.ensures.place)
+          c.node.ensures.id,
       says,
     )) c.refuse_unread.ensures.says
 
 pub returns-in-None-clause-does : goal.returns-in-None-clause-does
 returns-in-None-clause-does g c =
-    by (over Bits MAX_BITS (bits_together c.convert_all.new.found)) refl
+    by (over Bits MAX_BITS (bits_together c.convert_labels.new.into)) refl
   where
     Does_so : Answer → Type 0
     Does_so answer = (input : Input) → rows_in input ≡ c.args.net
         → labels_in input ≡ c.args.labels.now
         → g.C.NumCode.takes ≡ takes_of (code_in input)
-        → Does (With Convert c.args.scheme.now) input answer
+        → (parts : List (List ℕ)) → Does (With Convert c.args.scheme.now) input parts answer
 
     by : (found : Option TextError)
-        → over Bits MAX_BITS (bits_together c.convert_all.new.found) ≡ found
+        → over Bits MAX_BITS (bits_together c.convert_labels.new.into) ≡ found
         → IfOk c.labels_within.result Does_so
     by None limit =
         let scheme = c.args.scheme.now in
-        let store = c.convert_all.new.found in
+        let store = c.convert_labels.new.into in
         let none = sym c.in-None.is ∙ c.in_ok-place.ensures.place in
         let made = c.in_ok-place.ensures.all c.in-None.is in
         IfOk-weaker c.labels_within.result (λ answer. answer ≡ labels_answer Delta c.args.net store)
         Does_so
-        (λ answer is input rows same takes. inr (
-          record {
-            joined = subst IsConnected (sym rows) c.requires.connected;
-            accepted = bits_decide scheme input _ (λ i. converted (takes i) delta_code scheme)
-                c.args.labels.now same store none made None limit;
-          },
+        (λ answer is input rows same takes parts. inr (
+          bits_decide scheme input _ (λ i. converted (takes i) delta_code scheme)
+              c.args.labels.now same store none made None limit,
           is ∙ (λ i. labels_answer Delta (sym rows i)
               (sym (converted_same scheme input _ (λ i. converted (takes i) delta_code scheme)
               c.args.labels.now same store none made) i)),
         )) (c.labels_within.ensures.within limit)
     by (Some error) limit =
         let scheme = c.args.scheme.now in
-        let store = c.convert_all.new.found in
+        let store = c.convert_labels.new.into in
         let none = sym c.in-None.is ∙ c.in_ok-place.ensures.place in
         let made = c.in_ok-place.ensures.all c.in-None.is in
         IfOk-weaker c.labels_within.result (λ answer. answer ≡ refusal error) Does_so
-        (λ answer says input rows same takes. inl (
+        (λ answer says input rows same takes parts. inl (
           error,
-          inr (
-            subst IsConnected (sym rows) c.requires.connected,
-            bits_decide scheme input _ (λ i. converted (takes i) delta_code scheme)
-                c.args.labels.now same store none made (Some error) limit,
-          ),
+          bits_decide scheme input _ (λ i. converted (takes i) delta_code scheme)
+              c.args.labels.now same store none made (Some error) limit,
           says,
         )) (c.labels_within.ensures.refused error limit)

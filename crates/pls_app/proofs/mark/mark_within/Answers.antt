@@ -1,32 +1,51 @@
-use Rattle.std.proofs.Common.{ℕ, ◌≤◌, Bool, List, Option, length, refl, subst}
-use Rattle.std.specs.List.{All}
-use Rattle.pls_base.specs.Steps.{capped}
-use Rattle.pls_graph.specs.Size.{size_of}
+use Rattle.std.proofs.Common.{ℕ, Bool, List, Option, inl, inr, refl, subst}
+use Rattle.std.proofs.lemmas.Result.{IfOk-weaker}
 use Rattle.pls_scheme.specs.Judging.{AllAccept}
-use Rattle.pls_combine.specs.Expression.{judge_of, longest_of}
+use Rattle.pls_combine.specs.Expression.{IsMarked, judge_of, longest_of}
+use Rattle.pls_components.specs.Components.{FitsInEach}
+use Rattle.pls_components.specs.Parts.{AreWithinBound}
 use Rattle.pls_app.proofs.mark.mark_within.Goals as goal
 
-pub returns-in-Some-clause-shows : goal.returns-in-Some-clause-shows
-returns-in-Some-clause-shows g c = λ done.
+pub returns-in-Labels-clause-marks : goal.returns-in-Labels-clause-marks
+returns-in-Labels-clause-marks g c =
     let scheme = c.args.scheme.now in
     let net = c.args.net in
-    let labels = c.in-Some.labels in
-    let named = c.requires.named in
-    let accepted = rw c.in-Some.is at c.in_ok-labels.ensures.accepted in
-    let short = rw c.in-Some.is at c.in_ok-labels.ensures.short in
+    let labels = c.in-Labels.labels in
+    let shown = rw c.in-Labels.is at c.in_ok-labels.ensures.labels in
+    inl (
+      labels,
+      record {
+        holds = shown.has;
+        each = shown.each;
+        marks = subst (λ (code : ℕ → List Bool). FitsInEach (IsMarked code scheme) net labels)
+            c.requires.named.writes_so shown.right;
+      },
+      refl,
+    )
+
+pub returns-in-Labels-clause-shows : goal.returns-in-Labels-clause-shows
+returns-in-Labels-clause-shows g c = λ done.
+    let scheme = c.args.scheme.now in
+    let net = c.args.net in
+    let labels = c.in-Labels.labels in
+    let shown = rw c.in-Labels.is at c.in_ok-labels.ensures.labels in
     record {
       labels = labels;
       shows = record {
-        holds = record {
-          joined = c.requires.connected;
-          has = rw c.in-Some.is at c.in_ok-labels.ensures.holds;
-        };
-        each = rw c.in-Some.is at c.in_ok-labels.ensures.each;
+        holds = shown.has;
+        each = shown.each;
         accepted = subst (λ (takes : List Bool → Option (ℕ × List Bool)).
-            AllAccept (judge_of takes scheme) net labels) named.takes_so accepted;
+            AllAccept (judge_of takes scheme) net labels) c.requires.named.takes_so shown.accepted;
         short = subst (λ (code : ℕ → List Bool).
-            All (λ label. length label ≤ capped (longest_of code scheme (size_of net))) labels)
-            named.writes_so short;
+            FitsInEach (AreWithinBound (longest_of code scheme)) net labels)
+            c.requires.named.writes_so shown.short;
       };
       is = refl;
     }
+
+pub returns-in-Lacking-clause-marks : goal.returns-in-Lacking-clause-marks
+returns-in-Lacking-clause-marks g c =
+    let ids = c.in-Lacking.ids in
+    let lacking = rw c.in-Lacking.is at c.in_ok-labels.ensures.lacking in
+    IfOk-weaker c.no.result _ _ (λ answer is. inr (ids, lacking, rw c.as_slice.ensures at is))
+    c.no.ensures.says

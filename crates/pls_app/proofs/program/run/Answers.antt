@@ -15,8 +15,8 @@ use Rattle.pls_app.proofs.Commands.{one_command}
 use Rattle.pls_app.proofs.Consumed.{lost_nothing}
 use Rattle.pls_app.proofs.Conversions.{done_converts}
 use Rattle.pls_app.proofs.NamedSets.{done_judges}
-use Rattle.pls_app.proofs.Told.{tells, tells_command, tells_part, tells_part_of, told_answered, told_done, told_no, told_ends, told_sure, told_usage, offered, took_certificate, took_conversion, unread_command, unread_usage, worked_answered}
-use Rattle.pls_app.proofs.Proved.{done_proves, no_lacks, no_rejects}
+use Rattle.pls_app.proofs.Told.{tells, tells_command, tells_part, tells_part_of, told_answered, told_done, told_no, told_ends, told_sure, told_usage, offered, took_certificate, took_conversion, took_lack, unread_command, unread_usage, worked_answered}
+use Rattle.pls_app.proofs.Proved.{done_proves, judged_notices, no_lacks, no_rejects}
 use Rattle.pls_app.proofs.program.run.Goals as goal
 
 pub returns-in-Ok-None-clause-text : goal.returns-in-Ok-None-clause-text
@@ -66,6 +66,12 @@ returns-in-Ok-None-clause-check g c scheme command bytes asks checks done =
 
 pub returns-in-Ok-None-clause-rejects : goal.returns-in-Ok-None-clause-rejects
 returns-in-Ok-None-clause-rejects g c scheme command bytes asks checks ends =
+    let words : List (List ℕ) = words_in c.args.words.now in
+    let none : IsUsage words = c.in-Ok-None.ensures.none c.in-Ok-None.field-0-is in
+    absurd (none command asks.asked)
+
+pub returns-in-Ok-None-clause-notices : goal.returns-in-Ok-None-clause-notices
+returns-in-Ok-None-clause-notices g c scheme command bytes asks checks judged =
     let words : List (List ℕ) = words_in c.args.words.now in
     let none : IsUsage words = c.in-Ok-None.ensures.none c.in-Ok-None.field-0-is in
     absurd (none command asks.asked)
@@ -154,6 +160,17 @@ returns-in-Ok-clause-rejects g c scheme other bytes asks checks ends =
     no_rejects scheme other bytes _ checks answers
     (told_no _ _ _ _ _ _ _ c.tell-in-Ok.ensures.told ends)
 
+pub returns-in-Ok-clause-notices : goal.returns-in-Ok-clause-notices
+returns-in-Ok-clause-notices g c scheme other bytes asks checks judged =
+    let words : List (List ℕ) = words_in c.args.words.now in
+    let command : Command = c.in-Ok-Some.command in
+    let is : IsCommand words command = rw c.in-Ok-Some.field-0-is at c.in-Ok-Some.ensures.some in
+    let answers =
+    same_command words command other bytes _ is asks.asked
+    (c.in-Ok.ensures.answer bytes (inr asks.told)) in
+    judged_notices scheme other bytes _ checks answers
+    (told_judged _ _ _ _ _ _ _ c.tell-in-Ok.ensures.told judged)
+
 pub returns-in-Ok-clause-mark : goal.returns-in-Ok-clause-mark
 returns-in-Ok-clause-mark g c code scheme bytes asks done =
     let words : List (List ℕ) = words_in c.args.words.now in
@@ -173,7 +190,8 @@ returns-in-Ok-clause-mark_no g c code scheme bytes asks ends =
     let answers =
     same_command words command (With (Mark code) scheme) bytes _ is asks.asked
     (c.in-Ok.ensures.answer bytes (inr asks.told)) in
-    no_lacks code scheme bytes _ answers (told_no _ _ _ _ _ _ _ c.tell-in-Ok.ensures.told ends)
+    took_lack scheme bytes _ _ _ _ _ _ _ (λ due. no_lacks code scheme bytes _ answers due)
+    c.tell-in-Ok.ensures.told ends
 
 pub returns-in-Ok-clause-recheck : goal.returns-in-Ok-clause-recheck
 returns-in-Ok-clause-recheck g c scheme bytes asks done =

@@ -1,4 +1,9 @@
-use Rattle.std.proofs.Common.{◌≡◌, ◌∙◌, false, inr, ap, refl, subst, sym}
+use Rattle.std.proofs.Common.{◌≡◌, ◌∙◌, false, List, [], inr, ap, refl, subst, sym}
+use Rattle.pls_model.specs.declared.row.NodeRow.{NodeRow}
+use Rattle.pls_components.specs.Components.{AreComponents}
+use Rattle.pls_components.proofs.Empty.{empty_parts}
+use Rattle.pls_inputs.specs.Parts.{rows_in}
+use Rattle.pls_app.specs.Command.{input_parts_of}
 use Rattle.std.proofs.lemmas.Result.{IfOk-weaker}
 use Rattle.pls_bits.specs.Gamma.{gamma_takes}
 use Rattle.pls_compile.specs.RuleMeaning.{meaning}
@@ -9,54 +14,62 @@ use Rattle.pls_app.specs.declared.command.RuleTask.{RuleTask}
 use Rattle.pls_app.specs.Answer.{report}
 use Rattle.pls_app.specs.Reports.{decided_by}
 use Rattle.pls_app.specs.Ruled.{listed}
-use Rattle.pls_app.specs.inner.Tasks.{Does}
-use Rattle.pls_app.proofs.Values.{labels_are, labels_each, rows_are, rules_sense, set_is}
+use Rattle.pls_app.specs.inner.Tasks.{DoesWork}
+use Rattle.pls_app.proofs.Values.{labels_are, labels_each, made_of, no_rows, rows_are, rules_sense, set_is}
 use Rattle.pls_app.proofs.rule_work.do_rule_task.Goals as goal
 
 pub judge-requires-clause-each : goal.judge-requires-clause-each
 judge-requires-clause-each c =
-    labels_each _ _ c.args.input c.requires.input.1 c.unwrap-net.result c.unwrap-net.ensures
+    labels_each _ _ c.args.input c.requires.1 c.unwrap-net.result c.unwrap-net.ensures
     c.unwrap.result c.unwrap.ensures
 
 pub judge-requires-clause-sense : goal.judge-requires-clause-sense
 judge-requires-clause-sense c =
-    rules_sense _ _ c.args.input c.requires.input.1 c.unwrap-set.result c.unwrap-set.ensures
+    rules_sense _ _ c.args.input c.requires.1 c.unwrap-set.result c.unwrap-set.ensures
 
 pub list_code-requires : goal.list_code-requires
 list_code-requires c =
-    rules_sense _ _ c.args.input c.requires.input.1 c.unwrap-set.result c.unwrap-set.ensures
+    rules_sense _ _ c.args.input c.requires.1 c.unwrap-set.result c.unwrap-set.ensures
 
-pub returns-in-Judge-clause-does : goal.returns-in-Judge-clause-does
-returns-in-Judge-clause-does c =
+pub returns-in_ok-parts-in-Judge-clause-does : goal.returns-in_ok-parts-in-Judge-clause-does
+returns-in_ok-parts-in-Judge-clause-does c =
     let input = said c.args.input in
     let json = c.in-Judge.json in
-    let is = c.requires.input.1 in
+    let is = c.requires.1 in
     let net = c.unwrap-net.result in
     let store = c.unwrap.result in
     let set = set_of c.unwrap-set.result in
     let rows = rows_are c.args.input net c.unwrap-net.ensures in
     let labels = labels_are _ _ c.args.input is net c.unwrap-net.ensures store c.unwrap.ensures in
     let sets = set_is _ _ c.args.input is c.unwrap-set.result c.unwrap-set.ensures in
+    let parts = c.in_ok-parts-in-Judge.parts in
     IfOk-weaker c.judge-in-Judge.result
-    (λ answer. answer ≡ report json false (decided_by (meaning gamma_takes set) net store))
-    (λ answer. Does (ByRules c.args.task) input answer)
-    (λ answer same. subst (λ (task : RuleTask). Does (ByRules task) input answer)
-    (sym c.in-Judge.is) (inr (
-      record { joined = c.requires.joined; accepted = refl },
-      same ∙ ap (report json false)
-          (λ i. decided_by (meaning gamma_takes (sym sets i)) (sym rows i) (sym labels i)),
-    ))) c.judge-in-Judge.ensures.reports
+    (λ answer. answer ≡ report json false net parts (decided_by (meaning gamma_takes set) net store))
+    (λ answer. DoesWork (ByRules c.args.task) input answer)
+    (λ answer same. subst (λ (task : RuleTask). DoesWork (ByRules task) input answer)
+    (sym c.in-Judge.is) (record {
+      parts = parts;
+      components = made_of input net parts rows c.in_ok-parts-in-Judge.ensures;
+      does = inr (
+        refl,
+        same ∙ (λ i. report json false (sym rows i) parts
+            (decided_by (meaning gamma_takes (sym sets i)) (sym rows i) (sym labels i))),
+      );
+    })) c.judge-in-Judge.ensures.reports
 
 pub returns-in-Code-clause-does : goal.returns-in-Code-clause-does
 returns-in-Code-clause-does c =
     let input = said c.args.input in
-    let is = c.requires.input.1 in
+    let is = c.requires.1 in
     let set = set_of c.unwrap-set.result in
     let sets = set_is _ _ c.args.input is c.unwrap-set.result c.unwrap-set.ensures in
+    let none : rows_in input ≡ [] = no_rows _ _ input is.is
+    (ap (λ (task : RuleTask). (input_parts_of (ByRules task)).network) c.in-Code.is) in
     IfOk-weaker c.list_code.result (λ answer. answer ≡ listed set)
-    (λ answer. Does (ByRules c.args.task) input answer)
-    (λ answer same. subst (λ (task : RuleTask). Does (ByRules task) input answer)
-    (sym c.in-Code.is) (inr (
-      record { joined = c.requires.joined; accepted = refl },
-      same ∙ ap listed (sym sets),
-    ))) c.list_code.ensures
+    (λ answer. DoesWork (ByRules c.args.task) input answer)
+    (λ answer same. subst (λ (task : RuleTask). DoesWork (ByRules task) input answer)
+    (sym c.in-Code.is) (record {
+      parts = [];
+      components = subst (λ (rows : List NodeRow). AreComponents rows []) (sym none) empty_parts;
+      does = inr (refl, same ∙ ap listed (sym sets));
+    })) c.list_code.ensures

@@ -10,5 +10,6 @@ use Rattle.pls_app.proofs.ruled.judge.Goals as goal
 pub returns-clause-reports : goal.returns-clause-reports
 returns-clause-reports c =
     subst (λ (set : RuleSet). IfOk c.verify.result (λ answer. answer ≡ report c.args.json false
+    c.args.net.now c.args.parts.now
     (decided_by (meaning gamma_takes (set_of set)) c.args.net.now c.args.labels.now)))
     c.in_ok-checker.ensures c.verify.ensures.reports

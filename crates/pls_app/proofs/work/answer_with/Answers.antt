@@ -3,23 +3,77 @@ use Rattle.std.proofs.lemmas.Result.{IfOk-weaker}
 use Rattle.pls_model.specs.declared.status.Status.TheVariants.{Done}
 use Rattle.pls_bits.specs.declared.code_name.CodeName.{CodeName}
 use Rattle.pls_inputs.specs.declared.parts.Parts.{Parts}
-use Rattle.pls_inputs.specs.Order.{IsNoInput}
-use Rattle.pls_inputs.specs.Read.{IsRead}
+use Rattle.pls_inputs.specs.Order.{IsInput, IsNoInput}
+use Rattle.pls_inputs.specs.Parts.{rows_in}
+use Rattle.pls_inputs.specs.Read.{IsRead, said}
 use Rattle.pls_app.specs.declared.command.Command.TheVariants.{With}
-use Rattle.pls_app.specs.declared.command.Task.TheVariants.{Mark}
-use Rattle.pls_app.specs.Answer.{refusal}
+use Rattle.pls_app.specs.declared.command.Task.TheVariants.{Mark, Recheck}
+use Rattle.pls_app.specs.Answer.{Answers, Reads, refusal}
 use Rattle.pls_app.specs.Run.{Certifies}
-use Rattle.pls_app.specs.inner.Tasks.{RecheckedOnBytes}
+use Rattle.pls_app.specs.inner.Tasks.{DoesWork, RecheckedIn, RecheckedOnBytes, ShowsIn}
 use Rattle.pls_app.specs.Said.{Answer}
-use Rattle.pls_app.proofs.Answered.{answered_by_refusal}
-use Rattle.pls_app.proofs.Asked.{refused_asks}
+use Rattle.pls_app.proofs.Answered.{answered_by_refusal, does_answer}
+use Rattle.pls_app.proofs.Asked.{refused_asks, task_asks}
+use Rattle.pls_app.proofs.Certified.{certified_mark}
+use Rattle.pls_app.proofs.Consumed.{both_ok}
 use Rattle.pls_app.proofs.Proved.{refused_not_done}
 use Rattle.pls_app.proofs.work.answer_with.Goals as goal
 
 pub work-requires-clause-input : goal.work-requires-clause-input
-work-requires-clause-input g c =
-    subst (λ (parts : Parts). IsRead parts c.args.bytes.now c.in-Ok.input)
-    (c.parts.ensures.parts c.args.scheme) c.in-Ok.ensures.input
+work-requires-clause-input g c = (
+  c.args.bytes.now,
+  subst (λ (parts : Parts). IsRead parts c.args.bytes.now c.in-Ok.input)
+      (c.parts.ensures.parts c.args.scheme) c.in-Ok.ensures.input,
+)
+
+pub returns-in-Ok-clause-answer : goal.returns-in-Ok-clause-answer
+returns-in-Ok-clause-answer g c =
+    let command = With c.args.task c.args.scheme in
+    let input = said c.in-Ok.input in
+    let is : Reads (With c.args.task c.args.scheme) c.args.bytes.now input =
+    subst (λ (parts : Parts). IsInput parts c.args.bytes.now input)
+    (c.parts.ensures.parts c.args.scheme) c.in-Ok.ensures.input.is in
+    IfOk-weaker c.work.result (λ answer. DoesWork command input answer)
+    (λ answer. Answers command c.args.bytes.now answer)
+    (λ answer does. does_answer command c.args.bytes.now input answer is does)
+    c.work.ensures.does
+
+pub returns-in-Ok-clause-certified : goal.returns-in-Ok-clause-certified
+returns-in-Ok-clause-certified g c =
+    let scheme = c.args.scheme in
+    let task = c.args.task in
+    let input = said c.in-Ok.input in
+    let is : Reads (With c.args.task c.args.scheme) c.args.bytes.now input =
+    subst (λ (parts : Parts). IsInput parts c.args.bytes.now input)
+    (c.parts.ensures.parts c.args.scheme) c.in-Ok.ensures.input.is in
+    IfOk-weaker c.work.result
+    (λ answer. DoesWork (With task scheme) input answer
+    × ((code : CodeName) → task ≡ Mark code → answer.status ≡ Done
+    → ShowsIn code scheme (rows_in input) answer.text))
+    (λ answer. (code : CodeName) → task ≡ Mark code → answer.status ≡ Done
+    → Certifies code scheme c.args.bytes.now answer.text)
+    (λ answer both code same done. certified_mark task code scheme c.args.bytes.now input answer same
+    is both.0 (both.1 code same done) done)
+    (both_ok c.work.result (λ answer. DoesWork (With task scheme) input answer)
+    (λ answer. (code : CodeName) → task ≡ Mark code → answer.status ≡ Done
+    → ShowsIn code scheme (rows_in input) answer.text)
+    c.work.ensures.does c.work.ensures.shows)
+
+pub returns-in-Ok-clause-rechecked : goal.returns-in-Ok-clause-rechecked
+returns-in-Ok-clause-rechecked g c =
+    let scheme = c.args.scheme in
+    let task = c.args.task in
+    let input = said c.in-Ok.input in
+    let is : Reads (With c.args.task c.args.scheme) c.args.bytes.now input =
+    subst (λ (parts : Parts). IsInput parts c.args.bytes.now input)
+    (c.parts.ensures.parts c.args.scheme) c.in-Ok.ensures.input.is in
+    let old = g.B.Bench.asked c.args.bench.now in
+    let new = g.B.Bench.asked c.work.new.bench in
+    IfOk-weaker c.work.result
+    (λ answer. task ≡ Recheck → RecheckedIn scheme input answer.status old new)
+    (λ answer. RecheckedOnBytes (With task scheme) c.args.bytes.now answer.status old new)
+    (λ answer found. task_asks task scheme c.args.bytes.now input answer.status old new
+    is found) c.work.ensures.rechecked
 
 pub returns-in-Err-clause-answer : goal.returns-in-Err-clause-answer
 returns-in-Err-clause-answer g c =

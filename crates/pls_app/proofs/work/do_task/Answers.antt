@@ -1,10 +1,8 @@
-use Rattle.std.proofs.Common.{◌≡◌, ◌∙◌, List, false, option_map, inr, ap, refl, subst, sym}
+use Rattle.std.proofs.Common.{◌≡◌, ◌∙◌, ℕ, List, false, option_map, inr, ap, refl, subst, sym}
 use Rattle.std.proofs.lemmas.Result.{IfOk-weaker}
-use Rattle.pls_model.specs.Walk.{IsConnected}
 use Rattle.pls_inputs.specs.Parts.{Input, code_in, labels_in, rows_in}
 use Rattle.pls_inputs.specs.Read.{said}
 use Rattle.pls_bits.specs.declared.code_name.CodeName.{CodeName}
-use Rattle.pls_graph.specs.Size.{size_of}
 use Rattle.pls_combine.specs.Expression.{judge_of, longest_of}
 use Rattle.pls_model.specs.declared.row.NodeRow.{NodeRow}
 use Rattle.pls_model.specs.declared.status.Status.TheVariants.{Done}
@@ -15,14 +13,11 @@ use Rattle.pls_app.specs.Answer.{bounded, report}
 use Rattle.pls_app.specs.Command.{input_parts_of}
 use Rattle.pls_app.specs.Meant.{number_code_of, takes_of}
 use Rattle.pls_app.specs.Reports.{decided_by}
-use Rattle.pls_app.specs.inner.Tasks.{Does, IsNamed, IsSimulated, RecheckedIn, ShowsIn, working_code}
-use Rattle.pls_app.proofs.Values.{edits_at, edits_few, edits_fit, edits_small, items_are, labels_are, labels_each, rows_are, schedule_at, schedule_small}
+use Rattle.pls_app.specs.inner.Tasks.{Does, DoesWork, IsNamed, IsRechecked, IsSimulated, RecheckedIn, ShowsIn, working_code}
+use Rattle.pls_app.proofs.Values.{edits_at, edits_few, edits_fit, edits_small, items_are, labels_are, labels_each, made_of, rows_are, schedule_at, schedule_small}
+use Rattle.pls_components.specs.Components.{AreComponents}
+use Rattle.pls_components.specs.Parts.{bound_of_parts}
 use Rattle.pls_app.proofs.work.do_task.Goals as goal
-
-pub mark-requires-clause-connected : goal.mark-requires-clause-connected
-mark-requires-clause-connected g c =
-    subst IsConnected (rows_are c.args.input c.unwrap-net.result c.unwrap-net.ensures)
-    c.requires.joined
 
 pub mark-requires-clause-named : goal.mark-requires-clause-named
 mark-requires-clause-named g c =
@@ -55,13 +50,18 @@ pub returns-in-Mark-clause-does : goal.returns-in-Mark-clause-does
 returns-in-Mark-clause-does g c =
     let scheme = c.args.scheme in
     let input = said c.args.input in
+    let parts = c.in_ok-parts.parts in
+    let are : AreComponents (rows_in input) parts =
+    made_of input c.unwrap-net.result parts
+    (rows_are c.args.input c.unwrap-net.result c.unwrap-net.ensures) c.in_ok-parts.ensures in
     let rows = rows_are c.args.input c.unwrap-net.result c.unwrap-net.ensures in
     IfOk-weaker c.mark.result
     (λ answer. (input : Input) → rows_in input ≡ c.unwrap-net.result
-    → Does (With (Mark c.in-Mark.code) scheme) input answer)
-    (λ answer. Does (With c.args.task scheme) input answer)
-    (λ answer does. subst (λ (task : Task). Does (With task scheme) input answer)
-    (sym c.in-Mark.is) (does input rows)) c.mark.ensures.does
+    → Does (With (Mark c.in-Mark.code) scheme) input parts answer)
+    (λ answer. DoesWork (With c.args.task scheme) input answer)
+    (λ answer does. subst (λ (task : Task). DoesWork (With task scheme) input answer)
+    (sym c.in-Mark.is) (record { parts = parts; components = are; does = does input rows }))
+    c.mark.ensures.does
 
 pub returns-in-Mark-clause-shows : goal.returns-in-Mark-clause-shows
 returns-in-Mark-clause-shows g c =
@@ -83,28 +83,35 @@ pub returns-in-Bound-clause-does : goal.returns-in-Bound-clause-does
 returns-in-Bound-clause-does g c =
     let scheme = c.args.scheme in
     let input = said c.args.input in
+    let parts = c.in_ok-parts.parts in
+    let are : AreComponents (rows_in input) parts =
+    made_of input c.unwrap-net.result parts
+    (rows_are c.args.input c.unwrap-net.result c.unwrap-net.ensures) c.in_ok-parts.ensures in
     let net = c.unwrap-net.result in
     let rows = rows_are c.args.input net c.unwrap-net.ensures in
     let writes = c.requires.named.writes_so
     ∙ ap (λ (task : Task). number_code_of (working_code task input)) c.in-Bound.is in
     IfOk-weaker c.bound.result
-    (λ answer. answer ≡ bounded (longest_of g.C.NumCode.code scheme (size_of net)))
-    (λ answer. Does (With c.args.task scheme) input answer)
-    (λ answer same. subst (λ (task : Task). Does (With task scheme) input answer)
-    (sym c.in-Bound.is) (inr (
-      record { joined = c.requires.joined; accepted = refl },
-      same ∙ (λ i. bounded (longest_of (writes i) scheme (size_of (sym rows i)))),
-    ))) c.bound.ensures.bounded
-
-pub convert-requires-clause-connected : goal.convert-requires-clause-connected
-convert-requires-clause-connected g c =
-    subst IsConnected (rows_are c.args.input c.unwrap-net.result c.unwrap-net.ensures)
-    c.requires.joined
+    (λ answer. answer ≡ bounded (bound_of_parts (longest_of g.C.NumCode.code scheme) net parts))
+    (λ answer. DoesWork (With c.args.task scheme) input answer)
+    (λ answer same. subst (λ (task : Task). DoesWork (With task scheme) input answer)
+    (sym c.in-Bound.is) (record {
+      parts = parts;
+      components = are;
+      does = inr (
+        refl,
+        same ∙ (λ i. bounded (bound_of_parts (longest_of (writes i) scheme) (sym rows i) parts)),
+      );
+    })) c.bound.ensures.bounded
 
 pub returns-in-Convert-clause-does : goal.returns-in-Convert-clause-does
 returns-in-Convert-clause-does g c =
     let scheme = c.args.scheme in
     let input = said c.args.input in
+    let parts = c.in_ok-parts.parts in
+    let are : AreComponents (rows_in input) parts =
+    made_of input c.unwrap-net.result parts
+    (rows_are c.args.input c.unwrap-net.result c.unwrap-net.ensures) c.in_ok-parts.ensures in
     let net = c.unwrap-net.result in
     let store = c.unwrap-in-Convert.result in
     let takes = c.requires.named.takes_so
@@ -114,15 +121,22 @@ returns-in-Convert-clause-does g c =
     c.unwrap-in-Convert.ensures in
     IfOk-weaker c.convert-in-Convert.result
     (λ answer. (input : Input) → rows_in input ≡ net → labels_in input ≡ store
-    → g.C.NumCode.takes ≡ takes_of (code_in input) → Does (With Convert scheme) input answer)
-    (λ answer. Does (With c.args.task scheme) input answer)
-    (λ answer does. subst (λ (task : Task). Does (With task scheme) input answer)
-    (sym c.in-Convert.is) (does input rows labels takes)) c.convert-in-Convert.ensures.does
+    → g.C.NumCode.takes ≡ takes_of (code_in input) → (parts : List (List ℕ))
+    → Does (With Convert scheme) input parts answer)
+    (λ answer. DoesWork (With c.args.task scheme) input answer)
+    (λ answer does. subst (λ (task : Task). DoesWork (With task scheme) input answer)
+    (sym c.in-Convert.is)
+    (record { parts = parts; components = are; does = does input rows labels takes parts }))
+    c.convert-in-Convert.ensures.does
 
 pub returns-in-Verify-clause-does : goal.returns-in-Verify-clause-does
 returns-in-Verify-clause-does g c =
     let scheme = c.args.scheme in
     let input = said c.args.input in
+    let parts = c.in_ok-parts.parts in
+    let are : AreComponents (rows_in input) parts =
+    made_of input c.unwrap-net.result parts
+    (rows_are c.args.input c.unwrap-net.result c.unwrap-net.ensures) c.in_ok-parts.ensures in
     let json = c.in-Verify.json in
     let net = c.unwrap-net.result in
     let store = c.unwrap.result in
@@ -133,19 +147,27 @@ returns-in-Verify-clause-does g c =
     let labels = labels_are _ _ c.args.input c.requires.input.1 net c.unwrap-net.ensures store
     c.unwrap.ensures in
     IfOk-weaker c.verify-in-Verify.result
-    (λ answer. answer ≡ report json false (decided_by judge net store))
-    (λ answer. Does (With c.args.task scheme) input answer)
-    (λ answer same. subst (λ (task : Task). Does (With task scheme) input answer)
-    (sym c.in-Verify.is) (inr (
-      record { joined = c.requires.joined; accepted = refl },
-      same ∙ ap (report json false)
-          (λ i. decided_by (judge_of (takes i) scheme) (sym rows i) (sym labels i)),
-    ))) c.verify-in-Verify.ensures.reports
+    (λ answer. answer ≡ report json false net parts (decided_by judge net store))
+    (λ answer. DoesWork (With c.args.task scheme) input answer)
+    (λ answer same. subst (λ (task : Task). DoesWork (With task scheme) input answer)
+    (sym c.in-Verify.is) (record {
+      parts = parts;
+      components = are;
+      does = inr (
+        refl,
+        same ∙ (λ i. report json false (sym rows i) parts
+            (decided_by (judge_of (takes i) scheme) (sym rows i) (sym labels i))),
+      );
+    })) c.verify-in-Verify.ensures.reports
 
 pub returns-in-Simulate-clause-does : goal.returns-in-Simulate-clause-does
 returns-in-Simulate-clause-does g c =
     let scheme = c.args.scheme in
     let input = said c.args.input in
+    let parts = c.in_ok-parts.parts in
+    let are : AreComponents (rows_in input) parts =
+    made_of input c.unwrap-net.result parts
+    (rows_are c.args.input c.unwrap-net.result c.unwrap-net.ensures) c.in_ok-parts.ensures in
     let json = c.in-Simulate.json in
     let is = c.requires.input.1 in
     let net = c.unwrap-net.result in
@@ -154,7 +176,6 @@ returns-in-Simulate-clause-does g c =
     let takes = c.requires.named.takes_so
     ∙ ap (λ (task : Task). takes_of (working_code task input)) c.in-Simulate.is in
     let read : IsSimulated net store c.deref.result.now c.args.input.first_line input = record {
-      joined = c.requires.joined;
       net = rows_are c.args.input net c.unwrap-net.ensures;
       store = labels_are _ _ c.args.input is net c.unwrap-net.ensures store
           c.unwrap-in-Simulate.ensures;
@@ -167,32 +188,39 @@ returns-in-Simulate-clause-does g c =
     (λ answer. (input : Input)
     → IsSimulated net store c.deref.result.now c.args.input.first_line input
     → g.C.NumCode.takes ≡ takes_of (code_in input)
-    → Does (With (Simulate json) scheme) input answer)
-    (λ answer. Does (With c.args.task scheme) input answer)
-    (λ answer does. subst (λ (task : Task). Does (With task scheme) input answer)
-    (sym c.in-Simulate.is) (does input read takes)) c.simulate-in-Simulate.ensures.does
+    → Does (With (Simulate json) scheme) input parts answer)
+    (λ answer. DoesWork (With c.args.task scheme) input answer)
+    (λ answer does. subst (λ (task : Task). DoesWork (With task scheme) input answer)
+    (sym c.in-Simulate.is) (record { parts = parts; components = are; does = does input read takes }))
+    c.simulate-in-Simulate.ensures.does
 
 pub returns-in-Recheck-clause-does : goal.returns-in-Recheck-clause-does
 returns-in-Recheck-clause-does g c =
     let scheme = c.args.scheme in
     let input = said c.args.input in
+    let parts = c.in_ok-parts.parts in
+    let are : AreComponents (rows_in input) parts =
+    made_of input c.unwrap-net.result parts
+    (rows_are c.args.input c.unwrap-net.result c.unwrap-net.ensures) c.in_ok-parts.ensures in
     let is = c.requires.input.1 in
     let list = c.unwrap-in-Recheck-2.result in
     let takes = c.requires.named.takes_so
     ∙ ap (λ (task : Task). takes_of (working_code task input)) c.in-Recheck.is in
     let unscheduled : (input_parts_of (With c.args.task c.args.scheme)).schedule ≡ false =
     ap (λ (task : Task). (input_parts_of (With task c.args.scheme)).schedule) c.in-Recheck.is in
-    IfOk-weaker c.recheck.result _ (λ answer. Does (With c.args.task scheme) input answer)
-    (λ answer does. subst (λ (task : Task). Does (With task scheme) input answer)
-    (sym c.in-Recheck.is) (does input takes (record {
-      joined = c.requires.joined;
+    let read : IsRechecked _ input = record {
       net = rows_are c.args.input c.unwrap-net.result c.unwrap-net.ensures;
       store = labels_are _ _ c.args.input is c.unwrap-net.result c.unwrap-net.ensures
           c.unwrap-in-Recheck.result c.unwrap-in-Recheck.ensures;
       list = items_are c.args.input.edits list (λ list. list.items) c.unwrap-in-Recheck-2.ensures;
       at = edits_at _ _ c.args.input is list.items
           (ap (option_map (λ list. list.items)) c.unwrap-in-Recheck-2.ensures) unscheduled;
-    }))) c.recheck.ensures.does
+    } in
+    IfOk-weaker c.recheck.result _ (λ answer. DoesWork (With c.args.task scheme) input answer)
+    (λ answer does. subst (λ (task : Task). DoesWork (With task scheme) input answer)
+    (sym c.in-Recheck.is)
+    (record { parts = parts; components = are; does = does input takes read parts }))
+    c.recheck.ensures.does
 
 pub returns-in-Recheck-clause-rechecked : goal.returns-in-Recheck-clause-rechecked
 returns-in-Recheck-clause-rechecked g c =
@@ -209,7 +237,6 @@ returns-in-Recheck-clause-rechecked g c =
     IfOk-weaker c.recheck.result _
     (λ answer. c.args.task ≡ Recheck → RecheckedIn scheme input answer.status old new)
     (λ answer found _. found input takes (record {
-      joined = c.requires.joined;
       net = rows_are c.args.input c.unwrap-net.result c.unwrap-net.ensures;
       store = labels_are _ _ c.args.input is c.unwrap-net.result c.unwrap-net.ensures
           c.unwrap-in-Recheck.result c.unwrap-in-Recheck.ensures;

@@ -1,19 +1,12 @@
-use Rattle.std.proofs.Common.{◌≡◌, ◌≢◌, ◌∙◌, ℕ, List, Some, length, slice_get, sym, ap, arith}
+use Rattle.std.proofs.Common.{◌≡◌, ◌≢◌, ℕ, List, Some, length, slice_get, sym, ap, arith}
 use Rattle.std.specs.Vec.{vec_len}
 use Rattle.std.proofs.lemmas.Bool.{eqb-false, eqb-true}
 use Rattle.std.proofs.lemmas.List.{nil_from_length}
-use Rattle.std.proofs.lemmas.Option.{same_Some}
 use Rattle.pls_graph.proofs.Finds.{item_at}
-use Rattle.pls_graph.proofs.Members.{Contains-from_place}
 use Rattle.pls_components.specs.Components.{least_id}
 use Rattle.pls_components.proofs.Marking.{all-shown, lacking-more, marked-more, some-lacking}
 use Rattle.pls_components.proofs.part_marks.mark_parts.Goals as goal
 use Rattle.pls_components.proofs.part_marks.mark_parts.Goals.{else-not-branch, then-not-branch+in_ok-push}
-
-pub first_id-requires : goal.first_id-requires
-first_id-requires g c =
-    c.requires.each c.members.result.now
-    (Contains-from_place c.args.parts.now c.loop-k.k c.members.result.now c.members.ensures)
 
 pub loop-k-preserved : goal.loop-k-preserved
 loop-k-preserved g c =
@@ -27,14 +20,11 @@ loop-k-preserved g c =
     elim c.if-not-branch.branch [
       | then-not-branch+in_ok-push w ↦
           let lacking = rw w.if-not-branch.true at done in
-          let here : places ≡ w.members.result.now =
-          same_Some places w.members.result.now (sym at ∙ w.members.ensures) in
-          let least : least_id net places ≡ w.first_id.result =
-          ap (least_id net) here ∙ sym w.first_id.ensures in
+          let least : least_id net places ≡ w.smallest_id.result = sym (w.smallest_id.ensures places at) in
           rw (w.ids-is, w.in_ok-push.ensures.items, lacking.0)
           (lacking-more (g.S.Property.holds scheme) (g.S.Scheme.marked scheme)
           (g.S.Checker.judge scheme) (g.S.Scheme.longest scheme) net parts c.len-2.ensures.valid
-          c.requires k places at c.loop-k.labels c.loop-k.ids.items w.first_id.result
+          c.requires k places at c.loop-k.labels c.loop-k.ids.items w.smallest_id.result
           c.loop-k.invariant lacking.1 least)
       | else-not-branch w ↦
           let marked = rw w.if-not-branch.false at done in

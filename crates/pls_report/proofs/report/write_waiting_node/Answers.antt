@@ -12,7 +12,7 @@ returns g c =
     let front : List ℕ = codes "node " ++ decimal c.args.id in
     subst (Writes _ _ _ _ _ _ _ _ c.put.result) (node_text c.args.id (Waiting c.args.ports.now))
     (both _ _ _ _ c.put.result (front ++ tail) (codes "\n")
-    (wrote_both front tail c.in_ok-put_numbered.ensures c.in_ok-write_ports.ensures) c.put.ensures)
+    (wrote_both front tail c.in_ok-put_numbered.ensures c.in_ok-put_listed.ensures) c.put.ensures)
 
 pub returns-in_err-put_numbered : goal.returns-in_err-put_numbered
 returns-in_err-put_numbered g c =
@@ -22,11 +22,11 @@ returns-in_err-put_numbered g c =
     (subst (WroteFront _ _ _ _ _ _) (node_text c.args.id (Waiting c.args.ports.now))
     (front_first (front ++ tail) (codes "\n") (front_first front tail c.in_err-put_numbered.ensures)))
 
-pub returns-in_err-write_ports : goal.returns-in_err-write_ports
-returns-in_err-write_ports g c =
+pub returns-in_err-put_listed : goal.returns-in_err-put_listed
+returns-in_err-put_listed g c =
     let tail = outcome_tail (Waiting c.args.ports.now) in
     let front : List ℕ = codes "node " ++ decimal c.args.id in
-    failed _ _ c.from_residual-in_err-write_ports.result _ c.from_residual-in_err-write_ports.ensures.0
+    failed _ _ c.from_residual-in_err-put_listed.result _ c.from_residual-in_err-put_listed.ensures.0
     (subst (WroteFront _ _ _ _ _ _) (node_text c.args.id (Waiting c.args.ports.now))
     (front_first (front ++ tail) (codes "\n")
-    (front_later front tail c.in_ok-put_numbered.ensures c.in_err-write_ports.ensures)))
+    (front_later front tail c.in_ok-put_numbered.ensures c.in_err-put_listed.ensures)))

@@ -1,5 +1,5 @@
 use Rattle.pls_base.proofs.Written.{both, failed, front_first}
-use Rattle.pls_report.proofs.report.write_ports.Goals as goal
+use Rattle.pls_report.proofs.pieces.put_listed.Goals as goal
 
 pub returns-in_err-put : goal.returns-in_err-put
 returns-in_err-put g c =

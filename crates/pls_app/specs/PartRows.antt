@@ -1,0 +1,21 @@
+-- What a report tells of each component of a network.
+use Rattle.std.specs.Prelude.{ℕ, List, length, map}
+use Rattle.pls_model.specs.declared.row.NodeRow.{NodeRow}
+use Rattle.pls_sim.specs.declared.outcome.Outcome.{Outcome}
+use Rattle.pls_report.specs.declared.part_row.PartRow.{PartRow}
+use Rattle.pls_report.specs.Report.{rejecting, waiting}
+use Rattle.pls_components.specs.Components.{items_at, least_id}
+
+-- of the component at these places: its smallest identity, and how many nodes it has, how many of
+-- them reject, and how many wait
+abbrev pub part_row : List NodeRow → List (ℕ × Outcome) → List ℕ → PartRow
+part_row rows outcomes places = record {
+  id = least_id rows places;
+  nodes = length places;
+  rejecting = rejecting (items_at outcomes places);
+  waiting = waiting (items_at outcomes places);
+}
+
+-- of all components
+abbrev pub part_rows : List NodeRow → List (List ℕ) → List (ℕ × Outcome) → List PartRow
+part_rows rows parts outcomes = map (part_row rows outcomes) parts

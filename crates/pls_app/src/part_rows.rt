@@ -1,0 +1,87 @@
+//! What a report tells of each component.
+
+ghost use Rattle.std.specs.Prelude.{◌≡◌, ◌<◌, ◌≤◌, ◌^◌, ℕ, List, All, Some, cond, length, slice_get, IfOk};
+ghost use Rattle.pls_components.specs.Components.{AreComponents, items_at};
+ghost use Rattle.pls_report.specs.Report.{is_rejecting, is_waiting, rejecting, waiting};
+ghost use Rattle.pls_app.specs.PartRows.{part_row, part_rows};
+
+use pls_base::NoMemory;
+use pls_components::Components;
+use pls_graph::Network;
+use pls_model::Verdict;
+use pls_report::PartRow;
+use pls_sim::Outcome;
+use std::alloc::Global;
+
+// Of each component its smallest identity, and how many nodes it has, reject and wait. The one error
+// is want of memory.
+pub(crate) fn part_rows(
+    alloc: Global,
+    net: &Network,
+    parts: &Components,
+    outcomes: &[(u32, Outcome)],
+) -> Result<Vec<PartRow>, NoMemory>
+    requires made { AreComponents net.now parts.now }
+    requires each { length outcomes.now ≡ length net.now }
+    ensures { IfOk result (λ rows. rows.items ≡ part_rows net.now parts.now outcomes.now) }
+{
+    let mut rows = Vec::with_capacity(alloc, parts.len())?;
+    for k in 0..parts.len() {
+        rows.push(part_row(net, parts, k, outcomes))?;
+    }
+    Ok(rows)
+}
+
+fn part_row(net: &Network, parts: &Components, k: usize, outcomes: &[(u32, Outcome)]) -> PartRow
+    requires made { AreComponents net.now parts.now }
+    requires within { k < length parts.now }
+    requires each { length outcomes.now ≡ length net.now }
+    ensures { (places : List ℕ) → slice_get parts.now k ≡ Some places
+        → result ≡ part_row net.now outcomes.now places }
+{
+    // A network is valid.
+    net.len();
+    let places = parts.members(k);
+    let (rejecting, waiting) = failing_at(places, outcomes);
+    PartRow {
+        id: parts.smallest_id(net, k),
+        nodes: places.len() as u32,
+        rejecting: rejecting as u32,
+        waiting: waiting as u32,
+    }
+}
+
+// How many of the nodes at some places reject, and how many wait.
+fn failing_at(places: &[u32], outcomes: &[(u32, Outcome)]) -> (usize, usize)
+    requires within { All (λ place. place < length outcomes.now) places.now }
+    requires few { length places.now < 2 ^ 32 }
+    ensures rejecting { result.0 ≡ rejecting (items_at outcomes.now places.now) }
+    ensures waiting { result.1 ≡ waiting (items_at outcomes.now places.now) }
+    ensures few { (result.0 ≤ length places.now) × (result.1 ≤ length places.now) }
+{
+    let (mut rejecting, mut waiting) = (0, 0);
+    for place in places {
+        let outcome = &outcomes[*place as usize].1;
+        rejecting += one_if_rejecting(outcome);
+        waiting += one_if_waiting(outcome);
+    }
+    (rejecting, waiting)
+}
+
+fn one_if_rejecting(outcome: &Outcome) -> usize
+    ensures { result ≡ cond (is_rejecting outcome.now) 1 0 }
+{
+    match outcome {
+        Outcome::Decided(Verdict::Reject { .. }) => 1,
+        _ => 0,
+    }
+}
+
+fn one_if_waiting(outcome: &Outcome) -> usize
+    ensures { result ≡ cond (is_waiting outcome.now) 1 0 }
+{
+    match outcome {
+        Outcome::Waiting(_) => 1,
+        Outcome::Decided(_) => 0,
+    }
+}

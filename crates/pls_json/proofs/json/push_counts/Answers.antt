@@ -1,0 +1,5 @@
+use Rattle.std.proofs.Common.{append_assoc, refl}
+use Rattle.pls_json.proofs.json.push_counts.Goals as goal
+
+pub returns : goal.returns
+returns c = simp (c.in_ok-push_str.ensures.bytes, c.in_ok-write.ensures.bytes, append_assoc) refl

@@ -1,0 +1,27 @@
+use Rattle.std.proofs.Common.{◌++◌, ◌∷◌, [], List, ℕ, map, sym, subst}
+use Rattle.pls_lines.specs.Text.{text_of}
+use Rattle.pls_lines.specs.laws.Fronts.{text_of-append}
+use Rattle.pls_report.specs.PartLines.{if_several, part_line}
+use Rattle.pls_report.specs.Report.{closing_line}
+use Rattle.pls_base.specs.Gathered.{Writes, WroteFront}
+use Rattle.pls_base.proofs.Written.{both, failed, front_first}
+use Rattle.pls_report.proofs.report.write_last.Goals as goal
+
+pub returns : goal.returns
+returns g c =
+    let parts = c.args.parts.now in
+    let closing = closing_line c.args.simulated c.args.rows.now in
+    let lines : List (List ℕ) = if_several parts (map (part_line c.args.simulated) parts) in
+    subst (Writes _ _ _ _ _ _ _ _ c.write_closing.result)
+    (sym (text_of-append lines (closing ∷ [])))
+    (both _ _ _ _ c.write_closing.result (text_of lines) (closing ++ 10 ∷ [])
+    c.in_ok-write_parts.ensures c.write_closing.ensures)
+
+pub returns-in_err-write_parts : goal.returns-in_err-write_parts
+returns-in_err-write_parts g c =
+    let parts = c.args.parts.now in
+    let closing = closing_line c.args.simulated c.args.rows.now in
+    let lines : List (List ℕ) = if_several parts (map (part_line c.args.simulated) parts) in
+    failed _ _ c.from_residual.result _ c.from_residual.ensures.0
+    (subst (WroteFront _ _ _ _ _ _) (sym (text_of-append lines (closing ∷ [])))
+    (front_first (text_of lines) (closing ++ 10 ∷ []) c.in_err-write_parts.ensures))

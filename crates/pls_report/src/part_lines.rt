@@ -1,0 +1,62 @@
+//! The lines of components.
+
+ghost use Rattle.std.specs.Prelude.{◌++◌, ◌∷◌, [], map};
+ghost use Rattle.pls_base.specs.Gathered.{Writes};
+ghost use Rattle.pls_lines.specs.Text.{text_of};
+ghost use Rattle.pls_report.specs.PartLines.{if_several, part_line};
+
+use crate::part_row::PartRow;
+use crate::pieces::put_waiting;
+use pls_base::{Fault, Gathered, Sink};
+
+/// Writes a line for each component, where there are two or more.
+pub(crate) fn write_parts<K: Sink>(
+    parts: &[PartRow],
+    simulated: bool,
+    sink: &mut K,
+    gathered: &mut Gathered,
+) -> Result<(), Fault>
+    ensures { Writes gathered.old gathered.new (K.taken sink.old) (K.taken sink.new)
+        (K.faults sink.old) (K.faults sink.new) (K.IsSureOf sink.old) (K.IsSureOf sink.new)
+        result (text_of (if_several parts.now (map (part_line simulated) parts.now))) }
+{
+    if parts.len() < 2 {
+        return Ok(());
+    }
+    write_each(parts, simulated, sink, gathered)
+}
+
+// Writes a line for each component.
+fn write_each<K: Sink>(
+    parts: &[PartRow],
+    simulated: bool,
+    sink: &mut K,
+    gathered: &mut Gathered,
+) -> Result<(), Fault>
+    ensures { Writes gathered.old gathered.new (K.taken sink.old) (K.taken sink.new)
+        (K.faults sink.old) (K.faults sink.new) (K.IsSureOf sink.old) (K.IsSureOf sink.new)
+        result (text_of (map (part_line simulated) parts.now)) }
+{
+    for part in parts {
+        write_part(*part, simulated, sink, gathered)?;
+    }
+    Ok(())
+}
+
+// Writes the line of a component.
+fn write_part<K: Sink>(
+    part: PartRow,
+    simulated: bool,
+    sink: &mut K,
+    gathered: &mut Gathered,
+) -> Result<(), Fault>
+    ensures { Writes gathered.old gathered.new (K.taken sink.old) (K.taken sink.new)
+        (K.faults sink.old) (K.faults sink.new) (K.IsSureOf sink.old) (K.IsSureOf sink.new)
+        result (part_line simulated part ++ 10 ∷ []) }
+{
+    gathered.put_numbered(sink, b"component ", part.id as u64)?;
+    gathered.put_numbered(sink, b" nodes ", part.nodes as u64)?;
+    gathered.put_numbered(sink, b" rejecting ", part.rejecting as u64)?;
+    put_waiting(sink, gathered, simulated, part.waiting as u64)?;
+    gathered.put(sink, b"\n")
+}

@@ -1,0 +1,184 @@
+//! All networks of up to four nodes, connected or not, with all pointers: each scheme and each
+//! expression names just the components that plain programs find to lack its property, and labels of
+//! the others are accepted.
+
+use super::expressions::{EXPRESSIONS, expected};
+use super::network;
+use super::small::{
+    SETS, Small, has, is_acyclic, is_bipartite, is_forest, is_tree, pair, reached, text_with, with,
+};
+use pls_base::Steps;
+use pls_bits::Gamma;
+use pls_combine::AnyScheme;
+use pls_components::{Marked, components, mark_parts};
+use pls_graph::Network;
+use pls_model::Verdict;
+use pls_scheme::Checker;
+use pls_scheme_text::read_expression;
+use std::alloc::Global;
+use std::test::Fail;
+
+// The schemes by their names.
+const SCHEMES: &[&str] = &[
+    "tree",
+    "forest",
+    "bipartite",
+    "acyclic",
+    "leader",
+    "count",
+    "spt",
+    "mst",
+];
+
+// How many of these nodes are below this one.
+fn rank(members: u32, node: u32) -> u32 {
+    (members & 1_u32.wrapping_shl(node).wrapping_sub(1)).count_ones()
+}
+
+// A component by itself, with its nodes numbered anew in their order. A port keeps its number, since
+// it leads to a node of the component.
+fn part_of(net: Small, members: u32) -> Small {
+    let mut part = Small {
+        nodes: members.count_ones(),
+        edges: 0,
+        pointers: 0,
+    };
+    for a in 0..4 {
+        if has(members, a) {
+            let place = rank(members, a);
+            part.pointers |= net.pointer(a).wrapping_shl(place.saturating_mul(2));
+            for b in 0..4 {
+                if has(members, b) && Small::joins(net.edges, a, b) {
+                    part.edges = with(part.edges, pair(place, rank(members, b)));
+                }
+            }
+        }
+    }
+    part
+}
+
+// The node at which the chain of a node ends, and how long it is, up to four pointers.
+fn chain(net: Small, start: u32) -> (u32, u32) {
+    let (mut node, mut length) = (start, 0_u32);
+    for _ in 0..4 {
+        if let Some(target) = net.target(node) {
+            node = target;
+            length = length.saturating_add(1);
+        }
+    }
+    (node, length)
+}
+
+// The chain of each node is no longer than any way to its end.
+fn is_nearest(net: Small) -> bool {
+    (0..4).all(|node| {
+        let (end, length) = chain(net, node);
+        node >= net.nodes || length == 0 || !has(reached(net.edges, end, length - 1), node)
+    })
+}
+
+// Whether a component has the property of each scheme, where the first node alone is marked and each
+// node has the number 2. All weights are 1, so that every spanning tree is a lightest one.
+fn held(part: Small, has_first: bool) -> [bool; 8] {
+    let tree = is_tree(part);
+    [
+        tree,
+        is_forest(part),
+        is_bipartite(part),
+        is_acyclic(part),
+        has_first,
+        part.nodes == 2,
+        tree && is_nearest(part),
+        tree,
+    ]
+}
+
+// The component of a node by itself, where it is named by this node.
+fn named_part(net: Small, node: u32) -> Option<Small> {
+    let members = reached(net.edges, node, 3);
+    if node < net.nodes && rank(members, node) == 0 {
+        Some(part_of(net, members))
+    } else {
+        None
+    }
+}
+
+// For each scheme and for each expression the nodes that name the components without its property,
+// one bit a node.
+fn lacking(net: Small) -> ([u32; 8], [u32; 9]) {
+    let (mut schemes, mut expressions) = ([0; 8], [0; 9]);
+    for node in 0..4 {
+        if let Some(part) = named_part(net, node) {
+            for (ids, holds) in schemes.iter_mut().zip(held(part, node == 0).iter()) {
+                *ids = if *holds { *ids } else { with(*ids, node) };
+            }
+            for (ids, holds) in expressions.iter_mut().zip(expected(part).iter()) {
+                *ids = if *holds { *ids } else { with(*ids, node) };
+            }
+        }
+    }
+    (schemes, expressions)
+}
+
+// Whether just these components are named, or all nodes accept the labels where there are none.
+fn is_marked(alloc: Global, text: &str, net: &Network, due: u32) -> Result<bool, Fail> {
+    let Ok(tree) = read_expression(alloc, text) else {
+        return Err(Fail::from("not read"));
+    };
+    let scheme = AnyScheme::<Gamma>::new(tree);
+    let parts = components(alloc, net)?;
+    match mark_parts(alloc, &scheme, net, &parts)? {
+        Marked::Labels(labels) => {
+            let verdicts = scheme.round(alloc, net, &labels, &mut Steps::new())?;
+            Ok(
+                due == 0
+                    && verdicts
+                        .iter()
+                        .all(|verdict| matches!(*verdict, Verdict::Accept)),
+            )
+        }
+        Marked::Lacking(ids) => Ok(ids.as_slice().iter().fold(0, |all, id| with(all, *id)) == due),
+    }
+}
+
+// Whether all schemes and expressions mark a network so.
+fn are_marked(alloc: Global, net: Small) -> Result<bool, Fail> {
+    let read = network(alloc, text_with(alloc, net, 1, 2)?.as_str())?;
+    let (schemes, expressions) = lacking(net);
+    for (text, due) in SCHEMES.iter().zip(schemes.iter()) {
+        if !is_marked(alloc, text, &read, *due)? {
+            return Ok(false);
+        }
+    }
+    for (text, due) in EXPRESSIONS.iter().zip(expressions.iter()) {
+        if !is_marked(alloc, text, &read, *due)? {
+            return Ok(false);
+        }
+    }
+    Ok(true)
+}
+
+#[test]
+fn components_of_all_small_networks(rt: HostRuntime) -> Result<(), Fail> {
+    let mut all = 0_u32;
+    for (nodes, sets) in SETS {
+        for edges in 0..*sets {
+            for pointers in 0..256 {
+                let net = Small {
+                    nodes: *nodes,
+                    edges,
+                    pointers,
+                };
+                if net.is_proper() {
+                    assert!(rt;
+                        are_marked(rt.alloc(), net)?,
+                        "{nodes} nodes, edges {edges}, pointers {pointers}"
+                    );
+                    all = all.saturating_add(1);
+                }
+            }
+        }
+    }
+    assert!(rt; all == 3194, "networks with pointers");
+    Ok(())
+}
