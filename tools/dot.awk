@@ -6,7 +6,8 @@
 # are passed over. REPORT is what `pls verify` or `pls simulate` writes on it, plain or with --json;
 # without a report the network alone is drawn. Pointers are arrows, other edges lines, each with its
 # weight; a node with a mark has a double border. A node that rejects is red and names the rule that
-# fails, one that waits is yellow.
+# fails, one that waits is yellow. Components, the nodes that edges join, stand apart, each in a
+# subgraph that is named by its smallest node.
 #
 # An input that is none of this is refused: its first wrong line is told on standard error, nothing
 # is written, and the status is 1. Nothing of this is proved.
@@ -45,6 +46,7 @@ function value(object, key,    at, rest) {
 }
 
 function json_line(text,    objects, many, i, verdict) {
+    sub(/^\{"components":\[[^]]*\],/, "{", text)
     if (text !~ /^\{"nodes":\[\{.*\}\],"rejecting":[0-9]+,"waiting":[0-9]+\}$/) refuse(NR, "this is no report")
     sub(/^\{"nodes":\[\{/, "", text)
     sub(/\}\],"rejecting":[0-9]+,"waiting":[0-9]+\}$/, "", text)
@@ -59,6 +61,28 @@ function json_line(text,    objects, many, i, verdict) {
     }
 }
 
+# the smallest node of a component, as far as its edges are known
+function smallest(id) {
+    while (below[id] != id) id = below[id] = below[below[id]]
+    return id
+}
+
+function join_ends(one, other) {
+    one = smallest(one); other = smallest(other)
+    if (one + 0 < other + 0) below[other] = one; else below[one] = other
+}
+
+function draw_node(id, indent) {
+    print indent id " [label=\"" id (said[id] == "" ? "" : "\\n" said[id]) "\"" (colours[id] == "" || colours[id] == "white" ? "" : ", fillcolor=" colours[id]) (marks[id] + 0 ? ", shape=doublecircle" : "") "]"
+}
+
+function draw_component(id, apart,    nodes, many, i) {
+    many = split(members[id], nodes, " ")
+    if (apart) print "  subgraph \"component " id "\" {"
+    for (i = 1; i <= many; i++) draw_node(nodes[i], apart ? "    " : "  ")
+    if (apart) print "  }"
+}
+
 part == "" && NR == 1 {
     if ($0 != "network") refuse(1, "the first line is `network`")
     part = "network"
@@ -69,7 +93,7 @@ part == "network" && $1 == "node" && NF == 5 && is_number($2) {
     id = $2
     ids[++count] = id
     if (count > 32768) refuse(NR, "there are more than 32768 nodes")
-    up[id] = $3; marks[id] = $4; ports[id] = 0
+    up[id] = $3; marks[id] = $4; ports[id] = 0; below[id] = id
     next
 }
 part == "network" && $1 == "port" && NF == 3 && count && is_number($2) && is_number($3) {
@@ -82,7 +106,7 @@ part == "network" { refuse(NR, "this is no line of a network") }
 part == "behind" && (/^labels/ || $0 == "schedule") { part = "passed"; next }
 part == "passed" { if ($0 == "end") part = "behind"; next }
 part == "behind" && $1 == "node" { node_line(); next }
-part == "behind" && $1 == "rejecting" { next }
+part == "behind" && ($1 == "rejecting" || $1 == "component") { next }
 part == "behind" && /^\{/ { json_line($0); next }
 { refuse(NR, "this is no line of a report") }
 
@@ -91,15 +115,19 @@ END {
     if (part != "behind" || !count) refuse(NR + 1, "a line is missing")
     for (i = 1; i <= count; i++)
         for (port = 0; port < ports[ids[i]]; port++)
-            if (!(neighbour[ids[i], port] in up)) refuse(NR, "a port of " ids[i] " leads to no node")
+            if (neighbour[ids[i], port] in up) join_ends(ids[i], neighbour[ids[i], port])
+            else refuse(NR, "a port of " ids[i] " leads to no node")
+    for (i = 1; i <= count; i++) {
+        part = smallest(ids[i])
+        if (part == ids[i]) parts[++many] = part
+        members[part] = members[part] " " ids[i]
+    }
     print "digraph network {"
-    print "  layout=neato; overlap=false; splines=true; bgcolor=white"
+    print "  layout=neato; overlap=false; splines=true; bgcolor=white" (many > 1 ? "; pack=32; packmode=\"graph\"" : "")
     print "  node [shape=circle, style=filled, fillcolor=white, fontname=\"Helvetica\", fontsize=11, margin=0.03]"
     print "  edge [fontname=\"Helvetica\", fontsize=9, len=1.4, arrowsize=0.7]"
-    for (i = 1; i <= count; i++) {
-        id = ids[i]
-        print "  " id " [label=\"" id (said[id] == "" ? "" : "\\n" said[id]) "\"" (colours[id] == "" || colours[id] == "white" ? "" : ", fillcolor=" colours[id]) (marks[id] + 0 ? ", shape=doublecircle" : "") "]"
-    }
+    for (i = 1; i <= many; i++)
+        draw_component(parts[i], many > 1)
     for (i = 1; i <= count; i++) {
         id = ids[i]
         for (port = 0; port < ports[id]; port++) {
