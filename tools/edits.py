@@ -295,19 +295,24 @@ def label_words(bits):
     return f'{len(bits)} ' + ''.join(f'{int(whole[i:i + 4], 2):x}' for i in range(0, len(whole), 4))
 
 
-def far_from_first(net):
-    """The identities of the nodes that no walk joins to the smallest."""
-    found, ahead = set(), [min(net)]
-    while ahead:
-        place = ahead.pop()
-        if place not in found:
-            found.add(place)
-            ahead += [nbr for nbr, _ in net[place]['ports']]
-    return set(net) - found
+def components(net):
+    """The identities of the nodes that walks join, as sets, in the order of the smallest in each."""
+    parts = []
+    for start in sorted(net):
+        if any(start in part for part in parts):
+            continue
+        found, ahead = set(), [start]
+        while ahead:
+            node = ahead.pop()
+            if node not in found:
+                found.add(node)
+                ahead += [nbr for nbr, _ in net[node]['ports']]
+        parts.append(found)
+    return parts
 
 
 def is_connected(net):
-    return not far_from_first(net)
+    return len(components(net)) == 1
 
 
 def report(expression, net, labels, number, checked):
@@ -317,10 +322,9 @@ def report(expression, net, labels, number, checked):
         verdict = judge(expression, net[i], labels[i], ports)
         rejecting += verdict is not None
         lines.append(f'node {i} accept' if verdict is None else f'node {i} reject %d %d' % verdict)
-    well = is_connected(net)
-    lines.append(f'round {number} checked {checked} connected {"yes" if well else "no"} '
-                 f'rejecting {rejecting}')
-    return lines, well and rejecting == 0
+    connected = 'yes' if is_connected(net) else 'no'
+    lines.append(f'round {number} checked {checked} connected {connected} rejecting {rejecting}')
+    return lines, rejecting == 0
 
 
 def text_of(net):

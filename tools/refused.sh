@@ -45,7 +45,7 @@ leader=$top/examples/leader.txt
 pair=$top/examples/two-nodes.txt
 head -n 6 "$pair" > net
 : > none
-for scheme in tree forest acyclic bipartite spt mst 'or(bipartite,mst)' 'and(tree,and(forest,bipartite))' \
+for scheme in tree forest acyclic bipartite spt mst pathmax 'or(bipartite,mst)' 'and(tree,and(forest,bipartite))' \
     'map(and(mst,diameter:2))'; do
     "$top/pls" mark "$scheme" < "$chain" | cat "$chain" - > marked
     try "$chain" mark "$scheme"
@@ -78,6 +78,15 @@ try none rules tree
 "$top/pls" mark leader < "$leader" | cat "$leader" - > marked
 try "$leader" mark leader --code delta
 try marked convert leader
+"$top/pls" mark 'map(tree)' < "$chain" | cat "$chain" - > marked
+try marked convert 'map(tree)'
+printf 'network\nnode 1 - 0 0\nport 2 1\nnode 2 - 0 0\nport 1 1\nnode 3 - 1 0\nend\n' > apart
+"$top/pls" mark bipartite < apart | cat apart - > marked
+try apart mark bipartite
+try apart mark leader
+try apart bound tree
+try marked verify bipartite
+try marked verify bipartite --json
 
 echo "$runs runs, $wrong wrong"
 [ "$wrong" -eq 0 ]

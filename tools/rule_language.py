@@ -5,7 +5,7 @@ code and its listing, the machine that runs it, the meaning of a set at a node, 
 import json
 import re
 
-from edits import far_from_first, label_words, take, text_of
+from edits import components, label_words, take, text_of
 
 MOST = 2 ** 63 - 2
 PARTS = {'B': {'eq': 'NN', 'lt': 'NN', 'le': 'NN', 'same': 'BB', 'both': 'BB', 'either': 'BB',
@@ -284,19 +284,24 @@ def report(net, labels, text, in_json):
         if one != place:
             raise Refused(f'20 at {line}')
     trees = trees_of(fields, rules)
-    if far_from_first(net):
-        raise Refused(f'17 at {min(far_from_first(net))}')
     said = {i: fields_of(fields.values(), bits) for i, bits in labels.items()}
     seen = {i: [(weight, said[nbr]) for nbr, weight in net[i]['ports']] for i in net}
     lines = listing(text)[0].split('\n')
     rejects = {i: verdict(net[i], said[i], seen[i], trees, lines) for i in sorted(net)}
     many = sum(rule is not None for rule in rejects.values())
+    parts = [{'id': min(part), 'nodes': len(part),
+              'rejecting': sum(rejects[i] is not None for i in part), 'waiting': 0}
+             for part in components(net)]
+    if len(parts) == 1:
+        parts = []
     if in_json:
         nodes = [{'id': i, 'verdict': 'accept'} if rule is None else
                  {'id': i, 'leaf': 1, 'rule': rule, 'verdict': 'reject'}
                  for i, rule in rejects.items()]
-        shown = json.dumps({'nodes': nodes, 'rejecting': many, 'waiting': 0}, separators=(',', ':'))
+        whole = {'nodes': nodes, 'rejecting': many, 'waiting': 0}
+        shown = json.dumps({'components': parts, **whole} if parts else whole, separators=(',', ':'))
         return shown + '\n', min(many, 1)
     lines = [f'node {i} accept' if rule is None else f'node {i} reject 1 {rule}'
              for i, rule in rejects.items()]
+    lines += ['component %(id)d nodes %(nodes)d rejecting %(rejecting)d' % part for part in parts]
     return '\n'.join(lines + [f'rejecting {many}']) + '\n', min(many, 1)

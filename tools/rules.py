@@ -124,7 +124,7 @@ def fixed_texts(rng):
 
 def random_network(rng):
     n = rng.choice([1, 2, 2, 3, 3, 4, 5, 6])
-    pairs = [(rng.randrange(k), k) for k in range(1, n)][rng.random() < 0.04:]
+    pairs = [(rng.randrange(k), k) for k in range(1, n)][rng.random() < 0.2:]
     pairs += [sorted(rng.sample(range(n), 2)) for _ in range(rng.randrange(n))]
     net = edits.random_network(n, sorted(set(map(tuple, pairs))), rng)
     first = rng.choice([9, 2 ** 32 - 11])
