@@ -21,9 +21,6 @@ pub const WEIGHTS: u8 = 15;
 /// A node points at no port of its own.
 pub const POINTER: u8 = 16;
 
-/// The edges do not join all nodes.
-pub const APART: u8 = 17;
-
 /// A line of the labels does not fit the nodes.
 pub const MISFIT: u8 = 20;
 
@@ -32,6 +29,9 @@ pub const EDIT: u8 = 30;
 
 /// An event names no node, no port of its node, or no emit before it.
 pub const EVENT: u8 = 40;
+
+/// The same, of an event of a round in which labels change.
+pub const WATCH_EVENT: u8 = 41;
 
 /// A rule set names a field twice, names one that it does not have, or asks of a neighbour outside
 /// of all quantifiers.
@@ -42,3 +42,9 @@ pub const DEPTH: u8 = 51;
 
 /// A label cannot be read, so that it has no other form.
 pub const UNREAD: u8 = 60;
+
+/// A network is no ring.
+pub const NO_RING: u8 = 70;
+
+/// A node rejects its label.
+pub const REJECTS: u8 = 71;
