@@ -1,7 +1,7 @@
 -- Lists whose last item closes what stands before it.
 use Rattle.std.specs.Prelude.{◌≡◌, ◌⊎◌, ℕ, ◌<◌, ◌≤◌, Bool, true, List, [], ◌∷◌, All, filter}
 use Rattle.pls_base.specs.declared.text_error.TextError.{TextError}
-use Rattle.pls_base.specs.declared.text_error.TextError.TheVariants.{Limit}
+use Rattle.pls_base.specs.declared.text_error.TextError.TheVariants.{Limit, NoMemory}
 use Rattle.pls_base.specs.declared.text_error.Quantity.TheVariants.{Events, Rounds}
 use Rattle.pls_model.specs.declared.limits.TheConstants.{MAX_LINES, MAX_ROUNDS}
 
@@ -37,3 +37,8 @@ abbrev pub IsBeyond : ℕ → ℕ → TextError → Type 0
 IsBeyond lines closing error =
     ((error ≡ Limit Events) × (MAX_LINES < lines))
     ⊎ ((error ≡ Limit Rounds) × (lines ≤ MAX_LINES) × (MAX_ROUNDS < closing))
+
+-- why lines are refused: there are too many, or there was no memory
+abbrev pub IsLinesRefusal : ℕ → ℕ → TextError → Type 0
+IsLinesRefusal lines closing NoMemory = AreFew lines closing
+IsLinesRefusal lines closing error = IsBeyond lines closing error

@@ -1,5 +1,5 @@
 //! Parts of an input whose last line closes them: lists of lines of which some close what stands
-//! before them, as the line `look` does, and of which the last one is such a line.
+//! before them, as the lines `look` and `round` do, and of which the last one is such a line.
 //!
 //! A [`ClosingLine`] is a kind of line that says which of its lines close. [`ClosingTally`] is the
 //! list of a part of them under a heading of one word; it counts the lines, those that close, and

@@ -1,3 +1,2 @@
 pub mod LineTexts
-pub mod Counted
 pub mod Told

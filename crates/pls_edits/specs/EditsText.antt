@@ -1,22 +1,21 @@
 -- The text of edits: one line for each edit and for each round.
-use Rattle.std.specs.Prelude.{◌≡◌, ℕ, ◌-◌, ◌<◌, ◌≤◌, ◌^◌, Bool, true, false, List, [], ◌∷◌, ◌++◌, All, codes, decimal, filter, length, ◌⊎◌}
+use Rattle.std.specs.Prelude.{◌≡◌, ℕ, ◌-◌, ◌<◌, ◌≤◌, ◌^◌, Bool, true, false, List, [], ◌∷◌, codes, decimal, length}
 use Rattle.pls_base.specs.declared.text_error.TextError.{TextError}
-use Rattle.pls_base.specs.declared.text_error.TextError.TheVariants.{Limit, NoMemory}
-use Rattle.pls_base.specs.declared.text_error.Quantity.TheVariants.{Events, Rounds}
-use Rattle.pls_model.specs.declared.limits.TheConstants.{MAX_LINES, MAX_NUM, MAX_ROUNDS}
+use Rattle.pls_model.specs.declared.limits.TheConstants.{MAX_NUM}
 use Rattle.pls_lines.specs.Counted.{counted}
 use Rattle.pls_lines.specs.LineKind.{Always, Says, alone}
 use Rattle.pls_lines.specs.Lines.{Left, Passes}
 use Rattle.pls_lines.specs.ListPart.{IsListPart, list_lines, list_text}
 use Rattle.pls_lines.specs.Worded.{worded}
 use Rattle.pls_lines.specs.declared.counted.Headed.{Headed}
+use Rattle.pls_closing.specs.Closing.{AreClosed, AreFew as AreFewLines, IsLinesRefusal, closing_of}
 use Rattle.pls_netfile.specs.NetworkLine.{FitsNode}
 use Rattle.pls_netfile.specs.NetworkText.{state_words}
 use Rattle.pls_labelfile.specs.LabelsText.{FitsLabel, hex_word}
 use Rattle.pls_edits.specs.declared.edit.Edit.TheVariants.{State, Weight, Link, Unlink, Join, Leave, Label}
 use Rattle.pls_edits.specs.declared.edit_line.EditLine.{EditLine}
 use Rattle.pls_edits.specs.declared.edit_line.EditLine.TheVariants.{Edit as Makes, Round}
-use Rattle.pls_edits.specs.declared.edits_tally.EditsWord.{EditsWord}
+use Rattle.pls_edits.specs.declared.edit_words.EditsWord.{EditsWord}
 
 -- the first word of a line
 abbrev pub edit_word : EditLine → List ℕ
@@ -68,14 +67,12 @@ is_round (Makes edit) = false
 is_round Round = true
 
 -- the lines of an edits part: the last one, if there is one, asks for a round
-pub record AreEdits (lines : List EditLine) : Type 0 where
-  pub each : All FitsEdit lines
-  pub closed : (front : List EditLine) (last : EditLine) → lines ≡ front ++ last ∷ []
-      → is_round last ≡ true
+abbrev pub AreEdits : List EditLine → Type 0
+AreEdits lines = AreClosed FitsEdit is_round true lines
 
 -- the lines that ask for rounds
 abbrev pub rounds_of : List EditLine → List EditLine
-rounds_of lines = filter is_round lines
+rounds_of lines = closing_of is_round lines
 
 -- the text of an edits part
 abbrev pub edits_text : List EditLine → List ℕ
@@ -128,19 +125,10 @@ pub record PassesEdits (old new : Left) (written : WrittenEdits) : Type 0 where
   pub events : written.events ≡ counted list
   pub rounds : written.rounds ≡ counted (rounds_of list)
 
--- there are more lines than the limit, or else more rounds than theirs
-abbrev pub HasTooManyLines : List EditLine → TextError → Type 0
-HasTooManyLines lines error =
-    ((error ≡ Limit Events) × (MAX_LINES < length lines))
-    ⊎ ((error ≡ Limit Rounds) × (length lines ≤ MAX_LINES)
-    × (MAX_ROUNDS < length (rounds_of lines)))
-
 -- the lines and the rounds are within their limits
-pub record AreFew (lines : List EditLine) : Type 0 where
-  pub events : length lines ≤ MAX_LINES
-  pub rounds : length (rounds_of lines) ≤ MAX_ROUNDS
+abbrev pub AreFew : List EditLine → Type 0
+AreFew lines = AreFewLines (length lines) (length (rounds_of lines))
 
 -- why the lines of a text are refused: there are too many, or there was no memory
 abbrev pub IsEditsRefusal : List EditLine → TextError → Type 0
-IsEditsRefusal lines NoMemory = AreFew lines
-IsEditsRefusal lines error = HasTooManyLines lines error
+IsEditsRefusal lines error = IsLinesRefusal (length lines) (length (rounds_of lines)) error

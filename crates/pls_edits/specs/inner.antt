@@ -1,3 +1,2 @@
 -- What private functions say to each other.
 pub mod Words
-pub mod Tally

@@ -1,8 +1,8 @@
 //! The lines of an edits part, read without memory.
 
-ghost use Rattle.std.specs.Prelude.{◌≡◌, ◌≢◌, ℕ, List, ◌∷◌, ◌++◌, IfNone, IfOk, IfSome};
+ghost use Rattle.std.specs.Prelude.{◌≡◌, ◌≢◌, ℕ, true, List, ◌∷◌, ◌++◌, IfNone, IfOk, IfSome};
 ghost use Rattle.pls_edits.specs.EditsText.{FitsEdit, edit_line, is_round};
-ghost use Rattle.pls_edits.specs.inner.Words.{IsPlain, IsPlainEdit};
+ghost use Rattle.pls_edits.specs.inner.Words.{IsPlain, IsPlainEdit, bits_of};
 ghost use Rattle.pls_edits.specs.declared.edit.Edit.{Edit};
 ghost use Rattle.pls_edits.specs.declared.edit_line.EditLine.{EditLine};
 ghost use Rattle.pls_edits.specs.declared.edit_line.EditLine.TheVariants.{Edit as Makes};
@@ -11,11 +11,29 @@ use crate::edit::Edit;
 use crate::edit_line::EditLine;
 use crate::number_words::{state_after, three_numbers};
 use pls_base::NoMemory;
+use pls_closing::ClosingLine;
 use pls_labelfile::LabelLine;
-use pls_lines::{LineKind, after_line, one_number, two_numbers};
+use pls_lines::{HeadingWord, LineKind, after_line, one_number, two_numbers};
 use pls_model::{MAX_NUM, MAX_WORD};
 use std::alloc::Global;
 use std::marker::Model;
+
+/// The heading of an edits part.
+#[derive(Drop)]
+pub struct EditsWord;
+
+impl HeadingWord for EditsWord {
+    ghost use Rattle.std.specs.Prelude.{codes};
+    ghost use Rattle.pls_edits.specs.laws.EditLaws.{edits_word};
+
+    ghost word = { codes "edits" };
+
+    ghost word_law = { edits_word };
+
+    fn word() -> &'static [u8] {
+        b"edits"
+    }
+}
 
 /// What a line of an edits part says, seen as the [`EditLine`]. The word for a label's bits is
 /// lent.
@@ -63,14 +81,44 @@ impl<'a> LineKind<'a> for EditWords<'a> {
     }
 }
 
-impl<'a> EditWords<'a> {
-    // Whether the line asks for a round.
-    pub(crate) fn is_round(&self) -> bool
+impl<'a> ClosingLine<'a> for EditWords<'a> {
+    ghost use Rattle.std.specs.Prelude.{true};
+    ghost use Rattle.pls_edits.specs.EditsText.{is_round};
+    ghost use Rattle.pls_edits.specs.inner.Words.{bits_of};
+    ghost use Rattle.pls_edits.specs.laws.EditLaws.{some_round};
+
+    ghost closes = { is_round };
+
+    ghost bits = { bits_of };
+
+    ghost may_lack = { true };
+
+    ghost closing_law = { some_round };
+
+    fn closes(&self) -> bool
         ensures { result ≡ is_round self.now }
     {
         matches!(&self.words, Words::Plain(EditLine::Round))
     }
 
+    fn bits(&self) -> u64
+        ensures { result ≡ bits_of self.now }
+    {
+        match &self.words {
+            Words::Label(label) => label.len() as u64,
+            Words::Plain(EditLine::Edit(Edit::Label { bits, .. })) => bits.len() as u64,
+            Words::Plain(_) => 0,
+        }
+    }
+
+    fn may_lack() -> bool
+        ensures { result ≡ true }
+    {
+        true
+    }
+}
+
+impl<'a> EditWords<'a> {
     // The line, with the bits of its label on their own. The one error is want of memory.
     pub(crate) fn into_line(self, alloc: Global) -> Result<EditLine, NoMemory>
         ensures { IfOk result (λ line. line ≡ self.entry) }

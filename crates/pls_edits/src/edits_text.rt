@@ -7,11 +7,10 @@ ghost use Rattle.pls_edits.specs.EditsText.{AreFew, FitsEdit, IsEditsPart, IsEdi
 ghost use Rattle.pls_edits.specs.declared.edit_line.EditLine.{EditLine};
 
 use crate::edit_line::EditLine;
-use crate::edit_words::EditWords;
-use crate::edits_tally::EditsTally;
-use pls_base::{NoMemory, Quantity, TextError};
+use crate::edit_words::{EditWords, EditsWord};
+use pls_base::{NoMemory, TextError};
+use pls_closing::{ClosingTally, check_limits};
 use pls_lines::{Lines, ListText, Part, next_item, scan};
-use pls_model::{MAX_LINES, MAX_ROUNDS};
 use std::alloc::Global;
 use std::marker::Model;
 
@@ -19,7 +18,7 @@ use std::marker::Model;
 /// and how many rounds it has.
 #[derive(Drop)]
 pub struct EditsText<'a> {
-    part: ListText<'a, EditsTally>,
+    part: ListText<'a, ClosingTally<EditsWord, EditWords<'a>>>,
 }
 
 impl<'a> Model for EditsText<'a> {
@@ -28,10 +27,10 @@ impl<'a> Model for EditsText<'a> {
     ghost Value = { WrittenEdits };
 
     ghost view = { λ text. written_edits text.part.lines.rest text.part.lines.number
-        text.part.kept.events text.part.kept.rounds };
+        text.part.kept.lines text.part.kept.closing };
 
     ghost invariant = { λ text. HasEdits (written_edits text.part.lines.rest text.part.lines.number
-        text.part.kept.events text.part.kept.rounds) };
+        text.part.kept.lines text.part.kept.closing) };
 }
 
 impl<'a> Part<'a> for EditsText<'a> {
@@ -45,7 +44,7 @@ impl<'a> Part<'a> for EditsText<'a> {
     ghost part_law = { edits_some_part };
 
     fn pass(lines: &mut Lines<'a>) -> Result<Self, TextError> {
-        let part = ListText::<'a, EditsTally>::pass(lines)?;
+        let part = ListText::<'a, ClosingTally<EditsWord, EditWords<'a>>>::pass(lines)?;
         Ok(EditsText { part })
     }
 }
@@ -67,14 +66,14 @@ impl<'a> EditsText<'a> {
     pub fn events(&self) -> u64
         ensures { result ≡ self.now.events }
     {
-        self.part.kept.events
+        self.part.kept.lines
     }
 
     /// How many of them ask for a round, and `u64::MAX` at the most.
     pub fn rounds(&self) -> u64
         ensures { result ≡ self.now.rounds }
     {
-        self.part.kept.rounds
+        self.part.kept.closing
     }
 
     /// The number of the line at a place, or of `end` where the place is behind all.
@@ -87,9 +86,9 @@ impl<'a> EditsText<'a> {
 
     /// The edits and rounds, in the order of their lines.
     ///
-    /// `Limit(Events)` where there are more lines than [`MAX_LINES`], else `Limit(Rounds)` where
-    /// there are more rounds than [`MAX_ROUNDS`], before any memory is taken; `NoMemory` for want
-    /// of memory.
+    /// `Limit(Events)` where there are more lines than [`MAX_LINES`](pls_model::MAX_LINES), else
+    /// `Limit(Rounds)` where there are more rounds than [`MAX_ROUNDS`](pls_model::MAX_ROUNDS),
+    /// before any memory is taken; `NoMemory` for want of memory.
     pub fn list(&self, alloc: Global) -> Result<Vec<EditLine>, TextError>
         ensures ok { (lines : List EditLine) → TellsEdits self.now.text lines
             → IfOk result (λ list. list.items ≡ lines) }
@@ -97,12 +96,7 @@ impl<'a> EditsText<'a> {
         ensures refused { (lines : List EditLine) → TellsEdits self.now.text lines
             → IfErr result (λ error. IsEditsRefusal lines error) }
     {
-        if self.part.kept.events > MAX_LINES as u64 {
-            return Err(TextError::Limit(Quantity::Events));
-        }
-        if self.part.kept.rounds > MAX_ROUNDS as u64 {
-            return Err(TextError::Limit(Quantity::Rounds));
-        }
+        check_limits(self.part.kept.lines, self.part.kept.closing)?;
         Ok(lines_of(alloc, self.part.behind_heading())?)
     }
 }

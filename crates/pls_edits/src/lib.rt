@@ -13,13 +13,12 @@
 mod edit;
 mod edit_line;
 mod edit_words;
-mod edits_tally;
 mod edits_text;
 mod number_words;
 
 pub use edit::Edit;
 pub use edit_line::EditLine;
-pub use edits_tally::EditsWord;
+pub use edit_words::EditsWord;
 pub use edits_text::{EditsText, scan_edits};
 pub use pls_base::NoMemory;
 pub use pls_graph_edits::EditError;

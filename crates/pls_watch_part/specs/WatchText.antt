@@ -1,7 +1,6 @@
 -- The text of a watch: one line for each event and for each look.
 use Rattle.std.specs.Prelude.{◌≡◌, ℕ, ◌<◌, ◌≤◌, ◌^◌, Bool, true, false, List, [], ◌∷◌, codes, decimal, length, sum_by}
 use Rattle.pls_base.specs.declared.text_error.TextError.{TextError}
-use Rattle.pls_base.specs.declared.text_error.TextError.TheVariants.{NoMemory}
 use Rattle.pls_base.specs.Steps.{capped}
 use Rattle.pls_lines.specs.Counted.{counted}
 use Rattle.pls_lines.specs.LineKind.{Always, Says, alone}
@@ -9,7 +8,7 @@ use Rattle.pls_lines.specs.Lines.{Left, Passes}
 use Rattle.pls_lines.specs.ListPart.{IsListPart, list_lines, list_text}
 use Rattle.pls_lines.specs.Worded.{worded}
 use Rattle.pls_lines.specs.declared.counted.Headed.{Headed}
-use Rattle.pls_closing.specs.Closing.{AreClosed, AreFew, IsBeyond, closing_of}
+use Rattle.pls_closing.specs.Closing.{AreClosed, IsLinesRefusal, closing_of}
 use Rattle.pls_labelfile.specs.LabelsText.{FitsLabel, hex_word}
 use Rattle.pls_schedule.specs.declared.event.Event.{Event as Played}
 use Rattle.pls_schedule.specs.declared.event.Event.TheVariants as Plays
@@ -135,5 +134,4 @@ pub record PassesWatch (old new : Left) (written : WrittenWatch) : Type 0 where
 
 -- why the lines of a text are refused: there are too many, or there was no memory
 abbrev pub IsWatchRefusal : List WatchLine → TextError → Type 0
-IsWatchRefusal lines NoMemory = AreFew (length lines) (length (looks_of lines))
-IsWatchRefusal lines error = IsBeyond (length lines) (length (looks_of lines)) error
+IsWatchRefusal lines error = IsLinesRefusal (length lines) (length (looks_of lines)) error

@@ -1,5 +1,5 @@
 -- What the words of a line say, where the word for a label's bits is lent.
-use Rattle.std.specs.Prelude.{⊤}
+use Rattle.std.specs.Prelude.{ℕ, length, ⊤}
 use Rattle.pls_labelfile.specs.LabelsText.{NamedLabel}
 use Rattle.pls_edits.specs.declared.edit.Edit.{Edit}
 use Rattle.pls_edits.specs.declared.edit.Edit.TheVariants.{State, Weight, Link, Unlink, Join, Leave, Label}
@@ -31,3 +31,8 @@ IsPlainEdit (Label id bits) = ⊥
 abbrev pub IsPlain : EditLine → Type 0
 IsPlain (Makes edit) = IsPlainEdit edit
 IsPlain Round = ⊤
+
+-- how many bits the label has that the line gives
+abbrev pub bits_of : EditLine → ℕ
+bits_of (Makes (Label id bits)) = length bits
+bits_of line = 0

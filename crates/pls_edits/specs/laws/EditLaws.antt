@@ -1,9 +1,8 @@
 -- The lines of edits are a kind of line, and lists of them a part.
-use Rattle.std.proofs.Common.{◌≡◌, ◌∙◌, ℕ, ◌-◌, ◌<◌, ◌^◌, nat_lt, Bool, true, false, List, [], ◌∷◌, ◌++◌, length, Option, Some, None, IfSome, if◌then◌else◌, codes, decimal, refl, ap, arith}
+use Rattle.std.proofs.Common.{◌≡◌, ◌∙◌, ℕ, ◌-◌, ◌<◌, ◌^◌, nat_lt, Bool, true, false, List, [], ◌∷◌, length, Option, Some, None, IfSome, if◌then◌else◌, codes, decimal, refl, ap, arith}
 use Rattle.std.specs.List.{AllByRecursion, list_all}
 use Rattle.std.specs.Str.{bytes_eq}
 use Rattle.std.specs.Str.Parse.{digits_value}
-use Rattle.std.proofs.lemmas.List.Elements.{All-nil}
 use Rattle.std.proofs.lemmas.Slice.Eq.{bytes_eq-Decides}
 use Rattle.pls_model.specs.declared.limits.TheConstants.{MAX_NUM}
 use Rattle.pls_lines.specs.Counted.{IsHeadingWord}
@@ -18,6 +17,8 @@ use Rattle.pls_lines.specs.laws.ListLaws.{list_is_some_part}
 use Rattle.pls_lines.specs.laws.LineWords.{same_head}
 use Rattle.pls_lines.specs.laws.NumberWords.{decimal_lacks, number_said, number_word}
 use Rattle.pls_lines.specs.laws.WordedLaws.{above_lacks, worded_kind}
+use Rattle.pls_closing.specs.Closing.{HasClosing}
+use Rattle.pls_closing.specs.laws.ClosedLists.{closed_list}
 use Rattle.pls_netfile.specs.NetworkText.{up_word}
 use Rattle.pls_netfile.specs.laws.NodeWords.{up_lacks}
 use Rattle.pls_labelfile.specs.LabelsText.{hex_word}
@@ -28,8 +29,8 @@ use Rattle.pls_edits.specs.declared.edit.Edit.{Edit}
 use Rattle.pls_edits.specs.declared.edit.Edit.TheVariants.{State, Weight, Link, Unlink, Join, Leave, Label}
 use Rattle.pls_edits.specs.declared.edit_line.EditLine.{EditLine}
 use Rattle.pls_edits.specs.declared.edit_line.EditLine.TheVariants.{Edit as Makes, Round}
-use Rattle.pls_edits.specs.declared.edits_tally.EditsWord.{EditsWord}
-use Rattle.pls_edits.specs.EditsText.{AreEdits, FitsEdit, FitThree, IsEditsPart, edit_args, edit_line, edit_word}
+use Rattle.pls_edits.specs.declared.edit_words.EditsWord.{EditsWord}
+use Rattle.pls_edits.specs.EditsText.{AreEdits, FitsEdit, FitThree, IsEditsPart, edit_args, edit_line, edit_word, is_round}
 
 -- what a word says as a number, and as a pointer
 abbrev number : List ℕ → ℕ
@@ -207,26 +208,13 @@ edits_word = record {
 pub edits_headings : IsLineKind {X = Headed EditsWord} Always (alone (codes "edits"))
 edits_headings = heading_kind (codes "edits") edits_word (λ a b. refl)
 
--- no list of lines ends otherwise than it does
-no_last : (front : List EditLine) (last : EditLine) → [] ≡ front ++ last ∷ [] → ⊥
-no_last [] last e = cc
-no_last (line ∷ front) last e = cc
-
--- no edits are lists of a part
-pub no_edits : AreEdits []
-no_edits = record {
-  each = All-nil FitsEdit;
-  closed = λ front last e. absurd (no_last front last e);
-}
+-- a round closes
+pub some_round : HasClosing FitsEdit is_round
+some_round = record { item = Round; fits = tt; ends = refl }
 
 -- lists of a part have lines that fit
 pub edits_list : IsListKind {H = Headed EditsWord} Always FitsEdit AreEdits
-edits_list = record {
-  heading = record { of = record {} };
-  headed = tt;
-  fits = λ lines are. are.each;
-  some = record { more = []; are = no_edits };
-}
+edits_list = closed_list (record { of = record {} }) FitsEdit is_round true some_round
 
 -- so there is an edits part, and it tells where it ends
 pub edits_some_part : IsSomePart IsEditsPart

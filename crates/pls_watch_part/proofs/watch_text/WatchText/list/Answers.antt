@@ -1,6 +1,7 @@
 use Rattle.std.proofs.Common.{◌∙◌, length, ap, subst}
 use Rattle.pls_watch_part.specs.WatchText.{HasWatch, WrittenWatch, looks_of}
-use Rattle.pls_watch_part.proofs.Told.{beyond_refused, lines_counted, looks_counted, no_memory}
+use Rattle.pls_closing.proofs.Refused.{beyond_refused, no_memory}
+use Rattle.pls_watch_part.proofs.Told.{lines_counted, looks_counted}
 use Rattle.pls_watch_part.proofs.watch_text.WatchText.list.Goals as goal
 
 pub returns-in_err-check_limits-clause-refused : goal.returns-in_err-check_limits-clause-refused
@@ -8,7 +9,8 @@ returns-in_err-check_limits-clause-refused c = λ lines tells.
     let told = subst HasWatch c.self.view_is c.self.invariant in
     let events = ap (λ (written : WrittenWatch). written.events) c.self.view_is in
     let looks = ap (λ (written : WrittenWatch). written.looks) c.self.view_is in
-    beyond_refused c.from_residual.result lines c.from_residual.ensures.1
+    beyond_refused (length lines) (length (looks_of lines)) c.from_residual.result
+    c.from_residual.ensures.1
     (c.in_err-check_limits.ensures.beyond (length lines) (length (looks_of lines))
     (events ∙ lines_counted c.args.self.now told lines tells)
     (looks ∙ looks_counted c.args.self.now told lines tells))
@@ -18,8 +20,8 @@ returns-in_err-lines_of-clause-refused c = λ lines tells.
     let told = subst HasWatch c.self.view_is c.self.invariant in
     let events = ap (λ (written : WrittenWatch). written.events) c.self.view_is in
     let looks = ap (λ (written : WrittenWatch). written.looks) c.self.view_is in
-    no_memory c.from_residual-in_err-lines_of.result lines
-    c.from_residual-in_err-lines_of.ensures.1
+    no_memory (length lines) (length (looks_of lines))
+    c.from_residual-in_err-lines_of.result c.from_residual-in_err-lines_of.ensures.1
     (c.in_ok-check_limits.ensures.few (length lines) (length (looks_of lines))
     (events ∙ lines_counted c.args.self.now told lines tells)
     (looks ∙ looks_counted c.args.self.now told lines tells))
