@@ -1,8 +1,11 @@
 pub mod Wanted
 pub mod Writings
+pub mod SameTexts
 pub mod Chain
 pub mod Scanned
 pub mod WithinLimits
+pub mod SameParts
+pub mod Senses
 pub mod Read
 pub mod OneInput
 pub mod Facts

@@ -15,9 +15,10 @@ use Rattle.pls_labelfile.specs.Misfit.{misfit}
 use Rattle.pls_labelfile.specs.Refusal.{misfit_error}
 use Rattle.pls_schedule.specs.ScheduleText.{schedule_lines}
 use Rattle.pls_edits.specs.EditsText.{edits_lines, rounds_of}
+use Rattle.pls_watch_part.specs.WatchText.{looks_of, watch_part_lines, total_bits as relabelled_bits}
 use Rattle.pls_rules_part.specs.RulesText.{rules_refusal}
 use Rattle.pls_inputs.specs.declared.parts.Parts.{Parts}
-use Rattle.pls_inputs.specs.Parts.{AreLines, Input, IsInputText, edits_in, events_in, lines_of, named_in, rows_in}
+use Rattle.pls_inputs.specs.Parts.{AreLines, Input, IsInputText, edits_in, events_in, lines_of, named_in, rows_in, watch_in}
 
 -- the line of the heading of a part: the next behind all parts in front of it
 abbrev pub labels_heading : Input → ℕ
@@ -29,22 +30,28 @@ schedule_heading input = labels_heading input + length (lines_of labels_lines in
 abbrev pub edits_heading : Input → ℕ
 edits_heading input = schedule_heading input + length (lines_of schedule_lines input.schedule)
 
+abbrev pub watch_heading : Input → ℕ
+watch_heading input = edits_heading input + length (lines_of edits_lines input.edits)
+
 abbrev pub rules_heading : Input → ℕ
-rules_heading input = edits_heading input + length (lines_of edits_lines input.edits)
+rules_heading input = watch_heading input + length (lines_of watch_part_lines input.watch)
 
 -- a quantity that passes its limit
 abbrev pub over : Quantity → ℕ → ℕ → Option TextError
 over quantity most count = if nat_lt most count then Some (Limit quantity) else None
 
--- the limits on what the parts have; there is nothing of a part that is not there
+-- the limits on what the parts have; there is nothing of a part that is not there. The labels of
+-- the labels part and those that a watch gives count together
 abbrev pub limits : Input → List (Option TextError)
 limits input =
     over Nodes MAX_NODES (length (rows_in input))
     ∷ over Ports MAX_PORTS (ports_in (rows_in input))
-    ∷ over Bits MAX_BITS (total_bits (named_in input))
+    ∷ over Bits MAX_BITS (total_bits (named_in input) + relabelled_bits (watch_in input))
     ∷ over Events MAX_LINES (length (events_in input))
     ∷ over Events MAX_LINES (length (edits_in input))
+    ∷ over Events MAX_LINES (length (watch_in input))
     ∷ over Rounds MAX_ROUNDS (length (rounds_of (edits_in input)))
+    ∷ over Rounds MAX_ROUNDS (length (looks_of (watch_in input)))
     ∷ []
 
 -- what makes no sense: the first of 10 to 16 of the rows; then 20, the first line of the labels part

@@ -4,6 +4,7 @@ use Rattle.std.specs.Option.{unwrap_or}
 use Rattle.pls_model.specs.declared.row.NodeRow.{NodeRow}
 use Rattle.pls_schedule.specs.declared.event.Event.{Event}
 use Rattle.pls_edits.specs.declared.edit_line.EditLine.{EditLine}
+use Rattle.pls_watch_part.specs.declared.watch_event.WatchLine.{WatchLine}
 use Rattle.pls_rules.specs.declared.rule_set.RuleSet.{RuleSet}
 use Rattle.pls_rules.specs.HeldTrees.{set_of}
 use Rattle.pls_rules.specs.RuleSet.{AreRules}
@@ -11,7 +12,7 @@ use Rattle.pls_rules_part.specs.RulesText.{said_of_set, set_said}
 use Rattle.pls_inputs.specs.declared.input.Input.{Input as Read}
 use Rattle.pls_inputs.specs.declared.parts.Parts.{Parts}
 use Rattle.pls_inputs.specs.Parts.{Input, code_in, net_labelling}
-use Rattle.pls_inputs.specs.Order.{IsInput, edits_heading, schedule_heading}
+use Rattle.pls_inputs.specs.Order.{IsInput, edits_heading, schedule_heading, watch_heading}
 
 -- what was read, part by part
 abbrev pub said : Read → Input
@@ -20,6 +21,7 @@ said read = record {
   labels = option_map (net_labelling read.code (unwrap_or read.network [])) read.labels;
   schedule = option_map (λ list. list.items) read.schedule;
   edits = option_map (λ list. list.items) read.edits;
+  watch = option_map (λ list. list.items) read.watch;
   rules = option_map (λ set. said_of_set (set_of set)) read.rules;
 }
 
@@ -29,11 +31,13 @@ AreEach None store = ⊤
 AreEach (Some net) None = ⊤
 AreEach (Some net) (Some store) = length store ≡ length net
 
--- this is the line of the first event or edit
-abbrev pub IsFirstLine : Option (List Event) → Option (List EditLine) → Input → ℕ → Type 0
-IsFirstLine (Some events) edits input line = line ≡ schedule_heading input + 1
-IsFirstLine None (Some edits) input line = line ≡ edits_heading input + 1
-IsFirstLine None None input line = ⊤
+-- this is the line of the first event or edit, or the first of a watch
+abbrev pub IsFirstLine : Option (List Event) → Option (List EditLine) → Option (List WatchLine)
+    → Input → ℕ → Type 0
+IsFirstLine (Some events) edits watch input line = line ≡ schedule_heading input + 1
+IsFirstLine None (Some edits) watch input line = line ≡ edits_heading input + 1
+IsFirstLine None None (Some watch) input line = line ≡ watch_heading input + 1
+IsFirstLine None None None input line = ⊤
 
 -- the rule set makes sense, and is the one that the part says which is written of it
 abbrev pub IsSensible : Option RuleSet → Type 0
@@ -45,5 +49,6 @@ pub record IsRead (parts : Parts) (bytes : List ℕ) (read : Read) : Type 0 wher
   pub is : IsInput parts bytes (said read)
   pub each : AreEach read.network read.labels
   pub code : read.code ≡ code_in (said read)
-  pub line : IsFirstLine (said read).schedule (said read).edits (said read) read.first_line
+  pub line : IsFirstLine (said read).schedule (said read).edits (said read).watch (said read)
+      read.first_line
   pub rules : IsSensible read.rules

@@ -1,7 +1,7 @@
 //! What the texts of parts say, as values in memory.
 
 ghost use Rattle.std.specs.Prelude.{IfErr, IfOk, option_map};
-ghost use Rattle.pls_inputs.specs.inner.Built.{AreBuilt, AreListed, AreEditsIfAny, AreRefused, AreUnlisted, AreUnmade, IsBuilt, IsNoSet, IsSetIfAny, IsUnbuilt};
+ghost use Rattle.pls_inputs.specs.inner.Built.{AreBuilt, AreListed, AreEditsIfAny, AreRefused, AreUnlisted, AreUnmade, IsBuilt, IsNoSet, IsSetIfAny, IsUnbuilt, IsUnwatched, IsWatchIfAny};
 
 use pls_base::TextError;
 use pls_edits::{EditLine, EditsText};
@@ -12,6 +12,7 @@ use pls_rules::RuleSet;
 use pls_rules_part::RulesText;
 use pls_schedule::{Event, ScheduleText};
 use pls_view::LabelStore;
+use pls_watch_part::{WatchLine, WatchText};
 use std::alloc::Global;
 
 // The network that a text says, where there is one, or why it is none.
@@ -69,6 +70,21 @@ pub(crate) fn list_edits(
     ensures refused { IfErr result (λ error. AreUnmade edits.now error) }
 {
     match edits {
+        Some(text) => Ok(Some(text.list(alloc)?)),
+        None => Ok(None),
+    }
+}
+
+// The events and looks that a text says, where there is one, or why they are refused.
+pub(crate) fn list_watch(
+    alloc: Global,
+    watch: &Option<WatchText<'_>>,
+) -> Result<Option<Vec<WatchLine>>, TextError>
+    ensures listed { IfOk result
+        (λ list. IsWatchIfAny watch.now (option_map (λ list. list.items) list)) }
+    ensures refused { IfErr result (λ error. IsUnwatched watch.now error) }
+{
+    match watch {
         Some(text) => Ok(Some(text.list(alloc)?)),
         None => Ok(None),
     }

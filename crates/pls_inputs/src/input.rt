@@ -5,7 +5,9 @@ ghost use Rattle.pls_inputs.specs.Order.{IsNoInput};
 ghost use Rattle.pls_inputs.specs.Read.{IsRead};
 ghost use Rattle.pls_inputs.specs.inner.Built.{code_of, first_line_of};
 
-use crate::building::{build_labels, build_network, build_rules, list_edits, list_events};
+use crate::building::{
+    build_labels, build_network, build_rules, list_edits, list_events, list_watch,
+};
 use crate::parts::Parts;
 use crate::scanning::scan_parts;
 use crate::texts::{Texts, test_limits};
@@ -18,6 +20,7 @@ use pls_model::MAX_INPUT;
 use pls_rules::RuleSet;
 use pls_schedule::{Event, ScheduleText};
 use pls_view::LabelStore;
+use pls_watch_part::{WatchLine, WatchText};
 use std::alloc::Global;
 
 /// What an input says: a value for each part that it has.
@@ -33,9 +36,12 @@ pub struct Input {
     pub schedule: Option<Vec<Event>>,
     /// The edits, and the rounds between them.
     pub edits: Option<Vec<EditLine>>,
+    /// The events of a watch, and its looks.
+    pub watch: Option<Vec<WatchLine>>,
     /// The rule set.
     pub rules: Option<RuleSet>,
-    /// The number of the line of the first event or edit, 0 where it has no part for them.
+    /// The number of the line of the first event or edit, or the first of a watch, 0 where it has
+    /// no part for them.
     pub first_line: u64,
 }
 
@@ -55,6 +61,7 @@ pub fn read_input(alloc: Global, parts: Parts, bytes: &[u8]) -> Result<Input, Te
         labels: named,
         schedule: events,
         edits: lines,
+        watch: watch_text,
         rules: expressions,
     } = texts;
     let network = build_network(alloc, rows)?;
@@ -62,14 +69,16 @@ pub fn read_input(alloc: Global, parts: Parts, bytes: &[u8]) -> Result<Input, Te
     let code = code(&named);
     let schedule = list_events(alloc, &events)?;
     let edits = list_edits(alloc, &lines)?;
+    let watch = list_watch(alloc, &watch_text)?;
     let rules = build_rules(alloc, &expressions)?;
-    let first_line = first_line(&events, &lines);
+    let first_line = first_line(&events, &lines, &watch_text);
     Ok(Input {
         network,
         labels,
         code,
         schedule,
         edits,
+        watch,
         rules,
         first_line,
     })
@@ -85,13 +94,19 @@ fn code(labels: &Option<LabelsText<'_>>) -> CodeName
     }
 }
 
-// The number of the line of the first event or edit, 0 where there is no part for them.
-fn first_line(schedule: &Option<ScheduleText<'_>>, edits: &Option<EditsText<'_>>) -> u64
-    ensures { result ≡ first_line_of schedule.now edits.now }
+// The number of the line of the first event or edit, or the first of a watch, 0 where there is no
+// part for them.
+fn first_line(
+    schedule: &Option<ScheduleText<'_>>,
+    edits: &Option<EditsText<'_>>,
+    watch: &Option<WatchText<'_>>,
+) -> u64
+    ensures { result ≡ first_line_of schedule.now edits.now watch.now }
 {
-    match (schedule, edits) {
-        (Some(schedule), _) => schedule.number_of(0),
-        (None, Some(edits)) => edits.number_of(0),
-        (None, None) => 0,
+    match (schedule, edits, watch) {
+        (Some(schedule), _, _) => schedule.number_of(0),
+        (None, Some(edits), _) => edits.number_of(0),
+        (None, None, Some(watch)) => watch.number_of(0),
+        (None, None, None) => 0,
     }
 }

@@ -20,6 +20,7 @@ use pls_lines::{Lines, Part};
 use pls_netfile::{ReadNetwork, pass_network};
 use pls_rules_part::RulesText;
 use pls_schedule::ScheduleText;
+use pls_watch_part::WatchText;
 use std::alloc::Global;
 
 // The texts of the parts that are wanted, which are to be the whole text, or its first faulty line.
@@ -37,6 +38,7 @@ pub(crate) fn scan_parts<'a>(
     let labels = pass_labels_if(parts.labels, parts.delta, &mut lines)?;
     let schedule = pass_if::<ScheduleText<'a>>(parts.schedule, &mut lines)?;
     let edits = pass_if::<EditsText<'a>>(parts.edits, &mut lines)?;
+    let watch = pass_if::<WatchText<'a>>(parts.watch, &mut lines)?;
     let rules = pass_if::<RulesText<'a>>(parts.rules, &mut lines)?;
     if !lines.at_end() {
         return Err(lines.form_error());
@@ -46,6 +48,7 @@ pub(crate) fn scan_parts<'a>(
         labels,
         schedule,
         edits,
+        watch,
         rules,
     })
 }

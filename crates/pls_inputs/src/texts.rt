@@ -3,7 +3,7 @@
 ghost use Rattle.std.specs.Prelude.{◌≡◌, IfErr, None, OnOk, Some};
 ghost use Rattle.pls_model.specs.Configuration.{first_of};
 ghost use Rattle.pls_inputs.specs.Order.{over};
-ghost use Rattle.pls_inputs.specs.inner.Scanned.{count_in, limits_told};
+ghost use Rattle.pls_inputs.specs.inner.Scanned.{bits_in, count_in, limits_told};
 
 use pls_base::{Quantity, TextError};
 use pls_edits::EditsText;
@@ -12,6 +12,7 @@ use pls_model::{MAX_BITS, MAX_LINES, MAX_NODES, MAX_PORTS, MAX_ROUNDS};
 use pls_netfile::ReadNetwork;
 use pls_rules_part::RulesText;
 use pls_schedule::ScheduleText;
+use pls_watch_part::WatchText;
 
 /// The texts of the parts of an input, as they were scanned; `None` where there is no such part.
 #[derive(Drop)]
@@ -20,6 +21,7 @@ pub(crate) struct Texts<'a> {
     pub(crate) labels: Option<LabelsText<'a>>,
     pub(crate) schedule: Option<ScheduleText<'a>>,
     pub(crate) edits: Option<EditsText<'a>>,
+    pub(crate) watch: Option<WatchText<'a>>,
     pub(crate) rules: Option<RulesText<'a>>,
 }
 
@@ -30,14 +32,20 @@ pub(crate) fn test_limits(texts: &Texts<'_>) -> Result<(), TextError>
 {
     test_count(Quantity::Nodes, MAX_NODES as u64, nodes_in(&texts.network))?;
     test_count(Quantity::Ports, MAX_PORTS as u64, ports_in(&texts.network))?;
-    test_count(Quantity::Bits, MAX_BITS, bits_in(&texts.labels))?;
+    test_count(Quantity::Bits, MAX_BITS, bits_in(texts))?;
     test_count(
         Quantity::Events,
         MAX_LINES as u64,
         events_in(&texts.schedule),
     )?;
     test_count(Quantity::Events, MAX_LINES as u64, lines_in(&texts.edits))?;
-    test_count(Quantity::Rounds, MAX_ROUNDS as u64, rounds_in(&texts.edits))
+    test_count(
+        Quantity::Events,
+        MAX_LINES as u64,
+        watch_lines_in(&texts.watch),
+    )?;
+    test_count(Quantity::Rounds, MAX_ROUNDS as u64, rounds_in(&texts.edits))?;
+    test_count(Quantity::Rounds, MAX_ROUNDS as u64, looks_in(&texts.watch))
 }
 
 // Refuses a quantity that passes its limit.
@@ -71,11 +79,28 @@ fn ports_in(network: &Option<ReadNetwork<'_>>) -> u64
     }
 }
 
+// How many bits the labels and those that a watch gives have together, and `u64::MAX` at the most.
+fn bits_in(texts: &Texts<'_>) -> u64
+    ensures { result ≡ bits_in texts.now }
+{
+    label_bits_in(&texts.labels).saturating_add(watch_bits_in(&texts.watch))
+}
+
 // How many bits labels have together, if there are some.
-fn bits_in(labels: &Option<LabelsText<'_>>) -> u64
+fn label_bits_in(labels: &Option<LabelsText<'_>>) -> u64
     ensures { result ≡ count_in (λ text. text.bits) labels.now }
 {
     match labels {
+        Some(text) => text.bits(),
+        None => 0,
+    }
+}
+
+// How many bits the labels have together that a watch gives, if there is one.
+fn watch_bits_in(watch: &Option<WatchText<'_>>) -> u64
+    ensures { result ≡ count_in (λ text. text.bits) watch.now }
+{
+    match watch {
         Some(text) => text.bits(),
         None => 0,
     }
@@ -107,6 +132,26 @@ fn rounds_in(edits: &Option<EditsText<'_>>) -> u64
 {
     match edits {
         Some(text) => text.rounds(),
+        None => 0,
+    }
+}
+
+// How many lines a watch has, if there is one.
+fn watch_lines_in(watch: &Option<WatchText<'_>>) -> u64
+    ensures { result ≡ count_in (λ text. text.events) watch.now }
+{
+    match watch {
+        Some(text) => text.events(),
+        None => 0,
+    }
+}
+
+// How many of these lines ask for a look.
+fn looks_in(watch: &Option<WatchText<'_>>) -> u64
+    ensures { result ≡ count_in (λ text. text.looks) watch.now }
+{
+    match watch {
+        Some(text) => text.looks(),
         None => 0,
     }
 }

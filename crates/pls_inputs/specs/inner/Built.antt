@@ -15,6 +15,8 @@ use Rattle.pls_schedule.specs.declared.event.Event.{Event}
 use Rattle.pls_schedule.specs.ScheduleText.{IsEventsRefusal, TellsSchedule, WrittenSchedule}
 use Rattle.pls_edits.specs.declared.edit_line.EditLine.{EditLine}
 use Rattle.pls_edits.specs.EditsText.{IsEditsRefusal, TellsEdits, WrittenEdits}
+use Rattle.pls_watch_part.specs.declared.watch_event.WatchLine.{WatchLine}
+use Rattle.pls_watch_part.specs.WatchText.{IsWatchRefusal, TellsWatch, WrittenWatch}
 use Rattle.pls_rules.specs.declared.rule_set.RuleSet.{RuleSet}
 use Rattle.pls_rules.specs.HeldTrees.{set_of}
 use Rattle.pls_rules.specs.RuleSet.{AreRules}
@@ -89,6 +91,19 @@ AreUnmade None error = error ≡ NoMemory
 AreUnmade (Some written) error = (edits : List EditLine) → TellsEdits written.text edits
     → IsEditsRefusal edits error
 
+-- the list has the lines of the watch that the text says, if there is one
+abbrev pub IsWatchOf : WrittenWatch → List WatchLine → Type 0
+IsWatchOf written list = (watch : List WatchLine) → TellsWatch written.text watch → list ≡ watch
+
+abbrev pub IsWatchIfAny : Option WrittenWatch → Option (List WatchLine) → Type 0
+IsWatchIfAny text list = TellsIfAny IsWatchOf text list
+
+-- the error is the refusal of the watch that the text says, or want of memory
+abbrev pub IsUnwatched : Option WrittenWatch → TextError → Type 0
+IsUnwatched None error = error ≡ NoMemory
+IsUnwatched (Some written) error = (watch : List WatchLine) → TellsWatch written.text watch
+    → IsWatchRefusal watch error
+
 -- the set is the one that the text says, which makes sense
 pub record IsSetOf (written : WrittenRules) (set : RuleSet) : Type 0 where
   pub same : (said : RulesSaid) → TellsRules written.text said → set_of set ≡ set_said said
@@ -111,8 +126,9 @@ abbrev pub code_of : Option WrittenLabels → CodeName
 code_of None = Gamma
 code_of (Some written) = written.code
 
--- the line of the first event or edit of a text, if there is one
-abbrev pub first_line_of : Option WrittenSchedule → Option WrittenEdits → ℕ
-first_line_of (Some written) edits = written.number + 1
-first_line_of None (Some written) = written.number + 1
-first_line_of None None = 0
+-- the line of the first event or edit of a text, or the first of a watch, if there is one
+abbrev pub first_line_of : Option WrittenSchedule → Option WrittenEdits → Option WrittenWatch → ℕ
+first_line_of (Some written) edits watch = written.number + 1
+first_line_of None (Some written) watch = written.number + 1
+first_line_of None None (Some written) = written.number + 1
+first_line_of None None None = 0

@@ -1,5 +1,5 @@
 -- What was scanned of an input.
-use Rattle.std.specs.Prelude.{◌≡◌, ℕ, Bool, true, false, List, [], ◌∷◌, Option, Some, None, ⊤}
+use Rattle.std.specs.Prelude.{◌≡◌, ℕ, ◌+◌, Bool, true, false, List, [], ◌∷◌, Option, Some, None, ⊤}
 use Rattle.pls_base.specs.declared.text_error.TextError.{TextError}
 use Rattle.pls_base.specs.declared.text_error.Quantity.TheVariants.{Nodes, Ports, Bits, Events, Rounds}
 use Rattle.pls_model.specs.declared.limits.TheConstants.{MAX_BITS, MAX_LINES, MAX_NODES, MAX_PORTS, MAX_ROUNDS}
@@ -14,12 +14,14 @@ use Rattle.pls_schedule.specs.declared.event.Event.{Event}
 use Rattle.pls_schedule.specs.ScheduleText.{TellsSchedule, WrittenSchedule}
 use Rattle.pls_edits.specs.declared.edit_line.EditLine.{EditLine}
 use Rattle.pls_edits.specs.EditsText.{TellsEdits, WrittenEdits, rounds_of}
+use Rattle.pls_watch_part.specs.declared.watch_event.WatchLine.{WatchLine}
+use Rattle.pls_watch_part.specs.WatchText.{TellsWatch, WrittenWatch, looks_of, total_bits as relabelled_bits}
 use Rattle.pls_rules_part.specs.RulesScan.{TellsRules, WrittenRules}
 use Rattle.pls_rules_part.specs.RulesText.{RulesSaid}
 use Rattle.pls_inputs.specs.declared.parts.Parts.{Parts}
 use Rattle.pls_inputs.specs.declared.texts.Texts.{Texts}
 use Rattle.pls_inputs.specs.Parts.{HasParts, Input, input_lines}
-use Rattle.pls_inputs.specs.Order.{edits_heading, labels_heading, over, rules_heading, schedule_heading}
+use Rattle.pls_inputs.specs.Order.{edits_heading, labels_heading, over, rules_heading, schedule_heading, watch_heading}
 
 -- the lines of a part where it is wanted, and else none
 abbrev pub If : Bool → (List (List ℕ) → Type 0) → List (List ℕ) → Type 0
@@ -64,6 +66,15 @@ pub record TellsEditsAt (heading : ℕ) (written : WrittenEdits)
   pub lines : written.events ≡ counted edits
   pub rounds : written.rounds ≡ counted (rounds_of edits)
 
+-- and with a watch
+pub record TellsWatchAt (heading : ℕ) (written : WrittenWatch)
+    (watch : List WatchLine) : Type 0 where
+  pub tells : TellsWatch written.text watch
+  pub number : written.number ≡ heading
+  pub lines : written.events ≡ counted watch
+  pub looks : written.looks ≡ counted (looks_of watch)
+  pub sum : written.bits ≡ capped (relabelled_bits watch)
+
 -- and with rules
 pub record TellsRulesAt (heading : ℕ) (written : WrittenRules) (said : RulesSaid) : Type 0 where
   pub tells : TellsRules written.text said
@@ -78,6 +89,7 @@ pub record IsScanned (parts : Parts) (bytes : List ℕ) (texts : Texts) : Type 0
   pub labels : TellsIfAny (TellsLabelsAt (labels_heading input)) texts.labels input.labels
   pub schedule : TellsIfAny (TellsScheduleAt (schedule_heading input)) texts.schedule input.schedule
   pub edits : TellsIfAny (TellsEditsAt (edits_heading input)) texts.edits input.edits
+  pub watch : TellsIfAny (TellsWatchAt (watch_heading input)) texts.watch input.watch
   pub rules : TellsIfAny (TellsRulesAt (rules_heading input)) texts.rules input.rules
 
 -- what was counted of a text, 0 where there is none
@@ -85,13 +97,20 @@ abbrev pub count_in : {X : Type 0} → (X → ℕ) → Option X → ℕ
 count_in count None = 0
 count_in count (Some text) = count text
 
+-- the bits of the labels and of a watch together, 2^64 - 1 at the most
+abbrev pub bits_in : Texts → ℕ
+bits_in texts =
+    capped (count_in (λ text. text.bits) texts.labels + count_in (λ text. text.bits) texts.watch)
+
 -- the limits on what was scanned
 abbrev pub limits_told : Texts → List (Option TextError)
 limits_told texts =
     over Nodes MAX_NODES (count_in (λ text. text.nodes) texts.network)
     ∷ over Ports MAX_PORTS (count_in (λ text. text.ports) texts.network)
-    ∷ over Bits MAX_BITS (count_in (λ text. text.bits) texts.labels)
+    ∷ over Bits MAX_BITS (bits_in texts)
     ∷ over Events MAX_LINES (count_in (λ text. text.events) texts.schedule)
     ∷ over Events MAX_LINES (count_in (λ text. text.events) texts.edits)
+    ∷ over Events MAX_LINES (count_in (λ text. text.events) texts.watch)
     ∷ over Rounds MAX_ROUNDS (count_in (λ text. text.rounds) texts.edits)
+    ∷ over Rounds MAX_ROUNDS (count_in (λ text. text.looks) texts.watch)
     ∷ []
