@@ -15,11 +15,13 @@ use Rattle.pls_boruvka.specs.declared.level.Level.{Level}
 use Rattle.pls_mst.specs.declared.glance.MstGlance.{MstGlance}
 use Rattle.pls_mst.specs.declared.glance.TheConstants.{FRONT}
 use Rattle.pls_mst.specs.declared.kept_level.KeptLevel.{KeptLevel}
-use Rattle.pls_mst.specs.declared.label.MstHead.{MstHead}
-use Rattle.pls_mst.specs.Labels.{head_off, level_off, mst_of}
+use Rattle.pls_levels.specs.declared.label.LevelHead.{LevelHead}
+use Rattle.pls_levels.specs.Labels.{head_off, label_of}
+use Rattle.pls_levels.proofs.Labels.{a_label}
+use Rattle.pls_mst.specs.Labels.{level_off, mst_levels}
+use Rattle.pls_mst.specs.laws.LabelLaws.{exact_levels}
 use Rattle.pls_mst.specs.inner.Glance.{IsFront, all_whole, front_of, glance_of, kept_in, no_level}
 use Rattle.pls_mst.specs.inner.KeptLevel.{fits, kept_of, whole}
-use Rattle.pls_mst.proofs.Labels.{a_label}
 
 -- a level where there is none
 abbrev pub blank : Level
@@ -238,23 +240,24 @@ next_read place count front levels old level new less taken is =
     ∙ items_off-next level_off left level old new taken) is
 
 -- what is kept of a label, by what was read of it
-pub glance_there : (left : NumbersLeft) (head : MstHead) (new : NumbersLeft) (kept : ℕ)
+pub glance_there : (left : NumbersLeft) (head : LevelHead) (new : NumbersLeft) (kept : ℕ)
     (front : List KeptLevel) → IsTaken head_off head left new
     → are_items level_off head.count new ≡ true
     → IsFront kept front (items_off level_off head.count new.numbers)
     → Some (record { head = head; kept = kept; front = front })
-    ≡ option_map glance_of (if_clean mst_of left)
+    ≡ option_map glance_of (if_clean (label_of mst_levels) left)
 glance_there left head new kept front taken there (kept_is, front_is) =
-    let (label, read, said, levels) = a_label left new head taken there in
-    let many : length label.levels ≡ head.count = ap (λ (head : MstHead). head.count) said in
+    let (label, read, said, levels) = a_label mst_levels exact_levels left new head taken
+    there in
+    let many : length label.levels ≡ head.count = ap (λ (head : LevelHead). head.count) said in
     let all : items_off level_off head.count new.numbers ≡ label.levels =
     items_off-take level_off head.count (length label.levels) new.numbers label.levels levels
     (omega (arith, many)) ∙ take_all head.count label.levels (omega (arith, many)) in
-    let glance : MstHead → ℕ → List KeptLevel → MstGlance =
+    let glance : LevelHead → ℕ → List KeptLevel → MstGlance =
     λ head kept front. record { head = head; kept = kept; front = front } in
     let both : glance head kept front ≡ glance_of label =
     ap (λ (kept : ℕ). glance head kept front) (kept_is ∙ ap kept_in all)
     ∙ ap (glance head (kept_in label.levels)) (front_is ∙ ap front_of all)
-    ∙ ap (λ (head : MstHead). glance head (kept_in label.levels) (front_of label.levels))
+    ∙ ap (λ (head : LevelHead). glance head (kept_in label.levels) (front_of label.levels))
     (sym said) in
     ap Some both ∙ sym (ap (option_map glance_of) read)

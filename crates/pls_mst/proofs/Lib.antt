@@ -1,8 +1,6 @@
-pub mod Labels
 pub mod Fronts
 pub mod Comparisons
 pub mod Looked
 pub mod MorePorts
-pub mod Logarithm
 pub mod Made
 pub mod Worked

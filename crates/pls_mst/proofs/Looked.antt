@@ -1,17 +1,20 @@
--- What two labels say together that were looked at, and what one of them says.
-use Rattle.std.proofs.Common.{◌≡◌, ◌∙◌, ℕ, ◌-◌, ◌≤◌, ◌==◌, ◌&&◌, min, Bool, true, false, List, length, take, drop, Some, sym, ap, arith}
+-- What two labels say together that were looked at, and what one of them says; and levels that are
+-- read behind the first.
+use Rattle.std.proofs.Common.{◌≡◌, ◌∙◌, ℕ, suc, ◌-◌, ◌≤◌, ◌==◌, ◌&&◌, inl, inr, min, Bool, true, false, List, length, take, drop, Some, sym, ap, subst, arith}
 use Rattle.std.specs.List.{list_all}
+use Rattle.std.proofs.lemmas.Bool.{cases_Bool, eq-eqb}
 use Rattle.std.proofs.lemmas.List.{length-drop, take-map, take_all}
 use Rattle.std.proofs.lemmas.List.Folds.{list_all-map}
-use Rattle.pls_numbers.specs.Taking.{items_in, items_off}
-use Rattle.pls_numbers.specs.laws.TakingLaws.{items_off-take}
+use Rattle.pls_numbers.specs.Numbers.{NumbersLeft}
+use Rattle.pls_numbers.specs.Taking.{IsTaken, items_in, items_off}
+use Rattle.pls_numbers.specs.laws.TakingLaws.{items_off-next, items_off-take}
 use Rattle.pls_boruvka.specs.declared.level.Level.{Level}
 use Rattle.pls_mst.specs.declared.comparing.Between.{Between}
 use Rattle.pls_mst.specs.declared.comparing.Compared.{Compared}
 use Rattle.pls_mst.specs.declared.glance.MstGlance.{MstGlance}
 use Rattle.pls_mst.specs.declared.kept_level.KeptLevel.{KeptLevel}
-use Rattle.pls_mst.specs.declared.label.MstLabel.{MstLabel}
-use Rattle.pls_mst.specs.Labels.{level_off}
+use Rattle.pls_levels.specs.Labels.{AreFewer, AreLevelsLeft, ArePassed}
+use Rattle.pls_mst.specs.Labels.{MstLabel, level_off, mst_levels}
 use Rattle.pls_mst.specs.Rules.{names_all_fragments}
 use Rattle.pls_mst.specs.inner.Comparing.{both_compared, compared}
 use Rattle.pls_mst.specs.inner.Glance.{all_whole, front_of, glance_of, kept_in}
@@ -150,3 +153,27 @@ module _ (own : MstLabel) (glance : MstGlance) (first : ℕ) (first_has : Bool)
       ∙ ap (list_all named) off
       ∙ ap (λ (b : Bool). b && list_all named (drop first own.levels)) (sym have ∙ first_named)
       ∙ sym (list_all-split named first own.levels)
+
+-- where all have one fragment so far, it is asked of those that are left
+pub all_have-next : (own count : ℕ) (old new : NumbersLeft) (level : Level)
+    → IsTaken level_off level old new → level.fragment ≡ own
+    → list_all (λ (level : Level). level.fragment == own)
+    (items_off level_off (suc count) old.numbers)
+    ≡ list_all (λ (level : Level). level.fragment == own) (items_off level_off count new.numbers)
+all_have-next own count old new level taken same =
+    ap (list_all (λ (level : Level). level.fragment == own))
+    (items_off-next level_off count level old new taken)
+    ∙ ap (λ (b : Bool). b && list_all (λ (level : Level). level.fragment == own)
+    (items_off level_off count new.numbers)) (eq-eqb level.fragment own same)
+
+-- behind the first levels, of which there are as many, the others are left
+pub passed_front : (first : ℕ) (levels : List Level) (old new : NumbersLeft) (passed : Bool)
+    → (passed ≡ true → ArePassed mst_levels first old new)
+    → (passed ≡ false → AreFewer mst_levels first old) → AreLevelsLeft mst_levels old levels
+    → first ≤ length levels
+    → items_in level_off (length levels - first) new.numbers ≡ Some (drop first levels)
+passed_front first levels old new passed on missing are many = elim (cases_Bool passed) [
+  | inl holds ↦ subst (λ (count : ℕ). items_in level_off count new.numbers
+      ≡ Some (drop first levels)) (length-drop first levels) (on holds levels are)
+  | inr fails ↦ absurd (omega (arith, missing fails levels are, many))
+]

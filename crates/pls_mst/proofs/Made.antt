@@ -1,82 +1,46 @@
 -- Labels that are made of the root, the depths and the levels are right.
-use Rattle.std.proofs.Common.{◌≡◌, ◌∙◌, ℕ, ◌+◌, ◌++◌, List, [], ◌∷◌, length, map, get_or, slice_get, Option, Some, option_map, refl, sym, ap, subst, arith, length-append}
-use Rattle.std.specs.Option.{option_map_or}
-use Rattle.std.proofs.lemmas.List.{get_or-map, length-map}
-use Rattle.std.proofs.lemmas.Option.{get_or_from_slice_get, slice_get-get_or, slice_get-map, slice_get_within}
-use Rattle.pls_model.specs.declared.row.Port.{Port}
+use Rattle.std.proofs.Common.{◌≡◌, ◌∙◌, ℕ, List, map, length, slice_get, Some, option_map, sym, ap}
+use Rattle.std.proofs.lemmas.List.{length-map}
+use Rattle.std.proofs.lemmas.Option.{same_Some, slice_get-map}
 use Rattle.pls_model.specs.declared.row.NodeRow.{NodeRow}
 use Rattle.pls_model.specs.Configuration.{IsNetwork}
 use Rattle.pls_search.specs.Depths.{AreDepths}
 use Rattle.pls_scheme.specs.Marked.{AreRight}
 use Rattle.pls_facts.specs.OnlyNode.{IsOnly, points_at_none}
-use Rattle.pls_pointer.specs.Tree.{root_says, tree_says}
-use Rattle.pls_pointer.proofs.Right.{tree_right}
 use Rattle.pls_boruvka.specs.Boruvka.{AreLevelLists}
 use Rattle.pls_boruvka.specs.declared.level.Level.{Level}
-use Rattle.pls_boruvka.proofs.Listed.{Each-push}
-use Rattle.pls_mst.specs.declared.label.MstLabel.{MstLabel}
-use Rattle.pls_mst.specs.Mst.{MstSays}
-use Rattle.pls_mst.specs.inner.Making.{AreMade, IsMadeAt, label_from}
+use Rattle.pls_levels.specs.Making.{AreMade, IsRightHead}
+use Rattle.pls_levels.proofs.Made.{made_right as all_made_right}
+use Rattle.pls_mst.specs.Labels.{MstLabel}
+use Rattle.pls_mst.specs.Mst.{AreLevelsOf, MstSays}
 
-module _ (rows : List NodeRow) (root : ℕ) (depths : List ℕ) (lists : List (List Level)) where
-  -- one label more
-  pub made_more : (levels : List Level) (count : ℕ) (labels : List MstLabel) (label : MstLabel)
-      → slice_get lists count ≡ Some levels
-      → ((row : NodeRow) → slice_get rows count ≡ Some row
-      → label ≡ label_from root row (get_or depths count 0) levels)
-      → AreMade rows root depths lists count labels
-      → AreMade rows root depths lists (count + 1) (labels ++ label ∷ [])
-  made_more levels count labels label here is made = record {
-    each = let each = made.each in omega (arith, length-append labels (label ∷ []), each);
-    label = Each-push (IsMadeAt rows root depths lists) labels count label made.each made.label
-        (λ row at. is row at ∙ ap (label_from root row (get_or depths count 0))
-        (sym (get_or_from_slice_get lists count levels [] here)));
-  }
+pub made_right : (rows : List NodeRow) (root : ℕ) (depths : List ℕ) (lists : List (List Level))
+    → IsNetwork rows → IsOnly points_at_none rows root → AreDepths rows depths
+    → AreLevelLists rows lists → (labels : List MstLabel)
+    → AreMade rows root depths lists (length rows) labels → AreRight (MstSays rows) rows labels
+made_right rows root depths lists net only deep are labels made = record {
+  each = made.each;
+  label = λ place row label at has. let is = all.label place row label at has in
+      record { head = is.0; levels = is.1 };
+}
+  where
+    say : NodeRow → List Level
+    say row = map (λ level. level row.id) are.levels
 
-  -- labels that are made of what is right are right
-  pub made_right : IsNetwork rows → IsOnly points_at_none rows root → AreDepths rows depths
-      → AreLevelLists rows lists → (labels : List MstLabel)
-      → AreMade rows root depths lists (length rows) labels → AreRight (MstSays rows) rows labels
-  made_right net only deep are labels made = record {
-    each = made.each;
-    label = λ place row label at has. subst (MstSays rows row) (sym (made.label place label has row at))
-        (right place row at);
-  }
-    where
-      right : (place : ℕ) (row : NodeRow) → slice_get rows place ≡ Some row
-          → MstSays rows row (label_from root row (get_or depths place 0) (get_or lists place []))
-      right place row at =
-          let depth : ℕ = get_or depths place 0 in
-          let deep_at : slice_get depths place ≡ Some depth = slice_get-get_or depths place 0
-          (omega (arith, slice_get_within rows place row at, deep.each)) in
-          let in_tree : tree_says rows row (root_says root depth) =
-          (tree_right rows depths deep net root only).label place row (root_says root depth) at
-          (slice_get-map (root_says root) depths place ∙ ap (option_map (root_says root)) deep_at) in
-          record {
-            own = refl;
-            root = in_tree;
-            parent = λ port pointed.
-                ap (λ (port : Option Port). option_map_or (λ (port : Port). port.nbr) port row.id)
-                pointed;
-            own_parent = λ none.
-                ap (λ (port : Option Port). option_map_or (λ (port : Port). port.nbr) port row.id)
-                none;
-            levels = record {
-              depth = are.depth;
-              levels = are.levels;
-              deep = are.deep;
-              are = are.are;
-              said = ap (λ (lists : List (List Level)). get_or lists place []) are.said
-                  ∙ get_or-map say rows place row [] (slice_get_within rows place row at)
-                  ∙ ap say (get_or_from_slice_get rows place row row at);
-            };
-          }
-        where
-          say : NodeRow → List Level
-          say row = map (λ level. level row.id) are.levels
+    right : (place : ℕ) (row : NodeRow) (levels : List Level) → slice_get rows place ≡ Some row
+        → slice_get lists place ≡ Some levels → AreLevelsOf rows row.id levels
+    right place row levels at there = record {
+      depth = are.depth;
+      levels = are.levels;
+      deep = are.deep;
+      are = are.are;
+      said = same_Some levels (say row) (sym there
+          ∙ ap (λ (lists : List (List Level)). slice_get lists place) are.said
+          ∙ slice_get-map say rows place ∙ ap (option_map say) at);
+    }
 
--- there are as many lists of levels as rows
-pub lists_many : (rows : List NodeRow) (lists : List (List Level)) → AreLevelLists rows lists
-    → length lists ≡ length rows
-lists_many rows lists are = ap length are.said
-    ∙ length-map rows (λ (row : NodeRow). map (λ level. level row.id) are.levels)
+    all : AreRight (λ row label. IsRightHead rows row label × AreLevelsOf rows row.id label.levels)
+        rows labels
+    all = all_made_right rows root depths lists net only deep
+        (ap length are.said ∙ length-map rows say) (λ row levels. AreLevelsOf rows row.id levels)
+        right labels made

@@ -1,18 +1,21 @@
 -- What a node has gathered with one more port.
-use Rattle.std.proofs.Common.{◌≡◌, ◌∙◌, ℕ, ◌+◌, ◌==◌, Bool, true, false, ◌&&◌, if◌then◌else◌, List, [], ◌∷◌, ◌++◌, length, Option, Some, slice_get, refl, sym, ap}
+use Rattle.std.proofs.Common.{◌≡◌, ◌∙◌, ℕ, ◌+◌, ◌==◌, Bool, true, false, ◌&&◌, if◌then◌else◌, List, [], ◌∷◌, ◌++◌, length, Option, Some, None, option_map, slice_get, refl, sym, ap}
 use Rattle.std.specs.List.{enumerate_from, list_all}
 use Rattle.std.specs.Option.{option_and_then, option_map_or}
 use Rattle.pls_model.specs.declared.row.State.{State}
-use Rattle.pls_scheme.specs.Reading.{Read, ReadPort, is_pointer, port_with, reading}
+use Rattle.pls_scheme.specs.Reading.{Read, ReadPort, is_pointer, label_above, port_with, reading}
 use Rattle.pls_scheme.proofs.MorePorts.{all_more, at_pointer_more, numbered_from_0}
 use Rattle.pls_mst.specs.declared.comparing.Between.{Between}
 use Rattle.pls_mst.specs.declared.comparing.Compared.{Compared}
 use Rattle.pls_mst.specs.declared.gathering.Gathered.{Gathered}
-use Rattle.pls_mst.specs.declared.label.MstHead.{MstHead}
-use Rattle.pls_mst.specs.declared.label.MstLabel.{MstLabel}
+use Rattle.pls_mst.specs.declared.glance.MstGlance.{MstGlance}
+use Rattle.pls_levels.specs.declared.label.LevelHead.{LevelHead}
+use Rattle.pls_levels.specs.Labels.{head_of}
+use Rattle.pls_mst.specs.Labels.{MstLabel, mst_levels}
 use Rattle.pls_mst.specs.Rules.{agrees_on_root_and_levels, names_root_and_levels, chose_least_at, chosen_edges_are_least, edge_to, is_chosen_between, is_named_or_shared, on_each_level, on_some_level}
 use Rattle.pls_mst.specs.inner.Comparing.{compared}
 use Rattle.pls_mst.specs.inner.Gathering.{between, mst_tally, mst_tally_with}
+use Rattle.pls_mst.specs.inner.Glance.{glance_of}
 use Rattle.pls_mst.specs.inner.Reading.{head_said}
 
 module _ (id : ℕ) (state : State) (own : MstLabel) (ports : List (ReadPort MstLabel)) (weight : ℕ)
@@ -72,7 +75,7 @@ module _ (id : ℕ) (state : State) (own : MstLabel) (ports : List (ReadPort Mst
       rw (follows, agrees, shares, leasts, chosen) refl
 
   -- what is gathered of the port, by what stands in front of the two labels
-  pub is_gathered : (pointer : Bool) (mine head : MstHead) (to : Between) (both : Compared)
+  pub is_gathered : (pointer : Bool) (mine head : LevelHead) (to : Between) (both : Compared)
       (was is : Gathered) → pointer ≡ here → head_said own ≡ mine → head_said theirs ≡ head
       → was ≡ mst_tally before → to ≡ between pointer weight mine head
       → both ≡ compared to own.own own.levels theirs.levels
@@ -83,3 +86,18 @@ module _ (id : ℕ) (state : State) (own : MstLabel) (ports : List (ReadPort Mst
       let all : both ≡ compared edge own.own own.levels theirs.levels =
       both_is ∙ ap (λ (to : Between). compared to own.own own.levels theirs.levels) edge_is in
       is_more ∙ rw (pointer_is, sym mine_is, sym head_is, all, was_is) (sym more_gathered)
+
+-- what stands in front of the levels in the label above, by what is kept of that label
+pub head_kept : (state : State) (ports : List (ReadPort MstLabel)) (glance : Option MstGlance)
+    (head : Option LevelHead) → head ≡ option_map (λ (glance : MstGlance). glance.head) glance
+    → glance ≡ option_map glance_of (label_above ports state.up)
+    → head ≡ option_map (head_of mst_levels) (label_above ports state.up)
+head_kept state ports glance head head_is glance_is =
+    head_is ∙ ap (option_map (λ (glance : MstGlance). glance.head)) glance_is
+    ∙ by (label_above ports state.up)
+  where
+    by : (label : Option MstLabel)
+        → option_map (λ (glance : MstGlance). glance.head) (option_map glance_of label)
+        ≡ option_map (head_of mst_levels) label
+    by None = refl
+    by (Some label) = refl

@@ -1,14 +1,13 @@
 -- The marker's labels of the scheme `mst`, and how long they are.
-use Rattle.std.specs.Prelude.{◌≡◌, ℕ, ◌+◌, ◌*◌, Bool, List, [], ◌∷◌, map, Contains, Some, None}
+use Rattle.std.specs.Prelude.{◌≡◌, ℕ, ◌+◌, ◌*◌, Bool, List, [], ◌∷◌, map}
 use Rattle.pls_bits.specs.Gamma.{floor_log}
-use Rattle.pls_model.specs.declared.row.Port.{Port}
 use Rattle.pls_model.specs.declared.row.NodeRow.{NodeRow}
 use Rattle.pls_graph.specs.declared.size.Size.{Size}
 use Rattle.pls_scheme.specs.Length.{codes_length}
-use Rattle.pls_facts.specs.Pointer.{IsChainOf, pointed_port}
 use Rattle.pls_boruvka.specs.Boruvka.{AreChainLengths, AreBoruvkaLevels}
 use Rattle.pls_boruvka.specs.declared.level.Level.{Level}
-use Rattle.pls_mst.specs.declared.label.MstLabel.{MstLabel}
+use Rattle.pls_levels.specs.Making.{IsRightHead}
+use Rattle.pls_mst.specs.Labels.{MstLabel}
 
 -- these are Borůvka's levels of the node with this identity, from the first on
 pub record AreLevelsOf (rows : List NodeRow) (id : ℕ) (list : List Level) : Type 0 where
@@ -18,15 +17,9 @@ pub record AreLevelsOf (rows : List NodeRow) (id : ℕ) (list : List Level) : Ty
   pub are : AreBoruvkaLevels rows depth levels
   pub said : list ≡ map (λ level. level id) levels
 
--- the label of a node: the root is the node without pointer, the parent is the node that the node
--- points at, and the root itself, the depth is the length of the chain of pointers, and the levels
--- are Borůvka's
+-- the label of a node: what stands in front of its levels is right, and they are Borůvka's
 pub record MstSays (rows : List NodeRow) (row : NodeRow) (label : MstLabel) : Type 0 where
-  pub own : label.own ≡ row.id
-  pub root : (root : NodeRow) → Contains rows root → root.state.up ≡ None
-      → (label.root ≡ root.id) × IsChainOf rows row.id root.id label.depth
-  pub parent : (port : Port) → pointed_port row ≡ Some port → label.parent ≡ port.nbr
-  pub own_parent : pointed_port row ≡ None → label.parent ≡ row.id
+  pub head : IsRightHead rows row label
   pub levels : AreLevelsOf rows row.id label.levels
 
 -- no numbers in front of the levels of a marked label are greater: the greatest identity for the

@@ -2,32 +2,17 @@
 -- verification of minimum spanning trees", with the levels of Borůvka's method): on each level it
 -- belongs to a fragment that lies together, and its fragment has chosen the least edge that leaves
 -- it. Each edge that a node points along was chosen by the fragment of one of its ends.
-use Rattle.std.specs.Prelude.{ℕ, ◌+◌, ◌==◌, nat_lt, min, max, Bool, true, false, not, ◌&&◌, ◌||◌, if◌then◌else◌, List, [], ◌∷◌, length, Option}
+use Rattle.std.specs.Prelude.{ℕ, ◌==◌, nat_lt, min, max, Bool, true, false, not, ◌&&◌, ◌||◌, if◌then◌else◌, List, [], ◌∷◌, length, Option}
 use Rattle.std.specs.List.{enumerate_from, list_all, list_any, zip}
 use Rattle.std.specs.Option.{option_map_or}
 use Rattle.pls_model.specs.Walk.{Edge}
-use Rattle.pls_scheme.specs.Reading.{Read, ReadPort, is_pointer, target}
+use Rattle.pls_scheme.specs.Reading.{Read, ReadPort, target}
 use Rattle.pls_facts.specs.EdgeOrder.{edge_key, is_same_edge}
 use Rattle.pls_pointer.specs.Pointing.{points}
 use Rattle.pls_boruvka.specs.Boruvka.{chosen_edge}
 use Rattle.pls_boruvka.specs.declared.level.Level.{Level}
-use Rattle.pls_mst.specs.declared.label.MstLabel.{MstLabel}
-
--- the node points at no port, or it is one deeper than the node that it points at, which is its
--- parent
-abbrev pub follows_target : Read MstLabel → Bool
-follows_target view = option_map_or (λ port. view.own.depth == port.label.depth + 1
-    && view.own.parent == port.label.own) (target view) true
-
--- the label says of the node that it is the root, at depth 0, and its own parent
-abbrev pub is_root_of_tree : Read MstLabel → Bool
-is_root_of_tree view =
-    view.own.depth == 0 && (view.own.root == view.id && view.own.parent == view.own.own)
-
--- rule 3: the label names the node, and the node is the root or follows the node that it points at
-abbrev pub is_placed_in_tree : Read MstLabel → Bool
-is_placed_in_tree view =
-    view.own.own == view.id && ((points view || is_root_of_tree view) && follows_target view)
+use Rattle.pls_levels.specs.Rules.{is_in_tree, is_placed_in_tree}
+use Rattle.pls_mst.specs.Labels.{MstLabel}
 
 -- the neighbour names the own root, and has as many levels
 abbrev pub names_root_and_levels : MstLabel → ReadPort MstLabel → Bool
@@ -79,10 +64,9 @@ edge_to own port = record {
   weight = port.weight;
 }
 
--- 0 where the port of this number is the pointer or the neighbour's parent is the node, else 1
+-- 0 where the edge at the port of this number is in the tree, else 1
 abbrev pub outside_tree : Option ℕ → MstLabel → ℕ → ReadPort MstLabel → ℕ
-outside_tree up own number port =
-    if is_pointer up number || port.label.parent == own.own then 0 else 1
+outside_tree up own number port = if is_in_tree up own number port then 0 else 1
 
 -- the list is the other, or comes before it as a word in a dictionary
 abbrev pub is_at_most : List ℕ → List ℕ → Bool
@@ -122,7 +106,7 @@ pointed_edge_is_chosen view = option_map_or (λ port.
     on_some_level (is_chosen_between (edge_to view.own port)) view.own.levels port.label.levels)
     (target view) true
 
--- the rules from 3 on
+-- the rules from 3 on, of which rule 3 is that the label places the node in the tree
 abbrev pub mst_rules : Read MstLabel → List Bool
 mst_rules view =
     is_placed_in_tree view ∷ agrees_on_root_and_levels view ∷ names_its_fragment view

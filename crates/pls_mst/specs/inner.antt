@@ -4,4 +4,3 @@ pub mod KeptLevel
 pub mod Glance
 pub mod Comparing
 pub mod Gathering
-pub mod Making

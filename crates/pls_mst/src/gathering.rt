@@ -1,22 +1,20 @@
 //! What a node gathers of its ports, one after another.
 
-ghost use Rattle.std.specs.Prelude.{◌≡◌, ℕ, ◌==◌, ◌+◌, ◌++◌, List, [], ◌∷◌, ◌&&◌, Some, length, if◌then◌else◌};
+ghost use Rattle.std.specs.Prelude.{◌≡◌, ℕ, ◌++◌, List, [], ◌∷◌, Some, length, if◌then◌else◌};
 ghost use Rattle.pls_model.specs.declared.row.State.{State};
 ghost use Rattle.pls_numbers.specs.Shape.{said_by};
-ghost use Rattle.pls_scheme.specs.Reading.{ReadPort, is_pointer, port_with, reading};
-ghost use Rattle.pls_mst.specs.declared.label.MstLabel.{MstLabel};
-ghost use Rattle.pls_mst.specs.Labels.{mst_shape};
+ghost use Rattle.pls_scheme.specs.Reading.{ReadPort, port_with, reading};
+ghost use Rattle.pls_mst.specs.Labels.{MstLabel, mst_shape};
 ghost use Rattle.pls_mst.specs.Rules.{mst_rules};
 ghost use Rattle.pls_mst.specs.inner.Gathering.{between, mst_tally, mst_tally_with};
 ghost use Rattle.pls_mst.specs.inner.Glance.{glance_of};
 
 use crate::comparing::{Between, Compared, compare_levels};
 use crate::glance::{MstGlance, names_all};
-use crate::label::MstHead;
-use crate::placing::is_root;
 use pls_bits::NumCode;
+use pls_levels::{LevelHead, follows_above, is_pointer, is_root};
 use pls_model::State;
-use pls_scheme::{Looked, is_one_more};
+use pls_scheme::Looked;
 
 /// Which rules on the ports hold at those so far.
 #[derive(Clone, Copy, Debug, PartialEq, Eq)]
@@ -53,8 +51,8 @@ impl Gathered {
     pub(crate) fn with(
         self,
         pointer: bool,
-        own: &MstHead,
-        theirs: &MstHead,
+        own: &LevelHead,
+        theirs: &LevelHead,
         both: Compared,
     ) -> Gathered
         ensures { result ≡ mst_tally_with pointer own.now theirs.now both self }
@@ -134,7 +132,7 @@ pub(crate) fn with_port<C: NumCode>(
 
 // The edge between a node and a neighbour, which it points at or not.
 #[inline(always)]
-pub(crate) fn edge_to(pointer: bool, weight: u32, mine: &MstHead, theirs: &MstHead) -> Between
+pub(crate) fn edge_to(pointer: bool, weight: u32, mine: &LevelHead, theirs: &LevelHead) -> Between
     ensures { result ≡ between pointer weight mine.now theirs.now }
 {
     let inside = pointer || theirs.parent == mine.own;
@@ -143,25 +141,6 @@ pub(crate) fn edge_to(pointer: bool, weight: u32, mine: &MstHead, theirs: &MstHe
         outside: if inside { 0 } else { 1 },
         a: mine.own.min(theirs.own),
         b: mine.own.max(theirs.own),
-    }
-}
-
-// Whether a node is one deeper than another, which is its parent.
-#[inline(always)]
-pub(crate) fn follows_above(own: &MstHead, above: &MstHead) -> bool
-    ensures { result ≡ (own.now.depth == above.now.depth + 1 && own.now.parent == above.now.own) }
-{
-    is_one_more(own.depth, above.depth) && own.parent == above.own
-}
-
-// Whether a pointer is the port of a number.
-#[inline(always)]
-pub(crate) fn is_pointer(up: Option<u32>, number: usize) -> bool
-    ensures { result ≡ is_pointer up number }
-{
-    match up {
-        Some(port) => port as usize == number,
-        None => false,
     }
 }
 

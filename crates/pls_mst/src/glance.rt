@@ -4,15 +4,15 @@ ghost use Rattle.std.specs.Prelude.{◌≡◌, ◌-◌, ◌≤◌, ◌==◌, len
 ghost use Rattle.std.specs.List.{list_all};
 ghost use Rattle.pls_numbers.specs.Shape.{said_by};
 ghost use Rattle.pls_numbers.specs.Taking.{are_items, items_in, items_off};
-ghost use Rattle.pls_mst.specs.declared.label.MstLabel.{MstLabel};
-ghost use Rattle.pls_mst.specs.Labels.{level_off, mst_shape};
+ghost use Rattle.pls_mst.specs.Labels.{MstLabel, level_off, mst_shape};
 ghost use Rattle.pls_mst.specs.Rules.{names_all_fragments};
 ghost use Rattle.pls_mst.specs.inner.Glance.{IsFront, glance_of};
 
 use crate::kept_level::KeptLevel;
-use crate::label::MstHead;
-use crate::reading::{all_have, are_levels, levels_of, read_head, read_level};
+use crate::levels::MstLevels;
+use crate::reading::{all_have, read_level};
 use pls_bits::{Bits, NumCode};
+use pls_levels::{LevelHead, are_levels, levels_of, pass_levels, read_head};
 use pls_numbers::Numbers;
 use pls_scheme::Looked;
 
@@ -25,7 +25,7 @@ pub const FRONT: usize = 8;
 #[derive(Clone, Copy, Debug, PartialEq, Eq)]
 pub struct MstGlance {
     /// What stands in front of the levels.
-    pub head: MstHead,
+    pub head: LevelHead,
     /// How many of the first levels are kept: those before the first with a number of 2^32 or
     /// more, which no right label has, and `FRONT` at most.
     pub kept: u64,
@@ -58,7 +58,7 @@ pub(crate) fn glance_at<C: NumCode>(bits: &Bits<'_>) -> Option<MstGlance>
     let mut numbers = Numbers::<C>::of(bits);
     let head = read_head(&mut numbers)?;
     let Front { kept, levels, left } = read_front(&mut numbers, head.count)?;
-    if are_levels(&mut numbers, left) {
+    if are_levels::<MstLevels, C>(&mut numbers, left) {
         Some(MstGlance {
             head,
             kept,
@@ -114,10 +114,8 @@ pub(crate) fn behind_front<'a, C: NumCode>(bits: &Bits<'a>, first: usize) -> Num
         → items_in level_off (length label.levels - first) result.numbers
         ≡ Some (drop first label.levels) }
 {
-    let mut numbers = levels_of(bits);
-    for _ in 0..first {
-        read_level(&mut numbers);
-    }
+    let mut numbers = levels_of::<MstLevels, C>(bits);
+    pass_levels::<MstLevels, C>(&mut numbers, first as u64);
     numbers
 }
 

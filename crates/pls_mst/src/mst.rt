@@ -2,11 +2,15 @@
 //! level its fragment and the edge that the fragment chose. Each label is looked at once; then, in
 //! one pass over the ports, the levels of the node and of each neighbour are compared side by side.
 
-use crate::format::MstFormat;
+ghost use Rattle.std.specs.Prelude.{◌≡◌, option_map};
+ghost use Rattle.std.specs.Option.{option_copied};
+ghost use Rattle.pls_mst.specs.declared.glance.MstGlance.{MstGlance};
+
 use crate::gathering::{Gathered, with_port};
 use crate::glance::{MstGlance, glance_at};
-use crate::placing::is_placed;
+use crate::levels::{MstFormat, MstLevels};
 use pls_bits::{Bits, NumCode};
+use pls_levels::{LevelHead, is_placed};
 use pls_model::{State, Verdict};
 use pls_scheme::{Basic, Boxed, Judgement, JudgesInPlace, Looked, judged_from};
 use std::marker::PhantomData;
@@ -25,7 +29,7 @@ impl<C> Default for MstRules<C> {
     fn default() -> Self {
         MstRules {
             code: PhantomData,
-            format: MstFormat,
+            format: MstFormat::default(),
         }
     }
 }
@@ -87,7 +91,7 @@ impl<C: NumCode> JudgesInPlace for MstRules<C> {
         own: &Looked<'_, MstGlance>,
         above: Option<&MstGlance>,
     ) -> Option<Verdict> {
-        if is_placed(id, state, &own.glance.head, above) {
+        if is_placed::<MstLevels>(id, state, &own.glance.head, head_above(above)) {
             None
         } else {
             Some(Verdict::Reject { leaf: 1, rule: 3 })
@@ -103,5 +107,17 @@ impl<C: NumCode> JudgesInPlace for MstRules<C> {
         tally: Gathered,
     ) -> Verdict {
         judged_from(3, &tally.rules::<C>(id, state, own))
+    }
+}
+
+// What stands in front of the levels in the label above, where there is one.
+#[inline(always)]
+fn head_above(above: Option<&MstGlance>) -> Option<&LevelHead>
+    ensures { option_copied result
+        ≡ option_map (λ (glance : MstGlance). glance.head) (option_copied above.entry) }
+{
+    match above {
+        Some(above) => Some(&above.head),
+        None => None,
     }
 }

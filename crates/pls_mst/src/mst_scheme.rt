@@ -1,17 +1,12 @@
 //! How networks whose pointers make a spanning tree of least weight are labelled.
 
-ghost use Rattle.std.specs.Prelude.{◌≡◌, ◌<◌, length, IfOk, slice_get, Some};
-ghost use Rattle.pls_bits.specs.Gamma.{floor_log};
-ghost use Rattle.pls_model.specs.declared.row.NodeRow.{NodeRow};
-ghost use Rattle.pls_mst.specs.inner.Making.{AreMade, label_from, parent_or_own};
-
-use crate::label::MstLabel;
+use crate::levels::{MstLabel, MstLevels};
 use crate::mst::MstRules;
 use pls_base::NoMemory;
 use pls_bits::NumCode;
-use pls_boruvka::{LevelList, LevelLists, boruvka_levels};
-use pls_facts::is_valid;
+use pls_boruvka::boruvka_levels;
 use pls_graph::{Network, Size};
+use pls_levels::{floor_log, make_labels};
 use pls_pointer::root_and_depths;
 use pls_scheme::{Marker, codes_length};
 use std::alloc::Global;
@@ -46,7 +41,7 @@ impl<C: NumCode> Marker for MstRules<C> {
         let Some(lists) = boruvka_levels(alloc, net)? else {
             return Ok(None);
         };
-        let labels = make_labels(alloc, net, root, &depths, &lists)?;
+        let labels = make_labels::<MstLevels>(alloc, net, root, &depths, &lists)?;
         Ok(Some(labels))
     }
 
@@ -57,65 +52,4 @@ impl<C: NumCode> Marker for MstRules<C> {
     ghost one_right_law = { λ _. mst_one_right };
 
     ghost fits_law = { λ _. mst_fits C.code C.grows_law C.short_law };
-}
-
-// The labels of this root, these depths and these levels.
-fn make_labels(
-    alloc: Global,
-    net: &Network,
-    root: u32,
-    depths: &[u32],
-    lists: &LevelLists,
-) -> Result<Vec<MstLabel>, NoMemory>
-    requires deep { length depths.now ≡ length net.now }
-    requires levels { length lists.now ≡ length net.now }
-    ensures { IfOk result (λ labels.
-        AreMade net.now root depths.now lists.now (length net.now) labels.items) }
-{
-    let mut labels = Vec::with_capacity(alloc, net.len())?;
-    for place in 0..net.len() {
-        let levels = lists.at(place)?;
-        labels.push(label_at(net, place, root, depths[place], levels))?;
-    }
-    Ok(labels)
-}
-
-// The label of the node at a place, under this root, at this depth, with these levels.
-fn label_at(net: &Network, place: usize, root: u32, depth: u32, levels: LevelList) -> MstLabel
-    requires { place < length net.now }
-    ensures { (row : NodeRow) → slice_get net.now place ≡ Some row
-        → result ≡ label_from root row depth levels }
-{
-    let (own, _) = net.node(place);
-    MstLabel {
-        root: u64::from(root),
-        own: u64::from(own),
-        parent: u64::from(parent_at(net, place)),
-        depth: u64::from(depth),
-        levels,
-    }
-}
-
-// The node that the node at a place points at, and else the node itself.
-fn parent_at(net: &Network, place: usize) -> u32
-    requires { place < length net.now }
-    ensures { (row : NodeRow) → slice_get net.now place ≡ Some row → result ≡ parent_or_own row }
-{
-    is_valid(net);
-    let (id, state) = net.node(place);
-    match state.up {
-        Some(up) => net.ports(place)[up as usize].nbr,
-        None => id,
-    }
-}
-
-// The logarithm of a number to the base 2, rounded down, and 0 for the number 0. Above 62 it is
-// given as 62.
-fn floor_log(number: u64) -> u64
-    ensures { result ≡ floor_log number }
-{
-    if number == 0 {
-        return 0;
-    }
-    u64::from(number.ilog2()).min(62)
 }

@@ -11,10 +11,11 @@ use Rattle.pls_graph.proofs.Finds.{from_option_map}
 use Rattle.pls_scheme.specs.Reading.{Read, ReadPort, port_with, read_ports, reading}
 use Rattle.pls_scheme.specs.laws.Readings.{split_read}
 use Rattle.pls_centroid.specs.declared.level.CentroidLevel.{CentroidLevel}
-use Rattle.pls_pathmax.specs.declared.label.PathMaxLabel.{PathMaxLabel}
-use Rattle.pls_pathmax.specs.Rules.{has_way, has_ways_to_centroids, is_in_tree, leads_on_at}
+use Rattle.pls_pathmax.specs.Labels.{PathMaxLabel}
+use Rattle.pls_levels.specs.Rules.{is_in_tree}
+use Rattle.pls_pathmax.specs.Rules.{has_way, has_ways_to_centroids, leads_on_at}
 use Rattle.pls_pathmax.specs.inner.OnePass.{is_led_on, is_own_level, leads_from}
-use Rattle.pls_pathmax.specs.laws.Levelwise.{passes_from_0}
+use Rattle.pls_levels.specs.laws.Levelwise.{passes_from_0}
 use Rattle.pls_pathmax.proofs.MorePorts.{led_more}
 
 module _ (read : List Bool → Option PathMaxLabel) where

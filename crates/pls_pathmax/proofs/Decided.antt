@@ -8,7 +8,7 @@ use Rattle.pls_facts.specs.SpanningTree.{IsTree}
 use Rattle.pls_scheme.specs.Marked.{AreRight, AreSaidBy}
 use Rattle.pls_scheme.specs.Reading.{read_where}
 use Rattle.pls_scheme.proofs.Markings.{IsSaidBy, said_by_id}
-use Rattle.pls_pathmax.specs.declared.label.PathMaxLabel.{PathMaxLabel}
+use Rattle.pls_pathmax.specs.Labels.{PathMaxLabel}
 use Rattle.pls_pathmax.specs.PathMax.{PathMaxSays}
 use Rattle.pls_pathmax.specs.Rules.{other_edges_are_heavy}
 use Rattle.pls_pathmax.specs.laws.PathMaxLaws.{decided_by_ports}

@@ -1,15 +1,9 @@
--- Levels that are passed, and what the others are then.
-use Rattle.std.proofs.Common.{◌≡◌, ◌∙◌, ℕ, ◌+◌, ◌≤◌, inl, inr, true, false, List, [], ◌∷◌, length, drop, Option, Some, None, IfSome, IfNone, is_some, slice_get, sym, ap, arith}
+-- Items behind the first ones.
+use Rattle.std.proofs.Common.{◌≡◌, ◌∙◌, ℕ, ◌+◌, ◌≤◌, inl, inr, List, [], ◌∷◌, length, drop, Some, None, slice_get, sym, ap, arith}
 use Rattle.std.proofs.lemmas.Bool.{cases_lt}
-use Rattle.std.proofs.lemmas.List.{drop-drop, drop_all, get_or-drop, length-drop}
+use Rattle.std.proofs.lemmas.List.{drop-drop, get_or-drop, length-drop}
 use Rattle.std.proofs.lemmas.Option.{slice_get-get_or, slice_get_past}
-use Rattle.pls_numbers.specs.Numbers.{NumbersLeft}
-use Rattle.pls_numbers.specs.Taking.{IsTaken}
 use Rattle.pls_facts.proofs.Lists.{item_at}
-use Rattle.pls_centroid.specs.declared.level.CentroidLevel.{CentroidLevel}
-use Rattle.pls_pathmax.specs.Labels.{level_off}
-use Rattle.pls_pathmax.specs.inner.Reading.{AreLeft}
-use Rattle.pls_pathmax.proofs.Labels.{next_left, none_left}
 
 -- what stands at a place behind the first items
 pub slice_get-behind : {X : Type 0} (xs : List X) (n k : ℕ)
@@ -30,11 +24,6 @@ pub nothing_behind : {X : Type 0} (xs : List X) (n k : ℕ) → drop n xs ≡ []
 nothing_behind xs n k none later = slice_get_past xs k
     (let long = length-drop n xs in let zero = ap length none in omega (arith, long, zero, later))
 
--- nor is anything behind more of them
-pub drop_more : {X : Type 0} (xs : List X) (n m : ℕ) → drop n xs ≡ [] → n ≤ m → drop m xs ≡ []
-drop_more xs n m none later = drop_all m xs
-    (let long = length-drop n xs in let zero = ap length none in omega (arith, long, zero, later))
-
 -- the first of the items behind some, and those behind it
 pub drop_split : {X : Type 0} (xs : List X) (n : ℕ) (x : X) → drop n xs ≡ x ∷ drop 1 (drop n xs)
     → drop n xs ≡ x ∷ drop (n + 1) xs
@@ -47,18 +36,3 @@ drop_at xs n x is =
     let same : n + 0 ≡ n = omega arith in
     ap (slice_get xs) (sym same) ∙ sym (slice_get-behind xs n 0)
     ∙ ap (λ items. slice_get items 0) is
-
--- a call that reads the level that comes next, and finds one, leaves the others
-pub passed_left : (old new : NumbersLeft) (result : Option CentroidLevel)
-    → IfSome result (λ level. IsTaken level_off level old new) → is_some result ≡ true
-    → (levels : List CentroidLevel) → AreLeft old levels → AreLeft new (drop 1 levels)
-passed_left old new None taken there levels are = absurd (cc)
-passed_left old new (Some level) taken there levels are =
-    (next_left old new level levels taken are).1
-
--- one that finds none says that none is left
-pub missing_left : (old : NumbersLeft) (result : Option CentroidLevel)
-    → IfNone result (level_off old.numbers ≡ None) → is_some result ≡ false
-    → (levels : List CentroidLevel) → AreLeft old levels → levels ≡ []
-missing_left old None none there levels are = none_left old levels none are
-missing_left old (Some level) none there levels are = absurd (cc)

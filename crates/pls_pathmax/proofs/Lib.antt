@@ -1,10 +1,8 @@
-pub mod Labels
 pub mod LevelsLeft
 pub mod Compared
 pub mod Windows
 pub mod MorePorts
 pub mod Passes
-pub mod Logarithm
 pub mod Made
 pub mod Decided
 pub mod Worked

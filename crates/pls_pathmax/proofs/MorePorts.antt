@@ -11,8 +11,9 @@ use Rattle.pls_scheme.proofs.MorePorts.{all_more, numbered_from_0}
 use Rattle.pls_centroid.specs.declared.level.CentroidLevel.{CentroidLevel}
 use Rattle.pls_pathmax.specs.declared.gathering.Gathered.{Gathered}
 use Rattle.pls_pathmax.specs.declared.gathering.TheConstants.{WINDOW}
-use Rattle.pls_pathmax.specs.declared.label.PathMaxLabel.{PathMaxLabel}
-use Rattle.pls_pathmax.specs.Rules.{agrees_on_root, is_heavy_outside, is_in_tree, leads_on, leads_on_at, meet_lightly, other_edges_are_heavy}
+use Rattle.pls_pathmax.specs.Labels.{PathMaxLabel}
+use Rattle.pls_levels.specs.Rules.{is_in_tree}
+use Rattle.pls_pathmax.specs.Rules.{agrees_on_root, is_heavy_outside, leads_on, leads_on_at, meet_lightly, other_edges_are_heavy}
 use Rattle.pls_pathmax.specs.inner.OnePass.{gathered_from, is_led_on, leads_from, led_on_from, with_leads}
 
 -- the parts of what is gathered

@@ -8,8 +8,9 @@ use Rattle.pls_scheme.specs.Judging.{judged_from}
 use Rattle.pls_scheme.specs.Reading.{Read, ReadPort, judge_by, judged_read, read_ports, reading}
 use Rattle.pls_scheme.specs.laws.Readings.{judged_by_rules}
 use Rattle.pls_pathmax.specs.declared.gathering.TheConstants.{WINDOW}
-use Rattle.pls_pathmax.specs.declared.label.PathMaxLabel.{PathMaxLabel}
-use Rattle.pls_pathmax.specs.Rules.{agrees_on_root, has_ways_to_centroids, is_placed_in_tree, other_edges_are_heavy, pathmax_rules}
+use Rattle.pls_pathmax.specs.Labels.{PathMaxLabel}
+use Rattle.pls_levels.specs.Rules.{is_placed_in_tree}
+use Rattle.pls_pathmax.specs.Rules.{agrees_on_root, has_ways_to_centroids, other_edges_are_heavy, pathmax_rules}
 use Rattle.pls_pathmax.specs.inner.OnePass.{HaveFurtherWays, IsReadThrough, has_ways_from, is_by_rule_5, is_settled, one_pass_rules}
 use Rattle.pls_pathmax.proofs.Windows.{to_window, whole_from, whole_window}
 

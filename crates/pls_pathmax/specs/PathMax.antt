@@ -1,23 +1,17 @@
 -- The marker's labels of the scheme `pathmax`, and how long they are.
-use Rattle.std.specs.Prelude.{◌≡◌, ℕ, ◌+◌, ◌*◌, Bool, List, [], ◌∷◌, Contains, Some, None}
+use Rattle.std.specs.Prelude.{ℕ, ◌+◌, ◌*◌, Bool, List, [], ◌∷◌}
 use Rattle.pls_bits.specs.Gamma.{floor_log}
-use Rattle.pls_model.specs.declared.row.Port.{Port}
 use Rattle.pls_model.specs.declared.row.NodeRow.{NodeRow}
 use Rattle.pls_graph.specs.declared.size.Size.{Size}
 use Rattle.pls_scheme.specs.Length.{codes_length}
-use Rattle.pls_facts.specs.Pointer.{IsChainOf, pointed_port}
 use Rattle.pls_centroid.specs.Levels.{AreCentroidLevels}
-use Rattle.pls_pathmax.specs.declared.label.PathMaxLabel.{PathMaxLabel}
+use Rattle.pls_levels.specs.Making.{IsRightHead}
+use Rattle.pls_pathmax.specs.Labels.{PathMaxLabel}
 
--- the label of a node: the root is the node without pointer, the parent is the node that the node
--- points at, and the root itself, the depth is the length of the chain of pointers, and the levels
--- are the node's centroid levels
+-- the label of a node: what stands in front of its levels is right, and they are the node's
+-- centroid levels
 pub record PathMaxSays (rows : List NodeRow) (row : NodeRow) (label : PathMaxLabel) : Type 0 where
-  pub own : label.own ≡ row.id
-  pub root : (root : NodeRow) → Contains rows root → root.state.up ≡ None
-      → (label.root ≡ root.id) × IsChainOf rows row.id root.id label.depth
-  pub parent : (port : Port) → pointed_port row ≡ Some port → label.parent ≡ port.nbr
-  pub own_parent : pointed_port row ≡ None → label.parent ≡ row.id
+  pub head : IsRightHead rows row label
   pub levels : AreCentroidLevels rows row.id label.levels
 
 -- no numbers in front of the levels of a marked label are greater: the greatest identity for the

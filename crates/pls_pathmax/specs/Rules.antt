@@ -3,38 +3,17 @@
 -- weight there; and no other edge is lighter than the greatest weights on the ways from its two
 -- ends to one centroid (Katz, Katz, Korman and Peleg 2004, "Labeling schemes for flow and
 -- connectivity").
-use Rattle.std.specs.Prelude.{ℕ, ◌+◌, ◌==◌, nat_le, Bool, true, false, ◌&&◌, ◌||◌, List, [], ◌∷◌, slice_get, Option}
+use Rattle.std.specs.Prelude.{ℕ, ◌+◌, ◌==◌, nat_le, Bool, false, ◌&&◌, ◌||◌, List, [], ◌∷◌, slice_get}
 use Rattle.std.specs.List.{enumerate_from, list_all, list_any, zip}
 use Rattle.std.specs.Option.{option_map_or}
-use Rattle.pls_scheme.specs.Reading.{Read, ReadPort, is_pointer, target}
-use Rattle.pls_pointer.specs.Pointing.{points}
+use Rattle.pls_scheme.specs.Reading.{Read, ReadPort}
 use Rattle.pls_centroid.specs.declared.level.CentroidLevel.{CentroidLevel}
-use Rattle.pls_pathmax.specs.declared.label.PathMaxLabel.{PathMaxLabel}
-
--- the node points at no port, or it is one deeper than the node that it points at, which is its
--- parent
-abbrev pub follows_target : Read PathMaxLabel → Bool
-follows_target view = option_map_or (λ port. view.own.depth == port.label.depth + 1
-    && view.own.parent == port.label.own) (target view) true
-
--- the label says of the node that it is the root, at depth 0, and its own parent
-abbrev pub is_root_of_tree : Read PathMaxLabel → Bool
-is_root_of_tree view =
-    view.own.depth == 0 && (view.own.root == view.id && view.own.parent == view.own.own)
-
--- rule 3: the label names the node, and the node is the root or follows the node that it points at
-abbrev pub is_placed_in_tree : Read PathMaxLabel → Bool
-is_placed_in_tree view =
-    view.own.own == view.id && ((points view || is_root_of_tree view) && follows_target view)
+use Rattle.pls_levels.specs.Rules.{is_in_tree, is_placed_in_tree}
+use Rattle.pls_pathmax.specs.Labels.{PathMaxLabel}
 
 -- rule 4: every neighbour names the own root
 abbrev pub agrees_on_root : Read PathMaxLabel → Bool
 agrees_on_root view = list_all (λ port. port.label.root == view.own.root) view.ports
-
--- the edge at the port of this number is in the tree: the port is the pointer, or the neighbour's
--- parent is the node
-abbrev pub is_in_tree : Option ℕ → PathMaxLabel → ℕ → ReadPort PathMaxLabel → Bool
-is_in_tree up own number port = is_pointer up number || port.label.parent == own.own
 
 -- what the neighbour has on a level leads on from what the node has: it has the same centroid, one
 -- hop nearer, and neither its greatest weight nor the edge to it is above the own greatest
@@ -42,8 +21,8 @@ abbrev pub leads_on : CentroidLevel → ℕ → CentroidLevel → Bool
 leads_on mine weight theirs = theirs.centroid == mine.centroid && (mine.hops == theirs.hops + 1
     && (nat_le theirs.greatest mine.greatest && nat_le weight mine.greatest))
 
--- the port of this number is in the tree, and its neighbour has the level of this number, which
--- leads on
+-- the edge at the port of this number is in the tree, and its neighbour has the level of this
+-- number, which leads on
 abbrev pub leads_on_at : Read PathMaxLabel → ℕ → CentroidLevel → ℕ → ReadPort PathMaxLabel → Bool
 leads_on_at view level mine number port = is_in_tree view.state.up view.own number port
     && option_map_or (leads_on mine port.weight) (slice_get port.label.levels level) false
@@ -75,7 +54,7 @@ abbrev pub other_edges_are_heavy : Read PathMaxLabel → Bool
 other_edges_are_heavy view = list_all (λ (numbered : ℕ × ReadPort PathMaxLabel).
     is_heavy_outside view numbered.0 numbered.1) (enumerate_from 0 view.ports)
 
--- the rules from 3 on
+-- the rules from 3 on, of which rule 3 is that the label places the node in the tree
 abbrev pub pathmax_rules : Read PathMaxLabel → List Bool
 pathmax_rules view = is_placed_in_tree view ∷ agrees_on_root view ∷ has_ways_to_centroids view
     ∷ other_edges_are_heavy view ∷ []

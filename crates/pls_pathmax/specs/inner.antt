@@ -1,4 +1,3 @@
 -- What private functions say to each other.
 pub mod Reading
 pub mod OnePass
-pub mod Making

@@ -1,7 +1,5 @@
 -- What the laws of the scheme rest on: proofs, which nobody has to believe.
 pub mod LabelLaws
-pub mod Levelwise
-pub mod InTree
 pub mod Kept
 pub mod Passed
 pub mod Sound

@@ -7,9 +7,11 @@ ghost use Rattle.pls_pathmax.specs.Rules.{leads_on, meet_lightly};
 ghost use Rattle.pls_pathmax.specs.inner.OnePass.{leads_from};
 ghost use Rattle.pls_pathmax.specs.inner.Reading.{AreLeft};
 
-use crate::reading::{pass_levels, read_level};
+use crate::levels::PathMaxLevels;
+use crate::reading::read_level;
 use pls_bits::NumCode;
 use pls_centroid::CentroidLevel;
+use pls_levels::pass_levels;
 use pls_numbers::Numbers;
 use pls_scheme::is_one_more;
 
@@ -27,10 +29,10 @@ pub(crate) fn note_ways<C: NumCode>(
         ≡ (slice_index_or flags.old k false
         || leads_from weight (slice_get here (first + k)) (slice_get there (first + k))) }
 {
-    if !pass_levels(mine, first) {
+    if !pass_levels::<PathMaxLevels, C>(mine, first) {
         return;
     }
-    if !pass_levels(theirs, first) {
+    if !pass_levels::<PathMaxLevels, C>(theirs, first) {
         return;
     }
     note_ways_on(mine, theirs, weight, flags);

@@ -4,20 +4,20 @@ ghost use Rattle.std.specs.Prelude.{◌≡◌, ℕ, ◌<◌, ◌==◌, ◌++◌,
 ghost use Rattle.std.specs.List.{list_any, zip};
 ghost use Rattle.pls_model.specs.declared.row.State.{State};
 ghost use Rattle.pls_numbers.specs.Shape.{said_by};
-ghost use Rattle.pls_scheme.specs.Reading.{ReadPort, is_pointer, port_with, reading};
+ghost use Rattle.pls_scheme.specs.Reading.{ReadPort, port_with, reading};
 ghost use Rattle.pls_centroid.specs.declared.level.CentroidLevel.{CentroidLevel};
-ghost use Rattle.pls_pathmax.specs.declared.label.PathMaxLabel.{PathMaxLabel};
-ghost use Rattle.pls_pathmax.specs.Labels.{pathmax_shape};
+ghost use Rattle.pls_pathmax.specs.Labels.{PathMaxLabel, pathmax_shape};
 ghost use Rattle.pls_pathmax.specs.Rules.{meet_lightly};
 ghost use Rattle.pls_pathmax.specs.declared.gathering.TheConstants.{WINDOW};
 ghost use Rattle.pls_pathmax.specs.inner.OnePass.{gathered_from, has_ways_from, is_own_level, led_on_from, with_leads};
 ghost use Rattle.pls_pathmax.specs.inner.Reading.{AreLeft, head_said};
 
 use crate::comparing::{meet_somewhere, note_ways};
-use crate::label::PathMaxHead;
-use crate::reading::{levels_of, pass_levels, read_level};
+use crate::levels::PathMaxLevels;
+use crate::reading::read_level;
 use pls_bits::NumCode;
 use pls_centroid::CentroidLevel;
+use pls_levels::{LevelHead, is_in_tree, levels_of, pass_levels};
 use pls_numbers::Numbers;
 use pls_scheme::Looked;
 
@@ -55,11 +55,11 @@ impl Gathered {
 pub(crate) fn with_port<C: NumCode>(
     first: u64,
     up: Option<u32>,
-    own: &Looked<'_, PathMaxHead>,
+    own: &Looked<'_, LevelHead>,
     before: Gathered,
     place: usize,
     weight: u32,
-    label: &Looked<'_, PathMaxHead>,
+    label: &Looked<'_, LevelHead>,
 ) -> Gathered
     ensures { (id : ℕ) (state : State) (mine theirs : PathMaxLabel)
         (ports : List (ReadPort PathMaxLabel)) → state.up ≡ up → length ports ≡ place
@@ -91,25 +91,12 @@ pub(crate) fn with_port<C: NumCode>(
     }
 }
 
-// Whether the edge at the port of this number is in the tree: the port is the pointer, or the
-// neighbour's parent is the node of this name.
-#[inline(always)]
-pub(crate) fn is_in_tree(up: Option<u32>, number: usize, own: u64, parent: u64) -> bool
-    ensures { result ≡ (is_pointer up number || parent == own) }
-{
-    let pointer = match up {
-        Some(port) => port as usize == number,
-        None => false,
-    };
-    pointer || parent == own
-}
-
 // On which levels some port leads on, with one neighbour more whose port is in the tree.
 fn led_on_with<C: NumCode>(
     first: u64,
-    own: &Looked<'_, PathMaxHead>,
+    own: &Looked<'_, LevelHead>,
     weight: u64,
-    label: &Looked<'_, PathMaxHead>,
+    label: &Looked<'_, LevelHead>,
     before: [bool; WINDOW],
 ) -> [bool; WINDOW]
     ensures { (mine theirs : PathMaxLabel)
@@ -119,15 +106,15 @@ fn led_on_with<C: NumCode>(
         → result ≡ with_leads first weight mine.levels theirs.levels before }
 {
     let mut flags = before;
-    let mut mine = levels_of::<C>(own.bits);
-    let mut theirs = levels_of::<C>(label.bits);
+    let mut mine = levels_of::<PathMaxLevels, C>(own.bits);
+    let mut theirs = levels_of::<PathMaxLevels, C>(label.bits);
     note_ways(&mut mine, &mut theirs, weight, first, &mut flags);
     flags
 }
 
 // Whether so it was, and the neighbour names the own root.
 #[inline(always)]
-fn agrees_too(before: bool, own: &PathMaxHead, theirs: &PathMaxHead) -> bool
+fn agrees_too(before: bool, own: &LevelHead, theirs: &LevelHead) -> bool
     ensures { result ≡ (before && theirs.now.root == own.now.root) }
 {
     before && theirs.root == own.root
@@ -136,9 +123,9 @@ fn agrees_too(before: bool, own: &PathMaxHead, theirs: &PathMaxHead) -> bool
 // Whether so it was, and the node and a neighbour meet lightly on some level that both have.
 fn is_heavy_too<C: NumCode>(
     before: bool,
-    own: &Looked<'_, PathMaxHead>,
+    own: &Looked<'_, LevelHead>,
     weight: u64,
-    label: &Looked<'_, PathMaxHead>,
+    label: &Looked<'_, LevelHead>,
 ) -> bool
     ensures { (mine theirs : PathMaxLabel)
         → said_by pathmax_shape C.takes own.now.bits.now ≡ Some mine
@@ -150,8 +137,8 @@ fn is_heavy_too<C: NumCode>(
     if !before {
         return false;
     }
-    let mut mine = levels_of::<C>(own.bits);
-    let mut theirs = levels_of::<C>(label.bits);
+    let mut mine = levels_of::<PathMaxLevels, C>(own.bits);
+    let mut theirs = levels_of::<PathMaxLevels, C>(label.bits);
     meet_somewhere(&mut mine, &mut theirs, own.glance.count, weight)
 }
 
@@ -159,7 +146,7 @@ fn is_heavy_too<C: NumCode>(
 // where these say on which some port leads on.
 pub(crate) fn has_ways<C: NumCode>(
     first: u64,
-    own: &Looked<'_, PathMaxHead>,
+    own: &Looked<'_, LevelHead>,
     led_on: &[bool; WINDOW],
 ) -> bool
     ensures { (id : ℕ) (state : State) (mine : PathMaxLabel) (ports : List (ReadPort PathMaxLabel))
@@ -168,8 +155,8 @@ pub(crate) fn has_ways<C: NumCode>(
         → led_on.now ≡ led_on_from first (reading id state mine ports)
         → result ≡ has_ways_from first (reading id state mine ports) }
 {
-    let mut numbers = levels_of::<C>(own.bits);
-    if !pass_levels(&mut numbers, first) {
+    let mut numbers = levels_of::<PathMaxLevels, C>(own.bits);
+    if !pass_levels::<PathMaxLevels, C>(&mut numbers, first) {
         return true;
     }
     have_ways(&mut numbers, own.glance.own, led_on)

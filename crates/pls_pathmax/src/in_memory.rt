@@ -6,18 +6,19 @@ ghost use Rattle.pls_numbers.specs.Shape.{said_by};
 ghost use Rattle.pls_view.specs.Seen.{Seen, views};
 ghost use Rattle.pls_scheme.specs.Basic.{verdict_by};
 ghost use Rattle.pls_scheme.specs.Reading.{ReadPort, port_with, read_ports, reading};
-ghost use Rattle.pls_pathmax.specs.declared.label.PathMaxLabel.{PathMaxLabel};
-ghost use Rattle.pls_pathmax.specs.Labels.{pathmax_shape};
-ghost use Rattle.pls_pathmax.specs.Rules.{is_in_tree, pathmax_rules};
+ghost use Rattle.pls_pathmax.specs.Labels.{PathMaxLabel, pathmax_shape};
+ghost use Rattle.pls_levels.specs.Rules.{is_in_tree};
+ghost use Rattle.pls_pathmax.specs.Rules.{pathmax_rules};
 ghost use Rattle.pls_pathmax.specs.inner.OnePass.{is_led_on, leads_from, one_pass_rules};
 
 use crate::comparing::note_ways;
-use crate::gathering::{WINDOW, have_ways, is_in_tree};
+use crate::gathering::{WINDOW, have_ways};
+use crate::levels::PathMaxLevels;
 use crate::pathmax::{head_of, is_settled};
-use crate::reading::levels_of;
 use pls_base::NoMemory;
 use pls_bits::{Bits, NumCode};
 use pls_graph::Network;
+use pls_levels::{is_in_tree, levels_of};
 use pls_model::Verdict;
 use pls_view::{Labels, View};
 use std::alloc::Global;
@@ -68,7 +69,7 @@ fn verdict_of_view<C: NumCode>(
     let mut flags = vec![in alloc; false; own.count as usize]?;
     let flags = flags.as_mut_slice();
     note_ports::<C>(view, own.own, flags);
-    let mut numbers = levels_of::<C>(&view.own);
+    let mut numbers = levels_of::<PathMaxLevels, C>(&view.own);
     if have_ways(&mut numbers, own.own, flags) {
         return Ok(verdict);
     }
@@ -122,7 +123,7 @@ fn note_port<C: NumCode>(
     if !is_in_tree(up, place, own, head.parent) {
         return;
     }
-    let mut mine = levels_of::<C>(bits);
-    let mut theirs = levels_of::<C>(label);
+    let mut mine = levels_of::<PathMaxLevels, C>(bits);
+    let mut theirs = levels_of::<PathMaxLevels, C>(label);
     note_ways(&mut mine, &mut theirs, u64::from(weight), 0, flags);
 }

@@ -5,10 +5,10 @@
 //!
 //! [`PathMax`] is the scheme, over any number code: a verifier that takes no memory, the property,
 //! a marker, and a layout of labels. [`PathMaxRules`] is what it states of its own,
-//! [`PathMaxLabel`] what its labels say, [`PathMaxFormat`] how they are written; [`CentroidLevel`]
-//! and [`CentroidList`] come from `pls_centroid`. A label may have as many levels as memory allows,
-//! and each of them asks for some port, so a view is judged in passes over its ports
-//! (`PathMaxPass`), each for up to 64 levels. One pass is enough for marked labels. For
+//! [`PathMaxLabel`] what its labels say, [`PathMaxFormat`] how they are written: they are those of
+//! `pls_levels` with the levels of `pls_centroid` ([`PathMaxLevels`]). A label may have as many
+//! levels as memory allows, and each of them asks for some port, so a view is judged in passes over
+//! its ports (`PathMaxPass`), each for up to 64 levels. One pass is enough for marked labels. For
 //! labels with more levels `verify`, which takes no memory, makes as many passes as it takes, so
 //! that k levels take k / 64 of them; a round and a judge that remembers labels take a flag for
 //! each level, and one pass more.
@@ -19,20 +19,17 @@
 #![tactic(auto)]
 
 mod comparing;
-mod format;
 mod gathering;
 mod in_memory;
-mod label;
+mod levels;
 mod marking;
 mod outside;
 mod pass;
 mod pathmax;
-mod placing;
 mod reading;
 mod scheme;
 
-pub use format::PathMaxFormat;
-pub use label::{PathMaxHead, PathMaxLabel};
+pub use levels::{CentroidLists, PathMaxFormat, PathMaxLabel, PathMaxLevels};
 pub use pathmax::PathMaxRules;
 pub use pls_centroid::{CentroidLevel, CentroidList, centroid_levels};
 pub use scheme::PathMax;

@@ -7,15 +7,16 @@ ghost use Rattle.pls_graph.specs.Places.{named_places};
 ghost use Rattle.pls_scheme.specs.Marked.{AreSaidBy};
 ghost use Rattle.pls_scheme.specs.Reading.{port_where, port_with, read_where, reading};
 ghost use Rattle.pls_scheme.specs.inner.Holding.{AreKnown};
-ghost use Rattle.pls_pathmax.specs.declared.label.PathMaxLabel.{PathMaxLabel};
-ghost use Rattle.pls_pathmax.specs.Rules.{is_in_tree, meet_lightly, other_edges_are_heavy};
+ghost use Rattle.pls_pathmax.specs.Labels.{PathMaxLabel};
+ghost use Rattle.pls_levels.specs.Rules.{is_in_tree};
+ghost use Rattle.pls_pathmax.specs.Rules.{meet_lightly, other_edges_are_heavy};
 
 use crate::comparing::meet_lightly;
-use crate::gathering::is_in_tree;
-use crate::label::PathMaxLabel;
+use crate::levels::PathMaxLabel;
 use pls_centroid::CentroidLevel;
 use pls_facts::is_valid;
 use pls_graph::Network;
+use pls_levels::is_in_tree;
 use pls_model::{Port, State};
 
 // Whether rule 6 holds at every node where the labels say this, in the order of the nodes.

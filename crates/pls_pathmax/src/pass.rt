@@ -2,12 +2,10 @@
 
 ghost use Rattle.std.specs.Prelude.{◌≡◌};
 
-use crate::format::PathMaxFormat;
 use crate::gathering::{Gathered, has_ways, with_port};
-use crate::label::PathMaxHead;
-use crate::placing::is_placed;
-use crate::reading::head_in;
+use crate::levels::{PathMaxFormat, PathMaxLevels};
 use pls_bits::{Bits, NumCode};
+use pls_levels::{LevelHead, head_in, is_placed};
 use pls_model::{State, Verdict};
 use pls_scheme::{Judgement, JudgesInPlace, Looked, judged_from};
 use std::marker::PhantomData;
@@ -29,7 +27,7 @@ impl<C> PathMaxPass<C> {
     {
         PathMaxPass {
             code: PhantomData,
-            format: PathMaxFormat,
+            format: PathMaxFormat::default(),
             first,
         }
     }
@@ -55,9 +53,9 @@ impl<C: NumCode> JudgesInPlace for PathMaxPass<C> {
     ghost use Rattle.pls_pathmax.specs.inner.OnePass.{gathered_from};
     ghost use Rattle.pls_pathmax.specs.inner.Reading.{head_said};
 
-    type Glance = PathMaxHead;
+    type Glance = LevelHead;
 
-    type Memory = Option<PathMaxHead>;
+    type Memory = Option<LevelHead>;
 
     type Tally = Gathered;
 
@@ -65,22 +63,22 @@ impl<C: NumCode> JudgesInPlace for PathMaxPass<C> {
 
     ghost tally_of = { λ s view. gathered_from s.first view };
 
-    fn look(&self, bits: &Bits<'_>) -> Option<PathMaxHead> {
-        head_in::<C>(bits)
+    fn look(&self, bits: &Bits<'_>) -> Option<LevelHead> {
+        head_in::<PathMaxLevels, C>(bits)
     }
 
-    fn open(&self, _own: &PathMaxHead) -> Gathered {
+    fn open(&self, _own: &LevelHead) -> Gathered {
         Gathered::before()
     }
 
     fn pass(
         &self,
         up: Option<u32>,
-        own: &Looked<'_, PathMaxHead>,
+        own: &Looked<'_, LevelHead>,
         tally: Gathered,
         place: usize,
         weight: u32,
-        label: &Looked<'_, PathMaxHead>,
+        label: &Looked<'_, LevelHead>,
     ) -> Gathered {
         with_port::<C>(self.first, up, own, tally, place, weight, label)
     }
@@ -89,10 +87,10 @@ impl<C: NumCode> JudgesInPlace for PathMaxPass<C> {
         &self,
         id: u32,
         state: State,
-        own: &Looked<'_, PathMaxHead>,
-        above: Option<&PathMaxHead>,
+        own: &Looked<'_, LevelHead>,
+        above: Option<&LevelHead>,
     ) -> Option<Verdict> {
-        if is_placed(id, state, own.glance, above) {
+        if is_placed::<PathMaxLevels>(id, state, own.glance, above) {
             None
         } else {
             Some(Verdict::Reject { leaf: 1, rule: 3 })
@@ -103,11 +101,11 @@ impl<C: NumCode> JudgesInPlace for PathMaxPass<C> {
         &self,
         id: u32,
         state: State,
-        own: &Looked<'_, PathMaxHead>,
-        above: Option<&PathMaxHead>,
+        own: &Looked<'_, LevelHead>,
+        above: Option<&LevelHead>,
         tally: Gathered,
     ) -> Verdict {
-        let placed = is_placed(id, state, own.glance, above);
+        let placed = is_placed::<PathMaxLevels>(id, state, own.glance, above);
         let ways = has_ways::<C>(self.first, own, &tally.led_on);
         judged_from(3, &[placed, tally.agrees, ways, tally.heavy])
     }

@@ -4,19 +4,17 @@ ghost use Rattle.std.specs.Prelude.{◌≡◌, List, length, Some, true, false, 
 ghost use Rattle.pls_numbers.specs.Shape.{said_by};
 ghost use Rattle.pls_scheme.specs.Basic.{verdict_by};
 ghost use Rattle.pls_scheme.specs.Reading.{ReadPort, reading};
-ghost use Rattle.pls_pathmax.specs.declared.label.PathMaxLabel.{PathMaxLabel};
-ghost use Rattle.pls_pathmax.specs.Labels.{pathmax_shape};
+ghost use Rattle.pls_pathmax.specs.Labels.{PathMaxLabel, pathmax_shape};
 ghost use Rattle.pls_pathmax.specs.Rules.{pathmax_rules};
 ghost use Rattle.pls_pathmax.specs.inner.Reading.{head_said};
 ghost use Rattle.pls_pathmax.specs.inner.OnePass.{HaveFurtherWays, IsReadThrough, is_by_rule_5, is_settled, one_pass_rules};
 
-use crate::format::PathMaxFormat;
 use crate::gathering::WINDOW;
-use crate::label::PathMaxHead;
+use crate::levels::PathMaxFormat;
 use crate::pass::PathMaxPass;
-use crate::reading::read_head;
 use pls_base::{NoMemory, Steps};
 use pls_bits::{Bits, NumCode};
+use pls_levels::{LevelHead, read_head};
 use pls_model::Verdict;
 use pls_numbers::Numbers;
 use pls_scheme::{Basic, Checker, Judgement};
@@ -36,7 +34,7 @@ impl<C> Default for PathMaxRules<C> {
     fn default() -> Self {
         PathMaxRules {
             code: PhantomData,
-            format: PathMaxFormat,
+            format: PathMaxFormat::default(),
         }
     }
 }
@@ -125,7 +123,7 @@ fn count_of<C: NumCode>(bits: &Bits<'_>) -> u64
 }
 
 // What stands in front of the levels of a label.
-pub(crate) fn head_of<C: NumCode>(bits: &Bits<'_>) -> Option<PathMaxHead>
+pub(crate) fn head_of<C: NumCode>(bits: &Bits<'_>) -> Option<LevelHead>
     ensures { (label : PathMaxLabel) → said_by pathmax_shape C.takes bits.now ≡ Some label
         → result ≡ Some (head_said label) }
 {

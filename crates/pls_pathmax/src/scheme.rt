@@ -4,15 +4,14 @@ ghost use Rattle.std.specs.Prelude.{◌≡◌, IfOk};
 ghost use Rattle.pls_numbers.specs.Shape.{recoded};
 ghost use Rattle.pls_pathmax.specs.Labels.{pathmax_shape};
 
-use crate::format::PathMaxFormat;
 use crate::in_memory::verdict_of_node;
-use crate::label::{PathMaxHead, PathMaxLabel};
+use crate::levels::{PathMaxFormat, PathMaxLabel, PathMaxLevels};
 use crate::pathmax::{PathMaxRules, pass_from, verdict_by_passes};
-use crate::reading::head_in;
 use pls_base::{NoMemory, Steps};
 use pls_bits::{BitBuf, Bits, NumCode};
 use pls_facts::is_valid;
 use pls_graph::{Network, Size};
+use pls_levels::{LevelHead, head_in};
 use pls_model::Verdict;
 use pls_numbers::{Format, recode};
 use pls_scheme::{Checker, Marker, Property, Remembers, Scheme, labels_of};
@@ -46,7 +45,7 @@ impl<C: NumCode> PathMax<C> {
     ) -> Result<Option<BitBuf>, NoMemory>
         ensures { IfOk result (λ found. found ≡ recoded pathmax_shape C.takes D.code bits.now) }
     {
-        recode::<PathMaxFormat, C, D>(&PathMaxFormat, alloc, bits)
+        recode::<PathMaxFormat, C, D>(&PathMaxFormat::default(), alloc, bits)
     }
 }
 
@@ -114,12 +113,12 @@ impl<C: NumCode> Remembers for PathMax<C> {
     ghost use Rattle.pls_pathmax.specs.Labels.{pathmax_shape};
     ghost use Rattle.pls_pathmax.specs.inner.Reading.{head_said};
 
-    type Memory = Option<PathMaxHead>;
+    type Memory = Option<LevelHead>;
 
     ghost told = { λ _ bits. seen_in (said_by pathmax_shape C.takes) head_said bits };
 
-    fn remember(&self, _alloc: Global, bits: &Bits<'_>) -> Result<Option<PathMaxHead>, NoMemory> {
-        Ok(head_in::<C>(bits))
+    fn remember(&self, _alloc: Global, bits: &Bits<'_>) -> Result<Option<LevelHead>, NoMemory> {
+        Ok(head_in::<PathMaxLevels, C>(bits))
     }
 
     fn verdict_at(
@@ -127,7 +126,7 @@ impl<C: NumCode> Remembers for PathMax<C> {
         alloc: Global,
         net: &Network,
         labels: &LabelStore,
-        memories: &[Option<PathMaxHead>],
+        memories: &[Option<LevelHead>],
         i: usize,
     ) -> Result<Verdict, NoMemory> {
         let verdict = pass_from::<C>(0).verdict_at(alloc, net, labels, memories, i)?;
@@ -168,12 +167,12 @@ impl<C: NumCode> Scheme for PathMax<C> {
     ghost longest = { λ _ size. longest_pathmax C.code size };
 
     fn read_label(&self, alloc: Global, bits: Bits<'_>) -> Result<Option<PathMaxLabel>, NoMemory> {
-        PathMaxFormat.read::<C>(alloc, &bits)
+        PathMaxFormat::default().read::<C>(alloc, &bits)
     }
 
     fn write_label(&self, alloc: Global, label: &PathMaxLabel) -> Result<BitBuf, NoMemory> {
         let mut bits = BitBuf::new(alloc);
-        PathMaxFormat.append::<C>(&mut bits, label)?;
+        PathMaxFormat::default().append::<C>(&mut bits, label)?;
         Ok(bits)
     }
 
@@ -188,7 +187,7 @@ impl<C: NumCode> Scheme for PathMax<C> {
         let Some(said) = self.rules.right_labels(alloc, net)? else {
             return Ok(None);
         };
-        let labels = labels_of::<PathMaxFormat, C>(alloc, &PathMaxFormat, &said)?;
+        let labels = labels_of::<PathMaxFormat, C>(alloc, &PathMaxFormat::default(), &said)?;
         Ok(Some(labels))
     }
 

@@ -4,9 +4,10 @@ use Rattle.pls_scheme.specs.Reading.{Read}
 use Rattle.pls_mst.specs.declared.comparing.Between.{Between}
 use Rattle.pls_mst.specs.declared.comparing.Compared.{Compared}
 use Rattle.pls_mst.specs.declared.gathering.Gathered.{Gathered}
-use Rattle.pls_mst.specs.declared.label.MstHead.{MstHead}
-use Rattle.pls_mst.specs.declared.label.MstLabel.{MstLabel}
-use Rattle.pls_mst.specs.Rules.{agrees_on_root_and_levels, chosen_edges_are_least, follows_target, pointed_edge_is_chosen, shares_with_target}
+use Rattle.pls_levels.specs.declared.label.LevelHead.{LevelHead}
+use Rattle.pls_levels.specs.Rules.{follows_target}
+use Rattle.pls_mst.specs.Labels.{MstLabel}
+use Rattle.pls_mst.specs.Rules.{agrees_on_root_and_levels, chosen_edges_are_least, pointed_edge_is_chosen, shares_with_target}
 
 -- which rules on the ports hold
 abbrev pub mst_tally : Read MstLabel → Gathered
@@ -19,7 +20,7 @@ mst_tally view = record {
 }
 
 -- the edge to a neighbour, of which this is known, and whether it is outside the tree
-abbrev pub between : Bool → ℕ → MstHead → MstHead → Between
+abbrev pub between : Bool → ℕ → LevelHead → LevelHead → Between
 between pointer weight mine theirs = record {
   weight = weight;
   outside = if pointer || theirs.parent == mine.own then 0 else 1;
@@ -28,7 +29,7 @@ between pointer weight mine theirs = record {
 }
 
 -- what is gathered with one more port, which the pointer is or not
-abbrev pub mst_tally_with : Bool → MstHead → MstHead → Compared → Gathered → Gathered
+abbrev pub mst_tally_with : Bool → LevelHead → LevelHead → Compared → Gathered → Gathered
 mst_tally_with pointer own theirs both before = record {
   follows = if pointer then (own.depth == theirs.depth + 1 && own.parent == theirs.own)
       else before.follows;

@@ -5,7 +5,7 @@ use Rattle.pls_boruvka.specs.declared.level.Level.{Level}
 use Rattle.pls_mst.specs.declared.glance.MstGlance.{MstGlance}
 use Rattle.pls_mst.specs.declared.glance.TheConstants.{FRONT}
 use Rattle.pls_mst.specs.declared.kept_level.KeptLevel.{KeptLevel}
-use Rattle.pls_mst.specs.declared.label.MstLabel.{MstLabel}
+use Rattle.pls_mst.specs.Labels.{MstLabel}
 use Rattle.pls_mst.specs.inner.KeptLevel.{fits, kept_of, whole}
 use Rattle.pls_mst.specs.inner.Reading.{head_said}
 

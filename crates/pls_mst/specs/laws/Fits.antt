@@ -1,5 +1,5 @@
 -- Marked labels of `mst` can be written, and are short.
-use Rattle.std.proofs.Common.{◌≡◌, ℕ, zero, suc, ◌+◌, ◌-◌, ◌*◌, ◌^◌, ◌<◌, ◌≤◌, inl, inr, nat_lt, Bool, true, List, [], ◌∷◌, ◌++◌, length, map, Contains, refl, sym, ap, subst, arith, mul-le-mul_right}
+use Rattle.std.proofs.Common.{◌≡◌, ℕ, suc, ◌-◌, ◌*◌, ◌^◌, ◌<◌, ◌≤◌, inl, inr, nat_lt, Bool, true, List, [], ◌∷◌, ◌++◌, length, map, Contains, sym, subst, arith}
 use Rattle.std.specs.List.{filter, flat_map}
 use Rattle.std.proofs.Math.Pow.{pow_mono}
 use Rattle.std.proofs.lemmas.Bool.{cases_lt, ltb-true}
@@ -12,58 +12,24 @@ use Rattle.pls_model.specs.declared.row.Port.{Port}
 use Rattle.pls_model.specs.declared.row.NodeRow.{NodeRow}
 use Rattle.pls_model.specs.Configuration.{IsNetwork, ids_of}
 use Rattle.pls_model.specs.Walk.{Edge, edges_from, edges_of}
-use Rattle.pls_graph.specs.Size.{greatest, size_of, weights_of}
+use Rattle.pls_graph.specs.Size.{size_of, weights_of}
 use Rattle.pls_graph.specs.declared.size.Size.{Size}
-use Rattle.pls_graph.proofs.Members.{Contains-cons_cases, Contains-flat_map, Contains-from_filter, Contains-from_flat_map, Contains-from_map, Contains-map}
-use Rattle.pls_scheme.specs.Length.{code_length, codes_length}
+use Rattle.pls_graph.proofs.Members.{Contains-flat_map, Contains-from_filter, Contains-from_flat_map, Contains-from_map, Contains-map}
 use Rattle.pls_scheme.specs.Marked.{Fits}
 use Rattle.pls_base.specs.Steps.{capped}
 use Rattle.pls_scheme.specs.Theorem.{AreWords}
-use Rattle.pls_scheme.proofs.Fitting.{AreWithin, within_fits}
+use Rattle.pls_scheme.proofs.Fitting.{AreWithin}
+use Rattle.pls_facts.proofs.Greatest.{in_greatest}
 use Rattle.pls_facts.proofs.PortEdges.{IsGraph-network}
 use Rattle.pls_boruvka.specs.Boruvka.{AreBoruvkaLevelsFrom, chosen_edge, chosen_edges}
 use Rattle.pls_boruvka.specs.declared.level.Level.{Level}
-use Rattle.pls_mst.specs.declared.label.MstLabel.{MstLabel}
-use Rattle.pls_mst.specs.Labels.{AreOrdered, mst_shape, numbers_of_level, numbers_of_mst}
-use Rattle.pls_mst.specs.Mst.{front_limits, level_limits, longest_mst}
-
--- a number is at most the greatest of a list that contains it
-within_list : (numbers : List ℕ) (number : ℕ) → Contains numbers number
-    → number ≤ greatest numbers
-within_list [] number in' = absurd (omega (arith, in'.1))
-within_list (first ∷ numbers) number in' =
-    elim (Contains-cons_cases first numbers number in') [
-      | inl same ↦ omega (arith, same)
-      | inr later ↦ omega (arith, within_list numbers number later)
-    ]
+use Rattle.pls_levels.specs.laws.Fits.{limits_many, within_limits}
+use Rattle.pls_mst.specs.Labels.{AreOrdered, MstLabel, mst_levels, mst_shape, numbers_of_level}
+use Rattle.pls_mst.specs.Mst.{level_limits, longest_mst}
 
 -- the limits of the numbers of so many levels
 abbrev pub limits_of : Size → ℕ → List ℕ
-limits_of size zero = []
-limits_of size (suc count) = level_limits size ++ limits_of size count
-
--- a level has four numbers
-numbers_many : (levels : List Level)
-    → length (flat_map numbers_of_level levels) ≡ 4 * length levels
-numbers_many [] = refl
-numbers_many (level ∷ levels) =
-    let all = ap length (flat_map-cons numbers_of_level level levels) in
-    omega (arith, all, numbers_many levels)
-
--- the codes of the limits of so many levels are as long as those of one, so many times
-limits_long : (code : ℕ → List Bool) (size : Size) (count : ℕ)
-    → codes_length code [] (limits_of size count) ≡ count * codes_length code [] (level_limits size)
-limits_long code size zero =
-    let each : ℕ = codes_length code [] (level_limits size) in
-    let none : 0 ≡ 0 * each = omega arith in
-    none
-limits_long code size (suc count) =
-    let rest = limits_long code size count in
-    let id : ℕ = code_length code size.max_id in
-    let weight : ℕ = code_length code size.max_weight in
-    let each : ℕ = codes_length code [] (level_limits size) in
-    let more : suc count * each ≡ each + count * each = omega arith in
-    omega (arith, rest, more)
+limits_of size count = limits_many (level_limits size) count
 
 -- so many bits are as many as the logarithm says, or fewer
 below_log : (count nodes : ℕ) → nodes < 2 ^ 63 → 2 ^ count ≤ nodes → count ≤ floor_log nodes
@@ -94,7 +60,7 @@ module _ (rows : List NodeRow) (net : IsNetwork rows) (words : AreWords (size_of
       let found : Contains row.ports port × (nat_lt row.id port.nbr ≡ true) =
       Contains-from_filter (λ (port : Port). nat_lt row.id port.nbr) row.ports port kept in
       let ordered : row.id < port.nbr = ltb-true row.id port.nbr found.1 in
-      let light : port.weight ≤ size.max_weight = within_list (weights_of rows) port.weight
+      let light : port.weight ≤ size.max_weight = in_greatest (weights_of rows) port.weight
       (Contains-map (λ (port : Port). port.weight)
       (flat_map (λ (row : NodeRow). row.ports) rows) port
       (Contains-flat_map (λ (row : NodeRow). row.ports) rows row port row_in found.0)) in (
@@ -125,7 +91,7 @@ module _ (rows : List NodeRow) (net : IsNetwork rows) (words : AreWords (size_of
           let ends = (IsGraph-network rows net).ends edge among in
           let here = edge_within edge among in
           let ids : (id : ℕ) → Contains (ids_of rows) id → id ≤ size.max_id =
-          within_list (ids_of rows) in
+          in_greatest (ids_of rows) in
           let most : size.max_id ≤ 2 ^ 32 - 1 = words.max_id in
           let heavy : size.max_weight ≤ 2 ^ 32 - 1 = words.max_weight in
           let four : AreWithin (numbers_of_level (level u) ++ flat_map numbers_of_level (said levels))
@@ -150,58 +116,23 @@ module _ (rows : List NodeRow) (net : IsNetwork rows) (words : AreWords (size_of
   -- a label fits whose numbers are within their limits
   module _ (code : ℕ → List Bool) (grows : Grows code) (short : IsShort code) (label : MstLabel)
       (count : ℕ) (many : length label.levels ≡ count) (few : 2 ^ count ≤ length rows) where
-    count_within : count ≤ floor_log size.nodes
-    count_within = below_log count (length rows) (omega (arith, net.limits.few_nodes)) few
+    count_within : length label.levels ≤ floor_log size.nodes
+    count_within =
+        let all = below_log count (length rows) (omega (arith, net.limits.few_nodes)) few in
+        omega (arith, many, all)
 
-    count_small : count ≤ 15
-    count_small = elim (cases_lt 15 count) [
-      | inr fine ↦ fine
-      | inl more ↦
-          let powers : 2 ^ 16 ≤ 2 ^ count = pow_mono more in
-          absurd (omega (arith, powers, few, net.limits.few_nodes))
-    ]
-
-    abbrev limits : List ℕ
-    limits = front_limits size ++ limits_of size count
-
-    limits_short : codes_length code [] limits ≤ longest_mst code size
-    limits_short =
-        let id : ℕ = code_length code size.max_id in
-        let each : ℕ = codes_length code [] (level_limits size) in
-        let levels : count * each ≤ floor_log size.nodes * each =
-        mul-le-mul_right each count_within in
-        omega (arith, levels, limits_long code size count)
+    count_few : 2 ^ length label.levels ≤ 2 * length rows
+    count_few = subst (λ (count : ℕ). 2 ^ count ≤ 2 * length rows) (sym many)
+        (omega (arith, few))
 
     pub label_fits : label.root ≤ size.max_id → label.own ≤ size.max_id
         → label.parent ≤ size.max_id → label.depth ≤ size.nodes
         → AreWithin (flat_map numbers_of_level label.levels) (limits_of size count)
         → AreOrdered label.levels
         → Fits mst_shape code (capped (longest_mst code size)) label
-    label_fits root own parent depth levels ordered = record {
-      writable = fits.writable;
-      short = omega (arith, fits.short, limits_short);
-    }
-      where
-        within : AreWithin (numbers_of_mst label) limits
-        within =
-            let most : size.max_id ≤ 2 ^ 32 - 1 = words.max_id in
-            let nodes : size.nodes ≤ 32768 = net.limits.few_nodes in
-            let log : floor_log size.nodes ≤ 62 = floor_log-bound size.nodes in
-            let counted : length label.levels ≤ floor_log size.nodes =
-            omega (arith, many, count_within) in (
-              root,
-              omega (arith, most),
-              (
-                own,
-                omega (arith, most),
-                (
-                  parent,
-                  omega (arith, most),
-                  (depth, omega (arith, nodes), (counted, omega (arith, log), levels)),
-                ),
-              ),
-            )
-
-        fits : Fits mst_shape code (capped (codes_length code [] limits)) label
-        fits = within_fits code grows short mst_shape label limits refl ordered
-            (omega (arith, numbers_many label.levels, many, count_small)) within
+    label_fits root own parent depth levels ordered =
+        within_limits mst_levels rows net words code grows short (level_limits size)
+        (floor_log size.nodes) (omega (arith, floor_log-bound size.nodes)) (λ level. omega arith)
+        label count_within count_few root own parent depth
+        (subst (λ (count : ℕ). AreWithin (flat_map numbers_of_level label.levels)
+        (limits_of size count)) (sym many) levels) ordered

@@ -1,5 +1,5 @@
 -- What the rules of `mst` say, level by level, of labels that a function of the identity gives.
-use Rattle.std.proofs.Common.{◌≡◌, ◌≢◌, ℕ, ◌+◌, ◌<◌, ◌⊎◌, length, get_or, slice_get, Contains, Some, None}
+use Rattle.std.proofs.Common.{◌≡◌, ◌≢◌, ℕ, ◌<◌, ◌⊎◌, length, get_or, slice_get, Contains, Some}
 use Rattle.pls_model.specs.declared.row.Port.{Port}
 use Rattle.pls_model.specs.declared.row.NodeRow.{NodeRow}
 use Rattle.pls_model.specs.Walk.{Edge}
@@ -9,7 +9,8 @@ use Rattle.pls_facts.specs.Pointer.{pointed_port}
 use Rattle.pls_facts.specs.Precedes.{IsAtMost}
 use Rattle.pls_boruvka.specs.Boruvka.{chosen_edge}
 use Rattle.pls_boruvka.specs.declared.level.Level.{Level}
-use Rattle.pls_mst.specs.declared.label.MstLabel.{MstLabel}
+use Rattle.pls_levels.specs.laws.Placed.{IsPlaced}
+use Rattle.pls_mst.specs.Labels.{MstLabel}
 use Rattle.pls_mst.specs.Rules.{edge_to, outside_tree}
 
 -- a level where there is none
@@ -40,14 +41,8 @@ module _ (say : ℕ → MstLabel) where
 
 -- what the rules of a node say
 pub record KeepsRules (say : ℕ → MstLabel) (row : NodeRow) : Type 0 where
-  -- it says its identity; without pointer it says that it is the root, at depth 0; else that it is
-  -- one deeper than the node that it points at, which is its parent
-  pub own : (say row.id).own ≡ row.id
-  pub top : row.state.up ≡ None → ((say row.id).depth ≡ 0) × ((say row.id).root ≡ row.id)
-      × ((say row.id).parent ≡ (say row.id).own)
-  pub below : (port : Port) → pointed_port row ≡ Some port
-      → ((say row.id).depth ≡ (say port.nbr).depth + 1)
-      × ((say row.id).parent ≡ (say port.nbr).own)
+  -- its label places it in the tree
+  pub placed : IsPlaced say row
   -- its neighbours say the same root and as many levels
   pub alike : (port : Port) → Contains row.ports port
       → ((say port.nbr).root ≡ (say row.id).root)

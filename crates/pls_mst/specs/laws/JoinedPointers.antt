@@ -19,7 +19,7 @@ use Rattle.pls_facts.proofs.Pointed.{id_of_row, row_of_id}
 use Rattle.pls_facts.proofs.PointedEdges.{Joins-edge_at, ends_of_pair}
 use Rattle.pls_facts.proofs.Tops.{top, top-depth, top-joined, top-none}
 use Rattle.pls_boruvka.specs.Fragments.{AreFragments}
-use Rattle.pls_mst.specs.laws.TreeEdges.{pointed_has}
+use Rattle.pls_levels.specs.laws.InTree.{pointed_has}
 
 -- the node, where something is decided to hold
 abbrev only : {P : Type 0} → P ⊎ (P → ⊥) → ℕ → Option ℕ

@@ -1,6 +1,6 @@
 -- The rules of `mst` as tests, and what they say level by level.
-use Rattle.std.proofs.Common.{◌≡◌, ◌∙◌, ℕ, ◌+◌, ◌<◌, ◌==◌, ◌⊎◌, inl, inr, Bool, true, not, ◌&&◌, ◌||◌, List, length, map, slice_get, Contains, Option, Some, None, is_some, refl, sym, ap}
-use Rattle.std.specs.Option.{option_and_then, option_map, option_map_or}
+use Rattle.std.proofs.Common.{◌≡◌, ◌∙◌, ℕ, ◌<◌, ◌==◌, ◌⊎◌, inl, inr, true, not, ◌||◌, List, length, map, slice_get, Contains, Option, Some, None, is_some, refl, sym, ap}
+use Rattle.std.specs.Option.{option_and_then, option_map}
 use Rattle.std.proofs.lemmas.Bool.{and_parts, cond-false, cond-true, eq-eqb, eqb-true, eqb-false, ne_eqb, not-true, or_cases}
 use Rattle.std.proofs.lemmas.List.Sums.{AllPass-from_list_all}
 use Rattle.std.proofs.lemmas.Option.{slice_get-map}
@@ -9,65 +9,29 @@ use Rattle.pls_model.specs.declared.row.NodeRow.{NodeRow}
 use Rattle.pls_model.specs.Configuration.{IsNetwork}
 use Rattle.pls_graph.proofs.Members.{Contains-from_place, place_from_Contains}
 use Rattle.pls_scheme.specs.Judging.{AllHold}
-use Rattle.pls_scheme.specs.Reading.{ReadPort, port_where, read_where, target}
+use Rattle.pls_scheme.specs.Reading.{ReadPort, port_where, read_where}
 use Rattle.pls_scheme.proofs.SaidPorts.{passes_port}
 use Rattle.pls_facts.specs.EdgeOrder.{edge_key, is_same_edge}
 use Rattle.pls_facts.specs.Pointer.{pointed_node, pointed_port}
 use Rattle.pls_facts.proofs.EdgeKeys.{same-is_same_edge}
 use Rattle.pls_facts.proofs.Pointed.{pointed_port_of}
 use Rattle.pls_boruvka.specs.declared.level.Level.{Level}
-use Rattle.pls_mst.specs.declared.label.MstLabel.{MstLabel}
-use Rattle.pls_mst.specs.Rules.{names_root_and_levels, chose_least, chose_least_at, edge_to, follows_target, is_at_most, is_chosen_between, is_named_or_shared, is_one_fragment, is_root_of_tree, mst_rules, names_all_fragments, on_each_level, on_some_level, shares_with_target}
+use Rattle.pls_levels.specs.laws.Levelwise.{passes_from_0}
+use Rattle.pls_levels.specs.laws.Placed.{asked_of_target, placed_by_test, without_pointer}
+use Rattle.pls_mst.specs.Labels.{MstLabel}
+use Rattle.pls_mst.specs.Rules.{names_root_and_levels, chose_least, chose_least_at, edge_to, is_at_most, is_chosen_between, is_named_or_shared, is_one_fragment, mst_rules, names_all_fragments, on_each_level, on_some_level, shares_with_target}
 use Rattle.pls_mst.specs.laws.Fragments.{KeepsRules, chosen_at, fragment_at, level_at, no_level, told_edge, told_outside}
-use Rattle.pls_mst.specs.laws.Levelwise.{IsAtMost-test, passes_at, passes_from_0, some_place}
+use Rattle.pls_mst.specs.laws.Levelwise.{IsAtMost-test, passes_at, passes_somewhere}
 
 module _ (say : ℕ → MstLabel) (row : NodeRow) where
   abbrev mine : MstLabel
   mine = say row.id
 
-  -- what is read at the port that the node points at
-  pub target_is : target (read_where say row) ≡ option_map (port_where say) (pointed_port row)
-  target_is = by row.state.up
-    where
-      by : (up : Option ℕ) → option_and_then (slice_get (map (port_where say) row.ports)) up
-          ≡ option_map (port_where say) (option_and_then (slice_get row.ports) up)
-      by None = refl
-      by (Some number) = slice_get-map (port_where say) row.ports number
-
-  -- what is asked of the port that it points at holds there
-  asked_of_target : (test : ReadPort MstLabel → Bool)
-      → option_map_or test (target (read_where say row)) true ≡ true → (port : Port)
-      → pointed_port row ≡ Some port → test (port_where say port) ≡ true
-  asked_of_target test holds port pointed =
-      sym (ap (λ (read : Option (ReadPort MstLabel)). option_map_or test read true)
-      (target_is ∙ ap (option_map (port_where say)) pointed)) ∙ holds
-
-  -- where the node has no pointer, what else is asked of it holds
-  without_pointer : (test : Bool) → (is_some row.state.up || test) ≡ true → row.state.up ≡ None
-      → test ≡ true
-  without_pointer test holds none = rw none at holds
-
   -- the tests give what the rules say
   pub kept_rules : (rows : List NodeRow) → IsNetwork rows → Contains rows row
       → AllHold (mst_rules (read_where say row)) → KeepsRules say row
   kept_rules rows net in' hold = record {
-    own = eqb-true mine.own row.id placed.0;
-    top = λ none.
-        let root = and_parts (mine.depth == 0) (mine.root == row.id && mine.parent == mine.own)
-        (without_pointer (is_root_of_tree (read_where say row)) placed.1 none) in
-        let names = and_parts (mine.root == row.id) (mine.parent == mine.own) root.1 in (
-          eqb-true mine.depth 0 root.0,
-          eqb-true mine.root row.id names.0,
-          eqb-true mine.parent mine.own names.1,
-        );
-    below = λ port pointed.
-        let follows = and_parts (mine.depth == (say port.nbr).depth + 1)
-        (mine.parent == (say port.nbr).own) (asked_of_target (λ (port : ReadPort MstLabel).
-        mine.depth == port.label.depth + 1 && mine.parent == port.label.own) placed.2 port pointed)
-        in (
-          eqb-true mine.depth ((say port.nbr).depth + 1) follows.0,
-          eqb-true mine.parent (say port.nbr).own follows.1,
-        );
+    placed = placed_by_test say row hold.0;
     alike = alike;
     named = λ level within. by_pointer level within row.state.up refl;
     agrees = λ level port within has same.
@@ -93,9 +57,9 @@ module _ (say : ℕ → MstLabel) (row : NodeRow) where
         let (level, within, passes) : (level : ℕ) × (level < length mine.levels)
         × (is_chosen_between (told_edge say row port) (level_at say level row.id)
         (level_at say level port.nbr) ≡ true) =
-        some_place (is_chosen_between (told_edge say row port)) mine.levels
+        passes_somewhere (is_chosen_between (told_edge say row port)) mine.levels
         (say port.nbr).levels no_level no_level
-        (asked_of_target (λ (port : ReadPort MstLabel). on_some_level
+        (asked_of_target say row (λ (port : ReadPort MstLabel). on_some_level
         (is_chosen_between (edge_to mine port)) mine.levels port.label.levels) hold.1.1.1.1.0 port
         pointed) in
         let parts = and_parts
@@ -117,18 +81,6 @@ module _ (say : ℕ → MstLabel) (row : NodeRow) where
         );
   }
     where
-      -- rule 3, in its parts
-      placed : (mine.own == row.id ≡ true)
-          × ((is_some row.state.up || is_root_of_tree (read_where say row)) ≡ true)
-          × (follows_target (read_where say row) ≡ true)
-      placed =
-          let names = and_parts (mine.own == row.id)
-          ((is_some row.state.up || is_root_of_tree (read_where say row))
-          && follows_target (read_where say row)) hold.0 in
-          let stands = and_parts (is_some row.state.up || is_root_of_tree (read_where say row))
-          (follows_target (read_where say row)) names.1 in
-          (names.0, stands.0, stands.1)
-
       alike : (port : Port) → Contains row.ports port → ((say port.nbr).root ≡ mine.root)
           × (length (say port.nbr).levels ≡ length mine.levels)
       alike port has =
@@ -145,7 +97,7 @@ module _ (say : ℕ → MstLabel) (row : NodeRow) where
           × (pointed_port row ≡ Some port)
           × (fragment_at say level row.id ≡ fragment_at say level port.nbr))
       by_pointer level within None none =
-          let names : names_all_fragments mine ≡ true = without_pointer (names_all_fragments mine)
+          let names : names_all_fragments mine ≡ true = without_pointer say row (names_all_fragments mine)
           (and_parts (is_some row.state.up || names_all_fragments mine)
           (shares_with_target (read_where say row)) hold.1.1.0).0 none in
           inl (eqb-true (fragment_at say level row.id) mine.own
@@ -157,7 +109,7 @@ module _ (say : ℕ → MstLabel) (row : NodeRow) where
           let pointed : pointed_port row ≡ Some port =
           ap (option_and_then (slice_get row.ports)) up ∙ has in
           let passes = passes_at (is_named_or_shared mine.own) mine.levels (say port.nbr).levels
-          (asked_of_target (λ (port : ReadPort MstLabel). on_each_level
+          (asked_of_target say row (λ (port : ReadPort MstLabel). on_each_level
           (is_named_or_shared mine.own) mine.levels port.label.levels)
           (and_parts (is_some row.state.up || names_all_fragments mine)
           (shares_with_target (read_where say row)) hold.1.1.0).1 port pointed)

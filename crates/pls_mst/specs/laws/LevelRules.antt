@@ -1,6 +1,6 @@
 -- Where the pointers are a spanning tree of least weight, nodes that say Borůvka's levels keep the
 -- rules of `mst`.
-use Rattle.std.proofs.Common.{◌≡◌, ◌≢◌, ◌∙◌, ℕ, ◌+◌, ◌<◌, ◌==◌, ◌⊎◌, inl, inr, Bool, List, [], length, get_or, Option, Some, None, option_and_then, option_map, refl, sym, ap, subst, arith, slice_get, map, Contains}
+use Rattle.std.proofs.Common.{◌≡◌, ◌≢◌, ◌∙◌, ℕ, ◌<◌, ◌==◌, ◌⊎◌, inl, inr, Bool, List, [], length, get_or, Some, refl, sym, ap, subst, arith, slice_get, map, Contains}
 use Rattle.std.proofs.lemmas.Bool.{eq-eqb, ne_eqb, true≢false}
 use Rattle.std.proofs.lemmas.List.{get_or-map, length-map}
 use Rattle.pls_model.specs.declared.row.Port.{Port}
@@ -16,40 +16,29 @@ use Rattle.pls_facts.specs.EdgeOrder.{ComesBefore, edge_key}
 use Rattle.pls_facts.proofs.Decided.{cases_Edge}
 use Rattle.pls_facts.proofs.EdgeKeys.{key_by_before}
 use Rattle.pls_facts.proofs.Neighbours.{neighbour_row}
-use Rattle.pls_facts.proofs.Pointed.{id_of_row, pointed_node-row, row_from_id}
+use Rattle.pls_facts.proofs.Pointed.{id_of_row, row_from_id}
 use Rattle.pls_facts.proofs.PointedEdges.{Joins-edge_at, edge_at_listed}
 use Rattle.pls_facts.proofs.PortEdges.{IsAtPort}
 use Rattle.pls_boruvka.specs.Boruvka.{AreBoruvkaLevels, chosen_edge}
 use Rattle.pls_boruvka.specs.declared.level.Level.{Level}
-use Rattle.pls_mst.specs.declared.label.MstLabel.{MstLabel}
+use Rattle.pls_levels.specs.laws.InTree.{pointed_has, pointed_in}
+use Rattle.pls_levels.specs.laws.Placed.{IsPlaced, named}
+use Rattle.pls_mst.specs.Labels.{MstLabel}
 use Rattle.pls_mst.specs.laws.ChosenLevels.{IsChosenOn, IsStage, blank, chosen_by_end, chosen_in, one_chosen, somewhere, stage}
 use Rattle.pls_mst.specs.laws.Fragments.{KeepsRules, chosen_at, fragment_at, level_at, no_level, told_edge, told_outside}
 use Rattle.pls_mst.specs.laws.JoinedPointers.{points_inside}
 use Rattle.pls_mst.specs.laws.Sound.{Leaves-joins}
-use Rattle.pls_mst.specs.laws.TreeEdges.{pointed_has, pointed_in, tells_in, tells_out}
-
--- what nodes say by these levels: the one root, themselves, the node that each points at (the root
--- itself), how deep they are, and their levels
-pub record AreSaid (rows : List NodeRow) (say : ℕ → MstLabel) (first : ℕ) (deep : ℕ → ℕ)
-    (many : List (ℕ → Level)) : Type 0 where
-  pub root : (row : NodeRow) → Contains rows row → (say row.id).root ≡ first
-  pub own : (row : NodeRow) → Contains rows row → (say row.id).own ≡ row.id
-  pub parent : (row : NodeRow) (port : Port) → Contains rows row
-      → pointed_port row ≡ Some port → (say row.id).parent ≡ port.nbr
-  pub parent_of_root : (row : NodeRow) → Contains rows row → pointed_port row ≡ None
-      → (say row.id).parent ≡ row.id
-  pub depth : (row : NodeRow) → Contains rows row → (say row.id).depth ≡ deep row.id
-  pub levels : (row : NodeRow) → Contains rows row
-      → (say row.id).levels ≡ map (λ level. level row.id) many
+use Rattle.pls_mst.specs.laws.TreeEdges.{tells_in, tells_out}
 
 module _ (rows : List NodeRow) (net : IsNetwork rows) (is_tree : IsTree rows)
     (lightest : IsLightest (edges_of rows) (pointed_edges rows) (ids_of rows)) (depth : ℕ → ℕ)
-    (falls : Falls rows depth)
-    (at_root : (row : NodeRow) → Contains rows row → row.state.up ≡ None → depth row.id ≡ 0)
-    (first : ℕ)
-    (root_named : (row : NodeRow) → Contains rows row → row.state.up ≡ None → first ≡ row.id)
-    (levels : List (ℕ → Level)) (are : AreBoruvkaLevels rows depth levels)
-    (say : ℕ → MstLabel) (said : AreSaid rows say first depth levels) where
+    (falls : Falls rows depth) (levels : List (ℕ → Level))
+    (are : AreBoruvkaLevels rows depth levels) (say : ℕ → MstLabel)
+    (placed : (row : NodeRow) → Contains rows row → IsPlaced say row)
+    (one_root : (row : NodeRow) (port : Port) → Contains rows row → Contains row.ports port
+    → (say port.nbr).root ≡ (say row.id).root)
+    (levels_said : (row : NodeRow) → Contains rows row
+    → (say row.id).levels ≡ map (λ level. level row.id) levels) where
   abbrev tree : List Edge
   tree = pointed_edges rows
 
@@ -63,7 +52,7 @@ module _ (rows : List NodeRow) (net : IsNetwork rows) (is_tree : IsTree rows)
   -- ---- what labels say of the levels and of the neighbours
 
   many : (row : NodeRow) → Contains rows row → length (say row.id).levels ≡ length levels
-  many row in' = ap (λ (list : List Level). length list) (said.levels row in')
+  many row in' = ap (λ (list : List Level). length list) (levels_said row in')
       ∙ length-map levels (λ (level : ℕ → Level). level row.id)
 
   says : (i u : ℕ) → Known u → i < length levels → level_at say i u ≡ at i u
@@ -71,7 +60,7 @@ module _ (rows : List NodeRow) (net : IsNetwork rows) (is_tree : IsTree rows)
       let (row, row_in, named) : (row : NodeRow) × Contains rows row × (row.id ≡ u) =
       row_from_id rows u in' in
       subst (λ (u : ℕ). level_at say i u ≡ at i u) named
-      (ap (λ (list : List Level). get_or list i no_level) (said.levels row row_in)
+      (ap (λ (list : List Level). get_or list i no_level) (levels_said row row_in)
       ∙ get_or-map (λ (level : ℕ → Level). level row.id) levels i blank no_level within)
 
   names : (i u : ℕ) → Known u → i < length levels → fragment_at say i u ≡ (at i u).fragment
@@ -90,16 +79,11 @@ module _ (rows : List NodeRow) (net : IsNetwork rows) (is_tree : IsTree rows)
 
   own_there : (row : NodeRow) (port : Port) → Contains rows row → Contains row.ports port
       → (say port.nbr).own ≡ port.nbr
-  own_there = at_port (λ id. (say id).own ≡ id) said.own
-
-  parent_is : (row : NodeRow) (port : Port) → Contains rows row → pointed_port row ≡ Some port
-      → (say row.id).parent ≡ (say port.nbr).own
-  parent_is row port in' pointed = said.parent row port in' pointed
-      ∙ sym (own_there row port in' (pointed_has row port pointed))
+  own_there = at_port (λ id. (say id).own ≡ id) (named rows net say placed)
 
   told_is : (row : NodeRow) (port : Port) → Contains rows row → Contains row.ports port
       → told_edge say row port ≡ edge_at row port
-  told_is row port in' has = rw (said.own row in', own_there row port in' has) refl
+  told_is row port in' has = rw ((placed row in').own, own_there row port in' has) refl
 
   -- ---- a level at a node
 
@@ -137,7 +121,7 @@ module _ (rows : List NodeRow) (net : IsNetwork rows) (is_tree : IsTree rows)
         × (pointed_port row ≡ Some port) × (fragment_at say i row.id ≡ fragment_at say i port.nbr))
     keeps_named = elim (points_inside rows net depth falls stage_of.joined stage_of.below
         (λ u. (at i u).fragment) stage_of.is.fragments row in') [
-          | inl own ↦ inl (names i row.id here within ∙ own ∙ sym (said.own row in'))
+          | inl own ↦ inl (names i row.id here within ∙ own ∙ sym (placed row in').own)
           | inr (port, pointed, same) ↦
               inr (port, pointed, said_fragment port (pointed_has row port pointed) same)
         ]
@@ -195,9 +179,8 @@ module _ (rows : List NodeRow) (net : IsNetwork rows) (is_tree : IsTree rows)
         let least : IsAtMost (edge_key (chosen_edge (at i row.id)) 0) (edge_key edge outside) =
         key_by_before tree (chosen_edge (at i row.id)) edge outside
         (chosen_in rows net is_tree lightest depth stage_of.joined (at i) stage_of.is row.id here)
-        (tells_in rows net say parent_is edge row.id port.nbr way)
-        (tells_out rows net say parent_is said.own said.parent_of_root place number row port stands
-        at_number)
+        (tells_in rows net say placed edge row.id port.nbr way)
+        (tells_out rows net say placed place number row port stands at_number)
         (comes_behind port has apart) in
         subst (λ (told : Edge). IsAtMost (edge_key (chosen_at say i row.id) 0)
         (edge_key told outside)) (sym (told_is row port in' has))
@@ -245,30 +228,12 @@ module _ (rows : List NodeRow) (net : IsNetwork rows) (is_tree : IsTree rows)
             ],
           )
 
-  keeps_below : (row : NodeRow) → Contains rows row → (port : Port)
-      → pointed_port row ≡ Some port → (say row.id).depth ≡ (say port.nbr).depth + 1
-  keeps_below row in' port pointed =
-      let below : (say port.nbr).depth ≡ depth port.nbr =
-      at_port (λ id. (say id).depth ≡ depth id) said.depth row port in'
-      (pointed_has row port pointed) in
-      let down : depth row.id ≡ depth port.nbr + 1 = falls row.id port.nbr
-      (pointed_node-row rows net row in' ∙ ap (option_map (λ (port : Port). port.nbr)) pointed) in
-      omega (arith, said.depth row in', below, down)
-
   -- the rules are kept
   pub KeepsRules-levels : (row : NodeRow) → Contains rows row → KeepsRules say row
   KeepsRules-levels row in' = record {
-    own = said.own row in';
-    top = λ none. (
-      said.depth row in' ∙ at_root row in' none,
-      said.root row in' ∙ root_named row in' none,
-      said.parent_of_root row in'
-          (ap (λ (up : Option ℕ). option_and_then (slice_get row.ports) up) none)
-          ∙ sym (said.own row in'),
-    );
-    below = λ port pointed. (keeps_below row in' port pointed, parent_is row port in' pointed);
+    placed = placed row in';
     alike = λ port has. (
-      at_port (λ id. (say id).root ≡ first) said.root row port in' has ∙ sym (said.root row in'),
+      one_root row port in' has,
       at_port (λ id. length (say id).levels ≡ length levels) many row port in' has
           ∙ sym (many row in'),
     );

@@ -1,10 +1,9 @@
 -- The theorem of the scheme `mst`.
-use Rattle.std.proofs.Common.{◌≡◌, ◌∙◌, ℕ, ◌^◌, ◌≤◌, Bool, List, [], map, length, slice_get, option_map, Contains, Option, Some, None, refl, sym, ap, subst, arith}
+use Rattle.std.proofs.Common.{◌≡◌, ◌∙◌, ℕ, ◌^◌, ◌≤◌, Bool, List, [], map, length, slice_get, option_map, Contains, Some, None, refl, sym, ap, subst, arith}
 use Rattle.std.specs.List.{flat_map}
 use Rattle.std.proofs.lemmas.List.{length-map}
 use Rattle.std.proofs.lemmas.Option.{same_Some, slice_get-map}
 use Rattle.pls_bits.specs.NumberCode.{Grows, IsShort}
-use Rattle.pls_model.specs.declared.row.Port.{Port}
 use Rattle.pls_model.specs.declared.row.NodeRow.{NodeRow}
 use Rattle.pls_model.specs.Configuration.{IsNetwork, ids_of}
 use Rattle.pls_model.specs.Walk.{Edge, edges_of}
@@ -14,30 +13,25 @@ use Rattle.pls_scheme.specs.Theorem.{OneIsRight, RightFits, RulesAreMet, RulesSh
 use Rattle.pls_scheme.proofs.Fitting.{AreWithin}
 use Rattle.pls_facts.specs.EdgeOrder.{ComesBefore}
 use Rattle.pls_facts.specs.MinimumSpanningTree.{IsMinimumSpanningTree}
-use Rattle.pls_facts.specs.Pointer.{Falls, IsChainOf, pointed_port}
 use Rattle.pls_facts.specs.SpanningTree.{pointed_edges}
-use Rattle.pls_facts.proofs.Bounded.{IsChainOf-short}
-use Rattle.pls_facts.proofs.ChainDepths.{chain_of_root, chains_fall}
-use Rattle.pls_facts.proofs.Chains.{IsChainOf-one}
-use Rattle.pls_facts.proofs.Neighbours.{id_within, neighbour_row}
+use Rattle.pls_facts.proofs.ChainDepths.{chains_fall}
 use Rattle.pls_facts.proofs.Pointed.{id_of_row}
 use Rattle.pls_facts.proofs.PortEdges.{IsGraph-network}
-use Rattle.pls_facts.proofs.Roots.{a_root, one_root_of}
 use Rattle.pls_boruvka.specs.Boruvka.{AreChainLengths, AreLevelLists, AreBoruvkaLevels}
 use Rattle.pls_boruvka.specs.declared.level.Level.{Level}
 use Rattle.pls_boruvka.proofs.Halving.{few_levels}
 use Rattle.pls_boruvka.proofs.OneAnswer.{one_answer}
-use Rattle.pls_mst.specs.declared.label.MstLabel.{MstLabel}
+use Rattle.pls_levels.specs.Making.{IsRightHead}
+use Rattle.pls_levels.specs.laws.RightHeads.{head_within, one_label, one_root, placed_right, root_of}
 use Rattle.pls_mst.specs.Labels.{AreOrdered, mst_shape, numbers_of_level}
 use Rattle.pls_mst.specs.Mst.{AreLevelsOf, MstSays, longest_mst}
 use Rattle.pls_mst.specs.Rules.{mst_rules}
 use Rattle.pls_mst.specs.laws.Fits.{label_fits, levels_within, limits_of}
 use Rattle.pls_mst.specs.laws.Fragments.{KeepsRules}
 use Rattle.pls_mst.specs.laws.Kept.{kept_rules}
-use Rattle.pls_mst.specs.laws.LevelRules.{AreSaid, KeepsRules-levels}
+use Rattle.pls_mst.specs.laws.LevelRules.{KeepsRules-levels}
 use Rattle.pls_mst.specs.laws.Passed.{rules_pass}
 use Rattle.pls_mst.specs.laws.Sound.{no_tree_is_lighter, pointers_make_a_tree}
-use Rattle.pls_mst.specs.laws.TreeEdges.{pointed_has}
 
 -- where the rules hold everywhere in a connected network, the pointers make a spanning tree, and
 -- none weighs less
@@ -80,87 +74,27 @@ module _ (rows : List NodeRow) (net : IsNetwork rows) where
 -- where what is said is right, the rules hold
 pub mst_met : RulesAreMet mst_rules IsMinimumSpanningTree MstSays
 mst_met rows net joined holds say right row in' =
-    rules_pass say row (KeepsRules-levels rows net holds.tree holds.lightest depth falls at_root
-    root.0.id root_named levels are say said row in')
+    rules_pass say row (KeepsRules-levels rows net holds.tree holds.lightest some.depth
+    (chains_fall rows net some.depth some.deep) some.levels some.are say
+    (placed_right rows net holds.tree say heads) (one_root rows net holds.tree say heads)
+    (λ row in'. same_levels rows net row in' (say row.id).levels (right row in').levels some.depth
+    some.levels some.deep some.are) row in')
   where
+    heads : (row : NodeRow) → Contains rows row → IsRightHead rows row (say row.id)
+    heads row in' = (right row in').head
+
     root : (row : NodeRow) × Contains rows row × (row.state.up ≡ None)
-    root = a_root rows holds.tree.one_root
+    root = root_of rows holds.tree
 
     some : AreLevelsOf rows root.0.id (say root.0.id).levels
     some = (right root.0 root.1).levels
 
-    depth : ℕ → ℕ
-    depth = some.depth
-
-    levels : List (ℕ → Level)
-    levels = some.levels
-
-    are : AreBoruvkaLevels rows depth levels
-    are = some.are
-
-    falls : Falls rows depth
-    falls = chains_fall rows net depth some.deep
-
-    at_root : (row : NodeRow) → Contains rows row → row.state.up ≡ None → depth row.id ≡ 0
-    at_root row in' none = chain_of_root rows net row in' none (some.deep row in').0 (depth row.id)
-        (some.deep row in').1
-
-    root_named : (row : NodeRow) → Contains rows row → row.state.up ≡ None → root.0.id ≡ row.id
-    root_named row in' none = ap (λ (row : NodeRow). row.id)
-        (one_root_of rows holds.tree.one_root root.0 row root.1 in' root.2 none)
-
-    said : AreSaid rows say root.0.id depth levels
-    said = record {
-      root = λ row in'. ((right row in').root root.0 root.1 root.2).0;
-      own = λ row in'. (right row in').own;
-      parent = λ row port in'. (right row in').parent port;
-      parent_of_root = λ row in'. (right row in').own_parent;
-      depth = λ row in'.
-          (IsChainOf-one rows row.id root.0.id (some.deep row in').0 (say row.id).depth
-          (depth row.id) ((right row in').root root.0 root.1 root.2).1 (some.deep row in').1).1;
-      levels = λ row in'. same_levels rows net row in' (say row.id).levels (right row in').levels
-          depth levels some.deep are;
-    }
-
 -- one label is right for a node
 pub mst_one_right : OneIsRight IsMinimumSpanningTree MstSays
 mst_one_right rows net joined holds row one other in' mine theirs =
-    same_label (mine.own ∙ sym theirs.own)
-    (here.0 ∙ sym there.0) (parents (pointed_port row) refl)
-    (IsChainOf-one rows row.id root.0.id root.0.id one.depth other.depth here.1 there.1).1
+    one_label rows net holds.tree row in' one mine.head other theirs.head
     (same_levels rows net row in' one.levels mine.levels theirs.levels.depth theirs.levels.levels
     theirs.levels.deep theirs.levels.are ∙ sym theirs.levels.said)
-  where
-    root : (row : NodeRow) × Contains rows row × (row.state.up ≡ None)
-    root = a_root rows holds.tree.one_root
-
-    here : (one.root ≡ root.0.id) × IsChainOf rows row.id root.0.id one.depth
-    here = mine.root root.0 root.1 root.2
-
-    there : (other.root ≡ root.0.id) × IsChainOf rows row.id root.0.id other.depth
-    there = theirs.root root.0 root.1 root.2
-
-    parents : (pointed : Option Port) → pointed_port row ≡ pointed → one.parent ≡ other.parent
-    parents None is = mine.own_parent is ∙ sym (theirs.own_parent is)
-    parents (Some port) is = mine.parent port is ∙ sym (theirs.parent port is)
-
-    same_label : one.own ≡ other.own → one.root ≡ other.root → one.parent ≡ other.parent
-        → one.depth ≡ other.depth → one.levels ≡ other.levels → one ≡ other
-    same_label own root parent depth levels =
-        ap (λ (own : ℕ). label_of one.root own one.parent one.depth one.levels) own
-        ∙ ap (λ (root : ℕ). label_of root other.own one.parent one.depth one.levels) root
-        ∙ ap (λ (parent : ℕ). label_of other.root other.own parent one.depth one.levels) parent
-        ∙ ap (λ (depth : ℕ). label_of other.root other.own other.parent depth one.levels) depth
-        ∙ ap (label_of other.root other.own other.parent other.depth) levels
-      where
-        label_of : ℕ → ℕ → ℕ → ℕ → List Level → MstLabel
-        label_of root own parent depth levels = record {
-          root = root;
-          own = own;
-          parent = parent;
-          depth = depth;
-          levels = levels;
-        }
 
 -- what is right can be written, and is short
 pub mst_fits : (code : ℕ → List Bool) → Grows code → IsShort code
@@ -171,13 +105,11 @@ mst_fits code grows short rows net joined holds words say right row in' =
     × AreOrdered (map (λ level. level row.id) levels) =
     levels_within rows net words (ComesBefore tree) is.levels.depth row.id known [] levels
     is.levels.are in
+    let head = head_within rows net holds.tree row in' (say row.id) is.head in
     label_fits rows net words code grows short (say row.id) (length levels)
     (ap length is.levels.said ∙ length-map levels (λ (level : ℕ → Level). level row.id))
     (omega (arith, few, length-map rows (λ (row : NodeRow). row.id)))
-    (omega (arith, here.0, id_within rows root.0 root.1))
-    (omega (arith, is.own, id_within rows row in')) (parent_within (pointed_port row) refl)
-    (let below = IsChainOf-short rows net row.id root.0.id (say row.id).depth here.1 in
-    omega (arith, below))
+    head.0 head.1 head.2 head.3
     (subst (λ (list : List Level). AreWithin (flat_map numbers_of_level list)
     (limits_of (size_of rows) (length levels))) (sym is.levels.said) within.0)
     (subst AreOrdered (sym is.levels.said) within.1)
@@ -185,14 +117,8 @@ mst_fits code grows short rows net joined holds words say right row in' =
     tree : List Edge
     tree = pointed_edges rows
 
-    root : (row : NodeRow) × Contains rows row × (row.state.up ≡ None)
-    root = a_root rows holds.tree.one_root
-
     is : MstSays rows row (say row.id)
     is = right row in'
-
-    here : ((say row.id).root ≡ root.0.id) × IsChainOf rows row.id root.0.id (say row.id).depth
-    here = is.root root.0 root.1 root.2
 
     levels : List (ℕ → Level)
     levels = is.levels.levels
@@ -203,12 +129,3 @@ mst_fits code grows short rows net joined holds words say right row in' =
     few : 2 ^ length levels ≤ length (ids_of rows)
     few = few_levels (edges_of rows) (ids_of rows) (IsGraph-network rows net) (ComesBefore tree)
         is.levels.depth [] levels row.id known is.levels.are
-
-    parent_within : (pointed : Option Port) → pointed_port row ≡ pointed
-        → (say row.id).parent ≤ (size_of rows).max_id
-    parent_within None none = omega (arith, is.own_parent none, id_within rows row in')
-    parent_within (Some port) pointed =
-        let (other, other_in, named) : (other : NodeRow) × Contains rows other
-        × (other.id ≡ port.nbr) =
-        neighbour_row rows net row in' port (pointed_has row port pointed) in
-        omega (arith, is.parent port pointed, named, id_within rows other other_in)

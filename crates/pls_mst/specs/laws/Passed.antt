@@ -1,6 +1,6 @@
 -- What the rules of `mst` say level by level gives the tests.
-use Rattle.std.proofs.Common.{◌≡◌, ◌≢◌, ◌∙◌, ℕ, ◌+◌, ◌<◌, ◌==◌, ◌⊎◌, inl, inr, Bool, true, not, ◌&&◌, ◌||◌, length, get_or, map, slice_get, Option, Some, None, is_some, refl, sym, ap, subst}
-use Rattle.std.specs.Option.{option_and_then, option_map, option_map_or}
+use Rattle.std.proofs.Common.{◌≡◌, ◌≢◌, ◌∙◌, ℕ, ◌<◌, ◌==◌, ◌⊎◌, inl, inr, true, not, ◌||◌, length, get_or, map, slice_get, Option, Some, None, is_some, sym, ap, subst}
+use Rattle.std.specs.Option.{option_and_then}
 use Rattle.std.proofs.lemmas.Bool.{and_from, cases_eq, cond-false, cond-true, eq-eqb, ne_eqb, not_from_false, or_left, or_right}
 use Rattle.std.proofs.lemmas.List.{get_or_default}
 use Rattle.std.proofs.lemmas.List.Sums.{list_all-from_AllPass}
@@ -10,7 +10,7 @@ use Rattle.pls_model.specs.declared.row.NodeRow.{NodeRow}
 use Rattle.pls_graph.proofs.Finds.{from_option_map}
 use Rattle.pls_graph.proofs.Members.{Contains-from_place}
 use Rattle.pls_scheme.specs.Judging.{AllHold}
-use Rattle.pls_scheme.specs.Reading.{ReadPort, port_where, read_where, target}
+use Rattle.pls_scheme.specs.Reading.{ReadPort, port_where, read_where}
 use Rattle.pls_scheme.proofs.SaidPorts.{all_ports_pass}
 use Rattle.pls_facts.specs.EdgeOrder.{edge_key, is_same_edge}
 use Rattle.pls_facts.specs.Pointer.{pointed_port}
@@ -18,12 +18,13 @@ use Rattle.pls_facts.proofs.EdgeKeys.{is_same_edge-itself}
 use Rattle.pls_pointer.specs.laws.PointingLaws.{points_or}
 use Rattle.pls_model.specs.Walk.{Edge}
 use Rattle.pls_boruvka.specs.declared.level.Level.{Level}
-use Rattle.pls_mst.specs.declared.label.MstLabel.{MstLabel}
-use Rattle.pls_mst.specs.Rules.{names_root_and_levels, chose_least, chose_least_at, edge_to, follows_target, is_at_most, is_chosen_between, is_named_or_shared, is_one_fragment, is_root_of_tree, mst_rules, names_all_fragments, on_each_level, on_some_level, shares_with_target}
+use Rattle.pls_levels.specs.laws.InTree.{pointed_has}
+use Rattle.pls_levels.specs.laws.Levelwise.{all_from_0}
+use Rattle.pls_levels.specs.laws.Placed.{of_target, test_of_placed}
+use Rattle.pls_mst.specs.Labels.{MstLabel}
+use Rattle.pls_mst.specs.Rules.{names_root_and_levels, chose_least, chose_least_at, edge_to, is_at_most, is_chosen_between, is_named_or_shared, is_one_fragment, mst_rules, names_all_fragments, on_each_level, on_some_level, shares_with_target}
 use Rattle.pls_mst.specs.laws.Fragments.{KeepsRules, chosen_at, fragment_at, level_at, no_level, told_edge, told_outside}
-use Rattle.pls_mst.specs.laws.Kept.{target_is}
-use Rattle.pls_mst.specs.laws.Levelwise.{all_from_0, all_pass, some_pass, test-IsAtMost}
-use Rattle.pls_mst.specs.laws.TreeEdges.{pointed_has}
+use Rattle.pls_mst.specs.laws.Levelwise.{all_pass, some_passes, test-IsAtMost}
 
 -- edges that are the same pass the test
 same_edge : (one other : Edge) → one ≡ other → is_same_edge one other ≡ true
@@ -34,40 +35,12 @@ module _ (say : ℕ → MstLabel) (row : NodeRow) (keeps : KeepsRules say row) w
   abbrev mine : MstLabel
   mine = say row.id
 
-  -- what holds at the port that the node points at is what is asked of the target
-  of_target : (test : ReadPort MstLabel → Bool)
-      → ((port : Port) → pointed_port row ≡ Some port → test (port_where say port) ≡ true)
-      → option_map_or test (target (read_where say row)) true ≡ true
-  of_target test each =
-      ap (λ (read : Option (ReadPort MstLabel)). option_map_or test read true) (target_is say row)
-      ∙ by (pointed_port row) refl
-    where
-      by : (pointed : Option Port) → pointed_port row ≡ pointed
-          → option_map_or test (option_map (port_where say) pointed) true ≡ true
-      by None is = refl
-      by (Some port) is = each port is
-
   -- a node without pointer points at no port
   points_nowhere : row.state.up ≡ None → (port : Port) → pointed_port row ≡ Some port → ⊥
   points_nowhere none port pointed =
       let no : None ≡ Some port =
       sym (ap (λ (up : Option ℕ). option_and_then (slice_get row.ports) up) none) ∙ pointed in
       absurd (cc)
-
-  follows : follows_target (read_where say row) ≡ true
-  follows = of_target (λ (port : ReadPort MstLabel). mine.depth == port.label.depth + 1
-      && mine.parent == port.label.own)
-      (λ port pointed. let is = keeps.below port pointed in
-      and_from (mine.depth == (say port.nbr).depth + 1) (mine.parent == (say port.nbr).own)
-      (eq-eqb mine.depth ((say port.nbr).depth + 1) is.0)
-      (eq-eqb mine.parent (say port.nbr).own is.1))
-
-  is_root : row.state.up ≡ None → is_root_of_tree (read_where say row) ≡ true
-  is_root none = let is = keeps.top none in
-      and_from (mine.depth == 0) (mine.root == row.id && mine.parent == mine.own)
-      (eq-eqb mine.depth 0 is.0)
-      (and_from (mine.root == row.id) (mine.parent == mine.own) (eq-eqb mine.root row.id is.1)
-      (eq-eqb mine.parent mine.own is.2))
 
   names_all : row.state.up ≡ None → names_all_fragments mine ≡ true
   names_all none =
@@ -80,7 +53,7 @@ module _ (say : ℕ → MstLabel) (row : NodeRow) (keeps : KeepsRules say row) w
       ]))
 
   shares : shares_with_target (read_where say row) ≡ true
-  shares = of_target (λ (port : ReadPort MstLabel).
+  shares = of_target say row (λ (port : ReadPort MstLabel).
       on_each_level (is_named_or_shared mine.own) mine.levels port.label.levels)
       (λ port pointed. all_pass (is_named_or_shared mine.own) mine.levels (say port.nbr).levels
       no_level no_level (λ i within also. at i port within pointed (keeps.named i within)))
@@ -138,7 +111,7 @@ module _ (say : ℕ → MstLabel) (row : NodeRow) (keeps : KeepsRules say row) w
       × (fragment_at say i row.id ≢ fragment_at say i port.nbr)
       × ((chosen_at say i row.id ≡ told_edge say row port)
       ⊎ (chosen_at say i port.nbr ≡ told_edge say row port)) = keeps.chosen port pointed in
-      some_pass (is_chosen_between (told_edge say row port)) mine.levels (say port.nbr).levels i
+      some_passes (is_chosen_between (told_edge say row port)) mine.levels (say port.nbr).levels i
       no_level no_level within (keeps.alike port (pointed_has row port pointed)).1
       (and_from (not (is_one_fragment (level_at say i row.id) (level_at say i port.nbr)))
       (is_same_edge (chosen_at say i row.id) (told_edge say row port)
@@ -157,11 +130,7 @@ module _ (say : ℕ → MstLabel) (row : NodeRow) (keeps : KeepsRules say row) w
   -- what the rules say gives the tests
   pub rules_pass : AllHold (mst_rules (read_where say row))
   rules_pass = (
-    and_from (mine.own == row.id) ((is_some row.state.up || is_root_of_tree (read_where say row))
-        && follows_target (read_where say row)) (eq-eqb mine.own row.id keeps.own)
-        (and_from (is_some row.state.up || is_root_of_tree (read_where say row))
-        (follows_target (read_where say row))
-        (points_or row (is_root_of_tree (read_where say row)) is_root) follows),
+    test_of_placed say row keeps.placed,
     (
       all_ports_pass (names_root_and_levels mine) say row.ports (λ port has.
           let is = keeps.alike port has in
@@ -184,7 +153,7 @@ module _ (say : ℕ → MstLabel) (row : NodeRow) (keeps : KeepsRules say row) w
               chose_least_at (read_where say row) number read ≡ true) is
               (least_at number port has)),
           (
-            of_target (λ (port : ReadPort MstLabel). on_some_level
+            of_target say row (λ (port : ReadPort MstLabel). on_some_level
                 (is_chosen_between (edge_to mine port)) mine.levels port.label.levels) chosen,
             tt,
           ),

@@ -2,15 +2,15 @@
 -- tree; all nodes of a fragment say that it chose one edge; each tree edge is the choice of a
 -- fragment that it leaves; such a choice comes before all other edges that leave the fragment; so,
 -- by the cut rule, no spanning tree is lighter.
-use Rattle.std.proofs.Common.{◌≡◌, ◌≢◌, ◌∙◌, ℕ, zero, suc, ◌+◌, ◌<◌, ◌==◌, ◌⊎◌, inl, inr, Bool, true, false, List, length, Some, refl, sym, ap, subst, arith, slice_get, Contains}
+use Rattle.std.proofs.Common.{◌≡◌, ◌≢◌, ◌∙◌, ℕ, zero, suc, ◌+◌, ◌<◌, ◌==◌, ◌⊎◌, inl, inr, Bool, true, false, List, length, Some, refl, sym, ap, subst, arith, Contains}
 use Rattle.std.proofs.lemmas.Bool.{eq-eqb, eqb-true, eqb-false, ne_eqb, true≢false}
 use Rattle.pls_model.specs.declared.row.Port.{Port}
 use Rattle.pls_model.specs.declared.row.NodeRow.{NodeRow}
 use Rattle.pls_model.specs.Configuration.{IsNetwork, ids_of}
 use Rattle.pls_model.specs.Walk.{Edge, IsConnected, Joins, edges_of}
-use Rattle.pls_graph.proofs.Finds.{from_option_map, item_at}
+use Rattle.pls_graph.proofs.Finds.{from_option_map}
 use Rattle.pls_graph.proofs.Members.{Contains-from_place}
-use Rattle.pls_facts.specs.Pointer.{pointed_port, Falls}
+use Rattle.pls_facts.specs.Pointer.{pointed_port}
 use Rattle.pls_facts.specs.SpanningTree.{IsTree, edge_at, pointed_edge, pointed_edges}
 use Rattle.pls_facts.specs.Lightest.{AreFirstLeaving, IsFirstLeaving, IsLightest, Leaves}
 use Rattle.pls_facts.specs.Precedes.{IsAtMost}
@@ -20,13 +20,14 @@ use Rattle.pls_facts.proofs.CutRule.{IsLightest-first}
 use Rattle.pls_facts.proofs.EdgeKeys.{ComesBefore-order, before_by_key}
 use Rattle.pls_facts.proofs.Filtered.{Contains-from_filter_map}
 use Rattle.pls_facts.proofs.Neighbours.{neighbour_row}
-use Rattle.pls_facts.proofs.Pointed.{IsPointer, IsPointer-pointed_node, id_of_row, row_from_id}
+use Rattle.pls_facts.proofs.Pointed.{id_of_row, row_from_id}
 use Rattle.pls_facts.proofs.PointedEdges.{Joins-edge_at}
 use Rattle.pls_facts.proofs.PortEdges.{IsAtPort, IsGraph-network, ports_of_edge}
-use Rattle.pls_facts.proofs.Trees.{IsTree-falling}
-use Rattle.pls_mst.specs.declared.label.MstLabel.{MstLabel}
+use Rattle.pls_levels.specs.laws.InTree.{pointed_has}
+use Rattle.pls_levels.specs.laws.Placed.{IsPlaced, tree_of_placed}
+use Rattle.pls_mst.specs.Labels.{MstLabel}
 use Rattle.pls_mst.specs.laws.Fragments.{KeepsRules, chosen_at, fragment_at, told_edge, told_outside}
-use Rattle.pls_mst.specs.laws.TreeEdges.{pointed_has, pointed_is, tells_in}
+use Rattle.pls_mst.specs.laws.TreeEdges.{tells_in}
 
 -- an edge between two sides of a set leaves it
 pub Leaves-joins : (inside : ℕ → Bool) (edge : Edge) (u v : ℕ) → Joins edge u v
@@ -52,7 +53,7 @@ module _ (rows : List NodeRow) (net : IsNetwork rows) (connected : IsConnected r
   own_is id in' =
       let (row, row_in, named) : (row : NodeRow) × Contains rows row × (row.id ≡ id) =
       row_from_id rows id in' in
-      subst (λ (id : ℕ). (say id).own ≡ id) named (keeps row row_in).own
+      subst (λ (id : ℕ). (say id).own ≡ id) named (keeps row row_in).placed.own
 
   -- a port names a node
   is_neighbour : (row : NodeRow) (port : Port) → Contains rows row → Contains row.ports port
@@ -66,12 +67,11 @@ module _ (rows : List NodeRow) (net : IsNetwork rows) (connected : IsConnected r
   told_is : (row : NodeRow) (port : Port) → Contains rows row → Contains row.ports port
       → told_edge say row port ≡ edge_at row port
   told_is row port in' has =
-      rw ((keeps row in').own, own_is port.nbr (is_neighbour row port in' has)) refl
+      rw ((keeps row in').placed.own, own_is port.nbr (is_neighbour row port in' has)) refl
 
-  -- a node's parent is the node that it points at
-  parent_is : (row : NodeRow) (port : Port) → Contains rows row → pointed_port row ≡ Some port
-      → (say row.id).parent ≡ (say port.nbr).own
-  parent_is row port in' pointed = ((keeps row in').below port pointed).1
+  -- a node's label places it in the tree
+  placed : (row : NodeRow) → Contains rows row → IsPlaced say row
+  placed row in' = (keeps row in').placed
 
   -- a number that neighbours have in common all nodes have
   all_alike : (told : MstLabel → ℕ)
@@ -88,25 +88,9 @@ module _ (rows : List NodeRow) (net : IsNetwork rows) (connected : IsConnected r
 
   -- ---- first: the pointers make a tree
 
-  depths_fall : Falls rows (λ id. (say id).depth)
-  depths_fall u v points =
-      let step : IsPointer rows u v = IsPointer-pointed_node rows net u v points in
-      let row_in : Contains rows step.row = Contains-from_place rows step.place step.row step.at in
-      let below = ((keeps step.row row_in).below step.port (pointed_is rows u v step)).0 in
-      let here = ap (λ (id : ℕ). (say id).depth) step.owner in
-      let there = ap (λ (id : ℕ). (say id).depth) step.named in
-      omega (arith, below, here, there)
-
   pub pointers_make_a_tree : IsTree rows
-  pointers_make_a_tree =
-      let (first, at) : (row : NodeRow) × (slice_get rows 0 ≡ Some row) =
-      item_at rows 0 net.limits.some in
-      let first_in : Contains rows first = Contains-from_place rows 0 first at in
-      IsTree-falling rows net (λ id. (say id).depth) depths_fall (say first.id).root
-      (λ row in' none. sym ((keeps row in').top none).1
-      ∙ all_alike (λ label. label.root)
-      (λ row port in' has. ((keeps row in').alike port has).0) row.id first.id
-      (id_of_row rows row in') (id_of_row rows first first_in))
+  pointers_make_a_tree = tree_of_placed rows net say placed connected
+      (λ row port in' has. ((keeps row in').alike port has).0)
 
   -- ---- second: all nodes of a fragment say that it chose one edge
 
@@ -120,14 +104,14 @@ module _ (rows : List NodeRow) (net : IsNetwork rows) (connected : IsConnected r
         → ((other : NodeRow) → Contains rows other → (say row.id).depth ≡ (say other.id).depth + 1
         → level < length (say other.id).levels → SaysAsNamed other.id) → SaysAsNamed row.id
     said_above row in' within above = elim ((keeps row in').named level within) [
-      | inl own ↦ ap (chosen_at say level) (sym (keeps row in').own ∙ sym own)
+      | inl own ↦ ap (chosen_at say level) (sym (keeps row in').placed.own ∙ sym own)
       | inr onward ↦
           let port : Port = onward.0 in
           let has : Contains row.ports port = pointed_has row port onward.1 in
           let rules : KeepsRules say row = keeps row in' in
           let (other, other_in, named) : (other : NodeRow) × Contains rows other
           × (other.id ≡ port.nbr) = neighbour_row rows net row in' port has in
-          let below = (rules.below port onward.1).0 in
+          let below = (rules.placed.below port onward.1).0 in
           let many = (rules.alike port has).1 in
           let same = ap (λ (id : ℕ). length (say id).levels) named in
           let rest : SaysAsNamed port.nbr = subst SaysAsNamed named (above other other_in
@@ -249,7 +233,7 @@ module _ (rows : List NodeRow) (net : IsNetwork rows) (connected : IsConnected r
         (λ e. eqb-false (fragment_at say is.level v) (fragment_at say is.level is.inner) v_out
         (ap (fragment_at say is.level) (sym way.names) ∙ sym e ∙ same)) in
         before_by_key tree edge other outside in' apart
-        (tells_in rows net say parent_is other u v way)
+        (tells_in rows net say placed other u v way)
         (subst (λ (told : Edge). IsAtMost (edge_key edge 0) (edge_key told outside))
         (told_is way.row way.port row_in has ∙ way.is)
         (subst (λ (chosen : Edge). IsAtMost (edge_key chosen 0) (edge_key told outside)) chosen

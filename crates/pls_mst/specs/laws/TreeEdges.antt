@@ -1,168 +1,50 @@
--- Whether the edge at a port is one that nodes point along, as the node tells it by its own pointer
--- and by what the neighbour says of its parent.
-use Rattle.std.proofs.Common.{◌≡◌, ◌∙◌, ℕ, ◌==◌, inl, inr, Bool, true, ◌||◌, List, Option, Some, None, position, refl, sym, ap, subst, arith, slice_get, option_map, Contains}
-use Rattle.std.specs.Option.{option_and_then}
-use Rattle.std.proofs.lemmas.Bool.{cases_Bool, cond-true, cond-false, eq-eqb, eqb-true, or_cases, or_left, or_right}
-use Rattle.std.proofs.lemmas.Option.{option_and_then_some, same_Some}
+-- Whether the edge at a port is outside of the tree, as the node tells it: 0 or 1.
+use Rattle.std.proofs.Common.{◌≡◌, ℕ, inl, inr, Bool, List, Some, subst, slice_get, Contains}
+use Rattle.std.proofs.lemmas.Bool.{cases_Bool, cond-true, cond-false}
 use Rattle.pls_model.specs.declared.row.Port.{Port}
 use Rattle.pls_model.specs.declared.row.NodeRow.{NodeRow}
-use Rattle.pls_model.specs.Configuration.{IsNetwork, port_to}
+use Rattle.pls_model.specs.Configuration.{IsNetwork}
 use Rattle.pls_model.specs.Walk.{Edge, Joins}
-use Rattle.pls_graph.proofs.Members.{Contains-from_place, place_from_Contains}
-use Rattle.pls_graph.proofs.Placed.{names_another, place_of_port, port_of_place, row_of_place, row_place, way_back, WayBack}
-use Rattle.pls_facts.specs.Pointer.{pointed_port}
-use Rattle.pls_facts.specs.SpanningTree.{edge_at, pointed_edge, pointed_edges}
-use Rattle.pls_facts.proofs.Decided.{same_Edge}
-use Rattle.pls_facts.proofs.Filtered.{Contains-filter_map}
-use Rattle.pls_facts.proofs.Neighbours.{neighbour_row}
-use Rattle.pls_facts.proofs.Pointed.{IsPointer, IsPointer-pointed_node}
-use Rattle.pls_facts.proofs.PointedEdges.{Joins-edge_at, points_either_way}
+use Rattle.pls_scheme.specs.Reading.{port_where}
+use Rattle.pls_facts.specs.SpanningTree.{edge_at, pointed_edges}
+use Rattle.pls_facts.proofs.PointedEdges.{Joins-edge_at}
 use Rattle.pls_facts.proofs.PortEdges.{IsAtPort}
-use Rattle.pls_scheme.specs.Reading.{is_pointer}
-use Rattle.pls_mst.specs.declared.label.MstLabel.{MstLabel}
+use Rattle.pls_levels.specs.Rules.{is_in_tree}
+use Rattle.pls_levels.specs.laws.InTree.{in_told, tells_in as tells_true}
+use Rattle.pls_levels.specs.laws.Placed.{IsPlaced, follows, named, parent_of_root}
+use Rattle.pls_mst.specs.Labels.{MstLabel}
 use Rattle.pls_mst.specs.laws.Fragments.{told_outside}
 
--- a port that is pointed at is one of the ports
-pub pointed_has : (row : NodeRow) (port : Port) → pointed_port row ≡ Some port
-    → Contains row.ports port
-pointed_has row port pointed =
-    option_and_then_some (slice_get row.ports) row.state.up port pointed
-    (λ number up has. Contains-from_place row.ports number port has)
-
--- what a pointer stands for is the port that its row points at
-pub pointed_is : (rows : List NodeRow) (u v : ℕ) (step : IsPointer rows u v)
-    → pointed_port step.row ≡ Some step.port
-pointed_is rows u v step = ap (option_and_then (slice_get step.row.ports)) step.up ∙ step.has
-
--- the edge at a pointed port is a pointed edge
-pub pointed_in : (rows : List NodeRow) (row : NodeRow) (port : Port) → Contains rows row
-    → pointed_port row ≡ Some port → Contains (pointed_edges rows) (edge_at row port)
-pointed_in rows row port in' pointed =
-    Contains-filter_map pointed_edge rows row (edge_at row port) in'
-    (ap (option_map (edge_at row)) pointed)
-
--- the test of a pointer tells whether it is the port of a number
-is_pointer-here : (up : Option ℕ) (step number : ℕ) → up ≡ Some step → number ≡ step
-    → is_pointer up number ≡ true
-is_pointer-here up step number is same =
-    ap (λ (up : Option ℕ). is_pointer up number) is ∙ eq-eqb step number (sym same)
-
-here-is_pointer : (up : Option ℕ) (number : ℕ) → is_pointer up number ≡ true → up ≡ Some number
-here-is_pointer None number passes = absurd (cc)
-here-is_pointer (Some step) number passes = ap Some (eqb-true step number passes)
-
 module _ (rows : List NodeRow) (net : IsNetwork rows) (say : ℕ → MstLabel)
-    (parent : (row : NodeRow) (port : Port) → Contains rows row → pointed_port row ≡ Some port
-    → (say row.id).parent ≡ (say port.nbr).own) where
-  -- the neighbour says that its parent is the node
-  abbrev points_back : NodeRow → Port → Bool
-  points_back row port = (say port.nbr).parent == (say row.id).own
+    (placed : (row : NodeRow) → Contains rows row → IsPlaced say row) where
+  abbrev told : NodeRow → ℕ → Port → Bool
+  told row number port = is_in_tree row.state.up (say row.id) number (port_where say port)
+
+  abbrev own : ℕ → ℕ
+  own id = (say id).own
+
+  abbrev parent : ℕ → ℕ
+  parent id = (say id).parent
 
   -- where the edge at a port is in the tree, the node tells so
   pub tells_in : (edge : Edge) (u v : ℕ) (way : IsAtPort rows edge u v)
       → Contains (pointed_edges rows) edge → told_outside say way.row way.number way.port ≡ 0
   tells_in edge u v way in' =
-      cond-true (is_pointer way.row.state.up way.number || points_back way.row way.port) 0 1
-      (elim (points_either_way rows net way.row.id way.port.nbr (edge, in', joins)) [
-        | inl on ↦ or_left (is_pointer way.row.state.up way.number) (points_back way.row way.port)
-            (here (IsPointer-pointed_node rows net way.row.id way.port.nbr on))
-        | inr back ↦ or_right (is_pointer way.row.state.up way.number)
-            (points_back way.row way.port)
-            (there (IsPointer-pointed_node rows net way.port.nbr way.row.id back))
-      ])
-    where
-      joins : Joins edge way.row.id way.port.nbr
-      joins = subst (λ (edge : Edge). Joins edge way.row.id way.port.nbr) way.is
-          (Joins-edge_at way.row way.port)
+      let joins : Joins edge way.row.id way.port.nbr =
+      subst (λ (edge : Edge). Joins edge way.row.id way.port.nbr) way.is
+      (Joins-edge_at way.row way.port) in
+      cond-true (told way.row way.number way.port) 0 1
+      (tells_true rows net own parent (follows rows net say placed) way.place way.number way.row
+      way.port way.at way.has (edge, in', joins))
 
-      here : IsPointer rows way.row.id way.port.nbr
-          → is_pointer way.row.state.up way.number ≡ true
-      here step =
-          let same : step.row ≡ way.row = same_Some step.row way.row
-          (sym step.found ∙ row_of_place rows net way.place way.row way.at) in
-          let has : slice_get way.row.ports step.number ≡ Some step.port =
-          subst (λ (row : NodeRow). slice_get row.ports step.number ≡ Some step.port) same
-          step.has in
-          let up : way.row.state.up ≡ Some step.number =
-          subst (λ (row : NodeRow). row.state.up ≡ Some step.number) same step.up in
-          let number : way.number ≡ step.number = same_Some way.number step.number
-          (sym (place_of_port rows net way.place way.row way.at way.number way.port way.has)
-          ∙ ap (λ (n : ℕ). position (λ (port : Port). n == port.nbr) way.row.ports)
-          (sym step.named)
-          ∙ place_of_port rows net way.place way.row way.at step.number step.port has) in
-          is_pointer-here way.row.state.up step.number way.number up number
-
-      there : IsPointer rows way.port.nbr way.row.id → points_back way.row way.port ≡ true
-      there step = eq-eqb (say way.port.nbr).parent (say way.row.id).own
-          (ap (λ (id : ℕ). (say id).parent) step.owner
-          ∙ parent step.row step.port (Contains-from_place rows step.place step.row step.at)
-          (pointed_is rows way.port.nbr way.row.id step)
-          ∙ ap (λ (id : ℕ). (say id).own) step.named)
-
-  module _ (own : (row : NodeRow) → Contains rows row → (say row.id).own ≡ row.id)
-      (parent_of_root : (row : NodeRow) → Contains rows row → pointed_port row ≡ None
-      → (say row.id).parent ≡ row.id) where
-    -- a node that says that its parent is the neighbour points at it, along the same edge
-    back_in : (i number : ℕ) (row : NodeRow) (port : Port) → slice_get rows i ≡ Some row
-        → slice_get row.ports number ≡ Some port → (say port.nbr).parent ≡ (say row.id).own
-        → Contains (pointed_edges rows) (edge_at row port)
-    back_in i number row port at has told =
-        by (way_back rows net i row at number port has)
-      where
-        row_in : Contains rows row
-        row_in = Contains-from_place rows i row at
-
-        by : WayBack rows row port → Contains (pointed_edges rows) (edge_at row port)
-        by way =
-            let (j, stands, named) : (j : ℕ) × (slice_get rows j ≡ Some way.other)
-            × (port.nbr ≡ way.other.id) =
-            row_place rows net port.nbr way.other way.named in
-            let other_in : Contains rows way.other = Contains-from_place rows j way.other stands in
-            let back : (say way.other.id).parent ≡ row.id =
-            ap (λ (id : ℕ). (say id).parent) (sym named) ∙ told ∙ own row row_in in
-            at_port j stands named other_in back (pointed_port way.other) refl
-          where
-            at_port : (j : ℕ) → slice_get rows j ≡ Some way.other → port.nbr ≡ way.other.id
-                → Contains rows way.other → (say way.other.id).parent ≡ row.id
-                → (o : Option Port) → pointed_port way.other ≡ o
-                → Contains (pointed_edges rows) (edge_at row port)
-            at_port j stands named other_in back None e =
-                absurd (names_another rows net i row at number port has
-                (sym back ∙ parent_of_root way.other other_in e ∙ sym named))
-            at_port j stands named other_in back (Some onward) e =
-                let (p, there) : (p : ℕ) × (slice_get way.other.ports p ≡ Some onward) =
-                place_from_Contains way.other.ports onward (pointed_has way.other onward e) in
-                let (target, target_in, is_target) : (target : NodeRow) × Contains rows target
-                × (target.id ≡ onward.nbr) =
-                neighbour_row rows net way.other other_in onward
-                (pointed_has way.other onward e) in
-                let leads : onward.nbr ≡ row.id =
-                sym (subst (λ (id : ℕ). (say id).own ≡ id) is_target (own target target_in))
-                ∙ sym (parent way.other onward other_in e) ∙ back in
-                let same : onward ≡ way.back = same_Some onward way.back
-                (sym (port_of_place rows net j way.other stands p onward there)
-                ∙ ap (port_to way.other) leads ∙ way.returns) in
-                let weighs : onward.weight ≡ port.weight =
-                ap (λ (port : Port). port.weight) same ∙ sym way.weight in
-                subst (Contains (pointed_edges rows))
-                (same_Edge (edge_at way.other onward) (edge_at row port)
-                (omega (arith, named, leads)) (omega (arith, named, leads)) weighs)
-                (pointed_in rows way.other onward other_in e)
-
-    -- where the edge at a port is not in the tree, the node tells so
-    pub tells_out : (i number : ℕ) (row : NodeRow) (port : Port) → slice_get rows i ≡ Some row
-        → slice_get row.ports number ≡ Some port
-        → (Contains (pointed_edges rows) (edge_at row port) → ⊥)
-        → told_outside say row number port ≡ 1
-    tells_out i number row port at has out =
-        elim (cases_Bool (is_pointer row.state.up number || points_back row port)) [
-          | inr fails ↦ cond-false (is_pointer row.state.up number || points_back row port) 0 1 fails
-          | inl holds ↦ absurd (out (elim (or_cases (is_pointer row.state.up number)
-              (points_back row port) holds) [
-                | inl here ↦ pointed_in rows row port (Contains-from_place rows i row at)
-                    (ap (option_and_then (slice_get row.ports))
-                    (here-is_pointer row.state.up number here) ∙ has)
-                | inr back ↦ back_in i number row port at has
-                    (eqb-true (say port.nbr).parent (say row.id).own back)
-              ]))
-        ]
+  -- where it is not, the node tells so too
+  pub tells_out : (i number : ℕ) (row : NodeRow) (port : Port) → slice_get rows i ≡ Some row
+      → slice_get row.ports number ≡ Some port
+      → (Contains (pointed_edges rows) (edge_at row port) → ⊥)
+      → told_outside say row number port ≡ 1
+  tells_out i number row port at has out = elim (cases_Bool (told row number port)) [
+    | inr fails ↦ cond-false (told row number port) 0 1 fails
+    | inl holds ↦ absurd (out (in_told rows net own parent (follows rows net say placed)
+        (named rows net say placed) (parent_of_root rows net say placed) i number row port at has
+        holds))
+  ]

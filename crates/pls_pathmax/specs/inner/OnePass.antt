@@ -8,10 +8,11 @@ use Rattle.pls_model.specs.declared.verdict.Verdict.TheVariants.{Accept, Reject}
 use Rattle.pls_view.specs.Seen.{Seen}
 use Rattle.pls_scheme.specs.Reading.{Read, ReadPort, read_ports, reading}
 use Rattle.pls_centroid.specs.declared.level.CentroidLevel.{CentroidLevel}
+use Rattle.pls_levels.specs.Rules.{is_placed_in_tree}
 use Rattle.pls_pathmax.specs.declared.gathering.Gathered.{Gathered}
 use Rattle.pls_pathmax.specs.declared.gathering.TheConstants.{WINDOW}
-use Rattle.pls_pathmax.specs.declared.label.PathMaxLabel.{PathMaxLabel}
-use Rattle.pls_pathmax.specs.Rules.{agrees_on_root, has_way, has_ways_to_centroids, is_placed_in_tree, leads_on, leads_on_at, other_edges_are_heavy}
+use Rattle.pls_pathmax.specs.Labels.{PathMaxLabel}
+use Rattle.pls_pathmax.specs.Rules.{agrees_on_root, has_way, has_ways_to_centroids, leads_on, leads_on_at, other_edges_are_heavy}
 
 -- the neighbour's level leads on from the own one, where there are both
 abbrev pub leads_from : ℕ → Option CentroidLevel → Option CentroidLevel → Bool

@@ -1,21 +1,22 @@
 -- What the rules of `pathmax` say of labels that a function of the identity gives: the tests as
--- facts, and the other way round.
-use Rattle.std.proofs.Common.{◌≡◌, ◌∙◌, ℕ, ◌+◌, ◌≤◌, ◌==◌, ◌⊎◌, inl, inr, nat_le, Bool, true, false, ◌&&◌, ◌||◌, map, slice_get, Contains, Option, Some, None, is_some, refl, sym, ap}
+-- facts.
+use Rattle.std.proofs.Common.{◌≡◌, ◌∙◌, ℕ, ◌+◌, ◌≤◌, ◌==◌, ◌⊎◌, inl, inr, nat_le, Bool, true, false, ◌&&◌, map, slice_get, Contains, Option, Some, None, refl, sym, ap}
 use Rattle.std.specs.List.{enumerate_from, list_any, zip}
-use Rattle.std.specs.Option.{option_and_then, option_map, option_map_or}
+use Rattle.std.specs.Option.{option_map, option_map_or}
 use Rattle.std.proofs.lemmas.Bool.{and_parts, eqb-true, leb-true, or_cases, true≢false}
 use Rattle.std.proofs.lemmas.Option.{slice_get-map}
 use Rattle.pls_model.specs.declared.row.Port.{Port}
 use Rattle.pls_model.specs.declared.row.NodeRow.{NodeRow}
 use Rattle.pls_graph.proofs.Finds.{from_option_map}
 use Rattle.pls_scheme.specs.Judging.{AllHold}
-use Rattle.pls_scheme.specs.Reading.{ReadPort, port_where, read_where, target}
+use Rattle.pls_scheme.specs.Reading.{ReadPort, port_where, read_where}
 use Rattle.pls_scheme.proofs.SaidPorts.{passes_port}
-use Rattle.pls_facts.specs.Pointer.{pointed_port}
 use Rattle.pls_centroid.specs.declared.level.CentroidLevel.{CentroidLevel}
-use Rattle.pls_pathmax.specs.declared.label.PathMaxLabel.{PathMaxLabel}
-use Rattle.pls_pathmax.specs.Rules.{follows_target, has_way, is_heavy_outside, is_in_tree, is_root_of_tree, leads_on, leads_on_at, meet_lightly, other_edges_are_heavy, pathmax_rules}
-use Rattle.pls_pathmax.specs.laws.Levelwise.{PassAt, passes_from_0, some_from_0, some_place}
+use Rattle.pls_levels.specs.Rules.{is_in_tree}
+use Rattle.pls_levels.specs.laws.Levelwise.{PassAt, passes_from_0, some_from_0, some_place}
+use Rattle.pls_levels.specs.laws.Placed.{IsPlaced, placed_by_test}
+use Rattle.pls_pathmax.specs.Labels.{PathMaxLabel}
+use Rattle.pls_pathmax.specs.Rules.{has_way, is_heavy_outside, leads_on, leads_on_at, meet_lightly, other_edges_are_heavy, pathmax_rules}
 
 -- whether the edge at a port is in the tree, as the two nodes tell
 abbrev pub said_in : (ℕ → PathMaxLabel) → NodeRow → ℕ → Port → Bool
@@ -49,14 +50,8 @@ pub record Meets (say : ℕ → PathMaxLabel) (row : NodeRow) (port : Port) : Ty
 
 -- what the rules of a node say
 pub record KeepsRules (say : ℕ → PathMaxLabel) (row : NodeRow) : Type 0 where
-  -- it says its identity; without pointer it says that it is the root, at depth 0; else that it is
-  -- one deeper than the node that it points at, which is its parent
-  pub own : (say row.id).own ≡ row.id
-  pub top : row.state.up ≡ None → ((say row.id).depth ≡ 0) × ((say row.id).root ≡ row.id)
-      × ((say row.id).parent ≡ (say row.id).own)
-  pub below : (port : Port) → pointed_port row ≡ Some port
-      → ((say row.id).depth ≡ (say port.nbr).depth + 1)
-      × ((say row.id).parent ≡ (say port.nbr).own)
+  -- its label places it in the tree
+  pub placed : IsPlaced say row
   -- its neighbours say the same root
   pub alike : (port : Port) → Contains row.ports port → (say port.nbr).root ≡ (say row.id).root
   -- on each level it is the centroid, or some port leads on
@@ -70,41 +65,6 @@ pub record KeepsRules (say : ℕ → PathMaxLabel) (row : NodeRow) : Type 0 wher
 module _ (say : ℕ → PathMaxLabel) (row : NodeRow) where
   abbrev mine : PathMaxLabel
   mine = say row.id
-
-  -- what is read at the port that the node points at
-  pub target_is : target (read_where say row) ≡ option_map (port_where say) (pointed_port row)
-  target_is = by row.state.up
-    where
-      by : (up : Option ℕ) → option_and_then (slice_get (map (port_where say) row.ports)) up
-          ≡ option_map (port_where say) (option_and_then (slice_get row.ports) up)
-      by None = refl
-      by (Some number) = slice_get-map (port_where say) row.ports number
-
-  -- what is asked of the port that it points at holds there
-  asked_of_target : (test : ReadPort PathMaxLabel → Bool)
-      → option_map_or test (target (read_where say row)) true ≡ true → (port : Port)
-      → pointed_port row ≡ Some port → test (port_where say port) ≡ true
-  asked_of_target test holds port pointed =
-      sym (ap (λ (read : Option (ReadPort PathMaxLabel)). option_map_or test read true)
-      (target_is ∙ ap (option_map (port_where say)) pointed)) ∙ holds
-
-  -- and the other way round
-  pub of_target : (test : ReadPort PathMaxLabel → Bool)
-      → ((port : Port) → pointed_port row ≡ Some port → test (port_where say port) ≡ true)
-      → option_map_or test (target (read_where say row)) true ≡ true
-  of_target test each =
-      ap (λ (read : Option (ReadPort PathMaxLabel)). option_map_or test read true) target_is
-      ∙ by (pointed_port row) refl
-    where
-      by : (pointed : Option Port) → pointed_port row ≡ pointed
-          → option_map_or test (option_map (port_where say) pointed) true ≡ true
-      by None is = refl
-      by (Some port) is = each port is
-
-  -- where the node has no pointer, what else is asked of it holds
-  pub without_pointer : (test : Bool) → (is_some row.state.up || test) ≡ true → row.state.up ≡ None
-      → test ≡ true
-  without_pointer test holds none = rw none at holds
 
   -- a test of an item that is there
   there_passes : (test : CentroidLevel → Bool) (found : Option CentroidLevel)
@@ -220,23 +180,7 @@ module _ (say : ℕ → PathMaxLabel) (row : NodeRow) where
   -- the tests give what the rules say
   pub kept_rules : AllHold (pathmax_rules (read_where say row)) → KeepsRules say row
   kept_rules hold = record {
-    own = eqb-true mine.own row.id placed.0;
-    top = λ none.
-        let root = and_parts (mine.depth == 0) (mine.root == row.id && mine.parent == mine.own)
-        (without_pointer (is_root_of_tree (read_where say row)) placed.1 none) in
-        let names = and_parts (mine.root == row.id) (mine.parent == mine.own) root.1 in (
-          eqb-true mine.depth 0 root.0,
-          eqb-true mine.root row.id names.0,
-          eqb-true mine.parent mine.own names.1,
-        );
-    below = λ port pointed.
-        let follows = and_parts (mine.depth == (say port.nbr).depth + 1)
-        (mine.parent == (say port.nbr).own) (asked_of_target (λ (port : ReadPort PathMaxLabel).
-        mine.depth == port.label.depth + 1 && mine.parent == port.label.own) placed.2 port pointed)
-        in (
-          eqb-true mine.depth ((say port.nbr).depth + 1) follows.0,
-          eqb-true mine.parent (say port.nbr).own follows.1,
-        );
+    placed = placed_by_test say row hold.0;
     alike = λ port has. eqb-true (say port.nbr).root mine.root
         (passes_port (λ (port : ReadPort PathMaxLabel). port.label.root == mine.root) say row.ports
         hold.1.0 port has);
@@ -244,15 +188,3 @@ module _ (say : ℕ → PathMaxLabel) (row : NodeRow) where
         (passes_from_0 (has_way (read_where say row)) mine.levels hold.1.1.0 number level at);
     outside = heavy_meets hold.1.1.1.0;
   }
-    where
-      -- rule 3, in its parts
-      placed : (mine.own == row.id ≡ true)
-          × ((is_some row.state.up || is_root_of_tree (read_where say row)) ≡ true)
-          × (follows_target (read_where say row) ≡ true)
-      placed =
-          let names = and_parts (mine.own == row.id)
-          ((is_some row.state.up || is_root_of_tree (read_where say row))
-          && follows_target (read_where say row)) hold.0 in
-          let stands = and_parts (is_some row.state.up || is_root_of_tree (read_where say row))
-          (follows_target (read_where say row)) names.1 in
-          (names.0, stands.0, stands.1)

@@ -1,8 +1,7 @@
 -- Why the rules hold of marked labels: the next node on the path to a centroid is in the same
 -- piece; and where the ends of an edge outside of the tree are in one piece for the last time, its
 -- centroid lies on the path between them, along which no edge is heavier.
-use Rattle.std.proofs.Common.{◌≡◌, ◌∙◌, ℕ, ◌+◌, ◌⊎◌, inl, inr, true, false, List, Some, None, sym, ap, subst, arith, slice_get, Contains}
-use Rattle.std.specs.Option.{option_and_then, option_map}
+use Rattle.std.proofs.Common.{◌≡◌, ◌∙◌, ℕ, ◌⊎◌, inl, inr, true, false, List, Some, sym, ap, subst, arith, slice_get, Contains}
 use Rattle.std.proofs.lemmas.Bool.{true≢false}
 use Rattle.pls_model.specs.declared.row.Port.{Port}
 use Rattle.pls_model.specs.declared.row.NodeRow.{NodeRow}
@@ -11,25 +10,25 @@ use Rattle.pls_model.specs.Walk.{Edge, Adjacent, AreJoined, Joins, edges_of}
 use Rattle.pls_graph.proofs.Joined.{AreJoined-adjacent, AreJoined-turned}
 use Rattle.pls_graph.proofs.Members.{Contains-from_place, place_from_Contains}
 use Rattle.pls_facts.specs.Lightest.{IsLightest}
-use Rattle.pls_facts.specs.Pointer.{Falls, IsChainOf, pointed_port}
 use Rattle.pls_facts.specs.SpanningTree.{IsTree, edge_at, pointed_edges}
 use Rattle.pls_facts.specs.Weight.{edge_weight}
-use Rattle.pls_facts.proofs.ChainDepths.{chain_of_root, chains_fall}
 use Rattle.pls_facts.proofs.Chosen.{OthersAreHeavy-lightest}
 use Rattle.pls_facts.proofs.CycleRule.{JoinsLightly-heavy, no_heavier}
 use Rattle.pls_facts.proofs.Neighbours.{neighbour_row, port_leads}
-use Rattle.pls_facts.proofs.Pointed.{id_of_row, pointed_node-row}
+use Rattle.pls_facts.proofs.Pointed.{id_of_row}
 use Rattle.pls_facts.proofs.PointedEdges.{Joins-edge_at, edge_at_listed, pointed_among}
 use Rattle.pls_facts.proofs.PortEdges.{IsGraph-network}
-use Rattle.pls_facts.proofs.Roots.{a_root}
 use Rattle.pls_facts.proofs.Weights.{port_weighs}
 use Rattle.pls_centroid.specs.Levels.{AreCentroidLevels, IsLevelOf}
 use Rattle.pls_centroid.specs.declared.level.CentroidLevel.{CentroidLevel}
+use Rattle.pls_levels.specs.Making.{IsRightHead}
+use Rattle.pls_levels.specs.laws.InTree.{tells_in}
+use Rattle.pls_levels.specs.laws.Placed.{IsPlaced, follows}
+use Rattle.pls_levels.specs.laws.RightHeads.{one_root, placed_right}
 use Rattle.pls_centroid.proofs.Lightly.{MeetLightly, meet_lightly}
 use Rattle.pls_centroid.proofs.Mates.{IsStepOn, at-among, edges_at, goes_as_far, level-at, step_on}
-use Rattle.pls_pathmax.specs.declared.label.PathMaxLabel.{PathMaxLabel}
+use Rattle.pls_pathmax.specs.Labels.{PathMaxLabel}
 use Rattle.pls_pathmax.specs.PathMax.{PathMaxSays}
-use Rattle.pls_pathmax.specs.laws.InTree.{pointed_has, tells_in}
 use Rattle.pls_pathmax.specs.laws.Kept.{KeepsRules, LeadsOn, Meets, said_in}
 
 module _ (rows : List NodeRow) (net : IsNetwork rows) (is_tree : IsTree rows)
@@ -44,49 +43,16 @@ module _ (rows : List NodeRow) (net : IsNetwork rows) (is_tree : IsTree rows)
   abbrev parent : ℕ → ℕ
   parent id = (say id).parent
 
-  abbrev depth : ℕ → ℕ
-  depth id = (say id).depth
+  heads : (row : NodeRow) → Contains rows row → IsRightHead rows row (say row.id)
+  heads row in' = (right row in').head
 
-  root : (row : NodeRow) × Contains rows row × (row.state.up ≡ None)
-  root = a_root rows is_tree.one_root
+  placed : (row : NodeRow) → Contains rows row → IsPlaced say row
+  placed = placed_right rows net is_tree say heads
 
-  -- what is right at the root
-  at_root : (row : NodeRow) → Contains rows row
-      → ((say row.id).root ≡ root.0.id) × IsChainOf rows row.id root.0.id (say row.id).depth
-  at_root row in' = (right row in').root root.0 root.1 root.2
-
-  falls : Falls rows depth
-  falls = chains_fall rows net depth (λ row in'. (root.0.id, (at_root row in').1))
-
-  -- the node at a port, and what it says of itself
+  -- the node at a port
   beside : (row : NodeRow) (port : Port) → Contains rows row → Contains row.ports port
       → (other : NodeRow) × Contains rows other × (other.id ≡ port.nbr)
   beside row port in' has = neighbour_row rows net row in' port has
-
-  named : (row : NodeRow) (port : Port) → Contains rows row → Contains row.ports port
-      → own port.nbr ≡ port.nbr
-  named row port in' has =
-      let (other, other_in, is) : (other : NodeRow) × Contains rows other
-      × (other.id ≡ port.nbr) = beside row port in' has in
-      subst (λ (id : ℕ). own id ≡ id) is (right other other_in).own
-
-  follows : (row : NodeRow) (port : Port) → Contains rows row → pointed_port row ≡ Some port
-      → parent row.id ≡ own port.nbr
-  follows row port in' pointed = (right row in').parent port pointed
-      ∙ sym (named row port in' (pointed_has row port pointed))
-
-  one_deeper : (row : NodeRow) (port : Port) → Contains rows row → pointed_port row ≡ Some port
-      → depth row.id ≡ depth port.nbr + 1
-  one_deeper row port in' pointed = falls row.id port.nbr (pointed_node-row rows net row in'
-      ∙ ap (option_map (λ (port : Port). port.nbr)) pointed)
-
-  one_root : (row : NodeRow) (port : Port) → Contains rows row → Contains row.ports port
-      → (say port.nbr).root ≡ (say row.id).root
-  one_root row port in' has =
-      let (other, other_in, is) : (other : NodeRow) × Contains rows other
-      × (other.id ≡ port.nbr) = beside row port in' has in
-      ap (λ (id : ℕ). (say id).root) (sym is) ∙ (at_root other other_in).0
-      ∙ sym (at_root row in').0
 
   -- where the tree joins the nodes of a port, they tell so
   told : (row : NodeRow) (place : ℕ) (port : Port) → Contains rows row
@@ -95,7 +61,7 @@ module _ (rows : List NodeRow) (net : IsNetwork rows) (is_tree : IsTree rows)
   told row place port in' at adjacent =
       let (i, stands) : (i : ℕ) × (slice_get rows i ≡ Some row) =
       place_from_Contains rows row in' in
-      tells_in rows net own parent follows i place row port stands at adjacent
+      tells_in rows net own parent (follows rows net say placed) i place row port stands at adjacent
 
   -- the levels of a neighbour
   levels_beside : (row : NodeRow) (port : Port) → Contains rows row → Contains row.ports port
@@ -155,7 +121,7 @@ module _ (rows : List NodeRow) (net : IsNetwork rows) (is_tree : IsTree rows)
       elim (step_on rows net is_tree (edges_at rows tree number)
       (at-among rows tree number) row.id mine (level-at rows tree row.id (say row.id).levels
       (right row in').levels number mine at)) [
-        | inl here ↦ inl (here.0, here.1 ∙ sym (right row in').own)
+        | inl here ↦ inl (here.0, here.1 ∙ sym (right row in').head.own)
         | inr step ↦ inr (leads_on row number mine in' at step)
       ]
 
@@ -214,15 +180,8 @@ module _ (rows : List NodeRow) (net : IsNetwork rows) (is_tree : IsTree rows)
       → Meets say row port)
       → (row : NodeRow) → Contains rows row → KeepsRules say row
   KeepsRules-meeting meeting row in' = record {
-    own = (right row in').own;
-    top = λ none. (
-      chain_of_root rows net row in' none root.0.id (depth row.id) (at_root row in').1,
-      ((right row in').root row in' none).0,
-      (right row in').own_parent (ap (option_and_then (slice_get row.ports)) none)
-          ∙ sym (right row in').own,
-    );
-    below = λ port pointed. (one_deeper row port in' pointed, follows row port in' pointed);
-    alike = λ port has. one_root row port in' has;
+    placed = placed row in';
+    alike = λ port has. one_root rows net is_tree say heads row port in' has;
     onward = λ number mine at. onward row number mine in' at;
     outside = λ place port at out. meeting row place port in' at out;
   }

@@ -1,5 +1,5 @@
 -- What the rules of `pathmax` say of a node gives the tests.
-use Rattle.std.proofs.Common.{◌≡◌, ◌∙◌, ℕ, ◌+◌, ◌==◌, inl, inr, nat_le, true, false, ◌&&◌, ◌||◌, map, slice_get, Option, Some, None, is_some, ap, subst}
+use Rattle.std.proofs.Common.{◌≡◌, ◌∙◌, ℕ, ◌+◌, ◌==◌, inl, inr, nat_le, true, false, ◌&&◌, map, slice_get, Option, Some, ap, subst}
 use Rattle.std.specs.List.{enumerate_from, list_any, zip}
 use Rattle.std.specs.Option.{option_map_or}
 use Rattle.std.proofs.lemmas.Bool.{and_from, cases_Bool, eq-eqb, le-leb, or_left, or_right}
@@ -8,12 +8,12 @@ use Rattle.pls_model.specs.declared.row.NodeRow.{NodeRow}
 use Rattle.pls_scheme.specs.Judging.{AllHold}
 use Rattle.pls_scheme.specs.Reading.{ReadPort, port_where, read_where}
 use Rattle.pls_scheme.proofs.SaidPorts.{all_ports_pass}
-use Rattle.pls_pointer.specs.laws.PointingLaws.{points_or}
 use Rattle.pls_centroid.specs.declared.level.CentroidLevel.{CentroidLevel}
-use Rattle.pls_pathmax.specs.declared.label.PathMaxLabel.{PathMaxLabel}
-use Rattle.pls_pathmax.specs.Rules.{follows_target, has_way, is_heavy_outside, is_root_of_tree, leads_on, leads_on_at, meet_lightly, other_edges_are_heavy, pathmax_rules}
-use Rattle.pls_pathmax.specs.laws.Kept.{KeepsRules, LeadsOn, Meets, at_read, of_target, read_at, said_in}
-use Rattle.pls_pathmax.specs.laws.Levelwise.{all_from_0, any_from_0, some_pass}
+use Rattle.pls_levels.specs.laws.Levelwise.{all_from_0, any_from_0, some_pass}
+use Rattle.pls_levels.specs.laws.Placed.{test_of_placed}
+use Rattle.pls_pathmax.specs.Labels.{PathMaxLabel}
+use Rattle.pls_pathmax.specs.Rules.{has_way, is_heavy_outside, leads_on, leads_on_at, meet_lightly, other_edges_are_heavy, pathmax_rules}
+use Rattle.pls_pathmax.specs.laws.Kept.{KeepsRules, LeadsOn, Meets, at_read, read_at, said_in}
 
 module _ (say : ℕ → PathMaxLabel) (row : NodeRow) where
   -- rule 6, from the ports
@@ -55,21 +55,6 @@ module _ (say : ℕ → PathMaxLabel) (row : NodeRow) (keeps : KeepsRules say ro
   abbrev mine : PathMaxLabel
   mine = say row.id
 
-  follows : follows_target (read_where say row) ≡ true
-  follows = of_target say row (λ (port : ReadPort PathMaxLabel). mine.depth == port.label.depth + 1
-      && mine.parent == port.label.own)
-      (λ port pointed. let is = keeps.below port pointed in
-      and_from (mine.depth == (say port.nbr).depth + 1) (mine.parent == (say port.nbr).own)
-      (eq-eqb mine.depth ((say port.nbr).depth + 1) is.0)
-      (eq-eqb mine.parent (say port.nbr).own is.1))
-
-  is_root : row.state.up ≡ None → is_root_of_tree (read_where say row) ≡ true
-  is_root none = let is = keeps.top none in
-      and_from (mine.depth == 0) (mine.root == row.id && mine.parent == mine.own)
-      (eq-eqb mine.depth 0 is.0)
-      (and_from (mine.root == row.id) (mine.parent == mine.own) (eq-eqb mine.root row.id is.1)
-      (eq-eqb mine.parent mine.own is.2))
-
   leads_pass : (number : ℕ) (level : CentroidLevel) (on : LeadsOn say row number level)
       → leads_on_at (read_where say row) number level on.place (port_where say on.port) ≡ true
   leads_pass number level on =
@@ -108,11 +93,7 @@ module _ (say : ℕ → PathMaxLabel) (row : NodeRow) (keeps : KeepsRules say ro
 
   pub rules_pass : AllHold (pathmax_rules (read_where say row))
   rules_pass = (
-    and_from (mine.own == row.id) ((is_some row.state.up || is_root_of_tree (read_where say row))
-        && follows_target (read_where say row)) (eq-eqb mine.own row.id keeps.own)
-        (and_from (is_some row.state.up || is_root_of_tree (read_where say row))
-        (follows_target (read_where say row))
-        (points_or row (is_root_of_tree (read_where say row)) is_root) follows),
+    test_of_placed say row keeps.placed,
     (
       all_ports_pass (λ (port : ReadPort PathMaxLabel). port.label.root == mine.root) say
           row.ports (λ port has. eq-eqb (say port.nbr).root mine.root (keeps.alike port has)),

@@ -2,29 +2,24 @@
 -- a walk in the tree leads from a node to its centroid, along edges that are no heavier than the
 -- greatest weight there; so the ends of each other edge are joined, by way of a centroid, by tree
 -- edges that are no heavier than it; and then, by the cycle rule, no spanning tree is lighter.
-use Rattle.std.proofs.Common.{◌≡◌, ◌∙◌, ℕ, zero, suc, ◌≤◌, inl, inr, nat_le, true, List, [], Option, Some, None, refl, sym, ap, subst, arith, slice_get, Contains}
-use Rattle.std.specs.Option.{option_and_then}
+use Rattle.std.proofs.Common.{◌≡◌, ◌∙◌, ℕ, zero, suc, ◌≤◌, inl, inr, nat_le, true, List, [], Some, refl, sym, ap, subst, arith, slice_get, Contains}
 use Rattle.std.proofs.lemmas.Bool.{cases_Bool, le-leb}
 use Rattle.pls_model.specs.declared.row.Port.{Port}
 use Rattle.pls_model.specs.declared.row.NodeRow.{NodeRow}
 use Rattle.pls_model.specs.Configuration.{IsNetwork, ids_of}
 use Rattle.pls_model.specs.Walk.{Edge, Adjacent, AreJoined, IsConnected, edges_of}
-use Rattle.pls_graph.proofs.Finds.{item_at}
 use Rattle.pls_graph.proofs.Joined.{AreJoined-adjacent, AreJoined-through, AreJoined-turned}
 use Rattle.pls_graph.proofs.Members.{Contains-filter, Contains-from_place, place_from_Contains}
-use Rattle.pls_facts.specs.Pointer.{pointed_port, Falls}
 use Rattle.pls_facts.specs.SpanningTree.{IsTree, edge_at, pointed_edges}
 use Rattle.pls_facts.specs.Lightest.{IsLightest}
-use Rattle.pls_facts.proofs.Agreed.{agree_everywhere}
 use Rattle.pls_facts.proofs.CycleRule.{IsLightest-lightly, JoinsLightly, no_heavier}
 use Rattle.pls_facts.proofs.Neighbours.{neighbour_row}
-use Rattle.pls_facts.proofs.Pointed.{IsPointer, IsPointer-pointed_node, id_of_row, pointed_port_of}
 use Rattle.pls_facts.proofs.PointedEdges.{Joins-edge_at}
 use Rattle.pls_facts.proofs.PortEdges.{IsAtPort, IsGraph-network, ports_of_edge}
-use Rattle.pls_facts.proofs.Trees.{IsTree-falling}
 use Rattle.pls_centroid.specs.declared.level.CentroidLevel.{CentroidLevel}
-use Rattle.pls_pathmax.specs.declared.label.PathMaxLabel.{PathMaxLabel}
-use Rattle.pls_pathmax.specs.laws.InTree.{in_told, pointed_is}
+use Rattle.pls_levels.specs.laws.InTree.{in_told}
+use Rattle.pls_levels.specs.laws.Placed.{IsPlaced, follows, named, parent_of_root, tree_of_placed}
+use Rattle.pls_pathmax.specs.Labels.{PathMaxLabel}
 use Rattle.pls_pathmax.specs.laws.Kept.{KeepsRules, LeadsOn, Meets, said_in}
 
 module _ (rows : List NodeRow) (net : IsNetwork rows) (connected : IsConnected rows)
@@ -39,49 +34,16 @@ module _ (rows : List NodeRow) (net : IsNetwork rows) (connected : IsConnected r
   abbrev parent : ℕ → ℕ
   parent id = (say id).parent
 
+  placed : (row : NodeRow) → Contains rows row → IsPlaced say row
+  placed row in' = (keeps row in').placed
+
   -- ---- first: the pointers make a tree
 
-  depths_fall : Falls rows (λ id. (say id).depth)
-  depths_fall u v points =
-      let step : IsPointer rows u v = IsPointer-pointed_node rows net u v points in
-      let row_in : Contains rows step.row = Contains-from_place rows step.place step.row step.at in
-      let below = ((keeps step.row row_in).below step.port (pointed_is rows u v step)).0 in
-      let here = ap (λ (id : ℕ). (say id).depth) step.owner in
-      let there = ap (λ (id : ℕ). (say id).depth) step.named in
-      omega (arith, below, here, there)
-
   pub pointers_make_a_tree : IsTree rows
-  pointers_make_a_tree =
-      let (first, at) : (row : NodeRow) × (slice_get rows 0 ≡ Some row) =
-      item_at rows 0 net.limits.some in
-      let first_in : Contains rows first = Contains-from_place rows 0 first at in
-      IsTree-falling rows net (λ id. (say id).depth) depths_fall (say first.id).root
-      (λ row in' none. sym ((keeps row in').top none).1
-      ∙ agree_everywhere rows (λ id. (say id).root) connected
-      (λ row port in' has. (keeps row in').alike port has) row.id first.id
-      (id_of_row rows row in') (id_of_row rows first first_in))
+  pointers_make_a_tree = tree_of_placed rows net say placed connected
+      (λ row port in' has. (keeps row in').alike port has)
 
   -- ---- second: a port that is told to be in the tree is
-
-  follows : (row : NodeRow) (port : Port) → Contains rows row → pointed_port row ≡ Some port
-      → parent row.id ≡ own port.nbr
-  follows row port in' pointed = ((keeps row in').below port pointed).1
-
-  named : (row : NodeRow) → Contains rows row → own row.id ≡ row.id
-  named row in' = (keeps row in').own
-
-  parent_of_root : (row : NodeRow) → Contains rows row → pointed_port row ≡ None
-      → parent row.id ≡ row.id
-  parent_of_root row in' none = by row.state.up refl
-    where
-      by : (up : Option ℕ) → row.state.up ≡ up → parent row.id ≡ row.id
-      by None e = ((keeps row in').top e).2 ∙ named row in'
-      by (Some up) e =
-          let to = pointed_port_of rows net row in' up e in
-          let pointed : pointed_port row ≡ Some to.0 =
-          ap (option_and_then (slice_get row.ports)) e ∙ to.1 in
-          let no : None ≡ Some to.0 = sym none ∙ pointed in
-          absurd (cc)
 
   told_is_in : (row : NodeRow) (place : ℕ) (port : Port) → Contains rows row
       → slice_get row.ports place ≡ Some port → said_in say row place port ≡ true
@@ -89,7 +51,8 @@ module _ (rows : List NodeRow) (net : IsNetwork rows) (connected : IsConnected r
   told_is_in row place port in' at told =
       let (i, stands) : (i : ℕ) × (slice_get rows i ≡ Some row) =
       place_from_Contains rows row in' in
-      in_told rows net own parent follows named parent_of_root i place row port stands at told
+      in_told rows net own parent (follows rows net say placed) (named rows net say placed)
+      (parent_of_root rows net say placed) i place row port stands at told
 
   -- ---- third: walks lead to the centroids
 
@@ -101,7 +64,7 @@ module _ (rows : List NodeRow) (net : IsNetwork rows) (connected : IsConnected r
         → slice_get (say row.id).levels number ≡ Some level → level.hops ≡ hops
         → level.greatest ≤ most → AreJoined light row.id level.centroid
     reaches zero row in' number level at far few = elim ((keeps row in').onward number level at) [
-      | inl here ↦ ([], sym (here.1 ∙ named row in'))
+      | inl here ↦ ([], sym (here.1 ∙ (placed row in').own))
       | inr on ↦ let nearer = on.nearer in absurd (omega (arith, far, nearer))
     ]
     reaches (suc hops) row in' number level at far few =

@@ -3,7 +3,7 @@ use Rattle.std.specs.List.{list_all}
 use Rattle.pls_numbers.specs.Taking.{items_off}
 use Rattle.pls_boruvka.specs.declared.level.Level.{Level}
 use Rattle.pls_mst.specs.Labels.{level_off}
-use Rattle.pls_mst.proofs.Labels.{all_have-next}
+use Rattle.pls_mst.proofs.Looked.{all_have-next}
 use Rattle.pls_mst.proofs.reading.all_have.Goals as goal
 
 pub loop-preserved : goal.loop-preserved

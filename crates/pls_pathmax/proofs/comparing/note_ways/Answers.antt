@@ -1,8 +1,9 @@
 use Rattle.std.proofs.Common.{◌∙◌, ◌+◌, ◌||◌, ℕ, false, Option, drop, get_or, slice_get, ap, arith}
+use Rattle.std.proofs.lemmas.Option.{slice_get_past}
 use Rattle.pls_centroid.specs.declared.level.CentroidLevel.{CentroidLevel}
 use Rattle.pls_pathmax.specs.inner.OnePass.{leads_from}
 use Rattle.pls_pathmax.proofs.Compared.{leads_nothing, nothing_leads, or_nothing}
-use Rattle.pls_pathmax.proofs.LevelsLeft.{nothing_behind, slice_get-behind}
+use Rattle.pls_pathmax.proofs.LevelsLeft.{slice_get-behind}
 use Rattle.pls_pathmax.proofs.comparing.note_ways.Goals as goal
 
 pub returns-then-not-pass_levels : goal.returns-then-not-pass_levels
@@ -11,8 +12,9 @@ returns-then-not-pass_levels g c here there mine theirs k within =
     or_nothing (get_or c.args.flags.now k false)
     (leads_from c.args.weight (slice_get here (first + k)) (slice_get there (first + k)))
     (nothing_leads c.args.weight (slice_get here (first + k)) (slice_get there (first + k))
-    (nothing_behind here first (first + k)
-    (c.pass_levels.ensures.missing c.if-not-pass_levels.true here mine) (omega arith)))
+    (slice_get_past here (first + k)
+    (let few = c.pass_levels.ensures.missing c.if-not-pass_levels.true here mine in
+    omega (arith, few))))
 
 pub returns-then-not-pass_levels-2 : goal.returns-then-not-pass_levels-2
 returns-then-not-pass_levels-2 g c here there mine theirs k within =
@@ -20,8 +22,9 @@ returns-then-not-pass_levels-2 g c here there mine theirs k within =
     or_nothing (get_or c.args.flags.now k false)
     (leads_from c.args.weight (slice_get here (first + k)) (slice_get there (first + k)))
     (leads_nothing c.args.weight (slice_get here (first + k)) (slice_get there (first + k))
-    (nothing_behind there first (first + k)
-    (c.pass_levels-2.ensures.missing c.if-not-pass_levels-2.true there theirs) (omega arith)))
+    (slice_get_past there (first + k)
+    (let few = c.pass_levels-2.ensures.missing c.if-not-pass_levels-2.true there theirs in
+    omega (arith, few))))
 
 pub returns : goal.returns
 returns g c here there mine theirs k within =

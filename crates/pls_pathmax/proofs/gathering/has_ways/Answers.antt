@@ -1,11 +1,12 @@
 use Rattle.std.proofs.Common.{◌≡◌, ◌∙◌, ◌+◌, ◌||◌, ℕ, inl, inr, Bool, false, get_or, length, sym, ap, arith}
 use Rattle.std.proofs.lemmas.Bool.{cases_Bool}
+use Rattle.std.proofs.lemmas.Option.{slice_get_past}
 use Rattle.pls_scheme.specs.Reading.{reading}
 use Rattle.pls_centroid.specs.declared.level.CentroidLevel.{CentroidLevel}
 use Rattle.pls_pathmax.specs.declared.gathering.TheConstants.{WINDOW}
-use Rattle.pls_pathmax.specs.declared.label.PathMaxHead.{PathMaxHead}
+use Rattle.pls_levels.specs.declared.label.LevelHead.{LevelHead}
 use Rattle.pls_pathmax.specs.inner.OnePass.{is_own_level}
-use Rattle.pls_pathmax.proofs.LevelsLeft.{nothing_behind, slice_get-behind}
+use Rattle.pls_pathmax.proofs.LevelsLeft.{slice_get-behind}
 use Rattle.pls_pathmax.proofs.MorePorts.{led_on_many}
 use Rattle.pls_pathmax.proofs.Windows.{ways_fail, ways_hold}
 use Rattle.pls_pathmax.proofs.gathering.has_ways.Goals as goal
@@ -13,18 +14,18 @@ use Rattle.pls_pathmax.proofs.gathering.has_ways.Goals as goal
 pub returns-then-not-pass_levels : goal.returns-then-not-pass_levels
 returns-then-not-pass_levels g c id state mine ports said front flags =
     let first : ℕ = c.args.first in
-    let missing = c.pass_levels.ensures.missing c.if-not-pass_levels.true mine.levels
+    let few = c.pass_levels.ensures.missing c.if-not-pass_levels.true mine.levels
     (c.levels_of-numbers.ensures mine said) in
     sym (ways_hold (reading id state mine ports) first c.args.led_on.now flags
     (λ k level within at.
-    let none = nothing_behind mine.levels first (first + k) missing (omega arith) in
+    let none = slice_get_past mine.levels (first + k) (omega (arith, few)) in
     absurd (let wrong = sym none ∙ at in cc)))
 
 pub returns : goal.returns
 returns g c id state mine ports said front flags =
     let first : ℕ = c.args.first in
     let own : mine.own ≡ c.args.own.now.glance.now.own =
-    ap (λ (head : PathMaxHead). head.own) front in
+    ap (λ (head : LevelHead). head.own) front in
     let left = c.pass_levels.ensures.passed c.if-not-pass_levels.false mine.levels
     (c.levels_of-numbers.ensures mine said) in
     let many : length c.args.led_on.now ≡ WINDOW =

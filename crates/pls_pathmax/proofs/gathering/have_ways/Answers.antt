@@ -4,8 +4,10 @@ use Rattle.std.proofs.lemmas.List.{drop-drop}
 use Rattle.std.proofs.lemmas.Option.{same_Some}
 use Rattle.pls_centroid.specs.declared.level.CentroidLevel.{CentroidLevel}
 use Rattle.pls_pathmax.specs.inner.OnePass.{is_own_level}
+use Rattle.pls_levels.proofs.LevelsLeft.{next_left, none_left}
+use Rattle.pls_pathmax.specs.Labels.{pathmax_levels}
 use Rattle.pls_pathmax.specs.inner.Reading.{AreLeft}
-use Rattle.pls_pathmax.proofs.Labels.{next_left, none_left}
+use Rattle.pls_pathmax.specs.laws.LabelLaws.{exact_levels}
 use Rattle.pls_pathmax.proofs.LevelsLeft.{drop_at, nothing_behind}
 use Rattle.pls_pathmax.proofs.gathering.have_ways.Goals as goal
 
@@ -16,7 +18,8 @@ returns-in_default-clause-hold g c holds levels are k level within at =
       | inl before ↦ c.loop-number.invariant.hold levels are k level before at
       | inr later ↦
           let none = nothing_behind levels number k
-          (none_left c.loop-number.numbers (drop number levels) c.in_default.ensures.none
+          (none_left pathmax_levels
+          c.loop-number.numbers (drop number levels) c.in_default.ensures.none
           (c.loop-number.invariant.left levels are)) later in
           absurd (let no = sym none ∙ at in cc)
     ]
@@ -24,7 +27,8 @@ returns-in_default-clause-hold g c holds levels are k level within at =
 pub returns-then-not-has_way-clause-fail : goal.returns-then-not-has_way-clause-fail
 returns-then-not-has_way-clause-fail g c fails levels are =
     let number : ℕ = c.loop-number.number in
-    let one = next_left c.loop-number.numbers c.read_level.new.numbers c.in-Some.level
+    let one = next_left pathmax_levels exact_levels
+    c.loop-number.numbers c.read_level.new.numbers c.in-Some.level
     (drop number levels) c.in-Some.ensures.found (c.loop-number.invariant.left levels are) in (
       number,
       c.in-Some.level,
@@ -38,14 +42,16 @@ loop-number-preserved g c =
     let number : ℕ = c.loop-number.number in
     record {
       left = λ levels are. subst (AreLeft c.read_level.new.numbers) (drop-drop 1 number levels)
-          (next_left c.loop-number.numbers c.read_level.new.numbers c.in-Some.level
+          (next_left pathmax_levels exact_levels
+          c.loop-number.numbers c.read_level.new.numbers c.in-Some.level
           (drop number levels) c.in-Some.ensures.found
           (c.loop-number.invariant.left levels are)).1;
       hold = λ levels are k level below at. elim (cases_lt k number) [
         | inl before ↦ c.loop-number.invariant.hold levels are k level before at
         | inr later ↦
             let here : k ≡ number = omega (arith, below, later) in
-            let one = next_left c.loop-number.numbers c.read_level.new.numbers c.in-Some.level
+            let one = next_left pathmax_levels exact_levels
+            c.loop-number.numbers c.read_level.new.numbers c.in-Some.level
             (drop number levels) c.in-Some.ensures.found
             (c.loop-number.invariant.left levels are) in
             let same : level ≡ c.in-Some.level = same_Some level c.in-Some.level

@@ -1,8 +1,8 @@
 use Rattle.std.proofs.Common.{◌≡◌, ◌∙◌, ◌+◌, ◌&&◌, ◌||◌, ℕ, Bool, true, false, get_or, slice_get, sym, ap, arith}
 use Rattle.std.proofs.lemmas.Option.{same_Some}
 use Rattle.pls_scheme.specs.Reading.{port_with}
-use Rattle.pls_pathmax.specs.declared.label.PathMaxHead.{PathMaxHead}
-use Rattle.pls_pathmax.specs.Rules.{is_in_tree}
+use Rattle.pls_levels.specs.declared.label.LevelHead.{LevelHead}
+use Rattle.pls_levels.specs.Rules.{is_in_tree}
 use Rattle.pls_pathmax.specs.inner.OnePass.{leads_from}
 use Rattle.pls_pathmax.specs.inner.Reading.{head_said}
 use Rattle.pls_pathmax.proofs.Compared.{or_nothing}
@@ -17,7 +17,7 @@ returns-then-not-is_in_tree g c mine theirs own_read theirs_read named k within 
     let front = same_Some c.in-Some.head (head_said theirs)
     (sym c.in-Some.is ∙ c.head_of.ensures theirs theirs_read) in
     let outside : is_in_tree c.args.up mine c.args.place (port_with c.args.weight theirs) ≡ false =
-    rw (sym (ap (λ (head : PathMaxHead). head.parent) front), named)
+    rw (sym (ap (λ (head : LevelHead). head.parent) front), named)
     (sym c.is_in_tree.ensures ∙ c.if-not-is_in_tree.true) in
     or_nothing (get_or c.args.flags.now k false)
     (is_in_tree c.args.up mine c.args.place (port_with c.args.weight theirs)
@@ -30,7 +30,7 @@ returns g c mine theirs own_read theirs_read named k within =
     let front = same_Some c.in-Some.head (head_said theirs)
     (sym c.in-Some.is ∙ c.head_of.ensures theirs theirs_read) in
     let inside : is_in_tree c.args.up mine c.args.place (port_with c.args.weight theirs) ≡ true =
-    rw (sym (ap (λ (head : PathMaxHead). head.parent) front), named)
+    rw (sym (ap (λ (head : LevelHead). head.parent) front), named)
     (sym c.is_in_tree.ensures ∙ c.if-not-is_in_tree.false) in
     let same : 0 + k ≡ k = omega arith in
     let flag : Bool = get_or c.args.flags.now k false in

@@ -4,9 +4,8 @@ use Rattle.pls_view.specs.Seen.{Seen, SeenPort}
 use Rattle.pls_numbers.specs.Shape.{said_by}
 use Rattle.pls_facts.proofs.Lists.{item_mapped}
 use Rattle.pls_scheme.specs.Reading.{ReadPort, port_with, reading}
-use Rattle.pls_pathmax.specs.declared.label.PathMaxLabel.{PathMaxLabel}
-use Rattle.pls_pathmax.specs.Labels.{pathmax_shape}
-use Rattle.pls_pathmax.specs.Rules.{is_in_tree}
+use Rattle.pls_pathmax.specs.Labels.{PathMaxLabel, pathmax_shape}
+use Rattle.pls_levels.specs.Rules.{is_in_tree}
 use Rattle.pls_pathmax.specs.inner.OnePass.{is_led_on, leads_from}
 use Rattle.pls_pathmax.proofs.AllFlags.{led_step, port_read, ports_many}
 use Rattle.pls_pathmax.proofs.in_memory.note_ports.Goals as goal

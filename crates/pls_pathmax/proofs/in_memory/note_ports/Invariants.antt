@@ -1,8 +1,7 @@
 use Rattle.std.proofs.Common.{◌≡◌, ℕ, ◌<◌, false, List, Some, get_or, length, take}
 use Rattle.pls_numbers.specs.Shape.{said_by}
 use Rattle.pls_scheme.specs.Reading.{ReadPort, read_ports, reading}
-use Rattle.pls_pathmax.specs.declared.label.PathMaxLabel.{PathMaxLabel}
-use Rattle.pls_pathmax.specs.Labels.{pathmax_shape}
+use Rattle.pls_pathmax.specs.Labels.{PathMaxLabel, pathmax_shape}
 use Rattle.pls_pathmax.specs.inner.OnePass.{is_led_on}
 use Rattle.pls_pathmax.proofs.in_memory.note_ports.Given as goal
 

@@ -4,9 +4,8 @@ use Rattle.pls_view.specs.Seen.{Seen}
 use Rattle.pls_numbers.specs.Shape.{said_by}
 use Rattle.pls_scheme.specs.Reading.{Read, reading}
 use Rattle.pls_centroid.specs.declared.level.CentroidLevel.{CentroidLevel}
-use Rattle.pls_pathmax.specs.declared.label.PathMaxHead.{PathMaxHead}
-use Rattle.pls_pathmax.specs.declared.label.PathMaxLabel.{PathMaxLabel}
-use Rattle.pls_pathmax.specs.Labels.{pathmax_shape}
+use Rattle.pls_levels.specs.declared.label.LevelHead.{LevelHead}
+use Rattle.pls_pathmax.specs.Labels.{PathMaxLabel, pathmax_shape}
 use Rattle.pls_pathmax.specs.inner.OnePass.{is_led_on, is_own_level, is_settled}
 use Rattle.pls_pathmax.specs.inner.Reading.{head_said}
 use Rattle.pls_pathmax.proofs.AllFlags.{all_hold, some_fails}
@@ -37,7 +36,7 @@ returns-then-own g c =
     ∙ c.head_of.ensures rest.own
     (ap (λ (view : Seen). read view.own) c.view.view_is ∙ rest.through.own_read)) in
     let count : c.in-Some.own.count ≡ length rest.own.levels =
-    ap (λ (head : PathMaxHead). head.count) front in
+    ap (λ (head : LevelHead). head.count) front in
     c.requires ∙ further_hold read view rest.own rest.ports rest.through rest.ways
     (λ number level at later.
     let within = slice_get_within rest.own.levels number level at in
@@ -54,9 +53,9 @@ returns-then-have_ways g c =
     let front = same_Some c.in-Some.own (head_said rest.own)
     (sym c.in-Some.is ∙ c.head_of.ensures rest.own own_read) in
     let count : c.in-Some.own.count ≡ length rest.own.levels =
-    ap (λ (head : PathMaxHead). head.count) front in
+    ap (λ (head : LevelHead). head.count) front in
     let named : rest.own.own ≡ c.in-Some.own.own =
-    sym (ap (λ (head : PathMaxHead). head.own) front) in
+    sym (ap (λ (head : LevelHead). head.own) front) in
     let flags : List Bool = c.note_ports.new.flags in
     let size = c.in_ok-flags.ensures.len in
     let first = c.as_mut_slice-flags.ensures.len in
@@ -84,9 +83,9 @@ returns g c =
     let front = same_Some c.in-Some.own (head_said rest.own)
     (sym c.in-Some.is ∙ c.head_of.ensures rest.own own_read) in
     let count : c.in-Some.own.count ≡ length rest.own.levels =
-    ap (λ (head : PathMaxHead). head.count) front in
+    ap (λ (head : LevelHead). head.count) front in
     let named : rest.own.own ≡ c.in-Some.own.own =
-    sym (ap (λ (head : PathMaxHead). head.own) front) in
+    sym (ap (λ (head : LevelHead). head.own) front) in
     let flags : List Bool = c.note_ports.new.flags in
     let size = c.in_ok-flags.ensures.len in
     let first = c.as_mut_slice-flags.ensures.len in

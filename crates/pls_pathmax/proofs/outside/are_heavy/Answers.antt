@@ -6,9 +6,9 @@ use Rattle.pls_model.specs.declared.row.Port.{Port}
 use Rattle.pls_graph.specs.Places.{place_in}
 use Rattle.pls_scheme.specs.Reading.{Read, ReadPort, port_where, port_with, reading}
 use Rattle.pls_scheme.proofs.HeldRules.{place_named, place_within, said_there}
-use Rattle.pls_pathmax.specs.declared.label.PathMaxLabel.{PathMaxLabel}
+use Rattle.pls_pathmax.specs.Labels.{PathMaxLabel}
 use Rattle.pls_pathmax.specs.Rules.{is_heavy_outside, other_edges_are_heavy}
-use Rattle.pls_pathmax.specs.laws.Levelwise.{all_from_0, passes_from_0}
+use Rattle.pls_levels.specs.laws.Levelwise.{all_from_0, passes_from_0}
 use Rattle.pls_pathmax.proofs.outside.are_heavy.Goals as goal
 
 -- a port

@@ -1,7 +1,7 @@
 use Rattle.std.proofs.Common.{◌≡◌, ℕ, ◌<◌, true, Some, map, slice_get}
 use Rattle.pls_scheme.specs.Marked.{AreSaidBy}
 use Rattle.pls_scheme.specs.Reading.{ReadPort, port_where, reading}
-use Rattle.pls_pathmax.specs.declared.label.PathMaxLabel.{PathMaxLabel}
+use Rattle.pls_pathmax.specs.Labels.{PathMaxLabel}
 use Rattle.pls_pathmax.specs.Rules.{is_heavy_outside}
 use Rattle.pls_pathmax.proofs.outside.are_heavy.Given as goal
 

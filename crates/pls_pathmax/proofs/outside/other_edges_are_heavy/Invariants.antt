@@ -2,7 +2,7 @@ use Rattle.std.proofs.Common.{◌≡◌, ℕ, ◌<◌, true, Some, slice_get}
 use Rattle.pls_model.specs.declared.row.NodeRow.{NodeRow}
 use Rattle.pls_scheme.specs.Marked.{AreSaidBy}
 use Rattle.pls_scheme.specs.Reading.{read_where}
-use Rattle.pls_pathmax.specs.declared.label.PathMaxLabel.{PathMaxLabel}
+use Rattle.pls_pathmax.specs.Labels.{PathMaxLabel}
 use Rattle.pls_pathmax.specs.Rules.{other_edges_are_heavy}
 use Rattle.pls_pathmax.proofs.outside.other_edges_are_heavy.Given as goal
 

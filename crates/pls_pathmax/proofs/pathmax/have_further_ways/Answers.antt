@@ -4,8 +4,7 @@ use Rattle.std.proofs.lemmas.Option.{slice_get_within}
 use Rattle.pls_numbers.specs.Shape.{said_by}
 use Rattle.pls_scheme.specs.Basic.{verdict_by}
 use Rattle.pls_scheme.specs.Reading.{reading}
-use Rattle.pls_pathmax.specs.declared.label.PathMaxLabel.{PathMaxLabel}
-use Rattle.pls_pathmax.specs.Labels.{pathmax_shape}
+use Rattle.pls_pathmax.specs.Labels.{PathMaxLabel, pathmax_shape}
 use Rattle.pls_pathmax.specs.inner.OnePass.{is_by_rule_5, one_pass_rules}
 use Rattle.pls_pathmax.proofs.Passes.{pass_fails, pass_holds}
 use Rattle.pls_pathmax.proofs.Windows.{to_window}

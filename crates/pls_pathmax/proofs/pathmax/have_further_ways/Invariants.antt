@@ -3,8 +3,7 @@ use Rattle.pls_numbers.specs.Shape.{said_by}
 use Rattle.pls_scheme.specs.Reading.{ReadPort, reading}
 use Rattle.pls_centroid.specs.declared.level.CentroidLevel.{CentroidLevel}
 use Rattle.pls_pathmax.specs.declared.gathering.TheConstants.{WINDOW}
-use Rattle.pls_pathmax.specs.declared.label.PathMaxLabel.{PathMaxLabel}
-use Rattle.pls_pathmax.specs.Labels.{pathmax_shape}
+use Rattle.pls_pathmax.specs.Labels.{PathMaxLabel, pathmax_shape}
 use Rattle.pls_pathmax.specs.Rules.{has_way}
 use Rattle.pls_pathmax.specs.inner.OnePass.{IsReadThrough}
 use Rattle.pls_pathmax.proofs.pathmax.have_further_ways.Given as goal

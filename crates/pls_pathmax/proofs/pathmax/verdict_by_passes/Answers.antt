@@ -2,8 +2,7 @@ use Rattle.std.proofs.Common.{◌∙◌, Bool, List, Option, sym, ap, subst}
 use Rattle.pls_view.specs.Seen.{Seen}
 use Rattle.pls_numbers.specs.Shape.{said_by}
 use Rattle.pls_scheme.specs.Reading.{reading}
-use Rattle.pls_pathmax.specs.declared.label.PathMaxLabel.{PathMaxLabel}
-use Rattle.pls_pathmax.specs.Labels.{pathmax_shape}
+use Rattle.pls_pathmax.specs.Labels.{PathMaxLabel, pathmax_shape}
 use Rattle.pls_pathmax.specs.inner.OnePass.{HaveFurtherWays, is_settled}
 use Rattle.pls_pathmax.proofs.Passes.{IsOpen, further_fail, further_hold, settled_same, unsettled_open}
 use Rattle.pls_pathmax.proofs.pathmax.verdict_by_passes.Goals as goal

@@ -1,5 +1,5 @@
 use Rattle.std.proofs.Common.{ℕ, List, length, subst}
-use Rattle.pls_mst.specs.inner.Making.{AreMade}
+use Rattle.pls_levels.specs.Making.{AreMade}
 use Rattle.pls_mst.proofs.Made.{made_right}
 use Rattle.pls_mst.proofs.mst_scheme.MstRulesMarker.right_labels.Goals as goal
 

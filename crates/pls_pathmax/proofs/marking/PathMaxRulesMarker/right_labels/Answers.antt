@@ -1,11 +1,9 @@
-use Rattle.std.proofs.Common.{◌∙◌, ◌↔◌, ℕ, Bool, List, IsTrue, length, sym, subst}
+use Rattle.std.proofs.Common.{◌∙◌, ◌↔◌, Bool, List, IsTrue, sym, subst}
 use Rattle.std.proofs.lemmas.Bool.{true≢false}
 use Rattle.pls_facts.specs.MinimumSpanningTree.{IsMinimumSpanningTree}
-use Rattle.pls_centroid.specs.declared.level.CentroidLevel.{CentroidLevel}
-use Rattle.pls_pathmax.specs.declared.label.PathMaxLabel.{PathMaxLabel}
-use Rattle.pls_pathmax.specs.inner.Making.{AreMade}
+use Rattle.pls_pathmax.specs.Labels.{PathMaxLabel}
 use Rattle.pls_pathmax.proofs.Decided.{TellsRule6, decided}
-use Rattle.pls_pathmax.proofs.Made.{made_right}
+use Rattle.pls_pathmax.proofs.Made.{made_of_same}
 use Rattle.pls_pathmax.proofs.marking.PathMaxRulesMarker.right_labels.Goals as goal
 
 pub returns-then-other_edges_are_heavy-clause-right :
@@ -15,13 +13,9 @@ returns-then-other_edges_are_heavy-clause-right g c =
     let only = rw c.in-Some.is at (c.in_ok-root.ensures.root) in
     let deep = rw c.in-Some.is at (c.in_ok-root.ensures.depths) in
     let labels = c.in_ok-labels.labels.items in
-    made_right rows c.in-Some.root c.in-Some.depths.items c.in_ok-lists.lists.items
-    c.root_and_depths.ensures.valid only deep c.in_ok-lists.ensures.levels labels
-    (subst (λ (lists : List (List CentroidLevel)).
-    AreMade rows c.in-Some.root c.in-Some.depths.items lists (length rows) labels)
-    c.as_slice.ensures.value (subst (λ (depths : List ℕ).
-    AreMade rows c.in-Some.root depths c.as_slice.result.now (length rows) labels)
-    c.deref.ensures.value c.in_ok-labels.ensures))
+    made_of_same rows c.in-Some.root c.in-Some.depths.items _ c.in_ok-lists.lists.items _
+    c.root_and_depths.ensures.valid only deep c.in_ok-lists.ensures.levels c.deref.ensures.value
+    c.from_vec-lists.ensures labels c.in_ok-labels.ensures
 
 pub returns-then-other_edges_are_heavy-clause-holds :
     goal.returns-then-other_edges_are_heavy-clause-holds
@@ -32,17 +26,13 @@ returns-then-other_edges_are_heavy-clause-holds g c =
     let is_tree = rw c.in-Some.is at (c.in_ok-root.ensures.holds) in
     let labels = c.in_ok-labels.labels.items in
     let told : Bool = c.other_edges_are_heavy.result in
-    let right = made_right rows c.in-Some.root c.in-Some.depths.items c.in_ok-lists.lists.items
-    c.root_and_depths.ensures.valid only deep c.in_ok-lists.ensures.levels labels
-    (subst (λ (lists : List (List CentroidLevel)).
-    AreMade rows c.in-Some.root c.in-Some.depths.items lists (length rows) labels)
-    c.as_slice.ensures.value (subst (λ (depths : List ℕ).
-    AreMade rows c.in-Some.root depths c.as_slice.result.now (length rows) labels)
-    c.deref.ensures.value c.in_ok-labels.ensures)) in
+    let right = made_of_same rows c.in-Some.root c.in-Some.depths.items _ c.in_ok-lists.lists.items
+    _ c.root_and_depths.ensures.valid only deep c.in_ok-lists.ensures.levels c.deref.ensures.value
+    c.from_vec-lists.ensures labels c.in_ok-labels.ensures in
     let law : IsTrue told ↔ IsMinimumSpanningTree rows =
     decided rows c.root_and_depths.ensures.valid c.requires is_tree labels right told
     (subst (λ (labels : List PathMaxLabel). TellsRule6 rows labels told)
-    c.as_slice-2.ensures.value c.other_edges_are_heavy.ensures) in
+    c.as_slice.ensures.value c.other_edges_are_heavy.ensures) in
     law.0 c.if-other_edges_are_heavy.true
 
 pub returns-clause-lacking : goal.returns-clause-lacking
@@ -52,15 +42,11 @@ returns-clause-lacking g c holds =
     let deep = rw c.in-Some.is at (c.in_ok-root.ensures.depths) in
     let labels = c.in_ok-labels.labels.items in
     let told : Bool = c.other_edges_are_heavy.result in
-    let right = made_right rows c.in-Some.root c.in-Some.depths.items c.in_ok-lists.lists.items
-    c.root_and_depths.ensures.valid only deep c.in_ok-lists.ensures.levels labels
-    (subst (λ (lists : List (List CentroidLevel)).
-    AreMade rows c.in-Some.root c.in-Some.depths.items lists (length rows) labels)
-    c.as_slice.ensures.value (subst (λ (depths : List ℕ).
-    AreMade rows c.in-Some.root depths c.as_slice.result.now (length rows) labels)
-    c.deref.ensures.value c.in_ok-labels.ensures)) in
+    let right = made_of_same rows c.in-Some.root c.in-Some.depths.items _ c.in_ok-lists.lists.items
+    _ c.root_and_depths.ensures.valid only deep c.in_ok-lists.ensures.levels c.deref.ensures.value
+    c.from_vec-lists.ensures labels c.in_ok-labels.ensures in
     let law : IsTrue told ↔ IsMinimumSpanningTree rows =
     decided rows c.root_and_depths.ensures.valid c.requires holds.tree labels right told
     (subst (λ (labels : List PathMaxLabel). TellsRule6 rows labels told)
-    c.as_slice-2.ensures.value c.other_edges_are_heavy.ensures) in
+    c.as_slice.ensures.value c.other_edges_are_heavy.ensures) in
     true≢false (sym (law.1 holds) ∙ c.if-other_edges_are_heavy.false)

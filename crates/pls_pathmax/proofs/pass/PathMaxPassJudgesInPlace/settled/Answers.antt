@@ -1,6 +1,6 @@
 use Rattle.std.proofs.Common.{◌≡◌, ◌∙◌, false, refl, sym}
 use Rattle.pls_scheme.specs.Reading.{reading}
-use Rattle.pls_pathmax.specs.Rules.{is_placed_in_tree}
+use Rattle.pls_levels.specs.Rules.{is_placed_in_tree}
 use Rattle.pls_pathmax.proofs.pass.PathMaxPassJudgesInPlace.settled.Goals as goal
 
 pub returns-else-is_placed : goal.returns-else-is_placed

@@ -1,0 +1,5 @@
+pub mod Labels
+pub mod LevelsLeft
+mod Written
+mod Logarithm
+pub mod Made

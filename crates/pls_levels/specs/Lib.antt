@@ -1,0 +1,4 @@
+pub mod Labels
+pub mod Rules
+pub mod Making
+pub mod laws
