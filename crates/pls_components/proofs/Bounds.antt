@@ -1,5 +1,5 @@
 -- The greatest bound and the sum of the bounds, as numbers of 64 bits.
-use Rattle.std.proofs.Common.{◌≡◌, ◌∙◌, ℕ, ◌+◌, ◌*◌, ◌≤◌, min, max, inl, inr, List, [], ◌∷◌, ◌++◌, map, take, slice_get, Some, refl, sym, ap, arith}
+use Rattle.std.proofs.Common.{◌≡◌, ◌∙◌, ℕ, ◌+◌, ◌*◌, ◌≤◌, min, max, fold, inl, inr, List, [], ◌∷◌, ◌++◌, map, take, slice_get, Some, refl, sym, ap, arith}
 use Rattle.std.specs.List.{sum_by}
 use Rattle.std.proofs.Math.Nat.{le-mul_of_pos_right, mul_comm}
 use Rattle.std.proofs.lemmas.Bool.{cases_lt}
@@ -8,10 +8,25 @@ use Rattle.std.proofs.lemmas.List.Sums.{sum_by_push}
 use Rattle.pls_graph.specs.Size.{greatest}
 use Rattle.pls_facts.proofs.Lists.{take_one_more}
 
-greatest-push : (numbers : List ℕ) (number : ℕ)
-    → greatest (numbers ++ number ∷ []) ≡ max (greatest numbers) number
-greatest-push [] number = omega arith
-greatest-push (first ∷ numbers) number = let rest = greatest-push numbers number in omega arith
+pub greatest-append : (xs ys : List ℕ) → greatest (xs ++ ys) ≡ max (greatest xs) (greatest ys)
+greatest-append [] ys = omega arith
+greatest-append (x ∷ xs) ys = rw (greatest-append xs ys) (omega arith)
+
+-- the greatest with one more
+pub greatest_one_more : {X : Type 0} (f : X → ℕ) (xs : List X) (x : X)
+    → greatest (map f (xs ++ x ∷ [])) ≡ max (greatest (map f xs)) (f x)
+greatest_one_more f xs x =
+    ap greatest (map-append f xs (x ∷ [])) ∙ greatest-append (map f xs) (f x ∷ []) ∙ omega arith
+
+fold-from : {X : Type 0} (f : X → ℕ) (least : ℕ) (xs : List X)
+    → fold (λ most x. max most (f x)) least xs ≡ max least (greatest (map f xs))
+fold-from f least [] = omega arith
+fold-from f least (x ∷ xs) = fold-from f (max least (f x)) xs ∙ omega arith
+
+-- the greatest so far, over the whole list
+pub fold_greatest : {X : Type 0} (f : X → ℕ) (xs : List X)
+    → fold (λ most x. max most (f x)) 0 xs ≡ greatest (map f xs)
+fold_greatest f xs = fold-from f 0 xs ∙ omega arith
 
 pub greatest-more : {X : Type 0} (f : X → ℕ) (xs : List X) (k most limit : ℕ) (x : X)
     → slice_get xs k ≡ Some x → most ≡ min (greatest (map f (take k xs))) limit
@@ -19,8 +34,7 @@ pub greatest-more : {X : Type 0} (f : X → ℕ) (xs : List X) (k most limit : �
 greatest-more {X} f xs k most limit x at so_far =
     let all : greatest (map f (take (k + 1) xs)) ≡ max (greatest (map f (take k xs))) (f x) =
     ap (λ (front : List X). greatest (map f front)) (sym (take_one_more xs k x (take k xs) refl at))
-    ∙ ap greatest (map-append f (take k xs) (x ∷ []))
-    ∙ greatest-push (map f (take k xs)) (f x) in
+    ∙ greatest_one_more f (take k xs) x in
     omega arith
 
 -- one component more in a sum that stops at a limit

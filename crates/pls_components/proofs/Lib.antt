@@ -18,4 +18,5 @@ pub mod Partition
 pub mod OneMarking
 pub mod Empty
 mod PartPlaces
+mod PartSize
 mod One

@@ -1,10 +1,13 @@
 -- Labels that are put in some places, one after the other.
-use Rattle.std.proofs.Common.{◌≡◌, ◌≢◌, ◌∙◌, ℕ, zero, suc, ◌+◌, ◌<◌, ◌≤◌, Bool, List, [], ◌∷◌, ◌++◌, length, take, get_or, set, slice_get, Contains, Some, refl, sym, ap, arith, get_or-take, length-take}
+use Rattle.std.proofs.Common.{◌≡◌, ◌≢◌, ◌∙◌, ℕ, zero, suc, ◌+◌, ◌<◌, ◌≤◌, Bool, List, [], ◌∷◌, ◌++◌, length, drop, take, get_or, set, slice_get, Contains, Some, refl, sym, ap, arith, get_or-take, length-drop, length-take}
 use Rattle.std.proofs.lemmas.List.{get_or_default, length-set, take_all, take_more}
 use Rattle.std.proofs.lemmas.List.Elements.{Contains-append_left, Contains-push}
+use Rattle.std.proofs.lemmas.List.Sums.{sum_by-drop_more}
 use Rattle.std.proofs.lemmas.Option.{get_or_from_slice_get, slice_get_within}
+use Rattle.pls_view.specs.Labels.{bits_together}
+use Rattle.pls_view.specs.Stored.{cost}
 use Rattle.pls_components.specs.Components.{NumbersRise, items_at}
-use Rattle.pls_components.specs.inner.Marking.{ArePutAt}
+use Rattle.pls_components.specs.inner.Marking.{ArePutAt, room_for}
 use Rattle.pls_components.proofs.Items.{items-more}
 
 module _ {X : Type 0} where
@@ -95,3 +98,25 @@ ArePutAt-end places put old now j past each so_far = record {
   where
     all : take j places ≡ places
     all = take_all j places past
+
+-- where there is room for the labels from one on, there is room for it, and then for those behind it
+module _ (put : List (List Bool)) (j : ℕ) (label : List Bool) (at : slice_get put j ≡ Some label)
+    (spare : ℕ) (room : room_for (drop j put) ≤ spare) where
+  first-bits : bits_together (drop j put) ≡ length label + bits_together (drop (j + 1) put)
+  first-bits = sum_by-drop_more (length {A = Bool}) put j label (slice_get_within put j label at)
+      ∙ ap (λ (first : List Bool). length first + bits_together (drop (j + 1) put))
+      (get_or_from_slice_get put j label label at)
+
+  pub room_for-first : cost (length label) ≤ spare
+  room_for-first =
+      let inside = slice_get_within put j label at in
+      let many = length-drop j put in
+      omega (arith, inside, many, first-bits, room)
+
+  pub room_for-others : (after : ℕ) → after + cost (length label) ≡ spare
+      → room_for (drop (j + 1) put) ≤ after
+  room_for-others after spent =
+      let inside = slice_get_within put j label at in
+      let many = length-drop j put in
+      let fewer = length-drop (j + 1) put in
+      omega (arith, inside, many, fewer, first-bits, room, spent)

@@ -4,6 +4,7 @@ ghost use Rattle.std.specs.Prelude.{◌≡◌, ◌<◌, ◌++◌, ◌∷◌, ℕ
 ghost use Rattle.pls_model.specs.declared.row.NodeRow.{NodeRow};
 ghost use Rattle.pls_components.specs.Components.{AreComponents, StandsIn, items_at, least_id};
 
+use crate::part_size::size_at;
 use pls_base::NoMemory;
 use pls_graph::{Network, NetworkBuilder};
 use std::alloc::Global;
@@ -91,7 +92,9 @@ impl Components {
     {
         // A network is valid.
         net.len();
-        let rows = rows_of(alloc, net, self.members(k))?;
+        let places = self.members(k);
+        let ports = size_at(net, places).ports as usize;
+        let rows = rows_of(alloc, net, places, ports)?;
         match rows.build(alloc) {
             Ok(part) => Ok(part),
             // No refusal is met by the rows of a component, so that memory was short.
@@ -100,11 +103,17 @@ impl Components {
     }
 }
 
-fn rows_of(alloc: Global, net: &Network, places: &[u32]) -> Result<NetworkBuilder, NoMemory>
+// With room for so many ports.
+fn rows_of(
+    alloc: Global,
+    net: &Network,
+    places: &[u32],
+    ports: usize,
+) -> Result<NetworkBuilder, NoMemory>
     requires { All (λ place. place < length net.now) places.now }
     ensures { IfOk result (λ rows. rows ≡ items_at net.now places.now) }
 {
-    let mut rows = NetworkBuilder::with_capacity(alloc, places.len(), 0)?;
+    let mut rows = NetworkBuilder::with_capacity(alloc, places.len(), ports)?;
     for place in places {
         put_row(&mut rows, net, *place as usize)?;
     }

@@ -23,6 +23,7 @@ mod laws;
 mod marked;
 mod part_bounds;
 mod part_marks;
+mod part_size;
 
 pub use component_list::Components;
 pub use finding::components;

@@ -6,14 +6,15 @@ ghost use Rattle.pls_components.specs.Components.{AreComponents};
 ghost use Rattle.pls_components.specs.Parts.{bound_of_parts, room_of_parts};
 
 use crate::component_list::Components;
+use crate::part_size::size_at;
 use pls_base::NoMemory;
 use pls_graph::Network;
 use pls_scheme::Scheme;
 use std::alloc::Global;
 
 /// The greatest number of bits of a marked label, where each component is marked by itself: the
-/// greatest of the scheme's bounds for the components, or `u64::MAX` where it is greater. The one
-/// error is want of memory.
+/// greatest of the scheme's bounds for the components, or `u64::MAX` where it is greater. It takes no
+/// memory, so that there is no error.
 pub fn bound_parts<S: Scheme>(
     alloc: Global,
     scheme: &S,
@@ -31,14 +32,14 @@ pub fn bound_parts<S: Scheme>(
     }
     let mut most = 0;
     for k in 0..parts.len() {
-        let part = parts.part(alloc, net, k)?;
-        most = greater(most, scheme.bound(&part.size()));
+        let size = size_at(net, parts.members(k));
+        most = greater(most, scheme.bound(&size));
     }
     Ok(most)
 }
 
 /// The greatest number of bits of all marked labels together: the sum over the components of nodes
-/// times bound, or `u64::MAX` where it is greater. The one error is want of memory.
+/// times bound, or `u64::MAX` where it is greater. It takes no memory, so that there is no error.
 pub fn room_parts<S: Scheme>(
     alloc: Global,
     scheme: &S,
@@ -56,9 +57,9 @@ pub fn room_parts<S: Scheme>(
     }
     let mut room: u64 = 0;
     for k in 0..parts.len() {
-        let part = parts.part(alloc, net, k)?;
-        let bound = scheme.bound(&part.size());
-        room = room.saturating_add(bound.saturating_mul(part.len() as u64));
+        let places = parts.members(k);
+        let bound = scheme.bound(&size_at(net, places));
+        room = room.saturating_add(bound.saturating_mul(places.len() as u64));
     }
     Ok(room)
 }

@@ -1,19 +1,21 @@
 //! Marking a network whose components are marked each by itself.
 
-ghost use Rattle.std.specs.Prelude.{◌≡◌, ◌<◌, ◌∷◌, ℕ, List, Some, All, IfOk, OnOk, [], length, slice_get};
+ghost use Rattle.std.specs.Prelude.{◌≡◌, ◌≤◌, ◌<◌, ◌^◌, ◌∷◌, ℕ, List, Some, All, IfOk, OnOk, [], length, slice_get};
 ghost use Rattle.pls_components.specs.Components.{AreComponents, NumbersRise};
 ghost use Rattle.pls_components.specs.Parts.{AreLacking, AreShown, IfLabels, IfLacking};
-ghost use Rattle.pls_components.specs.inner.Marking.{ArePutAt, IsPartMarked};
+ghost use Rattle.pls_components.specs.inner.Marking.{ArePutAt, IsPartMarked, room_for};
 
 use crate::component_list::Components;
 use crate::id_list::IdList;
 use crate::marked::Marked;
 use pls_base::NoMemory;
-use pls_bits::BitBuf;
 use pls_graph::Network;
 use pls_scheme::Scheme;
-use pls_view::LabelStore;
+use pls_view::{LabelRoom, LabelStore};
 use std::alloc::Global;
+
+// The greatest number of bits of the labels of a component, 2^60. More find no memory.
+const MOST: u64 = 1_152_921_504_606_846_976;
 
 /// The labels that prove the property of each component, or the smallest identities of those that
 /// lack it, exactly where there are such. The one error is want of memory.
@@ -37,10 +39,9 @@ pub fn mark_parts<S: Scheme>(
     net.len();
     let mut labels = LabelStore::blank(alloc, net.len())?;
     let mut ids = Vec::new(alloc);
-    let mut bits = BitBuf::new(alloc);
     // Behind a component that lacks the property the others are asked too, so that all are named.
     for k in 0..parts.len() {
-        if !mark_part(alloc, scheme, net, parts, k, &mut bits, &mut labels)? {
+        if !mark_part(alloc, scheme, net, parts, k, &mut labels)? {
             ids.push(parts.smallest_id(net, k))?;
         }
     }
@@ -85,7 +86,6 @@ fn mark_part<S: Scheme>(
     net: &Network,
     parts: &Components,
     k: usize,
-    bits: &mut BitBuf,
     labels: &mut LabelStore,
 ) -> Result<bool, NoMemory>
     requires made { AreComponents net.now parts.now }
@@ -100,29 +100,40 @@ fn mark_part<S: Scheme>(
     let part = parts.part(alloc, net, k)?;
     match scheme.mark(alloc, &part)? {
         Some(marked) => {
-            put_labels(labels, bits, parts.members(k), &marked)?;
+            put_labels(labels, parts.members(k), &marked)?;
             Ok(true)
         }
         None => Ok(false),
     }
 }
 
-// `bits` is room that is used for one label after the other.
-fn put_labels(
-    labels: &mut LabelStore,
-    bits: &mut BitBuf,
-    places: &[u32],
-    marked: &LabelStore,
-) -> Result<(), NoMemory>
+// Puts labels at places, behind room for all of them, so that none takes memory of its own.
+fn put_labels(labels: &mut LabelStore, places: &[u32], marked: &LabelStore) -> Result<(), NoMemory>
     requires rising { NumbersRise places.now }
     requires within { All (λ place. place < length labels.old) places.now }
+    requires few { length places.now ≤ 2 ^ 20 }
     requires each { length marked.now ≡ length places.now }
     ensures { OnOk result (ArePutAt places.now marked.now labels.old labels.new) }
 {
-    for (j, place) in places.iter().enumerate() {
-        bits.clear();
-        bits.append(marked.bits(j))?;
-        labels.replace(*place as usize, bits)?;
+    let bits = marked.total();
+    if bits > MOST {
+        return Err(NoMemory);
     }
+    let room = labels.with_room();
+    room.reserve(bits + 64 * places.len() as u64)?;
+    put_into(room, places, marked);
     Ok(())
+}
+
+// The same where there is room, in which each label begins a word of its own. It takes no memory.
+fn put_into(room: &mut LabelRoom, places: &[u32], marked: &LabelStore)
+    requires rising { NumbersRise places.now }
+    requires within { All (λ place. place < length room.old.labels) places.now }
+    requires each { length marked.now ≡ length places.now }
+    requires room { room_for marked.now ≤ room.old.spare }
+    ensures { ArePutAt places.now marked.now room.old.labels room.new.labels }
+{
+    for (j, place) in places.iter().enumerate() {
+        room.replace_spare(*place as usize, marked.bits(j));
+    }
 }

@@ -1,5 +1,4 @@
--- The compact text of the value of a node or of a component is its text; and texts with commas
--- between them.
+-- The compact text of the value of a node is its text; and texts with commas between them.
 use Rattle.std.proofs.Common.{◌≡◌, ℕ, true, false, List, [], ◌∷◌, ◌++◌, ◌==◌, length, refl, sym, ap, append-nil, append_assoc, map, codes, decimal, take, get_or, ◌∙◌, ◌+◌, ◌<◌, arith}
 use Rattle.std.proofs.lemmas.Bool.{ne_eqb}
 use Rattle.std.proofs.lemmas.List.{length-map, length-take, map-append, take_more}
@@ -10,9 +9,8 @@ use Rattle.serde_json.proofs.OnLiterals.{serde_json_on_literals}
 use Rattle.pls_model.specs.declared.verdict.Verdict.TheVariants.{Accept, Reject}
 use Rattle.pls_sim.specs.declared.outcome.Outcome.{Outcome}
 use Rattle.pls_sim.specs.declared.outcome.Outcome.TheVariants.{Decided, Waiting}
-use Rattle.pls_report.specs.declared.part_row.PartRow.{PartRow}
-use Rattle.pls_json.specs.Json.{behind_commas, with_commas, node_text, part_text}
-use Rattle.pls_json.specs.inner.Values.{after_others, node_data, number_data, part_data}
+use Rattle.pls_json.specs.Json.{behind_commas, with_commas, node_text}
+use Rattle.pls_json.specs.inner.Values.{after_others, node_data, number_data}
 
 module _ {X : Type 0} (value : X → Data) where
   -- where each item has its text, so have the items behind a first
@@ -58,10 +56,6 @@ node-text (id, Waiting ports) =
       items-text number_data decimal (λ n. refl) ports,
       append_assoc (with_commas (map decimal ports)) (93 ∷ []),
     ) refl
-
-pub part-text : (part : PartRow) → compact_text (part_data part) ≡ part_text part
-unfolding serde_json_on_literals
-part-text part = refl
 
 -- texts with one more behind them
 behind_commas-more : (texts : List (List ℕ)) (text : List ℕ)

@@ -4,7 +4,7 @@ ghost use Rattle.std.specs.Prelude.{◌≡◌, ◌++◌, ◌∷◌, [], codes, d
 ghost use Rattle.serde_json.specs.Data.{array};
 ghost use Rattle.serde_json.specs.View.{items_of, view};
 ghost use Rattle.pls_json.specs.Json.{json_text, node_text, part_text, parts_text, with_commas};
-ghost use Rattle.pls_json.specs.inner.Values.{after_others, node_data, number_data, part_data};
+ghost use Rattle.pls_json.specs.inner.Values.{after_others, comma_before, node_data, number_data};
 
 use pls_base::NoMemory;
 use pls_model::Verdict;
@@ -17,8 +17,8 @@ use std::fmt::Write;
 /// The report of nodes, each with its identity and its outcome, as one compact line of JSON
 /// (RFC 8259) and a line feed: an object with the components (`parts`) in their order, where there
 /// are two or more, the nodes in theirs, how many reject and how many wait, its keys in the order
-/// of the alphabet. The value of a node or a component goes as soon as its text is there. The one
-/// error is want of memory.
+/// of the alphabet. The value of a node goes as soon as its text is there. The one error is want of
+/// memory.
 pub fn json_report(
     alloc: Global,
     rows: &[(u32, Outcome)],
@@ -28,7 +28,7 @@ pub fn json_report(
 {
     let mut text = String::new(alloc);
     text.push_str("{")?;
-    push_parts(alloc, &mut text, parts)?;
+    push_parts(&mut text, parts)?;
     text.push_str("\"nodes\":[")?;
     push_nodes(alloc, &mut text, rows)?;
     push_counts(&mut text, rejecting(rows), waiting(rows))?;
@@ -72,27 +72,48 @@ fn push_node(
 }
 
 // Adds the components, where there are two or more.
-fn push_parts(alloc: Global, text: &mut String, parts: &[PartRow]) -> Result<(), NoMemory>
+fn push_parts(text: &mut String, parts: &[PartRow]) -> Result<(), NoMemory>
     ensures { OnOk result (string_bytes text.new ≡ string_bytes text.old ++ parts_text parts.now) }
 {
     if parts.len() < 2 {
         return Ok(());
     }
     text.push_str("\"components\":[")?;
-    push_each_part(alloc, text, parts)?;
+    push_each_part(text, parts)?;
     text.push_str("],")?;
     Ok(())
 }
 
 // Adds the objects of components, with a comma between each two.
-fn push_each_part(alloc: Global, text: &mut String, parts: &[PartRow]) -> Result<(), NoMemory>
+fn push_each_part(text: &mut String, parts: &[PartRow]) -> Result<(), NoMemory>
     ensures { OnOk result (string_bytes text.new
         ≡ string_bytes text.old ++ with_commas (map part_text parts.now)) }
 {
     for (i, part) in parts.iter().enumerate() {
-        let object = part_object(alloc, *part)?;
-        push_behind(text, i == 0, &object)?;
+        push_part(text, i == 0, *part)?;
     }
+    Ok(())
+}
+
+// Adds the object of a component, behind a comma if it is not the first. All its members are numbers,
+// and there may be as many components as nodes: no value is made of them.
+fn push_part(text: &mut String, first: bool, part: PartRow) -> Result<(), NoMemory>
+    ensures { OnOk result (string_bytes text.new
+        ≡ string_bytes text.old ++ after_others first (part_text part)) }
+{
+    let PartRow {
+        id,
+        nodes,
+        rejecting,
+        waiting,
+    } = part;
+    push_comma(text, first)?;
+    text.push_str("{\"id\":")?;
+    write!(
+        text,
+        "{id},\"nodes\":{nodes},\"rejecting\":{rejecting},\"waiting\":{waiting}"
+    )?;
+    text.push_str("}")?;
     Ok(())
 }
 
@@ -101,31 +122,19 @@ fn push_behind(text: &mut String, first: bool, object: &str) -> Result<(), NoMem
     ensures { OnOk result (string_bytes text.new
         ≡ string_bytes text.old ++ after_others first object.now) }
 {
-    if !first {
-        text.push_str(",")?;
-    }
+    push_comma(text, first)?;
     text.push_str(object)?;
     Ok(())
 }
 
-// The object of a component as text.
-fn part_object(alloc: Global, part: PartRow) -> Result<String, NoMemory>
-    ensures { IfOk result (λ text. string_bytes text ≡ part_text part) }
+// Adds the comma that stands before all but the first.
+fn push_comma(text: &mut String, first: bool) -> Result<(), NoMemory>
+    ensures { OnOk result (string_bytes text.new ≡ string_bytes text.old ++ comma_before first) }
 {
-    let text = part_value(alloc, part)?.to_string(alloc)?;
-    Ok(text)
-}
-
-// The value of a component.
-fn part_value(alloc: Global, part: PartRow) -> Result<Value, AllocError>
-    ensures { IfOk result (λ value. view value ≡ part_data part) }
-{
-    json!(in alloc; {
-        "id": part.id,
-        "nodes": part.nodes,
-        "rejecting": part.rejecting,
-        "waiting": part.waiting,
-    })
+    if !first {
+        text.push_str(",")?;
+    }
+    Ok(())
 }
 
 // The object of a node as text.

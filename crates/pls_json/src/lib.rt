@@ -1,4 +1,4 @@
-//! Reports as JSON, made with `serde_json`.
+//! Reports as JSON, their nodes made with `serde_json`.
 //!
 //! [`json_report`] gives the text of a report as one compact line; `specs/Json` says which, key by
 //! key. No other crate reads `serde_json`.

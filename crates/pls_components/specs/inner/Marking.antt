@@ -1,8 +1,9 @@
 -- What is known while one component after the other is marked.
-use Rattle.std.specs.Prelude.{◌≡◌, ◌⊎◌, ℕ, ◌<◌, Bool, true, false, List, Contains, Some, length, slice_get}
+use Rattle.std.specs.Prelude.{◌≡◌, ◌⊎◌, ℕ, ◌+◌, ◌*◌, ◌<◌, Bool, true, false, List, Contains, Some, length, slice_get}
 use Rattle.pls_model.specs.declared.row.NodeRow.{NodeRow}
 use Rattle.pls_model.specs.declared.verdict.Verdict.{Verdict}
 use Rattle.pls_graph.specs.declared.size.Size.{Size}
+use Rattle.pls_view.specs.Labels.{bits_together}
 use Rattle.pls_view.specs.Seen.{Seen}
 use Rattle.pls_scheme.specs.Judging.{AllAccept}
 use Rattle.pls_components.specs.Components.{NumbersRise, items_at, least_id}
@@ -17,6 +18,10 @@ pub record IsShownBy (holds : List NodeRow → Type 0)
   pub each : length labels ≡ length rows
   pub accepted : AllAccept judge rows labels
   pub short : AreWithinBound longest rows labels
+
+-- how many bits labels take at most, where each begins a word of its own
+abbrev pub room_for : List (List Bool) → ℕ
+room_for labels = bits_together labels + 64 * length labels
 
 -- these labels stand at these places now, one behind the other, and the other labels are as before
 pub record ArePutAt (places : List ℕ) (put old new : List (List Bool)) : Type 0 where

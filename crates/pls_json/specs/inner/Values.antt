@@ -1,11 +1,10 @@
--- The JSON values of a node and of a component, and where their texts stand.
-use Rattle.std.specs.Prelude.{ℕ, Bool, if◌then◌else◌, List, ◌∷◌, codes, map}
+-- The JSON value of a node, and where texts stand.
+use Rattle.std.specs.Prelude.{ℕ, Bool, if◌then◌else◌, List, [], ◌∷◌, ◌++◌, codes, map}
 use Rattle.serde_json.specs.Data.{Data, Members, number, unsigned, string, array, object, member, no_members}
 use Rattle.serde_json.specs.View.{items_of}
 use Rattle.pls_model.specs.declared.verdict.Verdict.TheVariants.{Accept, Reject}
 use Rattle.pls_sim.specs.declared.outcome.Outcome.{Outcome}
 use Rattle.pls_sim.specs.declared.outcome.Outcome.TheVariants.{Decided, Waiting}
-use Rattle.pls_report.specs.declared.part_row.PartRow.{PartRow}
 
 -- a number
 abbrev pub number_data : ℕ → Data
@@ -29,14 +28,10 @@ outcome_members (Waiting ports) =
 abbrev pub node_data : ℕ × Outcome → Data
 node_data row = object (member (codes "id") (number_data row.0) (outcome_members row.1))
 
--- the object of a component
-abbrev pub part_data : PartRow → Data
-part_data part =
-    object (member (codes "id") (number_data part.id)
-    (member (codes "nodes") (number_data part.nodes)
-    (member (codes "rejecting") (number_data part.rejecting)
-    (member (codes "waiting") (number_data part.waiting) no_members))))
+-- the comma that stands before all but the first
+abbrev pub comma_before : Bool → List ℕ
+comma_before first = if first then [] else 44 ∷ []
 
 -- a text that stands behind others, with a comma in front, or first
 abbrev pub after_others : Bool → List ℕ → List ℕ
-after_others first text = if first then text else 44 ∷ text
+after_others first text = comma_before first ++ text

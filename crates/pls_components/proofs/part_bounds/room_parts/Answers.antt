@@ -1,16 +1,13 @@
-use Rattle.std.proofs.Common.{◌≡◌, ◌∙◌, ◌+◌, ◌*◌, ◌-◌, ◌^◌, ◌≤◌, ℕ, List, ap, length, min, slice_get, Some, sym, take, arith}
+use Rattle.std.proofs.Common.{◌≡◌, ◌∙◌, ◌+◌, ◌*◌, ◌-◌, ◌^◌, ◌≤◌, ℕ, List, ap, length, min, take, arith}
 use Rattle.std.specs.List.{sum_by}
 use Rattle.pls_graph.specs.declared.size.Size.{Size}
 use Rattle.pls_graph.specs.Size.{size_of}
-use Rattle.pls_model.specs.declared.row.NodeRow.{NodeRow}
-use Rattle.pls_graph.proofs.Members.{Contains-from_place}
 use Rattle.pls_base.specs.Steps.{capped}
 use Rattle.pls_components.specs.Components.{IsComponent, items_at}
 use Rattle.pls_components.specs.Parts.{room_of_parts}
 use Rattle.pls_components.proofs.Bounds.{saturated, sum-more}
-use Rattle.pls_components.proofs.Items.{length-items}
-use Rattle.pls_components.proofs.Part.{places_within}
-use Rattle.pls_components.proofs.PartPlaces.{only_one, part_places}
+use Rattle.pls_components.proofs.Part.{part_network, places_within}
+use Rattle.pls_components.proofs.PartPlaces.{component_at, only_one}
 use Rattle.pls_components.proofs.Whole.{whole_room}
 use Rattle.pls_components.proofs.part_bounds.room_parts.Goals as goal
 
@@ -32,33 +29,40 @@ returns-then-len-eq1 g c =
     omega (arith, c.saturating_mul.ensures, product, capped, whole) in
     all
 
+pub size_at-requires-clause-within : goal.size_at-requires-clause-within
+size_at-requires-clause-within g c =
+    let places = c.members-places.result.now in
+    places_within c.args.net.now c.len-nodes.ensures.valid places
+    (component_at c.args.net.now c.args.parts.now c.requires c.loop-k.k places
+    c.members-places.ensures)
+
+pub size_at-requires-clause-network : goal.size_at-requires-clause-network
+size_at-requires-clause-network g c =
+    let places = c.members-places.result.now in
+    part_network c.args.net.now c.len-nodes.ensures.valid places
+    (component_at c.args.net.now c.args.parts.now c.requires c.loop-k.k places
+    c.members-places.ensures)
+
 pub loop-k-preserved : goal.loop-k-preserved
 loop-k-preserved g c =
     let net = c.args.net.now in
     let parts = c.args.parts.now in
     let k = c.loop-k.k in
-    let limit : ℕ = 2 ^ 64 - 1 in
+    let places = c.members-places.result.now in
     let longest : Size → ℕ = g.S.Scheme.longest c.args.scheme.now in
     let f : List ℕ → ℕ = λ places. length places * longest (size_of (items_at net places)) in
-    let (places, at, same) : (places : List ℕ) × (slice_get parts k ≡ Some places)
-    × (items_at net places ≡ c.in_ok-part.part) =
-    part_places net parts k c.in_ok-part.part c.in_ok-part.ensures in
     let is : IsComponent net places =
-    c.requires.each places (Contains-from_place parts k places at) in
+    component_at net parts c.requires k places c.members-places.ensures in
     let most : ℕ = longest (size_of (items_at net places)) in
     let bound : c.bound-bound-in-loop-k.result ≡ min most (2 ^ 64 - 1) =
     c.bound-bound-in-loop-k.ensures
-    ∙ ap (λ (size : Size). capped (longest size))
-    (c.size-in-loop-k.ensures ∙ ap size_of (sym same)) in
-    let many : c.len-in-loop-k.result ≡ length places =
-    c.len-in-loop-k.ensures.len ∙ sym (ap (length {A = NodeRow}) same)
-    ∙ length-items net places (places_within net c.len-nodes.ensures.valid places is) in
-    let product : c.bound-bound-in-loop-k.result * c.len-in-loop-k.result
-    ≡ min most (2 ^ 64 - 1) * length places = λ i. bound i * many i in
+    ∙ ap (λ (size : Size). capped (longest size)) c.size_at.ensures in
+    let product : c.bound-bound-in-loop-k.result * length places
+    ≡ min most (2 ^ 64 - 1) * length places = ap (λ (bound : ℕ). bound * length places) bound in
     let some : 1 ≤ length places = let own = is.own.1 in omega arith in
     let capped = saturated (sum_by f (take k parts)) (length places) most (2 ^ 64 - 1) some in
     let more : sum_by f (take (k + 1) parts) ≡ sum_by f (take k parts) + f places =
-    sum-more f parts k places at in
+    sum-more f parts k places c.members-places.ensures in
     let all : c.saturating_add-room.result ≡ min (sum_by f (take (k + 1) parts)) (2 ^ 64 - 1) =
     omega (
       arith,

@@ -6,7 +6,7 @@ use Rattle.pls_graph.proofs.Members.{Contains-from_place}
 use Rattle.pls_components.specs.Components.{IsComponent, items_at}
 use Rattle.pls_components.specs.inner.Marking.{ArePutAt, IsShownBy}
 use Rattle.pls_components.proofs.Items.{length-items}
-use Rattle.pls_components.proofs.Part.{part_connected, places_within}
+use Rattle.pls_components.proofs.Part.{part_connected, part_network, places_within}
 use Rattle.pls_components.proofs.PartPlaces.{part_is, part_places}
 use Rattle.pls_components.proofs.part_marks.mark_part.Goals as goal
 
@@ -36,6 +36,17 @@ put_labels-requires-clause-within g c =
       places_within c.args.net.now c.len.ensures.valid c.members.result.now is j d inside,
       c.requires.each,
     )
+
+pub put_labels-requires-clause-few : goal.put_labels-requires-clause-few
+put_labels-requires-clause-few g c =
+    let net = c.args.net.now in
+    let places = c.members.result.now in
+    let is : IsComponent net places =
+    c.requires.made.each places
+    (Contains-from_place c.args.parts.now c.args.k places c.members.ensures) in
+    let each = length-items net places (places_within net c.len.ensures.valid places is) in
+    let few = (part_network net c.len.ensures.valid places is).limits.few_nodes in
+    omega (arith, each, few)
 
 pub put_labels-requires-clause-each : goal.put_labels-requires-clause-each
 put_labels-requires-clause-each g c =
