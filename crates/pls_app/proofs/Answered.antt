@@ -10,16 +10,18 @@ use Rattle.pls_model.specs.declared.status.Status.TheVariants.{Done, No, Refused
 use Rattle.pls_report.specs.Report.{all_accept}
 use Rattle.pls_model.specs.declared.limits.TheConstants.{MAX_INPUT}
 use Rattle.pls_components.proofs.Empty.{empty_parts}
-use Rattle.pls_inputs.specs.Parts.{Input, nothing}
+use Rattle.pls_inputs.specs.Parts.{code_in, Input, nothing, labels_in, rows_in}
 use Rattle.pls_inputs.specs.Order.{IsInput, IsNoInput}
 use Rattle.pls_app.specs.declared.command.Command.{Command}
 use Rattle.pls_app.specs.declared.command.Command.TheVariants.{ByRules, Print, Trial, With}
-use Rattle.pls_app.specs.declared.command.Task.TheVariants.{Mark, Verify, Simulate, Recheck, Bound, Convert}
-use Rattle.pls_app.specs.declared.command.RuleTask.TheVariants.{Code, Judge}
+use Rattle.pls_app.specs.declared.command.Task.TheVariants.{Mark, Verify, Simulate, Recheck, Watch, Bound, Convert, Splice}
+use Rattle.pls_app.specs.declared.command.RuleTask.TheVariants.{Code, Judge, Splice as SpliceByRules}
 use Rattle.pls_names.specs.declared.scheme_name.SchemeName.{SchemeName}
 use Rattle.pls_app.specs.Ruled.{printed}
 use Rattle.pls_app.specs.Command.{IsCommand, IsUsage, input_parts_of, read_by, reads}
 use Rattle.pls_app.specs.Reports.{ends_well}
+use Rattle.pls_app.specs.Looks.{ends_in_well, looks_in}
+use Rattle.pls_app.specs.Meant.{judge_in}
 use Rattle.pls_app.specs.Said.{Answer}
 use Rattle.pls_app.specs.Answer.{Answers, IsAnswer, IsRefused, Reads, RefusesInput, Yields, outcomes_in, refusal, usage}
 use Rattle.pls_app.specs.Trial.{IsTrialAnswer}
@@ -27,6 +29,7 @@ use Rattle.pls_app.specs.Run.{IsAnswered, IsJudged, IsRefusalStatus, TellsAnswer
 use Rattle.pls_app.specs.inner.Tasks.{DoesWork}
 use Rattle.pls_app.proofs.Commands.{one_command}
 use Rattle.pls_app.proofs.OneAnswer.{one_answer}
+use Rattle.pls_app.proofs.Spliced.{splice_ends}
 
 -- more bytes than the limit are refused
 pub too_long : (command : Command) → reads command ≡ true → (old new : Option (List ℕ))
@@ -57,13 +60,20 @@ command_answer words bytes command answer is answers = inr (command, is, answers
 
 -- no bytes are the input of a command that has no parts
 abbrev blank : Input
-blank = record { network = None; labels = None; schedule = None; edits = None; rules = None }
+blank = record {
+  network = None;
+  labels = None;
+  schedule = None;
+  edits = None;
+  watch = None;
+  rules = None;
+}
 
 blank_is : IsInput nothing [] blank
 blank_is = record {
   short = omega arith;
   says = record {
-    has = record { network = tt; labels = tt; schedule = tt; edits = tt; rules = tt };
+    has = record { network = tt; labels = tt; schedule = tt; edits = tt; watch = tt; rules = tt };
     is = refl;
   };
   accepted = refl;
@@ -219,13 +229,20 @@ yields_end (With Recheck scheme) input parts answer yields =
     ends_so answer _ yields.2 (report_ends (ends_well yields.0))
 yields_end (With (Bound code) scheme) input parts answer yields =
     inl (ap (λ (answer : Answer). answer.status) yields)
+yields_end (With Watch scheme) input parts answer yields =
+    ends_so answer _ yields
+    (report_ends (ends_in_well (looks_in (judge_in (code_in input) scheme) input)))
 yields_end (With Convert scheme) input parts answer yields =
     inl (ap (λ (answer : Answer). answer.status) yields)
+yields_end (With Splice scheme) input parts answer yields =
+    splice_ends (code_in input) (rows_in input) (labels_in input) answer yields
 yields_end (Trial nodes seed) input parts answer yields = inl yields.ends
 yields_end (ByRules (Judge json)) input parts answer yields =
     ends_so answer _ yields (report_ends (all_accept (outcomes_in (ByRules (Judge json)) input)))
 yields_end (ByRules Code) input parts answer yields =
     inl (ap (λ (answer : Answer). answer.status) yields)
+yields_end (ByRules SpliceByRules) input parts answer yields =
+    splice_ends (code_in input) (rows_in input) (labels_in input) answer yields
 yields_end (Print name) input parts answer yields =
     inl (ap (λ (answer : Answer). answer.status) yields)
 

@@ -1,6 +1,6 @@
 -- Labels that `mark` wrote are read back with their network.
 use Rattle.std.specs.List.{sum_by}
-use Rattle.std.proofs.Common.{◌≡◌, ◌∙◌, ℕ, ◌*◌, ◌≤◌, inl, inr, Bool, true, false, List, [], ◌∷◌, ◌++◌, length, All, Contains, Option, Some, None, append-nil, ap, subst, refl, sym, arith}
+use Rattle.std.proofs.Common.{◌+◌, ◌≡◌, ◌∙◌, ℕ, ◌*◌, ◌≤◌, inl, inr, Bool, true, false, List, [], ◌∷◌, ◌++◌, length, All, Contains, Option, Some, None, append-nil, ap, subst, refl, sym, arith}
 use Rattle.std.specs.Option.{unwrap_or}
 use Rattle.std.proofs.Math.Nat.{suc-mul}
 use Rattle.std.proofs.lemmas.List.{length-map}
@@ -28,6 +28,7 @@ use Rattle.pls_components.proofs.Part.{places_within}
 use Rattle.pls_components.proofs.Partition.{sum_of_parts}
 use Rattle.pls_schedule.specs.ScheduleText.{AreEvents, schedule_lines}
 use Rattle.pls_edits.specs.EditsText.{AreEdits, edits_lines}
+use Rattle.pls_watch_part.specs.WatchText.{AreWatch, watch_part_lines}
 use Rattle.pls_rules_part.specs.RulesText.{AreRulesSaid, rules_lines}
 use Rattle.pls_inputs.specs.declared.parts.Parts.{Parts}
 use Rattle.pls_inputs.specs.Parts.{Has, Input, input_lines, parts_with_labels, lines_of, net_labelling, net_labels_text, network, rows_in, with_labels}
@@ -37,7 +38,7 @@ use Rattle.pls_inputs.proofs.WithinLimits.{few_of, within}
 use Rattle.pls_bits.specs.declared.code_name.CodeName.{CodeName}
 use Rattle.pls_app.specs.declared.command.Command.TheVariants.{With}
 use Rattle.pls_app.specs.declared.command.Task.{Task}
-use Rattle.pls_app.specs.declared.command.Task.TheVariants.{Mark, Verify, Simulate, Recheck, Bound, Convert}
+use Rattle.pls_app.specs.declared.command.Task.TheVariants.{Mark, Verify, Simulate, Recheck, Watch, Bound, Convert, Splice}
 use Rattle.pls_app.specs.Command.{input_parts_of}
 use Rattle.pls_app.specs.Meant.{Shows, longest_in, room_in}
 use Rattle.pls_app.specs.Said.{Answer}
@@ -103,6 +104,7 @@ labelled code rows labels = record {
   labels = Some (net_labelling code rows labels);
   schedule = None;
   edits = None;
+  watch = None;
   rules = None;
 }
 
@@ -117,14 +119,14 @@ labelled_accepted code rows labels known each small =
     rw (
       within Nodes MAX_NODES (length rows) known.network.limits.few_nodes,
       within Ports MAX_PORTS (ports_in rows) known.network.limits.few_ports,
-      within Bits MAX_BITS (total_bits (named ids labels))
+      within Bits MAX_BITS (total_bits (named ids labels) + 0)
           (omega (arith, total_bits-named ids labels many, small)),
       known.network.valid,
       named_no_misfit ids labels many,
     ) refl
 
 -- its text is an input, where the labels have few bits together
-labelled_input : (code : CodeName) (rows : List NodeRow) (labels : List (List Bool))
+pub labelled_input : (code : CodeName) (rows : List NodeRow) (labels : List (List Bool))
     → IsReadable rows → length labels ≡ length rows → bits_together labels ≤ MAX_BITS
     → IsInput parts_with_labels (network_text rows ++ net_labels_text code rows labels)
     (labelled code rows labels)
@@ -139,6 +141,7 @@ labelled_input code rows labels known each small = record {
       };
       schedule = tt;
       edits = tt;
+      watch = tt;
       rules = tt;
     };
     is = sym (text_of-append (network_lines rows) (labels_lines (net_labelling code rows labels)))
@@ -153,33 +156,50 @@ gone : {X : Type 0} (Fits : X → Type 0) (part : Option X) → Has false Fits p
 gone Fits None has = refl
 gone Fits (Some value) has = absurd has
 
+-- an input has no more than a network and labels
+pub record HasNoMore (input : Input) : Type 0 where
+  pub schedule : input.schedule ≡ None
+  pub edits : input.edits ≡ None
+  pub watch : input.watch ≡ None
+  pub rules : input.rules ≡ None
+
+pub without_others : (parts : Parts) (bytes : List ℕ) (input : Input) → IsInput parts bytes input
+    → parts.schedule ≡ false → parts.edits ≡ false → parts.watch ≡ false → parts.rules ≡ false
+    → HasNoMore input
+without_others parts bytes input is unscheduled unedited unwatched unruled = record {
+  schedule = gone AreEvents input.schedule
+      (subst (λ (wanted : Bool). Has wanted AreEvents input.schedule) unscheduled
+      is.says.has.schedule);
+  edits = gone AreEdits input.edits
+      (subst (λ (wanted : Bool). Has wanted AreEdits input.edits) unedited is.says.has.edits);
+  watch = gone AreWatch input.watch
+      (subst (λ (wanted : Bool). Has wanted AreWatch input.watch) unwatched is.says.has.watch);
+  rules = gone AreRulesSaid input.rules
+      (subst (λ (wanted : Bool). Has wanted AreRulesSaid input.rules) unruled is.says.has.rules);
+}
+
 -- an input that has a network and no more than its labels, with other labels
 pub relabelled : (parts : Parts) (bytes : List ℕ) (input : Input) → IsInput parts bytes input
     → parts.network ≡ true → parts.schedule ≡ false → parts.edits ≡ false
-    → parts.rules ≡ false → (code : CodeName) (labels : List (List Bool)) → length labels ≡ length (rows_in input)
+    → parts.watch ≡ false → parts.rules ≡ false → (code : CodeName) (labels : List (List Bool)) → length labels ≡ length (rows_in input)
     → bits_together labels ≤ MAX_BITS
     → IsInput parts_with_labels
     (network_text (rows_in input) ++ net_labels_text code (rows_in input) labels)
     (with_labels code input labels)
-relabelled parts bytes input is wanted unscheduled unedited unruled code labels each small =
+relabelled parts bytes input is wanted unscheduled unedited unwatched unruled code labels each small =
     let rows : List NodeRow = rows_in input in
     let found = there AreRows input.network
     (subst (λ (wanted : Bool). Has wanted AreRows input.network) wanted is.says.has.network) in
     let of_network : input.network ≡ Some rows = found.1
     ∙ ap Some (sym (ap (λ (network : Option (List NodeRow)). unwrap_or network []) found.1)) in
-    let no_schedule : input.schedule ≡ None = gone AreEvents input.schedule
-    (subst (λ (wanted : Bool). Has wanted AreEvents input.schedule) unscheduled
-    is.says.has.schedule) in
-    let no_edits : input.edits ≡ None = gone AreEdits input.edits
-    (subst (λ (wanted : Bool). Has wanted AreEdits input.edits) unedited is.says.has.edits) in
-    let no_rules : input.rules ≡ None = gone AreRulesSaid input.rules
-    (subst (λ (wanted : Bool). Has wanted AreRulesSaid input.rules) unruled is.says.has.rules) in
+    let none = without_others parts bytes input is unscheduled unedited unwatched unruled in
     let same : with_labels code input labels ≡ labelled code rows labels = λ i. record {
       network = of_network i;
       labels = Some (net_labelling code rows labels);
-      schedule = no_schedule i;
-      edits = no_edits i;
-      rules = no_rules i;
+      schedule = none.schedule i;
+      edits = none.edits i;
+      watch = none.watch i;
+      rules = none.rules i;
     } in
     subst (IsInput parts_with_labels (network_text rows ++ net_labels_text code rows labels))
     (sym same)
@@ -201,18 +221,16 @@ marked_input code scheme bytes input parts labels is are accepted shows =
     let of_network : input.network ≡ Some rows = found.1
     ∙ ap Some (sym (ap (λ (network : Option (List NodeRow)). unwrap_or network []) found.1)) in
     let no_labels : input.labels ≡ None = gone (AreLabels false) input.labels is.says.has.labels in
-    let no_schedule : input.schedule ≡ None = gone AreEvents input.schedule is.says.has.schedule in
-    let no_edits : input.edits ≡ None = gone AreEdits input.edits is.says.has.edits in
-    let no_rules : input.rules ≡ None = gone AreRulesSaid input.rules is.says.has.rules in
+    let none = without_others network bytes input is refl refl refl refl in
     let alone : input_lines input ≡ network_lines rows = (λ i.
     lines_of network_lines (of_network i) ++ (lines_of labels_lines (no_labels i)
-    ++ (lines_of schedule_lines (no_schedule i) ++ (lines_of edits_lines (no_edits i)
-    ++ lines_of rules_lines (no_rules i)))))
+    ++ (lines_of schedule_lines (none.schedule i) ++ (lines_of edits_lines (none.edits i)
+    ++ (lines_of watch_part_lines (none.watch i) ++ lines_of rules_lines (none.rules i))))))
     ∙ append-nil (network_lines rows) in
     let front : bytes ≡ network_text rows = is.says.is ∙ ap text_of alone in
     subst (λ (front : List ℕ). IsInput parts_with_labels
     (front ++ net_labels_text code rows labels) (with_labels code input labels)) (sym front)
-    (relabelled network bytes input is refl refl refl refl code labels shows.each small)
+    (relabelled network bytes input is refl refl refl refl refl code labels shows.each small)
 
 -- what `mark` answered certifies the text of the network
 pub certified : (code : CodeName) (scheme : Expression) (bytes : List ℕ) (input : Input) (answer : Answer)
@@ -254,5 +272,7 @@ certified_mark (Mark other) code scheme bytes input answer task is does shown do
 certified_mark (Verify json) code scheme bytes input answer task is does shown done = absurd (cc)
 certified_mark (Simulate json) code scheme bytes input answer task is does shown done = absurd (cc)
 certified_mark Recheck code scheme bytes input answer task is does shown done = absurd (cc)
+certified_mark Watch code scheme bytes input answer task is does shown done = absurd (cc)
 certified_mark Convert code scheme bytes input answer task is does shown done = absurd (cc)
+certified_mark Splice code scheme bytes input answer task is does shown done = absurd (cc)
 certified_mark (Bound other) code scheme bytes input answer task is does shown done = absurd (cc)

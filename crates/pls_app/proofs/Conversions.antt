@@ -198,7 +198,7 @@ module _ (scheme : Expression) (bytes : List ℕ) (input : Input)
         labels = labels;
         is = is;
         text_is = refl;
-        read_back = relabelled parts_with_gamma bytes input is refl refl refl refl Delta labels
+        read_back = relabelled parts_with_gamma bytes input is refl refl refl refl refl Delta labels
             many few;
         alike = ap (decided_by (judge_of delta_takes scheme) rows)
             (bare-named (ids_of rows) labels

@@ -9,9 +9,8 @@ use Rattle.pls_view.specs.Seen.{Seen}
 use Rattle.pls_property.specs.Expression.{Expression}
 use Rattle.pls_edits.specs.declared.edit_line.EditLine.{EditLine}
 use Rattle.pls_edits.specs.declared.edit_line.EditLine.TheVariants.{Round}
-use Rattle.pls_edits.specs.EditsText.{AreEdits}
-use Rattle.pls_edits.specs.inner.Tally.{is_closed}
-use Rattle.pls_edits.proofs.Counted.{are_closed}
+use Rattle.pls_edits.specs.EditsText.{AreEdits, is_round}
+use Rattle.pls_closing.specs.Closing.{is_closed}
 use Rattle.pls_inputs.specs.Parts.{Input, code_in, edits_in, labels_in, rows_in}
 use Rattle.pls_app.specs.Meant.{Holds, judge_in}
 use Rattle.pls_base.specs.declared.text_error.TextError.{TextError}
@@ -27,7 +26,8 @@ use Rattle.pls_app.proofs.Proved.{refused_not_done, refused_not_judged, round_ho
 use Rattle.pls_app.proofs.Rechecked.{EndsIn, ends_so, played_more, round_played, rows_after}
 
 -- a round before the lines closes them too
-round_first : (edits : List EditLine) → is_closed edits ≡ true → is_closed (Round ∷ edits) ≡ true
+round_first : (edits : List EditLine) → is_closed is_round true edits ≡ true
+    → is_closed is_round true (Round ∷ edits) ≡ true
 round_first [] closed = refl
 round_first (edit ∷ edits) closed = closed
 
@@ -66,7 +66,7 @@ module _ (scheme : Expression) (input : Input) (now : Situation) (reports : List
       let judge = judge_in (code_in input) scheme in
       let ends : EndsIn judge (behind_all (Round ∷ (edits_in input)) (begun input)) =
       ends_so judge Round (edits_in input) (begun input) 0 reports
-      (round_first (edits_in input) (are_closed (edits_in input) edits)) are_reports well in
+      (round_first (edits_in input) edits.closed) are_reports well in
       let here : EndsIn judge now = subst (EndsIn judge) (sym played.is) ends in
       let rows : now.rows ≡ edited_by (edits_in input) (rows_in input) =
       ap (λ (now : Situation). now.rows) played.is ∙ rows_after (Round ∷ (edits_in input)) (begun input) in

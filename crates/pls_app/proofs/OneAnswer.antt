@@ -12,15 +12,15 @@ use Rattle.pls_components.specs.Parts.{AreLacking}
 use Rattle.pls_components.proofs.OneMarking.{one_labelling, one_lacking}
 use Rattle.pls_graph.proofs.Members.{Contains-first}
 use Rattle.pls_edits.specs.declared.edit_line.EditLine.TheVariants.{Round}
-use Rattle.pls_inputs.specs.Parts.{Input, code_in, edits_in, rows_in}
+use Rattle.pls_inputs.specs.Parts.{Input, code_in, edits_in, labels_in, rows_in}
 use Rattle.pls_inputs.proofs.Facts.{readable}
 use Rattle.pls_inputs.proofs.OneInput.{one_input}
 use Rattle.pls_bits.specs.declared.code_name.CodeName.{CodeName}
 use Rattle.pls_bits.specs.declared.code_name.CodeName.TheVariants.{Gamma}
-use Rattle.pls_app.specs.declared.command.RuleTask.TheVariants.{Code, Judge}
+use Rattle.pls_app.specs.declared.command.RuleTask.TheVariants.{Code, Judge, Splice as SpliceByRules}
 use Rattle.pls_app.specs.declared.command.Command.{Command}
 use Rattle.pls_app.specs.declared.command.Command.TheVariants.{ByRules, Print, Trial, With}
-use Rattle.pls_app.specs.declared.command.Task.TheVariants.{Mark, Verify, Simulate, Recheck, Bound, Convert}
+use Rattle.pls_app.specs.declared.command.Task.TheVariants.{Mark, Verify, Simulate, Recheck, Watch, Bound, Convert, Splice}
 use Rattle.pls_app.specs.Command.{input_parts_of, read_by}
 use Rattle.pls_app.specs.Meant.{number_code_of, judge_in}
 use Rattle.pls_app.specs.Reports.{begun}
@@ -30,6 +30,7 @@ use Rattle.pls_app.specs.Trial.{IsTrialAnswer, trial_line, tried_scheme}
 use Rattle.pls_app.proofs.Commands.{one_command}
 use Rattle.pls_app.proofs.OneRefusal.{one_parts, one_refusal, refused_untaken}
 use Rattle.pls_app.proofs.Rechecked.{one_reports}
+use Rattle.pls_app.proofs.Spliced.{one_splice}
 
 -- not all components have a property that some of them lack
 not_both : (holds : List NodeRow → Type 0) (rows : List NodeRow) (ids : List ℕ)
@@ -89,11 +90,20 @@ one_yield (With Recheck scheme) bytes input parts answer other is are one two =
     two.0 one.1 two.1 in
     one.2 ∙ ap reported same ∙ sym two.2
 one_yield (With (Bound code) scheme) bytes input parts answer other is are one two = one ∙ sym two
+one_yield (With Watch scheme) bytes input parts answer other is are one two = one ∙ sym two
 one_yield (With Convert scheme) bytes input parts answer other is are one two = one ∙ sym two
+one_yield (With Splice scheme) bytes input parts answer other is are one two =
+    one_splice (code_in input) (rows_in input) (labels_in input)
+    (readable (input_parts_of (With Splice scheme)) bytes input is refl).network answer other one
+    two
 one_yield (Trial nodes seed) bytes input parts answer other is are one two =
     one_tried nodes seed answer other one two
 one_yield (ByRules (Judge json)) bytes input parts answer other is are one two = one ∙ sym two
 one_yield (ByRules Code) bytes input parts answer other is are one two = one ∙ sym two
+one_yield (ByRules SpliceByRules) bytes input parts answer other is are one two =
+    one_splice (code_in input) (rows_in input) (labels_in input)
+    (readable (input_parts_of (ByRules SpliceByRules)) bytes input is refl).network answer other
+    one two
 one_yield (Print name) bytes input parts answer other is are one two = one ∙ sym two
 
 -- what a command takes it answers in one way

@@ -12,7 +12,7 @@ use Rattle.pls_inputs.proofs.OneInput.{no_refusal, one_input, one_refusal as one
 use Rattle.pls_app.specs.declared.command.Command.{Command}
 use Rattle.pls_app.specs.declared.command.Command.TheVariants.{With}
 use Rattle.pls_app.specs.declared.command.Task.{Task}
-use Rattle.pls_app.specs.declared.command.Task.TheVariants.{Mark, Verify, Simulate, Recheck, Bound, Convert}
+use Rattle.pls_app.specs.declared.command.Task.TheVariants.{Mark, Verify, Simulate, Recheck, Watch, Bound, Convert, Splice}
 use Rattle.pls_app.specs.Command.{input_parts_of, read_by}
 use Rattle.pls_app.specs.Answer.{IsRefused, Reads, RefusesInput, TakesInput, work_refusal}
 use Rattle.pls_app.proofs.Values.{no_rows}
@@ -25,7 +25,9 @@ wants_network (Verify json) scheme = refl
 wants_network (Simulate json) scheme = refl
 wants_network Recheck scheme = refl
 wants_network (Bound code) scheme = refl
+wants_network Watch scheme = refl
 wants_network Convert scheme = refl
+wants_network Splice scheme = refl
 
 -- the components of an input are one list; where no network is read, there are none
 pub one_parts : (command : Command) (bytes : List ℕ) (input : Input) (parts others : List (List ℕ))

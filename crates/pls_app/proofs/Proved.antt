@@ -34,7 +34,7 @@ use Rattle.pls_bits.specs.declared.code_name.CodeName.{CodeName}
 use Rattle.pls_bits.specs.declared.code_name.CodeName.TheVariants.{Delta, Gamma}
 use Rattle.pls_app.specs.declared.command.Command.{Command}
 use Rattle.pls_app.specs.declared.command.Command.TheVariants.{ByRules, Print, Trial, With}
-use Rattle.pls_app.specs.declared.command.Task.TheVariants.{Mark, Verify, Simulate, Recheck, Bound, Convert}
+use Rattle.pls_app.specs.declared.command.Task.TheVariants.{Mark, Verify, Simulate, Recheck, Watch, Bound, Convert, Splice}
 use Rattle.pls_app.specs.Command.{Checks, input_parts_of, read_by}
 use Rattle.pls_app.specs.Meant.{Holds, LacksAt, judge_in, number_code_of, takes_of}
 use Rattle.pls_app.specs.Reports.{decided_by}
@@ -48,7 +48,7 @@ accepts Accept all = refl
 accepts (Reject leaf rule) all = absurd (cc)
 
 -- so does that of a node that has heard what it can and accepts
-accepts_after : (ports : List ℕ) (verdict : Verdict)
+pub accepts_after : (ports : List ℕ) (verdict : Verdict)
     → is_accepting (outcome_after ports verdict) ≡ true → verdict ≡ Accept
 accepts_after [] verdict all = accepts verdict all
 accepts_after (port ∷ ports) verdict all = absurd (cc)
@@ -111,7 +111,9 @@ all_judged scheme (With (Simulate json) other) input places checks all =
     (events_in input) places all)
 all_judged scheme (With Recheck other) input places checks all = absurd checks
 all_judged scheme (With (Bound code) other) input places checks all = absurd checks
+all_judged scheme (With Watch other) input places checks all = absurd checks
 all_judged scheme (With Convert other) input places checks all = absurd checks
+all_judged scheme (With Splice other) input places checks all = absurd checks
 all_judged scheme (Trial nodes seed) input places checks all = absurd checks
 all_judged scheme (ByRules task) input places checks all = absurd checks
 all_judged scheme (Print name) input places checks all = absurd checks
@@ -132,7 +134,9 @@ wants_labels scheme (With (Verify json) other) checks = (refl, refl)
 wants_labels scheme (With (Simulate json) other) checks = (refl, refl)
 wants_labels scheme (With Recheck other) checks = absurd checks
 wants_labels scheme (With (Bound code) other) checks = absurd checks
+wants_labels scheme (With Watch other) checks = absurd checks
 wants_labels scheme (With Convert other) checks = absurd checks
+wants_labels scheme (With Splice other) checks = absurd checks
 wants_labels scheme (Trial nodes seed) checks = absurd checks
 wants_labels scheme (ByRules task) checks = absurd checks
 wants_labels scheme (Print name) checks = absurd checks
@@ -148,7 +152,9 @@ ends_by scheme (With (Simulate json) other) input parts answer checks yields =
     ap (λ (answer : Answer). answer.status) yields
 ends_by scheme (With Recheck other) input parts answer checks yields = absurd checks
 ends_by scheme (With (Bound code) other) input parts answer checks yields = absurd checks
+ends_by scheme (With Watch other) input parts answer checks yields = absurd checks
 ends_by scheme (With Convert other) input parts answer checks yields = absurd checks
+ends_by scheme (With Splice other) input parts answer checks yields = absurd checks
 ends_by scheme (Trial nodes seed) input parts answer checks yields = absurd checks
 ends_by scheme (ByRules task) input parts answer checks yields = absurd checks
 ends_by scheme (Print name) input parts answer checks yields = absurd checks
@@ -184,7 +190,7 @@ refused_not_judged error status same judged = elim judged [
 ]
 
 -- each code is taken from the front of its own codes alone
-takes_only : (code : CodeName) → TakesOnly (number_code_of code) (takes_of code)
+pub takes_only : (code : CodeName) → TakesOnly (number_code_of code) (takes_of code)
 takes_only Gamma = λ bits number rest taken. gamma_takes-only bits number rest taken
 takes_only Delta = λ bits number rest taken. delta_takes-only bits number rest taken
 

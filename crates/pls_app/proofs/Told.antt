@@ -12,7 +12,7 @@ use Rattle.pls_app.specs.Answer.{Answers, IsAnswer}
 use Rattle.pls_app.specs.inner.Tasks.{IsWorked, Offers}
 use Rattle.pls_app.proofs.Answered.{command_answer}
 use Rattle.pls_app.proofs.Commands.{one_command}
-use Rattle.pls_app.specs.Run.{Certifies, Concerns, Converts, EndsAs, IsAnswered, IsUnread, TellsAnswer, TellsPart, TookCertificate, TookConversion, TookLack, Lacks}
+use Rattle.pls_app.specs.Run.{Certifies, Concerns, Converts, EndsAs, IsAnswered, IsUnread, TellsAnswer, TellsPart, Splits, TookCertificate, TookConversion, TookLack, TookSplice, Lacks}
 use Rattle.pls_app.specs.inner.Causes.{Told}
 
 -- an answer that was told in the end
@@ -71,6 +71,15 @@ pub took_conversion : (scheme : Expression) (bytes text : List ℕ) (due status 
 took_conversion scheme bytes text due status before after old new converts told done = elim told [
   | inl whole ↦
       record { text = text; took = whole.1; converts = converts (sym whole.0 ∙ done) }
+  | inr part ↦ absurd (let other : WriteFault ≡ Done = cc in cc)
+]
+
+-- and that of two rings
+pub took_splice : (scheme : Expression) (bytes text : List ℕ) (due status : Status)
+    (before after : ℕ) (old new : Option (List ℕ)) → (due ≡ Done → Splits scheme bytes text)
+    → Told due status before after old new text → status ≡ Done → TookSplice scheme bytes old new
+took_splice scheme bytes text due status before after old new splits told done = elim told [
+  | inl whole ↦ record { text = text; took = whole.1; splits = splits (sym whole.0 ∙ done) }
   | inr part ↦ absurd (let other : WriteFault ≡ Done = cc in cc)
 ]
 

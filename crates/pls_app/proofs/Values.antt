@@ -3,7 +3,7 @@ use Rattle.std.proofs.Common.{◌≡◌, ◌∙◌, ℕ, ◌+◌, ◌≤◌, ◌
 use Rattle.std.specs.Option.{option_map_or, unwrap_or}
 use Rattle.std.proofs.lemmas.List.{length-map}
 use Rattle.std.proofs.lemmas.Option.{same_Some}
-use Rattle.pls_model.specs.declared.limits.TheConstants.{MAX_INPUT}
+use Rattle.pls_model.specs.declared.limits.TheConstants.{MAX_BITS, MAX_INPUT, MAX_LINES}
 use Rattle.pls_model.specs.declared.row.NodeRow.{NodeRow}
 use Rattle.pls_model.specs.Configuration.{ids_of}
 use Rattle.pls_lines.specs.Text.{text_of}
@@ -15,14 +15,16 @@ use Rattle.pls_schedule.specs.declared.event.Event.{Event}
 use Rattle.pls_schedule.specs.ScheduleText.{schedule_lines}
 use Rattle.pls_edits.specs.declared.edit_line.EditLine.{EditLine}
 use Rattle.pls_edits.specs.EditsText.{AreEdits, AreFew, edits_lines, rounds_of}
+use Rattle.pls_watch_part.specs.declared.watch_event.WatchLine.{WatchLine}
+use Rattle.pls_watch_part.specs.WatchText.{total_bits, watch_part_lines}
 use Rattle.pls_rules.specs.declared.rule_set.RuleSet.{RuleSet}
 use Rattle.pls_rules.specs.HeldTrees.{set_of}
 use Rattle.pls_rules.specs.RuleSet.{AreRules, rules_of}
 use Rattle.pls_rules_part.specs.RulesText.{rules_lines, said_of_set, set_said}
 use Rattle.pls_inputs.specs.declared.input.Input.{Input as Read}
 use Rattle.pls_inputs.specs.declared.parts.Parts.{Parts}
-use Rattle.pls_inputs.specs.Parts.{Has, Input, edits_in, labels_in, lines_of, net_labelling, rows_in}
-use Rattle.pls_inputs.specs.Order.{IsInput, edits_heading, schedule_heading}
+use Rattle.pls_inputs.specs.Parts.{Has, Input, edits_in, labels_in, lines_of, net_labelling, rows_in, watch_in}
+use Rattle.pls_inputs.specs.Order.{IsInput, edits_heading, schedule_heading, watch_heading}
 use Rattle.pls_inputs.specs.Read.{AreEach, IsFirstLine, IsRead, IsSensible, said}
 use Rattle.pls_inputs.proofs.Facts.{few}
 use Rattle.pls_app.specs.Ruled.{set_in}
@@ -59,45 +61,60 @@ lines_fit (line ∷ lines) =
     omega (arith, lines_fit lines, length-append line (10 ∷ text_of lines))
 
 -- so no heading stands far behind the bytes
-headings_small : (bytes : List ℕ) (network labels schedule others : List (List ℕ))
+headings_small : (bytes : List ℕ) (network labels schedule edits others : List (List ℕ))
     → length bytes ≤ MAX_INPUT
-    → bytes ≡ text_of (network ++ (labels ++ (schedule ++ others)))
-    → length network + length labels + length schedule ≤ MAX_INPUT
-headings_small bytes network labels schedule others short is =
+    → bytes ≡ text_of (network ++ (labels ++ (schedule ++ (edits ++ others))))
+    → length network + length labels + length schedule + length edits ≤ MAX_INPUT
+headings_small bytes network labels schedule edits others short is =
     omega (
       arith,
       short,
       ap (length {A = ℕ}) is,
-      lines_fit (network ++ (labels ++ (schedule ++ others))),
-      length-append network (labels ++ (schedule ++ others)),
-      length-append labels (schedule ++ others),
-      length-append schedule others,
+      lines_fit (network ++ (labels ++ (schedule ++ (edits ++ others)))),
+      length-append network (labels ++ (schedule ++ (edits ++ others))),
+      length-append labels (schedule ++ (edits ++ others)),
+      length-append schedule (edits ++ others),
+      length-append edits others,
     )
 
 -- the first line of a schedule stands behind its heading
-at_schedule : (schedule : Option (List Event)) (edits : Option (List EditLine)) (input : Input)
-    (line : ℕ) (events : List Event) → schedule ≡ Some events
-    → IsFirstLine schedule edits input line → line ≡ schedule_heading input + 1
-at_schedule None edits input line events is at = absurd (cc)
-at_schedule (Some other) edits input line events is at = at
+at_schedule : (schedule : Option (List Event)) (edits : Option (List EditLine))
+    (watch : Option (List WatchLine)) (input : Input) (line : ℕ) (events : List Event)
+    → schedule ≡ Some events → IsFirstLine schedule edits watch input line
+    → line ≡ schedule_heading input + 1
+at_schedule None edits watch input line events is at = absurd (cc)
+at_schedule (Some other) edits watch input line events is at = at
 
 -- and that of edits, where there is no schedule
-at_edits : (schedule : Option (List Event)) (edits : Option (List EditLine)) (input : Input)
-    (line : ℕ) (list : List EditLine) → schedule ≡ None → edits ≡ Some list
-    → IsFirstLine schedule edits input line → line ≡ edits_heading input + 1
-at_edits (Some events) edits input line list none is at = absurd (cc)
-at_edits None None input line list none is at = absurd (cc)
-at_edits None (Some other) input line list none is at = at
+at_edits : (schedule : Option (List Event)) (edits : Option (List EditLine))
+    (watch : Option (List WatchLine)) (input : Input) (line : ℕ) (list : List EditLine)
+    → schedule ≡ None → edits ≡ Some list → IsFirstLine schedule edits watch input line
+    → line ≡ edits_heading input + 1
+at_edits (Some events) edits watch input line list none is at = absurd (cc)
+at_edits None None watch input line list none is at = absurd (cc)
+at_edits None (Some other) watch input line list none is at = at
+
+-- and that of a watch, where there are neither
+at_watch : (schedule : Option (List Event)) (edits : Option (List EditLine))
+    (watch : Option (List WatchLine)) (input : Input) (line : ℕ) (list : List WatchLine)
+    → schedule ≡ None → edits ≡ None → watch ≡ Some list
+    → IsFirstLine schedule edits watch input line → line ≡ watch_heading input + 1
+at_watch (Some events) edits watch input line list none no_edits is at = absurd (cc)
+at_watch None (Some other) watch input line list none no_edits is at = absurd (cc)
+at_watch None None None input line list none no_edits is at = absurd (cc)
+at_watch None None (Some other) input line list none no_edits is at = at
 
 module _ (parts : Parts) (bytes : List ℕ) (read : Read) (is : IsRead parts bytes read) where
   whole : length (lines_of network_lines (said read).network)
       + length (lines_of labels_lines (said read).labels)
-      + length (lines_of schedule_lines (said read).schedule) ≤ MAX_INPUT
+      + length (lines_of schedule_lines (said read).schedule)
+      + length (lines_of edits_lines (said read).edits) ≤ MAX_INPUT
   whole =
       headings_small bytes (lines_of network_lines (said read).network)
       (lines_of labels_lines (said read).labels) (lines_of schedule_lines (said read).schedule)
-      (lines_of edits_lines (said read).edits ++ lines_of rules_lines (said read).rules) is.is.short
-      is.is.says.is
+      (lines_of edits_lines (said read).edits)
+      (lines_of watch_part_lines (said read).watch ++ lines_of rules_lines (said read).rules)
+      is.is.short is.is.says.is
 
   module _ (net : List NodeRow) (network : read.network ≡ Some net) (store : List (List Bool))
       (labels : read.labels ≡ Some store) where
@@ -119,8 +136,8 @@ module _ (parts : Parts) (bytes : List ℕ) (read : Read) (is : IsRead parts byt
     -- the line of the first event
     pub schedule_at : read.first_line ≡ schedule_heading (said read) + 1
     schedule_at =
-        at_schedule (said read).schedule (said read).edits (said read) read.first_line events
-        schedule is.line
+        at_schedule (said read).schedule (said read).edits (said read).watch (said read)
+        read.first_line events schedule is.line
 
     pub schedule_small : read.first_line ≤ 2 ^ 63
     schedule_small = omega (arith, schedule_at, whole)
@@ -130,7 +147,8 @@ module _ (parts : Parts) (bytes : List ℕ) (read : Read) (is : IsRead parts byt
     -- the line of the first edit
     pub edits_at : read.first_line ≡ edits_heading (said read) + 1
     edits_at =
-        at_edits (said read).schedule (said read).edits (said read) read.first_line list
+        at_edits (said read).schedule (said read).edits (said read).watch (said read)
+        read.first_line list
         (gone _ parts.schedule (said read).schedule unscheduled is.is.says.has.schedule) edits is.line
 
     pub edits_small : read.first_line ≤ 2 ^ 63
@@ -146,13 +164,38 @@ module _ (parts : Parts) (bytes : List ℕ) (read : Read) (is : IsRead parts byt
         let all = few parts bytes (said read) is.is in
         let same : edits_in (said read) ≡ list =
         ap (λ (edits : Option (List EditLine)). unwrap_or edits []) edits in record {
-          events = omega (arith, all.lines, ap length same);
-          rounds = omega (
+          few_lines = omega (arith, all.lines, ap length same);
+          few_closing = omega (
             arith,
             all.rounds,
             ap (λ (edits : List EditLine). length (rounds_of edits)) same,
           );
         }
+
+  module _ (list : List WatchLine) (watch : (said read).watch ≡ Some list)
+      (unscheduled : parts.schedule ≡ false) (unedited : parts.edits ≡ false) where
+    -- the first line of a watch
+    pub watch_at : read.first_line ≡ watch_heading (said read) + 1
+    watch_at =
+        at_watch (said read).schedule (said read).edits (said read).watch (said read)
+        read.first_line list
+        (gone _ parts.schedule (said read).schedule unscheduled is.is.says.has.schedule)
+        (gone _ parts.edits (said read).edits unedited is.is.says.has.edits) watch is.line
+
+    pub watch_small : read.first_line ≤ 2 ^ 63
+    watch_small = omega (arith, watch_at, whole)
+
+    -- its lines and their bits are within the limits
+    same_watch : watch_in (said read) ≡ list
+    same_watch = ap (λ (watch : Option (List WatchLine)). unwrap_or watch []) watch
+
+    pub watch_few : length list ≤ MAX_LINES
+    watch_few =
+        omega (arith, (few parts bytes (said read) is.is).watch_lines, ap length same_watch)
+
+    pub watch_bits : total_bits list ≤ MAX_BITS
+    watch_bits =
+        omega (arith, (few parts bytes (said read) is.is).bits, ap total_bits same_watch)
 
   module _ (set : RuleSet) (rules : read.rules ≡ Some set) where
     sensible : IsSensible (Some set)

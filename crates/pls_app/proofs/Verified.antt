@@ -19,7 +19,9 @@ use Rattle.pls_report.specs.Report.{all_accept, is_accepting}
 use Rattle.pls_property.specs.Expression.{Expression, IsSmall}
 use Rattle.pls_scheme_text.specs.ExpressionText.{expression_text}
 use Rattle.pls_scheme_text.proofs.Letters.{first_letter}
-use Rattle.pls_inputs.specs.Parts.{Input, labels_in, rows_in, with_labels}
+use Rattle.pls_components.specs.Components.{AreComponents}
+use Rattle.pls_inputs.specs.Order.{IsInput}
+use Rattle.pls_inputs.specs.Parts.{Input, code_in, labels_in, parts_with_labels, rows_in, with_labels}
 use Rattle.pls_bits.specs.declared.code_name.CodeName.{CodeName}
 use Rattle.pls_app.specs.declared.command.Command.TheVariants.{With}
 use Rattle.pls_app.specs.declared.command.Task.TheVariants.{Verify}
@@ -65,6 +67,27 @@ accepted_all judge rows labels accepted =
     ∙ list_all-from_AllPass (λ view. is_accepting (row view).1) (views rows labels)
     (λ k d within. ap (λ (verdict : Verdict). is_accepting (Decided verdict)) (accepted k d within))
 
+-- `verify` on bytes that are an input whose nodes all accept its labels
+pub verified_input : (scheme : Expression) (bytes : List ℕ) (input : Input) (parts : List (List ℕ))
+    → IsSmall scheme → IsInput parts_with_labels bytes input → AreComponents (rows_in input) parts
+    → all_accept (decided_by (judge_in (code_in input) scheme) (rows_in input) (labels_in input))
+    ≡ true → IsDone (verify_words scheme) bytes
+verified_input scheme bytes input parts small is are all =
+    let command = With (Verify false) scheme in
+    let answer : Answer = reports_on command false false input parts in
+    record {
+      answer = answer;
+      is = command_answer (verify_words scheme) bytes command answer (verify_is scheme small)
+          (inr (record {
+            input = input;
+            is = is;
+            parts = parts;
+            takes = record { components = are; accepted = refl };
+            yields = refl;
+          }));
+      done = ap (λ (all : Bool). if all then Done else No) all;
+    }
+
 -- `verify` on bytes followed by labels that certify their network
 pub verified : (code : CodeName) (scheme : Expression) (bytes text : List ℕ) → IsSmall scheme
     → Certifies code scheme bytes text → IsDone (verify_words scheme) (bytes ++ text)
@@ -73,23 +96,10 @@ verified code scheme bytes text small certifies =
     let rows : List NodeRow = rows_in certifies.input in
     let labels : List (List Bool) = certifies.labels in
     let input : Input = with_labels code certifies.input labels in
-    let command = With (Verify false) scheme in
-    let answer : Answer = reports_on command false false input certifies.parts in
     let same : labels_in input ≡ labels =
     bare-named (ids_of rows) labels
     (certifies.shows.each ∙ sym (length-map rows (λ (row : NodeRow). row.id))) in
-    let all : all_accept (decided_by judge rows (labels_in input)) ≡ true =
-    ap (λ (labels : List (List Bool)). all_accept (decided_by judge rows labels)) same
-    ∙ accepted_all judge rows labels certifies.shows.accepted in
-    record {
-      answer = answer;
-      is = command_answer (verify_words scheme) (bytes ++ text) command answer
-          (verify_is scheme small) (inr (record {
-            input = input;
-            is = certifies.read_back;
-            parts = certifies.parts;
-            takes = record { components = certifies.components; accepted = refl };
-            yields = refl;
-          }));
-      done = ap (λ (all : Bool). if all then Done else No) all;
-    }
+    verified_input scheme (bytes ++ text) input certifies.parts small certifies.read_back
+    certifies.components
+    (ap (λ (labels : List (List Bool)). all_accept (decided_by judge rows labels)) same
+    ∙ accepted_all judge rows labels certifies.shows.accepted)

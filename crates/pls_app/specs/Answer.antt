@@ -17,24 +17,27 @@ use Rattle.pls_report.specs.PartLines.{if_several}
 use Rattle.pls_components.specs.Components.{AreComponents}
 use Rattle.pls_property.specs.Expression.{Expression}
 use Rattle.pls_json.specs.Json.{json_text}
-use Rattle.pls_inputs.specs.Parts.{Input, code_in, edits_in, events_in, labels_in, net_labels_text, rows_in}
-use Rattle.pls_inputs.specs.Order.{IsInput, IsNoInput, edits_heading, over, schedule_heading}
+use Rattle.pls_inputs.specs.Parts.{Input, code_in, edits_in, events_in, labels_in, net_labels_text, rows_in, watch_in}
+use Rattle.pls_inputs.specs.Order.{IsInput, IsNoInput, edits_heading, over, schedule_heading, watch_heading}
 use Rattle.pls_bits.specs.declared.code_name.CodeName.{CodeName}
 use Rattle.pls_bits.specs.declared.code_name.CodeName.TheVariants.{Delta}
-use Rattle.pls_app.specs.declared.command.RuleTask.TheVariants.{Code, Judge}
+use Rattle.pls_app.specs.declared.command.RuleTask.TheVariants.{Code, Judge, Splice as SpliceByRules}
 use Rattle.pls_app.specs.declared.command.Command.{Command}
 use Rattle.pls_app.specs.declared.command.Command.TheVariants.{ByRules, Print, Trial, With}
-use Rattle.pls_app.specs.declared.command.Task.TheVariants.{Mark, Verify, Simulate, Recheck, Bound, Convert}
+use Rattle.pls_app.specs.declared.command.Task.TheVariants.{Mark, Verify, Simulate, Recheck, Watch, Bound, Convert, Splice}
 use Rattle.pls_app.specs.Command.{IsCommand, IsUsage, input_parts_of, read_by}
 use Rattle.pls_app.specs.Meant.{AreMarks, Holds, NameLacking, bound_in, judge_in, room_in}
 use Rattle.pls_app.specs.PartRows.{part_rows}
 use Rattle.pls_app.specs.Convert.{converted_labels, unconverted}
+use Rattle.pls_app.specs.Splice.{Splices, unspliced}
 use Rattle.pls_app.specs.Unapplied.{unapplied}
+use Rattle.pls_app.specs.Unwatched.{unwatched}
 use Rattle.pls_app.specs.Inapplicable.{inapplicable}
 use Rattle.pls_bits.specs.Gamma.{gamma_takes}
 use Rattle.pls_compile.specs.RuleMeaning.{meaning}
 use Rattle.pls_app.specs.Ruled.{listed, printed, set_in}
 use Rattle.pls_app.specs.Reports.{Report, ReportInput, decided_by, ends_well, reports_text}
+use Rattle.pls_app.specs.Looks.{looked, looks_in}
 use Rattle.pls_app.specs.Said.{Answer}
 use Rattle.pls_app.specs.Trial.{IsTrialAnswer}
 
@@ -144,14 +147,20 @@ Yields (With (Verify json) scheme) input parts answer =
 Yields (With (Simulate json) scheme) input parts answer =
     answer ≡ reports_on (With (Simulate json) scheme) json true input parts
 Yields (With Recheck scheme) input parts answer = Rechecks scheme input answer
+Yields (With Watch scheme) input parts answer =
+    answer ≡ looked (looks_in (judge_in (code_in input) scheme) input)
 Yields (With (Bound code) scheme) input parts answer =
     answer ≡ bounded (bound_in code scheme (rows_in input) parts)
 Yields (With Convert scheme) input parts answer =
     answer ≡ labels_answer Delta (rows_in input) (converted_labels scheme input)
+Yields (With Splice scheme) input parts answer =
+    Splices (code_in input) (rows_in input) (labels_in input) answer
 Yields (Trial nodes seed) input parts answer = IsTrialAnswer nodes seed answer
 Yields (ByRules (Judge json)) input parts answer =
     answer ≡ reports_on (ByRules (Judge json)) json false input parts
 Yields (ByRules Code) input parts answer = answer ≡ listed (set_in input)
+Yields (ByRules SpliceByRules) input parts answer =
+    Splices (code_in input) (rows_in input) (labels_in input) answer
 Yields (Print name) input parts answer = answer ≡ printed name
 
 -- why a command refuses an input whose network has these components
@@ -162,7 +171,13 @@ work_refusal (With (Simulate json) scheme) input parts =
     unapplied (rows_in input) (schedule_heading input + 1) (events_in input)
 work_refusal (With Recheck scheme) input parts =
     inapplicable (rows_in input) (labels_in input) (edits_heading input + 1) (edits_in input)
+work_refusal (With Watch scheme) input parts =
+    unwatched (rows_in input) (watch_heading input + 1) (watch_in input)
 work_refusal (With Convert scheme) input parts = unconverted scheme input
+work_refusal (With Splice scheme) input parts =
+    unspliced (judge_in (code_in input) scheme) (rows_in input) (labels_in input) parts
+work_refusal (ByRules SpliceByRules) input parts =
+    unspliced (meaning gamma_takes (set_in input)) (rows_in input) (labels_in input) parts
 work_refusal other input parts = None
 
 -- a command refuses an input

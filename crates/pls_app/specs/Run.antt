@@ -8,15 +8,22 @@ use Rattle.pls_model.specs.declared.status.Status.{Status}
 use Rattle.pls_model.specs.declared.status.Status.TheVariants.{Done, No, Usage, Refused, ReadFault, WriteFault, NoMemory, Limit}
 use Rattle.pls_sim.specs.declared.outcome.Outcome.{Outcome}
 use Rattle.pls_report.specs.Report.{is_accepting}
+use Rattle.pls_model.specs.declared.row.NodeRow.{NodeRow}
+use Rattle.pls_facts.specs.Leader.{HasOneLeader}
+use Rattle.pls_view.specs.Seen.{views}
+use Rattle.pls_scheme.specs.Judging.{AllAccept}
 use Rattle.pls_components.specs.Components.{AreComponents, items_at}
+use Rattle.pls_splice.specs.Ring.{IsRing}
+use Rattle.pls_splice.specs.TwoRings.{AreTwoRings}
 use Rattle.pls_property.specs.Expression.{Expression, Of}
 use Rattle.pls_model.specs.declared.limits.TheConstants.{MAX_INPUT}
-use Rattle.pls_inputs.specs.Parts.{Input, code_in, parts_with_edits, edits_in, parts_with_gamma, parts_with_labels, parts_with_rules, net_labels_text, network, rows_in, with_labels}
+use Rattle.pls_inputs.specs.Parts.{Input, code_in, parts_with_edits, edits_in, parts_with_gamma, parts_with_labels, parts_with_rules, labels_in, net_labels_text, network, rows_in, with_labels}
 use Rattle.pls_inputs.specs.Order.{IsInput}
 use Rattle.pls_bits.specs.declared.code_name.CodeName.{CodeName}
 use Rattle.pls_bits.specs.declared.code_name.CodeName.TheVariants.{Delta}
 use Rattle.pls_netfile.specs.NetworkText.{network_text}
 use Rattle.pls_names.specs.declared.scheme_name.SchemeName.{SchemeName}
+use Rattle.pls_names.specs.declared.scheme_name.SchemeName.TheVariants.{Leader}
 use Rattle.pls_builtin.specs.Builtin.{set_of_name}
 use Rattle.pls_app.specs.declared.command.Command.{Command}
 use Rattle.pls_app.specs.declared.command.Command.TheVariants.{With}
@@ -188,6 +195,29 @@ pub record TookConversion (scheme : Expression) (bytes : List ℕ)
   pub text : List ℕ
   pub took : Appends old new text
   pub converts : Converts scheme bytes text
+
+-- the bytes are a ring with labels, and the text is a network of two rings with the same labels, in
+-- which no node sees a difference: all nodes accept, so that each of the two has the property, and
+-- where one node of the ring was marked as a leader, one of the two has none
+pub record Splits (scheme : Expression) (bytes text : List ℕ) : Type 0 where
+  pub input : Input
+  pub is : IsInput parts_with_labels bytes input
+  pub ring : IsRing (rows_in input)
+  pub crossed : List NodeRow
+  pub read_back : IsInput parts_with_labels text (record input { network = Some crossed })
+  pub unseen : views crossed (labels_in input) ≡ views (rows_in input) (labels_in input)
+  pub accepted : AllAccept (judge_in (code_in input) scheme) crossed (labels_in input)
+  pub holds : Holds scheme crossed
+  pub rings : (one other : ℕ) × AreTwoRings crossed one other
+  pub leaderless : HasOneLeader (rows_in input)
+      → (places : List ℕ) × LacksAt (Of Leader) crossed places
+
+-- the sink took such a text
+pub record TookSplice (scheme : Expression) (bytes : List ℕ)
+    (old new : Option (List ℕ)) : Type 0 where
+  pub text : List ℕ
+  pub took : Appends old new text
+  pub splits : Splits scheme bytes text
 
 -- the bytes are a network, labels and a rule set, and where the set is the one that has the name of a
 -- scheme, each component of the network has the property of that scheme

@@ -1,6 +1,7 @@
 //! How a run ends, and the text that it writes.
 
 ghost use Rattle.std.specs.Prelude.{◌≡◌, ◌≢◌, ◌++◌, if◌then◌else◌, length, string_bytes, IfOk, OnOk};
+ghost use Rattle.pls_base.specs.declared.text_error.TextError.TheVariants.{Sense};
 ghost use Rattle.pls_components.specs.Components.{AreComponents};
 ghost use Rattle.pls_report.specs.Report.{all_accept};
 ghost use Rattle.pls_report.specs.PartLines.{if_several};
@@ -39,6 +40,14 @@ pub(crate) enum Content {
     Written(Vec<u8>),
     /// The labels of a network, which become text as they are written.
     Labels {
+        code: CodeName,
+        net: Network,
+        labels: LabelStore,
+    },
+    /// The text of a network, and behind it labels of the same nodes, which become text as they are
+    /// written.
+    Configuration {
+        network: Vec<u8>,
         code: CodeName,
         net: Network,
         labels: LabelStore,
@@ -189,6 +198,15 @@ pub(crate) fn refuse(alloc: Global, error: TextError) -> Result<Answer, NoMemory
         status: refusal_status(error),
         content: Content::Written(text.into_bytes()),
     })
+}
+
+// The refusal that has this number and names a node.
+pub(crate) fn refuse_node(alloc: Global, number: u8, id: u32) -> Result<Answer, NoMemory>
+    ensures says { IfOk result (λ answer. answer ≡ refusal (Sense number id)) }
+    ensures worked { IfOk result (λ answer. IsWorked answer.status) }
+{
+    let place = id as u64;
+    refuse(alloc, TextError::Sense { number, place })
 }
 
 // The status of a refusal.

@@ -1,8 +1,6 @@
 //! The answer to `convert`.
 
 ghost use Rattle.std.specs.Prelude.{◌≡◌, ℕ, List, length, IfOk, None, Some};
-ghost use Rattle.pls_base.specs.declared.refusal_number.TheConstants.{UNREAD as UNREAD_NUMBER};
-ghost use Rattle.pls_base.specs.declared.text_error.TextError.TheVariants.{Sense};
 ghost use Rattle.pls_inputs.specs.Parts.{Input, code_in, labels_in, rows_in};
 ghost use Rattle.pls_base.specs.declared.text_error.TextError.{TextError as Error};
 ghost use Rattle.pls_base.specs.declared.text_error.Quantity.TheVariants.{Bits};
@@ -14,7 +12,7 @@ ghost use Rattle.pls_app.specs.Answer.{labels_answer, refusal};
 ghost use Rattle.pls_app.specs.Meant.{takes_of};
 ghost use Rattle.pls_app.specs.inner.Tasks.{Does, IsWorked};
 
-use crate::answer::{Answer, Content, refuse};
+use crate::answer::{Answer, Content, refuse, refuse_node};
 use crate::command::{Command, Task};
 use pls_base::refusal_number::UNREAD;
 use pls_base::{NoMemory, Quantity, Status, TextError};
@@ -42,7 +40,7 @@ pub(crate) fn convert<C: NumCode>(
 {
     let mut found = LabelStore::blank_for(alloc, labels.len(), labels.total())?;
     match scheme.convert_labels::<Delta>(alloc, labels, &mut found)? {
-        Some(place) => refuse_unread(alloc, net.node(place).0),
+        Some(place) => refuse_node(alloc, UNREAD, net.node(place).0),
         None => labels_within(alloc, net, found),
     }
 }
@@ -66,13 +64,4 @@ fn labels_within(alloc: Global, net: Network, labels: LabelStore) -> Result<Answ
             labels,
         },
     })
-}
-
-// The refusal of a label that cannot be read, by the identity of its node.
-fn refuse_unread(alloc: Global, id: u32) -> Result<Answer, NoMemory>
-    ensures says { IfOk result (λ answer. answer ≡ refusal (Sense UNREAD_NUMBER id)) }
-    ensures worked { IfOk result (λ answer. IsWorked answer.status) }
-{
-    let (number, place) = (UNREAD, id as u64);
-    refuse(alloc, TextError::Sense { number, place })
 }

@@ -1,13 +1,14 @@
 //! The one call that does all that the program does.
 
-ghost use Rattle.std.specs.Prelude.{◌≡◌, ◌⊎◌, ℕ, Bool, List, Some, IsOk, OnErr, OnOk, length};
+ghost use Rattle.std.specs.Prelude.{◌≡◌, ◌⊎◌, ◌++◌, [], ℕ, Bool, List, Some, IsOk, OnErr, OnOk, length};
 ghost use Rattle.std.specs.Io.KnownBytes.{Appends};
+ghost use Rattle.pls_base.specs.Gathered.{Writes};
 ghost use Rattle.pls_base.specs.Streams.{AppendsPart, Rose};
-ghost use Rattle.pls_bits.specs.declared.code_name.CodeName.{CodeName};
+ghost use Rattle.pls_inputs.specs.Parts.{net_labels_text};
 ghost use Rattle.pls_words.specs.Words.{words_in};
 ghost use Rattle.pls_property.specs.Expression.{Expression};
 ghost use Rattle.pls_app.specs.Command.{Checks, IsUsage};
-ghost use Rattle.pls_app.specs.Run.{Asks, Concerns, Consumes, CountsAsked, EndsAs, HasItsCause, HoldsAfter, IsAnswered, IsJudged, IsSureOfAnswer, IsUnread, Notices, Proves, ProvesByRules, RefusesExactly, SomeRejects, TellsAnswer, TellsPart, TookCertificate, TookConversion, TookLack};
+ghost use Rattle.pls_app.specs.Run.{Asks, Concerns, Consumes, CountsAsked, EndsAs, HasItsCause, HoldsAfter, IsAnswered, IsJudged, IsSureOfAnswer, IsUnread, Notices, Proves, ProvesByRules, RefusesExactly, SomeRejects, TellsAnswer, TellsPart, TookCertificate, TookConversion, TookLack, TookSplice};
 ghost use Rattle.pls_app.specs.inner.Causes.{Told};
 ghost use Rattle.pls_app.specs.Answer.{IsRefused};
 ghost use Rattle.pls_app.specs.Reports.{reports_text};
@@ -19,9 +20,12 @@ use crate::command::{Command, RuleTask, Task, read_command};
 use crate::from_source::answer_from;
 use crate::round_report::RoundReport;
 use pls_base::{Fault, NoMemory, Sink, Source, Status, write_all};
+use pls_bits::CodeName;
+use pls_graph::Network;
 use pls_labelfile::stream_labels;
 use pls_recheck::Bench;
 use pls_report::{write_report, write_round};
+use pls_view::LabelStore;
 use std::alloc::Global;
 
 /// Runs the program: `words` are the words after its name, `source` gives its input, and `sink`
@@ -57,10 +61,17 @@ pub fn run<'w, S: Source, K: Sink, B: Bench>(
     ensures recheck { (scheme : Expression) (bytes : List ℕ)
         → Asks (words_in words.now) (S.left source.old) (Command.With Task.Recheck scheme) bytes
         → result ≡ Status.Done → HoldsAfter scheme bytes }
+    ensures watch { (scheme : Expression) (bytes : List ℕ)
+        → Asks (words_in words.now) (S.left source.old) (Command.With Task.Watch scheme) bytes
+        → result ≡ Status.Done → Proves scheme (Command.With Task.Watch scheme) bytes }
     ensures convert { (scheme : Expression) (bytes : List ℕ)
         → Asks (words_in words.now) (S.left source.old) (Command.With Task.Convert scheme) bytes
         → result ≡ Status.Done
         → TookConversion scheme bytes (K.taken sink.old) (K.taken sink.new) }
+    ensures splice { (scheme : Expression) (bytes : List ℕ)
+        → Asks (words_in words.now) (S.left source.old) (Command.With Task.Splice scheme) bytes
+        → result ≡ Status.Done
+        → TookSplice scheme bytes (K.taken sink.old) (K.taken sink.new) }
     ensures judge { (json : Bool) (bytes : List ℕ)
         → Asks (words_in words.now) (S.left source.old) (Command.ByRules (RuleTask.Judge json)) bytes
         → result ≡ Status.Done → ProvesByRules bytes }
@@ -138,6 +149,12 @@ fn write_content<K: Sink>(sink: &mut K, content: &Content) -> Result<(), Fault>
         Content::Known(text) => write_all(sink, text),
         Content::Written(text) => write_all(sink, text),
         Content::Labels { code, net, labels } => stream_labels(net, labels, *code, sink),
+        Content::Configuration {
+            network,
+            code,
+            net,
+            labels,
+        } => write_configuration(network, *code, net, labels, sink),
         Content::Report {
             simulated,
             parts,
@@ -145,6 +162,22 @@ fn write_content<K: Sink>(sink: &mut K, content: &Content) -> Result<(), Fault>
         } => write_report(rows, *simulated, parts, sink),
         Content::Rounds(reports) => write_rounds(reports, sink),
     }
+}
+
+// Writes the text of a network, and behind it labels. It takes no memory.
+fn write_configuration<K: Sink>(
+    network: &[u8],
+    code: CodeName,
+    net: &Network,
+    labels: &LabelStore,
+    sink: &mut K,
+) -> Result<(), Fault>
+    ensures { Writes [] [] (K.taken sink.old) (K.taken sink.new) (K.faults sink.old)
+        (K.faults sink.new) (K.IsSureOf sink.old) (K.IsSureOf sink.new) result
+        (network.now ++ net_labels_text code net.now labels.now) }
+{
+    write_all(sink, network)?;
+    stream_labels(net, labels, code, sink)
 }
 
 // Writes the reports of rounds, one after another. It takes no memory.

@@ -8,7 +8,7 @@ ghost use Rattle.pls_app.specs.inner.Tasks.{DoesWork, IsWorked};
 
 use crate::answer::{Answer, refuse};
 use crate::command::{Command, RuleTask};
-use crate::ruled::{judge, list_code};
+use crate::ruled::{judge, list_code, splice_by_rules};
 use pls_base::NoMemory;
 use pls_components::components;
 use pls_inputs::{Input, read_input};
@@ -44,6 +44,12 @@ fn do_rule_task(alloc: Global, task: RuleTask, input: Input) -> Result<Answer, N
             let net = input.network.unwrap();
             let parts = components(alloc, &net)?;
             judge(alloc, set, json, &net, &parts, &input.labels.unwrap())
+        }
+        RuleTask::Splice => {
+            let net = input.network.unwrap();
+            // What is refused and answered is said of a network and its components.
+            let parts = components(alloc, &net)?;
+            splice_by_rules(alloc, set, input.code, net, input.labels.unwrap())
         }
         RuleTask::Code => list_code(alloc, &set),
     }

@@ -1,4 +1,4 @@
-//! The answers to `judge`, `code` and `rules`.
+//! The answers to `judge`, `splice`, `code` and `rules`.
 
 ghost use Rattle.std.specs.Prelude.{◌≡◌, false, length, IfOk, IsSome};
 ghost use Rattle.pls_bits.specs.Gamma.{gamma_takes};
@@ -10,11 +10,13 @@ ghost use Rattle.pls_rules.specs.RuleSet.{AreRules};
 ghost use Rattle.pls_app.specs.Answer.{report};
 ghost use Rattle.pls_app.specs.Reports.{decided_by};
 ghost use Rattle.pls_app.specs.Ruled.{listed, printed};
-ghost use Rattle.pls_app.specs.inner.Tasks.{IsWorked};
+ghost use Rattle.pls_app.specs.inner.Tasks.{DoesSplice, IsWorked};
 
 use crate::answer::{Answer, Content};
+use crate::splice::splice;
 use crate::verify::verify;
 use pls_base::{NoMemory, Status};
+use pls_bits::CodeName;
 use pls_builtin::builtin_set;
 use pls_compile::{RuleChecker, compile, listing};
 use pls_components::Components;
@@ -43,6 +45,23 @@ pub(crate) fn judge(
 {
     let checker = RuleChecker::new(alloc, set)?;
     verify(alloc, &checker, json, net, parts, labels)
+}
+
+// The network with its first two edges crossed that may be, where the nodes judge by a rule set.
+pub(crate) fn splice_by_rules(
+    alloc: Global,
+    set: RuleSet,
+    code: CodeName,
+    net: Network,
+    labels: LabelStore,
+) -> Result<Answer, NoMemory>
+    requires each { length labels ≡ length net }
+    requires sense { AreRules (set_of set) }
+    ensures does { IfOk result (DoesSplice (meaning gamma_takes (set_of set)) code net labels) }
+    ensures worked { IfOk result (λ answer. IsWorked answer.status) }
+{
+    let checker = RuleChecker::new(alloc, set)?;
+    splice(alloc, &checker, code, net, labels)
 }
 
 // The machine code of a rule set, as a text.

@@ -8,9 +8,11 @@ mod recheck;
 mod refusals;
 mod rules;
 mod simulate;
+mod splice;
 mod streams;
 mod trees;
 mod trial;
+mod watch;
 
 use crate::run_in_memory;
 use pls_app::{Tally, run};

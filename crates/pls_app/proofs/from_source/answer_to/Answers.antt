@@ -1,6 +1,8 @@
-use Rattle.std.proofs.Common.{◌≡◌, subst, sym}
+use Rattle.std.proofs.Common.{◌≡◌, ◌∙◌, ap, subst, sym}
 use Rattle.std.proofs.lemmas.Result.{IfOk-weaker}
 use Rattle.pls_app.specs.declared.command.Command.{Command}
+use Rattle.pls_app.specs.declared.command.Command.TheVariants.{With}
+use Rattle.pls_app.specs.declared.command.Task.{Task}
 use Rattle.pls_app.specs.Answer.{Answers}
 use Rattle.pls_app.specs.Ruled.{printed}
 use Rattle.pls_app.specs.Trial.{IsTrialAnswer}
@@ -36,3 +38,8 @@ returns-in-Print-clause-answer g c =
     (λ answer same. subst (λ (command : Command). Answers command c.args.bytes.now answer)
     (sym c.in-Print.is) (print_answers c.args.bytes.now c.in-Print.name answer same))
     c.print_named.ensures
+
+pub returns-in-With-clause-unasked : goal.returns-in-With-clause-unasked
+returns-in-With-clause-unasked g c none =
+    c.answer_with.ensures.unasked (λ is. none c.in-With.scheme
+    (c.in-With.is ∙ ap (λ (task : Task). With task c.in-With.scheme) is))

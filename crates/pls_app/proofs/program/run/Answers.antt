@@ -4,7 +4,7 @@ use Rattle.pls_model.specs.declared.status.Status.{Status}
 use Rattle.pls_app.specs.declared.command.Command.{Command}
 use Rattle.pls_app.specs.declared.command.Command.TheVariants.{ByRules, With}
 use Rattle.pls_app.specs.declared.command.RuleTask.TheVariants.{Judge}
-use Rattle.pls_app.specs.declared.command.Task.TheVariants.{Convert, Mark, Recheck}
+use Rattle.pls_app.specs.declared.command.Task.TheVariants.{Convert, Mark, Recheck, Watch, Splice}
 use Rattle.pls_app.specs.Command.{IsCommand, IsUsage, reads}
 use Rattle.pls_app.specs.Answer.{usage}
 use Rattle.pls_app.specs.Run.{EndsAs, IsAnswered}
@@ -15,8 +15,10 @@ use Rattle.pls_app.proofs.Commands.{one_command}
 use Rattle.pls_app.proofs.Consumed.{lost_nothing}
 use Rattle.pls_app.proofs.Conversions.{done_converts}
 use Rattle.pls_app.proofs.NamedSets.{done_judges}
-use Rattle.pls_app.proofs.Told.{tells, tells_command, tells_part, tells_part_of, told_answered, told_done, told_no, told_ends, told_sure, told_usage, offered, took_certificate, took_conversion, took_lack, unread_command, unread_usage, worked_answered}
+use Rattle.pls_app.proofs.Splits.{done_splits}
+use Rattle.pls_app.proofs.Told.{tells, tells_command, tells_part, tells_part_of, told_answered, told_done, told_no, told_ends, told_sure, told_usage, offered, took_certificate, took_conversion, took_lack, took_splice, unread_command, unread_usage, worked_answered}
 use Rattle.pls_app.proofs.Proved.{done_proves, judged_notices, no_lacks, no_rejects}
+use Rattle.pls_app.proofs.WatchProves.{watch_proves}
 use Rattle.pls_app.proofs.program.run.Goals as goal
 
 pub returns-in-Ok-None-clause-text : goal.returns-in-Ok-None-clause-text
@@ -132,6 +134,18 @@ returns-in-Ok-None-clause-convert g c scheme bytes asks done =
     let none : IsUsage words = c.in-Ok-None.ensures.none c.in-Ok-None.field-0-is in
     absurd (none (With Convert scheme) asks.asked)
 
+pub returns-in-Ok-None-clause-watch : goal.returns-in-Ok-None-clause-watch
+returns-in-Ok-None-clause-watch g c scheme bytes asks done =
+    let words : List (List ℕ) = words_in c.args.words.now in
+    let none : IsUsage words = c.in-Ok-None.ensures.none c.in-Ok-None.field-0-is in
+    absurd (none (With Watch scheme) asks.asked)
+
+pub returns-in-Ok-None-clause-splice : goal.returns-in-Ok-None-clause-splice
+returns-in-Ok-None-clause-splice g c scheme bytes asks done =
+    let words : List (List ℕ) = words_in c.args.words.now in
+    let none : IsUsage words = c.in-Ok-None.ensures.none c.in-Ok-None.field-0-is in
+    absurd (none (With Splice scheme) asks.asked)
+
 pub returns-in-Ok-None-clause-judge : goal.returns-in-Ok-None-clause-judge
 returns-in-Ok-None-clause-judge g c json bytes asks done =
     let words : List (List ℕ) = words_in c.args.words.now in
@@ -211,6 +225,27 @@ returns-in-Ok-clause-convert g c scheme bytes asks done =
     same_command words command (With Convert scheme) bytes _ is asks.asked
     (c.in-Ok.ensures.answer bytes (inr asks.told)) in
     took_conversion scheme bytes _ _ _ _ _ _ _ (λ ends. done_converts scheme bytes _ answers ends)
+    c.tell-in-Ok.ensures.told done
+
+pub returns-in-Ok-clause-watch : goal.returns-in-Ok-clause-watch
+returns-in-Ok-clause-watch g c scheme bytes asks done =
+    let words : List (List ℕ) = words_in c.args.words.now in
+    let command : Command = c.in-Ok-Some.command in
+    let is : IsCommand words command = rw c.in-Ok-Some.field-0-is at c.in-Ok-Some.ensures.some in
+    let answers =
+    same_command words command (With Watch scheme) bytes _ is asks.asked
+    (c.in-Ok.ensures.answer bytes (inr asks.told)) in
+    watch_proves scheme bytes _ answers (told_done _ _ _ _ _ _ _ c.tell-in-Ok.ensures.told done)
+
+pub returns-in-Ok-clause-splice : goal.returns-in-Ok-clause-splice
+returns-in-Ok-clause-splice g c scheme bytes asks done =
+    let words : List (List ℕ) = words_in c.args.words.now in
+    let command : Command = c.in-Ok-Some.command in
+    let is : IsCommand words command = rw c.in-Ok-Some.field-0-is at c.in-Ok-Some.ensures.some in
+    let answers =
+    same_command words command (With Splice scheme) bytes _ is asks.asked
+    (c.in-Ok.ensures.answer bytes (inr asks.told)) in
+    took_splice scheme bytes _ _ _ _ _ _ _ (λ ends. done_splits scheme bytes _ answers ends)
     c.tell-in-Ok.ensures.told done
 
 pub returns-in-Ok-clause-judge : goal.returns-in-Ok-clause-judge

@@ -14,7 +14,8 @@ use Rattle.pls_app.specs.declared.command.RuleTask.{RuleTask}
 use Rattle.pls_app.specs.Answer.{report}
 use Rattle.pls_app.specs.Reports.{decided_by}
 use Rattle.pls_app.specs.Ruled.{listed}
-use Rattle.pls_app.specs.inner.Tasks.{DoesWork}
+use Rattle.pls_app.specs.inner.Tasks.{DoesSplice, DoesWork}
+use Rattle.pls_app.proofs.Spliced.{spliced_so}
 use Rattle.pls_app.proofs.Values.{labels_are, labels_each, made_of, no_rows, rows_are, rules_sense, set_is}
 use Rattle.pls_app.proofs.rule_work.do_rule_task.Goals as goal
 
@@ -56,6 +57,40 @@ returns-in_ok-parts-in-Judge-clause-does c =
             (decided_by (meaning gamma_takes (sym sets i)) (sym rows i) (sym labels i))),
       );
     })) c.judge-in-Judge.ensures.reports
+
+pub splice_by_rules-requires-clause-each : goal.splice_by_rules-requires-clause-each
+splice_by_rules-requires-clause-each c =
+    labels_each _ _ c.args.input c.requires.1 c.unwrap-net-in-Splice.result
+    c.unwrap-net-in-Splice.ensures c.unwrap-in-Splice.result c.unwrap-in-Splice.ensures
+
+pub splice_by_rules-requires-clause-sense : goal.splice_by_rules-requires-clause-sense
+splice_by_rules-requires-clause-sense c =
+    rules_sense _ _ c.args.input c.requires.1 c.unwrap-set.result c.unwrap-set.ensures
+
+pub returns-in_ok-parts-in-Splice-clause-does : goal.returns-in_ok-parts-in-Splice-clause-does
+returns-in_ok-parts-in-Splice-clause-does c =
+    let input = said c.args.input in
+    let is = c.requires.1 in
+    let net = c.unwrap-net-in-Splice.result in
+    let store = c.unwrap-in-Splice.result in
+    let set = set_of c.unwrap-set.result in
+    let rows = rows_are c.args.input net c.unwrap-net-in-Splice.ensures in
+    let labels = labels_are _ _ c.args.input is net c.unwrap-net-in-Splice.ensures store
+    c.unwrap-in-Splice.ensures in
+    let sets = set_is _ _ c.args.input is c.unwrap-set.result c.unwrap-set.ensures in
+    let parts = c.in_ok-parts-in-Splice.parts in
+    let are : AreComponents (rows_in input) parts =
+    made_of input net parts rows c.in_ok-parts-in-Splice.ensures in
+    IfOk-weaker c.splice_by_rules.result
+    (DoesSplice (meaning gamma_takes set) c.args.input.code net store)
+    (λ answer. DoesWork (ByRules c.args.task) input answer)
+    (λ answer does. subst (λ (task : RuleTask). DoesWork (ByRules task) input answer)
+    (sym c.in-Splice.is) (record {
+      parts = parts;
+      components = are;
+      does = spliced_so (meaning gamma_takes set) _ c.args.input.code _ net _ store _ answer
+          (ap (meaning gamma_takes) (sym sets)) is.code (sym rows) (sym labels) does parts are;
+    })) c.splice_by_rules.ensures.does
 
 pub returns-in-Code-clause-does : goal.returns-in-Code-clause-does
 returns-in-Code-clause-does c =

@@ -8,15 +8,18 @@ use Rattle.pls_model.specs.declared.row.NodeRow.{NodeRow}
 use Rattle.pls_model.specs.declared.status.Status.TheVariants.{Done}
 use Rattle.pls_app.specs.declared.command.Command.TheVariants.{With}
 use Rattle.pls_app.specs.declared.command.Task.{Task}
-use Rattle.pls_app.specs.declared.command.Task.TheVariants.{Convert, Mark, Simulate, Recheck}
+use Rattle.pls_app.specs.declared.command.Task.TheVariants.{Verify, Convert, Mark, Simulate, Recheck, Splice, Watch}
 use Rattle.pls_app.specs.Answer.{bounded, report}
 use Rattle.pls_app.specs.Command.{input_parts_of}
 use Rattle.pls_app.specs.Meant.{number_code_of, takes_of}
 use Rattle.pls_app.specs.Reports.{decided_by}
-use Rattle.pls_app.specs.inner.Tasks.{Does, DoesWork, IsNamed, IsRechecked, IsSimulated, RecheckedIn, ShowsIn, working_code}
-use Rattle.pls_app.proofs.Values.{edits_at, edits_few, edits_fit, edits_small, items_are, labels_are, labels_each, made_of, rows_are, schedule_at, schedule_small}
+use Rattle.pls_app.specs.inner.Tasks.{Does, DoesWork, IsNamed, IsRechecked, IsSimulated, RecheckedIn, ShowsIn, working_code, DoesSplice}
+use Rattle.pls_app.specs.inner.Watching.{IsWatchInput}
+use Rattle.pls_app.proofs.Values.{edits_at, edits_few, edits_fit, edits_small, items_are, labels_are, labels_each, made_of, rows_are, schedule_at, schedule_small, watch_at, watch_bits, watch_few, watch_small}
+use Rattle.pls_app.proofs.Spliced.{spliced_so}
 use Rattle.pls_components.specs.Components.{AreComponents}
 use Rattle.pls_components.specs.Parts.{bound_of_parts}
+use Rattle.pls_app.proofs.OtherTasks.{no_mark, no_recheck}
 use Rattle.pls_app.proofs.work.do_task.Goals as goal
 
 pub mark-requires-clause-named : goal.mark-requires-clause-named
@@ -45,6 +48,13 @@ recheck-requires g c =
         line = edits_small _ _ c.args.input is list edits unscheduled;
       };
     }
+
+pub watch-requires-clause-line : goal.watch-requires-clause-line
+watch-requires-clause-line g c =
+    watch_small _ _ c.args.input c.requires.input.1 c.unwrap-in-Watch-2.result.items
+    (ap (option_map (λ list. list.items)) c.unwrap-in-Watch-2.ensures)
+    (ap (λ (task : Task). (input_parts_of (With task c.args.scheme)).schedule) c.in-Watch.is)
+    (ap (λ (task : Task). (input_parts_of (With task c.args.scheme)).edits) c.in-Watch.is)
 
 pub returns-in-Mark-clause-does : goal.returns-in-Mark-clause-does
 returns-in-Mark-clause-does g c =
@@ -129,6 +139,33 @@ returns-in-Convert-clause-does g c =
     (record { parts = parts; components = are; does = does input rows labels takes parts }))
     c.convert-in-Convert.ensures.does
 
+pub returns-in-Splice-clause-does : goal.returns-in-Splice-clause-does
+returns-in-Splice-clause-does g c =
+    let scheme = c.args.scheme in
+    let input = said c.args.input in
+    let parts = c.in_ok-parts.parts in
+    let net = c.unwrap-net.result in
+    let rows = rows_are c.args.input net c.unwrap-net.ensures in
+    let are : AreComponents (rows_in input) parts =
+    made_of input net parts rows c.in_ok-parts.ensures in
+    let store = c.unwrap-in-Splice.result in
+    let judge = judge_of g.C.NumCode.takes scheme in
+    let takes = c.requires.named.takes_so
+    ∙ ap (λ (task : Task). takes_of (working_code task input)) c.in-Splice.is in
+    let labels = labels_are _ _ c.args.input c.requires.input.1 net c.unwrap-net.ensures store
+    c.unwrap-in-Splice.ensures in
+    IfOk-weaker c.splice.result
+    (DoesSplice judge c.args.input.code net store)
+    (λ answer. DoesWork (With c.args.task scheme) input answer)
+    (λ answer does. subst (λ (task : Task). DoesWork (With task scheme) input answer)
+    (sym c.in-Splice.is) (record {
+      parts = parts;
+      components = are;
+      does = spliced_so judge _ c.args.input.code _ net _ store _ answer
+          (λ i. judge_of (takes i) scheme) c.requires.input.1.code (sym rows) (sym labels) does
+          parts are;
+    })) c.splice.ensures.does
+
 pub returns-in-Verify-clause-does : goal.returns-in-Verify-clause-does
 returns-in-Verify-clause-does g c =
     let scheme = c.args.scheme in
@@ -194,6 +231,38 @@ returns-in-Simulate-clause-does g c =
     (sym c.in-Simulate.is) (record { parts = parts; components = are; does = does input read takes }))
     c.simulate-in-Simulate.ensures.does
 
+pub returns-in-Watch-clause-does : goal.returns-in-Watch-clause-does
+returns-in-Watch-clause-does g c =
+    let scheme = c.args.scheme in
+    let input = said c.args.input in
+    let parts = c.in_ok-parts.parts in
+    let are : AreComponents (rows_in input) parts =
+    made_of input c.unwrap-net.result parts
+    (rows_are c.args.input c.unwrap-net.result c.unwrap-net.ensures) c.in_ok-parts.ensures in
+    let is = c.requires.input.1 in
+    let net = c.unwrap-net.result in
+    let store = c.unwrap-in-Watch.result in
+    let list = c.unwrap-in-Watch-2.result in
+    let takes = c.requires.named.takes_so
+    ∙ ap (λ (task : Task). takes_of (working_code task input)) c.in-Watch.is in
+    let read : IsWatchInput net store c.deref-in-Watch.result.now c.args.input.first_line input =
+    record {
+      net = rows_are c.args.input net c.unwrap-net.ensures;
+      store = labels_are _ _ c.args.input is net c.unwrap-net.ensures store
+          c.unwrap-in-Watch.ensures;
+      list = items_are c.args.input.watch list (λ list. list.items) c.unwrap-in-Watch-2.ensures
+          ∙ sym c.deref-in-Watch.ensures.value;
+      at = watch_at _ _ c.args.input is list.items
+          (ap (option_map (λ list. list.items)) c.unwrap-in-Watch-2.ensures)
+          (ap (λ (task : Task). (input_parts_of (With task scheme)).schedule) c.in-Watch.is)
+          (ap (λ (task : Task). (input_parts_of (With task scheme)).edits) c.in-Watch.is);
+    } in
+    IfOk-weaker c.watch-in-Watch.result _ (λ answer. DoesWork (With c.args.task scheme) input answer)
+    (λ answer does. subst (λ (task : Task). DoesWork (With task scheme) input answer)
+    (sym c.in-Watch.is)
+    (record { parts = parts; components = are; does = does input read takes parts }))
+    c.watch-in-Watch.ensures.does
+
 pub returns-in-Recheck-clause-does : goal.returns-in-Recheck-clause-does
 returns-in-Recheck-clause-does g c =
     let scheme = c.args.scheme in
@@ -244,3 +313,53 @@ returns-in-Recheck-clause-rechecked g c =
       at = edits_at _ _ c.args.input is list.items
           (ap (option_map (λ list. list.items)) c.unwrap-in-Recheck-2.ensures) unscheduled;
     })) c.recheck.ensures.rechecked
+
+pub returns-in-Verify-clause-shows : goal.returns-in-Verify-clause-shows
+returns-in-Verify-clause-shows g c =
+    no_mark c.args.task (Verify c.in-Verify.json) c.in-Verify.is c.args.scheme _ (rows_in (said c.args.input))
+    (λ code mark. cc)
+
+pub returns-in-Verify-clause-rechecked : goal.returns-in-Verify-clause-rechecked
+returns-in-Verify-clause-rechecked g c =
+    no_recheck c.args.task (Verify c.in-Verify.json) c.in-Verify.is c.args.scheme _ (said c.args.input) _ _
+    (λ recheck. cc)
+
+pub returns-in-Simulate-clause-shows : goal.returns-in-Simulate-clause-shows
+returns-in-Simulate-clause-shows g c =
+    no_mark c.args.task (Simulate c.in-Simulate.json) c.in-Simulate.is c.args.scheme _ (rows_in (said c.args.input))
+    (λ code mark. cc)
+
+pub returns-in-Simulate-clause-rechecked : goal.returns-in-Simulate-clause-rechecked
+returns-in-Simulate-clause-rechecked g c =
+    no_recheck c.args.task (Simulate c.in-Simulate.json) c.in-Simulate.is c.args.scheme _ (said c.args.input) _ _
+    (λ recheck. cc)
+
+pub returns-in-Watch-clause-shows : goal.returns-in-Watch-clause-shows
+returns-in-Watch-clause-shows g c =
+    no_mark c.args.task Watch c.in-Watch.is c.args.scheme _ (rows_in (said c.args.input))
+    (λ code mark. cc)
+
+pub returns-in-Watch-clause-rechecked : goal.returns-in-Watch-clause-rechecked
+returns-in-Watch-clause-rechecked g c =
+    no_recheck c.args.task Watch c.in-Watch.is c.args.scheme _ (said c.args.input) _ _
+    (λ recheck. cc)
+
+pub returns-in-Convert-clause-shows : goal.returns-in-Convert-clause-shows
+returns-in-Convert-clause-shows g c =
+    no_mark c.args.task Convert c.in-Convert.is c.args.scheme _ (rows_in (said c.args.input))
+    (λ code mark. cc)
+
+pub returns-in-Convert-clause-rechecked : goal.returns-in-Convert-clause-rechecked
+returns-in-Convert-clause-rechecked g c =
+    no_recheck c.args.task Convert c.in-Convert.is c.args.scheme _ (said c.args.input) _ _
+    (λ recheck. cc)
+
+pub returns-in-Splice-clause-shows : goal.returns-in-Splice-clause-shows
+returns-in-Splice-clause-shows g c =
+    no_mark c.args.task Splice c.in-Splice.is c.args.scheme _ (rows_in (said c.args.input))
+    (λ code mark. cc)
+
+pub returns-in-Splice-clause-rechecked : goal.returns-in-Splice-clause-rechecked
+returns-in-Splice-clause-rechecked g c =
+    no_recheck c.args.task Splice c.in-Splice.is c.args.scheme _ (said c.args.input) _ _
+    (λ recheck. cc)

@@ -1,0 +1,113 @@
+-- A watch as it is played, with one line more.
+use Rattle.std.proofs.Common.{◌≡◌, ◌∙◌, ℕ, ◌+◌, ◌<◌, ◌≤◌, Bool, true, false, not, List, [], ◌∷◌, ◌++◌, length, take, drop, get_or, refl, sym, ap, subst, arith, add-one, append-nil}
+use Rattle.std.proofs.lemmas.List.{take_more}
+use Rattle.std.proofs.Math.Seq.{drop-cons}
+use Rattle.pls_model.specs.declared.row.NodeRow.{NodeRow}
+use Rattle.pls_model.specs.declared.verdict.Verdict.{Verdict}
+use Rattle.pls_view.specs.Seen.{Seen}
+use Rattle.pls_sim.specs.declared.outcome.Outcome.{Outcome}
+use Rattle.pls_watch_part.specs.declared.watch_event.WatchEvent.{WatchEvent}
+use Rattle.pls_watch_part.specs.declared.watch_event.WatchLine.{WatchLine}
+use Rattle.pls_watch_part.specs.declared.watch_event.WatchLine.TheVariants.{Event, Look}
+use Rattle.pls_watch.specs.Watching.{Watched}
+use Rattle.pls_app.specs.Looks.{look_after, looks_behind}
+use Rattle.pls_app.specs.Unwatched.{event_of, events_of, first_unwatched, line_names_nothing}
+use Rattle.pls_app.specs.inner.Watching.{AreShown, HasRoomForEvents, shown_at, watched_behind}
+use Rattle.pls_app.specs.declared.watch.Shown.{Shown}
+use Rattle.pls_app.proofs.WatchLines.{events_more, line_shows, looks_more, unwatched_later}
+use Rattle.pls_app.proofs.WatchRoom.{room_behind, room_first}
+
+-- behind a line the network and the labels at the start are as before, and its event was taken
+behind_network : (line : WatchLine) (watched : Watched)
+    → (watched_behind line watched).network ≡ watched.network
+behind_network (Event event) watched = refl
+behind_network Look watched = refl
+
+behind_start : (line : WatchLine) (watched : Watched)
+    → (watched_behind line watched).start ≡ watched.start
+behind_start (Event event) watched = refl
+behind_start Look watched = refl
+
+behind_events : (line : WatchLine) (watched : Watched)
+    → (watched_behind line watched).events ≡ watched.events ++ event_of line
+behind_events (Event event) watched = refl
+behind_events Look watched = sym (append-nil watched.events)
+
+module _ (lines : List WatchLine) (place : ℕ) (d : WatchLine) (within : place < length lines) where
+  abbrev line : WatchLine
+  line = get_or lines place d
+
+  -- the events of the lines up to the next
+  events_here : events_of (take place lines) ++ event_of line ≡ events_of (take (place + 1) lines)
+  events_here =
+      ap (λ events. events_of (take place lines) ++ events) (sym (append-nil (event_of line)))
+      ∙ sym (events_more (take place lines) (line ∷ []))
+      ∙ ap events_of (sym (take_more lines place d within))
+
+  module _ (watched : Watched) (room : HasRoomForEvents watched (events_of (drop place lines))) where
+    -- there is room for the next line and for the others
+    room_for : HasRoomForEvents watched (event_of line ++ events_of (drop (place + 1) lines))
+    room_for =
+        subst (λ (lines : List WatchLine). HasRoomForEvents watched (events_of lines))
+        (drop-cons lines place d within ∙ ap (λ n. line ∷ drop n lines) (sym (add-one place))) room
+
+    pub room_here : HasRoomForEvents watched (event_of line)
+    room_here = room_first watched (event_of line) (events_of (drop (place + 1) lines)) room_for
+
+    pub room_on : (new : Watched) → new ≡ watched_behind line watched
+        → HasRoomForEvents new (events_of (drop (place + 1) lines))
+    room_on new is =
+        subst (λ (watched : Watched). HasRoomForEvents watched (events_of (drop (place + 1) lines)))
+        (sym is) (room_behind watched line (events_of (drop (place + 1) lines)) room_for)
+
+  module _ (rows : List NodeRow) (labels : List (List Bool)) (old new : Watched)
+      (network : old.network ≡ rows) (start : old.start ≡ labels)
+      (taken : old.events ≡ events_of (take place lines)) where
+    pub network_on : new ≡ watched_behind line old → new.network ≡ rows
+    network_on is =
+        ap (λ (watched : Watched). watched.network) is ∙ behind_network line old ∙ network
+
+    pub start_on : new ≡ watched_behind line old → new.start ≡ labels
+    start_on is = ap (λ (watched : Watched). watched.start) is ∙ behind_start line old ∙ start
+
+    pub taken_on : new ≡ watched_behind line old → new.events ≡ events_of (take (place + 1) lines)
+    taken_on is =
+        ap (λ (watched : Watched). watched.events) is ∙ behind_events line old
+        ∙ ap (λ events. events ++ event_of line) taken ∙ events_here
+
+    -- the looks so far, with what the line shows
+    pub shown_on : (judge : Seen → Verdict) (shown : Shown)
+        → AreShown shown (looks_behind (look_after judge rows labels) [] (take place lines)
+        ++ shown_at judge old line)
+        → AreShown shown (looks_behind (look_after judge rows labels) [] (take (place + 1) lines))
+    shown_on judge shown are =
+        let look : List WatchEvent → List (ℕ × Outcome × List ℕ) = look_after judge rows labels in
+        subst (AreShown shown)
+        (ap (λ more. looks_behind look [] (take place lines) ++ more)
+        (line_shows judge old rows labels (events_of (take place lines)) line network start taken)
+        ∙ sym (looks_more look [] (take place lines) line)
+        ∙ ap (looks_behind look []) (sym (take_more lines place d within))) are
+
+    -- a line that applies hands on to those behind it
+    pub first_on : (number : ℕ) → line_names_nothing old.network old.events line ≡ false
+        → first_unwatched rows [] number lines
+        ≡ first_unwatched rows (events_of (take place lines)) (number + place) (drop place lines)
+        → first_unwatched rows [] number lines
+        ≡ first_unwatched rows (events_of (take (place + 1) lines)) (number + (place + 1))
+        (drop (place + 1) lines)
+    first_on number fits so_far =
+        let fits_there : line_names_nothing rows (events_of (take place lines)) line ≡ false =
+        (λ i. line_names_nothing (sym network i) (sym taken i) line) ∙ fits in
+        so_far ∙ unwatched_later rows (events_of (take place lines)) lines place number d within
+        fits_there
+        ∙ ap (λ (before : List WatchEvent). first_unwatched rows before (number + (place + 1))
+        (drop (place + 1) lines)) events_here
+
+-- what is not refused applies
+pub applies_so : (refused : Bool) → not refused ≡ true → refused ≡ false
+applies_so true is = absurd (cc)
+applies_so false is = refl
+
+pub refused_so : (refused : Bool) → not refused ≡ false → refused ≡ true
+refused_so true is = refl
+refused_so false is = absurd (cc)

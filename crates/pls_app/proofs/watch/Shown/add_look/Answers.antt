@@ -1,0 +1,14 @@
+use Rattle.std.proofs.Common.{◌+◌, refl}
+use Rattle.pls_app.specs.declared.watch.Shown.{Shown}
+use Rattle.pls_app.proofs.WatchLines.{shown_more}
+use Rattle.pls_app.proofs.watch.Shown.add_look.Goals as goal
+
+pub returns-in-Ok : goal.returns-in-Ok
+returns-in-Ok c looks are =
+    let new : Shown = record {
+      text = c.write_look.new.sink;
+      looks = c.args.self.now.looks + 1;
+      well = c.look_is_well-self.result;
+    } in
+    shown_more c.args.self.now new looks c.args.rows.now are c.in-Ok.ensures.all refl
+    c.look_is_well-self.ensures

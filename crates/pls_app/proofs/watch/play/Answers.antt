@@ -1,0 +1,60 @@
+use Rattle.std.proofs.Common.{◌≡◌, ◌∙◌, ◌++◌, ℕ, List, [], false, get_or, length, take, ap, arith, subst, sym}
+use Rattle.std.proofs.lemmas.List.{length-take}
+use Rattle.pls_watch_part.specs.declared.watch_event.WatchLine.{WatchLine}
+use Rattle.pls_watch.specs.Watching.{Watched}
+use Rattle.pls_app.specs.Looks.{look_after, looks_behind}
+use Rattle.pls_app.specs.Unwatched.{line_names_nothing}
+use Rattle.pls_app.specs.inner.Watching.{AreShown, shown_at, watched_behind}
+use Rattle.pls_app.proofs.WatchLines.{few_looks}
+use Rattle.pls_app.proofs.WatchPlay.{applies_so, first_on, network_on, room_here, room_on, shown_on, start_on, taken_on}
+use Rattle.pls_app.proofs.watch.play.Goals as goal
+
+pub take_line-requires-clause-few : goal.take_line-requires-clause-few
+take_line-requires-clause-few g c =
+    let lines : List WatchLine = c.args.lines.now in
+    let place : ℕ = c.loop-place.place in
+    let start = c.args.watch.now in
+    omega (
+      arith,
+      c.loop-place.invariant.shown.count,
+      few_looks (look_after (g.K.Checker.judge c.args.checker.now) start.network start.start) []
+          (take place lines),
+      length-take place lines,
+      c.loop-place-test.true,
+      c.requires.few,
+    )
+
+pub loop-place-preserved : goal.loop-place-preserved
+loop-place-preserved g c =
+    let start = c.args.watch.now in
+    let old = c.loop-place.watch in
+    let new = c.take_line.new.watch in
+    let lines : List WatchLine = c.args.lines.now in
+    let place : ℕ = c.loop-place.place in
+    let line : WatchLine = c.index-lines-place.result in
+    let before = c.loop-place.invariant in
+    let step = c.in_ok-take_line.ensures in
+    let within = c.loop-place-test.true in
+    let at : line ≡ get_or lines place line = c.index-lines-place.is in
+    let is : new ≡ watched_behind (get_or lines place line) old =
+    step.taken c.if-not-branch.false ∙ ap (λ (line : WatchLine). watched_behind line old) at in
+    let fits : line_names_nothing old.network old.events (get_or lines place line) ≡ false =
+    ap (line_names_nothing old.network old.events) (sym at)
+    ∙ applies_so _ (sym step.refused ∙ c.if-not-branch.false) in
+    let judge = g.K.Checker.judge c.args.checker.now in
+    record {
+      network = network_on lines place line within start.network start.start old new
+          before.network before.start before.taken is;
+      start = start_on lines place line within start.network start.start old new
+          before.network before.start before.taken is;
+      taken = taken_on lines place line within start.network start.start old new
+          before.network before.start before.taken is;
+      room = room_on lines place line within old before.room new is;
+      shown = shown_on lines place line within start.network start.start old new
+          before.network before.start before.taken judge c.take_line.new.shown
+          (subst (λ (line : WatchLine). AreShown c.take_line.new.shown
+          (looks_behind (look_after judge start.network start.start) [] (take place lines)
+          ++ shown_at judge old line)) at (step.shown _ before.shown));
+      so_far = λ number. first_on lines place line within start.network start.start old new
+          before.network before.start before.taken number fits (before.so_far number);
+    }

@@ -1,0 +1,103 @@
+use Rattle.std.proofs.Common.{◌≡◌, ◌∙◌, ◌+◌, ℕ, List, [], Some, None, inl, inr, length, option_map, ap, arith, sym}
+use Rattle.std.proofs.lemmas.Result.{IfOk-weaker}
+use Rattle.pls_base.specs.declared.refusal_number.TheConstants.{WATCH_EVENT}
+use Rattle.pls_base.specs.declared.text_error.TextError.{TextError}
+use Rattle.pls_base.specs.declared.text_error.TextError.TheVariants.{Sense}
+use Rattle.pls_combine.specs.Expression.{judge_of}
+use Rattle.pls_watch_part.specs.declared.watch_event.WatchEvent.{WatchEvent}
+use Rattle.pls_watch.specs.Labelled.{bits_given, labels_given}
+use Rattle.pls_inputs.specs.Parts.{Input, code_in}
+use Rattle.pls_app.specs.declared.command.Command.TheVariants.{With}
+use Rattle.pls_app.specs.declared.command.Task.TheVariants.{Watch}
+use Rattle.pls_app.specs.Answer.{refusal}
+use Rattle.pls_app.specs.Looks.{look_after, looked, looks_behind}
+use Rattle.pls_app.specs.Meant.{takes_of}
+use Rattle.pls_app.specs.Unwatched.{events_of, first_unwatched, unwatched}
+use Rattle.pls_app.specs.inner.Tasks.{Does}
+use Rattle.pls_app.specs.inner.Watching.{IsWatchInput}
+use Rattle.pls_app.proofs.WatchLines.{few_events, few_labels, total_given}
+use Rattle.pls_app.proofs.watch.watch.Goals as goal
+
+pub start-requires-clause-relabels : goal.start-requires-clause-relabels
+start-requires-clause-relabels g c =
+    omega (
+      arith,
+      c.relabels_in-relabels.ensures.count,
+      few_labels (events_of c.args.lines.now),
+      few_events c.args.lines.now,
+      c.requires.few,
+    )
+
+pub start-requires-clause-bits : goal.start-requires-clause-bits
+start-requires-clause-bits g c =
+    omega (
+      arith,
+      c.relabels_in-relabels.ensures.bits,
+      total_given c.args.lines.now,
+      c.requires.bits,
+    )
+
+pub play-requires-clause-room : goal.play-requires-clause-room
+play-requires-clause-room g c =
+    let lines = c.args.lines.now in
+    let start = c.in_ok-watch.ensures in record {
+      few_events = omega (
+        arith,
+        ap (length {A = WatchEvent}) start.none,
+        start.most,
+        few_events lines,
+      );
+      few_relabels = omega (
+        arith,
+        ap (λ (events : List WatchEvent). length (labels_given events)) start.none,
+        start.relabels,
+        c.relabels_in-relabels.ensures.count,
+      );
+      few_bits = omega (
+        arith,
+        ap bits_given start.none,
+        start.bits,
+        c.relabels_in-relabels.ensures.bits,
+      );
+    }
+
+pub returns-in-Some-clause-does : goal.returns-in-Some-clause-does
+returns-in-Some-clause-does g c =
+    let place = c.in-Some.place in
+    let net = c.args.net.now in
+    let lines = c.args.lines.now in
+    let first = c.args.first_line in
+    let command = With Watch c.args.scheme.now in
+    let error : TextError = Sense WATCH_EVENT (first + place) in
+    let some : unwatched net first lines ≡ Some error =
+    ap (option_map (λ line. Sense WATCH_EVENT line))
+    ((λ i. first_unwatched (sym c.in_ok-watch.ensures.network i) [] first lines)
+    ∙ c.in_ok-place.ensures.place first ∙ ap (option_map (λ place. first + place)) c.in-Some.is) in
+    IfOk-weaker c.refuse.result (λ answer. answer ≡ refusal error)
+    (λ answer. (input : Input) → IsWatchInput net c.args.labels.now lines first input
+    → g.C.NumCode.takes ≡ takes_of (code_in input) → (parts : List (List ℕ))
+    → Does command input parts answer)
+    (λ answer same input is takes parts. inl (
+      error,
+      (λ i. unwatched (is.net i) (sym is.at i) (is.list i)) ∙ some,
+      same,
+    )) c.refuse.ensures.says
+
+pub returns-clause-does : goal.returns-clause-does
+returns-clause-does g c input is takes parts =
+    let net = c.args.net.now in
+    let lines = c.args.lines.now in
+    let first = c.args.first_line in
+    let start = c.in_ok-watch.ensures in
+    let none : unwatched net first lines ≡ None =
+    ap (option_map (λ line. Sense WATCH_EVENT line))
+    ((λ i. first_unwatched (sym start.network i) [] first lines)
+    ∙ c.in_ok-place.ensures.place first ∙ ap (option_map (λ place. first + place)) c.in-None.is) in
+    let networks = start.network ∙ sym is.net in
+    let labels = start.labels ∙ sym is.store in
+    inr (
+      (λ i. unwatched (is.net i) (sym is.at i) (is.list i)) ∙ none,
+      c.into_answer.ensures.says _ (c.in_ok-place.ensures.shown c.in-None.is)
+          ∙ (λ i. looked (looks_behind (look_after (judge_of (takes i) c.args.scheme.now)
+          (networks i) (labels i)) [] (sym is.list i))),
+    )

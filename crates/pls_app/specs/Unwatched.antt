@@ -1,0 +1,52 @@
+-- Which event of a watch is refused.
+use Rattle.std.specs.Prelude.{ℕ, ◌+◌, Bool, false, if◌then◌else◌, List, [], ◌∷◌, ◌++◌, Option, Some, None, flat_map, option_map}
+use Rattle.std.specs.Option.{is_none}
+use Rattle.pls_base.specs.declared.refusal_number.TheConstants.{WATCH_EVENT}
+use Rattle.pls_base.specs.declared.text_error.TextError.{TextError}
+use Rattle.pls_base.specs.declared.text_error.TextError.TheVariants.{Sense}
+use Rattle.pls_model.specs.declared.row.NodeRow.{NodeRow}
+use Rattle.pls_model.specs.Configuration.{row_of}
+use Rattle.pls_schedule.specs.declared.event.Event.{Event as Played}
+use Rattle.pls_watch_part.specs.declared.watch_event.WatchEvent.{WatchEvent}
+use Rattle.pls_watch_part.specs.declared.watch_event.WatchLine.{WatchLine}
+use Rattle.pls_watch_part.specs.declared.watch_event.WatchLine.TheVariants.{Event, Look}
+use Rattle.pls_watch.specs.declared.turn.Turn.{Turn}
+use Rattle.pls_watch.specs.declared.turn.Turn.TheVariants.{Plain, Relabel}
+use Rattle.pls_watch.specs.Labelled.{turn_of, turns_of}
+use Rattle.pls_watch.specs.Versions.{plain_of}
+use Rattle.pls_app.specs.Unapplied.{does_not_apply}
+
+-- the event that a line says, if it says one
+abbrev pub event_of : WatchLine → List WatchEvent
+event_of (Event event) = event ∷ []
+event_of Look = []
+
+-- the events of some lines, in their order
+abbrev pub events_of : List WatchLine → List WatchEvent
+events_of lines = flat_map event_of lines
+
+-- an event of the round does not apply behind these, or no node has the identity that gets a label
+abbrev pub turn_does_not_apply : List NodeRow → List Played → Turn → Bool
+turn_does_not_apply rows before (Plain event) = does_not_apply rows before event
+turn_does_not_apply rows before (Relabel node) = is_none (row_of rows node)
+
+-- the event names no node, no port of its node, or no emit before it
+abbrev pub names_nothing : List NodeRow → List WatchEvent → WatchEvent → Bool
+names_nothing rows before event =
+    turn_does_not_apply rows (plain_of (turns_of before)) (turn_of event)
+
+-- the line says such an event
+abbrev pub line_names_nothing : List NodeRow → List WatchEvent → WatchLine → Bool
+line_names_nothing rows before (Event event) = names_nothing rows before event
+line_names_nothing rows before Look = false
+
+-- the first line of such an event, of lines that stand from this one on, behind these events
+abbrev pub first_unwatched : List NodeRow → List WatchEvent → ℕ → List WatchLine → Option ℕ
+first_unwatched rows before number [] = None
+first_unwatched rows before number (line ∷ later) = if line_names_nothing rows before line
+    then Some number else first_unwatched rows (before ++ event_of line) (number + 1) later
+
+-- 41: the first event that does not apply, by its line
+abbrev pub unwatched : List NodeRow → ℕ → List WatchLine → Option TextError
+unwatched rows number lines =
+    option_map (λ number. Sense WATCH_EVENT number) (first_unwatched rows [] number lines)

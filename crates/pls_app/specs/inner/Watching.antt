@@ -1,0 +1,46 @@
+-- How the looks of a watch come about, line by line.
+use Rattle.std.specs.Prelude.{◌≡◌, ℕ, ◌+◌, ◌≤◌, ◌^◌, Bool, List, [], ◌∷◌, length}
+use Rattle.pls_model.specs.declared.row.NodeRow.{NodeRow}
+use Rattle.pls_model.specs.declared.verdict.Verdict.{Verdict}
+use Rattle.pls_view.specs.Seen.{Seen}
+use Rattle.pls_sim.specs.declared.outcome.Outcome.{Outcome}
+use Rattle.pls_watch_part.specs.declared.watch_event.WatchEvent.{WatchEvent}
+use Rattle.pls_watch_part.specs.declared.watch_event.WatchLine.{WatchLine}
+use Rattle.pls_watch_part.specs.declared.watch_event.WatchLine.TheVariants.{Event, Look}
+use Rattle.pls_watch.specs.Labelled.{bits_given, labels_given}
+use Rattle.pls_watch.specs.Watching.{Watched, look_of, watching}
+use Rattle.pls_inputs.specs.Parts.{Input, labels_in, rows_in, watch_in}
+use Rattle.pls_inputs.specs.Order.{watch_heading}
+use Rattle.pls_app.specs.Looks.{ends_in_well, looks_text}
+use Rattle.pls_app.specs.declared.watch.Shown.{Shown}
+
+-- an input with these rows, labels and lines of a watch, the first in this line
+pub record IsWatchInput (rows : List NodeRow) (labels : List (List Bool)) (lines : List WatchLine)
+    (line : ℕ) (input : Input) : Type 0 where
+  pub net : rows_in input ≡ rows
+  pub store : labels_in input ≡ labels
+  pub list : watch_in input ≡ lines
+  pub at : line ≡ watch_heading input + 1
+
+-- there is room for these events behind those that were taken
+pub record HasRoomForEvents (watched : Watched) (events : List WatchEvent) : Type 0 where
+  pub few_events : length watched.events + length events ≤ watched.most
+  pub few_relabels : length (labels_given watched.events) + length (labels_given events)
+      ≤ watched.relabels
+  pub few_bits : bits_given watched.events + bits_given events ≤ watched.bits
+
+-- what is watched behind a line
+abbrev pub watched_behind : WatchLine → Watched → Watched
+watched_behind (Event event) watched = watching event watched
+watched_behind Look watched = watched
+
+-- what a line shows
+abbrev pub shown_at : (Seen → Verdict) → Watched → WatchLine → List (List (ℕ × Outcome × List ℕ))
+shown_at judge watched (Event event) = []
+shown_at judge watched Look = look_of judge watched ∷ []
+
+-- what was shown are these looks
+pub record AreShown (shown : Shown) (looks : List (List (ℕ × Outcome × List ℕ))) : Type 0 where
+  pub says : shown.text.taken ≡ looks_text 1 looks
+  pub count : shown.looks ≡ length looks
+  pub ends : shown.well ≡ ends_in_well looks

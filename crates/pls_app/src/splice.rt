@@ -1,0 +1,123 @@
+//! The answer to `splice`.
+
+ghost use Rattle.std.specs.Prelude.{◌≡◌, IfOk, length};
+ghost use Rattle.pls_report.specs.Report.{is_rejecting};
+ghost use Rattle.pls_splice.specs.Crossing.{IsPair};
+ghost use Rattle.pls_splice.specs.Ring.{IsRingOrder};
+ghost use Rattle.pls_app.specs.Splice.{crossed_answer, first_rejecting, uncrossed_answer};
+ghost use Rattle.pls_app.specs.inner.Tasks.{DoesSplice, IsWorked};
+
+use crate::answer::{Answer, Content, refuse_node};
+use crate::verify::decide;
+use pls_base::refusal_number::{NO_RING, REJECTS};
+use pls_base::{NoMemory, Status};
+use pls_bits::CodeName;
+use pls_graph::Network;
+use pls_model::Verdict;
+use pls_netfile::write_network;
+use pls_scheme::Checker;
+use pls_sim::Outcome;
+use pls_splice::{Pair, Ring, RingError, cross, find};
+use pls_view::LabelStore;
+use std::alloc::Global;
+
+// A ring with the first two of its edges crossed that may be, and its labels; or the refusal of what
+// is no ring, or of the first node that rejects. The one error is want of memory.
+pub(crate) fn splice<V: Checker>(
+    alloc: Global,
+    checker: &V,
+    code: CodeName,
+    net: Network,
+    labels: LabelStore,
+) -> Result<Answer, NoMemory>
+    requires each { length labels ≡ length net }
+    ensures does { IfOk result (DoesSplice (V.judge checker.now) code net labels) }
+    ensures worked { IfOk result (λ answer. IsWorked answer.status) }
+{
+    // A network is valid.
+    net.len();
+    match Ring::read(alloc, &net) {
+        Ok(ring) => splice_ring(alloc, checker, &ring, code, net, labels),
+        Err(RingError::NotRing(id)) => refuse_node(alloc, NO_RING, id),
+        Err(RingError::NoMemory) => Err(NoMemory),
+    }
+}
+
+// The same, where the network is a ring.
+fn splice_ring<V: Checker>(
+    alloc: Global,
+    checker: &V,
+    ring: &Ring,
+    code: CodeName,
+    net: Network,
+    labels: LabelStore,
+) -> Result<Answer, NoMemory>
+    requires read { IsRingOrder net ring.now }
+    requires each { length labels ≡ length net }
+    ensures does { IfOk result (DoesSplice (V.judge checker.now) code net labels) }
+    ensures worked { IfOk result (λ answer. IsWorked answer.status) }
+{
+    // A network is valid.
+    net.len();
+    let rows = decide(alloc, checker, &net, &labels)?;
+    if let Some(id) = first_rejecting(&rows) {
+        return refuse_node(alloc, REJECTS, id);
+    }
+    match find(alloc, ring, &net, &labels)? {
+        Some(pair) => crossed(alloc, ring, pair, code, net, labels),
+        None => Ok(uncrossed()),
+    }
+}
+
+// The identity of the first node that rejects.
+fn first_rejecting(rows: &[(u32, Outcome)]) -> Option<u32>
+    ensures { result ≡ first_rejecting rows.now }
+{
+    rows.iter().find(|row| rejects(&row.1)).map(|row| row.0)
+}
+
+fn rejects(outcome: &Outcome) -> bool
+    ensures { result ≡ is_rejecting outcome.now }
+{
+    matches!(outcome, Outcome::Decided(Verdict::Reject { .. }))
+}
+
+// The answer where two edges are crossed.
+fn crossed(
+    alloc: Global,
+    ring: &Ring,
+    pair: Pair,
+    code: CodeName,
+    net: Network,
+    labels: LabelStore,
+) -> Result<Answer, NoMemory>
+    requires read { IsRingOrder net ring.now }
+    requires each { length labels ≡ length net }
+    requires pair { IsPair net labels ring.now pair.first pair.second }
+    ensures says { IfOk result
+        (λ answer. answer ≡ crossed_answer code net labels ring.now pair.first pair.second) }
+    ensures worked { IfOk result (λ answer. IsWorked answer.status) }
+{
+    let made = cross(alloc, ring, &net, &labels, pair)?;
+    let network = write_network(alloc, &made)?;
+    Ok(Answer {
+        status: Status::Done,
+        content: Content::Configuration {
+            network,
+            code,
+            net,
+            labels,
+        },
+    })
+}
+
+// The answer where no two edges may be crossed.
+fn uncrossed() -> Answer
+    ensures says { result ≡ uncrossed_answer }
+    ensures worked { IsWorked result.status }
+{
+    Answer {
+        status: Status::No,
+        content: Content::Known(b"none\n"),
+    }
+}

@@ -1,0 +1,184 @@
+//! The answer to `watch`.
+
+ghost use Rattle.std.specs.Prelude.{◌≡◌, ◌+◌, ◌++◌, ◌<◌, ◌≤◌, ◌^◌, ℕ, List, [], ◌∷◌, not, true, length, option_map, IfOk, IfSome, OnOk, None};
+ghost use Rattle.pls_model.specs.declared.limits.TheConstants.{MAX_BITS, MAX_LINES};
+ghost use Rattle.pls_sim.specs.declared.outcome.Outcome.{Outcome};
+ghost use Rattle.pls_watch_part.specs.WatchText.{total_bits};
+ghost use Rattle.pls_watch.specs.Labelled.{bits_given, labels_given};
+ghost use Rattle.pls_inputs.specs.Parts.{Input, code_in};
+ghost use Rattle.pls_app.specs.Looks.{look_after, looked, looks_behind};
+ghost use Rattle.pls_app.specs.Meant.{takes_of};
+ghost use Rattle.pls_app.specs.Unwatched.{event_of, events_of, first_unwatched, line_names_nothing};
+ghost use Rattle.pls_app.specs.inner.Tasks.{Does, IsWorked};
+ghost use Rattle.pls_app.specs.inner.Watching.{AreShown, HasRoomForEvents, IsWatchInput, shown_at, watched_behind};
+
+use crate::answer::{Answer, Content, refuse};
+use crate::command::{Command, Task};
+use crate::growing_text::GrowingText;
+use pls_base::refusal_number::WATCH_EVENT;
+use pls_base::{Fault, NoMemory, Status, Steps, TextError};
+use pls_bits::NumCode;
+use pls_combine::AnyScheme;
+use pls_graph::Network;
+use pls_report::{look_is_well, write_look};
+use pls_scheme::Checker;
+use pls_sim::{Outcome, PortNumbers};
+use pls_view::LabelStore;
+use pls_watch::{Watch, WatchEvent};
+use pls_watch_part::WatchLine;
+use std::alloc::Global;
+
+// The looks at the round in which labels change, or the refusal of the first event that does not
+// apply.
+pub(crate) fn watch<C: NumCode>(
+    alloc: Global,
+    scheme: &AnyScheme<C>,
+    net: &Network,
+    labels: &LabelStore,
+    lines: &[WatchLine],
+    first_line: u64,
+) -> Result<Answer, NoMemory>
+    requires each { length labels.now ≡ length net.now }
+    requires few { length lines.now ≤ MAX_LINES }
+    requires bits { total_bits lines.now ≤ MAX_BITS }
+    requires line { first_line ≤ 2 ^ 63 }
+    ensures does { IfOk result (λ answer. (input : Input)
+        → IsWatchInput net.now labels.now lines.now first_line input
+        → C.takes ≡ takes_of (code_in input) → (parts : List (List ℕ))
+        → Does (Command.With Task.Watch scheme.now) input parts answer) }
+    ensures worked { IfOk result (λ answer. IsWorked answer.status) }
+{
+    let (relabels, bits) = relabels_in(lines);
+    let mut watch = Watch::start(alloc, net, labels, lines.len(), relabels, bits)?;
+    let mut shown = Shown::nothing(alloc);
+    match play(alloc, scheme, &mut watch, lines, &mut shown)? {
+        Some(place) => {
+            let place = first_line + place as u64;
+            let number = WATCH_EVENT;
+            refuse(alloc, TextError::Sense { number, place })
+        }
+        None => Ok(shown.into_answer()),
+    }
+}
+
+// How many lines give a label, and how many bits these labels have together.
+fn relabels_in(lines: &[WatchLine]) -> (usize, u64)
+    requires few { length lines.now ≤ MAX_LINES }
+    requires bits { total_bits lines.now ≤ MAX_BITS }
+    ensures count { result.0 ≡ length (labels_given (events_of lines.now)) }
+    ensures bits { result.1 ≡ bits_given (events_of lines.now) }
+{
+    let (mut count, mut total) = (0, 0);
+    for line in lines {
+        let WatchLine::Event(event) = line else {
+            continue;
+        };
+        if let WatchEvent::Relabel { bits, .. } = event {
+            count += 1;
+            total += bits.len() as u64;
+        }
+    }
+    (count, total)
+}
+
+// Takes the events in their order, and shows each look, up to the first event that does not apply,
+// and answers the place of its line, where there is one.
+fn play<K: Checker>(
+    alloc: Global,
+    checker: &K,
+    watch: &mut Watch<'_>,
+    lines: &[WatchLine],
+    shown: &mut Shown,
+) -> Result<Option<usize>, NoMemory>
+    requires start { watch.old.events ≡ [] }
+    requires room { HasRoomForEvents watch.old (events_of lines.now) }
+    requires few { length lines.now ≤ MAX_LINES }
+    requires none { AreShown shown.old [] }
+    ensures place { IfOk result (λ found. (number : ℕ)
+        → first_unwatched watch.old.network [] number lines.now
+        ≡ option_map (λ place. number + place) found) }
+    ensures within { IfOk result (λ found. IfSome found (λ place. place < length lines.now)) }
+    ensures shown { IfOk result (λ found. found ≡ None → AreShown shown.new
+        (looks_behind (look_after (K.judge checker.now) watch.old.network watch.old.start) []
+        lines.now)) }
+{
+    for (place, line) in lines.iter().enumerate() {
+        if !take_line(alloc, checker, watch, line, shown)? {
+            return Ok(Some(place));
+        }
+    }
+    Ok(None)
+}
+
+// Takes the event of a line, or shows the look that it asks for; whether it applies.
+fn take_line<K: Checker>(
+    alloc: Global,
+    checker: &K,
+    watch: &mut Watch<'_>,
+    line: &WatchLine,
+    shown: &mut Shown,
+) -> Result<bool, NoMemory>
+    requires room { HasRoomForEvents watch.old (event_of line.now) }
+    requires few { shown.old.looks < 2 ^ 31 }
+    ensures refused { IfOk result (λ applies. applies
+        ≡ not (line_names_nothing watch.old.network watch.old.events line.now)) }
+    ensures taken { IfOk result (λ applies. applies ≡ true
+        → watch.new ≡ watched_behind line.now watch.old) }
+    ensures shown { IfOk result (λ applies. (looks : List (List (ℕ × Outcome × List ℕ)))
+        → AreShown shown.old looks
+        → AreShown shown.new (looks ++ shown_at (K.judge checker.now) watch.old line.now)) }
+{
+    match line {
+        WatchLine::Event(event) => Ok(watch.step(event).is_ok()),
+        WatchLine::Look => {
+            let rows = watch.outcomes(alloc, checker, &mut Steps::new())?;
+            shown.add_look(&rows)?;
+            Ok(true)
+        }
+    }
+}
+
+/// What the looks have shown so far: their text, how many there were, and whether all was well at
+/// the last one.
+#[derive(Drop)]
+pub(crate) struct Shown {
+    text: GrowingText,
+    looks: u32,
+    well: bool,
+}
+
+impl Shown {
+    fn nothing(alloc: Global) -> Shown
+        ensures { AreShown result [] }
+    {
+        Shown {
+            text: GrowingText::new(alloc),
+            looks: 0,
+            well: true,
+        }
+    }
+
+    // A text in memory fails to take what is written only for want of memory.
+    fn add_look(&mut self, rows: &[(u32, Outcome, PortNumbers)]) -> Result<(), NoMemory>
+        requires { self.old.looks < 2 ^ 31 }
+        ensures { OnOk result ((looks : List (List (ℕ × Outcome × List ℕ)))
+            → AreShown self.old looks → AreShown self.new (looks ++ rows.now ∷ [])) }
+    {
+        self.looks += 1;
+        self.well = look_is_well(rows);
+        match write_look(self.looks, rows, &mut self.text) {
+            Ok(()) => Ok(()),
+            Err(Fault) => Err(NoMemory),
+        }
+    }
+
+    fn into_answer(self) -> Answer
+        ensures says { (looks : List (List (ℕ × Outcome × List ℕ))) → AreShown self looks
+            → result ≡ looked looks }
+        ensures worked { IsWorked result.status }
+    {
+        let status = if self.well { Status::Done } else { Status::No };
+        let content = Content::Written(self.text.into_bytes());
+        Answer { status, content }
+    }
+}
