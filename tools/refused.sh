@@ -63,6 +63,17 @@ try "$pair" verify bipartite --json
 printf 'edits\njoin 9 0 0\nlink 2 9 1\nlabel 9 1 80\nround\nunlink 2 9\nleave 9\nlabel 2 1 00\nweight 1 2 5\nstate 1 - 0 0\nround\nend\n' |
     cat "$pair" - > edited
 try edited recheck bipartite
+printf 'watch\nemit 1 0\nlook\nrelabel 2 2 40\nemit 2 0\narrive 1\narrive 2\nrelabel 1 1 80\nlook\nend\n' |
+    cat "$pair" - > watched
+try watched watch bipartite
+try watched watch 'or(bipartite,tree)'
+for i in 1 2 3 4 5 6 7 8; do
+    printf 'node %s - 0 0\nport %s 1\nport %s 1\n' "$i" $(((i + 6) % 8 + 1)) $((i % 8 + 1))
+done | { echo network; cat; echo end; } > ring
+"$top/pls" mark bipartite < ring | cat ring - > marked
+try marked splice bipartite
+printf 'rules\nfield colour bit\nrule all(not(eq(nb.colour,my.colour)))\nend\n' | cat marked - > ruled
+try ruled splice
 try net bound 'and(bipartite,acyclic)'
 try none trial 5:7
 "$top/pls" rules tree > set
