@@ -8,8 +8,6 @@
 mod format;
 mod marker;
 mod rules;
-#[cfg(test)]
-mod tests;
 mod weights;
 
 pub use format::WeightsFormat;

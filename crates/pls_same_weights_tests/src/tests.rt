@@ -1,12 +1,12 @@
-//! The example at small networks.
+//! Same weights at small networks.
 
 ghost use Rattle.std.specs.Prelude.{IfOk};
 ghost use Rattle.pls_model.specs.Walk.{IsConnected};
 
-use crate::SameWeights;
 use pls_bits::{BitBuf, Gamma};
 use pls_graph::{Network, connected};
 use pls_netfile::read_network;
+use pls_same_weights::SameWeights;
 use pls_scheme::Scheme;
 use std::alloc::Global;
 use std::test::Fail;
