@@ -427,16 +427,27 @@ def copied(net):
     return {i: dict(node, ports=[list(port) for port in node['ports']]) for i, node in net.items()}
 
 
+def marked_labels(program, expression, net):
+    """The bits of the labels that the program gives the nodes, none where it gives none."""
+    marked = subprocess.run([program, 'mark', expression], input='\n'.join(text_of(net)) + '\n',
+                            capture_output=True, text=True).stdout.split('\n')
+    return {int(line.split()[1]): bits_of(line.split()[1:]) for line in marked
+            if line.startswith('label ')}
+
+
+def differs(program, words, source, answer, status):
+    """Whether the program answers otherwise, which is told."""
+    done = subprocess.run([program, *words], input=source, capture_output=True, text=True)
+    if (done.stdout, done.returncode) == (answer, status):
+        return False
+    print(f'{" ".join(words)} differs, status {done.returncode} for {status}\n'
+          f'{source}\nwanted\n{answer}\ngot\n{done.stdout}')
+    return True
+
+
 def one_list(program, expression, net, rng):
     """The input of a run with what is to come of it."""
-    words = [program, 'mark', expression]
-    marked = subprocess.run(words, input='\n'.join(text_of(net)) + '\n', capture_output=True,
-                            text=True).stdout.split('\n')
-    right = {}
-    for line in marked:
-        if line.startswith('label '):
-            _, i, *rest = line.split()
-            right[int(i)] = bits_of([i, *rest])
+    right = marked_labels(program, expression, net)
     labels = {i: right.get(i) if i in right and rng.random() < 0.9
               else random_label(expression, net, rng) for i in net}
     lines = text_of(net) + ['labels'] + [f'label {i} {label_words(labels[i])}' for i in sorted(net)]
@@ -483,16 +494,12 @@ def main():
             for _ in range(lists):
                 net = random_network(n, edges, rng)
                 source, answer, status = one_list(program, expression, net, rng)
-                done = subprocess.run([program, 'recheck', expression], input=source,
-                                      capture_output=True, text=True)
+                if differs(program, ['recheck', expression], source, answer, status):
+                    return 1
                 runs += 1
                 rounds += answer.count('round ')
                 accepting += answer.count(' accept\n')
                 refusals += answer.startswith('refused')
-                if (done.stdout, done.returncode) != (answer, status):
-                    print(f'recheck {expression} differs, status {done.returncode} for {status}\n'
-                          f'{source}\nwanted\n{answer}\ngot\n{done.stdout}')
-                    return 1
     print(f'{runs} lists, {rounds} rounds, {accepting} nodes that accept, {refusals} refusals: '
           'none differs')
     return 0

@@ -1,27 +1,25 @@
 #!/usr/bin/env python3
-"""Random rings with random labels, with the built program beside a plain one that tries all pairs of
-edges.
+"""Random rings with labels, the built program beside a plain one that tries all pairs of edges.
 
     python3 tools/rings.py ./pls [RINGS [SEED]]
 
-RINGS rings of 3 to 14 nodes are made (1,000 where none is given), some with weights and with a leader,
-and some networks that are none; their labels are those of `mark`, or such that nodes accept, or
-random. `splice E` and `splice` by a rule set are compared, text and status. It ends with status 1
-where one differs.
+RINGS rings of 3 to 14 nodes are made (1,000 where none is given), some with two weights, some with
+a marked node, and some networks that are none. Their labels are random, or such that nodes accept.
+`splice E` and `splice` by a rule set are compared, text and status. It ends with status 1 where one
+differs.
 """
 import random
-import subprocess
 import sys
 
-from edits import components, judge, label_words, link, text_of
+from edits import components, differs, judge, label_words, link, text_of
 
 # A rule set of a label of one bit that all labels pass.
 ALL_ACCEPT = ['rules', 'field colour bit', 'end']
 
 
 def order_of(net):
-    """The nodes of a ring from the smallest on through its port 0, or the node that shows that it is
-    none."""
+    """The nodes of a ring from the smallest on through its port 0, or the node that shows that it
+    is none."""
     for i in sorted(net):
         if len(net[i]['ports']) != 2:
             return None, i
@@ -146,12 +144,9 @@ def main():
     for _ in range(rings):
         words, source, (answer, status) = one_ring(program, rng)
         source = '\n'.join(source) + '\n'
-        done = subprocess.run([program, *words], input=source, capture_output=True, text=True)
         kind = answer.split()[1] if answer.startswith('refused') else answer.split()[0]
         counts[kind] = counts.get(kind, 0) + 1
-        if (done.stdout, done.returncode) != (answer, status):
-            print(f'{words} differs, status {done.returncode} for {status}\n{source}\nwanted\n'
-                  f'{answer}\ngot\n{done.stdout}')
+        if differs(program, words, source, answer, status):
             return 1
     told = ', '.join(f'{counts[kind]} {kind}' for kind in sorted(counts))
     print(f'{rings} rings ({told}): none differs')

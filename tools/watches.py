@@ -9,11 +9,10 @@ tenth list has an event that names nothing. The text and the status are compared
 status 1 where one differs.
 """
 import random
-import subprocess
 import sys
 
-from edits import (EXPRESSIONS, bits_of, judge, label_words, networks, random_label,
-                   random_network, text_of)
+from edits import (EXPRESSIONS, bits_of, differs, judge, label_words, marked_labels, networks,
+                   random_label, random_network, text_of)
 
 
 class Watch:
@@ -100,10 +99,7 @@ def random_event(expression, watch, right, wrong, rng):
 
 def one_list(program, expression, net, rng):
     """The input of a run with what is to come of it."""
-    marked = subprocess.run([program, 'mark', expression], input='\n'.join(text_of(net)) + '\n',
-                            capture_output=True, text=True).stdout.split('\n')
-    right = {int(line.split()[1]): bits_of(line.split()[1:]) for line in marked
-             if line.startswith('label ')}
+    right = marked_labels(program, expression, net)
     labels = {i: right[i] if i in right and rng.random() < 0.8
               else random_label(expression, net, rng) for i in net}
     lines = text_of(net) + ['labels'] + [f'label {i} {label_words(labels[i])}' for i in sorted(net)]
@@ -159,17 +155,13 @@ def main():
                 if turn % 4 == 3 and n < 3:
                     net = beside(net, random_network(n, edges, rng))
                 source, answer, status = one_list(program, expression, net, rng)
-                done = subprocess.run([program, 'watch', expression], input=source,
-                                      capture_output=True, text=True)
+                if differs(program, ['watch', expression], source, answer, status):
+                    return 1
                 runs += 1
                 looks += answer.count('look ')
                 accepting += answer.count(' accept')
                 stale += answer.count(' stale ') - answer.count('look ')
                 refusals += answer.startswith('refused')
-                if (done.stdout, done.returncode) != (answer, status):
-                    print(f'watch {expression} differs, status {done.returncode} for {status}\n'
-                          f'{source}\nwanted\n{answer}\ngot\n{done.stdout}')
-                    return 1
     print(f'{runs} lists, {looks} looks, {accepting} nodes that accept, {stale} with stale ports, '
           f'{refusals} refusals: none differs')
     return 0
