@@ -11,6 +11,7 @@ ghost use Rattle.pls_centroid.specs.inner.Rounds.{AreAllRounds, AreListsOf, IsRo
 
 use crate::centroid_list::CentroidList;
 use crate::level::CentroidLevel;
+use crate::level_entry::LevelEntry;
 use crate::rooted::{order_of, parents_of, weights_of};
 use crate::round::round_of;
 use pls_base::NoMemory;
@@ -51,7 +52,7 @@ fn all_rounds(
     order: &[usize],
     parents: &[Option<usize>],
     weights: &[u32],
-) -> Result<Vec<Vec<Option<CentroidLevel>>>, NoMemory>
+) -> Result<Vec<Vec<LevelEntry>>, NoMemory>
     requires rooted { IsRooted net.now parents.now weights.now }
     requires few { length parents.now ≤ 32768 }
     requires each { length parents.now ≡ length net.now }
@@ -85,7 +86,7 @@ fn are_all(taken: &[bool]) -> bool
 // For each of so many places what the rounds say of it.
 fn lists_of(
     alloc: Global,
-    rounds: &[Vec<Option<CentroidLevel>>],
+    rounds: &[Vec<LevelEntry>],
     count: usize,
 ) -> Result<Vec<CentroidList>, NoMemory>
     ensures { IfOk result (λ lists. AreListsOf (map (λ round. round.items) rounds.now) count
@@ -101,13 +102,13 @@ fn lists_of(
 // What the rounds say of a place, up to the first that says nothing.
 fn list_at(
     alloc: Global,
-    rounds: &[Vec<Option<CentroidLevel>>],
+    rounds: &[Vec<LevelEntry>],
     place: usize,
 ) -> Result<CentroidList, NoMemory>
     ensures { IfOk result (λ list.
         list ≡ said_on (entries_at (map (λ round. round.items) rounds.now) place)) }
 {
-    let mut levels = Vec::new(alloc);
+    let mut levels = Vec::with_capacity(alloc, rounds.len())?;
     for round in rounds {
         let Some(level) = level_at(round.as_slice(), place) else {
             return Ok(CentroidList::from_vec(levels));
@@ -118,11 +119,11 @@ fn list_at(
 }
 
 // What a round says of a place, and nothing where there is no such place.
-fn level_at(round: &[Option<CentroidLevel>], place: usize) -> Option<CentroidLevel>
+fn level_at(round: &[LevelEntry], place: usize) -> Option<CentroidLevel>
     ensures { result ≡ slice_index_or round.now place None }
 {
     match round.get(place) {
-        Some(entry) => *entry,
+        Some(entry) => entry.level(),
         None => None,
     }
 }

@@ -14,6 +14,7 @@
 mod all_levels;
 mod centroid_list;
 mod level;
+mod level_entry;
 mod reaching;
 mod rooted;
 mod round;

@@ -6,7 +6,7 @@ ghost use Rattle.pls_search.specs.SubtreeSizes.{AreParentsWithin, HasParentAt};
 ghost use Rattle.pls_centroid.specs.inner.Rooted.{AreBehindParents};
 ghost use Rattle.pls_centroid.specs.inner.Rounds.{AreSaidAt, AreTaken, AreTakenToo, IsRooted, IsRound, is_own, said_at};
 
-use crate::level::CentroidLevel;
+use crate::level_entry::LevelEntry;
 use crate::reaching::{Way, ways_of};
 use crate::splitting::{centroids_of, parents_left, tops_of};
 use pls_base::NoMemory;
@@ -17,7 +17,7 @@ use std::alloc::Global;
 #[derive(Drop)]
 pub(crate) struct Round {
     // Of each node its level, or nothing where it has been a centroid before.
-    pub(crate) said: Vec<Option<CentroidLevel>>,
+    pub(crate) said: Vec<LevelEntry>,
     // Whether it has been a centroid, on this level or before.
     pub(crate) taken: Vec<bool>,
 }
@@ -66,7 +66,7 @@ fn levels_of_places(
     tops: &[usize],
     centroids: &[Option<usize>],
     ways: &[Option<Way>],
-) -> Result<Vec<Option<CentroidLevel>>, NoMemory>
+) -> Result<Vec<LevelEntry>, NoMemory>
     requires taken { length taken.now ≡ length net.now }
     requires each { length tops.now ≡ length net.now }
     requires centroids { length centroids.now ≡ length net.now }
@@ -92,7 +92,7 @@ fn level_of_place(
     centroids: &[Option<usize>],
     ways: &[Option<Way>],
     place: usize,
-) -> Option<CentroidLevel>
+) -> LevelEntry
     requires within { place < length net.now }
     requires taken { length taken.now ≡ length net.now }
     requires each { length tops.now ≡ length net.now }
@@ -103,21 +103,17 @@ fn level_of_place(
     ensures { result ≡ said_at net.now taken.now tops.now centroids.now ways.now place }
 {
     if taken[place] {
-        return None;
+        return LevelEntry::nothing();
     }
     match centroids[tops[place]] {
         Some(c) => match ways[place] {
             Some(way) => {
                 let (id, _) = net.node(c);
-                Some(CentroidLevel {
-                    centroid: u64::from(id),
-                    hops: u64::from(way.hops),
-                    greatest: u64::from(way.greatest),
-                })
+                LevelEntry::of_way(id, way)
             }
-            None => None,
+            None => LevelEntry::nothing(),
         },
-        None => None,
+        None => LevelEntry::nothing(),
     }
 }
 

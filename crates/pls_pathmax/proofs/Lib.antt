@@ -1,4 +1,5 @@
 pub mod LevelsLeft
+pub mod Glances
 pub mod Compared
 pub mod Windows
 pub mod MorePorts

@@ -1,3 +1,4 @@
 -- What private functions say to each other.
 pub mod Reading
+pub mod Glance
 pub mod OnePass

@@ -4,7 +4,7 @@ ghost use Rattle.std.specs.Prelude.{◌≡◌, ℕ, ◌+◌, ◌<◌, ◌==◌, 
 ghost use Rattle.std.specs.List.{list_any, zip};
 ghost use Rattle.pls_centroid.specs.declared.level.CentroidLevel.{CentroidLevel};
 ghost use Rattle.pls_pathmax.specs.Rules.{leads_on, meet_lightly};
-ghost use Rattle.pls_pathmax.specs.inner.OnePass.{leads_from};
+ghost use Rattle.pls_pathmax.specs.inner.OnePass.{leads_from, meet_at_first};
 ghost use Rattle.pls_pathmax.specs.inner.Reading.{AreLeft};
 
 use crate::levels::PathMaxLevels;
@@ -70,6 +70,21 @@ fn is_led_on(flag: bool, mine: &CentroidLevel, weight: u64, theirs: &CentroidLev
     let light = theirs.greatest <= mine.greatest && weight <= mine.greatest;
     let nearer = theirs.centroid == mine.centroid && (is_one_more(mine.hops, theirs.hops) && light);
     flag || nearer
+}
+
+// Whether the two nodes meet lightly on their first levels, where both have one.
+#[inline(always)]
+pub(crate) fn meet_at_first(
+    weight: u64,
+    mine: &Option<CentroidLevel>,
+    theirs: &Option<CentroidLevel>,
+) -> bool
+    ensures { result ≡ meet_at_first weight mine.now theirs.now }
+{
+    match (mine, theirs) {
+        (Some(mine), Some(theirs)) => meet_lightly(weight, mine, theirs),
+        _ => false,
+    }
 }
 
 // Whether the two nodes meet lightly on one of so many levels, as far as there are both.

@@ -9,10 +9,12 @@ ghost use Rattle.pls_centroid.specs.declared.level.CentroidLevel.{CentroidLevel}
 ghost use Rattle.pls_pathmax.specs.Labels.{PathMaxLabel, pathmax_shape};
 ghost use Rattle.pls_pathmax.specs.Rules.{meet_lightly};
 ghost use Rattle.pls_pathmax.specs.declared.gathering.TheConstants.{WINDOW};
+ghost use Rattle.pls_pathmax.specs.inner.Glance.{glance_said};
 ghost use Rattle.pls_pathmax.specs.inner.OnePass.{gathered_from, has_ways_from, is_own_level, led_on_from, with_leads};
-ghost use Rattle.pls_pathmax.specs.inner.Reading.{AreLeft, head_said};
+ghost use Rattle.pls_pathmax.specs.inner.Reading.{AreLeft};
 
-use crate::comparing::{meet_somewhere, note_ways};
+use crate::comparing::{meet_at_first, meet_somewhere, note_ways};
+use crate::glance::PathMaxGlance;
 use crate::levels::PathMaxLevels;
 use crate::reading::read_level;
 use pls_bits::NumCode;
@@ -55,26 +57,26 @@ impl Gathered {
 pub(crate) fn with_port<C: NumCode>(
     first: u64,
     up: Option<u32>,
-    own: &Looked<'_, LevelHead>,
+    own: &Looked<'_, PathMaxGlance>,
     before: Gathered,
     place: usize,
     weight: u32,
-    label: &Looked<'_, LevelHead>,
+    label: &Looked<'_, PathMaxGlance>,
 ) -> Gathered
     ensures { (id : ℕ) (state : State) (mine theirs : PathMaxLabel)
         (ports : List (ReadPort PathMaxLabel)) → state.up ≡ up → length ports ≡ place
         → said_by pathmax_shape C.takes own.now.bits.now ≡ Some mine
-        → head_said mine ≡ own.now.glance.now
+        → glance_said mine ≡ own.now.glance.now
         → said_by pathmax_shape C.takes label.now.bits.now ≡ Some theirs
-        → head_said theirs ≡ label.now.glance.now
+        → glance_said theirs ≡ label.now.glance.now
         → before ≡ gathered_from first (reading id state mine ports)
         → result ≡ gathered_from first
         (reading id state mine (ports ++ port_with weight theirs ∷ [])) }
 {
     let weight = u64::from(weight);
-    let agrees = agrees_too(before.agrees, own.glance, label.glance);
+    let agrees = agrees_too(before.agrees, &own.glance.head, &label.glance.head);
     let led_on = before.led_on;
-    if is_in_tree(up, place, own.glance.own, label.glance.parent) {
+    if is_in_tree(up, place, own.glance.head.own, label.glance.head.parent) {
         let led_on = led_on_with::<C>(first, own, weight, label, led_on);
         Gathered {
             agrees,
@@ -94,9 +96,9 @@ pub(crate) fn with_port<C: NumCode>(
 // On which levels some port leads on, with one neighbour more whose port is in the tree.
 fn led_on_with<C: NumCode>(
     first: u64,
-    own: &Looked<'_, LevelHead>,
+    own: &Looked<'_, PathMaxGlance>,
     weight: u64,
-    label: &Looked<'_, LevelHead>,
+    label: &Looked<'_, PathMaxGlance>,
     before: [bool; WINDOW],
 ) -> [bool; WINDOW]
     ensures { (mine theirs : PathMaxLabel)
@@ -123,35 +125,39 @@ fn agrees_too(before: bool, own: &LevelHead, theirs: &LevelHead) -> bool
 // Whether so it was, and the node and a neighbour meet lightly on some level that both have.
 fn is_heavy_too<C: NumCode>(
     before: bool,
-    own: &Looked<'_, LevelHead>,
+    own: &Looked<'_, PathMaxGlance>,
     weight: u64,
-    label: &Looked<'_, LevelHead>,
+    label: &Looked<'_, PathMaxGlance>,
 ) -> bool
     ensures { (mine theirs : PathMaxLabel)
         → said_by pathmax_shape C.takes own.now.bits.now ≡ Some mine
-        → head_said mine ≡ own.now.glance.now
+        → glance_said mine ≡ own.now.glance.now
         → said_by pathmax_shape C.takes label.now.bits.now ≡ Some theirs
+        → glance_said theirs ≡ label.now.glance.now
         → result ≡ (before && list_any (λ both. meet_lightly weight both.0 both.1)
         (zip mine.levels theirs.levels)) }
 {
     if !before {
         return false;
     }
+    if meet_at_first(weight, &own.glance.first, &label.glance.first) {
+        return true;
+    }
     let mut mine = levels_of::<PathMaxLevels, C>(own.bits);
     let mut theirs = levels_of::<PathMaxLevels, C>(label.bits);
-    meet_somewhere(&mut mine, &mut theirs, own.glance.count, weight)
+    meet_somewhere(&mut mine, &mut theirs, own.glance.head.count, weight)
 }
 
 // Whether rule 5 holds on the levels from the one of this number on, as many as there are flags,
 // where these say on which some port leads on.
 pub(crate) fn has_ways<C: NumCode>(
     first: u64,
-    own: &Looked<'_, LevelHead>,
+    own: &Looked<'_, PathMaxGlance>,
     led_on: &[bool; WINDOW],
 ) -> bool
     ensures { (id : ℕ) (state : State) (mine : PathMaxLabel) (ports : List (ReadPort PathMaxLabel))
         → said_by pathmax_shape C.takes own.now.bits.now ≡ Some mine
-        → head_said mine ≡ own.now.glance.now
+        → glance_said mine ≡ own.now.glance.now
         → led_on.now ≡ led_on_from first (reading id state mine ports)
         → result ≡ has_ways_from first (reading id state mine ports) }
 {
@@ -159,7 +165,7 @@ pub(crate) fn has_ways<C: NumCode>(
     if !pass_levels::<PathMaxLevels, C>(&mut numbers, first) {
         return true;
     }
-    have_ways(&mut numbers, own.glance.own, led_on)
+    have_ways(&mut numbers, own.glance.head.own, led_on)
 }
 
 // Whether on each of the levels that come next, as many as there are flags, the node of this name

@@ -20,6 +20,7 @@
 
 mod comparing;
 mod gathering;
+mod glance;
 mod in_memory;
 mod levels;
 mod marking;

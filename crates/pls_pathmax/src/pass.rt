@@ -3,9 +3,10 @@
 ghost use Rattle.std.specs.Prelude.{◌≡◌};
 
 use crate::gathering::{Gathered, has_ways, with_port};
+use crate::glance::{PathMaxGlance, glance_in, head_above};
 use crate::levels::{PathMaxFormat, PathMaxLevels};
 use pls_bits::{Bits, NumCode};
-use pls_levels::{LevelHead, head_in, is_placed};
+use pls_levels::is_placed;
 use pls_model::{State, Verdict};
 use pls_scheme::{Judgement, JudgesInPlace, Looked, judged_from};
 use std::marker::PhantomData;
@@ -51,34 +52,34 @@ impl<C: NumCode> Judgement for PathMaxPass<C> {
 
 impl<C: NumCode> JudgesInPlace for PathMaxPass<C> {
     ghost use Rattle.pls_pathmax.specs.inner.OnePass.{gathered_from};
-    ghost use Rattle.pls_pathmax.specs.inner.Reading.{head_said};
+    ghost use Rattle.pls_pathmax.specs.inner.Glance.{glance_said};
 
-    type Glance = LevelHead;
+    type Glance = PathMaxGlance;
 
-    type Memory = Option<LevelHead>;
+    type Memory = Option<PathMaxGlance>;
 
     type Tally = Gathered;
 
-    ghost glance = { λ _ label. head_said label };
+    ghost glance = { λ _ label. glance_said label };
 
     ghost tally_of = { λ s view. gathered_from s.first view };
 
-    fn look(&self, bits: &Bits<'_>) -> Option<LevelHead> {
-        head_in::<PathMaxLevels, C>(bits)
+    fn look(&self, bits: &Bits<'_>) -> Option<PathMaxGlance> {
+        glance_in::<C>(bits)
     }
 
-    fn open(&self, _own: &LevelHead) -> Gathered {
+    fn open(&self, _own: &PathMaxGlance) -> Gathered {
         Gathered::before()
     }
 
     fn pass(
         &self,
         up: Option<u32>,
-        own: &Looked<'_, LevelHead>,
+        own: &Looked<'_, PathMaxGlance>,
         tally: Gathered,
         place: usize,
         weight: u32,
-        label: &Looked<'_, LevelHead>,
+        label: &Looked<'_, PathMaxGlance>,
     ) -> Gathered {
         with_port::<C>(self.first, up, own, tally, place, weight, label)
     }
@@ -87,10 +88,10 @@ impl<C: NumCode> JudgesInPlace for PathMaxPass<C> {
         &self,
         id: u32,
         state: State,
-        own: &Looked<'_, LevelHead>,
-        above: Option<&LevelHead>,
+        own: &Looked<'_, PathMaxGlance>,
+        above: Option<&PathMaxGlance>,
     ) -> Option<Verdict> {
-        if is_placed::<PathMaxLevels>(id, state, own.glance, above) {
+        if is_placed::<PathMaxLevels>(id, state, &own.glance.head, head_above(above)) {
             None
         } else {
             Some(Verdict::Reject { leaf: 1, rule: 3 })
@@ -101,11 +102,11 @@ impl<C: NumCode> JudgesInPlace for PathMaxPass<C> {
         &self,
         id: u32,
         state: State,
-        own: &Looked<'_, LevelHead>,
-        above: Option<&LevelHead>,
+        own: &Looked<'_, PathMaxGlance>,
+        above: Option<&PathMaxGlance>,
         tally: Gathered,
     ) -> Verdict {
-        let placed = is_placed::<PathMaxLevels>(id, state, own.glance, above);
+        let placed = is_placed::<PathMaxLevels>(id, state, &own.glance.head, head_above(above));
         let ways = has_ways::<C>(self.first, own, &tally.led_on);
         judged_from(3, &[placed, tally.agrees, ways, tally.heavy])
     }

@@ -4,14 +4,14 @@ ghost use Rattle.std.specs.Prelude.{◌≡◌, IfOk};
 ghost use Rattle.pls_numbers.specs.Shape.{recoded};
 ghost use Rattle.pls_pathmax.specs.Labels.{pathmax_shape};
 
+use crate::glance::{PathMaxGlance, glance_in};
 use crate::in_memory::verdict_of_node;
-use crate::levels::{PathMaxFormat, PathMaxLabel, PathMaxLevels};
+use crate::levels::{PathMaxFormat, PathMaxLabel};
 use crate::pathmax::{PathMaxRules, pass_from, verdict_by_passes};
 use pls_base::{NoMemory, Steps};
 use pls_bits::{BitBuf, Bits, NumCode};
 use pls_facts::is_valid;
 use pls_graph::{Network, Size};
-use pls_levels::{LevelHead, head_in};
 use pls_model::Verdict;
 use pls_numbers::{Format, recode};
 use pls_scheme::{Checker, Marker, Property, Remembers, Scheme, labels_of};
@@ -111,14 +111,14 @@ impl<C: NumCode> Remembers for PathMax<C> {
     ghost use Rattle.pls_numbers.specs.Shape.{said_by};
     ghost use Rattle.pls_scheme.specs.inner.Looks.{seen_in};
     ghost use Rattle.pls_pathmax.specs.Labels.{pathmax_shape};
-    ghost use Rattle.pls_pathmax.specs.inner.Reading.{head_said};
+    ghost use Rattle.pls_pathmax.specs.inner.Glance.{glance_said};
 
-    type Memory = Option<LevelHead>;
+    type Memory = Option<PathMaxGlance>;
 
-    ghost told = { λ _ bits. seen_in (said_by pathmax_shape C.takes) head_said bits };
+    ghost told = { λ _ bits. seen_in (said_by pathmax_shape C.takes) glance_said bits };
 
-    fn remember(&self, _alloc: Global, bits: &Bits<'_>) -> Result<Option<LevelHead>, NoMemory> {
-        Ok(head_in::<PathMaxLevels, C>(bits))
+    fn remember(&self, _alloc: Global, bits: &Bits<'_>) -> Result<Option<PathMaxGlance>, NoMemory> {
+        Ok(glance_in::<C>(bits))
     }
 
     fn verdict_at(
@@ -126,7 +126,7 @@ impl<C: NumCode> Remembers for PathMax<C> {
         alloc: Global,
         net: &Network,
         labels: &LabelStore,
-        memories: &[Option<LevelHead>],
+        memories: &[Option<PathMaxGlance>],
         i: usize,
     ) -> Result<Verdict, NoMemory> {
         let verdict = pass_from::<C>(0).verdict_at(alloc, net, labels, memories, i)?;

@@ -4,7 +4,7 @@ use Rattle.std.proofs.lemmas.Option.{slice_get_past}
 use Rattle.pls_scheme.specs.Reading.{reading}
 use Rattle.pls_centroid.specs.declared.level.CentroidLevel.{CentroidLevel}
 use Rattle.pls_pathmax.specs.declared.gathering.TheConstants.{WINDOW}
-use Rattle.pls_levels.specs.declared.label.LevelHead.{LevelHead}
+use Rattle.pls_pathmax.specs.declared.glance.PathMaxGlance.{PathMaxGlance}
 use Rattle.pls_pathmax.specs.inner.OnePass.{is_own_level}
 use Rattle.pls_pathmax.proofs.LevelsLeft.{slice_get-behind}
 use Rattle.pls_pathmax.proofs.MorePorts.{led_on_many}
@@ -24,8 +24,8 @@ returns-then-not-pass_levels g c id state mine ports said front flags =
 pub returns : goal.returns
 returns g c id state mine ports said front flags =
     let first : ℕ = c.args.first in
-    let own : mine.own ≡ c.args.own.now.glance.now.own =
-    ap (λ (head : LevelHead). head.own) front in
+    let own : mine.own ≡ c.args.own.now.glance.now.head.own =
+    ap (λ (glance : PathMaxGlance). glance.head.own) front in
     let left = c.pass_levels.ensures.passed c.if-not-pass_levels.false mine.levels
     (c.levels_of-numbers.ensures mine said) in
     let many : length c.args.led_on.now ≡ WINDOW =

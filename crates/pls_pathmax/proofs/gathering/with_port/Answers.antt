@@ -2,7 +2,7 @@ use Rattle.std.proofs.Common.{◌≡◌, ◌∙◌, ◌&&◌, true, false, ℕ, 
 use Rattle.std.specs.List.{list_any, zip}
 use Rattle.pls_scheme.specs.Reading.{port_with, reading}
 use Rattle.pls_pathmax.specs.declared.gathering.Gathered.{Gathered}
-use Rattle.pls_levels.specs.declared.label.LevelHead.{LevelHead}
+use Rattle.pls_pathmax.specs.declared.glance.PathMaxGlance.{PathMaxGlance}
 use Rattle.pls_levels.specs.Rules.{is_in_tree}
 use Rattle.pls_pathmax.specs.Rules.{meet_lightly}
 use Rattle.pls_pathmax.specs.inner.OnePass.{with_leads}
@@ -18,15 +18,15 @@ returns-then-is_in_tree g c id state mine theirs ports up many own_read own_is t
     rw (
       up,
       many,
-      ap (λ (head : LevelHead). head.parent) theirs_is,
-      ap (λ (head : LevelHead). head.own) own_is,
+      ap (λ (glance : PathMaxGlance). glance.head.parent) theirs_is,
+      ap (λ (glance : PathMaxGlance). glance.head.own) own_is,
     ) (sym c.is_in_tree.ensures
     ∙ c.if-is_in_tree.true) in
     gathered_inside first id state mine ports c.args.weight theirs c.args.before before inside
     c.agrees_too-agrees.result c.led_on_with-led_on.result
     (rw (
-      ap (λ (head : LevelHead). head.root) theirs_is,
-      ap (λ (head : LevelHead). head.root) own_is,
+      ap (λ (glance : PathMaxGlance). glance.head.root) theirs_is,
+      ap (λ (glance : PathMaxGlance). glance.head.root) own_is,
     ) c.agrees_too-agrees.ensures)
     (c.led_on_with-led_on.ensures mine theirs own_read theirs_read
     (ap (λ (was : Gathered). length was.led_on) before
@@ -42,17 +42,17 @@ returns-else-is_in_tree g c id state mine theirs ports up many own_read own_is t
     rw (
       up,
       many,
-      ap (λ (head : LevelHead). head.parent) theirs_is,
-      ap (λ (head : LevelHead). head.own) own_is,
+      ap (λ (glance : PathMaxGlance). glance.head.parent) theirs_is,
+      ap (λ (glance : PathMaxGlance). glance.head.own) own_is,
     ) (sym c.is_in_tree.ensures ∙ c.if-is_in_tree.false)
     in
     gathered_outside first id state mine ports c.args.weight theirs c.args.before before outside
     c.agrees_too-agrees.result c.is_heavy_too-heavy.result
     (rw (
-      ap (λ (head : LevelHead). head.root) theirs_is,
-      ap (λ (head : LevelHead). head.root) own_is,
+      ap (λ (glance : PathMaxGlance). glance.head.root) theirs_is,
+      ap (λ (glance : PathMaxGlance). glance.head.root) own_is,
     ) c.agrees_too-agrees.ensures)
-    (c.is_heavy_too-heavy.ensures mine theirs own_read own_is theirs_read
+    (c.is_heavy_too-heavy.ensures mine theirs own_read own_is theirs_read theirs_is
     ∙ ap (λ (weight : ℕ). c.args.before.heavy
     && list_any (λ both. meet_lightly weight both.0 both.1) (zip mine.levels theirs.levels))
     c.from-weight.ensures)
