@@ -26,10 +26,6 @@ use Rattle.pls_components.specs.Components.{AreComponents, IsComponent, items_at
 use Rattle.pls_components.proofs.Items.{length-items}
 use Rattle.pls_components.proofs.Part.{places_within}
 use Rattle.pls_components.proofs.Partition.{sum_of_parts}
-use Rattle.pls_schedule.specs.ScheduleText.{AreEvents, schedule_lines}
-use Rattle.pls_edits.specs.EditsText.{AreEdits, edits_lines}
-use Rattle.pls_watch_part.specs.WatchText.{AreWatch, watch_part_lines}
-use Rattle.pls_rules_part.specs.RulesText.{AreRulesSaid, rules_lines}
 use Rattle.pls_inputs.specs.declared.parts.Parts.{Parts}
 use Rattle.pls_inputs.specs.Parts.{Has, Input, input_lines, parts_with_labels, lines_of, net_labelling, net_labels_text, network, rows_in, with_labels}
 use Rattle.pls_inputs.specs.Order.{IsInput, over, refusals}
@@ -43,9 +39,11 @@ use Rattle.pls_app.specs.Command.{input_parts_of}
 use Rattle.pls_app.specs.Meant.{Shows, longest_in, room_in}
 use Rattle.pls_app.specs.Said.{Answer}
 use Rattle.pls_app.specs.Run.{Certifies}
+use Rattle.pls_app.specs.Verified.{labelled}
 use Rattle.pls_app.specs.inner.Tasks.{DoesWork, ShowsIn}
 use Rattle.pls_app.proofs.Proved.{refused_not_done}
 use Rattle.pls_app.proofs.TextLengths.{text_fits}
+use Rattle.pls_app.proofs.Spelled.{network_there, whole_network, without_others}
 
 -- labels of at most so many bits each have at most so many times as many bits as there are labels
 together_short : (most : ℕ) (labels : List (List Bool)) → All (λ label. length label ≤ most) labels
@@ -97,17 +95,6 @@ marked_few code scheme rows parts labels network are accepted shows =
         * longest_in code scheme (size_of (items_at rows places))) places some in
         omega arith
 
--- a network with labels of its nodes, and nothing more
-abbrev pub labelled : CodeName → List NodeRow → List (List Bool) → Input
-labelled code rows labels = record {
-  network = Some rows;
-  labels = Some (net_labelling code rows labels);
-  schedule = None;
-  edits = None;
-  watch = None;
-  rules = None;
-}
-
 -- nothing refuses a network with its labels
 labelled_accepted : (code : CodeName) (rows : List NodeRow) (labels : List (List Bool)) → IsReadable rows
     → length labels ≡ length rows → bits_together labels ≤ MAX_BITS
@@ -151,33 +138,6 @@ labelled_input code rows labels known each small = record {
   accepted = labelled_accepted code rows labels known each small;
 }
 
--- a part that is not wanted is not there
-gone : {X : Type 0} (Fits : X → Type 0) (part : Option X) → Has false Fits part → part ≡ None
-gone Fits None has = refl
-gone Fits (Some value) has = absurd has
-
--- an input has no more than a network and labels
-pub record HasNoMore (input : Input) : Type 0 where
-  pub schedule : input.schedule ≡ None
-  pub edits : input.edits ≡ None
-  pub watch : input.watch ≡ None
-  pub rules : input.rules ≡ None
-
-pub without_others : (parts : Parts) (bytes : List ℕ) (input : Input) → IsInput parts bytes input
-    → parts.schedule ≡ false → parts.edits ≡ false → parts.watch ≡ false → parts.rules ≡ false
-    → HasNoMore input
-without_others parts bytes input is unscheduled unedited unwatched unruled = record {
-  schedule = gone AreEvents input.schedule
-      (subst (λ (wanted : Bool). Has wanted AreEvents input.schedule) unscheduled
-      is.says.has.schedule);
-  edits = gone AreEdits input.edits
-      (subst (λ (wanted : Bool). Has wanted AreEdits input.edits) unedited is.says.has.edits);
-  watch = gone AreWatch input.watch
-      (subst (λ (wanted : Bool). Has wanted AreWatch input.watch) unwatched is.says.has.watch);
-  rules = gone AreRulesSaid input.rules
-      (subst (λ (wanted : Bool). Has wanted AreRulesSaid input.rules) unruled is.says.has.rules);
-}
-
 -- an input that has a network and no more than its labels, with other labels
 pub relabelled : (parts : Parts) (bytes : List ℕ) (input : Input) → IsInput parts bytes input
     → parts.network ≡ true → parts.schedule ≡ false → parts.edits ≡ false
@@ -188,13 +148,10 @@ pub relabelled : (parts : Parts) (bytes : List ℕ) (input : Input) → IsInput 
     (with_labels code input labels)
 relabelled parts bytes input is wanted unscheduled unedited unwatched unruled code labels each small =
     let rows : List NodeRow = rows_in input in
-    let found = there AreRows input.network
-    (subst (λ (wanted : Bool). Has wanted AreRows input.network) wanted is.says.has.network) in
-    let of_network : input.network ≡ Some rows = found.1
-    ∙ ap Some (sym (ap (λ (network : Option (List NodeRow)). unwrap_or network []) found.1)) in
+    let there = network_there parts bytes input is wanted in
     let none = without_others parts bytes input is unscheduled unedited unwatched unruled in
     let same : with_labels code input labels ≡ labelled code rows labels = λ i. record {
-      network = of_network i;
+      network = there i;
       labels = Some (net_labelling code rows labels);
       schedule = none.schedule i;
       edits = none.edits i;
@@ -204,33 +161,6 @@ relabelled parts bytes input is wanted unscheduled unedited unwatched unruled co
     subst (IsInput parts_with_labels (network_text rows ++ net_labels_text code rows labels))
     (sym same)
     (labelled_input code rows labels (readable parts bytes input is wanted) each small)
-
--- the text of a network and the labels that show its property are an input
-marked_input : (code : CodeName) (scheme : Expression) (bytes : List ℕ) (input : Input)
-    (parts : List (List ℕ)) (labels : List (List Bool)) → IsInput network bytes input
-    → AreComponents (rows_in input) parts
-    → over Labels MAX_BITS (room_in code scheme (rows_in input) parts) ≡ None
-    → Shows code scheme (rows_in input) labels
-    → IsInput parts_with_labels (bytes ++ net_labels_text code (rows_in input) labels)
-    (with_labels code input labels)
-marked_input code scheme bytes input parts labels is are accepted shows =
-    let rows : List NodeRow = rows_in input in
-    let small = marked_few code scheme rows parts labels (readable network bytes input is refl).network
-    are accepted shows in
-    let found = there AreRows input.network is.says.has.network in
-    let of_network : input.network ≡ Some rows = found.1
-    ∙ ap Some (sym (ap (λ (network : Option (List NodeRow)). unwrap_or network []) found.1)) in
-    let no_labels : input.labels ≡ None = gone (AreLabels false) input.labels is.says.has.labels in
-    let none = without_others network bytes input is refl refl refl refl in
-    let alone : input_lines input ≡ network_lines rows = (λ i.
-    lines_of network_lines (of_network i) ++ (lines_of labels_lines (no_labels i)
-    ++ (lines_of schedule_lines (none.schedule i) ++ (lines_of edits_lines (none.edits i)
-    ++ (lines_of watch_part_lines (none.watch i) ++ lines_of rules_lines (none.rules i))))))
-    ∙ append-nil (network_lines rows) in
-    let front : bytes ≡ network_text rows = is.says.is ∙ ap text_of alone in
-    subst (λ (front : List ℕ). IsInput parts_with_labels
-    (front ++ net_labels_text code rows labels) (with_labels code input labels)) (sym front)
-    (relabelled network bytes input is refl refl refl refl refl code labels shows.each small)
 
 -- what `mark` answered certifies the text of the network
 pub certified : (code : CodeName) (scheme : Expression) (bytes : List ℕ) (input : Input) (answer : Answer)
@@ -246,18 +176,15 @@ certified code scheme bytes input answer is work shown done =
       | inr yields ↦ yields.0
     ] in
     record {
-      input = input;
+      rows = rows;
       labels = shown.labels;
-      is = is;
+      is = whole_network bytes input is;
       parts = work.parts;
       components = work.components;
       shows = shown.shows;
+      few = marked_few code scheme rows work.parts shown.labels
+          (readable network bytes input is refl).network work.components accepted shown.shows;
       text_is = shown.is;
-      read_back =
-          subst (λ (text : List ℕ). IsInput parts_with_labels (bytes ++ text)
-          (with_labels code input shown.labels)) (sym shown.is)
-          (marked_input code scheme bytes input work.parts shown.labels is work.components accepted
-          shown.shows);
     }
 
 -- so it is where the task is `mark`

@@ -8,6 +8,7 @@ pub mod Proved
 pub mod NamedSets
 pub mod InWords
 pub mod TextLengths
+pub mod Spelled
 pub mod Certified
 pub mod Told
 pub mod Asked

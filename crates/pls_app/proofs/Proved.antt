@@ -35,12 +35,14 @@ use Rattle.pls_bits.specs.declared.code_name.CodeName.TheVariants.{Delta, Gamma}
 use Rattle.pls_app.specs.declared.command.Command.{Command}
 use Rattle.pls_app.specs.declared.command.Command.TheVariants.{ByRules, Print, Trial, With}
 use Rattle.pls_app.specs.declared.command.Task.TheVariants.{Mark, Verify, Simulate, Recheck, Watch, Bound, Convert, Splice}
-use Rattle.pls_app.specs.Command.{Checks, input_parts_of, read_by}
+use Rattle.pls_app.specs.Command.{Checks, input_parts_of, read_by, reads}
 use Rattle.pls_app.specs.Meant.{Holds, LacksAt, judge_in, number_code_of, takes_of}
 use Rattle.pls_app.specs.Reports.{decided_by}
 use Rattle.pls_app.specs.Said.{Answer}
 use Rattle.pls_app.specs.Answer.{Answers, Reads, Yields, outcomes_in, refusal_status}
 use Rattle.pls_app.specs.Run.{IsJudged, Lacks, Notices, Proves, SomeFails, SomeRejects}
+use Rattle.pls_app.specs.Spelled.{BeginsWithNetwork}
+use Rattle.pls_app.proofs.Spelled.{begins_with_network, whole_network}
 
 -- a verdict that is decided and accepting accepts
 accepts : (verdict : Verdict) → is_accepting (Decided verdict) ≡ true → verdict ≡ Accept
@@ -129,9 +131,10 @@ some_accept outcomes places all =
 -- a command that checks labels reads a network and one label for each node
 wants_labels : (scheme : Expression) (command : Command) → Checks scheme command
     → ((input_parts_of command).network ≡ true) × ((input_parts_of command).labels ≡ true)
+    × (reads command ≡ true)
 wants_labels scheme (With (Mark code) other) checks = absurd checks
-wants_labels scheme (With (Verify json) other) checks = (refl, refl)
-wants_labels scheme (With (Simulate json) other) checks = (refl, refl)
+wants_labels scheme (With (Verify json) other) checks = (refl, refl, refl)
+wants_labels scheme (With (Simulate json) other) checks = (refl, refl, refl)
 wants_labels scheme (With Recheck other) checks = absurd checks
 wants_labels scheme (With (Bound code) other) checks = absurd checks
 wants_labels scheme (With Watch other) checks = absurd checks
@@ -229,18 +232,23 @@ component_holds scheme command bytes input places checks is component all =
 -- `Done` says that each component of the network of the input has the property
 pub done_proves : (scheme : Expression) (command : Command) (bytes : List ℕ) (answer : Answer)
     → Checks scheme command → Answers command bytes answer → answer.status ≡ Done
-    → Proves scheme command bytes
+    → Proves scheme bytes
 done_proves scheme command bytes answer checks answers done = elim answers [
   | inl refused ↦
       absurd (refused_not_done refused.0
       (sym (ap (λ (answer : Answer). answer.status) refused.2) ∙ done))
   | inr works ↦
       let input : Input = works.input in
+      let wants = wants_labels scheme command checks in
+      let reads_all : read_by command bytes ≡ bytes =
+      ap (λ (reads : Bool). if reads then bytes else []) wants.2 in
       let all = done_all (all_accept (outcomes_in command input))
       (sym (ends_by scheme command input works.parts answer checks works.yields) ∙ done) in
       record {
-        input = input;
-        is = works.is;
+        rows = rows_in input;
+        is = subst (λ (read : List ℕ). BeginsWithNetwork read (rows_in input)) reads_all
+            (begins_with_network (input_parts_of command) (read_by command bytes) input works.is
+            wants.0);
         holds = λ places component.
             component_holds scheme command bytes input places checks works.is component
             (some_accept (outcomes_in command input) places all);
@@ -321,8 +329,8 @@ no_lacks code scheme bytes answer answers ends = elim answers [
         absurd (let other : Done ≡ No = sym (ap (λ (answer : Answer). answer.status) labels.2)
         ∙ ends in cc)
     | inr lacks ↦ record {
-      input = works.input;
-      is = works.is;
+      rows = rows_in works.input;
+      is = whole_network bytes works.input works.is;
       parts = works.parts;
       components = works.takes.components;
       ids = lacks.0;

@@ -42,7 +42,9 @@ use Rattle.pls_app.specs.Meant.{LacksAt, judge_in, number_code_of, takes_of}
 use Rattle.pls_app.specs.Run.{Splits}
 use Rattle.pls_app.specs.Said.{Answer}
 use Rattle.pls_app.specs.Verified.{IsDone, verify_words}
-use Rattle.pls_app.proofs.Certified.{labelled, labelled_input, without_others}
+use Rattle.pls_app.specs.Verified.{labelled}
+use Rattle.pls_app.proofs.Certified.{labelled_input}
+use Rattle.pls_app.proofs.Spelled.{without_others}
 use Rattle.pls_app.proofs.CrossedText.{crossed_fit}
 use Rattle.pls_app.proofs.Proved.{accepted_holds, refused_not_done, takes_only}
 use Rattle.pls_app.proofs.Spliced.{unrefused_accept}

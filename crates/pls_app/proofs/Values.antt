@@ -28,6 +28,7 @@ use Rattle.pls_inputs.specs.Order.{IsInput, edits_heading, schedule_heading, wat
 use Rattle.pls_inputs.specs.Read.{AreEach, IsFirstLine, IsRead, IsSensible, said}
 use Rattle.pls_inputs.proofs.Facts.{few}
 use Rattle.pls_app.specs.Ruled.{set_in}
+use Rattle.pls_app.proofs.Spelled.{gone}
 
 -- the items of a list that is there
 pub items_are : {V X : Type 0} (part : Option V) (list : V) (items : V → List X) → part ≡ Some list
@@ -46,13 +47,6 @@ fits Fits true None value is has = absurd (cc)
 fits Fits true (Some other) value is has = subst Fits (same_Some other value is) has
 fits Fits false None value is has = absurd (cc)
 fits Fits false (Some other) value is has = absurd has
-
--- one that is not wanted is not there
-gone : {X : Type 0} (Fits : X → Type 0) (wanted : Bool) (part : Option X) → wanted ≡ false
-    → Has wanted Fits part → part ≡ None
-gone Fits true part is has = absurd (cc)
-gone Fits false None is has = refl
-gone Fits false (Some part) is has = absurd has
 
 -- a text has at most as many lines as bytes
 lines_fit : (lines : List (List ℕ)) → length lines ≤ length (text_of lines)

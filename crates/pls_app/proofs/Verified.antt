@@ -21,7 +21,8 @@ use Rattle.pls_scheme_text.specs.ExpressionText.{expression_text}
 use Rattle.pls_scheme_text.proofs.Letters.{first_letter}
 use Rattle.pls_components.specs.Components.{AreComponents}
 use Rattle.pls_inputs.specs.Order.{IsInput}
-use Rattle.pls_inputs.specs.Parts.{Input, code_in, labels_in, parts_with_labels, rows_in, with_labels}
+use Rattle.pls_inputs.specs.Parts.{Input, code_in, labels_in, parts_with_labels, rows_in}
+use Rattle.pls_inputs.proofs.Facts.{IsReadable}
 use Rattle.pls_bits.specs.declared.code_name.CodeName.{CodeName}
 use Rattle.pls_app.specs.declared.command.Command.TheVariants.{With}
 use Rattle.pls_app.specs.declared.command.Task.TheVariants.{Verify}
@@ -31,8 +32,9 @@ use Rattle.pls_app.specs.Reports.{decided_by}
 use Rattle.pls_app.specs.Said.{Answer}
 use Rattle.pls_app.specs.Answer.{reports_on}
 use Rattle.pls_app.specs.Run.{Certifies}
-use Rattle.pls_app.specs.Verified.{IsDone, verify_words}
+use Rattle.pls_app.specs.Verified.{IsDone, labelled, verify_words}
 use Rattle.pls_app.proofs.Answered.{command_answer}
+use Rattle.pls_app.proofs.Certified.{labelled_input}
 
 -- a word that does not begin with `-` stands behind `verify`
 behind_verify : (first : ℕ) (rest : List ℕ) → (first == 45) ≡ false
@@ -88,18 +90,31 @@ verified_input scheme bytes input parts small is are all =
       done = ap (λ (all : Bool). if all then Done else No) all;
     }
 
--- `verify` on bytes followed by labels that certify their network
-pub verified : (code : CodeName) (scheme : Expression) (bytes text : List ℕ) → IsSmall scheme
-    → Certifies code scheme bytes text → IsDone (verify_words scheme) (bytes ++ text)
-verified code scheme bytes text small certifies =
-    let judge : Seen → Verdict = judge_in code scheme in
-    let rows : List NodeRow = rows_in certifies.input in
-    let labels : List (List Bool) = certifies.labels in
-    let input : Input = with_labels code certifies.input labels in
-    let same : labels_in input ≡ labels =
-    bare-named (ids_of rows) labels
-    (certifies.shows.each ∙ sym (length-map rows (λ (row : NodeRow). row.id))) in
-    verified_input scheme (bytes ++ text) input certifies.parts small certifies.read_back
-    certifies.components
-    (ap (λ (labels : List (List Bool)). all_accept (decided_by judge rows labels)) same
-    ∙ accepted_all judge rows labels certifies.shows.accepted)
+module _ (code : CodeName) (scheme : Expression) (bytes text : List ℕ)
+    (certifies : Certifies code scheme bytes text) where
+  -- bytes followed by labels that certify their network are both
+  pub read_back : IsInput parts_with_labels (bytes ++ text)
+      (labelled code certifies.rows certifies.labels)
+  read_back =
+      let rows : List NodeRow = certifies.rows in
+      let labels : List (List Bool) = certifies.labels in
+      let known : IsReadable rows =
+      record { network = certifies.is.network; ranges = certifies.is.ranges } in
+      subst (λ (bytes : List ℕ). IsInput parts_with_labels bytes (labelled code rows labels))
+      (λ i. sym certifies.is.is i ++ sym certifies.text_is i)
+      (labelled_input code rows labels known certifies.shows.each certifies.few)
+
+  -- and `verify` ends with `Done` on them
+  pub verified : IsSmall scheme → IsDone (verify_words scheme) (bytes ++ text)
+  verified small =
+      let judge : Seen → Verdict = judge_in code scheme in
+      let rows : List NodeRow = certifies.rows in
+      let labels : List (List Bool) = certifies.labels in
+      let input : Input = labelled code rows labels in
+      let same : labels_in input ≡ labels =
+      bare-named (ids_of rows) labels
+      (certifies.shows.each ∙ sym (length-map rows (λ (row : NodeRow). row.id))) in
+      verified_input scheme (bytes ++ text) input certifies.parts small read_back
+      certifies.components
+      (ap (λ (labels : List (List Bool)). all_accept (decided_by judge rows labels)) same
+      ∙ accepted_all judge rows labels certifies.shows.accepted)

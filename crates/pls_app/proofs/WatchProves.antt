@@ -48,6 +48,7 @@ use Rattle.pls_app.specs.Run.{Proves}
 use Rattle.pls_app.specs.Said.{Answer}
 use Rattle.pls_app.specs.Unwatched.{events_of}
 use Rattle.pls_app.proofs.Proved.{accepted_holds, accepts_after, done_all, refused_not_done}
+use Rattle.pls_app.proofs.Spelled.{begins_with_network}
 
 module _ (shown : List WatchEvent → List (ℕ × Outcome × List ℕ)) where
   -- where the last line asks for a look there is one
@@ -195,7 +196,7 @@ closed_in false lines want has = absurd (cc)
 -- `Done` says that each component of the network of the input has the property
 pub watch_proves : (scheme : Expression) (bytes : List ℕ) (answer : Answer)
     → Answers (With Watch scheme) bytes answer → answer.status ≡ Done
-    → Proves scheme (With Watch scheme) bytes
+    → Proves scheme bytes
 watch_proves scheme bytes answer answers done = elim answers [
   | inl refused ↦
       absurd (refused_not_done refused.0
@@ -212,8 +213,8 @@ watch_proves scheme bytes answer answers done = elim answers [
       let well : look_is_well (look_of judge watched) ≡ true =
       sym (last_look (look_after judge rows (labels_in input)) [] (watch_in input)
       (closed_in true input.watch refl works.is.says.has.watch)) ∙ ends in record {
-        input = input;
-        is = works.is;
+        rows = rows;
+        is = begins_with_network parts_with_watch bytes input works.is refl;
         holds = accepted_holds (code_in input) scheme rows (newest_labels judge watched network)
             network (length-map rows (λ (row : NodeRow). newest_label judge watched network row.id))
             (well_accepts judge watched network well);

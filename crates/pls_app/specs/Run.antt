@@ -33,6 +33,10 @@ use Rattle.pls_app.specs.Meant.{Holds, LacksAt, NameLacking, Shows, judge_in}
 use Rattle.pls_app.specs.Reports.{Report, ReportInput, checked_in, edited_by}
 use Rattle.pls_app.specs.Ruled.{set_in}
 use Rattle.pls_app.specs.Said.{Answer}
+use Rattle.pls_app.specs.Spelled.{BeginsWithNetwork, EndsWithEdits, IsNetworkText}
+use Rattle.pls_edits.specs.declared.edit_line.EditLine.{EditLine}
+use Rattle.pls_model.specs.declared.limits.TheConstants.{MAX_BITS}
+use Rattle.pls_view.specs.Labels.{bits_together}
 use Rattle.pls_app.specs.Answer.{IsAnswer, IsRefused, Reads, no, outcomes_in, refusal, refusal_status}
 
 -- the words are this command, and the source tells these bytes
@@ -132,11 +136,11 @@ pub record RefusesExactly (command : Command) (bytes : List ℕ) (status : Statu
       → TellsRefusal error status old new
   pub caused : IsRefusalStatus status → (error : TextError) × IsRefused command bytes error
 
--- the command reads an input from the bytes, and each component of its network has the property
-pub record Proves (scheme : Expression) (command : Command) (bytes : List ℕ) : Type 0 where
-  pub input : Input
-  pub is : Reads command bytes input
-  pub holds : Holds scheme (rows_in input)
+-- the bytes begin with the text of a network, each component of which has the property
+pub record Proves (scheme : Expression) (bytes : List ℕ) : Type 0 where
+  pub rows : List NodeRow
+  pub is : BeginsWithNetwork bytes rows
+  pub holds : Holds scheme rows
 
 -- one of these nodes rejects what it sees, or still waits
 abbrev pub SomeFails : List (ℕ × Outcome) → Type 0
@@ -158,17 +162,17 @@ pub record Notices (scheme : Expression) (command : Command) (bytes : List ℕ) 
       → SomeFails (items_at (outcomes_in command input) places)
 
 -- the text is that of labels which show the property of each component of the network of the bytes
--- under the code, and the bytes followed by the text are the same network with these labels
+-- under the code, and which can stand in a text behind it
 pub record Certifies (code : CodeName) (scheme : Expression)
     (bytes text : List ℕ) : Type 0 where
-  pub input : Input
+  pub rows : List NodeRow
   pub labels : List (List Bool)
-  pub is : IsInput network bytes input
+  pub is : IsNetworkText bytes rows
   pub parts : List (List ℕ)
-  pub components : AreComponents (rows_in input) parts
-  pub shows : Shows code scheme (rows_in input) labels
-  pub text_is : text ≡ net_labels_text code (rows_in input) labels
-  pub read_back : IsInput parts_with_labels (bytes ++ text) (with_labels code input labels)
+  pub components : AreComponents rows parts
+  pub shows : Shows code scheme rows labels
+  pub few : bits_together labels ≤ MAX_BITS
+  pub text_is : text ≡ net_labels_text code rows labels
 
 -- the sink took such a text
 pub record TookCertificate (code : CodeName) (scheme : Expression) (bytes : List ℕ)
@@ -230,12 +234,12 @@ pub record ProvesByRules (bytes : List ℕ) : Type 0 where
 -- exactly these components of the network of the bytes lack the property, and the text is `no`, which
 -- names them where there is more than one component
 pub record Lacks (scheme : Expression) (bytes text : List ℕ) : Type 0 where
-  pub input : Input
-  pub is : IsInput network bytes input
+  pub rows : List NodeRow
+  pub is : IsNetworkText bytes rows
   pub parts : List (List ℕ)
-  pub components : AreComponents (rows_in input) parts
+  pub components : AreComponents rows parts
   pub ids : List ℕ
-  pub lacking : NameLacking scheme (rows_in input) ids
+  pub lacking : NameLacking scheme rows ids
   pub says : text ≡ (no parts ids).text
 
 -- the sink took such a text
@@ -244,11 +248,14 @@ pub record TookLack (scheme : Expression) (bytes : List ℕ) (old new : Option (
   pub took : Appends old new text
   pub lacks : Lacks scheme bytes text
 
--- each component of the network of the bytes has the property after all edits
+-- the bytes begin with the text of a network and end with that of edits, and behind all of these each
+-- component has the property
 pub record HoldsAfter (scheme : Expression) (bytes : List ℕ) : Type 0 where
-  pub input : Input
-  pub is : IsInput parts_with_edits bytes input
-  pub holds : Holds scheme (edited_by (edits_in input) (rows_in input))
+  pub rows : List NodeRow
+  pub edits : List EditLine
+  pub is : BeginsWithNetwork bytes rows
+  pub ends : EndsWithEdits bytes edits
+  pub holds : Holds scheme (edited_by edits rows)
 
 -- the count rose by as many nodes as the reports of the rounds say were checked
 pub record RoseByChecked (scheme : Expression) (bytes : List ℕ) (old new : ℕ) : Type 0 where

@@ -43,7 +43,7 @@ pub fn run<'w, S: Source, K: Sink, B: Bench>(
     // What `Done` and `No` say of the network.
     ensures check { (scheme : Expression) (command : Command) (bytes : List ℕ)
         → Asks (words_in words.now) (S.left source.old) command bytes → Checks scheme command
-        → result ≡ Status.Done → Proves scheme command bytes }
+        → result ≡ Status.Done → Proves scheme bytes }
     ensures rejects { (scheme : Expression) (command : Command) (bytes : List ℕ)
         → Asks (words_in words.now) (S.left source.old) command bytes → Checks scheme command
         → result ≡ Status.No → SomeRejects command bytes }
@@ -63,7 +63,7 @@ pub fn run<'w, S: Source, K: Sink, B: Bench>(
         → result ≡ Status.Done → HoldsAfter scheme bytes }
     ensures watch { (scheme : Expression) (bytes : List ℕ)
         → Asks (words_in words.now) (S.left source.old) (Command.With Task.Watch scheme) bytes
-        → result ≡ Status.Done → Proves scheme (Command.With Task.Watch scheme) bytes }
+        → result ≡ Status.Done → Proves scheme bytes }
     ensures convert { (scheme : Expression) (bytes : List ℕ)
         → Asks (words_in words.now) (S.left source.old) (Command.With Task.Convert scheme) bytes
         → result ≡ Status.Done
