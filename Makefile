@@ -7,8 +7,10 @@
 #   make believed   writes the definitions that the clauses of `run` rest on to out/believed.md, and
 #                   prints how many lines each clause has of them
 #   make examples   runs each command that the documents show, and compares what it writes
+#   make desk       tests the Python desk (docs/DESK.md) against the built program: ./pls, or the one
+#                   that the gate left in crates/pls_main/out, whichever is newer
 
-.PHONY: run test believed examples
+.PHONY: run test believed examples desk
 
 SOURCES := Makefile crates.txt $(shell find crates -path '*/out' -prune -o -type f \( -name '*.rt' -o -name '*.antt' \) -print)
 
@@ -38,6 +40,10 @@ test:
 believed:
 	@python3 tools/believed -o out/believed.md
 
-# Needs ./pls, a shell and awk.
+# Needs ./pls, a shell, awk and Python 3.11.
 examples: pls
-	sh tools/examples.sh README.md docs/TUTORIAL.md docs/RULES.md examples/README.md
+	sh tools/examples.sh README.md docs/TUTORIAL.md docs/TUTORIAL_DESK.md docs/DESK.md docs/RULES.md examples/README.md
+
+# Needs a program that is built, and Python 3.11.
+desk:
+	cd python && python3 -m unittest discover --start-directory tests --top-level-directory .

@@ -5,8 +5,8 @@
 #
 #   sh tools/costs.sh [RUNS]
 #
-# Each figure is the mean of RUNS runs (5 if left out). A shell and awk do; inputs are made in a
-# folder of their own and removed.
+# Each figure is the mean of RUNS runs (5 if left out). A shell, awk and the desk (Python 3.11) do;
+# inputs are made in a folder of their own and removed.
 set -u
 runs=${1:-5}
 [ -x ./pls ] || { echo 'tools/costs.sh: ./pls is not built (make pls)' >&2; exit 1; }
@@ -34,7 +34,7 @@ row() {
 
 # network KIND N: the first node has mark 1, and all know how many there are.
 network() {
-    awk -v kind="$1" -v n="$2" -f examples/large.awk |
+    python/bin/plsdesk import --made "$1:$2" |
         awk -v n="$2" '$1 == "node" { $4 = first++ ? 0 : 1; $5 = n } { print }'
 }
 

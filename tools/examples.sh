@@ -6,10 +6,13 @@
 # In a block between two lines that begin with ``` each line that begins with `$ ` is a command, and
 # the lines behind it, up to the next command or the end of the block, are all that it is to write.
 # The commands of a document run one after another in one shell, in a new folder that has `pls`,
-# `examples` and `tools`. The last line is `N passed, M failed`; the status is 1 where one failed.
+# `examples`, `tools` and `plsdesk` on its path. The last line is `N passed, M failed`; the status is 1 where one failed.
 
 top=$(cd "$(dirname "$0")/.." && pwd) || exit 1
 [ -x "$top/pls" ] || { echo 'examples.sh: there is no ./pls: make pls builds it' >&2; exit 1; }
+PATH=$top/python/bin:$PATH
+PLS=$top/pls
+export PATH PLS
 work=$(mktemp -d) || exit 1
 trap 'rm -rf "$work"' EXIT
 mark="@@ $$ behind"

@@ -1,0 +1,134 @@
+"""Pictures: what is drawn, in what time, and what is left out."""
+
+from __future__ import annotations
+
+import math
+import shutil
+import time
+import unittest
+from xml.etree import ElementTree
+
+from plsdesk.answers import Report, Verdict
+from plsdesk.network import Network
+from plsdesk.pictures.graphviz import dot_picture, graphviz_svg
+from plsdesk.pictures.layout import RADIUS, half_width, places_of
+from plsdesk.pictures.page import page
+from plsdesk.pictures.scene import COLOURS, MOST_DRAWN, scene_of
+from plsdesk.pictures.svg import svg_picture
+from plsdesk.running import Moment, play
+from plsdesk.schemes import parse_scheme
+from plsdesk.traces import Step
+from plsdesk.trees import point_along
+from tests import SLOWER, program
+from tests.test_formats import example, read
+from tests.test_traces import trace_of
+
+SVG = "{http://www.w3.org/2000/svg}"
+
+
+def grid(side: int) -> Network:
+    """A square grid whose nodes point along a BFS tree."""
+    lines = [f"{row * side + column} {row * side + column + step}" for row in range(side) for column in range(side)
+             for step, inside in ((1, column + 1 < side), (side, row + 1 < side)) if inside]
+    network = read("edges", "\n".join(lines))
+    point_along(network, "bfs", [])
+    return network
+
+
+def texts(svg: str) -> list[str]:
+    """The texts in a picture."""
+    return [one.text or "" for one in ElementTree.fromstring(svg).iter(SVG + "text")]
+
+
+class Drawn(unittest.TestCase):
+    """Pictures as SVG and as DOT."""
+
+    def test_verdicts_are_drawn(self) -> None:
+        network = example("racks.dot")
+        report = Report({1: Verdict("accept"), 2: Verdict("reject", 1, 5), 3: Verdict("waiting", ports=(0,)), 4: Verdict("reject", 2, 3),
+                         5: Verdict("accept", stale=(1,)), 6: Verdict("accept"), 7: Verdict("accept")})
+        scene = scene_of(network, report)
+        svg = svg_picture(scene)
+        for words in ("gateway", "s1", "rule 5", "part 2, rule 3", "waits", "holds an old label"):
+            self.assertIn(words, texts(svg))
+        for kind in ("reject", "waiting", "stale"):
+            self.assertIn(COLOURS[kind], svg)
+        self.assertEqual(svg.count("marker-end") + svg.count("marker-start"), 6)
+        self.assertIn("doublecircle", dot_picture(scene))
+        self.assertEqual(len(read("dot", dot_picture(scene)).edges()), len(network.edges()))
+
+    def test_nodes_do_not_stand_on_one_another(self) -> None:
+        for network in (example("karate.edges", "karate.states"), example("abilene.edges", "abilene.states"), example("florentine.adjlist"), grid(9)):
+            scene = scene_of(network)
+            places = places_of(scene)
+            nodes = [(*places[node.identity], half_width(node.name)) for node in scene.nodes]
+            for at, (x, y, half) in enumerate(nodes):
+                for other_x, other_y, other_half in nodes[:at]:
+                    apart = math.hypot(x - other_x, y - other_y) >= 2 * RADIUS
+                    self.assertTrue(apart and (abs(x - other_x) >= half + other_half or abs(y - other_y) > 1))
+
+    def test_components_stand_apart(self) -> None:
+        scene = scene_of(read("edges", "a b\nc d\ne\n"))
+        self.assertEqual(len(scene.components), 3)
+        self.assertEqual(dot_picture(scene).count("subgraph"), 3)
+        places = places_of(scene)
+        self.assertLess(max(places[one][0] for one in scene.components[0]), min(places[one][0] for one in scene.components[1]))
+
+    def test_fragments_of_a_level(self) -> None:
+        network = example("abilene.edges", "abilene.states")
+        trace = trace_of(network, "mst", [])
+        values = {identity: parse_scheme("mst").decode(bits) for identity, bits in trace.bits.items()}
+        inside = [sum(edge.inside for edge in scene_of(network, None, values, level).edges) for level in (1, 2, 3)]
+        self.assertEqual((inside[0], inside[2]), (0, 0))
+        self.assertGreater(inside[1], 5)
+
+    def test_names_are_escaped(self) -> None:
+        network = read("csv", 'source,target\n<a>,"b & ""c"""\n')
+        self.assertIn('b & "c"', texts(svg_picture(scene_of(network))))
+        self.assertEqual(len(read("dot", dot_picture(scene_of(network))).nodes), 2)
+
+    @unittest.skipUnless(shutil.which("dot"), "Graphviz is not installed")
+    def test_graphviz_lays_out(self) -> None:
+        self.assertIn("Kansas City", graphviz_svg(dot_picture(scene_of(example("abilene.gml")))))
+
+
+class Large(unittest.TestCase):
+    """Networks of 500 nodes are drawn whole in two seconds; of larger ones what is near the nodes that notice."""
+
+    def test_500_nodes(self) -> None:
+        network = grid(22)
+        before = time.process_time()
+        svg = svg_picture(scene_of(network))
+        self.assertLess(time.process_time() - before, SLOWER * 2.0)
+        self.assertEqual(len(set(texts(svg))), 484)
+
+    def test_more_nodes(self) -> None:
+        network = grid(100)
+        report = Report({node.identity: Verdict("accept") for node in network.nodes})
+        report.verdicts[5050] = Verdict("reject", 1, 3)
+        before = time.process_time()
+        scene = scene_of(network, report)
+        svg = svg_picture(scene)
+        self.assertLess(time.process_time() - before, SLOWER * 2.0)
+        self.assertLessEqual(len(scene.nodes), MOST_DRAWN)
+        self.assertIn("rule 3", texts(svg))
+        self.assertIn(f"{len(scene.nodes)} of 10000 nodes are drawn: those that notice, and what is near them", texts(svg))
+        self.assertIn("near the first one, since none notices", scene_of(network).note)
+
+
+class Pages(unittest.TestCase):
+    """A page that a browser steps through."""
+
+    def test_a_page(self) -> None:
+        network = example("racks.dot")
+        moments: list[Moment] = play(program(), trace_of(network, "tree", [Step("r1 <crashes>", states={"r1": {"pointer": None}})]))
+        text = page(moments, "racks & spines")
+        self.assertEqual(text.count('<div class="step"'), 2)
+        self.assertIn("step 1: r1 &lt;crashes&gt;", text)
+        self.assertIn("r1 (rule 4)", text)
+        self.assertNotIn("http://", text.replace("http://www.w3.org/2000/svg", ""))
+        self.assertNotIn("https://", text)
+
+
+if __name__ == "__main__":
+    unittest.main()
