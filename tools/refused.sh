@@ -1,6 +1,10 @@
 #!/bin/sh
-# Makes each allocation of some runs of ./pls fail, one at a time. Each run has to end as it does with
-# memory enough, or with status 6 and nothing written.
+# Makes each allocation of some runs of ./pls fail, one at a time, and then each read and each write of
+# some, a byte at a time. Each run has to end as it does without a fault, or
+#
+#     with status 6 and nothing written, where an allocation failed;
+#     with status 4 and nothing written, where a read failed;
+#     with status 5 and the first bytes of the text, where a write failed.
 #
 #     tools/refused.sh
 #
@@ -15,29 +19,78 @@ cd "$work" || exit 1
 runs=0
 wrong=0
 
-# each INPUT WORDS..: the run with memory enough, and then with each allocation refused in turn
-try() {
+# bad WHAT WORDS..: tells of a run with a third outcome
+bad() {
+    what=$1
+    shift
+    wrong=$((wrong + 1))
+    echo "$*: status $end where $what fails"
+}
+
+# count INPUT WORDS..: the run without a fault, and its numbers of allocations, reads and writes
+count() {
     input=$1
     shift
     "$top/pls" "$@" < "$input" > whole
     status=$?
     COUNTED=$work/count LD_PRELOAD=$work/refuse.so "$top/pls" "$@" < "$input" > /dev/null
-    calls=$(cat count)
+    read -r allocations reads writes < count
+    [ "$writes" -gt 0 ] && [ "$allocations" -gt 0 ] ||
+        { echo 'refused.sh: no call of ./pls is counted: it has its own malloc' >&2; exit 1; }
+}
+
+# try INPUT WORDS..: each allocation refused in turn
+try() {
+    count "$@"
+    shift
     same=0
     number=1
-    while [ "$number" -le "$calls" ]; do
+    while [ "$number" -le "$allocations" ]; do
         REFUSE=$number LD_PRELOAD=$work/refuse.so "$top/pls" "$@" < "$input" > got
         end=$?
         runs=$((runs + 1))
         if [ "$end" -eq "$status" ] && cmp -s whole got; then
             same=$((same + 1))
         elif [ "$end" -ne 6 ] || [ -s got ]; then
-            wrong=$((wrong + 1))
-            echo "$*: status $end where allocation $number is refused"
+            bad "allocation $number" "$@"
         fi
         number=$((number + 1))
     done
-    echo "$*: status $status, $calls allocations, $same of which may fail without a change"
+    echo "$*: status $status, $allocations allocations, $same of which may fail without a change"
+}
+
+# each_byte INPUT WORDS..: each read and each write of a byte failing in turn, and one behind the last
+each_byte() {
+    export BYTES=1
+    count "$@"
+    shift
+    number=1
+    while [ "$number" -le $((reads + 1)) ]; do
+        FAIL_READ=$number LD_PRELOAD=$work/refuse.so "$top/pls" "$@" < "$input" > got
+        end=$?
+        runs=$((runs + 1))
+        if [ "$number" -gt "$reads" ]; then
+            [ "$end" -eq "$status" ] && cmp -s whole got || bad "no read" "$@"
+        elif [ "$end" -ne 4 ] || [ -s got ]; then
+            bad "read $number" "$@"
+        fi
+        number=$((number + 1))
+    done
+    number=1
+    while [ "$number" -le $((writes + 1)) ]; do
+        FAIL_WRITE=$number LD_PRELOAD=$work/refuse.so "$top/pls" "$@" < "$input" > got
+        end=$?
+        runs=$((runs + 1))
+        if [ "$number" -gt "$writes" ]; then
+            [ "$end" -eq "$status" ] && cmp -s whole got || bad "no write" "$@"
+        else
+            head -c $((number - 1)) whole > prefix
+            [ "$end" -eq 5 ] && cmp -s prefix got || bad "write $number" "$@"
+        fi
+        number=$((number + 1))
+    done
+    unset BYTES
+    echo "$*: status $status, $reads reads and $writes writes, each of which failed"
 }
 
 chain=$top/examples/chain.txt
@@ -95,9 +148,40 @@ printf 'network\nnode 1 - 0 0\nport 2 1\nnode 2 - 0 0\nport 1 1\nnode 3 - 1 0\ne
 "$top/pls" mark bipartite < apart | cat apart - > marked
 try apart mark bipartite
 try apart mark leader
+try apart mark 'map(leader)'
 try apart bound tree
 try marked verify bipartite
 try marked verify bipartite --json
+printf 'schedule\nemit 1 0\narrive 1\nend\n' | cat marked - > played_apart
+try played_apart simulate bipartite
+printf 'edits\nlink 2 3 1\nround\nunlink 1 2\nround\nend\n' | cat marked - > edited_apart
+try edited_apart recheck bipartite
+printf 'watch\nlook\nrelabel 3 1 80\nlook\nend\n' | cat marked - > watched_apart
+try watched_apart watch bipartite
+printf 'rules\nfield colour bit\nrule all(not(eq(nb.colour,my.colour)))\nend\n' | cat marked - > ruled_apart
+try ruled_apart judge
+try marked convert bipartite
+"$top/pls" mark pathmax < "$chain" | cat "$chain" - > marked
+try marked convert pathmax
+printf 'edits\nround\nend\n' | cat marked - > edited_chain
+try edited_chain recheck pathmax
+"$top/pls" mark 'and(pathmax,mst)' < "$chain" | cat "$chain" - > marked
+try marked convert 'and(pathmax,mst)'
+
+# the reads and writes of ten commands
+each_byte "$pair" verify bipartite
+each_byte net mark bipartite
+each_byte net bound mst
+each_byte played simulate bipartite
+each_byte edited recheck bipartite
+each_byte watched watch bipartite
+each_byte chosen judge --json
+each_byte set code
+each_byte none trial 5:7
+"$top/pls" mark leader < "$leader" | cat "$leader" - > marked
+each_byte marked convert leader
+"$top/pls" mark bipartite < ring | cat ring - > marked
+each_byte marked splice bipartite
 
 echo "$runs runs, $wrong wrong"
 [ "$wrong" -eq 0 ]

@@ -11,7 +11,9 @@ differs.
 import random
 import sys
 
-from edits import components, differs, judge, label_words, link, text_of
+from edits import differs
+from plain_networks import components, label_words, link, text_of
+from plain_schemes import judge
 
 # A rule set of a label of one bit that all labels pass.
 ALL_ACCEPT = ['rules', 'field colour bit', 'end']
@@ -57,7 +59,8 @@ def crossed(net, order, i, j):
             for k, node in net.items()}
 
 
-def answer_of(net, labels, verdicts):
+def answer_of(net, labels, verdicts, shown=None):
+    """The text and the status; the part of the labels is shown as in these lines, if there are any."""
     order, wrong = order_of(net)
     if order is None:
         return f'refused 70 at {wrong}\n', 3
@@ -67,7 +70,7 @@ def answer_of(net, labels, verdicts):
     pair = first_pair(net, labels, order)
     if pair is None:
         return 'none\n', 1
-    lines = text_of(crossed(net, order, *pair)) + label_lines(labels)
+    lines = text_of(crossed(net, order, *pair)) + (shown or label_lines(labels))
     return '\n'.join(lines) + '\n', 0
 
 

@@ -11,8 +11,10 @@ status 1 where one differs.
 import random
 import sys
 
-from edits import (EXPRESSIONS, bits_of, differs, judge, label_words, marked_labels, networks,
-                   random_label, random_network, text_of)
+from edits import (EXPRESSIONS, differs, marked_labels, networks, random_label,
+                   random_network)
+from plain_networks import bits_of, label_words, text_of
+from plain_schemes import judge
 
 
 class Watch:
@@ -55,7 +57,7 @@ class Watch:
                 if not isinstance(what, int) and what[:2] == (nbr, node)]
         return max(came) if came else None
 
-    def look(self, expression, number):
+    def look(self, expression, number, name='gamma'):
         lines, counts, well = [], [0, 0, 0], True
         for i in sorted(self.net):
             ports = self.net[i]['ports']
@@ -68,7 +70,7 @@ class Watch:
                 continue
             seen = [(weight, self.versions[nbr][version])
                     for (nbr, weight), version in zip(ports, held)]
-            verdict = judge(expression, self.net[i], self.versions[i][-1], seen)
+            verdict = judge(expression, self.net[i], self.versions[i][-1], seen, name)
             stale = [str(port) for port, ((nbr, _), version) in enumerate(zip(ports, held))
                      if version != len(self.versions[nbr]) - 1]
             said = 'accept' if verdict is None else 'reject %d %d' % verdict
