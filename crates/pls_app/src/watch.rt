@@ -22,9 +22,8 @@ use pls_combine::AnyScheme;
 use pls_graph::Network;
 use pls_report::{look_is_well, write_look};
 use pls_scheme::Checker;
-use pls_sim::{Outcome, PortNumbers};
 use pls_view::LabelStore;
-use pls_watch::{Watch, WatchEvent};
+use pls_watch::{LookRow, Lookout, Watch, WatchEvent};
 use pls_watch_part::WatchLine;
 use std::alloc::Global;
 
@@ -49,9 +48,10 @@ pub(crate) fn watch<C: NumCode>(
     ensures worked { IfOk result (λ answer. IsWorked answer.status) }
 {
     let (relabels, bits) = relabels_in(lines);
-    let mut watch = Watch::start(alloc, net, labels, lines.len(), relabels, bits)?;
+    let watch = Watch::start(alloc, net, labels, lines.len(), relabels, bits)?;
+    let mut lookout = Lookout::over(alloc, watch, scheme, &mut Steps::new())?;
     let mut shown = Shown::nothing(alloc);
-    match play(alloc, scheme, &mut watch, lines, &mut shown)? {
+    match play(alloc, &mut lookout, lines, &mut shown)? {
         Some(place) => {
             let place = first_line + place as u64;
             let number = WATCH_EVENT;
@@ -85,25 +85,24 @@ fn relabels_in(lines: &[WatchLine]) -> (usize, u64)
 // and answers the place of its line, where there is one.
 fn play<K: Checker>(
     alloc: Global,
-    checker: &K,
-    watch: &mut Watch<'_>,
+    lookout: &mut Lookout<'_, '_, K>,
     lines: &[WatchLine],
     shown: &mut Shown,
 ) -> Result<Option<usize>, NoMemory>
-    requires start { watch.old.events ≡ [] }
-    requires room { HasRoomForEvents watch.old (events_of lines.now) }
+    requires start { lookout.old.watched.events ≡ [] }
+    requires room { HasRoomForEvents lookout.old.watched (events_of lines.now) }
     requires few { length lines.now ≤ MAX_LINES }
     requires none { AreShown shown.old [] }
     ensures place { IfOk result (λ found. (number : ℕ)
-        → first_unwatched watch.old.network [] number lines.now
+        → first_unwatched lookout.old.watched.network [] number lines.now
         ≡ option_map (λ place. number + place) found) }
     ensures within { IfOk result (λ found. IfSome found (λ place. place < length lines.now)) }
     ensures shown { IfOk result (λ found. found ≡ None → AreShown shown.new
-        (looks_behind (look_after (K.judge checker.now) watch.old.network watch.old.start) []
-        lines.now)) }
+        (looks_behind (look_after (K.judge lookout.old.checker) lookout.old.watched.network
+        lookout.old.watched.start) [] lines.now)) }
 {
     for (place, line) in lines.iter().enumerate() {
-        if !take_line(alloc, checker, watch, line, shown)? {
+        if !take_line(alloc, lookout, line, shown)? {
             return Ok(Some(place));
         }
     }
@@ -113,26 +112,26 @@ fn play<K: Checker>(
 // Takes the event of a line, or shows the look that it asks for; whether it applies.
 fn take_line<K: Checker>(
     alloc: Global,
-    checker: &K,
-    watch: &mut Watch<'_>,
+    lookout: &mut Lookout<'_, '_, K>,
     line: &WatchLine,
     shown: &mut Shown,
 ) -> Result<bool, NoMemory>
-    requires room { HasRoomForEvents watch.old (event_of line.now) }
+    requires room { HasRoomForEvents lookout.old.watched (event_of line.now) }
     requires few { shown.old.looks < 2 ^ 31 }
-    ensures refused { IfOk result (λ applies. applies
-        ≡ not (line_names_nothing watch.old.network watch.old.events line.now)) }
+    ensures checker { lookout.new.checker ≡ lookout.old.checker }
+    ensures refused { IfOk result (λ applies. applies ≡ not (line_names_nothing
+        lookout.old.watched.network lookout.old.watched.events line.now)) }
     ensures taken { IfOk result (λ applies. applies ≡ true
-        → watch.new ≡ watched_behind line.now watch.old) }
+        → lookout.new.watched ≡ watched_behind line.now lookout.old.watched) }
     ensures shown { IfOk result (λ applies. (looks : List (List (ℕ × Outcome × List ℕ)))
         → AreShown shown.old looks
-        → AreShown shown.new (looks ++ shown_at (K.judge checker.now) watch.old line.now)) }
+        → AreShown shown.new (looks ++ shown_at (K.judge lookout.old.checker) lookout.old.watched line.now)) }
 {
     match line {
-        WatchLine::Event(event) => Ok(watch.step(event).is_ok()),
+        WatchLine::Event(event) => Ok(lookout.step(event).is_ok()),
         WatchLine::Look => {
-            let rows = watch.outcomes(alloc, checker, &mut Steps::new())?;
-            shown.add_look(&rows)?;
+            lookout.look(alloc, &mut Steps::new())?;
+            shown.add_look(lookout.rows())?;
             Ok(true)
         }
     }
@@ -159,7 +158,7 @@ impl Shown {
     }
 
     // A text in memory fails to take what is written only for want of memory.
-    fn add_look(&mut self, rows: &[(u32, Outcome, PortNumbers)]) -> Result<(), NoMemory>
+    fn add_look(&mut self, rows: &[LookRow]) -> Result<(), NoMemory>
         requires { self.old.looks < 2 ^ 31 }
         ensures { OnOk result ((looks : List (List (ℕ × Outcome × List ℕ)))
             → AreShown self.old looks → AreShown self.new (looks ++ rows.now ∷ [])) }

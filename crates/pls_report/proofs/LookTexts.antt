@@ -1,29 +1,67 @@
 -- The lines of a look, piece by piece.
-use Rattle.std.proofs.Common.{◌≡◌, ◌∙◌, ℕ, ◌==◌, false, List, [], ◌∷◌, ◌++◌, length, codes, decimal, refl, sym, ap, append_assoc}
+use Rattle.std.proofs.Common.{◌≡◌, ◌∙◌, ℕ, ◌+◌, ◌<◌, List, [], ◌∷◌, ◌++◌, map, take, length, get_or, codes, decimal, refl, sym, ap, append-nil, append_assoc}
 use Rattle.pls_model.specs.declared.verdict.Verdict.{Verdict}
 use Rattle.pls_model.specs.declared.verdict.Verdict.TheVariants.{Accept, Reject}
-use Rattle.pls_sim.specs.declared.outcome.Outcome.TheVariants.{Decided}
-use Rattle.pls_report.specs.Look.{look_closing, look_line, rejecting_rows, stale_rows, waiting_rows}
-use Rattle.pls_report.specs.inner.Pieces.{outcome_tail, spaced}
-use Rattle.pls_report.proofs.Texts.{line_spaced}
+use Rattle.pls_sim.specs.declared.outcome.Outcome.TheVariants.{Decided, Waiting}
+use Rattle.pls_report.specs.Look.{look_closing, look_line, rejecting_rows, stale_rows, told_ports, waiting_rows}
+use Rattle.pls_report.specs.inner.Pieces.{outcome_tail, spaced, stale_tail}
+use Rattle.pls_report.proofs.Texts.{line_spaced, node_text, spaced_more}
 use Rattle.pls_sim.specs.declared.outcome.Outcome.{Outcome}
+use Rattle.pls_lines.specs.Text.{line_of}
+use Rattle.pls_report.specs.Report.{outcome_line}
+
+-- a word and numbers behind a text, with one number more
+pub listed_more : (front word numbers : List ℕ) (i d : ℕ) → i < length numbers
+    → (front ++ (word ++ spaced (take i numbers))) ++ (codes " " ++ decimal (get_or numbers i d))
+    ≡ front ++ (word ++ spaced (take (i + 1) numbers))
+listed_more front word numbers i d within =
+    let last : List ℕ = codes " " ++ decimal (get_or numbers i d) in
+    append_assoc front (word ++ spaced (take i numbers)) last
+    ∙ ap (λ (text : List ℕ). front ++ text)
+    (append_assoc word (spaced (take i numbers)) last
+    ∙ ap (λ (text : List ℕ). word ++ text) (spaced_more numbers i d within))
 
 -- the line of a node with stale ports
-pub stale_seen : (id : ℕ) (verdict : Verdict) (stale : List ℕ) → (length stale == 0) ≡ false
-    → ((codes "node " ++ decimal id)
-    ++ (outcome_tail (Decided verdict) ++ (codes " stale" ++ spaced stale))) ++ codes "\n"
-    ≡ look_line (id, Decided verdict, stale) ++ 10 ∷ []
-stale_seen id verdict [] some = absurd (cc)
-stale_seen id Accept (port ∷ ports) some =
-    ap (λ (tail : List ℕ). (codes "node " ++ (decimal id ++ (codes " accept " ++ tail)))
-    ++ codes "\n")
-    (sym (line_spaced (codes "stale") (port ∷ ports)))
-stale_seen id (Reject leaf rule) (port ∷ ports) some =
-    ap (λ (tail : List ℕ). (codes "node " ++ (decimal id ++ (codes " reject " ++ tail)))
-    ++ codes "\n")
-    (append_assoc (decimal leaf) (32 ∷ decimal rule) (codes " stale" ++ spaced (port ∷ ports))
-    ∙ ap (λ (tail : List ℕ). decimal leaf ++ 32 ∷ (decimal rule ++ 32 ∷ tail))
+stale_seen : (id : ℕ) (verdict : Verdict) (port : ℕ) (ports : List ℕ)
+    → (((codes "node " ++ decimal id) ++ outcome_tail (Decided verdict))
+    ++ stale_tail (port ∷ ports)) ++ 10 ∷ []
+    ≡ look_line (id, Decided verdict, port ∷ ports) ++ 10 ∷ []
+stale_seen id Accept port ports =
+    ap (λ (tail : List ℕ). (codes "node " ++ tail) ++ 10 ∷ [])
+    (append_assoc (decimal id) (codes " accept") (stale_tail (port ∷ ports))
+    ∙ ap (λ (tail : List ℕ). decimal id ++ (codes " accept " ++ tail))
     (sym (line_spaced (codes "stale") (port ∷ ports))))
+stale_seen id (Reject leaf rule) port ports =
+    ap (λ (tail : List ℕ). (codes "node " ++ tail) ++ 10 ∷ [])
+    (append_assoc (decimal id) (outcome_tail (Decided (Reject leaf rule)))
+    (stale_tail (port ∷ ports))
+    ∙ ap (λ (tail : List ℕ). decimal id ++ (codes " reject " ++ tail))
+    (append_assoc (decimal leaf) (32 ∷ decimal rule) (stale_tail (port ∷ ports))
+    ∙ ap (λ (tail : List ℕ). decimal leaf ++ 32 ∷ (decimal rule ++ 32 ∷ tail))
+    (sym (line_spaced (codes "stale") (port ∷ ports)))))
+
+-- the line of a node whose stale ports are not told, or that has none
+none_seen : (id : ℕ) (outcome : Outcome)
+    → (((codes "node " ++ decimal id) ++ outcome_tail outcome) ++ []) ++ 10 ∷ []
+    ≡ outcome_line (id, outcome) ++ 10 ∷ []
+none_seen id outcome =
+    ap (λ (line : List ℕ). line ++ 10 ∷ [])
+    (append-nil ((codes "node " ++ decimal id) ++ outcome_tail outcome))
+    ∙ node_text id outcome
+
+-- the line of a node, piece by piece
+pub node_seen : (id : ℕ) (outcome : Outcome) (stale : List ℕ)
+    → (((codes "node " ++ decimal id) ++ outcome_tail outcome)
+    ++ stale_tail (told_ports outcome stale)) ++ 10 ∷ []
+    ≡ look_line (id, outcome, stale) ++ 10 ∷ []
+node_seen id (Decided Accept) [] = none_seen id (Decided Accept)
+node_seen id (Decided (Reject leaf rule)) [] = none_seen id (Decided (Reject leaf rule))
+node_seen id (Decided verdict) (port ∷ ports) = stale_seen id verdict port ports
+node_seen id (Waiting ports) stale =
+    none_seen id (Waiting ports)
+    ∙ ap (λ (words : List (List ℕ)). line_of (codes "node" ∷ decimal id ∷ codes "waiting" ∷ words)
+    ++ 10 ∷ [])
+    (sym (append-nil (map decimal ports)))
 
 pub look_closing_text : (number : ℕ) (rows : List (ℕ × Outcome × List ℕ))
     → ((codes "look " ++ decimal number) ++ ((codes " rejecting " ++ decimal (rejecting_rows rows))

@@ -4,17 +4,11 @@ ghost use Rattle.std.specs.Prelude.{ℕ, ◌≤◌, ◌-◌, ◌++◌, ◌∷◌
 ghost use Rattle.std.specs.Io.KnownBytes.{Appends};
 ghost use Rattle.pls_base.specs.Gathered.{Writes};
 ghost use Rattle.pls_base.specs.Streams.{AppendsPart, Rose, StaysSure};
-ghost use Rattle.pls_sim.specs.declared.outcome.Outcome.TheVariants.{Decided};
-ghost use Rattle.pls_report.specs.Look.{look_closing, look_line, look_text};
-ghost use Rattle.pls_report.specs.inner.Pieces.{outcome_tail, spaced};
+ghost use Rattle.pls_report.specs.Look.{look_closing, look_text};
 
-use crate::decided::put_decided;
 use crate::look_counting::{rejecting_rows, stale_rows, waiting_rows};
-use crate::pieces::put_listed;
-use crate::report::write_waiting_node;
+use crate::look_row::LookRow;
 use pls_base::{Fault, Gathered, Sink};
-use pls_model::Verdict;
-use pls_sim::{Outcome, PortNumbers};
 
 /// Writes what is seen at a look at a round in which labels change: a line for each node, with its
 /// identity, its outcome and, where it has decided, its stale ports, those whose label is not the
@@ -23,11 +17,7 @@ use pls_sim::{Outcome, PortNumbers};
 ///
 /// `Fault` comes only where the sink's count of faults rose in this call; the sink has then taken a
 /// front of the text, but not all. A sink that is sure of so many bytes takes all.
-pub fn write_look<K: Sink>(
-    number: u32,
-    rows: &[(u32, Outcome, PortNumbers)],
-    sink: &mut K,
-) -> Result<(), Fault>
+pub fn write_look<K: Sink>(number: u32, rows: &[LookRow], sink: &mut K) -> Result<(), Fault>
     ensures all { OnOk result (Appends (K.taken sink.old) (K.taken sink.new)
         (look_text number rows.now)) }
     ensures part { OnErr result (AppendsPart (K.taken sink.old) (K.taken sink.new)
@@ -41,14 +31,14 @@ pub fn write_look<K: Sink>(
         (λ _. ⊥) }
 {
     let mut gathered = Gathered::new();
-    write_seen(number, rows, sink, &mut gathered)?;
+    write_rows(number, rows, sink, &mut gathered)?;
     gathered.flush(sink)
 }
 
 // Writes the lines of a look.
-fn write_seen<K: Sink>(
+fn write_rows<K: Sink>(
     number: u32,
-    rows: &[(u32, Outcome, PortNumbers)],
+    rows: &[LookRow],
     sink: &mut K,
     gathered: &mut Gathered,
 ) -> Result<(), Fault>
@@ -56,90 +46,16 @@ fn write_seen<K: Sink>(
         (K.faults sink.old) (K.faults sink.new) (K.IsSureOf sink.old) (K.IsSureOf sink.new)
         result (look_text number rows.now) }
 {
-    for (id, outcome, stale) in rows {
-        write_seen_node(sink, gathered, *id, outcome, stale.as_slice())?;
+    for row in rows {
+        gathered.put(sink, row.line())?;
     }
     write_look_closing(number, rows, sink, gathered)
-}
-
-// Writes the line of a node.
-fn write_seen_node<K: Sink>(
-    sink: &mut K,
-    gathered: &mut Gathered,
-    id: u32,
-    outcome: &Outcome,
-    stale: &[u32],
-) -> Result<(), Fault>
-    ensures { Writes gathered.old gathered.new (K.taken sink.old) (K.taken sink.new)
-        (K.faults sink.old) (K.faults sink.new) (K.IsSureOf sink.old) (K.IsSureOf sink.new)
-        result (look_line (id, outcome.now, stale.now) ++ 10 ∷ []) }
-{
-    match outcome {
-        Outcome::Decided(verdict) => write_decided_node(sink, gathered, id, *verdict, stale),
-        Outcome::Waiting(ports) => write_waiting_node(sink, gathered, id, ports.as_slice()),
-    }
-}
-
-// Writes the line of a node that has decided.
-fn write_decided_node<K: Sink>(
-    sink: &mut K,
-    gathered: &mut Gathered,
-    id: u32,
-    verdict: Verdict,
-    stale: &[u32],
-) -> Result<(), Fault>
-    ensures { Writes gathered.old gathered.new (K.taken sink.old) (K.taken sink.new)
-        (K.faults sink.old) (K.faults sink.new) (K.IsSureOf sink.old) (K.IsSureOf sink.new)
-        result (look_line (id, Decided verdict, stale.now) ++ 10 ∷ []) }
-{
-    if stale.is_empty() {
-        return put_decided(sink, gathered, id, verdict);
-    }
-    write_stale_node(sink, gathered, id, verdict, stale)
-}
-
-// Writes the line of a node that has decided on labels that are not the newest.
-fn write_stale_node<K: Sink>(
-    sink: &mut K,
-    gathered: &mut Gathered,
-    id: u32,
-    verdict: Verdict,
-    stale: &[u32],
-) -> Result<(), Fault>
-    ensures { Writes gathered.old gathered.new (K.taken sink.old) (K.taken sink.new)
-        (K.faults sink.old) (K.faults sink.new) (K.IsSureOf sink.old) (K.IsSureOf sink.new)
-        result (((codes "node " ++ decimal id) ++ (outcome_tail (Decided verdict)
-        ++ (codes " stale" ++ spaced stale.now))) ++ codes "\n") }
-{
-    gathered.put_numbered(sink, b"node ", id as u64)?;
-    put_verdict(sink, gathered, verdict)?;
-    put_listed(sink, gathered, b" stale", stale)?;
-    gathered.put(sink, b"\n")
-}
-
-// Writes what the line says of the verdict.
-fn put_verdict<K: Sink>(
-    sink: &mut K,
-    gathered: &mut Gathered,
-    verdict: Verdict,
-) -> Result<(), Fault>
-    ensures { Writes gathered.old gathered.new (K.taken sink.old) (K.taken sink.new)
-        (K.faults sink.old) (K.faults sink.new) (K.IsSureOf sink.old) (K.IsSureOf sink.new)
-        result (outcome_tail (Decided verdict)) }
-{
-    match verdict {
-        Verdict::Accept => gathered.put(sink, b" accept"),
-        Verdict::Reject { leaf, rule } => {
-            gathered.put_numbered(sink, b" reject ", leaf as u64)?;
-            gathered.put_numbered(sink, b" ", rule as u64)
-        }
-    }
 }
 
 // Writes the line that closes a look.
 fn write_look_closing<K: Sink>(
     number: u32,
-    rows: &[(u32, Outcome, PortNumbers)],
+    rows: &[LookRow],
     sink: &mut K,
     gathered: &mut Gathered,
 ) -> Result<(), Fault>

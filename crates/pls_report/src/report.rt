@@ -99,8 +99,8 @@ fn write_node<K: Sink>(
     }
 }
 
-/// Writes the line of a node that waits.
-pub(crate) fn write_waiting_node<K: Sink>(
+// Writes the line of a node that waits.
+fn write_waiting_node<K: Sink>(
     sink: &mut K,
     gathered: &mut Gathered,
     id: u32,

@@ -1,5 +1,5 @@
 -- What is kept after an arrival.
-use Rattle.std.proofs.Common.{◌≡◌, ◌≢◌, ◌∙◌, ℕ, suc, ◌<◌, Bool, true, false, ◌&&◌, ◌==◌, cond, max, List, [], ◌∷◌, ◌++◌, length, get_or, set, Option, Some, None, is_some, slice_get, refl, sym, ap, subst, arith, append-nil}
+use Rattle.std.proofs.Common.{◌≡◌, ◌≢◌, ◌∙◌, ℕ, suc, ◌<◌, ◌≤◌, Bool, true, false, ◌&&◌, ◌==◌, cond, max, List, [], ◌∷◌, ◌++◌, length, get_or, set, Option, Some, None, is_some, slice_get, refl, sym, ap, subst, arith, append-nil}
 use Rattle.std.specs.Option.{option_map_or}
 use Rattle.std.proofs.lemmas.Bool.{eq-eqb, eqb-true, eqb-false}
 use Rattle.std.proofs.lemmas.List.{get_or-set_same, get_or-set_other, length-set}
@@ -75,6 +75,55 @@ module _ (rows : List NodeRow) (turns : List Turn) (versions sent ends holds : L
         ap (λ (n : ℕ). max n came) (sym (kept.are_held number to one.node most arrives is))
         ∙ ap (λ (b : Bool). cond b (max (get_or holds number 0) came) came)
         (sym (heard_is ∙ heard_held rows turns to one.node ∙ ap is_some is))
+
+    -- nowhere but at the node where it arrives is something else held
+    pub other_held : (neighbour other : ℕ) → to ≢ other
+        → held rows (turns ++ Plain (Arrive (suc at)) ∷ []) other neighbour
+        ≡ held rows turns other neighbour
+    other_held neighbour other differs =
+        held_now neighbour other
+        ∙ ap (λ (b : Bool). greatest (arrived rows turns other neighbour ++ cond b (came ∷ []) []))
+        (by (one.node == neighbour) (to == other) refl)
+        ∙ ap greatest (append-nil (arrived rows turns other neighbour))
+      where
+        by : (a b : Bool) → (to == other) ≡ b → (a && b) ≡ false
+        by a true is = absurd (differs (eqb-true to other is))
+        by true false is = refl
+        by false false is = refl
+
+    -- nor there, where what arrives is no newer than what was heard
+    module _ (has : heard ≡ true) (older : came ≤ get_or holds number 0) where
+      older_one : greatest (arrived rows turns to one.node ++ came ∷ [])
+          ≡ held rows turns to one.node
+      older_one =
+          greatest_more (arrived rows turns to one.node) came
+          ∙ by (held rows turns to one.node) refl
+          (sym has ∙ heard_is ∙ heard_held rows turns to one.node)
+        where
+          by : (o : Option ℕ) → held rows turns to one.node ≡ o → true ≡ is_some o
+              → Some (with_one o came) ≡ o
+          by None is some = absurd (cc)
+          by (Some most) is some =
+              let greater : max most came ≡ most =
+              omega (arith, older, kept.are_held number to one.node most arrives is) in
+              ap Some greater
+
+      pub older_held : (neighbour other : ℕ)
+          → held rows (turns ++ Plain (Arrive (suc at)) ∷ []) other neighbour
+          ≡ held rows turns other neighbour
+      older_held neighbour other =
+          held_now neighbour other ∙ by (one.node == neighbour) (to == other) refl refl
+        where
+          by : (a b : Bool) → (one.node == neighbour) ≡ a → (to == other) ≡ b
+              → greatest (arrived rows turns other neighbour ++ cond (a && b) (came ∷ []) [])
+              ≡ held rows turns other neighbour
+          by false b is_a is_b = ap greatest (append-nil (arrived rows turns other neighbour))
+          by true false is_a is_b = ap greatest (append-nil (arrived rows turns other neighbour))
+          by true true is_a is_b =
+              subst (λ (end : ℕ). greatest (arrived rows turns end neighbour ++ came ∷ [])
+              ≡ held rows turns end neighbour) (eqb-true to other is_b)
+              (subst (λ (from : ℕ). greatest (arrived rows turns to from ++ came ∷ [])
+              ≡ held rows turns to from) (eqb-true one.node neighbour is_a) older_one)
 
     -- what is held here now
     pub here_held : held rows (turns ++ Plain (Arrive (suc at)) ∷ []) to one.node ≡ Some now

@@ -1,7 +1,7 @@
 -- What is known of an emit that arrives.
-use Rattle.std.proofs.Common.{◌≡◌, ◌∙◌, ℕ, zero, suc, ◌<◌, ◌≤◌, ◌==◌, Bool, true, false, cond, max, nat_le, List, [], ◌∷◌, ◌++◌, length, get_or, set, position, Option, Some, None, is_none, is_some, slice_get, option_map, option_and_then, inl, inr, refl, sym, ap, subst, arith}
+use Rattle.std.proofs.Common.{◌≡◌, ◌≢◌, ◌∙◌, ℕ, zero, suc, ◌<◌, ◌≤◌, ◌==◌, Bool, true, false, cond, max, nat_le, List, [], ◌∷◌, ◌++◌, length, get_or, set, position, Option, Some, None, is_none, is_some, slice_get, option_map, option_and_then, inl, inr, refl, sym, ap, subst, arith}
 use Rattle.std.specs.Option.{IfSome, option_map_or}
-use Rattle.std.proofs.lemmas.Bool.{cases_lt, le-leb, lt-leb}
+use Rattle.std.proofs.lemmas.Bool.{cases_lt, eqb-true, le-leb, lt-leb}
 use Rattle.pls_model.specs.declared.row.Port.{Port}
 use Rattle.pls_graph.specs.Places.{beside}
 use Rattle.pls_sim.proofs.Ends.{beside_length, end_at}
@@ -9,7 +9,9 @@ use Rattle.pls_sim.proofs.Refusing.{At, at_place, first_refusal, no_emit, place_
 use Rattle.std.proofs.lemmas.Option.{slice_get_within}
 use Rattle.pls_model.specs.declared.row.NodeRow.{NodeRow}
 use Rattle.pls_model.specs.Configuration.{IsNetwork, first_of, ports_in}
+use Rattle.pls_graph.proofs.Beside.{one_place}
 use Rattle.pls_graph.proofs.Finds.{item_at}
+use Rattle.pls_graph.proofs.Placed.{place_of_row}
 use Rattle.pls_schedule.specs.declared.event.Event.{Event}
 use Rattle.pls_schedule.specs.declared.event.Event.TheVariants.{Emit, Arrive}
 use Rattle.pls_sim.specs.declared.event_error.EventError.{EventError}
@@ -27,7 +29,7 @@ use Rattle.pls_watch.specs.Turning.{Turned, refused_in, round_of, turn_refusal}
 use Rattle.pls_watch.specs.inner.Held.{AreBoth, AreKept, IsRound}
 use Rattle.pls_watch.specs.inner.Numbers.{AreNumbered, IsOneOf}
 use Rattle.pls_watch.proofs.More.{heard_held, many_carried}
-use Rattle.pls_watch.proofs.Arrival.{kept_arrive}
+use Rattle.pls_watch.proofs.Arrival.{kept_arrive, older_held, other_held}
 use Rattle.pls_watch.proofs.NumberedArrival.{numbered_arrive}
 
 pub plain_few : (turns : List Turn) → length (plain_of turns) ≤ length turns
@@ -116,6 +118,32 @@ module _ (rows : List NodeRow) (turns : List Turn) (versions sent ends holds : L
               round.network
               ∙ ap (λ (events : List Event). has_heard rows events row.0.id one.0.node) round.events
               ∙ ap (λ (id : ℕ). has_heard rows (plain_of turns) id one.0.node) row.2
+
+          -- what a node holds that is not the one where it arrives
+          pub held_elsewhere : (i : ℕ) (other : NodeRow) (neighbour : ℕ)
+              → slice_get rows i ≡ Some other → end ≢ i
+              → held rows (turns ++ Plain (Arrive number) ∷ []) other.id neighbour
+              ≡ held rows turns other.id neighbour
+          held_elsewhere i other neighbour stands differs =
+              rw is
+              (other_held rows turns versions sent ends holds kept place one.0 one.1 to.0 at to.1
+              to.2 heard heard_here (omega (arith, at_within, kept.each_port)) neighbour other.id
+              (λ same. differs (one_place rows kept.is_network end i row.0 other
+              (ap (slice_get rows) (sym here) ∙ row.1) stands (row.2 ∙ same))))
+
+          -- and what all nodes hold where it is no newer
+          pub held_still : heard ≡ true → (old came : ℕ) → came ≤ old → old ≡ get_or holds at old
+              → came ≡ get_or sent place came → (node neighbour : ℕ)
+              → held rows (turns ++ Plain (Arrive number) ∷ []) node neighbour
+              ≡ held rows turns node neighbour
+          held_still has old came older old_is came_is node neighbour =
+              let within : at < length holds = omega (arith, at_within, kept.each_port) in
+              let old_here = value_at holds at old within old_is in
+              let came_here = value_at sent place came (omega (arith, is, few)) came_is in
+              rw is
+              (older_held rows turns versions sent ends holds kept place one.0 one.1 to.0 at to.1
+              to.2 heard heard_here within has (omega (arith, older, old_here, came_here))
+              neighbour node)
 
           pub kept_now : (old came now : ℕ) → old ≡ get_or holds at old → came ≡ get_or sent place
               came
@@ -287,3 +315,15 @@ not_emitted turned number room none =
           turned.turns,
     )))
     refl refl (ap is_none none)
+
+-- the node at a place has another identity than one that is not found there
+pub not_there : (rows : List NodeRow) → IsNetwork rows → (i : ℕ) (row : NodeRow)
+    → slice_get rows i ≡ Some row → (node : ℕ) → position (λ row. node == row.id) rows ≢ Some i
+    → (node == row.id) ≡ false
+not_there rows valid i row stands node differs = by (node == row.id) refl
+  where
+    by : (b : Bool) → (node == row.id) ≡ b → b ≡ false
+    by true is =
+        absurd (differs (subst (λ (id : ℕ). position (λ row. id == row.id) rows ≡ Some i)
+        (sym (eqb-true node row.id is)) (place_of_row rows valid i row stands)))
+    by false is = refl

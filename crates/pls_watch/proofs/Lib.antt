@@ -13,3 +13,6 @@ pub mod Room
 pub mod Stocked
 pub mod Looked
 pub mod Table
+pub mod Ahead
+pub mod Staying
+pub mod Current

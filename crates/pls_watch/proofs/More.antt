@@ -8,7 +8,7 @@ use Rattle.std.proofs.lemmas.List.Elements.{filter-append}
 use Rattle.pls_model.specs.declared.row.NodeRow.{NodeRow}
 use Rattle.pls_schedule.specs.declared.event.Event.{Event}
 use Rattle.pls_schedule.specs.declared.event.Event.TheVariants.{Emit, Arrive, Restart}
-use Rattle.pls_sim.specs.Schedule.{Sent, brings, emits_of, has_heard, restarts, sent_by, since_restart}
+use Rattle.pls_sim.specs.Schedule.{Sent, brings, emit_number, emits_of, goes, has_heard, restarts, sent_by, since_restart}
 use Rattle.pls_sim.specs.inner.Kept.{NamesEmit}
 use Rattle.pls_sim.proofs.Heard.{brings_kept, emits_more, since_all, since_more}
 use Rattle.pls_watch.specs.declared.turn.Turn.{Turn}
@@ -223,6 +223,40 @@ held_more rows turns event node neighbour numbered =
               numbered),
           append-nil (bring event),
         ) refl)
+
+-- where no emit arrives, each node holds what it held
+pub nothing_arrives : (rows : List NodeRow) (turns : List Turn) (number node neighbour : ℕ)
+    → AllByRecursion (NamesEmit (length (emits_of (plain_of turns)))) (plain_of turns)
+    → emit_number (emits_of (plain_of turns)) number ≡ None
+    → held rows (turns ++ Plain (Arrive number) ∷ []) node neighbour
+    ≡ held rows turns node neighbour
+nothing_arrives rows turns number node neighbour numbered none =
+    held_more rows turns (Arrive number) node neighbour numbered
+    ∙ ap (λ (sent : Option Sent). greatest (arrived rows turns node neighbour
+    ++ cond (option_map_or (goes rows neighbour node) sent false)
+    (version_of (carried turns ++ []) (Arrive number) ∷ []) []))
+    (ap (λ (emits : List Sent). emit_number emits number) (append-nil (emits_of (plain_of turns)))
+    ∙ none)
+    ∙ ap greatest (append-nil (arrived rows turns node neighbour))
+
+-- and so after an emit, and after a restart of another node
+pub held_emit : (rows : List NodeRow) (turns : List Turn) (sender port node neighbour : ℕ)
+    → AllByRecursion (NamesEmit (length (emits_of (plain_of turns)))) (plain_of turns)
+    → held rows (turns ++ Plain (Emit sender port) ∷ []) node neighbour
+    ≡ held rows turns node neighbour
+held_emit rows turns sender port node neighbour numbered =
+    held_more rows turns (Emit sender port) node neighbour numbered
+    ∙ ap greatest (append-nil (arrived rows turns node neighbour))
+
+pub held_restart : (rows : List NodeRow) (turns : List Turn) (other node neighbour : ℕ)
+    → AllByRecursion (NamesEmit (length (emits_of (plain_of turns)))) (plain_of turns)
+    → (other == node) ≡ false
+    → held rows (turns ++ Plain (Restart other) ∷ []) node neighbour
+    ≡ held rows turns node neighbour
+held_restart rows turns other node neighbour numbered differs =
+    held_more rows turns (Restart other) node neighbour numbered
+    ∙ ap (λ (b : Bool). cond b None (greatest (arrived rows turns node neighbour ++ []))) differs
+    ∙ ap greatest (append-nil (arrived rows turns node neighbour))
 
 -- what is held after a restart or an emit was held before it
 pub before_restart : (rows : List NodeRow) (turns : List Turn) (node other neighbour version : ℕ)

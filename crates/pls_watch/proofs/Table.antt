@@ -41,7 +41,7 @@ table_set watched numbers place number node version table few label = record {
 module _ (rows : List NodeRow) (valid : IsNetwork rows) (turns : List Turn) (i : ℕ) (row : NodeRow)
     (stands : slice_get rows i ≡ Some row) where
   -- the node beside a port, at its place
-  other_at : (p : ℕ) (at : Port) → slice_get row.ports p ≡ Some at
+  pub other_at : (p : ℕ) (at : Port) → slice_get row.ports p ≡ Some at
       → At rows at.nbr (get_or (beside rows i) p 0)
   other_at p at has =
       let found = beside_port rows valid i p row.ports at 0

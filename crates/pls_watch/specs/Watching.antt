@@ -69,3 +69,9 @@ stale_in watched row = stale watched.network (turns_of watched.events) row
 abbrev pub look_of : (Seen → Verdict) → Watched → List (ℕ × Outcome × List ℕ)
 look_of judge watched =
     map (λ row. (row.id, outcome_in judge watched row, stale_in watched row)) watched.network
+
+-- a watch with its looks: the checker, what is watched, and what was shown at the last look
+pub record Shown (K : Type 0) : Type 0 where
+  pub checker : K
+  pub watched : Watched
+  pub rows : List (ℕ × Outcome × List ℕ)

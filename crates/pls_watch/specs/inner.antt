@@ -3,3 +3,4 @@ pub mod Held
 pub mod Numbers
 pub mod Stock
 pub mod Known
+pub mod Current

@@ -4,17 +4,24 @@
 //! A [`Watch`] is seen as its network, the labels at the start, what it takes, and the list of the
 //! [`WatchEvent`]s that it has taken (`specs/Watching`). What a node holds, which of it is stale
 //! and what becomes of the node are said over that list (`specs/Versions`, `specs/Labelled`), in
-//! the words of the schedule of `pls_sim`. [`Watch::start`] takes all memory of the steps.
+//! the words of the schedule of `pls_sim`. [`Watch::start`] takes all memory of the steps. A
+//! [`Lookout`] is a watch with its looks, at which those nodes alone are judged again that know
+//! something else than at the look before.
 #![tactic(auto)]
 
+mod change;
+mod changing;
 mod known_labels;
+mod lookout;
 mod looks;
 mod stock;
 mod turn;
 mod versions;
 mod watch;
 
+pub use lookout::Lookout;
 pub use pls_base::NoMemory;
+pub use pls_report::LookRow;
 pub use pls_sim::{EventError, Outcome, PortNumbers};
 pub use pls_watch_part::WatchEvent;
 pub use turn::Turn;

@@ -1,7 +1,9 @@
 //! What has become of the nodes.
 
 ghost use Rattle.std.specs.Prelude.{◌≡◌, ◌≢◌, ◌<◌, ◌+◌, ℕ, [], length, slice_get, IfOk, IfSome, OnErr, Some};
+ghost use Rattle.std.specs.List.{list_any};
 ghost use Rattle.pls_model.specs.declared.row.NodeRow.{NodeRow};
+ghost use Rattle.pls_graph.specs.Places.{beside};
 ghost use Rattle.pls_view.specs.Seen.{seen};
 ghost use Rattle.pls_scheme.specs.Judging.{RoseByAtMost};
 ghost use Rattle.pls_sim.specs.Schedule.{unheard};
@@ -9,12 +11,15 @@ ghost use Rattle.pls_watch.specs.Labelled.{turns_of};
 ghost use Rattle.pls_watch.specs.Versions.{known, newest, plain_of};
 ghost use Rattle.pls_watch.specs.Watching.{look_of, outcome_in, stale_in, version_of_label};
 ghost use Rattle.pls_watch.specs.inner.Known.{AreKnown, IsKnown, IsTable};
+ghost use Rattle.pls_watch.specs.inner.Current.{got_label, look_row};
 
+use crate::change::{Change, any_got_label};
 use crate::known_labels::KnownLabels;
 use crate::versions::noughts;
 use crate::watch::Watch;
 use pls_base::{NoMemory, Steps};
 use pls_model::Verdict;
+use pls_report::LookRow;
 use pls_scheme::Checker;
 use pls_sim::{Outcome, PortNumbers};
 use pls_view::View;
@@ -44,15 +49,15 @@ impl<'n> Watch<'n> {
         self.outcome_by(alloc, i, &mut table, checker, steps)
     }
 
-    /// What has become of each node, with its identity, and the numbers of its stale ports, in the
-    /// order of the nodes: the rows of a look. It is linear in the ports and in the bits that the
-    /// checker reads. The one error is want of memory.
+    /// The rows of a look: what has become of each node, with its identity, and the numbers of its
+    /// stale ports, in the order of the nodes. It is linear in the ports and in the bits that the
+    /// checker reads: for several looks take a [`crate::Lookout`]. The one error is want of memory.
     pub fn outcomes<K: Checker>(
         &self,
         alloc: Global,
         checker: &K,
         steps: &mut Steps,
-    ) -> Result<Vec<(u32, Outcome, PortNumbers)>, NoMemory>
+    ) -> Result<Vec<LookRow>, NoMemory>
         ensures look { IfOk result
             (λ rows. rows.items ≡ look_of (K.judge checker.now) self.now) }
         ensures few_steps { RoseByAtMost (length self.now.network) steps.old steps.new }
@@ -78,30 +83,34 @@ impl<'n> Watch<'n> {
         Ok(PortNumbers::from_vec(numbers))
     }
 
-    // The identity, the outcome and the stale ports of the node at place i.
-    fn look_at<K: Checker>(
+    /// What is shown of the node at place `i`. What the node knows is written into a table.
+    pub(crate) fn look_at<K: Checker>(
         &self,
         alloc: Global,
         i: usize,
         table: &mut Vec<u32>,
         checker: &K,
         steps: &mut Steps,
-    ) -> Result<(u32, Outcome, PortNumbers), NoMemory>
+    ) -> Result<LookRow, NoMemory>
         requires place { i < length self.now.network }
         requires table { IsTable self.now table.old.items }
         ensures table { IsTable self.now table.new.items }
         ensures shows { IfOk result (λ shown. (row : NodeRow)
             → slice_get self.now.network i ≡ Some row
-            → shown ≡ (
-              row.id,
-              outcome_in (K.judge checker.now) self.now row,
-              stale_in self.now row,
-            )) }
+            → shown ≡ look_row (K.judge checker.now) self.now row) }
         ensures few_steps { RoseByAtMost 1 steps.old steps.new }
     {
         let stale = self.stale(alloc, i)?;
         let outcome = self.outcome_by(alloc, i, table, checker, steps)?;
-        Ok((self.net.node(i).0, outcome, stale))
+        LookRow::new(alloc, self.net.node(i).0, outcome, stale)
+    }
+
+    /// Whether a neighbour of the node at place `i` got a label.
+    pub(crate) fn is_beside_label(&self, i: usize, changes: &[Change]) -> bool
+        requires { i < length self.now.network }
+        ensures { result ≡ list_any (got_label changes.now) (beside self.now.network i) }
+    {
+        any_got_label(changes, self.net.places(i))
     }
 
     // The outcome of the node at place i. What the node knows is written into a table.

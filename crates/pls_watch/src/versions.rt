@@ -25,8 +25,8 @@ use std::marker::Model;
 /// the list of those that were taken.
 #[derive(Drop)]
 pub(crate) struct Versions<'n> {
-    net: &'n Network,
-    sim: Sim<'n>,
+    pub(crate) net: &'n Network,
+    pub(crate) sim: Sim<'n>,
     most: usize,
     turns: Vec<Turn>,
     // For each node its newest version, and the number of that label.
@@ -34,12 +34,12 @@ pub(crate) struct Versions<'n> {
     newest_labels: Vec<u32>,
     // For each emit the version that it carries, the number of that label, and the place of the
     // node to which it goes.
-    carried: Vec<u32>,
+    pub(crate) carried: Vec<u32>,
     carried_labels: Vec<u32>,
-    ends: Vec<u32>,
+    pub(crate) ends: Vec<u32>,
     // For each port, numbered through, the version that is held and the number of that label, where
     // something was heard.
-    held: Vec<u32>,
+    pub(crate) held: Vec<u32>,
     held_labels: Vec<u32>,
     // For each label that was given the number of the one that its node had before.
     earlier: Vec<u32>,

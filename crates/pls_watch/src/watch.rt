@@ -1,13 +1,15 @@
 //! A network whose labels change while messages are under way.
 
-ghost use Rattle.std.specs.Prelude.{◌≡◌, ◌<◌, ◌≤◌, ℕ, Bool, List, [], false, length, map, slice_get, IfErr, IfOk, IfSome, None, OnErr, OnOk, Some, option_map};
+ghost use Rattle.std.specs.Prelude.{◌≡◌, ◌≢◌, ◌<◌, ◌≤◌, ℕ, Bool, List, [], false, length, map, slice_get, IfErr, IfOk, IfSome, None, OnErr, OnOk, Some, option_map};
 ghost use Rattle.pls_model.specs.declared.limits.TheConstants.{MAX_BITS, MAX_LINES};
 ghost use Rattle.pls_model.specs.declared.row.NodeRow.{NodeRow};
 ghost use Rattle.pls_model.specs.declared.row.Port.{Port};
+ghost use Rattle.pls_model.specs.Configuration.{IsNetwork};
 ghost use Rattle.pls_watch_part.specs.WatchText.{watch_event};
 ghost use Rattle.pls_watch.specs.Labelled.{turn_of, turns_of};
 ghost use Rattle.pls_watch.specs.Turning.{IsNotBack, restarts_in};
 ghost use Rattle.pls_watch.specs.Versions.{held, newest};
+ghost use Rattle.pls_watch.specs.inner.Current.{KnowsSame};
 ghost use Rattle.pls_watch.specs.Watching.{lacks_room, version_of_label, watch_refusal, watching};
 
 use crate::stock::stock_of;
@@ -110,6 +112,17 @@ impl<'n> Watch<'n> {
             WatchEvent::Restart(node) => self.play(Event::Restart(*node)),
             WatchEvent::Relabel { node, bits } => self.relabel(*node, bits),
         }
+    }
+
+    /// The place of the node that knows something else after the event, if one does: it holds
+    /// another version of a neighbour's label, or it has got one itself.
+    pub(crate) fn changes_at(&self, event: &WatchEvent) -> Option<usize>
+        ensures others { (i : ℕ) (row : NodeRow) → slice_get self.now.network i ≡ Some row
+            → result ≢ Some i → KnowsSame self.now event.now row.id }
+        ensures within { IfSome result (λ place. place < length self.now.network) }
+        ensures valid { IsNetwork self.now.network }
+    {
+        self.versions.changes_at(Turn::of(event))
     }
 
     // Takes an event that gives no label.

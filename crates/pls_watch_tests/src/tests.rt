@@ -13,9 +13,9 @@ use pls_graph::Network;
 use pls_labelfile::read_labels;
 use pls_model::Verdict;
 use pls_netfile::read_network;
-use pls_sim::{Outcome, PortNumbers};
+use pls_sim::Outcome;
 use pls_view::LabelStore;
-use pls_watch::Watch;
+use pls_watch::Lookout;
 use std::alloc::Global;
 use std::test::Fail;
 
@@ -38,9 +38,9 @@ fn labels(alloc: Global, net: &Network, text: &str) -> Result<LabelStore, Fail>
 }
 
 // Each of these ports as a bit of a number.
-fn bits_of(ports: &PortNumbers) -> u32 {
+fn bits_of(ports: &[u32]) -> u32 {
     let mut bits = 0_u32;
-    for port in ports.as_slice() {
+    for port in ports {
         bits |= 1_u32.wrapping_shl(*port);
     }
     bits
@@ -51,16 +51,19 @@ fn bits_of(ports: &PortNumbers) -> u32 {
 type Shown = (u32, u32, u32, u32);
 
 // What a look shows of all nodes, where labels are colours.
-fn look(alloc: Global, watch: &Watch<'_>) -> Result<Vec<Shown>, Fail> {
-    let rows = watch.outcomes(alloc, &Bipartite::<Gamma>::new(), &mut Steps::new())?;
+fn look(
+    alloc: Global,
+    lookout: &mut Lookout<'_, '_, Bipartite<Gamma>>,
+) -> Result<Vec<Shown>, Fail> {
+    lookout.look(alloc, &mut Steps::new())?;
     let mut shown = Vec::new(alloc);
-    for (id, outcome, stale) in &rows {
-        let (kind, waits) = match outcome {
+    for row in lookout.rows() {
+        let (kind, waits) = match row.outcome() {
             Outcome::Decided(Verdict::Accept) => (0, 0),
             Outcome::Decided(Verdict::Reject { leaf: _, rule: _ }) => (1, 0),
-            Outcome::Waiting(ports) => (2, bits_of(ports)),
+            Outcome::Waiting(ports) => (2, bits_of(ports.as_slice())),
         };
-        shown.push((*id, kind, waits, bits_of(stale)))?;
+        shown.push((row.id(), kind, waits, bits_of(row.stale())))?;
     }
     Ok(shown)
 }

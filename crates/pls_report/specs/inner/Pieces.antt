@@ -16,6 +16,11 @@ outcome_tail (Decided (Reject leaf rule)) =
     (codes " reject " ++ decimal leaf) ++ (codes " " ++ decimal rule)
 outcome_tail (Waiting ports) = codes " waiting" ++ spaced ports
 
+-- what the line of a look says behind the outcome: which ports are stale, where there is one
+abbrev pub stale_tail : List ℕ → List ℕ
+stale_tail [] = []
+stale_tail (port ∷ ports) = codes " stale" ++ spaced (port ∷ ports)
+
 -- what a report's last line says behind the number of those that reject
 abbrev pub waiting_tail : Bool → ℕ → List ℕ
 waiting_tail true count = codes " waiting " ++ decimal count

@@ -1,9 +1,12 @@
 //! Worked rows on two nodes.
 
 use super::{Shown, labels, look, network};
+use pls_base::Steps;
+use pls_bits::Gamma;
+use pls_colour::Bipartite;
 use pls_lines::Lines;
 use pls_sim::EventError;
-use pls_watch::Watch;
+use pls_watch::{Lookout, Watch};
 use pls_watch_part::{WatchLine, scan_watch};
 use std::alloc::Global;
 use std::test::Fail;
@@ -45,12 +48,14 @@ fn last_look(alloc: Global, lines: &str) -> Result<Vec<Shown>, Fail> {
     let Ok(list) = part.list(alloc) else {
         return Err(Fail::from("no list"));
     };
-    let mut watch = Watch::start(alloc, &net, &colours, 100, 10, 100)?;
+    let watch = Watch::start(alloc, &net, &colours, 100, 10, 100)?;
+    let checker = Bipartite::<Gamma>::new();
+    let mut lookout = Lookout::over(alloc, watch, &checker, &mut Steps::new())?;
     let mut shown = Vec::new(alloc);
     for line in &list {
         match line {
-            WatchLine::Event(event) => watch.step(event)?,
-            WatchLine::Look => shown = look(alloc, &watch)?,
+            WatchLine::Event(event) => lookout.step(event)?,
+            WatchLine::Look => shown = look(alloc, &mut lookout)?,
         }
     }
     Ok(shown)
@@ -100,12 +105,14 @@ fn refusal(alloc: Global, lines: &str) -> Result<Option<EventError>, Fail> {
     let Ok(list) = part.list(alloc) else {
         return Err(Fail::from("no list"));
     };
-    let mut watch = Watch::start(alloc, &net, &colours, 5, 2, 3)?;
+    let watch = Watch::start(alloc, &net, &colours, 5, 2, 3)?;
+    let checker = Bipartite::<Gamma>::new();
+    let mut lookout = Lookout::over(alloc, watch, &checker, &mut Steps::new())?;
     for line in &list {
         if let WatchLine::Event(event) = line {
-            let before = look(alloc, &watch)?;
-            if let Err(error) = watch.step(event) {
-                if look(alloc, &watch)?.as_slice() == before.as_slice() {
+            let before = look(alloc, &mut lookout)?;
+            if let Err(error) = lookout.step(event) {
+                if look(alloc, &mut lookout)?.as_slice() == before.as_slice() {
                     return Ok(Some(error));
                 }
                 return Err(Fail::from("a refused event changed something"));

@@ -1,5 +1,7 @@
 use Rattle.std.proofs.Common.{◌≡◌, ◌∙◌, ◌++◌, ℕ, List, [], false, get_or, length, take, ap, arith, subst, sym}
 use Rattle.std.proofs.lemmas.List.{length-take}
+use Rattle.pls_model.specs.declared.verdict.Verdict.{Verdict}
+use Rattle.pls_view.specs.Seen.{Seen}
 use Rattle.pls_watch_part.specs.declared.watch_event.WatchLine.{WatchLine}
 use Rattle.pls_watch.specs.Watching.{Watched}
 use Rattle.pls_app.specs.Looks.{look_after, looks_behind}
@@ -13,11 +15,11 @@ pub take_line-requires-clause-few : goal.take_line-requires-clause-few
 take_line-requires-clause-few g c =
     let lines : List WatchLine = c.args.lines.now in
     let place : ℕ = c.loop-place.place in
-    let start = c.args.watch.now in
+    let start = c.args.lookout.now.watched in
     omega (
       arith,
       c.loop-place.invariant.shown.count,
-      few_looks (look_after (g.K.Checker.judge c.args.checker.now) start.network start.start) []
+      few_looks (look_after (g.K.Checker.judge c.args.lookout.now.checker) start.network start.start) []
           (take place lines),
       length-take place lines,
       c.loop-place-test.true,
@@ -26,9 +28,9 @@ take_line-requires-clause-few g c =
 
 pub loop-place-preserved : goal.loop-place-preserved
 loop-place-preserved g c =
-    let start = c.args.watch.now in
-    let old = c.loop-place.watch in
-    let new = c.take_line.new.watch in
+    let start = c.args.lookout.now.watched in
+    let old = c.loop-place.lookout.watched in
+    let new = c.take_line.new.lookout.watched in
     let lines : List WatchLine = c.args.lines.now in
     let place : ℕ = c.loop-place.place in
     let line : WatchLine = c.index-lines-place.result in
@@ -41,8 +43,9 @@ loop-place-preserved g c =
     let fits : line_names_nothing old.network old.events (get_or lines place line) ≡ false =
     ap (line_names_nothing old.network old.events) (sym at)
     ∙ applies_so _ (sym step.refused ∙ c.if-not-branch.false) in
-    let judge = g.K.Checker.judge c.args.checker.now in
+    let judge = g.K.Checker.judge c.args.lookout.now.checker in
     record {
+      checker = step.checker ∙ before.checker;
       network = network_on lines place line within start.network start.start old new
           before.network before.start before.taken is;
       start = start_on lines place line within start.network start.start old new
@@ -54,7 +57,11 @@ loop-place-preserved g c =
           before.network before.start before.taken judge c.take_line.new.shown
           (subst (λ (line : WatchLine). AreShown c.take_line.new.shown
           (looks_behind (look_after judge start.network start.start) [] (take place lines)
-          ++ shown_at judge old line)) at (step.shown _ before.shown));
+          ++ shown_at judge old line)) at
+          (subst (λ (by : Seen → Verdict). AreShown c.take_line.new.shown
+          (looks_behind (look_after judge start.network start.start) [] (take place lines)
+          ++ shown_at by old line)) (ap g.K.Checker.judge before.checker)
+          (step.shown _ before.shown)));
       so_far = λ number. first_on lines place line within start.network start.start old new
           before.network before.start before.taken number fits (before.so_far number);
     }

@@ -7,7 +7,7 @@ use Rattle.pls_app.proofs.watch.take_line.Goals as goal
 
 pub returns-in-Event-clause-refused : goal.returns-in-Event-clause-refused
 returns-in-Event-clause-refused g c =
-    let watched = c.args.watch.now in
+    let watched = c.args.lookout.now.watched in
     let event = c.in-Event.event in
     let room : HasRoomForEvents watched (event ∷ []) =
     subst (λ (line : WatchLine). HasRoomForEvents watched (event_of line)) c.in-Event.is

@@ -6,6 +6,7 @@ use Rattle.pls_base.specs.declared.text_error.TextError.TheVariants.{Sense}
 use Rattle.pls_combine.specs.Expression.{judge_of}
 use Rattle.pls_watch_part.specs.declared.watch_event.WatchEvent.{WatchEvent}
 use Rattle.pls_watch.specs.Labelled.{bits_given, labels_given}
+use Rattle.pls_watch.specs.Watching.{Watched}
 use Rattle.pls_inputs.specs.Parts.{Input, code_in}
 use Rattle.pls_app.specs.declared.command.Command.TheVariants.{With}
 use Rattle.pls_app.specs.declared.command.Task.TheVariants.{Watch}
@@ -40,22 +41,29 @@ start-requires-clause-bits g c =
 pub play-requires-clause-room : goal.play-requires-clause-room
 play-requires-clause-room g c =
     let lines = c.args.lines.now in
-    let start = c.in_ok-watch.ensures in record {
+    let start = c.in_ok-watch.ensures in
+    let same = c.in_ok-lookout.ensures.watched in record {
       few_events = omega (
         arith,
+        ap (λ (watched : Watched). length watched.events) same,
         ap (length {A = WatchEvent}) start.none,
+        ap (λ (watched : Watched). watched.most) same,
         start.most,
         few_events lines,
       );
       few_relabels = omega (
         arith,
+        ap (λ (watched : Watched). length (labels_given watched.events)) same,
         ap (λ (events : List WatchEvent). length (labels_given events)) start.none,
+        ap (λ (watched : Watched). watched.relabels) same,
         start.relabels,
         c.relabels_in-relabels.ensures.count,
       );
       few_bits = omega (
         arith,
+        ap (λ (watched : Watched). bits_given watched.events) same,
         ap bits_given start.none,
+        ap (λ (watched : Watched). watched.bits) same,
         start.bits,
         c.relabels_in-relabels.ensures.bits,
       );
@@ -69,9 +77,11 @@ returns-in-Some-clause-does g c =
     let first = c.args.first_line in
     let command = With Watch c.args.scheme.now in
     let error : TextError = Sense WATCH_EVENT (first + place) in
+    let network = ap (λ (watched : Watched). watched.network) c.in_ok-lookout.ensures.watched
+    ∙ c.in_ok-watch.ensures.network in
     let some : unwatched net first lines ≡ Some error =
     ap (option_map (λ line. Sense WATCH_EVENT line))
-    ((λ i. first_unwatched (sym c.in_ok-watch.ensures.network i) [] first lines)
+    ((λ i. first_unwatched (sym network i) [] first lines)
     ∙ c.in_ok-place.ensures.place first ∙ ap (option_map (λ place. first + place)) c.in-Some.is) in
     IfOk-weaker c.refuse.result (λ answer. answer ≡ refusal error)
     (λ answer. (input : Input) → IsWatchInput net c.args.labels.now lines first input
@@ -89,15 +99,18 @@ returns-clause-does g c input is takes parts =
     let lines = c.args.lines.now in
     let first = c.args.first_line in
     let start = c.in_ok-watch.ensures in
+    let same = c.in_ok-lookout.ensures.watched in
+    let checker = c.in_ok-lookout.ensures.checker in
+    let network = ap (λ (watched : Watched). watched.network) same ∙ start.network in
     let none : unwatched net first lines ≡ None =
     ap (option_map (λ line. Sense WATCH_EVENT line))
-    ((λ i. first_unwatched (sym start.network i) [] first lines)
+    ((λ i. first_unwatched (sym network i) [] first lines)
     ∙ c.in_ok-place.ensures.place first ∙ ap (option_map (λ place. first + place)) c.in-None.is) in
-    let networks = start.network ∙ sym is.net in
-    let labels = start.labels ∙ sym is.store in
+    let networks = network ∙ sym is.net in
+    let labels = ap (λ (watched : Watched). watched.start) same ∙ start.labels ∙ sym is.store in
     inr (
       (λ i. unwatched (is.net i) (sym is.at i) (is.list i)) ∙ none,
       c.into_answer.ensures.says _ (c.in_ok-place.ensures.shown c.in-None.is)
-          ∙ (λ i. looked (looks_behind (look_after (judge_of (takes i) c.args.scheme.now)
+          ∙ (λ i. looked (looks_behind (look_after (judge_of (takes i) (checker i))
           (networks i) (labels i)) [] (sym is.list i))),
     )

@@ -5,5 +5,5 @@ use Rattle.pls_report.proofs.look.write_look.Goals as goal
 pub returns-clause-part : goal.returns-clause-part
 returns-clause-part g c =
     let text = look_text c.args.number c.args.rows.now in
-    let lines = rw c.new-gathered.ensures at c.in_ok-write_seen.ensures in
+    let lines = rw c.new-gathered.ensures at c.in_ok-write_rows.ensures in
     part_of _ _ _ _ c.flush.result text lines c.flush.ensures.writes
