@@ -1,4 +1,4 @@
-//! Runs of the program in memory, and the worked examples as tests.
+//! Runs of the program in memory, and tables of runs as tests.
 #![tactic(auto)]
 
 mod memory_run;

@@ -1,102 +1,53 @@
-//! Worked examples of crossed rings.
+//! Rings of which two edges are crossed.
 
-use super::{COLOURS, PAIR, ends_as};
-use pls_base::Status;
-use std::alloc::Global;
-use std::process::Abort;
+use super::rows::assert_rows;
 use std::test::Fail;
 
-// Eight nodes in a ring, the first one marked.
-const EIGHT: &str = "network\nnode 1 - 1 0\nport 2 1\nport 8 1\n\
-                     node 2 - 0 0\nport 1 1\nport 3 1\nnode 3 - 0 0\nport 2 1\nport 4 1\n\
-                     node 4 - 0 0\nport 3 1\nport 5 1\nnode 5 - 0 0\nport 4 1\nport 6 1\n\
-                     node 6 - 0 0\nport 5 1\nport 7 1\nnode 7 - 0 0\nport 6 1\nport 8 1\n\
-                     node 8 - 0 0\nport 7 1\nport 1 1\nend\n";
+// Rings with two edges that may be crossed, and without.
+const CROSSED: &str = "
+0 splice bipartite < eight | eight-colours \
+    > network / node 1 - 1 0 / port 6 1 / port 8 1 / node 2 - 0 0 / port 5 1 / port 3 1 \
+    / node 3 - 0 0 / port 2 1 / port 4 1 / node 4 - 0 0 / port 3 1 / port 5 1 / node 5 - 0 0 \
+    / port 4 1 / port 2 1 / node 6 - 0 0 / port 1 1 / port 7 1 / node 7 - 0 0 / port 6 1 \
+    / port 8 1 / node 8 - 0 0 / port 7 1 / port 1 1 / end / labels / label 1 1 00 \
+    / label 2 1 80 / label 3 1 00 / label 4 1 80 / label 5 1 00 / label 6 1 80 / label 7 1 00 \
+    / label 8 1 80 / end
+0 splice < eight | eight-colours | differ \
+    > network / node 1 - 1 0 / port 6 1 / port 8 1 / node 2 - 0 0 / port 5 1 / port 3 1 \
+    / node 3 - 0 0 / port 2 1 / port 4 1 / node 4 - 0 0 / port 3 1 / port 5 1 / node 5 - 0 0 \
+    / port 4 1 / port 2 1 / node 6 - 0 0 / port 1 1 / port 7 1 / node 7 - 0 0 / port 6 1 \
+    / port 8 1 / node 8 - 0 0 / port 7 1 / port 1 1 / end / labels / label 1 1 00 \
+    / label 2 1 80 / label 3 1 00 / label 4 1 80 / label 5 1 00 / label 6 1 80 / label 7 1 00 \
+    / label 8 1 80 / end
+1 splice bipartite < six | six-colours > none
+1 splice leader < eight | labels; label 1 4 50; label 2 6 48; label 3 6 4c; label 4 8 44; \
+    label 5 8 45; label 6 8 44; label 7 6 4c; label 8 6 48 > none
+";
 
-// The same with the edges from 1 to 2 and from 5 to 6 crossed: two rings of four.
-const CROSSED: &str = "network\nnode 1 - 1 0\nport 6 1\nport 8 1\n\
-                     node 2 - 0 0\nport 5 1\nport 3 1\nnode 3 - 0 0\nport 2 1\nport 4 1\n\
-                     node 4 - 0 0\nport 3 1\nport 5 1\nnode 5 - 0 0\nport 4 1\nport 2 1\n\
-                     node 6 - 0 0\nport 1 1\nport 7 1\nnode 7 - 0 0\nport 6 1\nport 8 1\n\
-                     node 8 - 0 0\nport 7 1\nport 1 1\nend\n";
-
-// A colour for each of them, in turn.
-const EIGHT_COLOURS: &str = "labels\nlabel 1 1 00\nlabel 2 1 80\nlabel 3 1 00\nlabel 4 1 80\n\
-                     label 5 1 00\nlabel 6 1 80\nlabel 7 1 00\nlabel 8 1 80\nend\n";
-
-// Six nodes in a ring.
-const SIX: &str = "network\nnode 1 - 1 0\nport 2 1\nport 6 1\n\
-                     node 2 - 0 0\nport 1 1\nport 3 1\nnode 3 - 0 0\nport 2 1\nport 4 1\n\
-                     node 4 - 0 0\nport 3 1\nport 5 1\nnode 5 - 0 0\nport 4 1\nport 6 1\n\
-                     node 6 - 0 0\nport 5 1\nport 1 1\nend\n";
-
-// A colour for each of them, in turn.
-const SIX_COLOURS: &str = "labels\nlabel 1 1 00\nlabel 2 1 80\nlabel 3 1 00\nlabel 4 1 80\n\
-                     label 5 1 00\nlabel 6 1 80\nend\n";
-
-// One colour for all of them.
-const ONE_COLOUR: &str = "labels\nlabel 1 1 00\nlabel 2 1 00\nlabel 3 1 00\nlabel 4 1 00\n\
-                     label 5 1 00\nlabel 6 1 00\nend\n";
-
-// Two rings of three, with labels.
-const HALVES: &str = "network\nnode 1 - 0 0\nport 2 1\nport 3 1\n\
-                     node 2 - 0 0\nport 1 1\nport 3 1\nnode 3 - 0 0\nport 1 1\nport 2 1\n\
-                     node 5 - 0 0\nport 7 1\nport 8 1\nnode 7 - 0 0\nport 5 1\nport 8 1\n\
-                     node 8 - 0 0\nport 5 1\nport 7 1\nend\nlabels\nlabel 1 1 00\n\
-                     label 2 1 00\nlabel 3 1 00\nlabel 5 1 00\nlabel 7 1 00\nlabel 8 1 00\n\
-                     end\n";
-
-// Asserts what words make of an input.
-fn assert_spliced<'w>(
-    rt: &impl Abort,
-    alloc: Global,
-    words: &[&'w str],
-    input: &str,
-    text: &str,
-    status: Status,
-) -> Result<(), Fail> {
-    let well = ends_as(alloc, words, input, text, status)?;
-    assert!(rt; well, "{text} of {input}");
-    Ok(())
-}
+// Networks that are no ring, and rings of which a node rejects.
+const REFUSED: &str = "
+3 splice bipartite < pair | colours > refused 70 at 1
+3 splice bipartite < six | labels; label 1 1 00; label 2 1 00; label 3 1 00; label 4 1 00; \
+    label 5 1 00; label 6 1 00 > refused 71 at 1
+3 splice bipartite < pair | labels; label 1 1 00; label 2 1 00 > refused 70 at 1
+3 splice bipartite < 1 - 0 0: 2 by 1, 3 by 1; 2 - 0 0: 1 by 1, 3 by 1; 3 - 0 0: 1 by 1, 2 by 1; \
+    4 - 0 0: 5 by 1, 6 by 1; 5 - 0 0: 4 by 1, 6 by 1; 6 - 0 0: 4 by 1, 5 by 1 \
+    | labels; label 1 1 00; label 2 1 00; label 3 1 00; label 4 1 00; label 5 1 00; \
+    label 6 1 00 > refused 70 at 4
+3 splice bipartite < 1 - 0 0: 2 by 1, 3 by 1; 2 - 0 0: 1 by 1, 3 by 1; 3 - 0 0: 1 by 1, 2 by 1; \
+    5 - 0 0: 7 by 1, 8 by 1; 7 - 0 0: 5 by 1, 8 by 1; 8 - 0 0: 5 by 1, 7 by 1 \
+    | labels; label 1 1 00; label 2 1 00; label 3 1 00; label 5 1 00; label 7 1 00; \
+    label 8 1 00 > refused 70 at 5
+3 splice acyclic < round | labels; label 1 1 80; label 2 1 80; label 3 1 80; label 4 1 80; \
+    label 5 1 80; label 6 1 80 > refused 71 at 1
+";
 
 #[test]
-fn two_edges_of_a_ring_of_eight_are_crossed(rt: HostRuntime) -> Result<(), Fail> {
-    let alloc = rt.alloc();
-    let input = format!(in alloc; "{EIGHT}{EIGHT_COLOURS}")?;
-    let rings = format!(in alloc; "{CROSSED}{EIGHT_COLOURS}")?;
-    let words = ["splice", "bipartite"];
-    assert_spliced(&rt, alloc, &words, &input, &rings, Status::Done)
-}
-
-#[test]
-fn a_ring_is_crossed_by_rules(rt: HostRuntime) -> Result<(), Fail> {
-    let alloc = rt.alloc();
-    let rules = "rules\nfield colour bit\nrule all(not(eq(nb.colour,my.colour)))\nend\n";
-    let input = format!(in alloc; "{EIGHT}{EIGHT_COLOURS}{rules}")?;
-    let rings = format!(in alloc; "{CROSSED}{EIGHT_COLOURS}")?;
-    assert_spliced(&rt, alloc, &["splice"], &input, &rings, Status::Done)
-}
-
-#[test]
-fn a_ring_of_six_has_no_two_edges_to_cross(rt: HostRuntime) -> Result<(), Fail> {
-    let alloc = rt.alloc();
-    let input = format!(in alloc; "{SIX}{SIX_COLOURS}")?;
-    let words = ["splice", "bipartite"];
-    assert_spliced(&rt, alloc, &words, &input, "none\n", Status::No)
+fn edges_of_rings_are_crossed(rt: HostRuntime) -> Result<(), Fail> {
+    assert_rows(&rt, rt.alloc(), CROSSED)
 }
 
 #[test]
 fn no_ring_and_rejecting_nodes_are_refused(rt: HostRuntime) -> Result<(), Fail> {
-    let alloc = rt.alloc();
-    let words = ["splice", "bipartite"];
-    for (network, labels, text) in [
-        (PAIR, COLOURS, "refused 70 at 1\n"),
-        (HALVES, "", "refused 70 at 5\n"),
-        (SIX, ONE_COLOUR, "refused 71 at 1\n"),
-    ] {
-        let input = format!(in alloc; "{network}{labels}")?;
-        assert_spliced(&rt, alloc, &words, &input, text, Status::Refused)?;
-    }
-    Ok(())
+    assert_rows(&rt, rt.alloc(), REFUSED)
 }

@@ -1,99 +1,96 @@
-//! Worked examples of trees, forests and networks without cycle.
+//! Trees, forests, networks without a ring, two-colourings, leaders, counts and nearest walks.
 
-use super::{ALONE, RING, ROW, TRIANGLE, assert_runs};
-use pls_base::Status;
+use super::rows::assert_rows;
 use std::test::Fail;
 
-// Two nodes that point at each other.
-pub(super) const CIRCLE: &str = "network\nnode 1 0 0 0\nport 2 0\nnode 2 0 0 0\nport 1 0\nend\n";
+// Networks and their labels, or none.
+const MARKED: &str = "
+# Pointers that make a tree, and others.
+1 mark tree < circle > no
+1 mark forest < circle > no
+0 mark tree < chain > labels / label 1 4 50 / label 2 6 48 / label 3 6 4c / end
+0 mark forest < chain > labels / label 1 1 80 / label 2 3 40 / label 3 3 60 / end
+1 mark tree < row > no
+0 mark forest < row > labels / label 1 1 80 / label 2 1 80 / label 3 1 80 / end
+1 mark tree < two-trees > no
+0 mark tree < alone > labels / label 5 6 34 / end
+# Edges that close no ring.
+0 mark acyclic < chain > labels / label 1 1 80 / label 2 3 40 / label 3 3 60 / end
+0 mark acyclic < row > labels / label 1 1 80 / label 2 3 40 / label 3 3 60 / end
+1 mark acyclic < ring > no
+1 mark acyclic < triangle > no
+# Two colours.
+0 mark bipartite < pair > labels / label 1 1 00 / label 2 1 80 / end
+1 mark bipartite < triangle > no
+0 mark bipartite < alone > labels / label 5 1 00 / end
+0 mark bipartite < row > labels / label 1 1 00 / label 2 1 80 / label 3 1 00 / end
+0 mark bipartite < ring > labels / label 1 1 00 / label 2 1 80 / label 3 1 00 / label 4 1 80 / end
+# One leader, how many nodes there are, nearest walks.
+0 mark leader < marked > labels / label 1 4 50 / label 2 6 48 / label 3 6 4c / label 4 8 44 / end
+0 mark leader < eight > labels / label 1 4 50 / label 2 6 48 / label 3 6 4c / label 4 8 44 \
+    / label 5 8 45 / label 6 8 44 / label 7 6 4c / label 8 6 48 / end
+0 mark count < 1 - 0 2: 2 by 1; 2 - 0 2: 1 by 1 \
+    > labels / label 1 16 495b / label 2 18 4d24c0 / end
+1 mark count < pair > no
+1 mark spt < circle > no
+1 mark spt < ring > no
+0 bound bipartite < pair > bound 1
+";
 
-// Three nodes in a row; the second points at the first, and the third at the second.
-pub(super) const CHAIN: &str = "network\nnode 1 - 0 0\nport 2 1\nnode 2 0 0 0\nport 1 1\nport 3 2\n\
-                     node 3 0 0 0\nport 2 2\nend\n";
-
-// Three nodes in a row; the second points at the first alone.
-const TWO_TREES: &str = "network\nnode 1 - 0 0\nport 2 1\nnode 2 0 0 0\nport 1 1\nport 3 2\n\
-                         node 3 - 0 0\nport 2 2\nend\n";
+// Networks with labels, right and wrong.
+const JUDGED: &str = "
+# Two colours, one colour, a label of two bits, an empty one.
+0 verify bipartite < pair | colours > node 1 accept / node 2 accept / rejecting 0
+1 verify bipartite < pair | labels; label 1 0 -; label 2 1 80 \
+    > node 1 reject 1 1 / node 2 reject 1 2 / rejecting 2
+1 verify bipartite < pair | labels; label 1 1 80; label 2 1 80 \
+    > node 1 reject 1 3 / node 2 reject 1 3 / rejecting 2
+1 verify bipartite < pair | labels; label 1 2 00; label 2 1 80 \
+    > node 1 reject 1 1 / node 2 reject 1 2 / rejecting 2
+# Labels that were marked, of nodes with pointers, marks, numbers and weights of their own.
+0 mark bipartite < 3 - 0 0: 5 by 2, 9 by 0; 5 0 1 7: 3 by 2, 6 by 1; 6 - 0 0: 5 by 1, 9 by 1; \
+    9 - 0 0: 3 by 0, 6 by 1 > labels / label 3 1 00 / label 5 1 80 / label 6 1 00 \
+    / label 9 1 80 / end
+0 verify bipartite < 3 - 0 0: 5 by 2, 9 by 0; 5 0 1 7: 3 by 2, 6 by 1; 6 - 0 0: 5 by 1, 9 by 1; \
+    9 - 0 0: 3 by 0, 6 by 1 | labels; label 3 1 00; label 5 1 80; label 6 1 00; label 9 1 80 \
+    > node 3 accept / node 5 accept / node 6 accept / node 9 accept / rejecting 0
+# A leader, and two.
+0 verify leader < marked | labels; label 1 4 50; label 2 6 48; label 3 6 4c; label 4 8 44 \
+    > node 1 accept / node 2 accept / node 3 accept / node 4 accept / rejecting 0
+1 verify leader < two-marks | labels; label 1 4 50; label 2 6 48; label 3 8 2a; label 4 6 2c \
+    > node 1 accept / node 2 reject 1 3 / node 3 reject 1 3 / node 4 accept / rejecting 2
+# Pointers in a circle, two trees, another root, a ring.
+1 verify tree < circle | labels; label 1 4 50; label 2 4 50 \
+    > node 1 reject 1 5 / node 2 reject 1 5 / rejecting 2
+1 verify tree < two-trees | labels; label 1 4 50; label 2 6 48; label 3 6 24 \
+    > node 1 accept / node 2 reject 1 3 / node 3 reject 1 3 / rejecting 2
+1 verify tree < chain | labels; label 1 4 50; label 2 6 48; label 3 6 6c \
+    > node 1 accept / node 2 reject 1 3 / node 3 reject 1 3 / rejecting 2
+1 verify acyclic < triangle | labels; label 1 1 80; label 2 3 40; label 3 3 40 \
+    > node 1 accept / node 2 reject 1 3 / node 3 reject 1 3 / rejecting 2
+1 verify acyclic < ring | labels; label 1 1 80; label 2 3 40; label 3 3 60; label 4 3 40 \
+    > node 1 accept / node 2 accept / node 3 reject 1 4 / node 4 accept / rejecting 1
+# A depth: its code cut off, a bit behind it, no code, and just a code.
+1 verify forest < alone | labels; label 5 2 00 > node 5 reject 1 1 / rejecting 1
+1 verify forest < alone | labels; label 5 2 c0 > node 5 reject 1 1 / rejecting 1
+1 verify forest < alone | labels; label 5 0 - > node 5 reject 1 1 / rejecting 1
+0 verify forest < alone | labels; label 5 1 80 > node 5 accept / rejecting 0
+# 2^63 - 1, which has no code, and 2^63 - 2, the greatest number that has one.
+1 verify forest < alone | labels; label 5 127 00000000000000010000000000000000 \
+    > node 5 reject 1 1 / rejecting 1
+1 verify forest < alone | labels; label 5 125 0000000000000003fffffffffffffff8 \
+    > node 5 reject 1 3 / rejecting 1
+1 verify forest < 1 - 0 0: 2 by 1; 2 0 0 0: 1 by 1 \
+    | labels; label 1 125 0000000000000003fffffffffffffff8; label 2 1 80 \
+    > node 1 reject 1 3 / node 2 reject 1 4 / rejecting 2
+";
 
 #[test]
-fn trees_forests_and_networks_without_cycle_are_marked(rt: HostRuntime) -> Result<(), Fail> {
-    let no = ("no\n", Status::No);
-    let depths = "labels\nlabel 1 1 80\nlabel 2 3 40\nlabel 3 3 60\nend\n";
-    let rooted = "labels\nlabel 1 4 50\nlabel 2 6 48\nlabel 3 6 4c\nend\n";
-    let roots = "labels\nlabel 1 1 80\nlabel 2 1 80\nlabel 3 1 80\nend\n";
-    let alone = "labels\nlabel 5 6 34\nend\n";
-    let examples = [
-        ("tree", [CIRCLE, ""], no),
-        ("forest", [CIRCLE, ""], no),
-        ("tree", [CHAIN, ""], (rooted, Status::Done)),
-        ("forest", [CHAIN, ""], (depths, Status::Done)),
-        ("acyclic", [CHAIN, ""], (depths, Status::Done)),
-        ("tree", [ROW, ""], no),
-        ("forest", [ROW, ""], (roots, Status::Done)),
-        ("acyclic", [ROW, ""], (depths, Status::Done)),
-        ("tree", [TWO_TREES, ""], no),
-        ("acyclic", [RING, ""], no),
-        ("acyclic", [TRIANGLE, ""], no),
-        ("tree", [ALONE, ""], (alone, Status::Done)),
-    ];
-    assert_runs(&rt, rt.alloc(), "mark", &examples)
+fn networks_are_marked(rt: HostRuntime) -> Result<(), Fail> {
+    assert_rows(&rt, rt.alloc(), MARKED)
 }
 
 #[test]
-fn lightest_trees_are_shown_by_centroids(rt: HostRuntime) -> Result<(), Fail> {
-    let alone = "labels\nlabel 5 26 318d46c0\nend\n";
-    let triangle = "labels\nlabel 1 31 495b4216\nlabel 2 20 4d24f0\nlabel 3 37 446db42098\nend\n";
-    let marked = [
-        ("pathmax", [ALONE, ""], (alone, Status::Done)),
-        ("pathmax", [TRIANGLE, ""], (triangle, Status::Done)),
-        ("pathmax", [TWO_TREES, ""], ("no\n", Status::No)),
-    ];
-    assert_runs(&rt, rt.alloc(), "mark", &marked)?;
-    let bounds = [("pathmax", [ALONE, ""], ("bound 30\n", Status::Done))];
-    assert_runs(&rt, rt.alloc(), "bound", &bounds)?;
-    let accepted = "node 1 accept\nnode 2 accept\nnode 3 accept\nrejecting 0\n";
-    let judged = [("pathmax", [TRIANGLE, triangle], (accepted, Status::Done))];
-    assert_runs(&rt, rt.alloc(), "verify", &judged)
-}
-
-#[test]
-fn a_depth_is_a_whole_label(rt: HostRuntime) -> Result<(), Fail> {
-    let unread = ("node 5 reject 1 1\nrejecting 1\n", Status::No);
-    let deep = ("node 5 reject 1 3\nrejecting 1\n", Status::No);
-    let cases = [
-        // A code cut off, a bit behind a code, no code.
-        ("2 00", unread),
-        ("2 c0", unread),
-        ("0 -", unread),
-        ("1 80", ("node 5 accept\nrejecting 0\n", Status::Done)),
-        // 2^63 - 1, which has no code, and 2^63 - 2, the greatest number that has one.
-        ("127 00000000000000010000000000000000", unread),
-        ("125 0000000000000003fffffffffffffff8", deep),
-    ];
-    for (bits, due) in cases {
-        let labels = format!(in rt.alloc(); "labels\nlabel 5 {bits}\nend\n")?;
-        let examples = [("forest", [ALONE, labels.as_str()], due)];
-        assert_runs(&rt, rt.alloc(), "verify", &examples)?;
-    }
-    Ok(())
-}
-
-#[test]
-fn wrong_trees_and_cycles_are_rejected(rt: HostRuntime) -> Result<(), Fail> {
-    let circle = "labels\nlabel 1 4 50\nlabel 2 4 50\nend\n";
-    let both_deep = "node 1 reject 1 5\nnode 2 reject 1 5\nrejecting 2\n";
-    let two_trees = "labels\nlabel 1 4 50\nlabel 2 6 48\nlabel 3 6 24\nend\n";
-    let other_root = "labels\nlabel 1 4 50\nlabel 2 6 48\nlabel 3 6 6c\nend\n";
-    let level = "labels\nlabel 1 1 80\nlabel 2 3 40\nlabel 3 3 40\nend\n";
-    let last_two = "node 1 accept\nnode 2 reject 1 3\nnode 3 reject 1 3\nrejecting 2\n";
-    let ring = "labels\nlabel 1 1 80\nlabel 2 3 40\nlabel 3 3 60\nlabel 4 3 40\nend\n";
-    let opposite = "node 1 accept\nnode 2 accept\nnode 3 reject 1 4\nnode 4 accept\nrejecting 1\n";
-    let examples = [
-        ("tree", [CIRCLE, circle], (both_deep, Status::No)),
-        ("tree", [TWO_TREES, two_trees], (last_two, Status::No)),
-        ("tree", [CHAIN, other_root], (last_two, Status::No)),
-        ("acyclic", [TRIANGLE, level], (last_two, Status::No)),
-        ("acyclic", [RING, ring], (opposite, Status::No)),
-    ];
-    assert_runs(&rt, rt.alloc(), "verify", &examples)
+fn labels_are_judged(rt: HostRuntime) -> Result<(), Fail> {
+    assert_rows(&rt, rt.alloc(), JUDGED)
 }

@@ -1,0 +1,56 @@
+//! Tables of runs, and how their rows are run.
+//!
+//! A row is the number of a status, the words of a run, its input behind `<` if it has one, and its
+//! text behind `>`, with a slash between two lines. A line that begins with `#` says what the rows
+//! below it show.
+
+use super::input::input_of;
+use crate::run_in_memory;
+use std::alloc::Global;
+use std::process::Abort;
+use std::test::Fail;
+
+/// Runs each row of a table, and asserts its status and its text.
+pub(super) fn assert_rows(rt: &impl Abort, alloc: Global, rows: &str) -> Result<(), Fail> {
+    for row in rows.split('\n') {
+        if !row.is_empty() && !row.starts_with('#') {
+            assert_row(rt, alloc, row)?;
+        }
+    }
+    Ok(())
+}
+
+// Runs a row, and asserts its status and its text.
+fn assert_row(rt: &impl Abort, alloc: Global, row: &str) -> Result<(), Fail> {
+    let (front, text) = row.split_once(" > ").ok_or("a row without a text")?;
+    let (asked, input) = front.split_once(" < ").unwrap_or((front, ""));
+    let (status, words) = asked.split_once(' ').unwrap_or((asked, ""));
+    let end = end_of(alloc, words, input_of(alloc, input)?)?;
+    let due = end_text(alloc, status, text)?;
+    assert!(rt; end.as_str() == due.as_str(), "{row}\nends with {end}");
+    Ok(())
+}
+
+/// How a run ends: the number of its status, and in the lines below it its text.
+pub(super) fn end_of(alloc: Global, words: &str, input: String) -> Result<String, Fail> {
+    let words: Vec<&str> = words.split_whitespace().collect(alloc)?;
+    let (status, sink) = run_in_memory(alloc, &words, input.into_bytes())?;
+    let text = String::from_utf8_lossy(alloc, sink.bytes())?;
+    Ok(format!(in alloc; "{}\n{text}", status.code())?)
+}
+
+/// The same of a run that ends as a row says.
+pub(super) fn end_text(alloc: Global, status: &str, text: &str) -> Result<String, Fail> {
+    let lines = text.replace(alloc, " / ", "\n")?;
+    Ok(format!(in alloc; "{status}\n{lines}\n")?)
+}
+
+/// The lines of the text of a run that does what its words say, as they stand in an input.
+pub(super) fn lines_of(alloc: Global, words: &str, input: &str) -> Result<String, Fail> {
+    let end = end_of(alloc, words, input_of(alloc, input)?)?;
+    let text = end
+        .as_str()
+        .strip_prefix("0\n")
+        .ok_or("no labels and no rules")?;
+    Ok(text.trim_end().replace(alloc, "\n", "; ")?)
+}

@@ -1,0 +1,130 @@
+//! Words that are no command, and commands that read nothing.
+
+use super::rows::assert_rows;
+use crate::run_in_memory;
+use pls_base::Status;
+use std::test::Fail;
+
+// Words that are no command.
+const NO_COMMAND: &str = "
+# Words of other programs, none, too few, too many flags.
+2 --help > usage
+2 --version > usage
+2 -h > usage
+2 > usage
+2 verify > usage
+2 verify bipartite -- > usage
+2 --json > usage
+2 verify bipartite --json --json > usage
+2 mark bipartite --json > usage
+2 judge tree > usage
+2 rules mst > usage
+2 watch tree --json > usage
+2 --help < pair > usage
+2 < pair > usage
+2 verify < pair > usage
+2 mark tree --json < pair > usage
+2 bound --json tree < pair > usage
+2 --json verify tree --json < pair > usage
+2 verify -- tree < pair > usage
+2 rules Bipartite > usage
+2 code bipartite > usage
+2 trial 1:7 --json > usage
+2 verify colour < pair | colours > usage
+2 verify colour > usage
+";
+
+// Words with a code where none may stand.
+const NO_CODE: &str = "
+2 verify --code delta bipartite > usage
+2 mark tree --code=delta > usage
+2 mark tree --code > usage
+2 mark --code gamma tree --code gamma > usage
+2 verify mst --code delta < alone > usage
+2 mark mst --code beta > usage
+2 mark --code delta --code > usage
+2 mark tree --json --code > usage
+";
+
+// Words that name no scheme.
+const NO_EXPRESSION: &str = "
+2 verify map(diameter:01) > usage
+2 verify map(diameter:32768) > usage
+2 verify map(map(tree)) > usage
+2 verify diameter:3 > usage
+2 verify bridgeless > usage
+2 bound and(tree,) > usage
+2 bound and(and(and(tree,tree),and(tree,tree)),and(and(tree,tree),and(tree,and(tree,tree)))) \
+    > usage
+2 verify and(tree < pair > usage
+2 verify and(tree,tree < pair > usage
+2 verify or() < pair > usage
+2 verify xor(tree,tree) < pair > usage
+2 verify tree,tree < pair > usage
+2 verify and(and(and(and(and(and(and(and(tree,tree),tree),tree),tree),tree),tree),tree),tree) \
+    < pair > usage
+";
+
+// Words that are no number of nodes and number to begin with.
+const NO_TRIAL: &str = "
+2 trial 0:1 > usage
+2 trial 1:0 > usage
+2 trial 01:1 > usage
+2 trial 32769:1 > usage
+2 trial 1:2147483647 > usage
+2 trial 1:01 > usage
+2 trial 1 > usage
+2 trial 1: > usage
+2 trial :1 > usage
+2 trial 1:1:1 > usage
+";
+
+// Trials of one node and of two.
+const TRIALS: &str = "
+0 trial 1:7 > trial nodes 1 edges 0 bound 13 longest 11 rejecting 0
+0 trial 2:1 > trial nodes 2 edges 1 bound 43 longest 43 rejecting 0
+";
+
+// What is told of words that are no command.
+const USAGE: &str = "usage\n";
+
+#[test]
+fn words_that_are_no_command_are_usage(rt: HostRuntime) -> Result<(), Fail> {
+    assert_rows(&rt, rt.alloc(), NO_COMMAND)
+}
+
+#[test]
+fn a_code_stands_once_with_mark_and_bound_alone(rt: HostRuntime) -> Result<(), Fail> {
+    assert_rows(&rt, rt.alloc(), NO_CODE)
+}
+
+#[test]
+fn words_that_are_no_expression_are_usage(rt: HostRuntime) -> Result<(), Fail> {
+    assert_rows(&rt, rt.alloc(), NO_EXPRESSION)
+}
+
+#[test]
+fn words_that_are_no_trial_are_usage(rt: HostRuntime) -> Result<(), Fail> {
+    assert_rows(&rt, rt.alloc(), NO_TRIAL)
+}
+
+#[test]
+fn trials_tell_of_their_networks(rt: HostRuntime) -> Result<(), Fail> {
+    assert_rows(&rt, rt.alloc(), TRIALS)
+}
+
+#[test]
+fn an_empty_word_and_one_with_a_space_are_usage(rt: HostRuntime) -> Result<(), Fail> {
+    let alloc = rt.alloc();
+    for words in [
+        ["verify", ""],
+        ["trial", ""],
+        ["trial", "1 1"],
+        ["mark", "tree "],
+    ] {
+        let (status, sink) = run_in_memory(alloc, &words, Vec::new(alloc))?;
+        let well = status == Status::Usage && sink.bytes() == USAGE.as_bytes();
+        assert!(rt; well, "{} {}", words[0], words[1]);
+    }
+    Ok(())
+}
