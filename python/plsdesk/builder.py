@@ -35,6 +35,7 @@ class NetworkBuilder:
     lightest: bool = False
     without_loops: bool = False
     source: str = ""  # what stands in front of the places that are said now, as `club.edges, `
+    attributes: dict[str, set[str]] = field(default_factory=lambda: {"node": set(), "edge": set()})  # the names of all that were told
     _places: dict[Hashable, str] = field(default_factory=dict)
     _edges: dict[tuple[Hashable, Hashable], _Edge] = field(default_factory=dict)
     _pointers: dict[Hashable, tuple[Hashable, str]] = field(default_factory=dict)
@@ -66,6 +67,10 @@ class NetworkBuilder:
         self._edges[one, other] = _Edge((one, other), whole, self.source + place)
         if 2 * len(self._edges) > MOST_PORTS:
             raise DeskError(f"there are more than {MOST_PORTS // 2} edges, and pls takes no more", place)
+
+    def has_edges(self) -> bool:
+        """Whether an edge was said."""
+        return bool(self._edges)
 
     def _seen(self, place: str) -> str:
         """A place that was said before, with its source where that is another one."""

@@ -15,7 +15,7 @@ from plsdesk.labels import LabelText, label_line, labels_text
 from plsdesk.limits import MOST_EVENTS, MOST_ROUNDS
 from plsdesk.network import Network
 from plsdesk.inputs import Input, edit_lines
-from plsdesk.traces import Step, Trace, label_bits
+from plsdesk.traces import Step, Trace, in_step, node_label
 
 
 @dataclass(frozen=True, slots=True)
@@ -58,9 +58,11 @@ class Carried:
             if step.has_edits() or len(self.current.moments) == MOST_ROUNDS or len(self.body) + self._most_lines(step) > MOST_EVENTS:
                 if self.current.moments:
                     yield self._close()
-                edit_lines(step, self.edited)
+                with in_step(number):
+                    edit_lines(step, self.edited)
                 self._begin(number)
-            self._step(step)
+            with in_step(number):
+                self._step(step)
             if len(self.body) >= MOST_EVENTS:
                 raise DeskError(f"the step has more than {MOST_EVENTS} events", f"step {number}", "cut it into several steps")
             self.body.append("look")
@@ -118,7 +120,7 @@ class Carried:
             self.body.append(f"restart {name(one)}")
             self.held = {place: version for place, version in self.held.items() if place[0] != name(one)}
         for one, said in step.labels.items():
-            bits = label_bits(said, self.trace.scheme, self.trace.code, self.network)
+            bits = node_label(one, said, self.trace, self.network)
             self.versions[name(one)].append(bits)
             self.body.append(f"relabel {label_line(name(one), bits)}")
         for sender, receiver, message in step.sends:

@@ -39,6 +39,10 @@ class Edited:
             raise DeskError(f"there is no node {name} then")
         return identity
 
+    def name(self, identity: int) -> Hashable:
+        """What a node is called."""
+        return self.names.get(identity, identity)
+
     def node(self, identity: int) -> Node:
         """A node that has to be there."""
         if identity not in self.nodes:
@@ -49,7 +53,7 @@ class Edited:
         """The numbers of the ports of two nodes to each other."""
         front, back = self.node(one).port_to(other), self.node(other).port_to(one)
         if front is None or back is None:
-            raise DeskError(f"there is no edge {one} - {other} then")
+            raise DeskError(f"there is no edge {self.name(one)} - {self.name(other)} then")
         return front, back
 
     def state(self, identity: int, state: State) -> None:
@@ -69,9 +73,9 @@ class Edited:
     def link(self, one: int, other: int, weight: int) -> None:
         """Adds an edge, by a new last port at both ends."""
         if one == other:
-            raise DeskError(f"an edge would lead from node {one} to itself")
+            raise DeskError(f"an edge would lead from node {self.name(one)} to itself")
         if self.node(one).port_to(other) is not None and self.node(other):
-            raise DeskError(f"the edge {one} - {other} is there already")
+            raise DeskError(f"the edge {self.name(one)} - {self.name(other)} is there already")
         self.node(other).ports.append(Port(one, weight))
         self.nodes[one].ports.append(Port(other, weight))
 
@@ -96,7 +100,7 @@ class Edited:
     def leave(self, identity: int) -> None:
         """Takes a node without ports away, and its label."""
         if self.node(identity).ports:
-            raise DeskError(f"node {identity} has ports to {', '.join(str(port.neighbour) for port in self.node(identity).ports)}; "
+            raise DeskError(f"node {self.name(identity)} has ports to {', '.join(str(self.name(port.neighbour)) for port in self.node(identity).ports)}; "
                             "its edges go first, by `unlink`")
         if len(self.nodes) == 1:
             raise DeskError(f"node {identity} is the only node")

@@ -3,6 +3,13 @@
 from __future__ import annotations
 
 
+def file_fault(error: OSError | UnicodeDecodeError) -> str:
+    """Why a file cannot be read or written, in words."""
+    if isinstance(error, UnicodeDecodeError):
+        return f"this is no text in UTF-8 (byte {error.start + 1} begins no sign)"
+    return (error.strerror or str(error)).lower()
+
+
 class DeskError(Exception):
     """What is wrong with a file or with the words of a call, and where.
 

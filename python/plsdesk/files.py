@@ -7,7 +7,7 @@ import sys
 from collections.abc import Hashable
 from pathlib import Path
 
-from plsdesk.fault import DeskError
+from plsdesk.fault import DeskError, file_fault
 from plsdesk.network import Network
 from plsdesk.readers import read_files, read_text
 from plsdesk.readers.options import ReadOptions
@@ -50,15 +50,19 @@ def write(text: str, out: str | None) -> None:
     try:
         Path(out).write_text(text, encoding="utf-8")
     except OSError as error:
-        raise DeskError(str(error), out) from error
+        raise DeskError(file_fault(error), out) from error
+
+
+def _bytes(path: str) -> bytes:
+    try:
+        return Path(path).read_bytes()
+    except OSError as error:
+        raise DeskError(file_fault(error), path) from error
 
 
 def read_bytes(paths: list[str]) -> bytes:
     """The bytes of files one behind another, or those of standard input where no file is given."""
-    try:
-        return b"".join(Path(path).read_bytes() for path in paths) if paths else sys.stdin.buffer.read()
-    except OSError as error:
-        raise DeskError(str(error), paths[0]) from error
+    return b"".join(map(_bytes, paths)) if paths else sys.stdin.buffer.read()
 
 
 __all__ = ["read_bytes", "read_network", "read_text", "write", "write_network"]

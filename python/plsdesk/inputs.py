@@ -10,7 +10,7 @@ from plsdesk.fault import DeskError
 from plsdesk.labels import LabelText, label_line, labels_text
 from plsdesk.limits import MOST_EVENTS, MOST_NUMBER, MOST_ROUNDS, MOST_WORD
 from plsdesk.network import Network, State, decimal
-from plsdesk.traces import Step, Trace, label_bits
+from plsdesk.traces import Step, Trace, in_step, node_label
 
 
 @dataclass(slots=True)
@@ -47,11 +47,11 @@ def _state(said: dict[str, object], identity: int, edited: Edited) -> State:
         target = said["pointer"]
         pointer = None if target is None else node.port_to(edited.identity_of(str(target)))
         if target is not None and pointer is None:
-            raise DeskError(f"node {identity} is to point at {target}, which is no neighbour of it then")
+            raise DeskError(f"node {edited.name(identity)} is to point at {target}, which is no neighbour of it then")
     mark, number = (decimal(str(said.get(what, now)), most)
                     for what, now, most in (("mark", node.state.mark, MOST_WORD), ("num", node.state.number, MOST_NUMBER)))
     if mark is None or number is None:
-        raise DeskError(f"the mark and the number of node {identity} are whole numbers, and a mark is at most {MOST_WORD}")
+        raise DeskError(f"the mark and the number of node {edited.name(identity)} are whole numbers, and a mark is at most {MOST_WORD}")
     return State(pointer, mark, number)
 
 
@@ -66,7 +66,7 @@ def edit_lines(step: Step, edited: Edited) -> list[str]:
 
 def _label_lines(step: Step, edited: Edited, trace: Trace) -> list[tuple[int, str]]:
     network = edited.network()
-    new = [(network.identity_of(one), label_bits(said, trace.scheme, trace.code, network)) for one, said in step.labels.items()]
+    new = [(network.identity_of(one), node_label(one, said, trace, network)) for one, said in step.labels.items()]
     edited.bits.update(new)
     return new
 
@@ -82,8 +82,9 @@ def recheck_inputs(trace: Trace) -> Iterator[Input]:
     rounds = 0
     for number, step in enumerate(trace.steps, start=1):
         before = Edited.of(edited.network(), edited.bits)
-        new = edit_lines(step, edited)
-        new += [f"label {label_line(identity, bits)}" for identity, bits in _label_lines(step, edited, trace)] + ["round"]
+        with in_step(number):
+            new = edit_lines(step, edited)
+            new += [f"label {label_line(identity, bits)}" for identity, bits in _label_lines(step, edited, trace)] + ["round"]
         if rounds == MOST_ROUNDS or lines + len(new) > MOST_EVENTS:
             yield _closed(current, head, "edits", body)
             current, body, rounds, lines = _recheck_input(trace, before), [], 0, 0

@@ -3,12 +3,14 @@
 from __future__ import annotations
 
 import json
-from collections.abc import Mapping
+from collections.abc import Hashable, Iterator, Mapping
+from contextlib import contextmanager
 from dataclasses import dataclass, field
 from typing import Any
 
 from plsdesk.fault import DeskError
-from plsdesk.network import Network
+from plsdesk.limits import MOST_WORD
+from plsdesk.network import Network, decimal
 from plsdesk.schemes import Scheme, Value, parse_scheme
 
 _IDENTITIES = ("root", "own", "parent", "fragment", "centroid", "a", "b")
@@ -96,6 +98,34 @@ def _check(step: dict[str, Any], place: str) -> None:
             not isinstance(one, list | dict) if count == 1 else isinstance(one, list) and len(one) == count for one in entries)
         if not entries_fit:
             raise DeskError(f"`{field_name}` is a list of {'words' if count == 1 else f'lists of {count} words'}", place)
+
+
+    for state in step.get("states", {}).values():
+        if unknown := set(state) - {"pointer", "mark", "num"}:
+            raise DeskError(f"a state has no field `{sorted(unknown)[0]}`", place, "its fields are pointer, mark, num")
+    for one, other, weight in (*step.get("links", []), *step.get("weights", [])):
+        if decimal(str(weight), MOST_WORD) is None:
+            raise DeskError(f"the weight of the edge {one} - {other} is {weight}, and has to be a whole number from 0 to {MOST_WORD}", place)
+    for one in step.get("joins", []):
+        if decimal(str(one), MOST_WORD) is None:
+            raise DeskError(f"a node that joins is said by its identity, a number, and {one} is none", place)
+
+
+@contextmanager
+def in_step(number: int) -> Iterator[None]:
+    """Has an error that names no place name the step in which it came up."""
+    try:
+        yield
+    except DeskError as error:
+        raise DeskError(error.what, error.place or f"step {number}", error.mend) from error
+
+
+def node_label(one: Hashable, said: Mapping[str, Any] | str, trace: Trace, network: Network) -> str:
+    """The bits of the label that a step says of a node; an error names the node."""
+    try:
+        return label_bits(said, trace.scheme, trace.code, network)
+    except DeskError as error:
+        raise DeskError(f"the label of {one}: {error.what}", error.place, error.mend) from error
 
 
 def label_bits(said: Mapping[str, Any] | str, scheme: str, code: str, network: Network) -> str:

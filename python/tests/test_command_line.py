@@ -88,6 +88,24 @@ class Commands(unittest.TestCase):
         out, _ = self.desk("explain", "mark", "tree", given="network\r\n", status=3)
         self.assertIn("CR LF", out)
 
+    def test_a_line_is_one_of_its_file(self) -> None:
+        racks = str(EXAMPLES / "racks.dot")
+        self.desk("import", racks, "-o", "net.txt")
+        self.desk("mark", "tree", "net.txt", "-o", "labels.txt")
+        Path(self.folder.name, "upper.txt").write_text(self.text("labels.txt").replace("label 3 6 4", "label 3 6 A"))
+        Path(self.folder.name, "edits.txt").write_text("edits\nround\nend\n")
+        Path(self.folder.name, "empty.txt").write_text("")
+        Path(self.folder.name, "values.json").write_text('{"Oslo": {}}')
+        line = 1 + self.text("upper.txt").split("\n").index(next(one for one in self.text("upper.txt").split("\n") if " A" in one))
+        self.assertTrue(self.desk("verify", "tree", racks, "upper.txt", status=3)[1].startswith(f"upper.txt, line {line}: "))
+        self.assertTrue(self.desk("verify", "tree", racks, "empty.txt", status=3)[1].startswith("empty.txt: the input ends here"))
+        _, error = self.desk("verify", "tree", racks, "labels.txt", "--schedule", "edits.txt", status=3)
+        self.assertTrue(error.startswith("edits.txt, line 1: an edits part begins here"), error)
+        out, _ = self.desk("explain", "-i", "net.txt", "-i", "upper.txt", "verify", "tree", status=3)
+        self.assertIn(f", which is line {line} of upper.txt: ", out)
+        self.assertIn("upper.txt, line ", self.desk("decode", "tree", "upper.txt", status=2)[1])
+        self.assertIn("say --network", self.desk("decode", "tree", "values.json", "--encode", status=2)[1])
+
     def test_messages(self) -> None:
         Path(self.folder.name, "schedule.txt").write_text("schedule\nemit 1 0\narrive 1\nend\n")
         self.desk("import", "-", "--format", "edges", "--tree", "bfs", "-o", "net.txt", given="1 2\n")
@@ -117,7 +135,7 @@ class Commands(unittest.TestCase):
         racks = str(EXAMPLES / "racks.dot")
         for words, wanted in ((("draw", racks, "--report", "wrong"), "no report of pls"), (("import",), "--made KIND:NODES"),
                               (("decode", "tree", "wrong", "--encode"), "no values as --json"), (("trace", "tree", racks, "wrong"), "no JSON"),
-                              (("import", "none.edges"), "No such file"), (("import", "x.abc"), "No such file"),
+                              (("import", "none.edges"), "no such file"), (("import", "x.abc"), "no such file"),
                               (("draw", str(EXAMPLES / "racks.dot"), "--labels", "none"), "say --scheme E"),
                               (("decode", "tree", str(EXAMPLES / "chain.txt")), "there is no labels part"),
                               (("decode", "tre", str(EXAMPLES / "wrong-root.txt")), "`tre` is no scheme"),

@@ -57,6 +57,13 @@ FAULTS: tuple[tuple[str, str, str], ...] = (
     ("edges", "a b {'weight': }\n", "line 1: the attributes behind the edge are no dictionary"),
     ("edges", "a b -1\n", "line 1: the weight of the edge a - b is -1"),
     ("edges", "# nothing\n", "there is no node"),
+    ("edges", "a b\nb->a\n", "line 2: `b->a` is one word"),
+    ("edges", "Oslo,Bergen\n", "line 1: words are separated by blanks"),
+    ("edges", "Oslo, Bergen, 4\n", "line 1: words are separated by blanks"),
+    ("edges", '"New York" Oslo\n', "line 1: a quotation mark begins here"),
+    ("adjacency", "a: b c\n", "line 1: words are separated by blanks"),
+    ("graphml", "<graphml><graph><node id='a'/><edge source='a' target='b'/></graph></graphml>", "line 1: no node has the id b"),
+    ("csv", "source;target\na;b\n", "line 1: a table has the columns"),
     ("adjacency", "a b\nb b\n", "line 2: node b is linked to itself"),
     ("adjacency", "a b c\na b\n", "line 2: the edge a - b is there twice"),
     ("csv", "a,b\n1,2\n", "line 1: a table has the columns `source` and `target`"),
@@ -138,6 +145,29 @@ class Readers(unittest.TestCase):
             self.assertRaisesRegex(DeskError, "two.states, line 2: node b points at c along no edge", read_files, *files)
             two.write_text("a b 5\n")
             self.assertRaisesRegex(DeskError, "two.states, line 1: .* first at .*one.edges, line 1", read_files, *files)
+
+    def test_files_that_are_no_networks(self) -> None:
+        line = "network\nnode 1 - 0 0\nend\n"
+        for name, text, wanted in (("a.txt", line.replace("\n", "\r\n"), "a.txt, line 1: the line ends with CR LF"),
+                                   ("a.txt", line.replace("1 -", "1\t-"), "a.txt, line 2: there is a tab"), ("a.txt", "", "a.txt: the file is empty"),
+                                   ("a.txt", "labels\nend\n", "a.txt, line 1: `labels` begins another part"),
+                                   ("a.edges", "\udcff", "a.edges: this is no text in UTF-8")):
+            with tempfile.TemporaryDirectory() as folder, self.subTest(text):
+                path = Path(folder, name)
+                path.write_bytes(text.encode("utf-8", "surrogateescape"))
+                self.assertRaisesRegex(DeskError, wanted, read_files, [str(path)], None, ReadOptions())
+
+    def test_a_node_may_be_called_as_a_part_is(self) -> None:
+        with tempfile.TemporaryDirectory() as folder:
+            path = Path(folder, "a.edges")
+            path.write_text("labels\nlabels rules\n")
+            self.assertEqual(read_files([str(path)], None, ReadOptions()).names, {1: "labels", 2: "rules"})
+
+    def test_an_attribute_that_is_asked_for_is_there(self) -> None:
+        file = [str(EXAMPLES / "abilene.gml")]
+        self.assertRaisesRegex(DeskError, "no edge has the attribute Speed .*weight", read_files, file, None, ReadOptions(weight="Speed"))
+        self.assertRaisesRegex(DeskError, "no node has the attribute Role .*Country", read_files, file, None, ReadOptions(mark="Role"))
+        self.assertEqual(len(read_files(file, None, ReadOptions(weight="Speed", unweighted=True)).nodes), 11)
 
     def test_a_repeated_edge_from_its_other_end_is_one(self) -> None:
         self.assertEqual(len(read("edges", "a b 2\nb a 2\n").edges()), 1)

@@ -57,6 +57,15 @@ class Drawn(unittest.TestCase):
         self.assertIn("doublecircle", dot_picture(scene))
         self.assertEqual(len(read("dot", dot_picture(scene)).edges()), len(network.edges()))
 
+    def test_weights_beside_the_tree_are_inside_of_the_picture(self) -> None:
+        network = example("petersen.graphml")
+        point_along(network, "mst", [])
+        picture = ElementTree.fromstring(svg_picture(scene_of(network)))
+        left, _, width, _ = map(float, picture.attrib["viewBox"].split())
+        self.assertLess(left, 0)
+        for one in picture.iter(SVG + "text"):
+            self.assertTrue(left + 10 <= float(one.attrib["x"]) <= left + width - 10, one.text)
+
     def test_nodes_do_not_stand_on_one_another(self) -> None:
         for network in (example("karate.edges", "karate.states"), example("abilene.edges", "abilene.states"), example("florentine.adjlist"), grid(9)):
             scene = scene_of(network)

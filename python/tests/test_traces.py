@@ -143,19 +143,27 @@ class Faults(unittest.TestCase):
     def test_steps(self) -> None:
         for text, wanted in (("[", "no JSON"), ("{}", "a list of steps"), ('[{"heard": []}]', "step 1: a step has no field `heard`"),
                              ('[{"hears": [["a"]]}]', "step 1: `hears` is a list of lists of 2 words"), ('[{"restarts": "a"}]', "a list of words"),
-                             ('[{"labels": []}]', "`labels` is an object"), ('[{"states": {"a": 1}}]', "a state is an object")):
+                             ('[{"labels": []}]', "`labels` is an object"), ('[{"states": {"a": 1}}]', "a state is an object"),
+                             ('[{"states": {"a": {"up": null}}}]', "step 1: a state has no field `up`"),
+                             ('[{"links": [["a", "b", 1.5]]}]', "step 1: the weight of the edge a - b is 1.5"),
+                             ('[{"joins": ["Oslo"]}]', "step 1: a node that joins .* Oslo is none")):
             self.assertRaisesRegex(DeskError, wanted, parse_steps, text)
         self.assertEqual(parse_steps(json.dumps({"steps": [{"name": "x"}]})), [Step("x")])
 
     def test_steps_that_cannot_be_made(self) -> None:
         network = read("edges", "a b\nb c\nb -> a\nc -> b\n")
         for step, wanted in ((Step(hears=[["a", "c"]]), "no edge joins them"), (Step(arrives=["m"]), "no message m"),
-                             (Step(states={"a": {"pointer": "c"}}), "no neighbour"), (Step(unlinks=[["a", "c"]]), "no edge 1 - 3"),
+                             (Step(states={"a": {"pointer": "c"}}), "no neighbour"), (Step(unlinks=[["a", "c"]]), "step 1: there is no edge a - c"),
                              (Step(labels={"x": "01"}), "no node x"), (Step(labels={"a": {"depth": 1}}), "has the fields root, depth"),
-                             (Step(leaves=["a"]), "has ports to 2"), (Step(labels={"a": "012"}), "no label"),
+                             (Step(leaves=["a"]), "node a has ports to b"), (Step(labels={"a": "012"}), "the label of a: `012` is no label"),
                              (Step(labels={"a": {"root": "a", "depth": None}}), "no value of a label"), (Step(states={"a": {"mark": -1}}), "whole")):
             with self.subTest(step), self.assertRaisesRegex(DeskError, wanted):
                 play(program(), trace_of(network, "tree", [step]))
+
+    def test_the_step_is_named(self) -> None:
+        network = read("edges", "a b\nb -> a\n")
+        for steps in ([Step(), Step(labels={"x": "01"})], [Step(hears=[["a", "b"]]), Step(arrives=["m"])]):
+            self.assertRaisesRegex(DeskError, "^step 2: ", play, program(), trace_of(network, "tree", steps))
 
     def test_names_stand_for_identities_in_labels(self) -> None:
         network = read("edges", "a b\nb -> a\n")

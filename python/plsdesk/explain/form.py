@@ -34,6 +34,11 @@ def _cut(line: str) -> str:
     return line if len(line) <= 40 else line[:40] + ".."
 
 
+def _a(part: str) -> str:
+    """The name of a part behind its article."""
+    return f"an {part}" if part[0] in "aeiou" else f"a {part}"
+
+
 def _missing_line(place: str, here: Standing) -> Explanation:
     if here.heading_due and here.part is not None:
         behind = f"behind the {here.part_in_front} part " if here.part_in_front else ""
@@ -105,8 +110,8 @@ def _other_part(place: str, line: str, here: Standing, command: str) -> Explanat
     if part == here.part_in_front:
         return Explanation(place, f"a second {part} part begins here, and `{command}` reads one")
     due = f"the {here.part} part is due here" if here.part else "nothing more is due here"
-    return Explanation(place, f"a {part} part begins here, which is a part of another command: `{command}` reads "
-                       f"{', '.join(parts_of([command]))}, and {due}", f"a {part} part is read by {READERS[part]}")
+    return Explanation(place, f"{_a(part)} part begins here, which is a part of another command: `{command}` reads "
+                       f"{', '.join(parts_of([command]))}, and {due}", f"{_a(part)} part is read by {READERS[part]}")
 
 
 def _inside(place: str, line: str, here: Standing) -> Explanation | None:
@@ -145,13 +150,13 @@ def _other_line(place: str, line: str, word: str, part: str) -> Explanation:
     instead = {("watch", "label"): "relabel", ("watch", "round"): "look", ("edits", "look"): "round", ("edits", "relabel"): "label",
                ("edits", "node"): "join or state", ("edits", "port"): "link"}.get((part, word))
     if instead is not None:
-        return Explanation(place, f"`{word}` is no line of a {part} part: there it is `{instead}`")
+        return Explanation(place, f"`{word}` is no line of {_a(part)} part: there it is `{instead}`")
     if line in HEADINGS:
-        return Explanation(place, f"a {word} part begins here, and the {part} part in front of it has no line `end`", "close it with `end`")
+        return Explanation(place, f"{_a(word)} part begins here, and the {part} part in front of it has no line `end`", "close it with `end`")
     for other, lines in LINES.items():
         if word in lines:
-            return Explanation(place, f"`{word}` is a line of a {other} part, and stands here in a {part} part",
-                               f"a {other} part is read by {READERS[other]}")
+            return Explanation(place, f"`{word}` is a line of {_a(other)} part, and stands here in {_a(part)} part",
+                               f"{_a(other)} part is read by {READERS[other]}")
     if word.lower() in forms or word.lower() == "end":
         return Explanation(place, f"words are written in small letters (did you mean `{word.lower()}`?)")
     return Explanation(place, f"`{_cut(line)}` is no line of the {part} part{did_you_mean(word, [*forms, 'end'])}",

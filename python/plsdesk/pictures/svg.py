@@ -11,6 +11,7 @@ from plsdesk.pictures.scene import COLOURS, DrawnEdge, DrawnNode, Scene
 
 _BELOW = 15.0  # from a line of words to the next
 _BENDS = (0.14, -0.14, 0.3, -0.3, 0.5, -0.5)  # of an edge that is no pointer, as shares of its length
+_WEIGHT = 18.0  # half of the room for the weight of an edge
 _MOST_AVOIDED = 60  # nodes in a picture whose edges go round them
 _FRAGMENTS = ("#4c78a8", "#f58518", "#54a24b", "#b279a2", "#9d755d", "#72b7b2", "#e45756", "#eeca3b")
 _MEANINGS = {"reject": "rejects", "waiting": "waits", "stale": "holds an old label"}
@@ -26,15 +27,19 @@ def svg_picture(scene: Scene, places: Places | None = None, unique: str = "") ->
     kinds = [kind for kind in _MEANINGS if any(node.colour == COLOURS[kind] for node in scene.nodes)]
     nodes = {node.identity: node for node in scene.nodes}
     middles = {(edge.one, edge.other): _middle(edge, places) for edge in scene.edges}
+    weighted = any(edge.weight != 1 for edge in scene.edges)
+    bends = [(places[one][0] + places[other][0] + 2 * x) / 4 for (one, other), (x, _) in middles.items()]
+    left = math.floor(min([0.0, *(bend - _WEIGHT * weighted for bend in bends)]))
     width = max([x + half_width(nodes[one].name) for one, (x, _) in places.items() if one in nodes] + [260]) + MARGIN
+    width = max([width, *(bend + _WEIGHT * weighted for bend in bends)])
     height = max([y for _, y in places.values()] + [(places[one][1] + y) / 2 for (one, _), (_, y) in middles.items()]) + MARGIN + _BELOW
+    moved = f' x="{left}"' if left else ""
     line = max(20.0, width / 36)  # of the legend, which grows with the picture
     full = height + line * (len(kinds) + bool(scene.note))
-    parts = [f'<svg xmlns="http://www.w3.org/2000/svg" viewBox="0 0 {width:.0f} {full:.0f}" width="{width:.0f}" height="{full:.0f}">',
+    parts = [f'<svg xmlns="http://www.w3.org/2000/svg" viewBox="{left} 0 {width - left:.0f} {full:.0f}" width="{width - left:.0f}" height="{full:.0f}">',
              f"<style>{_STYLE}</style>",
              f'<defs><marker id="arrow{unique}" viewBox="0 0 8 8" refX="7" refY="4" markerWidth="6" markerHeight="6" orient="auto-start-reverse">'
-             '<path d="M0 0L8 4L0 8z" fill="#222"/></marker></defs>', '<rect width="100%" height="100%" fill="#fff"/>']
-    weighted = any(edge.weight != 1 for edge in scene.edges)
+             '<path d="M0 0L8 4L0 8z" fill="#222"/></marker></defs>', f'<rect{moved} width="100%" height="100%" fill="#fff"/>']
     colours = _fragment_colours(scene)
     for edge in sorted(scene.edges, key=lambda edge: edge.arrow or edge.back):
         band = colours.get(nodes[edge.one].level, "") if edge.inside else ""

@@ -5,7 +5,7 @@ from __future__ import annotations
 from plsdesk.builder import NetworkBuilder
 from plsdesk.fault import DeskError
 from plsdesk.network import Network, State
-from plsdesk.readers.edges import plain_name
+from plsdesk.readers.edges import check_words, plain_name
 from plsdesk.readers.options import ReadOptions
 
 
@@ -17,6 +17,7 @@ def read(text: str, builder: NetworkBuilder, options: ReadOptions) -> None:
         place = f"line {number}"
         if not words:
             continue
+        check_words(words, place)
         builder.node(words[0], place)
         for neighbour in words[1:]:
             builder.edge(words[0], neighbour, 1, place)

@@ -12,6 +12,7 @@ from plsdesk.readers.options import ReadOptions
 def add_edge(builder: NetworkBuilder, ends: tuple[Hashable, Hashable], attributes: Mapping[str, object],
              place: str, options: ReadOptions) -> None:
     """An edge with the weight that its attributes say, or of weight 1."""
+    builder.attributes["edge"].update(attributes)
     weight = 1 if options.unweighted else attributes.get(options.weight, 1)
     builder.edge(ends[0], ends[1], weight, place)
 
@@ -23,6 +24,7 @@ def add_node(builder: NetworkBuilder, name: Hashable, attributes: Mapping[str, o
     `name_of` gives the name of the node that a pointer attribute speaks of.
     """
     builder.node(name, place)
+    builder.attributes["node"].update(attributes)
     target = attributes.get(options.pointer, "")
     if target not in ("", None):
         builder.point(name, name_of(target), place)

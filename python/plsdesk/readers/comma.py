@@ -37,7 +37,7 @@ def _heading(row: list[str], place: str) -> list[str]:
     if "node" in heading or ("source" in heading and "target" in heading):
         return heading
     raise DeskError("a table has the columns `source` and `target`, or a column `node`", place,
-                    "put such a heading above the rows")
+                    "write commas for semicolons" if len(row) == 1 and ";" in row[0] else "put such a heading above the rows")
 
 
 def _row(cells: dict[str, str], width: int, heading: list[str], place: str, builder: NetworkBuilder,

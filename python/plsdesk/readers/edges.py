@@ -20,10 +20,13 @@ _TOO_MANY = "an edge is two nodes and at most a weight"
 
 def read(text: str, builder: NetworkBuilder, options: ReadOptions) -> None:
     """Tells a builder all that an edge list says."""
+    is_plain = not any(sign in text for sign in ('"', ",", ":", "->"))
     for number, line in enumerate(text.splitlines(), start=1):
         line = line.partition("#")[0]
         words = line.split()
         place = f"line {number}"
+        if not is_plain and "{" not in line:
+            check_words(words, place)
         if len(words) == 2:
             builder.edge(words[0], words[1], 1, place)
         elif len(words) == 1:
@@ -35,6 +38,19 @@ def read(text: str, builder: NetworkBuilder, options: ReadOptions) -> None:
         elif words:
             raise DeskError(f"{_TOO_MANY}; here are {len(words)} words", place,
                             "is this an adjacency list? then say --format adjacency")
+
+
+def check_words(words: list[str], place: str) -> None:
+    """Refuses words that are no names, as those of a line whose words are separated by commas."""
+    for word in words:
+        if word.startswith('"'):
+            raise DeskError("a quotation mark begins here, and a name in a list is one word without blanks", place,
+                            "gml, graphml, dot and csv have names with blanks")
+        if "->" in word and word != "->":
+            raise DeskError(f"`{word}` is one word, and a pointer is `A -> B` with blanks around the arrow", place)
+        if word.endswith((",", ":")) or (len(words) == 1 and "," in word):
+            raise DeskError("words are separated by blanks, and here stands a comma or colon", place,
+                            "tr ',:' '  ' < FILE; or is this a table with a heading? then say --format csv")
 
 
 def _three_words(words: list[str], builder: NetworkBuilder, place: str, options: ReadOptions) -> None:
@@ -79,6 +95,11 @@ def write(network: Network) -> str:
 def plain_name(network: Network, identity: int) -> str:
     """A node's name, which a list of words has to be able to hold."""
     name = str(network.name(identity))
-    if len(name.split()) != 1 or name.split()[0] != name or any(sign in name for sign in "#{"):
+    held = len(name.split()) == 1 and name.split()[0] == name and not any(sign in name for sign in "#{")
+    try:
+        check_words([name], "")
+    except DeskError:
+        held = False
+    if not held or name == "->":
         raise DeskError("a list of words cannot hold this name", f"node {name!r}", "write gml, graphml, dot or csv")
     return name

@@ -71,6 +71,7 @@ def read(text: str, builder: NetworkBuilder, options: ReadOptions) -> None:
         parser.Parse(text.encode("utf-8"), True)
     except expat.ExpatError as error:
         raise DeskError(f"this is no XML: {expat.ErrorString(error.code)}", f"line {error.lineno}") from error
+    declared = {element.attributes.get("id") for element in handler.elements if element.kind == "node"}
     for element in handler.elements:
         place = f"line {element.line}"
         kinds = {kind: value for (scope, kind), value in handler.defaults.items() if scope in (element.kind, "all")}
@@ -78,7 +79,11 @@ def read(text: str, builder: NetworkBuilder, options: ReadOptions) -> None:
         if element.kind == "node":
             add_node(builder, _attribute(element, "id"), data, place, options)
         else:
-            add_edge(builder, (_attribute(element, "source"), _attribute(element, "target")), data, place, options)
+            ends = (_attribute(element, "source"), _attribute(element, "target"))
+            for end in ends:
+                if end not in declared:
+                    raise DeskError(f"no node has the id {end}", place)
+            add_edge(builder, ends, data, place, options)
 
 
 def _attribute(element: _Element, name: str) -> str:
