@@ -6,7 +6,7 @@ ghost use Rattle.pls_base.specs.Gathered.{Writes};
 ghost use Rattle.pls_base.specs.Streams.{AppendsPart, Rose, StaysSure};
 ghost use Rattle.pls_report.specs.Look.{look_closing, look_text};
 
-use crate::look_counting::{rejecting_rows, stale_rows, waiting_rows};
+use crate::look_counting::counts_of;
 use crate::look_row::LookRow;
 use pls_base::{Fault, Gathered, Sink};
 
@@ -63,16 +63,14 @@ fn write_look_closing<K: Sink>(
         (K.faults sink.old) (K.faults sink.new) (K.IsSureOf sink.old) (K.IsSureOf sink.new)
         result (look_closing number rows.now ++ 10 ∷ []) }
 {
-    let rejecting = rejecting_rows(rows);
-    let waiting = waiting_rows(rows);
-    let stale = stale_rows(rows);
+    let counts = counts_of(rows);
     write_counts(
         sink,
         gathered,
         number,
-        rejecting as u64,
-        waiting as u64,
-        stale as u64,
+        counts.rejecting as u64,
+        counts.waiting as u64,
+        counts.stale as u64,
     )
 }
 

@@ -1,6 +1,6 @@
 //! How many nodes of a look reject, wait and tell of stale ports, and whether all is well.
 
-ghost use Rattle.std.specs.Prelude.{◌≡◌};
+ghost use Rattle.std.specs.Prelude.{◌≡◌, cond};
 ghost use Rattle.pls_report.specs.Look.{look_is_well, rejecting_rows, stale_rows, told_ports, waiting_rows};
 
 use crate::counting::{accepts, rejects, waits};
@@ -15,27 +15,37 @@ pub fn look_is_well(rows: &[LookRow]) -> bool
         .all(|row| accepts(row.outcome()) && row.stale().is_empty())
 }
 
-/// How many nodes reject.
-pub(crate) fn rejecting_rows(rows: &[LookRow]) -> usize
-    ensures { result ≡ rejecting_rows rows.now }
-{
-    rows.iter().filter(|row| rejects(row.outcome())).count()
+/// How many nodes of a look reject, how many wait, and how many have a line with stale ports.
+#[derive(Clone, Copy, Debug, PartialEq, Eq)]
+pub(crate) struct LookCounts {
+    pub(crate) rejecting: usize,
+    pub(crate) waiting: usize,
+    pub(crate) stale: usize,
 }
 
-/// How many nodes wait.
-pub(crate) fn waiting_rows(rows: &[LookRow]) -> usize
-    ensures { result ≡ waiting_rows rows.now }
+/// What the line that closes a look counts, in one walk.
+pub(crate) fn counts_of(rows: &[LookRow]) -> LookCounts
+    ensures rejecting { result.rejecting ≡ rejecting_rows rows.now }
+    ensures waiting { result.waiting ≡ waiting_rows rows.now }
+    ensures stale { result.stale ≡ stale_rows rows.now }
 {
-    rows.iter().filter(|row| waits(row.outcome())).count()
+    let (mut rejecting, mut waiting, mut stale) = (0, 0, 0);
+    for row in rows {
+        rejecting += one_if(rejects(row.outcome()));
+        waiting += one_if(waits(row.outcome()));
+        stale += one_if(!told_ports(row.outcome(), row.stale()).is_empty());
+    }
+    LookCounts {
+        rejecting,
+        waiting,
+        stale,
+    }
 }
 
-/// How many nodes have a line with stale ports.
-pub(crate) fn stale_rows(rows: &[LookRow]) -> usize
-    ensures { result ≡ stale_rows rows.now }
+fn one_if(holds: bool) -> usize
+    ensures { result ≡ cond holds 1 0 }
 {
-    rows.iter()
-        .filter(|row| !told_ports(row.outcome(), row.stale()).is_empty())
-        .count()
+    if holds { 1 } else { 0 }
 }
 
 /// The stale ports that a node's line tells of.

@@ -72,11 +72,15 @@ impl LookRow {
         self.stale.as_slice()
     }
 
-    /// Shows other ports as stale. The one error is want of memory: the row is then as it was.
+    /// Shows other ports as stale. The line is made anew only where they are others. The one error
+    /// is want of memory: the row is then as it was.
     pub fn set_stale(&mut self, alloc: Global, stale: PortNumbers) -> Result<(), NoMemory>
         ensures stale { OnOk result (self.new ≡ (self.old.0, self.old.1, stale)) }
         ensures unchanged { OnErr result (self.new ≡ self.old) }
     {
+        if self.stale.as_slice() == stale.as_slice() {
+            return Ok(());
+        }
         self.line = node_line(alloc, self.id, &self.outcome, stale.as_slice())?;
         self.stale = stale;
         Ok(())

@@ -15,4 +15,5 @@ pub mod Looked
 pub mod Table
 pub mod Ahead
 pub mod Staying
+pub mod Noted
 pub mod Current

@@ -1,59 +1,123 @@
 //! What of each node changed since the last look.
 
-ghost use Rattle.std.specs.Prelude.{◌≡◌, ◌<◌, IfNone, IfSome, length, replicate, slice_index_or, slice_set};
-ghost use Rattle.std.specs.List.{list_any};
-ghost use Rattle.pls_watch.specs.inner.Current.{change_after, got_label};
+ghost use Rattle.std.specs.Prelude.{◌≡◌, ◌≢◌, ◌<◌, ℕ, All, IfOk, IfSome, length, replicate, slice_get, slice_index_or, slice_set, Some};
+ghost use Rattle.pls_graph.specs.Places.{beside};
+ghost use Rattle.pls_watch.specs.inner.Current.{AreLabelsNoted, IsMoreNoted, IsNoted, IsNotedAround, is_relabel, with_beside, with_held};
 
+use pls_base::NoMemory;
+use pls_graph::Network;
 use pls_watch_part::WatchEvent;
+use std::alloc::Global;
 
 /// What of a node changed since the last look.
 #[derive(Clone, Copy, Debug, PartialEq, Eq)]
 pub(crate) enum Change {
     /// Nothing.
     Nothing,
+    /// A neighbour got a label: another port may be stale.
+    Beside,
     /// What it holds of its neighbours' labels.
     Held,
     /// Its own label.
     Label,
 }
 
-/// Notes that the node at a place, if there is one, knows something else after an event.
-pub(crate) fn note(changes: &mut Vec<Change>, place: Option<usize>, event: &WatchEvent)
-    requires { IfSome place (λ place. place < length changes.old.items) }
-    ensures some { IfSome place (λ place. changes.new.items ≡ slice_set changes.old.items place
-        (change_after event.now (slice_index_or changes.old.items place Change.Nothing))) }
-    ensures none { IfNone place (changes.new.items ≡ changes.old.items) }
+/// Of each of so many nodes nothing changed. The one error is want of memory.
+pub(crate) fn no_changes(alloc: Global, count: usize) -> Result<Vec<Change>, NoMemory>
+    ensures { IfOk result (λ changes. changes.items ≡ replicate count Change.Nothing) }
+{
+    Ok(vec![in alloc; Change::Nothing; count]?)
+}
+
+/// Notes that the node at a place, if there is one, knows something else after an event, and of a
+/// node that got a label, at its first one, that its neighbours are beside it.
+pub(crate) fn note(
+    net: &Network,
+    changes: &mut Vec<Change>,
+    place: Option<usize>,
+    event: &WatchEvent,
+)
+    requires each { length changes.old.items ≡ length net.now }
+    requires labels { AreLabelsNoted net.now changes.old.items }
+    requires within { IfSome place (λ place. place < length net.now) }
+    ensures { IsNoted net.now event.now place changes.old.items changes.new.items }
 {
     let Some(place) = place else {
         return;
     };
-    changes[place] = change_after(event, changes[place]);
-}
-
-// What of a node changed, where something had and then it knows something else after an event.
-fn change_after(event: &WatchEvent, before: Change) -> Change
-    ensures { result ≡ change_after event.now before }
-{
-    match (event, before) {
-        (WatchEvent::Relabel { .. }, _) | (_, Change::Label) => Change::Label,
-        _ => Change::Held,
+    if is_relabel(event) {
+        note_label(net, changes, place);
+    } else {
+        note_held(changes, place);
     }
 }
 
-/// Whether the node at one of these places got a label.
-pub(crate) fn any_got_label(changes: &[Change], places: &[u32]) -> bool
-    ensures { result ≡ list_any (got_label changes.now) places.now }
+// Whether an event gives a label.
+fn is_relabel(event: &WatchEvent) -> bool
+    ensures { result ≡ is_relabel event.now }
 {
-    places.iter().any(|place| got_label(changes, *place))
+    matches!(event, WatchEvent::Relabel { .. })
 }
 
-// Whether the node at a place got a label.
-fn got_label(changes: &[Change], place: u32) -> bool
-    ensures { result ≡ got_label changes.now place }
+// Notes that the node at a place got a label.
+fn note_label(net: &Network, changes: &mut Vec<Change>, place: usize)
+    requires each { length changes.old.items ≡ length net.now }
+    requires labels { AreLabelsNoted net.now changes.old.items }
+    requires within { place < length net.now }
+    ensures more { IsMoreNoted changes.old.items changes.new.items }
+    ensures labels { AreLabelsNoted net.now changes.new.items }
+    ensures here { slice_get changes.new.items place ≡ Some Change.Label }
 {
-    match changes.get(place as usize) {
-        Some(Change::Label) => true,
-        _ => false,
+    match changes[place] {
+        Change::Label => {}
+        _ => {
+            note_beside(changes, net.places(place));
+            changes[place] = Change::Label;
+        }
+    }
+}
+
+// Notes that the nodes at some places are beside a new label.
+fn note_beside(changes: &mut Vec<Change>, places: &[u32])
+    requires { All (λ place. place < length changes.old.items) places.now }
+    ensures more { IsMoreNoted changes.old.items changes.new.items }
+    ensures labels { (i : ℕ) → slice_get changes.new.items i ≡ Some Change.Label
+        → slice_get changes.old.items i ≡ Some Change.Label }
+    ensures all { (p there : ℕ) → slice_get places.now p ≡ Some there
+        → slice_get changes.new.items there ≢ Some Change.Nothing }
+{
+    for beside in places {
+        let place = *beside as usize;
+        changes[place] = with_beside(changes[place]);
+    }
+}
+
+// What of a node changed, where a neighbour got a label.
+fn with_beside(before: Change) -> Change
+    ensures { result ≡ with_beside before }
+{
+    match before {
+        Change::Nothing => Change::Beside,
+        _ => before,
+    }
+}
+
+// Notes that the node at a place holds something else.
+fn note_held(changes: &mut Vec<Change>, place: usize)
+    requires { place < length changes.old.items }
+    ensures { changes.new.items ≡ slice_set changes.old.items place
+        (with_held (slice_index_or changes.old.items place Change.Nothing)) }
+{
+    changes[place] = with_held(changes[place]);
+}
+
+// What of a node changed, where it holds something else.
+fn with_held(before: Change) -> Change
+    ensures { result ≡ with_held before }
+{
+    match before {
+        Change::Label => Change::Label,
+        _ => Change::Held,
     }
 }
 

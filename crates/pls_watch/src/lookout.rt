@@ -4,10 +4,10 @@ ghost use Rattle.std.specs.Prelude.{◌≡◌, ◌≢◌, ◌<◌, ℕ, length, 
 ghost use Rattle.pls_model.specs.declared.row.NodeRow.{NodeRow};
 ghost use Rattle.pls_scheme.specs.Judging.{RoseByAtMost};
 ghost use Rattle.pls_watch.specs.Watching.{look_of, watch_refusal, watching};
-ghost use Rattle.pls_watch.specs.inner.Current.{IsCurrent, IsRenewed};
+ghost use Rattle.pls_watch.specs.inner.Current.{IsRenewed};
 ghost use Rattle.pls_watch.specs.inner.Known.{IsTable};
 
-use crate::change::{Change, any_got_label, forget, note};
+use crate::change::{Change, forget, no_changes, note};
 use crate::versions::noughts;
 use crate::watch::Watch;
 use pls_base::{NoMemory, Steps};
@@ -61,7 +61,7 @@ impl<'n, 'k, K: Checker> Lookout<'n, 'k, K> {
         ensures few_steps { RoseByAtMost (length watch.entry.network) steps.old steps.new }
     {
         let rows = watch.outcomes(alloc, checker, steps)?;
-        let changes = vec![in alloc; Change::Nothing; rows.len()]?;
+        let changes = no_changes(alloc, rows.len())?;
         Ok(Lookout {
             watch,
             checker,
@@ -70,7 +70,8 @@ impl<'n, 'k, K: Checker> Lookout<'n, 'k, K> {
         })
     }
 
-    /// Takes one more event, as [`Watch::step`] does. What was shown stays until the next look.
+    /// Takes one more event, as [`Watch::step`] does. What was shown stays until the next look. The
+    /// first label that a node gets since the last look takes a step for each of its ports besides.
     pub fn step(&mut self, event: &WatchEvent) -> Result<(), EventError>
         ensures taken { OnOk result (self.new.watched ≡ watching event.now self.old.watched) }
         ensures checker { self.new.checker ≡ self.old.checker }
@@ -82,14 +83,15 @@ impl<'n, 'k, K: Checker> Lookout<'n, 'k, K> {
     {
         let place = self.watch.changes_at(event);
         self.watch.step(event)?;
-        note(&mut self.changes, place, event);
+        note(self.watch.network(), &mut self.changes, place, event);
         Ok(())
     }
 
     /// Looks again. A node that knows what it knew at the last look is not judged, and its stale
     /// ports are only looked for where a neighbour got a label. It takes constant time for each
-    /// port, and what the checker takes for the views of those that are judged. The one error is
-    /// want of memory: it may then be that not all rows were renewed.
+    /// node, and for each port of those of which something changed, and what the checker takes for
+    /// the views of those that are judged. The one error is want of memory: it may then be that not
+    /// all rows were renewed.
     pub fn look(&mut self, alloc: Global, steps: &mut Steps) -> Result<(), NoMemory>
         ensures watched { self.new.watched ≡ self.old.watched }
         ensures checker { self.new.checker ≡ self.old.checker }
@@ -97,14 +99,10 @@ impl<'n, 'k, K: Checker> Lookout<'n, 'k, K> {
             (self.new.rows ≡ look_of (K.judge self.old.checker) self.old.watched) }
         ensures few_steps { RoseByAtMost (length self.old.watched.network) steps.old steps.new }
     {
-        renew_all(
-            alloc,
-            &self.watch,
-            self.checker,
-            self.changes.as_slice(),
-            &mut self.rows,
-            steps,
-        )?;
+        let mut table = noughts(alloc, self.rows.len())?;
+        for i in 0..self.rows.len() {
+            self.renew(alloc, i, &mut table, steps)?;
+        }
         forget(&mut self.changes);
         Ok(())
     }
@@ -115,59 +113,36 @@ impl<'n, 'k, K: Checker> Lookout<'n, 'k, K> {
     {
         self.rows.as_slice()
     }
-}
 
-// Renews the rows of all nodes of which something changed.
-fn renew_all<K: Checker>(
-    alloc: Global,
-    watch: &Watch<'_>,
-    checker: &K,
-    changes: &[Change],
-    rows: &mut Vec<LookRow>,
-    steps: &mut Steps,
-) -> Result<(), NoMemory>
-    requires { IsCurrent (K.judge checker.now) watch.now changes.now rows.old.items }
-    ensures current { IsCurrent (K.judge checker.now) watch.now changes.now rows.new.items }
-    ensures all { OnOk result (rows.new.items ≡ look_of (K.judge checker.now) watch.now) }
-    ensures few_steps { RoseByAtMost (length watch.now.network) steps.old steps.new }
-{
-    let mut table = noughts(alloc, rows.len())?;
-    for i in 0..rows.len() {
-        renew(alloc, watch, checker, changes, i, rows, &mut table, steps)?;
-    }
-    Ok(())
-}
-
-// Renews the row of the node at place i where something of it changed, or got stale.
-fn renew<K: Checker>(
-    alloc: Global,
-    watch: &Watch<'_>,
-    checker: &K,
-    changes: &[Change],
-    i: usize,
-    rows: &mut Vec<LookRow>,
-    table: &mut Vec<u32>,
-    steps: &mut Steps,
-) -> Result<(), NoMemory>
-    requires place { i < length watch.now.network }
-    requires current { IsCurrent (K.judge checker.now) watch.now changes.now rows.old.items }
-    requires table { IsTable watch.now table.old.items }
-    ensures table { IsTable watch.now table.new.items }
-    ensures renewed { OnOk result
-        (IsRenewed (K.judge checker.now) watch.now i rows.old.items rows.new.items) }
-    ensures unchanged { OnErr result (rows.new.items ≡ rows.old.items) }
-    ensures few_steps { RoseByAtMost 1 steps.old steps.new }
-{
-    match changes[i] {
-        Change::Held | Change::Label => {
-            rows[i] = watch.look_at(alloc, i, table, checker, steps)?;
-        }
-        Change::Nothing => {
-            if watch.is_beside_label(i, changes) {
-                let stale = watch.stale(alloc, i)?;
-                rows[i].set_stale(alloc, stale)?;
+    // Renews the row of the node at place i as far as something of it changed. What the node knows
+    // is written into a table.
+    fn renew(
+        &mut self,
+        alloc: Global,
+        i: usize,
+        table: &mut Vec<u32>,
+        steps: &mut Steps,
+    ) -> Result<(), NoMemory>
+        requires place { i < length self.old.watched.network }
+        requires table { IsTable self.old.watched table.old.items }
+        ensures watched { self.new.watched ≡ self.old.watched }
+        ensures checker { self.new.checker ≡ self.old.checker }
+        ensures table { IsTable self.old.watched table.new.items }
+        ensures renewed { OnOk result (IsRenewed (K.judge self.old.checker) self.old.watched i
+            self.old.rows self.new.rows) }
+        ensures unchanged { OnErr result (self.new.rows ≡ self.old.rows) }
+        ensures few_steps { RoseByAtMost 1 steps.old steps.new }
+    {
+        match self.changes[i] {
+            Change::Nothing => {}
+            Change::Beside => {
+                let stale = self.watch.stale(alloc, i)?;
+                self.rows[i].set_stale(alloc, stale)?;
+            }
+            Change::Held | Change::Label => {
+                self.rows[i] = self.watch.look_at(alloc, i, table, self.checker, steps)?;
             }
         }
+        Ok(())
     }
-    Ok(())
 }

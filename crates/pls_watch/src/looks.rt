@@ -1,9 +1,7 @@
 //! What has become of the nodes.
 
 ghost use Rattle.std.specs.Prelude.{◌≡◌, ◌≢◌, ◌<◌, ◌+◌, ℕ, [], length, slice_get, IfOk, IfSome, OnErr, Some};
-ghost use Rattle.std.specs.List.{list_any};
 ghost use Rattle.pls_model.specs.declared.row.NodeRow.{NodeRow};
-ghost use Rattle.pls_graph.specs.Places.{beside};
 ghost use Rattle.pls_view.specs.Seen.{seen};
 ghost use Rattle.pls_scheme.specs.Judging.{RoseByAtMost};
 ghost use Rattle.pls_sim.specs.Schedule.{unheard};
@@ -11,9 +9,8 @@ ghost use Rattle.pls_watch.specs.Labelled.{turns_of};
 ghost use Rattle.pls_watch.specs.Versions.{known, newest, plain_of};
 ghost use Rattle.pls_watch.specs.Watching.{look_of, outcome_in, stale_in, version_of_label};
 ghost use Rattle.pls_watch.specs.inner.Known.{AreKnown, IsKnown, IsTable};
-ghost use Rattle.pls_watch.specs.inner.Current.{got_label, look_row};
+ghost use Rattle.pls_watch.specs.inner.Current.{look_row};
 
-use crate::change::{Change, any_got_label};
 use crate::known_labels::KnownLabels;
 use crate::versions::noughts;
 use crate::watch::Watch;
@@ -103,14 +100,6 @@ impl<'n> Watch<'n> {
         let stale = self.stale(alloc, i)?;
         let outcome = self.outcome_by(alloc, i, table, checker, steps)?;
         LookRow::new(alloc, self.net.node(i).0, outcome, stale)
-    }
-
-    /// Whether a neighbour of the node at place `i` got a label.
-    pub(crate) fn is_beside_label(&self, i: usize, changes: &[Change]) -> bool
-        requires { i < length self.now.network }
-        ensures { result ≡ list_any (got_label changes.now) (beside self.now.network i) }
-    {
-        any_got_label(changes, self.net.places(i))
     }
 
     // The outcome of the node at place i. What the node knows is written into a table.

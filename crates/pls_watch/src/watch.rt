@@ -92,6 +92,13 @@ impl<'n> Watch<'n> {
         })
     }
 
+    /// The network on which messages are sent.
+    pub(crate) fn network(&self) -> &'n Network
+        ensures { result.now ≡ self.now.network }
+    {
+        self.net
+    }
+
     /// Takes one more event, in constant time but for the search of an identity and the bits of a
     /// label, and without memory. An event that does not apply changes nothing.
     ///

@@ -1,7 +1,5 @@
 -- What is still true of the rows of the last look.
-use Rattle.std.specs.Prelude.{◌≡◌, ◌≢◌, ℕ, Bool, true, false, List, length, slice_get, Some}
-use Rattle.std.specs.List.{list_any}
-use Rattle.std.specs.Option.{option_map_or}
+use Rattle.std.specs.Prelude.{◌≡◌, ◌≢◌, ℕ, Bool, true, false, List, Option, length, slice_get, Some}
 use Rattle.pls_model.specs.declared.row.NodeRow.{NodeRow}
 use Rattle.pls_model.specs.declared.verdict.Verdict.{Verdict}
 use Rattle.pls_graph.specs.Places.{beside}
@@ -10,7 +8,7 @@ use Rattle.pls_sim.specs.declared.outcome.Outcome.{Outcome}
 use Rattle.pls_watch_part.specs.declared.watch_event.WatchEvent.{WatchEvent}
 use Rattle.pls_watch_part.specs.declared.watch_event.WatchEvent.TheVariants as Watches
 use Rattle.pls_watch.specs.declared.change.Change.{Change}
-use Rattle.pls_watch.specs.declared.change.Change.TheVariants.{Nothing, Held, Label}
+use Rattle.pls_watch.specs.declared.change.Change.TheVariants.{Nothing, Beside, Held, Label}
 use Rattle.pls_watch.specs.Labelled.{turn_of, turns_of}
 use Rattle.pls_watch.specs.Versions.{held, relabels}
 use Rattle.pls_watch.specs.Watching.{Watched, outcome_in, stale_in, watching}
@@ -26,41 +24,75 @@ pub record KnowsSame (watched : Watched) (event : WatchEvent) (node : ℕ) : Typ
       ≡ held watched.network (turns_of watched.events) node neighbour
   pub stays : relabels node (turn_of event) ≡ false
 
+-- the event gives a label
+abbrev pub is_relabel : WatchEvent → Bool
+is_relabel (Watches.Emit node port) = false
+is_relabel (Watches.Arrive number) = false
+is_relabel (Watches.Restart node) = false
+is_relabel (Watches.Relabel node bits) = true
+
+-- what was shown of the outcome of such a node is still true
+abbrev pub keeps_outcome : Change → Bool
+keeps_outcome Nothing = true
+keeps_outcome Beside = true
+keeps_outcome Held = false
+keeps_outcome Label = false
+
 -- what of a node changed, where it holds something else
 abbrev pub with_held : Change → Change
 with_held Nothing = Held
+with_held Beside = Held
 with_held Held = Held
 with_held Label = Label
 
--- what of a node changed, where it knows something else after the event
-abbrev pub change_after : WatchEvent → Change → Change
-change_after (Watches.Relabel node bits) before = Label
-change_after (Watches.Emit node port) before = with_held before
-change_after (Watches.Arrive number) before = with_held before
-change_after (Watches.Restart node) before = with_held before
+-- what of a node changed, where a neighbour got a label
+abbrev pub with_beside : Change → Change
+with_beside Nothing = Beside
+with_beside Beside = Beside
+with_beside Held = Held
+with_beside Label = Label
 
--- the node got a label
-abbrev pub is_label : Change → Bool
-is_label Nothing = false
-is_label Held = false
-is_label Label = true
+-- of each neighbour of the node at a place something is noted
+abbrev pub IsNotedAround : List NodeRow → List Change → ℕ → Type 0
+IsNotedAround rows changes place =
+    (p there : ℕ) → slice_get (beside rows place) p ≡ Some there
+    → slice_get changes there ≢ Some Nothing
 
-abbrev pub got_label : List Change → ℕ → Bool
-got_label changes place = option_map_or is_label (slice_get changes place) false
+-- so it is around each node of which a label is noted
+abbrev pub AreLabelsNoted : List NodeRow → List Change → Type 0
+AreLabelsNoted rows changes =
+    (place : ℕ) → slice_get changes place ≡ Some Label → IsNotedAround rows changes place
 
--- of each node of which nothing changed the outcome is that of the last look, and so are its stale
--- ports where none of its neighbours got a label
+-- what was noted stays noted, and no outcome is kept that was not
+pub record IsMoreNoted (old new : List Change) : Type 0 where
+  pub as_many : length new ≡ length old
+  pub nothing : (i : ℕ) → slice_get new i ≡ Some Nothing → slice_get old i ≡ Some Nothing
+  pub keeps : (i : ℕ) (change : Change) → slice_get new i ≡ Some change
+      → keeps_outcome change ≡ true
+      → (before : Change) × (slice_get old i ≡ Some before) × (keeps_outcome before ≡ true)
+
+-- what an event leaves of the changes, where it changes something for the node at a place
+pub record IsNoted (rows : List NodeRow) (event : WatchEvent) (place : Option ℕ)
+    (old new : List Change) : Type 0 where
+  pub more : IsMoreNoted old new
+  pub labels : AreLabelsNoted rows new
+  pub here : (i : ℕ) → place ≡ Some i
+      → (change : Change) × (slice_get new i ≡ Some change) × (keeps_outcome change ≡ false)
+  pub own : (i : ℕ) → is_relabel event ≡ true → place ≡ Some i → slice_get new i ≡ Some Label
+
+-- of each node of which nothing changed the row is that of the last look, and its outcome is where
+-- no more than a neighbour's label did
 pub record IsCurrent (judge : Seen → Verdict) (watched : Watched) (changes : List Change)
     (rows : List (ℕ × Outcome × List ℕ)) : Type 0 where
   pub each : length changes ≡ length watched.network
   pub all : length rows ≡ length watched.network
-  pub outcomes : (i : ℕ) (row : NodeRow) → slice_get watched.network i ≡ Some row
-      → slice_get changes i ≡ Some Nothing
+  pub outcomes : (i : ℕ) (row : NodeRow) (change : Change) → slice_get watched.network i ≡ Some row
+      → slice_get changes i ≡ Some change → keeps_outcome change ≡ true
       → (stale : List ℕ) × (slice_get rows i ≡ Some (row.id, outcome_in judge watched row, stale))
   pub stales : (i : ℕ) (row : NodeRow) → slice_get watched.network i ≡ Some row
       → slice_get changes i ≡ Some Nothing
-      → list_any (got_label changes) (beside watched.network i) ≡ false
       → slice_get rows i ≡ Some (look_row judge watched row)
+  pub labels : AreLabelsNoted watched.network changes
 
 -- the row of the node at a place is as it is now, and the others are as they were
 pub record IsRenewed (judge : Seen → Verdict) (watched : Watched) (place : ℕ)

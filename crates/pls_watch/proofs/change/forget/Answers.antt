@@ -1,5 +1,5 @@
 use Rattle.std.proofs.Common.{arith}
-use Rattle.pls_watch.proofs.Current.{all_nothing}
+use Rattle.pls_watch.proofs.Noted.{all_nothing}
 use Rattle.pls_watch.proofs.change.forget.Goals as goal
 
 pub returns : goal.returns

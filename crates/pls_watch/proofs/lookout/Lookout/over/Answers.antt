@@ -1,4 +1,5 @@
-use Rattle.std.proofs.Common.{arith}
+use Rattle.std.proofs.Common.{◌≡◌, ◌∙◌, ℕ, ap, arith, length, replicate}
+use Rattle.pls_watch.specs.declared.change.Change.TheVariants.{Nothing}
 use Rattle.pls_watch.proofs.Current.{current_look}
 use Rattle.pls_watch.proofs.lookout.Lookout.over.Goals as goal
 
@@ -6,6 +7,7 @@ pub invariant_of-result : goal.invariant_of-result
 invariant_of-result g c =
     let rows = c.in_ok-rows.rows in
     let changes = c.in_ok-changes.changes in
+    let many : c.len.result ≡ length rows.items = omega (arith, c.len.ensures, rows.ok.0) in
     current_look (g.K.Checker.judge c.args.checker.now) c.args.watch changes.items rows.items
-    (omega (arith, c.in_ok-changes.ensures.len, changes.ok.0, c.len.ensures, rows.ok.0))
+    (c.in_ok-changes.ensures ∙ ap (λ (count : ℕ). replicate count Nothing) many)
     c.in_ok-rows.ensures.look

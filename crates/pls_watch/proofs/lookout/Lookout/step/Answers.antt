@@ -1,7 +1,8 @@
-use Rattle.std.proofs.Common.{sym, subst}
+use Rattle.std.proofs.Common.{◌∙◌, List, ap, sym, subst}
+use Rattle.pls_model.specs.declared.row.NodeRow.{NodeRow}
 use Rattle.pls_watch.specs.Watching.{Watched}
-use Rattle.pls_watch.specs.inner.Current.{IsCurrent}
-use Rattle.pls_watch.proofs.Current.{current_next, noted_by}
+use Rattle.pls_watch.specs.inner.Current.{IsCurrent, IsNoted}
+use Rattle.pls_watch.proofs.Current.{current_next}
 use Rattle.pls_watch.proofs.lookout.Lookout.step.Goals as goal
 
 pub invariant_of-self-2 : goal.invariant_of-self-2
@@ -11,9 +12,10 @@ invariant_of-self-2 g c =
     let event = c.args.event.now in
     let place = c.changes_at-place.result in
     let change = c.changes_at-place.ensures in
-    let noted = noted_by event place old.changes.items c.note.new.changes.items _
-    c.self.invariant.each c.note.ensures.some c.note.ensures.none change.within in
-    subst (λ (watched : Watched). IsCurrent judge watched c.note.new.changes.items old.rows.items)
-    (sym c.in_ok-step.ensures.taken)
-    (current_next judge old.watch event place change.valid old.changes.items
-    c.note.new.changes.items old.rows.items c.self.invariant noted change.others)
+    let new = c.note.new.changes.items in
+    let taken = c.in_ok-step.ensures.taken in
+    let noted = subst (λ (net : List NodeRow). IsNoted net event place old.changes.items new)
+    (c.network.ensures ∙ ap (λ (watched : Watched). watched.network) taken) c.note.ensures in
+    subst (λ (watched : Watched). IsCurrent judge watched new old.rows.items) (sym taken)
+    (current_next judge old.watch event place change.valid old.changes.items new old.rows.items
+    c.self.invariant noted change.others)
