@@ -77,7 +77,8 @@ def parse_steps(text: str) -> list[Step]:
     for number, step in enumerate(steps, start=1):
         if unknown := set(step) - known:
             raise DeskError(f"a step has no field `{sorted(unknown)[0]}`", f"step {number}", f"its fields are {', '.join(sorted(known))}")
-        _check(step, f"step {number}")
+        _check_shapes(step, f"step {number}")
+        _check_words(step, f"step {number}")
     return [Step(**step) for step in steps]
 
 
@@ -85,8 +86,8 @@ def parse_steps(text: str) -> list[Step]:
 _WORDS = {"weights": 3, "links": 3, "unlinks": 2, "joins": 1, "leaves": 1, "restarts": 1, "sends": 3, "hears": 2, "arrives": 1}
 
 
-def _check(step: dict[str, Any], place: str) -> None:
-    """Whether the fields of a step have the shapes that `Step` says."""
+def _check_shapes(step: dict[str, Any], place: str) -> None:
+    """Refuses a step whose fields have other shapes than `Step` says."""
     for field_name in ("states", "labels"):
         if not isinstance(step.get(field_name, {}), dict):
             raise DeskError(f"`{field_name}` is an object with a field for each node", place)
@@ -100,6 +101,8 @@ def _check(step: dict[str, Any], place: str) -> None:
             raise DeskError(f"`{field_name}` is a list of {'words' if count == 1 else f'lists of {count} words'}", place)
 
 
+def _check_words(step: dict[str, Any], place: str) -> None:
+    """Refuses a step that says a state, a weight or an identity that is none."""
     for state in step.get("states", {}).values():
         if unknown := set(state) - {"pointer", "mark", "num"}:
             raise DeskError(f"a state has no field `{sorted(unknown)[0]}`", place, "its fields are pointer, mark, num")
