@@ -1,4 +1,5 @@
 pub mod Status
+pub mod Verdict
 pub mod Configuration
 pub mod Path
 pub mod Walk

@@ -1,6 +1,8 @@
 //! What a node answers.
 
-/// The verdict of one node on what it sees.
+use std::fmt;
+
+/// The verdict of one node on what it sees. Its text is `accept` or `reject LEAF RULE`.
 #[derive(Clone, Copy, Debug, PartialEq, Eq)]
 pub enum Verdict {
     /// Every rule of the scheme holds in the node's view.
@@ -13,4 +15,18 @@ pub enum Verdict {
         /// The number of the first rule that fails, from 1.
         rule: u8,
     },
+}
+
+impl fmt::Display for Verdict {
+    ghost use Rattle.std.specs.Prelude.{Some};
+    ghost use Rattle.pls_model.specs.Verdict.{verdict_text};
+
+    ghost output = { λ verdict. Some (verdict_text verdict) };
+
+    fn fmt<W: fmt::Write>(&self, f: &mut fmt::Formatter<W>) -> fmt::Result {
+        match self {
+            Verdict::Accept => f.write_str("accept"),
+            Verdict::Reject { leaf, rule } => write!(f, "reject {leaf} {rule}"),
+        }
+    }
 }

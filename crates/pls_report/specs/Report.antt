@@ -4,6 +4,7 @@ use Rattle.std.specs.Prelude.{ℕ, Bool, true, false, List, [], ◌∷◌, ◌++
 use Rattle.std.specs.List.{list_all}
 use Rattle.pls_model.specs.declared.verdict.Verdict.{Verdict}
 use Rattle.pls_model.specs.declared.verdict.Verdict.TheVariants.{Accept, Reject}
+use Rattle.pls_model.specs.Verdict.{verdict_text}
 use Rattle.pls_lines.specs.Text.{line_of, text_of}
 use Rattle.pls_sim.specs.declared.outcome.Outcome.{Outcome}
 use Rattle.pls_sim.specs.declared.outcome.Outcome.TheVariants.{Decided, Waiting}
@@ -54,8 +55,7 @@ waiting rows = count_by (λ row. is_waiting row.1) rows
 
 -- the words that say an outcome
 abbrev pub outcome_words : Outcome → List (List ℕ)
-outcome_words (Decided Accept) = codes "accept" ∷ []
-outcome_words (Decided (Reject leaf rule)) = codes "reject" ∷ decimal leaf ∷ decimal rule ∷ []
+outcome_words (Decided verdict) = verdict_text verdict ∷ []
 outcome_words (Waiting ports) = codes "waiting" ∷ map decimal ports
 
 -- `node ID accept`, `node ID reject LEAF RULE`, or `node ID waiting P1 P2` with the ports not heard

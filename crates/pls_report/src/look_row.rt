@@ -3,7 +3,7 @@
 ghost use Rattle.std.specs.Prelude.{◌≡◌, ◌++◌, ◌∷◌, [], IfOk, OnErr, OnOk};
 ghost use Rattle.pls_report.specs.Look.{look_line};
 
-use crate::node_line::node_line;
+use crate::node_line::{Line, node_line};
 use pls_base::NoMemory;
 use pls_sim::{Outcome, PortNumbers};
 use std::alloc::Global;
@@ -16,7 +16,7 @@ pub struct LookRow {
     id: u32,
     outcome: Outcome,
     stale: PortNumbers,
-    line: Vec<u8>,
+    line: Line,
 }
 
 impl Model for LookRow {

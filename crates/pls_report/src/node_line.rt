@@ -8,10 +8,12 @@ use crate::look_counting::told_ports;
 use pls_base::{NoMemory, write_decimal};
 use pls_model::Verdict;
 use pls_sim::Outcome;
+use smallvec::SmallVec;
 use std::alloc::Global;
 
-// Room for most lines, in bytes.
-const ROOM: usize = 32;
+/// The bytes of a line. Most have room in the value, so that the lines of rows that lie side by
+/// side do too.
+pub(crate) type Line = SmallVec<u8, 40>;
 
 /// The line of a node with its line feed. The one error is want of memory.
 pub(crate) fn node_line(
@@ -19,11 +21,11 @@ pub(crate) fn node_line(
     id: u32,
     outcome: &Outcome,
     stale: &[u32],
-) -> Result<Vec<u8>, NoMemory>
+) -> Result<Line, NoMemory>
     ensures { IfOk result
         (λ line. line.items ≡ look_line (id, outcome.now, stale.now) ++ 10 ∷ []) }
 {
-    let mut line = Vec::with_capacity(alloc, ROOM)?;
+    let mut line = SmallVec::new(alloc);
     add_number(&mut line, b"node ", id as u64)?;
     add_outcome(&mut line, outcome)?;
     add_stale(&mut line, told_ports(outcome, stale))?;
@@ -32,7 +34,7 @@ pub(crate) fn node_line(
 }
 
 // Adds what the line says of an outcome.
-fn add_outcome(line: &mut Vec<u8>, outcome: &Outcome) -> Result<(), NoMemory>
+fn add_outcome(line: &mut Line, outcome: &Outcome) -> Result<(), NoMemory>
     ensures { OnOk result (line.new.items ≡ line.old.items ++ outcome_tail outcome.now) }
 {
     match outcome {
@@ -42,7 +44,7 @@ fn add_outcome(line: &mut Vec<u8>, outcome: &Outcome) -> Result<(), NoMemory>
 }
 
 // Adds what the line says of a verdict.
-fn add_verdict(line: &mut Vec<u8>, verdict: Verdict) -> Result<(), NoMemory>
+fn add_verdict(line: &mut Line, verdict: Verdict) -> Result<(), NoMemory>
     ensures { OnOk result
         (line.new.items ≡ line.old.items ++ outcome_tail (Outcome.Decided verdict)) }
 {
@@ -57,7 +59,7 @@ fn add_verdict(line: &mut Vec<u8>, verdict: Verdict) -> Result<(), NoMemory>
 }
 
 // Adds which ports are stale, where there is one.
-fn add_stale(line: &mut Vec<u8>, ports: &[u32]) -> Result<(), NoMemory>
+fn add_stale(line: &mut Line, ports: &[u32]) -> Result<(), NoMemory>
     ensures { OnOk result (line.new.items ≡ line.old.items ++ stale_tail ports.now) }
 {
     if ports.is_empty() {
@@ -67,7 +69,7 @@ fn add_stale(line: &mut Vec<u8>, ports: &[u32]) -> Result<(), NoMemory>
 }
 
 // Adds a word and numbers, each behind a space.
-fn add_listed(line: &mut Vec<u8>, word: &[u8], numbers: &[u32]) -> Result<(), NoMemory>
+fn add_listed(line: &mut Line, word: &[u8], numbers: &[u32]) -> Result<(), NoMemory>
     ensures { OnOk result (line.new.items ≡ line.old.items ++ (word.now ++ spaced numbers.now)) }
 {
     line.extend_from_slice(word)?;
@@ -78,7 +80,7 @@ fn add_listed(line: &mut Vec<u8>, word: &[u8], numbers: &[u32]) -> Result<(), No
 }
 
 // Adds a word and a number.
-fn add_number(line: &mut Vec<u8>, word: &[u8], number: u64) -> Result<(), NoMemory>
+fn add_number(line: &mut Line, word: &[u8], number: u64) -> Result<(), NoMemory>
     ensures { OnOk result (line.new.items ≡ line.old.items ++ (word.now ++ decimal number)) }
 {
     let mut digits = [0; 20];

@@ -2,6 +2,7 @@
 
 ghost use Rattle.std.specs.Prelude.{◌≡◌, IfOk};
 ghost use Rattle.pls_numbers.specs.Shape.{recoded};
+ghost use Rattle.pls_scheme.specs.Basic.{verdict_by};
 
 use crate::checker::Checker;
 use crate::in_place::JudgesInPlace;
@@ -57,6 +58,17 @@ impl<R: Judgement> Basic<R> {
     }
 }
 
+impl<R: JudgesInPlace> Basic<R> {
+    /// The verdict on a view: [`Checker::verify`] without memory, without an error, and without a
+    /// step that is counted.
+    pub fn judge(&self, view: &View<'_>) -> Verdict
+        ensures { result ≡ verdict_by (R.Format.shape (R.format self.now.rules))
+            (R.rules self.now.rules) R.Code.takes view.now }
+    {
+        judged(&self.rules, view)
+    }
+}
+
 impl<R: JudgesInPlace> Checker for Basic<R> {
     ghost use Rattle.std.specs.Prelude.{true, false, refl};
     ghost use Rattle.pls_numbers.specs.Shape.{said_by};
@@ -89,7 +101,7 @@ impl<R: JudgesInPlace> Checker for Basic<R> {
         steps: &mut Steps,
     ) -> Result<Verdict, NoMemory> {
         steps.tick();
-        Ok(judged(&self.rules, view))
+        Ok(self.judge(view))
     }
 
     fn round<L: Labels>(
