@@ -1,7 +1,6 @@
 //! An example program over the library: a protocol keeps a tree and at each node a label of its own
-//! making, and the nodes check them, with no text formats. It tells which nodes reject, and by which
-//! rule; where none does, the pointers are a spanning tree, which [`watch::is_a_tree`] is proved to
-//! say.
+//! making, and the nodes check them, with no text formats. It tells the verdict of each node; where
+//! none rejects, the pointers are a spanning tree, which [`watch::is_a_tree`] is proved to say.
 #![tactic(auto)]
 
 mod nodes;
@@ -10,7 +9,6 @@ mod watch;
 use crate::nodes::{Node, labels_of, network_of};
 use crate::watch::{is_a_tree, verdict_at};
 use pls_base::NoMemory;
-use pls_model::Verdict;
 use std::io;
 use std::process::ExitCode;
 
@@ -62,11 +60,7 @@ fn report(rt: &HostRuntime) -> io::Result<()> {
     };
     for i in 0..ROUTERS.len() {
         match verdict_at(alloc, &net, &labels, i) {
-            Ok(Verdict::Accept) => println!(rt; "node {} accepts", i + 1)?,
-            Ok(Verdict::Reject { rule, .. }) => println!(rt;
-                "node {} rejects by rule {rule}",
-                i + 1
-            )?,
+            Ok(verdict) => println!(rt; "node {} {verdict}", i + 1)?,
             Err(NoMemory) => println!(rt; "out of memory")?,
         }
     }

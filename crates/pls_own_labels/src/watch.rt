@@ -9,7 +9,7 @@ use pls_bits::Gamma;
 use pls_graph::Network;
 use pls_model::Verdict;
 use pls_pointer::Tree;
-use pls_scheme::{Checker, certifies};
+use pls_scheme::certifies;
 use pls_view::{LabelStore, View};
 use std::alloc::Global;
 
@@ -24,7 +24,7 @@ pub(crate) fn verdict_at(
     requires each { length labels.now ≡ length net.now }
 {
     let view = View::of(alloc, net, labels, i)?;
-    Tree::<Gamma>::new().verify(alloc, &view, &mut Steps::new())
+    Ok(Tree::<Gamma>::new().judge(&view))
 }
 
 /// Whether all nodes accept. Then the pointers are a spanning tree, whoever made the labels.

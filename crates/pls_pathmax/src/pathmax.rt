@@ -1,6 +1,6 @@
 //! The scheme `pathmax`: what it states of its own, and how a node judges by it.
 
-ghost use Rattle.std.specs.Prelude.{◌≡◌, List, length, Some, true, false, IsOk, IfOk};
+ghost use Rattle.std.specs.Prelude.{◌≡◌, List, length, Some, true, false};
 ghost use Rattle.pls_numbers.specs.Shape.{said_by};
 ghost use Rattle.pls_scheme.specs.Basic.{verdict_by};
 ghost use Rattle.pls_scheme.specs.Reading.{ReadPort, reading};
@@ -12,14 +12,12 @@ ghost use Rattle.pls_pathmax.specs.inner.OnePass.{HaveFurtherWays, IsReadThrough
 use crate::gathering::WINDOW;
 use crate::levels::PathMaxFormat;
 use crate::pass::PathMaxPass;
-use pls_base::{NoMemory, Steps};
 use pls_bits::{Bits, NumCode};
 use pls_levels::{LevelHead, read_head};
 use pls_model::Verdict;
 use pls_numbers::Numbers;
-use pls_scheme::{Basic, Checker, Judgement};
+use pls_scheme::{Basic, Judgement};
 use pls_view::View;
-use std::alloc::Global;
 use std::marker::PhantomData;
 
 /// What the scheme states of its own: how labels are written, the rules, the property, and what
@@ -64,51 +62,38 @@ pub(crate) fn pass_from<C>(first: u64) -> Basic<PathMaxPass<C>>
     }
 }
 
-// The verdict on a view by all rules, where this is that of the first pass.
-pub(crate) fn verdict_by_passes<C: NumCode>(
-    alloc: Global,
-    view: &View<'_>,
-    verdict: Verdict,
-) -> Result<Verdict, NoMemory>
-    requires { verdict ≡ verdict_by pathmax_shape (one_pass_rules 0) C.takes view.now }
-    ensures verdict { IfOk result (λ found.
-        found ≡ verdict_by pathmax_shape pathmax_rules C.takes view.now) }
-    ensures no_memory { IsOk result }
+// The verdict on a view by all rules.
+pub(crate) fn judged<C: NumCode>(view: &View<'_>) -> Verdict
+    ensures { result ≡ verdict_by pathmax_shape pathmax_rules C.takes view.now }
 {
+    let verdict = pass_from::<C>(0).judge(view);
     if is_settled(&verdict) {
-        return Ok(verdict);
+        return verdict;
     }
     let count = count_of::<C>(&view.own);
-    let holds = have_further_ways::<C>(alloc, view, count)?;
-    if holds {
-        return Ok(verdict);
+    if have_further_ways::<C>(view, count) {
+        return verdict;
     }
-    Ok(Verdict::Reject { leaf: 1, rule: 5 })
+    Verdict::Reject { leaf: 1, rule: 5 }
 }
 
 // Whether rule 5 holds on the levels behind those of the first pass, of so many, in as many further
-// passes as it takes. It takes no memory.
-fn have_further_ways<C: NumCode>(
-    alloc: Global,
-    view: &View<'_>,
-    count: u64,
-) -> Result<bool, NoMemory>
-    ensures ways { IfOk result (λ holds. (own : PathMaxLabel) (ports : List (ReadPort PathMaxLabel))
+// passes as it takes.
+fn have_further_ways<C: NumCode>(view: &View<'_>, count: u64) -> bool
+    ensures { (own : PathMaxLabel) (ports : List (ReadPort PathMaxLabel))
         → IsReadThrough (said_by pathmax_shape C.takes) view.now own ports
         → length own.levels ≡ count
-        → HaveFurtherWays (reading view.now.id view.now.state own ports) holds) }
-    ensures no_memory { IsOk result }
+        → HaveFurtherWays (reading view.now.id view.now.state own ports) result }
 {
     let mut first = WINDOW as u64;
     while first < count {
-        let mut scratch = Steps::new();
-        let verdict = pass_from::<C>(first).verify(alloc, view, &mut scratch)?;
+        let verdict = pass_from::<C>(first).judge(view);
         if is_by_rule_5(&verdict) {
-            return Ok(false);
+            return false;
         }
         first = first.saturating_add(WINDOW as u64);
     }
-    Ok(true)
+    true
 }
 
 // How many levels a label states, and 0 where the bits are none.

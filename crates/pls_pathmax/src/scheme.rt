@@ -2,12 +2,14 @@
 
 ghost use Rattle.std.specs.Prelude.{◌≡◌, IfOk};
 ghost use Rattle.pls_numbers.specs.Shape.{recoded};
+ghost use Rattle.pls_scheme.specs.Basic.{verdict_by};
 ghost use Rattle.pls_pathmax.specs.Labels.{pathmax_shape};
+ghost use Rattle.pls_pathmax.specs.Rules.{pathmax_rules};
 
 use crate::glance::{PathMaxGlance, glance_in};
 use crate::in_memory::verdict_of_node;
 use crate::levels::{PathMaxFormat, PathMaxLabel};
-use crate::pathmax::{PathMaxRules, pass_from, verdict_by_passes};
+use crate::pathmax::{PathMaxRules, judged, pass_from};
 use pls_base::{NoMemory, Steps};
 use pls_bits::{BitBuf, Bits, NumCode};
 use pls_facts::is_valid;
@@ -36,6 +38,14 @@ impl<C> PathMax<C> {
 }
 
 impl<C: NumCode> PathMax<C> {
+    /// The verdict on a view: [`Checker::verify`] without an error, and without a step that is
+    /// counted. It takes no memory.
+    pub fn judge(&self, view: &View<'_>) -> Verdict
+        ensures { result ≡ verdict_by pathmax_shape pathmax_rules C.takes view.now }
+    {
+        judged::<C>(view)
+    }
+
     /// The label that the bits are, written in the number code `D`, or `None` where they are no
     /// label. The one error is want of memory.
     pub fn convert_label<D: NumCode>(
@@ -77,12 +87,12 @@ impl<C: NumCode> Checker for PathMax<C> {
 
     fn verify(
         &self,
-        alloc: Global,
+        _alloc: Global,
         view: &View<'_>,
         steps: &mut Steps,
     ) -> Result<Verdict, NoMemory> {
-        let verdict = pass_from::<C>(0).verify(alloc, view, steps)?;
-        verdict_by_passes::<C>(alloc, view, verdict)
+        steps.tick();
+        Ok(self.judge(view))
     }
 
     fn round<L: Labels>(

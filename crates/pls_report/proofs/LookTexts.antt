@@ -1,7 +1,7 @@
 -- The lines of a look, piece by piece.
 use Rattle.std.proofs.Common.{◌≡◌, ◌∙◌, ℕ, ◌+◌, ◌<◌, List, [], ◌∷◌, ◌++◌, map, take, length, get_or, codes, decimal, refl, sym, ap, append-nil, append_assoc}
 use Rattle.pls_model.specs.declared.verdict.Verdict.{Verdict}
-use Rattle.pls_model.specs.declared.verdict.Verdict.TheVariants.{Accept, Reject}
+use Rattle.pls_model.specs.Verdict.{verdict_text}
 use Rattle.pls_sim.specs.declared.outcome.Outcome.TheVariants.{Decided, Waiting}
 use Rattle.pls_report.specs.Look.{look_closing, look_line, rejecting_rows, stale_rows, told_ports, waiting_rows}
 use Rattle.pls_report.specs.inner.Pieces.{outcome_tail, spaced, stale_tail}
@@ -26,19 +26,13 @@ stale_seen : (id : ℕ) (verdict : Verdict) (port : ℕ) (ports : List ℕ)
     → (((codes "node " ++ decimal id) ++ outcome_tail (Decided verdict))
     ++ stale_tail (port ∷ ports)) ++ 10 ∷ []
     ≡ look_line (id, Decided verdict, port ∷ ports) ++ 10 ∷ []
-stale_seen id Accept port ports =
-    ap (λ (tail : List ℕ). (codes "node " ++ tail) ++ 10 ∷ [])
-    (append_assoc (decimal id) (codes " accept") (stale_tail (port ∷ ports))
-    ∙ ap (λ (tail : List ℕ). decimal id ++ (codes " accept " ++ tail))
+stale_seen id verdict port ports =
+    let tail : List ℕ = stale_tail (port ∷ ports) in
+    let words : List ℕ = verdict_text verdict in
+    ap (λ (text : List ℕ). (codes "node " ++ text) ++ 10 ∷ [])
+    (append_assoc (decimal id) (32 ∷ words) tail
+    ∙ ap (λ (tail : List ℕ). decimal id ++ 32 ∷ (words ++ 32 ∷ tail))
     (sym (line_spaced (codes "stale") (port ∷ ports))))
-stale_seen id (Reject leaf rule) port ports =
-    ap (λ (tail : List ℕ). (codes "node " ++ tail) ++ 10 ∷ [])
-    (append_assoc (decimal id) (outcome_tail (Decided (Reject leaf rule)))
-    (stale_tail (port ∷ ports))
-    ∙ ap (λ (tail : List ℕ). decimal id ++ (codes " reject " ++ tail))
-    (append_assoc (decimal leaf) (32 ∷ decimal rule) (stale_tail (port ∷ ports))
-    ∙ ap (λ (tail : List ℕ). decimal leaf ++ 32 ∷ (decimal rule ++ 32 ∷ tail))
-    (sym (line_spaced (codes "stale") (port ∷ ports)))))
 
 -- the line of a node whose stale ports are not told, or that has none
 none_seen : (id : ℕ) (outcome : Outcome)
@@ -54,8 +48,7 @@ pub node_seen : (id : ℕ) (outcome : Outcome) (stale : List ℕ)
     → (((codes "node " ++ decimal id) ++ outcome_tail outcome)
     ++ stale_tail (told_ports outcome stale)) ++ 10 ∷ []
     ≡ look_line (id, outcome, stale) ++ 10 ∷ []
-node_seen id (Decided Accept) [] = none_seen id (Decided Accept)
-node_seen id (Decided (Reject leaf rule)) [] = none_seen id (Decided (Reject leaf rule))
+node_seen id (Decided verdict) [] = none_seen id (Decided verdict)
 node_seen id (Decided verdict) (port ∷ ports) = stale_seen id verdict port ports
 node_seen id (Waiting ports) stale =
     none_seen id (Waiting ports)

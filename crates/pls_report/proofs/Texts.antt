@@ -40,8 +40,7 @@ line_spaced word (number ∷ numbers) =
 pub node_text : (id : ℕ) (outcome : Outcome)
     → ((codes "node " ++ decimal id) ++ outcome_tail outcome) ++ codes "\n"
     ≡ outcome_line (id, outcome) ++ 10 ∷ []
-node_text id (Decided Accept) = refl
-node_text id (Decided (Reject leaf rule)) = refl
+node_text id (Decided verdict) = refl
 node_text id (Waiting ports) =
     ap (λ (tail : List ℕ). (codes "node " ++ (decimal id ++ 32 ∷ tail)) ++ codes "\n")
     (sym (line_spaced (codes "waiting") ports))

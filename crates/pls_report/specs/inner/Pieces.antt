@@ -1,7 +1,7 @@
 -- The pieces that lines of a report are made of.
 use Rattle.std.specs.Prelude.{ℕ, codes, Bool, true, false, List, [], ◌∷◌, ◌++◌, decimal}
 use Rattle.std.specs.List.{flat_map}
-use Rattle.pls_model.specs.declared.verdict.Verdict.TheVariants.{Accept, Reject}
+use Rattle.pls_model.specs.Verdict.{verdict_text}
 use Rattle.pls_sim.specs.declared.outcome.Outcome.{Outcome}
 use Rattle.pls_sim.specs.declared.outcome.Outcome.TheVariants.{Decided, Waiting}
 
@@ -11,9 +11,7 @@ spaced numbers = flat_map (λ number. 32 ∷ decimal number) numbers
 
 -- what a node's line says behind its identity
 abbrev pub outcome_tail : Outcome → List ℕ
-outcome_tail (Decided Accept) = codes " accept"
-outcome_tail (Decided (Reject leaf rule)) =
-    (codes " reject " ++ decimal leaf) ++ (codes " " ++ decimal rule)
+outcome_tail (Decided verdict) = 32 ∷ verdict_text verdict
 outcome_tail (Waiting ports) = codes " waiting" ++ spaced ports
 
 -- what the line of a look says behind the outcome: which ports are stale, where there is one

@@ -10,14 +10,14 @@ use Rattle.pls_pathmax.proofs.Passes.{pass_fails, pass_holds}
 use Rattle.pls_pathmax.proofs.Windows.{to_window}
 use Rattle.pls_pathmax.proofs.pathmax.have_further_ways.Goals as goal
 
-pub returns-then-is_by_rule_5-clause-ways : goal.returns-then-is_by_rule_5-clause-ways
-returns-then-is_by_rule_5-clause-ways g c own ports through many =
+pub returns-then-is_by_rule_5 : goal.returns-then-is_by_rule_5
+returns-then-is_by_rule_5 g c own ports through many =
     let read : List Bool → Option PathMaxLabel = said_by pathmax_shape g.C.NumCode.takes in
     let view = c.args.view.now in
     let first : ℕ = c.loop-first.first in
-    let is : c.in_ok-verdict.verdict ≡ verdict_by pathmax_shape (one_pass_rules first)
+    let is : c.judge-verdict.result ≡ verdict_by pathmax_shape (one_pass_rules first)
     g.C.NumCode.takes view =
-    c.in_ok-verdict.ensures.verdict
+    c.judge-verdict.ensures
     ∙ ap (λ (first : ℕ). verdict_by pathmax_shape (one_pass_rules first) g.C.NumCode.takes view)
     c.pass_from.ensures in
     pass_fails read view own ports through first
@@ -28,9 +28,9 @@ loop-first-preserved g c own ports through number level at past before =
     let read : List Bool → Option PathMaxLabel = said_by pathmax_shape g.C.NumCode.takes in
     let view = c.args.view.now in
     let first : ℕ = c.loop-first.first in
-    let is : c.in_ok-verdict.verdict ≡ verdict_by pathmax_shape (one_pass_rules first)
+    let is : c.judge-verdict.result ≡ verdict_by pathmax_shape (one_pass_rules first)
     g.C.NumCode.takes view =
-    c.in_ok-verdict.ensures.verdict
+    c.judge-verdict.ensures
     ∙ ap (λ (first : ℕ). verdict_by pathmax_shape (one_pass_rules first) g.C.NumCode.takes view)
     c.pass_from.ensures in
     elim (cases_lt number first) [
@@ -43,8 +43,8 @@ loop-first-preserved g c own ports through number level at past before =
           number level at later (omega (arith, before, next))
     ]
 
-pub returns-clause-ways : goal.returns-clause-ways
-returns-clause-ways g c own ports through many number level at past =
+pub returns : goal.returns
+returns g c own ports through many number level at past =
     let within = slice_get_within own.levels number level at in
     let ends = c.loop-first-test.false in
     c.loop-first.invariant own ports through number level at past
