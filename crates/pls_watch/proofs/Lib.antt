@@ -17,3 +17,4 @@ pub mod Ahead
 pub mod Staying
 pub mod Noted
 pub mod Current
+pub mod Columns

@@ -1,5 +1,6 @@
 -- What private functions say to each other.
 pub mod Held
+pub mod Columns
 pub mod Numbers
 pub mod Stock
 pub mod Known

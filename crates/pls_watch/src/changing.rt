@@ -57,7 +57,8 @@ impl<'n> Versions<'n> {
         let to = self.ends[place] as usize;
         let at = self.sim.arrives_at(number);
         let heard = self.sim.heard_at(to, at);
-        let (old, came) = (self.held[at], self.carried[place]);
+        let (old, _) = self.held.get(at);
+        let (came, _) = self.carried.get(place);
         if heard && came <= old {
             return None;
         }

@@ -16,6 +16,7 @@ mod lookout;
 mod looks;
 mod stock;
 mod turn;
+mod version_list;
 mod versions;
 mod watch;
 

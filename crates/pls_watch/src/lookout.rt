@@ -1,6 +1,6 @@
 //! A watch with its looks.
 
-ghost use Rattle.std.specs.Prelude.{◌≡◌, ◌≢◌, ◌<◌, ℕ, length, slice_get, IfErr, IfOk, None, OnErr, OnOk, Some};
+ghost use Rattle.std.specs.Prelude.{◌≡◌, ◌≢◌, ◌<◌, ℕ, length, slice_get, slice_set, IfErr, IfOk, None, OnErr, OnOk, Some};
 ghost use Rattle.pls_model.specs.declared.row.NodeRow.{NodeRow};
 ghost use Rattle.pls_scheme.specs.Judging.{RoseByAtMost};
 ghost use Rattle.pls_watch.specs.Watching.{look_of, watch_refusal, watching};
@@ -140,9 +140,18 @@ impl<'n, 'k, K: Checker> Lookout<'n, 'k, K> {
                 self.rows[i].set_stale(alloc, stale)?;
             }
             Change::Held | Change::Label => {
-                self.rows[i] = self.watch.look_at(alloc, i, table, self.checker, steps)?;
+                let row = self.watch.look_at(alloc, i, table, self.checker, steps)?;
+                set_row(&mut self.rows, i, row);
             }
         }
         Ok(())
     }
+}
+
+// Puts another row at a place.
+fn set_row(rows: &mut Vec<LookRow>, i: usize, row: LookRow)
+    requires { i < length rows.old.items }
+    ensures { rows.new.items ≡ slice_set rows.old.items i row }
+{
+    rows[i] = row;
 }

@@ -11,9 +11,10 @@ ghost use Rattle.pls_sim.specs.inner.Kept.{NamesEmit};
 ghost use Rattle.pls_watch.specs.Versions.{held, is_fresh, newest, plain_of, stale};
 ghost use Rattle.pls_watch.specs.Turning.{turn_refusal, turning};
 ghost use Rattle.pls_watch.specs.inner.Held.{AreBoth};
-ghost use Rattle.pls_watch.specs.inner.Numbers.{ArePlaces, IsLabel, IsOneOf};
+ghost use Rattle.pls_watch.specs.inner.Numbers.{IsLabel, IsOneOf};
 
 use crate::turn::Turn;
+use crate::version_list::VersionList;
 use pls_base::NoMemory;
 use pls_graph::Network;
 use pls_schedule::Event;
@@ -29,18 +30,13 @@ pub(crate) struct Versions<'n> {
     pub(crate) sim: Sim<'n>,
     most: usize,
     turns: Vec<Turn>,
-    // For each node its newest version, and the number of that label.
-    newest: Vec<u32>,
-    newest_labels: Vec<u32>,
-    // For each emit the version that it carries, the number of that label, and the place of the
-    // node to which it goes.
-    pub(crate) carried: Vec<u32>,
-    carried_labels: Vec<u32>,
+    // For each node its newest version.
+    newest: VersionList,
+    // For each emit the version that it carries, and the place of the node to which it goes.
+    pub(crate) carried: VersionList,
     pub(crate) ends: Vec<u32>,
-    // For each port, numbered through, the version that is held and the number of that label, where
-    // something was heard.
-    pub(crate) held: Vec<u32>,
-    held_labels: Vec<u32>,
+    // For each port, numbered through, the version that is held, where something was heard.
+    pub(crate) held: VersionList,
     // For each label that was given the number of the one that its node had before.
     earlier: Vec<u32>,
 }
@@ -60,14 +56,13 @@ impl<'n> Model for Versions<'n> {
     } };
 
     ghost invariant = { λ watch. IsRound watch.net.now watch.most watch.turns.items watch.sim
-        × AreKept watch.net.now watch.turns.items watch.newest.items watch.carried.items
-        watch.ends.items watch.held.items
-        × Rooms watch.most watch.turns.items (vec_capacity watch.turns)
-        (vec_capacity watch.carried) (vec_capacity watch.ends)
-        × AreNumbered watch.net.now watch.turns.items watch.newest_labels.items
-        watch.carried_labels.items watch.held_labels.items watch.earlier.items
-        × NumberRooms watch.most (vec_capacity watch.carried_labels)
-        (vec_capacity watch.earlier) };
+        × AreKept watch.net.now watch.turns.items watch.newest.versions watch.carried.versions
+        watch.ends.items watch.held.versions
+        × Rooms watch.most watch.turns.items (vec_capacity watch.turns) watch.carried.room
+        (vec_capacity watch.ends)
+        × AreNumbered watch.net.now watch.turns.items watch.newest.labels watch.carried.labels
+        watch.held.labels watch.earlier.items
+        × NumberRooms watch.most (vec_capacity watch.earlier) };
 }
 
 impl<'n> Versions<'n> {
@@ -83,20 +78,16 @@ impl<'n> Versions<'n> {
         ensures none { IfOk result (λ watch. watch.turns ≡ []) }
     {
         let sim = Sim::start(alloc, net, most)?;
-        let held = noughts(alloc, sim.ports())?;
-        let held_labels = noughts(alloc, sim.ports())?;
+        let held = VersionList::noughts(alloc, sim.ports())?;
         Ok(Versions {
             net,
             sim,
             most,
             turns: Vec::with_capacity(alloc, most)?,
-            newest: noughts(alloc, net.len())?,
-            newest_labels: places_of(alloc, net)?,
-            carried: Vec::with_capacity(alloc, most)?,
-            carried_labels: Vec::with_capacity(alloc, most)?,
+            newest: VersionList::first(alloc, net.len())?,
+            carried: VersionList::with_room(alloc, most)?,
             ends: Vec::with_capacity(alloc, most)?,
             held,
-            held_labels,
             earlier: Vec::with_capacity(alloc, most)?,
         })
     }
@@ -133,8 +124,8 @@ impl<'n> Versions<'n> {
     {
         self.sim.step(Event::Emit { node, port })?;
         let (from, to) = ends_of(self.net, node, port);
-        self.carried.push_reserved(self.newest[from]);
-        self.carried_labels.push_reserved(self.newest_labels[from]);
+        let (version, label) = self.newest.get(from);
+        self.carried.push_reserved(version, label);
         self.ends.push_reserved(to);
         self.turns
             .push_reserved(Turn::Plain(Event::Emit { node, port }));
@@ -159,10 +150,8 @@ impl<'n> Versions<'n> {
         let at = self.sim.arrives_at(number);
         let heard = self.sim.heard_at(self.ends[place] as usize, at);
         self.sim.step(Event::Arrive(number))?;
-        let came = (self.carried[place], self.carried_labels[place]);
-        let (version, label) = later(heard, (self.held[at], self.held_labels[at]), came);
-        self.held[at] = version;
-        self.held_labels[at] = label;
+        let (version, label) = later(heard, self.held.get(at), self.carried.get(place));
+        self.held.set(at, version, label);
         self.turns.push_reserved(Turn::Plain(Event::Arrive(number)));
         Ok(())
     }
@@ -196,9 +185,9 @@ impl<'n> Versions<'n> {
             return Err(EventError::NoNode);
         };
         let number = self.net.len() + self.earlier.len();
-        self.earlier.push_reserved(self.newest_labels[place]);
-        self.newest[place] += 1;
-        self.newest_labels[place] = number as u32;
+        let (version, label) = self.newest.get(place);
+        self.earlier.push_reserved(label);
+        self.newest.set(place, version + 1, number as u32);
         self.turns.push_reserved(Turn::Relabel(node));
         Ok(())
     }
@@ -211,7 +200,7 @@ impl<'n> Versions<'n> {
         ensures label { (row : NodeRow) → slice_get self.now.network i ≡ Some row
             → IsLabel self.now.network self.now.turns row.id result.0 result.1 }
     {
-        (self.newest[i], self.newest_labels[i])
+        self.newest.get(i)
     }
 
     /// The numbers of emits that arrived are those of emits.
@@ -239,7 +228,7 @@ impl<'n> Versions<'n> {
             return None;
         }
         let number = self.sim.number_of(i, port);
-        Some((self.held[number], self.held_labels[number]))
+        Some(self.held.get(number))
     }
 
     /// Whether what the node at place `i` holds at its port of this number is the newest, if it
@@ -265,7 +254,7 @@ impl<'n> Versions<'n> {
         ensures { (row : NodeRow) (at : Port) → slice_get self.now.network i ≡ Some row
             → slice_get row.ports port ≡ Some at → result ≡ newest self.now.turns at.nbr }
     {
-        self.newest[self.net.places(i)[port] as usize]
+        self.newest.get(self.net.places(i)[port] as usize).0
     }
 
     /// The numbers of the stale ports of the node at place `i`, in rising order. The one error is
@@ -333,17 +322,6 @@ pub(crate) fn noughts(alloc: Global, count: usize) -> Result<Vec<u32>, NoMemory>
     ensures { IfOk result (λ list. list.items ≡ replicate count 0) }
 {
     Ok(vec![in alloc; 0; count]?)
-}
-
-// The place of each node.
-fn places_of(alloc: Global, net: &Network) -> Result<Vec<u32>, NoMemory>
-    ensures { IfOk result (λ places. ArePlaces (length net.now) places.items) }
-{
-    let mut places = Vec::with_capacity(alloc, net.len())?;
-    for i in 0..net.len() {
-        places.push(i as u32)?;
-    }
-    Ok(places)
 }
 
 // The places of the nodes from and to which an emit goes.

@@ -7,12 +7,11 @@ mod texts;
 ghost use Rattle.std.specs.Prelude.{◌≡◌, IfOk, length};
 
 use pls_base::{Steps, TextError};
-use pls_bits::Gamma;
-use pls_colour::Bipartite;
 use pls_graph::Network;
 use pls_labelfile::read_labels;
 use pls_model::Verdict;
 use pls_netfile::read_network;
+use pls_scheme::Checker;
 use pls_sim::Outcome;
 use pls_view::LabelStore;
 use pls_watch::Lookout;
@@ -50,10 +49,10 @@ fn bits_of(ports: &[u32]) -> u32 {
 // waits, the ports for which it waits, and its stale ports.
 type Shown = (u32, u32, u32, u32);
 
-// What a look shows of all nodes, where labels are colours.
-fn look(
+// What a look shows of all nodes.
+fn look<K: Checker>(
     alloc: Global,
-    lookout: &mut Lookout<'_, '_, Bipartite<Gamma>>,
+    lookout: &mut Lookout<'_, '_, K>,
 ) -> Result<Vec<Shown>, Fail> {
     lookout.look(alloc, &mut Steps::new())?;
     let mut shown = Vec::new(alloc);

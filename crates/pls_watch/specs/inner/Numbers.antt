@@ -62,8 +62,7 @@ pub record AreNumbered (rows : List NodeRow) (turns : List Turn)
   pub are_earlier : (place node before : ℕ) → IsGiven turns node before place
       → IsLabel rows turns node before (slice_index_or earlier place 0)
 
--- room for the numbers of all labels, and each has 32 bits
-pub record NumberRooms (most carried_room earlier_room : ℕ) : Type 0 where
+-- room for the numbers of all labels that are given, and each has 32 bits
+pub record NumberRooms (most earlier_room : ℕ) : Type 0 where
   pub small : most ≤ 1048576
-  pub for_carried : most ≤ carried_room
   pub for_earlier : most ≤ earlier_room

@@ -5,6 +5,7 @@ use pls_base::Steps;
 use pls_bits::{BitBuf, Gamma};
 use pls_colour::Bipartite;
 use pls_graph::Network;
+use pls_scheme::Checker;
 use pls_sim::EventError;
 use pls_watch::{Lookout, Watch};
 use pls_watch_part::WatchEvent;
@@ -228,17 +229,17 @@ fn plain_look(alloc: Global, plain: &Plain) -> Result<Vec<Shown>, Fail> {
 
 // How many events are taken of random ones on a network; each is to be refused as the plain
 // program refuses it, and a look behind each fourth event or so is to show the same.
-fn taken(
+fn taken<K: Checker>(
     alloc: Global,
     net: &Network,
+    checker: &K,
     plain: &mut Plain,
     text: &str,
     seed: u32,
 ) -> Result<u32, Fail> {
     let colours = labels(alloc, net, text)?;
     let watch = Watch::start(alloc, net, &colours, 60, 60, 60)?;
-    let checker = Bipartite::<Gamma>::new();
-    let mut lookout = Lookout::over(alloc, watch, &checker, &mut Steps::new())?;
+    let mut lookout = Lookout::over(alloc, watch, checker, &mut Steps::new())?;
     let (mut number, mut taken) = (seed, 0_u32);
     for _ in 0..60 {
         number = next(number);
@@ -266,6 +267,7 @@ const SETS: &[(u32, u32)] = &[(1, 1), (2, 2), (3, 8), (4, 64)];
 
 #[test]
 fn random_events_on_all_small_networks(rt: HostRuntime) -> Result<(), Fail> {
+    let checker = Bipartite::<Gamma>::new();
     let mut all = 0_u32;
     for (nodes, sets) in SETS {
         for edges in 0..*sets {
@@ -273,7 +275,7 @@ fn random_events_on_all_small_networks(rt: HostRuntime) -> Result<(), Fail> {
             let net = network(rt.alloc(), text.as_str())?;
             for seed in 1..9 {
                 let mut plain = Plain::of(rt.alloc(), *nodes, edges);
-                let events = taken(rt.alloc(), &net, &mut plain, colours.as_str(), seed)?;
+                let events = taken(rt.alloc(), &net, &checker, &mut plain, colours.as_str(), seed)?;
                 all = all.saturating_add(events);
             }
         }

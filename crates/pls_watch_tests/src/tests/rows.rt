@@ -5,6 +5,7 @@ use pls_base::Steps;
 use pls_bits::Gamma;
 use pls_colour::Bipartite;
 use pls_lines::Lines;
+use pls_scheme::Checker;
 use pls_sim::EventError;
 use pls_watch::{Lookout, Watch};
 use pls_watch_part::{WatchLine, scan_watch};
@@ -38,7 +39,7 @@ const ROWS: &[(&str, &[Shown])] = &[
 ];
 
 // What the last look of a part shows.
-fn last_look(alloc: Global, lines: &str) -> Result<Vec<Shown>, Fail> {
+fn last_look<K: Checker>(alloc: Global, checker: &K, lines: &str) -> Result<Vec<Shown>, Fail> {
     let net = network(alloc, PAIR)?;
     let colours = labels(alloc, &net, COLOURS)?;
     let text = format!(in alloc; "watch\n{lines}end\n")?;
@@ -49,8 +50,7 @@ fn last_look(alloc: Global, lines: &str) -> Result<Vec<Shown>, Fail> {
         return Err(Fail::from("no list"));
     };
     let watch = Watch::start(alloc, &net, &colours, 100, 10, 100)?;
-    let checker = Bipartite::<Gamma>::new();
-    let mut lookout = Lookout::over(alloc, watch, &checker, &mut Steps::new())?;
+    let mut lookout = Lookout::over(alloc, watch, checker, &mut Steps::new())?;
     let mut shown = Vec::new(alloc);
     for line in &list {
         match line {
@@ -63,9 +63,10 @@ fn last_look(alloc: Global, lines: &str) -> Result<Vec<Shown>, Fail> {
 
 #[test]
 fn rows_on_two_nodes(rt: HostRuntime) -> Result<(), Fail> {
+    let checker = Bipartite::<Gamma>::new();
     for (lines, shown) in ROWS {
         assert!(rt;
-            last_look(rt.alloc(), lines)?.as_slice() == *shown,
+            last_look(rt.alloc(), &checker, lines)?.as_slice() == *shown,
             "the rows of {lines}"
         );
     }
@@ -95,7 +96,11 @@ const REFUSED: &[(&str, EventError)] = &[
 
 // Why an event of a part is refused, and whether the look behind it shows what the one before it
 // does.
-fn refusal(alloc: Global, lines: &str) -> Result<Option<EventError>, Fail> {
+fn refusal<K: Checker>(
+    alloc: Global,
+    checker: &K,
+    lines: &str,
+) -> Result<Option<EventError>, Fail> {
     let net = network(alloc, PAIR)?;
     let colours = labels(alloc, &net, COLOURS)?;
     let text = format!(in alloc; "watch\n{lines}end\n")?;
@@ -106,8 +111,7 @@ fn refusal(alloc: Global, lines: &str) -> Result<Option<EventError>, Fail> {
         return Err(Fail::from("no list"));
     };
     let watch = Watch::start(alloc, &net, &colours, 5, 2, 3)?;
-    let checker = Bipartite::<Gamma>::new();
-    let mut lookout = Lookout::over(alloc, watch, &checker, &mut Steps::new())?;
+    let mut lookout = Lookout::over(alloc, watch, checker, &mut Steps::new())?;
     for line in &list {
         if let WatchLine::Event(event) = line {
             let before = look(alloc, &mut lookout)?;
@@ -124,9 +128,10 @@ fn refusal(alloc: Global, lines: &str) -> Result<Option<EventError>, Fail> {
 
 #[test]
 fn refused_events_change_nothing(rt: HostRuntime) -> Result<(), Fail> {
+    let checker = Bipartite::<Gamma>::new();
     for (lines, error) in REFUSED {
         assert!(rt;
-            refusal(rt.alloc(), lines)? == Some(*error),
+            refusal(rt.alloc(), &checker, lines)? == Some(*error),
             "the refusal of {lines}"
         );
     }

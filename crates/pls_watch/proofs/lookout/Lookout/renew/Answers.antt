@@ -54,9 +54,8 @@ returns-in_ok-set_stale-in-Beside-clause-renewed g c =
     c.index_mut.ensures.value c.in_ok-stale-in-Beside.ensures.ports
     c.in_ok-set_stale-in-Beside.ensures.stale)
 
-pub returns-in_ok-self-inside-in-Held-clause-renewed :
-    goal.returns-in_ok-self-inside-in-Held-clause-renewed
-returns-in_ok-self-inside-in-Held-clause-renewed g c =
+pub returns-in_ok-row-in-Held-clause-renewed : goal.returns-in_ok-row-in-Held-clause-renewed
+returns-in_ok-row-in-Held-clause-renewed g c =
     let inside = c.self.inside in
     let old = inside.rows.items in
     let changes = inside.changes.items in
@@ -71,11 +70,12 @@ returns-in_ok-self-inside-in-Held-clause-renewed g c =
     omega (arith, c.requires.place, c.self.invariant.each, many) in
     let inside_rows : c.args.i < length old =
     omega (arith, c.requires.place, c.self.invariant.all, many) in
-    renewed_shown g.K.Checker.judge inside.checker.now c.args.self.now.checker inside.watch
+    rw c.set_row.ensures
+    (renewed_shown g.K.Checker.judge inside.checker.now c.args.self.now.checker inside.watch
     c.args.self.now.watched checker watched c.args.i old c.args.self.now.rows
-    (set old c.args.i c.in_ok-self-inside-in-Held.field-0) shown
-    (renewed_set judge inside.watch c.args.i old c.in_ok-self-inside-in-Held.field-0 inside_rows
-    c.in_ok-self-inside-in-Held.ensures.shows)
+    (set old c.args.i c.in_ok-row-in-Held.row) shown
+    (renewed_set judge inside.watch c.args.i old c.in_ok-row-in-Held.row inside_rows
+    c.in_ok-row-in-Held.ensures.shows))
 
 pub invariant_of-self : goal.invariant_of-self
 invariant_of-self g c =
@@ -111,8 +111,8 @@ invariant_of-self-in-Held g c =
     omega (arith, c.requires.place, c.self.invariant.each, many) in
     let inside_rows : c.args.i < length old =
     omega (arith, c.requires.place, c.self.invariant.all, many) in
-    renewed_current judge inside.watch c.args.i old
-    (set old c.args.i c.in_ok-self-inside-in-Held.field-0)
-    (renewed_set judge inside.watch c.args.i old c.in_ok-self-inside-in-Held.field-0 inside_rows
-    c.in_ok-self-inside-in-Held.ensures.shows)
-    changes c.self.invariant
+    rw c.set_row.ensures
+    (renewed_current judge inside.watch c.args.i old (set old c.args.i c.in_ok-row-in-Held.row)
+    (renewed_set judge inside.watch c.args.i old c.in_ok-row-in-Held.row inside_rows
+    c.in_ok-row-in-Held.ensures.shows)
+    changes c.self.invariant)

@@ -15,7 +15,7 @@ arrives_at-at-requires-clause-emitted c =
     let old = c.self.inside in
     few_emits old.net.now old.turns.items _ _ _ _ c.self.invariant.1 old.most old.sim
     c.self.invariant.0
-    c.args.number (omega (arith, c.if-number-len.false, c.len.ensures, old.carried.ok.0))
+    c.args.number (omega (arith, c.if-number-len.false, c.len.ensures))
 
 pub heard_at-heard-requires-clause-number : goal.heard_at-heard-requires-clause-number
 heard_at-heard-requires-clause-number c =
@@ -25,79 +25,35 @@ heard_at-heard-requires-clause-number c =
       ap ports_in c.self.invariant.0.network,
       at_within old.net.now old.turns.items _ _ _ _ c.self.invariant.1 old.most old.sim
           c.self.invariant.0
-          c.args.number (omega (arith, c.if-number-len.false, c.len.ensures, old.carried.ok.0))
+          c.args.number (omega (arith, c.if-number-len.false, c.len.ensures))
           (c.args.number - 1) (omega (arith, c.if-number-eq0.false)) c.arrives_at-at.result
           c.arrives_at-at.ensures,
     )
 
-pub index-requires-4 : goal.index-requires-4
-index-requires-4 c =
+pub get-requires : goal.get-requires
+get-requires c =
     let old = c.self.inside in
     omega (
       arith,
       c.self.invariant.1.each_port,
-      old.held.ok.0,
       at_within old.net.now old.turns.items _ _ _ _ c.self.invariant.1 old.most old.sim
           c.self.invariant.0
-          c.args.number (omega (arith, c.if-number-len.false, c.len.ensures, old.carried.ok.0))
+          c.args.number (omega (arith, c.if-number-len.false, c.len.ensures))
           (c.args.number - 1) (omega (arith, c.if-number-eq0.false)) c.arrives_at-at.result
           c.arrives_at-at.ensures,
     )
 
-pub index-requires-5 : goal.index-requires-5
-index-requires-5 c =
-    let old = c.self.inside in
-    omega (
-      arith,
-      c.self.invariant.3.each_port,
-      old.held_labels.ok.0,
-      at_within old.net.now old.turns.items _ _ _ _ c.self.invariant.1 old.most old.sim
-          c.self.invariant.0
-          c.args.number (omega (arith, c.if-number-len.false, c.len.ensures, old.carried.ok.0))
-          (c.args.number - 1) (omega (arith, c.if-number-eq0.false)) c.arrives_at-at.result
-          c.arrives_at-at.ensures,
-    )
-
-pub index_mut-requires : goal.index_mut-requires
-index_mut-requires c =
+pub set-requires : goal.set-requires
+set-requires c =
     let old = c.self.inside in
     omega (
       arith,
       c.self.invariant.1.each_port,
-      old.held.ok.0,
       at_within old.net.now old.turns.items _ _ _ _ c.self.invariant.1 old.most old.sim
           c.self.invariant.0
-          c.args.number (omega (arith, c.if-number-len.false, c.len.ensures, old.carried.ok.0))
+          c.args.number (omega (arith, c.if-number-len.false, c.len.ensures))
           (c.args.number - 1) (omega (arith, c.if-number-eq0.false)) c.arrives_at-at.result
           c.arrives_at-at.ensures,
-    )
-
-pub index_mut-requires-2 : goal.index_mut-requires-2
-index_mut-requires-2 c =
-    let old = c.self.inside in
-    omega (
-      arith,
-      c.self.invariant.3.each_port,
-      old.held_labels.ok.0,
-      at_within old.net.now old.turns.items _ _ _ _ c.self.invariant.1 old.most old.sim
-          c.self.invariant.0
-          c.args.number (omega (arith, c.if-number-len.false, c.len.ensures, old.carried.ok.0))
-          (c.args.number - 1) (omega (arith, c.if-number-eq0.false)) c.arrives_at-at.result
-          c.arrives_at-at.ensures,
-    )
-
-pub index-requires-3 : goal.index-requires-3
-index-requires-3 c =
-    let old = c.self.inside in
-    omega (
-      arith,
-      c.if-number-len.false,
-      c.len.ensures,
-      old.carried.ok.0,
-      c.if-number-eq0.false,
-      old.carried_labels.ok.0,
-      c.self.invariant.3.each_emit,
-      ap length c.self.invariant.1.are_carried,
     )
 
 pub heard_at-heard-requires-clause-place : goal.heard_at-heard-requires-clause-place
@@ -108,7 +64,7 @@ heard_at-heard-requires-clause-place c =
       ap length c.self.invariant.0.network,
       end_within old.net.now old.turns.items _ _ _ _ c.self.invariant.1 old.most old.sim
           c.self.invariant.0
-          c.args.number (omega (arith, c.if-number-len.false, c.len.ensures, old.carried.ok.0))
+          c.args.number (omega (arith, c.if-number-len.false, c.len.ensures))
           (c.args.number - 1) (omega (arith, c.if-number-eq0.false)) c.arrives_at-at.result
           c.arrives_at-at.ensures c.index.result.now c.index.ensures,
     )
@@ -124,28 +80,31 @@ invariant_of-self-2 c =
       ap (λ (turned : Turned). turned.most) c.self.view_is,
       ap (λ (turned : Turned). length turned.turns) c.self.view_is,
     ) in
-    rw (c.push_reserved.ensures.items, c.push_reserved.ensures.capacity) (
+    rw (
+      c.set.ensures.versions,
+      c.set.ensures.labels,
+      c.push_reserved.ensures.items,
+      c.push_reserved.ensures.capacity,
+    ) (
       round_more rows old.most old.turns.items (Arrive c.args.number) old.sim c.step.new.self
           c.in_ok-step.ensures.taken c.self.invariant.0,
       kept_now rows old.turns.items _ _ _ _ c.self.invariant.1 old.most old.sim c.self.invariant.0
-          c.args.number (omega (arith, c.if-number-len.false, c.len.ensures, old.carried.ok.0))
+          c.args.number (omega (arith, c.if-number-len.false, c.len.ensures))
           (c.args.number - 1) (omega (arith, c.if-number-eq0.false)) c.arrives_at-at.result
           c.arrives_at-at.ensures c.index.result.now c.index.ensures c.heard_at-heard.result
-          c.heard_at-heard.ensures c.index-4.result.now c.index-2.result.now
-          c.later-version.result.0
-          c.index-4.ensures c.index-2.ensures c.later-version.ensures.version,
+          c.heard_at-heard.ensures c.get.result.0 c.get-2.result.0 c.later-version.result.0
+          c.get.ensures.version c.get-2.ensures.version c.later-version.ensures.version,
       rooms_more old.most _ _ _ old.turns.items _ room c.self.invariant.2,
       numbered_now old.net.now old.turns.items _ _ _ _ c.self.invariant.1 old.most old.sim
           c.self.invariant.0 c.args.number
-          (omega (arith, c.if-number-len.false, c.len.ensures, old.carried.ok.0)) (c.args.number -
+          (omega (arith, c.if-number-len.false, c.len.ensures)) (c.args.number -
           1)
           (omega (arith, c.if-number-eq0.false)) c.arrives_at-at.result c.arrives_at-at.ensures
           c.index.result.now c.index.ensures c.heard_at-heard.result c.heard_at-heard.ensures _ _ _
           _
-          c.self.invariant.3 c.index-4.result.now c.index-5.result.now c.index-2.result.now
-          c.index-3.result.now c.later-version.result.0 c.later-version.result.1 c.index-4.ensures
-          c.index-5.ensures
-          c.index-2.ensures c.index-3.ensures c.later-version.ensures.version
+          c.self.invariant.3 c.get.result.0 c.get.result.1 c.get-2.result.0 c.get-2.result.1
+          c.later-version.result.0 c.later-version.result.1 c.get.ensures.version c.get.ensures.label
+          c.get-2.ensures.version c.get-2.ensures.label c.later-version.ensures.version
           c.later-version.ensures.label,
       c.self.invariant.4,
     )
@@ -164,7 +123,6 @@ returns-then-number-eq0-clause-refused c =
             arith,
             w.if-number-len.true,
             w.len.ensures,
-            old.carried.ok.0,
             ap length kept.are_carried,
             many_carried old.turns.items,
           ))

@@ -18,25 +18,22 @@ ends_of-from-requires-clause-port c =
     (names c.self.inside.net.now c.self.inside.sim c.self.invariant.0.network
     (Emit c.args.node c.args.port) c.in_ok-step.ensures.applies).1
 
-pub index-requires : goal.index-requires
-index-requires c =
+pub get-version-requires : goal.get-version-requires
+get-version-requires c =
     let both = c.ends_of-from.ensures in
     omega (
       arith,
       slice_get_within c.self.inside.net.now c.ends_of-from.result.0 both.row both.stands,
       c.self.invariant.1.each_node,
-      c.self.inside.newest.ok.0,
     )
 
 pub push_reserved-requires : goal.push_reserved-requires
 push_reserved-requires c =
-    let old = c.self.inside in
     omega (
       arith,
       c.requires,
       ap (λ (turned : Turned). turned.most) c.self.view_is,
       ap (λ (turned : Turned). length turned.turns) c.self.view_is,
-      old.carried.ok.0,
       few_carried _ _ _ _ _ _ c.self.invariant.1,
       c.self.invariant.2.for_sent,
     )
@@ -49,35 +46,10 @@ push_reserved-requires-2 c =
       c.requires,
       ap (λ (turned : Turned). turned.most) c.self.view_is,
       ap (λ (turned : Turned). length turned.turns) c.self.view_is,
-      old.carried_labels.ok.0,
-      few_carried _ _ _ _ _ _ c.self.invariant.1,
-      ap length c.self.invariant.1.are_carried,
-      c.self.invariant.3.each_emit,
-      c.self.invariant.4.for_carried,
-    )
-
-pub push_reserved-requires-3 : goal.push_reserved-requires-3
-push_reserved-requires-3 c =
-    let old = c.self.inside in
-    omega (
-      arith,
-      c.requires,
-      ap (λ (turned : Turned). turned.most) c.self.view_is,
-      ap (λ (turned : Turned). length turned.turns) c.self.view_is,
       old.ends.ok.0,
       few_carried _ _ _ _ _ _ c.self.invariant.1,
       c.self.invariant.1.each_emit,
       c.self.invariant.2.for_ends,
-    )
-
-pub index-requires-2 : goal.index-requires-2
-index-requires-2 c =
-    let both = c.ends_of-from.ensures in
-    omega (
-      arith,
-      slice_get_within c.self.inside.net.now c.ends_of-from.result.0 both.row both.stands,
-      c.self.invariant.3.each_node,
-      c.self.inside.newest_labels.ok.0,
     )
 
 pub invariant_of-self-2 : goal.invariant_of-self-2
@@ -86,14 +58,13 @@ invariant_of-self-2 c =
     let rows = old.net.now in
     let kept = c.self.invariant.1 in
     let both = c.ends_of-from.ensures in
-    let version : get_or old.newest.items c.ends_of-from.result.0 0 ≡ c.index.result.now =
-    value_at old.newest.items c.ends_of-from.result.0 c.index.result.now
-    (omega (
-      arith,
-      slice_get_within rows c.ends_of-from.result.0 both.row both.stands,
-      kept.each_node,
-    ))
-    c.index.ensures in
+    let within = slice_get_within rows c.ends_of-from.result.0 both.row both.stands in
+    let version : get_or old.newest.versions c.ends_of-from.result.0 0 ≡ c.get-version.result.0 =
+    value_at old.newest.versions c.ends_of-from.result.0 c.get-version.result.0
+    (omega (arith, within, kept.each_node)) c.get-version.ensures.version in
+    let label : get_or old.newest.labels c.ends_of-from.result.0 0 ≡ c.get-version.result.1 =
+    value_at old.newest.labels c.ends_of-from.result.0 c.get-version.result.1
+    (omega (arith, within, c.self.invariant.3.each_node)) c.get-version.ensures.label in
     let room : length old.turns.items < old.most =
     omega (
       arith,
@@ -101,22 +72,14 @@ invariant_of-self-2 c =
       ap (λ (turned : Turned). turned.most) c.self.view_is,
       ap (λ (turned : Turned). length turned.turns) c.self.view_is,
     ) in
-    let label : get_or old.newest_labels.items c.ends_of-from.result.0 0 ≡ c.index-2.result.now =
-    value_at old.newest_labels.items c.ends_of-from.result.0 c.index-2.result.now
-    (omega (
-      arith,
-      slice_get_within rows c.ends_of-from.result.0 both.row both.stands,
-      c.self.invariant.3.each_node,
-    )) c.index-2.ensures in
     rw (
-      c.push_reserved.ensures.items,
-      c.push_reserved.ensures.capacity,
+      c.push_reserved.ensures.versions,
+      c.push_reserved.ensures.labels,
+      c.push_reserved.ensures.room,
       c.push_reserved-2.ensures.items,
       c.push_reserved-2.ensures.capacity,
       c.push_reserved-3.ensures.items,
       c.push_reserved-3.ensures.capacity,
-      c.push_reserved-4.ensures.items,
-      c.push_reserved-4.ensures.capacity,
       ← version,
       ← label,
     ) (

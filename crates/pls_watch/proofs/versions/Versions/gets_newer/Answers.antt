@@ -13,7 +13,7 @@ arrives_at-at-requires-clause-emitted c =
     let old = c.self.inside in
     few_emits old.net.now old.turns.items _ _ _ _ c.self.invariant.1 old.most old.sim
     c.self.invariant.0
-    c.args.number (omega (arith, c.if-number-len.false, c.len.ensures, old.carried.ok.0))
+    c.args.number (omega (arith, c.if-number-len.false, c.len.ensures))
 
 pub heard_at-heard-requires-clause-place : goal.heard_at-heard-requires-clause-place
 heard_at-heard-requires-clause-place c =
@@ -23,7 +23,7 @@ heard_at-heard-requires-clause-place c =
       ap length c.self.invariant.0.network,
       end_within old.net.now old.turns.items _ _ _ _ c.self.invariant.1 old.most old.sim
           c.self.invariant.0
-          c.args.number (omega (arith, c.if-number-len.false, c.len.ensures, old.carried.ok.0))
+          c.args.number (omega (arith, c.if-number-len.false, c.len.ensures))
           (c.args.number - 1) (omega (arith, c.if-number-eq0.false)) c.arrives_at-at.result
           c.arrives_at-at.ensures c.index.result.now c.index.ensures,
     )
@@ -36,21 +36,20 @@ heard_at-heard-requires-clause-number c =
       ap ports_in c.self.invariant.0.network,
       at_within old.net.now old.turns.items _ _ _ _ c.self.invariant.1 old.most old.sim
           c.self.invariant.0
-          c.args.number (omega (arith, c.if-number-len.false, c.len.ensures, old.carried.ok.0))
+          c.args.number (omega (arith, c.if-number-len.false, c.len.ensures))
           (c.args.number - 1) (omega (arith, c.if-number-eq0.false)) c.arrives_at-at.result
           c.arrives_at-at.ensures,
     )
 
-pub index-requires-2 : goal.index-requires-2
-index-requires-2 c =
+pub get-old-requires : goal.get-old-requires
+get-old-requires c =
     let old = c.self.inside in
     omega (
       arith,
       c.self.invariant.1.each_port,
-      old.held.ok.0,
       at_within old.net.now old.turns.items _ _ _ _ c.self.invariant.1 old.most old.sim
           c.self.invariant.0
-          c.args.number (omega (arith, c.if-number-len.false, c.len.ensures, old.carried.ok.0))
+          c.args.number (omega (arith, c.if-number-len.false, c.len.ensures))
           (c.args.number - 1) (omega (arith, c.if-number-eq0.false)) c.arrives_at-at.result
           c.arrives_at-at.ensures,
     )
@@ -68,7 +67,6 @@ returns-then-number-eq0-clause-others c = λ i row neighbour stands differs.
             arith,
             w.if-number-len.true,
             w.len.ensures,
-            old.carried.ok.0,
             ap length c.self.invariant.1.are_carried,
             many_carried old.turns.items,
           ))
@@ -83,11 +81,11 @@ returns-then-came-old-clause-others c = λ i row neighbour stands differs.
     rw (← c.self.view_is)
     (held_still old.net.now old.turns.items _ _ _ _ c.self.invariant.1 old.most old.sim
     c.self.invariant.0
-    c.args.number (omega (arith, c.if-number-len.false, c.len.ensures, old.carried.ok.0))
+    c.args.number (omega (arith, c.if-number-len.false, c.len.ensures))
     (c.args.number - 1) (omega (arith, c.if-number-eq0.false)) c.arrives_at-at.result
     c.arrives_at-at.ensures c.index.result.now c.index.ensures c.heard_at-heard.result
-    c.heard_at-heard.ensures c.if-heard.true c.index-2.result.now c.index-3.result.now
-    c.if-came-old.true c.index-2.ensures c.index-3.ensures row.id neighbour)
+    c.heard_at-heard.ensures c.if-heard.true c.get-old.result.0 c.get-came.result.0
+    c.if-came-old.true c.get-old.ensures.version c.get-came.ensures.version row.id neighbour)
 
 pub returns-clause-others : goal.returns-clause-others
 returns-clause-others c = λ i row neighbour stands differs.
@@ -97,7 +95,7 @@ returns-clause-others c = λ i row neighbour stands differs.
     rw (← c.self.view_is)
     (held_elsewhere old.net.now old.turns.items _ _ _ _ c.self.invariant.1 old.most old.sim
     c.self.invariant.0
-    c.args.number (omega (arith, c.if-number-len.false, c.len.ensures, old.carried.ok.0))
+    c.args.number (omega (arith, c.if-number-len.false, c.len.ensures))
     (c.args.number - 1) (omega (arith, c.if-number-eq0.false)) c.arrives_at-at.result
     c.arrives_at-at.ensures c.index.result.now c.index.ensures c.heard_at-heard.result
     c.heard_at-heard.ensures i row neighbour there (λ same. differs (ap Some same)))
@@ -110,7 +108,7 @@ returns-clause-within c =
       ap (λ (turned : Turned). length turned.network) c.self.view_is,
       end_within old.net.now old.turns.items _ _ _ _ c.self.invariant.1 old.most old.sim
           c.self.invariant.0
-          c.args.number (omega (arith, c.if-number-len.false, c.len.ensures, old.carried.ok.0))
+          c.args.number (omega (arith, c.if-number-len.false, c.len.ensures))
           (c.args.number - 1) (omega (arith, c.if-number-eq0.false)) c.arrives_at-at.result
           c.arrives_at-at.ensures c.index.result.now c.index.ensures,
     )

@@ -21,26 +21,13 @@ returns-then-not-heard-clause-version c = λ row at stands has.
     c.if-not-heard.true
     ∙ ap (λ (turned : Turned). held turned.network turned.turns row.id at.nbr) c.self.view_is
 
-pub index-requires : goal.index-requires
-index-requires c =
-    let old = c.self.inside in
+pub get-requires : goal.get-requires
+get-requires c =
     omega (
       arith,
       c.number_of-number.ensures.within,
       ap ports_in c.self.invariant.0.network,
       c.self.invariant.1.each_port,
-      old.held.ok.0,
-    )
-
-pub index-requires-2 : goal.index-requires-2
-index-requires-2 c =
-    let old = c.self.inside in
-    omega (
-      arith,
-      c.number_of-number.ensures.within,
-      ap ports_in c.self.invariant.0.network,
-      c.self.invariant.3.each_port,
-      old.held_labels.ok.0,
     )
 
 pub returns-clause-version : goal.returns-clause-version
@@ -53,7 +40,7 @@ returns-clause-version c = λ row at stands has.
     held_value old.net.now old.turns.items _ _ _ _ c.self.invariant.1 old.most old.sim
     c.self.invariant.0
     row.id at.nbr c.heard.result (c.heard.ensures row at there has)
-    c.if-not-heard.false c.number_of-number.result c.index.result.now
+    c.if-not-heard.false c.number_of-number.result c.get.result.0
     (subst (λ (rows : List NodeRow). IsSlot rows c.number_of-number.result row.id at.nbr)
     c.self.invariant.0.network (c.number_of-number.ensures.number row at there has))
     (omega (
@@ -62,7 +49,7 @@ returns-clause-version c = λ row at stands has.
       ap ports_in c.self.invariant.0.network,
       c.self.invariant.1.each_port,
     ))
-    c.index.ensures
+    c.get.ensures.version
     ∙ ap (λ (turned : Turned). held turned.network turned.turns row.id at.nbr) c.self.view_is
 
 pub returns-clause-label : goal.returns-clause-label
@@ -80,15 +67,15 @@ returns-clause-label c = λ row at stands has.
     let version =
     held_value rows old.turns.items _ _ _ _ c.self.invariant.1 old.most old.sim c.self.invariant.0
     row.id at.nbr c.heard.result (c.heard.ensures row at there has)
-    c.if-not-heard.false c.number_of-number.result c.index.result.now slot
+    c.if-not-heard.false c.number_of-number.result c.get.result.0 slot
     (omega (arith, within, ap ports_in c.self.invariant.0.network, c.self.invariant.1.each_port))
-    c.index.ensures in
-    let label : get_or old.held_labels.items c.number_of-number.result 0 ≡ c.index-2.result.now =
-    value_at old.held_labels.items c.number_of-number.result c.index-2.result.now
+    c.get.ensures.version in
+    let label : get_or old.held.labels c.number_of-number.result 0 ≡ c.get.result.1 =
+    value_at old.held.labels c.number_of-number.result c.get.result.1
     (omega (arith, within, ap ports_in c.self.invariant.0.network, c.self.invariant.3.each_port))
-    c.index-2.ensures in
-    subst (λ (turned : Turned). IsLabel turned.network turned.turns at.nbr c.index.result.now
-    c.index-2.result.now) c.self.view_is
-    (subst (λ (l : ℕ). IsLabel rows old.turns.items at.nbr c.index.result.now l) label
-    (c.self.invariant.3.are_held c.number_of-number.result row.id at.nbr c.index.result.now slot
+    c.get.ensures.label in
+    subst (λ (turned : Turned). IsLabel turned.network turned.turns at.nbr c.get.result.0
+    c.get.result.1) c.self.view_is
+    (subst (λ (l : ℕ). IsLabel rows old.turns.items at.nbr c.get.result.0 l) label
+    (c.self.invariant.3.are_held c.number_of-number.result row.id at.nbr c.get.result.0 slot
     (sym version)))

@@ -37,8 +37,8 @@ returns-clause-applies c =
     (sym c.self.view_is)
     ∙ ap (λ (o : Option NodeRow). refused_if (is_none o) NoNode) at.found
 
-pub overflow_add-index_mut : goal.overflow_add-index_mut
-overflow_add-index_mut c =
+pub overflow_add-version : goal.overflow_add-version
+overflow_add-version c =
     let old = c.self.inside in
     let rows = old.net.now in
     let kept = c.self.invariant.1 in
@@ -46,10 +46,10 @@ overflow_add-index_mut c =
     sym c.place_of.ensures ∙ c.in-Some.is in
     let at = at_place rows kept.is_network c.args.node c.in-Some.place
     (place_within rows c.args.node c.in-Some.place found) found in
-    let value : get_or old.newest.items c.in-Some.place 0 ≡ c.index_mut.result.now =
-    value_at old.newest.items c.in-Some.place c.index_mut.result.now
+    let value : get_or old.newest.versions c.in-Some.place 0 ≡ c.get-version.result.0 =
+    value_at old.newest.versions c.in-Some.place c.get-version.result.0
     (omega (arith, slice_get_within rows c.in-Some.place at.row at.stands, kept.each_node))
-    c.index_mut.ensures.value in
+    c.get-version.ensures.version in
     omega (
       arith,
       value,
@@ -67,10 +67,10 @@ invariant_of-self c =
     sym c.place_of.ensures ∙ c.in-Some.is in
     let at = at_place rows kept.is_network c.args.node c.in-Some.place
     (place_within rows c.args.node c.in-Some.place found) found in
-    let value : get_or old.newest.items c.in-Some.place 0 ≡ c.index_mut.result.now =
-    value_at old.newest.items c.in-Some.place c.index_mut.result.now
+    let value : get_or old.newest.versions c.in-Some.place 0 ≡ c.get-version.result.0 =
+    value_at old.newest.versions c.in-Some.place c.get-version.result.0
     (omega (arith, slice_get_within rows c.in-Some.place at.row at.stands, kept.each_node))
-    c.index_mut.ensures.value in
+    c.get-version.ensures.version in
     let room : length old.turns.items < old.most =
     omega (
       arith,
@@ -78,14 +78,14 @@ invariant_of-self c =
       ap (λ (turned : Turned). turned.most) c.self.view_is,
       ap (λ (turned : Turned). length turned.turns) c.self.view_is,
     ) in
-    let label : get_or old.newest_labels.items c.in-Some.place 0 ≡ c.index.result.now =
-    value_at old.newest_labels.items c.in-Some.place c.index.result.now
+    let label : get_or old.newest.labels c.in-Some.place 0 ≡ c.get-version.result.1 =
+    value_at old.newest.labels c.in-Some.place c.get-version.result.1
     (omega (
       arith,
       slice_get_within rows c.in-Some.place at.row at.stands,
       c.self.invariant.3.each_node,
     ))
-    c.index.ensures in
+    c.get-version.ensures.label in
     let number : length rows + length (relabelled old.turns.items) ≡ c.len.result + c.len-2.result =
     omega (arith, c.len.ensures, c.len-2.ensures, c.self.invariant.3.each_given, old.earlier.ok.0)
     in
@@ -94,6 +94,8 @@ invariant_of-self c =
       c.push_reserved.ensures.capacity,
       c.push_reserved-2.ensures.items,
       c.push_reserved-2.ensures.capacity,
+      c.set.ensures.versions,
+      c.set.ensures.labels,
       ← value,
       ← label,
       ← number,

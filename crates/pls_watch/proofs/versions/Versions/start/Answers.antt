@@ -1,29 +1,34 @@
-use Rattle.std.proofs.Common.{rules, ◌∙◌, ℕ, length, replicate, ap}
+use Rattle.std.proofs.Common.{rules, ◌≡◌, ◌∙◌, ℕ, length, replicate, ap, subst}
 use Rattle.std.proofs.lemmas.List.{length-replicate}
 use Rattle.pls_model.specs.Configuration.{ports_in}
+use Rattle.pls_watch.specs.inner.Columns.{VersionColumns}
+use Rattle.pls_watch.specs.inner.Numbers.{ArePlaces}
 use Rattle.pls_watch.proofs.Keep.{kept_start}
 use Rattle.pls_watch.proofs.Numbers.{numbered_start}
 use Rattle.pls_watch.proofs.versions.Versions.start.Goals as goal
 
 pub invariant_of-result-2 : goal.invariant_of-result-2
 invariant_of-result-2 c =
+    let ports : c.ports.result ≡ ports_in c.args.net.now =
+    c.ports.ensures ∙ ap ports_in c.in_ok-sim.ensures.network in
     rw (
       c.in_ok-with_capacity.ensures.items,
+      c.in_ok-with_room.ensures.versions,
+      c.in_ok-with_room.ensures.labels,
       c.in_ok-with_capacity-2.ensures.items,
       c.in_ok-with_capacity-3.ensures.items,
-      c.in_ok-with_capacity-4.ensures.items,
-      c.in_ok-with_capacity-5.ensures.items,
     ) (
       search rules,
       kept_start _ _ _ c.len.ensures.valid
-          (c.in_ok-noughts.ensures ∙ ap (λ (count : ℕ). replicate {A = ℕ} count 0)
+          (c.in_ok-first.ensures.versions ∙ ap (λ (count : ℕ). replicate {A = ℕ} count 0)
           c.len.ensures.len)
-          (ap length c.in_ok-held.ensures ∙ length-replicate c.ports.result 0 ∙ c.ports.ensures
-          ∙ ap ports_in c.in_ok-sim.ensures.network),
+          (ap (λ (list : VersionColumns). length list.versions) c.held.view_is
+          ∙ ap length c.in_ok-held.ensures.versions ∙ length-replicate c.ports.result 0 ∙ ports),
       search rules,
-      numbered_start _ _ _ c.in_ok-places_of.ensures
-          (ap length c.in_ok-held_labels.ensures ∙ length-replicate c.ports-2.result 0 ∙
-          c.ports-2.ensures
-          ∙ ap ports_in c.in_ok-sim.ensures.network),
+      numbered_start _ _ _
+          (subst (λ (count : ℕ). ArePlaces count c.in_ok-first.field-0.labels) c.len.ensures.len
+          c.in_ok-first.ensures.labels)
+          (ap (λ (list : VersionColumns). length list.labels) c.held.view_is
+          ∙ c.in_ok-held.ensures.labels ∙ ports),
       search rules,
     )
