@@ -23,7 +23,7 @@ PROPERTIES = {
     "acyclic": "no edges close a ring through three or more nodes",
     "leader": "exactly one node has mark 1",
     "count": "the number in each node's state is the number of nodes",
-    "spt": "the pointers make a tree, and no walk from the root weighs less than a chain of pointers",
+    "spt": "the pointers make a tree, and no walk from the root to a node weighs less than the node's chain of pointers",
     "mst": "the pointers make a tree, and no spanning tree weighs less",
     "pathmax": "the pointers make a tree, and no spanning tree weighs less",
 }
