@@ -186,7 +186,7 @@ pub record RefusesInput (command : Command) (input : Input) (error : TextError) 
   pub components : AreComponents (rows_in input) parts
   pub refused : work_refusal command input parts ≡ Some error
 
--- it takes an input, whose network has these components
+-- the command refuses nothing of an input whose network has these components
 pub record TakesInput (command : Command) (input : Input) (parts : List (List ℕ)) : Type 0 where
   pub components : AreComponents (rows_in input) parts
   pub accepted : work_refusal command input parts ≡ None

@@ -40,7 +40,7 @@ looks_behind shown before (Event event ∷ later) =
     looks_behind shown (before ++ event ∷ []) later
 looks_behind shown before (Look ∷ later) = shown before ∷ looks_behind shown before later
 
--- and those of an input
+-- what the looks of an input show
 abbrev pub looks_in : (Seen → Verdict) → Input → List (List (ℕ × Outcome × List ℕ))
 looks_in judge input =
     looks_behind (look_after judge (rows_in input) (labels_in input)) [] (watch_in input)

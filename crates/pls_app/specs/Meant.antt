@@ -17,11 +17,12 @@ use Rattle.pls_combine.specs.Expression.{IsMarked, judge_of, longest_of}
 use Rattle.pls_bits.specs.declared.code_name.CodeName.{CodeName}
 use Rattle.pls_bits.specs.declared.code_name.CodeName.TheVariants.{Delta, Gamma}
 
--- the number code of a name: what it writes of a number, and what it takes from the front of bits
+-- what the number code of a name writes of a number
 abbrev pub number_code_of : CodeName → ℕ → List Bool
 number_code_of Gamma = gamma_code
 number_code_of Delta = delta_code
 
+-- what the number code of a name takes off the front of bits
 abbrev pub takes_of : CodeName → List Bool → Option (ℕ × List Bool)
 takes_of Gamma = gamma_takes
 takes_of Delta = delta_takes
@@ -38,11 +39,12 @@ converted_in code scheme = converted (takes_of code) delta_code scheme
 abbrev pub Holds : Expression → List NodeRow → Type 0
 Holds scheme rows = HasInEach (HasProperty scheme) rows
 
--- these are the places of a component, and it lacks the property
+-- these are the places of a component, and it lacks the property of the scheme
 abbrev pub LacksAt : Expression → List NodeRow → List ℕ → Type 0
 LacksAt scheme rows places = LacksIn (HasProperty scheme) rows places
 
--- these are the smallest identities of the components that lack it, rising, and there is one at least
+-- these are the smallest identities of the components that lack the property of the scheme, rising,
+-- and there is one at least
 abbrev pub NameLacking : Expression → List NodeRow → List ℕ → Type 0
 NameLacking scheme rows ids = AreLacking (HasProperty scheme) rows ids
 
@@ -54,10 +56,11 @@ AreMarks code scheme rows labels = FitsInEach (IsMarked (number_code_of code) sc
 abbrev pub longest_in : CodeName → Expression → Size → ℕ
 longest_in code scheme size = longest_of (number_code_of code) scheme size
 
--- how many bits a marked label has at most, and all of them together, where these are the components
+-- how many bits a marked label has at most, where these are the components
 abbrev pub bound_in : CodeName → Expression → List NodeRow → List (List ℕ) → ℕ
 bound_in code scheme rows parts = bound_of_parts (longest_in code scheme) rows parts
 
+-- how many bits the marked labels have together at most, where these are the components
 abbrev pub room_in : CodeName → Expression → List NodeRow → List (List ℕ) → ℕ
 room_in code scheme rows parts = room_of_parts (longest_in code scheme) rows parts
 

@@ -16,6 +16,6 @@ part_row rows outcomes places = record {
   waiting = waiting (items_at outcomes places);
 }
 
--- of all components
+-- what is told of each component, in their order
 abbrev pub part_rows : List NodeRow → List (List ℕ) → List (ℕ × Outcome) → List PartRow
 part_rows rows parts outcomes = map (part_row rows outcomes) parts

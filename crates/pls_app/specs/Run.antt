@@ -77,8 +77,8 @@ IsSureOfAnswer words left sure =
     (bytes : List ℕ) × (left ≡ Some bytes)
     × ((answer : Answer) → IsAnswer words bytes answer → sure (length answer.text))
 
--- what a run without an answer comes from: a call on the source failed, so that its count rose, or a
--- call on the sink; or there was no memory
+-- what a run without an answer comes from: a call on the source failed, so that its count rose, or
+-- a call on the sink. Want of memory has no cause that is told
 abbrev pub HasItsCause : Status → ℕ → ℕ → ℕ → ℕ → Type 0
 HasItsCause ReadFault old_reads new_reads old_writes new_writes = Rose old_reads new_reads
 HasItsCause WriteFault old_reads new_reads old_writes new_writes = Rose old_writes new_writes
@@ -125,7 +125,7 @@ pub record TellsRefusal (error : TextError) (status : Status)
   pub ends : status ≡ refusal_status error
   pub took : Appends old new (refusal error).text
 
--- the status of a refusal
+-- the status is one of a refusal
 abbrev pub IsRefusalStatus : Status → Type 0
 IsRefusalStatus status = (status ≡ Refused) ⊎ (status ≡ Limit)
 
@@ -174,7 +174,7 @@ pub record Certifies (code : CodeName) (scheme : Expression)
   pub few : bits_together labels ≤ MAX_BITS
   pub text_is : text ≡ net_labels_text code rows labels
 
--- the sink took such a text
+-- the sink took labels that show the property of each component of the network of the bytes
 pub record TookCertificate (code : CodeName) (scheme : Expression) (bytes : List ℕ)
     (old new : Option (List ℕ)) : Type 0 where
   pub text : List ℕ
@@ -193,7 +193,8 @@ pub record Converts (scheme : Expression) (bytes text : List ℕ) : Type 0 where
   pub alike : outcomes_in (With (Verify false) scheme) (with_labels Delta input labels)
       ≡ outcomes_in (With (Verify false) scheme) input
 
--- the sink took such a text
+-- the sink took labels in the delta code, on which `verify` has the outcomes that it has on the
+-- bytes
 pub record TookConversion (scheme : Expression) (bytes : List ℕ)
     (old new : Option (List ℕ)) : Type 0 where
   pub text : List ℕ
@@ -216,7 +217,7 @@ pub record Splits (scheme : Expression) (bytes text : List ℕ) : Type 0 where
   pub leaderless : HasOneLeader (rows_in input)
       → (places : List ℕ) × LacksAt (Of Leader) crossed places
 
--- the sink took such a text
+-- the sink took two rings, in which no node sees a difference from the ring of the bytes
 pub record TookSplice (scheme : Expression) (bytes : List ℕ)
     (old new : Option (List ℕ)) : Type 0 where
   pub text : List ℕ
@@ -242,14 +243,14 @@ pub record Lacks (scheme : Expression) (bytes text : List ℕ) : Type 0 where
   pub lacking : NameLacking scheme rows ids
   pub says : text ≡ (no parts ids).text
 
--- the sink took such a text
+-- the sink took the text that says which components of the network of the bytes lack the property
 pub record TookLack (scheme : Expression) (bytes : List ℕ) (old new : Option (List ℕ)) : Type 0 where
   pub text : List ℕ
   pub took : Appends old new text
   pub lacks : Lacks scheme bytes text
 
--- the bytes begin with the text of a network and end with that of edits, and behind all of these each
--- component has the property
+-- the bytes begin with the text of a network and end with that of edits, of which there is one list
+-- at most, as the heading `edits` stands once; after all edits each component has the property
 pub record HoldsAfter (scheme : Expression) (bytes : List ℕ) : Type 0 where
   pub rows : List NodeRow
   pub edits : List EditLine

@@ -47,7 +47,7 @@ crossed_answer code rows labels order i j = record {
   text = network_text (crossed_rows rows order i j) ++ net_labels_text code rows labels;
 }
 
--- and where no two edges may be crossed
+-- the answer where no two edges may be crossed: `none`
 abbrev pub uncrossed_answer : Answer
 uncrossed_answer = record { status = No; text = text_of (codes "none" ∷ []) }
 
@@ -59,7 +59,7 @@ pub record IsCrossed (code : CodeName) (rows : List NodeRow) (labels : List (Lis
   pub pair : IsFirstPair rows labels order i j
   pub says : answer ≡ crossed_answer code rows labels order i j
 
--- no two may be, and this is the answer
+-- no two edges may be crossed, and this is the answer
 pub record IsUncrossed (rows : List NodeRow) (labels : List (List Bool)) (order : List ℕ)
     (answer : Answer) : Type 0 where
   pub none : HasNoPair rows labels order

@@ -35,12 +35,13 @@ abbrev pub names_nothing : List NodeRow → List WatchEvent → WatchEvent → B
 names_nothing rows before event =
     turn_does_not_apply rows (plain_of (turns_of before)) (turn_of event)
 
--- the line says such an event
+-- the line says an event that names no node, no port of its node, or no emit before it
 abbrev pub line_names_nothing : List NodeRow → List WatchEvent → WatchLine → Bool
 line_names_nothing rows before (Event event) = names_nothing rows before event
 line_names_nothing rows before Look = false
 
--- the first line of such an event, of lines that stand from this one on, behind these events
+-- the first line that says an event which does not apply, of lines that stand from this one on,
+-- behind these events
 abbrev pub first_unwatched : List NodeRow → List WatchEvent → ℕ → List WatchLine → Option ℕ
 first_unwatched rows before number [] = None
 first_unwatched rows before number (line ∷ later) = if line_names_nothing rows before line

@@ -22,7 +22,8 @@ pub record WroteFront (waited : List ℕ) (old new : Option (List ℕ)) (before 
   pub never_falls : before ≤ now
   pub never_sure : (most : ℕ) → Sure most → length (waited ++ bytes) ≤ most → ⊥
 
--- the one or the other, as the result says
+-- what a call with this result did: where it is `Ok` the piece was put behind the bytes that wait,
+-- else the sink took a front alone
 abbrev pub Writes : {T E : Type 0} → List ℕ → List ℕ → Option (List ℕ) → Option (List ℕ) → ℕ → ℕ
     → (ℕ → Type 0) → (ℕ → Type 0) → Result T E → List ℕ → Type 0
 Writes waited waits old new before now Sure SureNow result bytes =

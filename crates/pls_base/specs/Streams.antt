@@ -15,7 +15,8 @@ abbrev pub LosesFirst : Option (List ℕ) → Option (List ℕ) → ℕ → Type
 LosesFirst None new n = ⊤
 LosesFirst (Some bytes) new n = (n ≤ length bytes) × (new ≡ Some (drop n bytes))
 
--- it has lost the first few, at most so many
+-- of the bytes that a source had left, where it tells them, it has lost the first few, at most so
+-- many
 abbrev pub LosesAtMost : Option (List ℕ) → Option (List ℕ) → ℕ → Type 0
 LosesAtMost old new most = (n : ℕ) × (n ≤ most) × LosesFirst old new n
 

@@ -19,11 +19,11 @@ pub enum Quantity {
     Ports,
     /// The bits of all labels together.
     Bits,
-    /// The lines of a schedule or of edits.
+    /// The lines of a schedule, of edits or of a watch.
     Events,
-    /// The rounds that edits ask for.
+    /// The lines `round` of edits, or `look` of a watch.
     Rounds,
-    /// The labels that a marker tries.
+    /// The bits that marked labels may have: nodes times bound, summed over the components.
     Labels,
 }
 

@@ -38,8 +38,8 @@ AreBoruvkaLevelsFrom edges Before nodes depth joined (level ∷ levels) =
     IsLevelOf edges joined Before nodes depth level
     × AreBoruvkaLevelsFrom edges Before nodes depth (joined ++ chosen_edges level nodes) levels
 
--- the levels of a configuration whose pointers are a spanning tree: edges come before each other by
--- weight, at one weight those of the tree first, then by their ends; at first no edge joins
+-- the levels of a configuration whose pointers are a spanning tree: edges are ordered by weight, at
+-- one weight those of the tree first, then by their ends; at first no edge joins
 abbrev pub AreBoruvkaLevels : List NodeRow → (ℕ → ℕ) → List (ℕ → Level) → Type 0
 AreBoruvkaLevels rows depth levels = AreBoruvkaLevelsFrom (edges_of rows) (ComesBefore (pointed_edges rows))
     (ids_of rows) depth [] levels

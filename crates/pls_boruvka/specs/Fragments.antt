@@ -35,7 +35,8 @@ pub record JoinedChainEnds (rows : List NodeRow) (joined : List Bool) (u last : 
   pub chain : Path (λ one other. next_joined rows joined one ≡ Some other) u nodes last
   pub ends : next_joined rows joined last ≡ None
 
--- where those chains end, for each node in the order of the rows
+-- for each node, in the order of the rows, where the pointers of nodes whose entries are true lead
+-- from it, and no further
 pub record AreFragmentNames (rows : List NodeRow) (joined : List Bool) (names : List ℕ)
     : Type 0 where
   pub each : length names ≡ length rows

@@ -29,8 +29,8 @@ is_central edges nodes u =
     list_all (λ v. v == u || nat_le (2 * length (part_of edges nodes u v))
     (length (piece_of edges nodes u))) (piece_of edges nodes u)
 
--- the centroid of the piece of a node: the first such node of it; nodes stand in the order of their
--- identities
+-- the centroid of the piece of a node: the first of its nodes that is central; nodes stand in the
+-- order of their identities
 abbrev pub centroid_of : List Edge → List ℕ → ℕ → Option ℕ
 centroid_of edges nodes u = find (is_central edges nodes) (piece_of edges nodes u)
 

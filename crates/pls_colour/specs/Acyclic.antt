@@ -22,7 +22,7 @@ cycle_says depth = record { depth = depth }
 abbrev pub cycle_label : List ℕ → CycleLabel
 cycle_label list = cycle_says (get_or list 0 0)
 
--- a label is one number, each in code
+-- a label is one number, in code
 abbrev pub acyclic_shape : Shape CycleLabel
 acyclic_shape = fixed_shape 1 numbers_of_cycle cycle_label
 

@@ -43,7 +43,7 @@ converted takes code property bits = recoded map_shape takes code bits
 abbrev pub all_converted : (List Bool → Option (List Bool)) → List (List Bool) → List (List Bool)
 all_converted to labels = map (λ bits. unwrap_or (to bits) []) labels
 
--- the place of the first that becomes nothing
+-- the place of the first label that becomes nothing
 abbrev pub first_unread : (List Bool → Option (List Bool)) → List (List Bool) → Option ℕ
 first_unread to [] = None
 first_unread to (bits ∷ labels) =

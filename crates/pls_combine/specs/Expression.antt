@@ -18,7 +18,7 @@ use Rattle.pls_parts.specs.Combined.{judge_both, judge_one_of}
 use Rattle.pls_parts.specs.Joined.{AreLabelsOfBoth, longest_both}
 use Rattle.pls_parts.specs.Tagged.{AreOneOf, longest_one_of}
 
--- how many leaves it has: a verdict names one by its number, from the left
+-- how many leaves an expression has: a verdict names one by its number, from the left
 abbrev pub leaves_of : Expression → ℕ
 leaves_of (And first second) = leaves_of first + leaves_of second
 leaves_of (Or first second) = leaves_of first + leaves_of second
@@ -43,8 +43,8 @@ abbrev pub IsMapMarked : (ℕ → List Bool) → List NodeRow → List (List Boo
 IsMapMarked code rows labels =
     IsMarkedBy (IsSpelled map_shape code) (map_says rows) rows labels
 
--- each label says what is right for its node: on a connected network with the property there is one
--- list of such labels, and else nothing follows
+-- each label says what is right for its node: a connected network with the property has one list of
+-- such labels, and of a network without the property it says nothing
 abbrev pub IsMarked : (ℕ → List Bool) → Expression → List NodeRow → List (List Bool) → Type 0
 IsMarked code (Of name) rows labels = IsNamedMarked code name rows labels
 IsMarked code (And first second) rows labels =
@@ -53,7 +53,8 @@ IsMarked code (Or first second) rows labels =
     AreOneOf (HasProperty first) (IsMarked code first) (IsMarked code second) rows labels
 IsMarked code property rows labels = IsMapMarked code rows labels
 
--- how many bits a marked label has at most, in a network of this size
+-- how many bits a marked label has at most, in a network of this size: within the limits it is far
+-- below 2^64, so that `capped` changes nothing
 abbrev pub longest_of : (ℕ → List Bool) → Expression → Size → ℕ
 longest_of code (Of name) size = longest_named code name size
 longest_of code (And first second) size =

@@ -4,8 +4,8 @@ use Rattle.pls_rules.specs.Formula.{Formula, Term, Eq, Lt, Le, Same, Both, Eithe
 use Rattle.pls_compile.specs.declared.instr.Instr.{Instr}
 use Rattle.pls_compile.specs.declared.instr.Instr.TheVariants.{Push, Id as id, Mark as mark, Num as num, Degree as degree, Pointed as pointed, My as my, Up as up, Nb as nb, UpWeight as up_weight, NbWeight as nb_weight, NbUp as nb_up, Add as add, Mask as mask, Eq as eq, Lt as lt, Le as le, Not as negate, Both as both, Either as either, Begin as begin, More as more, Next as next, Rule as rule, Accept as accept}
 
--- how many instructions the code of an expression has
 abbrev mutual
+  -- how many instructions the code of a formula has
   pub formula_size : Formula ℕ → ℕ
   formula_size (Eq a b) = term_size a + term_size b + 1
   formula_size (Lt a b) = term_size a + term_size b + 1
@@ -17,6 +17,7 @@ abbrev mutual
   formula_size (All a) = formula_size a + 5
   formula_size (Any a) = formula_size a + 5
 
+  -- how many instructions the code of a term has
   pub term_size : Term ℕ → ℕ
   term_size (Number n) = 1
   term_size Id = 1
@@ -43,8 +44,8 @@ loop_code place first size body =
 abbrev pub pair_code : List Instr → List Instr → Instr → List Instr
 pair_code first second instr = first ++ (second ++ instr ∷ [])
 
--- the code of an expression at a place
 abbrev mutual
+  -- the code of a formula at a place
   pub formula_code : ℕ → Formula ℕ → List Instr
   formula_code place (Eq a b) =
       pair_code (term_code place a) (term_code (place + term_size a) b) eq
@@ -64,6 +65,7 @@ abbrev mutual
   formula_code place (Any a) =
       loop_code place 0 (formula_size a + 1) (formula_code (place + 3) a ++ either ∷ [])
 
+  -- the code of a term at a place
   pub term_code : ℕ → Term ℕ → List Instr
   term_code place (Number n) = Push n ∷ []
   term_code place Id = id ∷ []
@@ -89,7 +91,7 @@ abbrev pub terms_code : ℕ → Term ℕ → Term ℕ → Instr → List Instr
 terms_code place a b instr =
     pair_code (term_code place a) (term_code (place + term_size a) b) instr
 
--- the same of two formulas
+-- the code of two formulas at a place, with the instruction that takes what they come to
 abbrev pub formulas_code : ℕ → Formula ℕ → Formula ℕ → Instr → List Instr
 formulas_code place a b instr =
     pair_code (formula_code place a) (formula_code (place + formula_size a) b) instr

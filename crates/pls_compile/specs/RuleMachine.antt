@@ -46,12 +46,12 @@ abbrev pub put_above : ℕ → Option (ReadPort (List ℕ)) → MachineState →
 put_above field None state = put 0 state
 put_above field (Some port) state = put_field (slice_get port.label field) state
 
--- the same at the port of the innermost quantifier
+-- puts a field of the label at the port of the innermost quantifier, if there is one
 abbrev pub put_beside : ℕ → Option (ReadPort (List ℕ)) → MachineState → Step
 put_beside field None state = Stuck
 put_beside field (Some port) state = put_field (slice_get port.label field) state
 
--- puts a number, if that port is there
+-- puts a number on the stack, if the port is there
 abbrev pub put_if_port : ℕ → Option (ReadPort (List ℕ)) → MachineState → Step
 put_if_port number None state = Stuck
 put_if_port number (Some port) state = put number state

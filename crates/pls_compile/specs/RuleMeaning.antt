@@ -10,7 +10,7 @@ use Rattle.pls_scheme.specs.Reading.{Read, ReadPort, is_pointer, target}
 use Rattle.pls_rules.specs.Formula.{Formula, Term, Eq, Lt, Le, Same, Both, Either, Not, All, Any, Number, Id, Mark, Num, Degree, Pointed, My, Up, UpWeight, Nb, NbWeight, NbUp, Add, Sum}
 use Rattle.pls_rules.specs.RuleSet.{Rules, kinds_of}
 
--- a node's share with the labels read
+-- what a node sees, with each label read as the list of its fields' values
 abbrev pub Sight : Type 0
 Sight = Read (List ℕ)
 
@@ -18,7 +18,7 @@ Sight = Read (List ℕ)
 abbrev pub field_of : ℕ → List ℕ → ℕ
 field_of field label = get_or label field 0
 
--- the same of what is read at a port, and 0 where there is no port
+-- the field with this number of the label at a port, and 0 where there is no port
 abbrev pub field_at : ℕ → Option (ReadPort (List ℕ)) → ℕ
 field_at field None = 0
 field_at field (Some port) = field_of field port.label
@@ -34,7 +34,7 @@ abbrev pub innermost : Sight → List ℕ → Option (ReadPort (List ℕ))
 innermost view [] = None
 innermost view (port ∷ others) = slice_get view.ports port
 
--- it is the port that the node points at
+-- the port of the innermost quantifier is the one that the node points at
 abbrev pub is_pointed_at : Sight → List ℕ → Bool
 is_pointed_at view [] = false
 is_pointed_at view (port ∷ others) = is_pointer view.state.up port
@@ -44,11 +44,12 @@ abbrev pub agree : Bool → Bool → Bool
 agree true other = other
 agree false other = not other
 
--- a test holds at each of so many ports, at some of them
+-- a test holds at each of so many ports
 abbrev pub at_each : (ℕ → Bool) → ℕ → Bool
 at_each test zero = true
 at_each test (suc port) = at_each test port && test port
 
+-- a test holds at some of so many ports
 abbrev pub at_some : (ℕ → Bool) → ℕ → Bool
 at_some test zero = false
 at_some test (suc port) = at_some test port || test port
@@ -59,9 +60,8 @@ sum_where test number zero = 0
 sum_where test number (suc port) =
     sum_where test number port + (if test port then number port else 0)
 
--- whether a formula holds on a view, and the value of a term, inside quantifiers at these ports,
--- the innermost first
 abbrev mutual
+  -- whether a formula holds on a view, inside quantifiers at these ports, the innermost first
   pub holds : Sight → List ℕ → Formula ℕ → Bool
   holds view ports (Eq a b) = value view ports a == value view ports b
   holds view ports (Lt a b) = nat_lt (value view ports a) (value view ports b)
@@ -73,6 +73,7 @@ abbrev mutual
   holds view ports (All a) = at_each (λ port. holds view (port ∷ ports) a) (length view.ports)
   holds view ports (Any a) = at_some (λ port. holds view (port ∷ ports) a) (length view.ports)
 
+  -- the value of a term on a view, inside quantifiers at these ports, the innermost first
   pub value : Sight → List ℕ → Term ℕ → ℕ
   value view ports (Number n) = n
   value view ports Id = view.id

@@ -13,7 +13,7 @@ items_at items places = filter_map (slice_get items) places
 abbrev pub NumbersRise : List ℕ → Type 0
 NumbersRise numbers = AllPairs (λ number later. number < later) numbers
 
--- there are nodes at both places, and a walk from the one to the other
+-- there are nodes at the places i and j, and a walk from the one to the other
 pub record AreJoinedAt (rows : List NodeRow) (i j : ℕ) : Type 0 where
   pub one : NodeRow
   pub other : NodeRow
@@ -25,6 +25,7 @@ pub record AreJoinedAt (rows : List NodeRow) (i j : ℕ) : Type 0 where
 -- and of no other
 pub record IsComponent (rows : List NodeRow) (places : List ℕ) : Type 0 where
   pub rising : NumbersRise places
+  -- one of the places
   pub node : ℕ
   pub own : Contains places node
   pub members : (place : ℕ) → Contains places place ↔ AreJoinedAt rows node place

@@ -65,7 +65,8 @@ abbrev pub bound_of_parts : (Size → ℕ) → List NodeRow → List (List ℕ) 
 bound_of_parts longest rows parts =
     greatest (map (λ places. longest (size_of (items_at rows places))) parts)
 
--- how many bits all of them have together at most: the sum over the components of nodes times bound
+-- how many bits the marked labels have together at most: the sum over the components of nodes times
+-- bound
 abbrev pub room_of_parts : (Size → ℕ) → List NodeRow → List (List ℕ) → ℕ
 room_of_parts longest rows parts =
     sum_by (λ places. length places * longest (size_of (items_at rows places))) parts

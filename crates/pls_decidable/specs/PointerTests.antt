@@ -16,7 +16,8 @@ chain_within rows zero u = []
 chain_within rows (suc most) u =
     option_map_or (λ above. above ∷ chain_within rows most above) (pointed_node rows u) []
 
--- the same, at most as many as there are nodes
+-- the nodes that pointers lead to from a node, one behind the other, at most as many as there are
+-- nodes
 abbrev pub chain_of : List NodeRow → ℕ → List ℕ
 chain_of rows u = chain_within rows (length rows) u
 
@@ -24,7 +25,7 @@ chain_of rows u = chain_within rows (length rows) u
 abbrev pub has_end : List NodeRow → ℕ → Bool
 has_end rows u = nat_lt (length (chain_of rows u)) (length rows)
 
--- from each node it ends: no chain of pointers returns
+-- from each node following pointers ends: no chain of pointers returns
 abbrev pub forest_test : List NodeRow → Bool
 forest_test rows = list_all (has_end rows) (ids_of rows)
 
@@ -42,7 +43,7 @@ abbrev pub is_no_lighter : List NodeRow → NodeRow → Port → Bool
 is_no_lighter rows row port =
     nat_le (chain_weight rows row.id) (chain_weight rows port.nbr + port.weight)
 
--- so at each port of the node
+-- by none of its ports has the node a lighter way than its own chain
 abbrev pub has_lightest : List NodeRow → NodeRow → Bool
 has_lightest rows row = list_all (is_no_lighter rows row) row.ports
 

@@ -28,7 +28,7 @@ edit_word (Makes (Leave id)) = codes "leave"
 edit_word (Makes (Label id bits)) = codes "label"
 edit_word Round = codes "round"
 
--- and the words behind it
+-- the words behind the first word of a line
 abbrev pub edit_args : EditLine → List (List ℕ)
 edit_args (Makes (State id state)) = state_words id state
 edit_args (Makes (Weight a b weight)) = decimal a ∷ decimal b ∷ decimal weight ∷ []
@@ -78,7 +78,7 @@ rounds_of lines = closing_of is_round lines
 abbrev pub edits_text : List EditLine → List ℕ
 edits_text lines = list_text (codes "edits") edit_line lines
 
--- its lines
+-- the lines of an edits part
 abbrev pub edits_lines : List EditLine → List (List ℕ)
 edits_lines lines = list_lines (codes "edits") edit_line lines
 

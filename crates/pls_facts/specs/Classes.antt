@@ -3,7 +3,7 @@ use Rattle.std.specs.Prelude.{ℕ, ◌==◌, cond, Bool, List, [], ◌∷◌}
 use Rattle.std.specs.List.{list_all}
 use Rattle.pls_model.specs.Walk.{Edge}
 
--- where a class is put into another: the class of a node, by what it was before
+-- what becomes of a class when class `from` is put into class `to`
 abbrev pub moved : ℕ → ℕ → ℕ → ℕ
 moved from to class = cond (class == from) to class
 

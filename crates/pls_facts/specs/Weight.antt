@@ -5,7 +5,7 @@ use Rattle.pls_model.specs.declared.row.NodeRow.{NodeRow}
 use Rattle.pls_model.specs.Configuration.{port_to, row_of}
 use Rattle.pls_model.specs.Walk.{Walk, edges_of}
 
--- the weight of the edge between two nodes, as the port of the one that names the other lists it
+-- the weight of the edge between two nodes, as the port of u to v states it; 0 where there is none
 abbrev pub edge_weight : List NodeRow → ℕ → ℕ → ℕ
 edge_weight rows u v =
     option_map_or (λ port. port.weight) (option_and_then (λ row. port_to row v) (row_of rows u)) 0

@@ -7,6 +7,7 @@ pub record Front (A : Type 0) : Type 0 where
   pub item : A
   pub rest : List ℕ
 
+-- an item at the front of a text, with what follows it
 abbrev pub followed : {A : Type 0} → A → List ℕ → Front A
 followed item rest = record { item = item; rest = rest }
 
@@ -16,7 +17,7 @@ after [] text = Some text
 after (character ∷ word) [] = None
 after (character ∷ word) (other ∷ text) = if character == other then after word text else None
 
--- something that a word stands for
+-- the item that a word stands for, where the word is at the front of a text
 abbrev pub word_front : {A : Type 0} → A → List ℕ → List ℕ → Option (Front A)
 word_front item word text = option_map (followed item) (after word text)
 

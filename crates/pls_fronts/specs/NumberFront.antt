@@ -10,7 +10,7 @@ abbrev pub digits_ahead : List ℕ → ℕ
 digits_ahead [] = 0
 digits_ahead (character ∷ text) = if is_ascii_digit character then 1 + digits_ahead text else 0
 
--- the number, at most `most`, that these are the decimal of, and what follows them
+-- the number, at most `most`, that these digits are the decimal of, and what follows them
 abbrev pub spelled : ℕ → List ℕ → List ℕ → Option (Front ℕ)
 spelled most digits rest =
     if nat_le (digits_value 10 digits) most && bytes_eq digits (decimal (digits_value 10 digits))

@@ -10,10 +10,11 @@ use Rattle.pls_graph.specs.Rows.{gaining}
 use Rattle.pls_graph_edits.specs.declared.edit_error.EditError.{EditError}
 use Rattle.pls_graph_edits.specs.declared.edit_error.EditError.TheVariants.{Absent, Present, Pointer, SelfLink, HasPorts, Last, Full, NoMemory}
 
--- the row of an identity is changed, and no other
+-- the row, changed where it has the identity
 abbrev pub changed : ℕ → (NodeRow → NodeRow) → NodeRow → NodeRow
 changed id change row = if id == row.id then change row else row
 
+-- the rows, of which the one with the identity is changed, and no other
 abbrev pub change_row : ℕ → (NodeRow → NodeRow) → List NodeRow → List NodeRow
 change_row id change rows = map (changed id change) rows
 
@@ -66,7 +67,7 @@ losing nbr row =
       ports = filter (λ port. not (nbr == port.nbr)) row.ports;
     }
 
--- the two ports go
+-- the ports that two nodes have to each other go
 abbrev pub unlinked : List NodeRow → ℕ → ℕ → List NodeRow
 unlinked rows a b = change_ends losing a b rows
 
@@ -104,16 +105,19 @@ are_linked rows a b = is_some (option_and_then (λ row. port_to row b) (row_of r
 abbrev pub fits_state : State → NodeRow → Bool
 fits_state state row = option_map_or (λ up. nat_lt up (length row.ports)) state.up true
 
--- why the edits are refused: the first cause that holds
+-- why a state is refused: there is no such node, or else it lacks the port that the state points at
 abbrev pub state_refusal : List NodeRow → ℕ → State → Option EditError
 state_refusal rows id state = first_of (
     cause (is_absent rows id) Absent
     ∷ cause (option_map_or (λ row. not (fits_state state row)) (row_of rows id) false) Pointer ∷ [])
 
+-- why a weight is refused: the two are not linked nodes
 abbrev pub weight_refusal : List NodeRow → ℕ → ℕ → Option EditError
 weight_refusal rows a b =
     cause (is_absent rows a || is_absent rows b || not (are_linked rows a b)) Absent
 
+-- why a new edge is refused: one of the nodes is not there, or else they are one node, or are
+-- linked, or there is no room for two more ports
 abbrev pub link_refusal : List NodeRow → ℕ → ℕ → Option EditError
 link_refusal rows a b = first_of (
     cause (is_absent rows a || is_absent rows b) Absent
@@ -121,15 +125,18 @@ link_refusal rows a b = first_of (
     ∷ cause (are_linked rows a b) Present
     ∷ cause (nat_lt (MAX_PORTS - 2) (ports_in rows)) Full ∷ [])
 
+-- why an edge does not go: the two are not linked nodes
 abbrev pub unlink_refusal : List NodeRow → ℕ → ℕ → Option EditError
 unlink_refusal rows a b =
     cause (is_absent rows a || is_absent rows b || not (are_linked rows a b)) Absent
 
+-- why a node does not join: its identity is there, or else there is no room for one more
 abbrev pub join_refusal : List NodeRow → ℕ → Option EditError
 join_refusal rows id = first_of (
     cause (not (is_absent rows id)) Present
     ∷ cause (nat_le MAX_NODES (length rows)) Full ∷ [])
 
+-- why a node does not leave: it is not there, or else it has ports, or is the only one
 abbrev pub leave_refusal : List NodeRow → ℕ → Option EditError
 leave_refusal rows id = first_of (
     cause (is_absent rows id) Absent

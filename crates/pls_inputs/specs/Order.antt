@@ -20,19 +20,23 @@ use Rattle.pls_rules_part.specs.RulesText.{rules_refusal}
 use Rattle.pls_inputs.specs.declared.parts.Parts.{Parts}
 use Rattle.pls_inputs.specs.Parts.{AreLines, Input, IsInputText, edits_in, events_in, lines_of, named_in, rows_in, watch_in}
 
--- the line of the heading of a part: the next behind all parts in front of it
+-- the line of the heading of a labels part: the next behind all parts in front of it
 abbrev pub labels_heading : Input → ℕ
 labels_heading input = 1 + length (lines_of network_lines input.network)
 
+-- the line of the heading of a schedule part: the next behind all parts in front of it
 abbrev pub schedule_heading : Input → ℕ
 schedule_heading input = labels_heading input + length (lines_of labels_lines input.labels)
 
+-- the line of the heading of an edits part: the next behind all parts in front of it
 abbrev pub edits_heading : Input → ℕ
 edits_heading input = schedule_heading input + length (lines_of schedule_lines input.schedule)
 
+-- the line of the heading of a watch part: the next behind all parts in front of it
 abbrev pub watch_heading : Input → ℕ
 watch_heading input = edits_heading input + length (lines_of edits_lines input.edits)
 
+-- the line of the heading of a rules part: the next behind all parts in front of it
 abbrev pub rules_heading : Input → ℕ
 rules_heading input = watch_heading input + length (lines_of watch_part_lines input.watch)
 

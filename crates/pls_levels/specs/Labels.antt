@@ -62,10 +62,11 @@ label_with head levels = record {
 }
 
 module _ {S X : Type 0} (form : LevelForm S X) where
-  -- the levels of a list, and the numbers of a level
+  -- the levels of a list
   abbrev pub items_of : S → List X
   items_of list = form.items list
 
+  -- the numbers of a level
   abbrev pub numbers_of : X → List ℕ
   numbers_of level = form.numbers level
 
@@ -89,7 +90,7 @@ module _ {S X : Type 0} (form : LevelForm S X) where
   label_behind front =
       option_map (label_listed front.0) (items_in form.off front.0.count front.1)
 
-  -- the label that numbers are, where they are one's
+  -- the label that has these numbers, if there is one
   abbrev pub label_of : List ℕ → Option (LevelLabel S)
   label_of list = option_and_then label_behind (head_off list)
 

@@ -8,8 +8,8 @@ use Rattle.pls_facts.specs.Pointer.{IsChainOf, pointed_port}
 use Rattle.pls_levels.specs.declared.label.LevelLabel.{LevelLabel}
 
 -- what stands in front of the levels is right for the node of a row: the root is the node without
--- pointer, the parent is the node that the node points at, and the root itself, and the depth is
--- the length of the chain of pointers
+-- pointer, the parent is the node that the node points at, and at the root the node itself, and the
+-- depth is the length of the chain of pointers
 pub record IsRightHead {S : Type 0} (rows : List NodeRow) (row : NodeRow) (label : LevelLabel S)
     : Type 0 where
   pub own : label.own ≡ row.id
@@ -32,7 +32,7 @@ label_from root row depth levels = record {
   levels = levels;
 }
 
--- so is the label of the node at a place, of the depth and the levels there
+-- the label is made from the node at a place and from the depth and the levels there
 abbrev pub IsMadeAt : {S : Type 0} → List NodeRow → ℕ → List ℕ → List S → ℕ → LevelLabel S
     → Type 0
 IsMadeAt {S} rows root depths lists place label =
@@ -40,7 +40,7 @@ IsMadeAt {S} rows root depths lists place label =
     → slice_get lists place ≡ Some levels
     → label ≡ label_from root row (get_or depths place 0) levels
 
--- so are these labels, one for each of the first nodes
+-- the labels of so many of the first nodes, each made from the depth and the levels at its place
 pub record AreMade {S : Type 0} (rows : List NodeRow) (root : ℕ) (depths : List ℕ)
     (lists : List S) (count : ℕ) (labels : List (LevelLabel S)) : Type 0 where
   pub each : length labels ≡ count

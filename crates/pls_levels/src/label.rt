@@ -7,7 +7,7 @@ pub struct LevelLabel<S> {
     pub root: u64,
     /// The identity of the node itself.
     pub own: u64,
-    /// The identity of the node that the node points at, and that of the root itself.
+    /// The identity of the node that the node points at, and at the root its own.
     pub parent: u64,
     /// How many pointers lead from the node to the root.
     pub depth: u64,

@@ -12,7 +12,7 @@ to_end written items = map written items ++ codes "end" ∷ []
 abbrev pub list_lines : {X : Type 0} → List ℕ → (X → List ℕ) → List X → List (List ℕ)
 list_lines heading written items = part_lines heading (map written items)
 
--- its text
+-- the text of a part with this heading line and these items
 abbrev pub list_text : {X : Type 0} → List ℕ → (X → List ℕ) → List X → List ℕ
 list_text heading written items = text_of (list_lines heading written items)
 
@@ -23,7 +23,7 @@ pub record AreItemLines {X : Type 0} (written : X → List ℕ) (Are : List X �
   pub are : Are items
   pub is : body ≡ map written items
 
--- the lines are a part with such a list, under a heading of this kind
+-- the lines are a part with a list that can be a part's, under a heading of this kind
 abbrev pub IsListPart : {X : Type 0} → (List ℕ → Type 0) → (X → List ℕ) → (List X → Type 0)
     → List (List ℕ) → Type 0
 IsListPart Heading written Are lines = IsFramed Heading (AreItemLines written Are) lines

@@ -8,7 +8,8 @@ ghost use Rattle.pls_model.specs.Status.{code_of};
 pub enum Status {
     /// The command did what it says: the labels are written, or all nodes accept.
     Done,
-    /// The network lacks the property, or some node rejects.
+    /// A component of the network lacks the property, some node rejects or waits, some port is
+    /// stale, or no two edges may be crossed.
     No,
     /// The words are not those of a command.
     Usage,

@@ -18,7 +18,7 @@ numbers_of_level level = level.fragment ∷ level.weight ∷ level.a ∷ level.b
 abbrev pub IsOrdered : Level → Type 0
 IsOrdered level = level.a < level.b
 
--- so has that of each level
+-- the chosen edge of each level has its smaller end first
 abbrev pub AreOrdered : List Level → Type 0
 AreOrdered levels = All IsOrdered levels
 

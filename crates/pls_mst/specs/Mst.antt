@@ -28,13 +28,13 @@ abbrev pub front_limits : Size → List ℕ
 front_limits size =
     size.max_id ∷ size.max_id ∷ size.max_id ∷ size.nodes ∷ floor_log size.nodes ∷ []
 
--- nor are those of a level: the greatest identity for the fragment and the ends, and the greatest
--- weight
+-- no numbers of a level of a marked label are greater: the greatest identity for the fragment and
+-- the ends, and the greatest weight
 abbrev pub level_limits : Size → List ℕ
 level_limits size = size.max_id ∷ size.max_weight ∷ size.max_id ∷ size.max_id ∷ []
 
--- how many bits a marked label has at most: the codes of these numbers, with as many levels as the
--- logarithm says
+-- how many bits a marked label has at most: the codes of the limits in front of its levels, and
+-- those of a level's limits as often as the logarithm of the number of nodes says
 abbrev pub longest_mst : (ℕ → List Bool) → Size → ℕ
 longest_mst code size = codes_length code [] (front_limits size)
     + floor_log size.nodes * codes_length code [] (level_limits size)

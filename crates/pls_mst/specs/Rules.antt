@@ -27,7 +27,7 @@ abbrev pub on_each_level : (Level → Level → Bool) → List Level → List Le
 on_each_level test mine theirs =
     list_all (λ (both : Level × Level). test both.0 both.1) (zip mine theirs)
 
--- it holds on some level
+-- the test holds on some level, of what the one node has there and what the other has
 abbrev pub on_some_level : (Level → Level → Bool) → List Level → List Level → Bool
 on_some_level test mine theirs =
     list_any (λ (both : Level × Level). test both.0 both.1) (zip mine theirs)
@@ -82,13 +82,13 @@ chose_least between outside mine theirs =
     if is_one_fragment mine theirs then is_same_edge (chosen_edge mine) (chosen_edge theirs)
     else is_at_most (edge_key (chosen_edge mine) 0) (edge_key between outside)
 
--- so it is on each level, towards the port of this number
+-- on each level the chosen edges are least, towards the port of this number
 abbrev pub chose_least_at : Read MstLabel → ℕ → ReadPort MstLabel → Bool
 chose_least_at view number port = on_each_level
     (chose_least (edge_to view.own port) (outside_tree view.state.up view.own number port))
     view.own.levels port.label.levels
 
--- rule 6: so it is towards each port
+-- rule 6: on each level the chosen edges are least, towards each port
 abbrev pub chosen_edges_are_least : Read MstLabel → Bool
 chosen_edges_are_least view =
     list_all (λ (numbered : ℕ × ReadPort MstLabel). chose_least_at view numbered.0 numbered.1)

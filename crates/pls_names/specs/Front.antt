@@ -10,6 +10,6 @@ abbrev pub first_name : List SchemeName → List ℕ → Option (Front SchemeNam
 first_name [] text = None
 first_name (name ∷ names) text = option_or (word_front name (name_of name) text) (first_name names text)
 
--- the name of a scheme
+-- the name of a scheme at the front of a text
 abbrev pub name_front : List ℕ → Option (Front SchemeName)
 name_front text = first_name all_names text

@@ -1,5 +1,6 @@
-//! The names of basic schemes, and their types. A new name has a row in the four tables of this file,
-//! one in `specs/Named` and one in `specs/laws/NamedLaws`, and stands nowhere else.
+//! The names of basic schemes, and their types. A new name has a row in the four tables of this
+//! file, one in `specs/Named` and one in `specs/laws/NamedLaws`. Besides, `pls_builtin` says
+//! whether a rule set has the name, and `pls` how many rules the scheme has and what they ask.
 
 ghost use Rattle.std.specs.Prelude.{◌≡◌};
 ghost use Rattle.pls_names.specs.Named.{all_names, name_of};
@@ -26,7 +27,8 @@ pub enum SchemeName {
     Leader,
     /// `count`: the number of each node is how many nodes there are.
     Count,
-    /// `spt`: the pointers make a tree, and no walk from the root is lighter than a chain.
+    /// `spt`: the pointers make a tree, and no walk from the root to a node weighs less than the
+    /// node's chain of pointers.
     ShortestPathTree,
     /// `mst`: the pointers make a tree, and no spanning tree weighs less than its edges.
     MinimumSpanningTree,

@@ -8,7 +8,7 @@ use Rattle.pls_numbers.specs.Shape.{Shape}
 abbrev pub so_many : ℕ → List ℕ → Option (List ℕ)
 so_many count list = if length list == count then Some list else None
 
--- what so many numbers are
+-- the label that so many numbers are, and none where they are more or fewer
 abbrev pub label_of_numbers : {L : Type 0} → (List ℕ → L) → ℕ → List ℕ → Option L
 label_of_numbers of_numbers count list = option_map of_numbers (so_many count list)
 

@@ -12,7 +12,7 @@ abbrev pub next_kind : List FieldKind → FieldKind
 next_kind [] = Num
 next_kind (kind ∷ kinds) = kind
 
--- the kinds of those behind it
+-- the kinds of the numbers behind the first
 abbrev pub later_kinds : List FieldKind → List FieldKind
 later_kinds [] = []
 later_kinds (kind ∷ kinds) = kinds
@@ -66,7 +66,7 @@ ended (bit ∷ bits) = record { numbers = []; clean = false }
 abbrev pub with_number : ℕ → NumbersLeft → NumbersLeft
 with_number number left = record { numbers = number ∷ left.numbers; clean = left.clean }
 
--- at most so many numbers
+-- the first numbers in the bits, at most so many
 abbrev pub left_within : (List Bool → Option (ℕ × List Bool)) → List FieldKind → ℕ → List Bool
     → NumbersLeft
 left_within takes kinds zero bits = ended bits
@@ -74,7 +74,7 @@ left_within takes kinds (suc most) bits = option_map_or (λ (taken : ℕ × List
     with_number taken.0 (left_within takes (later_kinds kinds) most taken.1))
     (takes_field takes (next_kind kinds) bits) (ended bits)
 
--- all of them: each is at least one bit
+-- all numbers in the bits, of which there are at most as many as bits
 unfoldable pub left_in : (List Bool → Option (ℕ × List Bool)) → List FieldKind → List Bool
     → NumbersLeft
 left_in takes kinds bits = left_within takes kinds (length bits) bits

@@ -12,7 +12,7 @@ pub record Shape (L : Type 0) : Type 1 where
   pub numbers : L → List ℕ
   -- what else is asked of it
   pub Proper : L → Type 0
-  -- the label that numbers are, where they are one's
+  -- the label that has these numbers, if there is one
   pub of_numbers : List ℕ → Option L
 
 -- numbers are a label exactly where they are those of a proper one
@@ -31,7 +31,7 @@ pub record IsWritable {L : Type 0} (shape : Shape L) (label : L) : Type 0 where
   pub coded : AreCoded shape.kinds (shape.numbers label)
   pub proper : shape.Proper label
 
--- its bits in a code
+-- the bits of a label in a code
 abbrev pub spelling : {L : Type 0} → Shape L → (ℕ → List Bool) → L → List Bool
 spelling shape code label = codes_of code shape.kinds (shape.numbers label)
 

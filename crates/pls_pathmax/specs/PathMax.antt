@@ -21,12 +21,13 @@ abbrev pub front_limits : Size → List ℕ
 front_limits size = size.max_id ∷ size.max_id ∷ size.max_id ∷ size.nodes
     ∷ (floor_log size.nodes + 1) ∷ []
 
--- nor are those of a level: the greatest identity, the number of nodes, and the greatest weight
+-- no numbers of a level of a marked label are greater: the greatest identity, the number of nodes,
+-- and the greatest weight
 abbrev pub level_limits : Size → List ℕ
 level_limits size = size.max_id ∷ size.nodes ∷ size.max_weight ∷ []
 
--- how many bits a marked label has at most: the codes of these numbers, with one level more than
--- the logarithm says
+-- how many bits a marked label has at most: the codes of the limits in front of its levels, and
+-- those of a level's limits once more than the logarithm of the number of nodes says
 abbrev pub longest_pathmax : (ℕ → List Bool) → Size → ℕ
 longest_pathmax code size = codes_length code [] (front_limits size)
     + (floor_log size.nodes + 1) * codes_length code [] (level_limits size)

@@ -33,7 +33,7 @@ has_way view level mine = (mine.hops == 0 && mine.centroid == view.own.own)
     || list_any (λ (numbered : ℕ × ReadPort PathMaxLabel).
     leads_on_at view level mine numbered.0 numbered.1) (enumerate_from 0 view.ports)
 
--- rule 5: so it is on each level
+-- rule 5: on each level the node is the centroid, without a hop, or some port leads on
 abbrev pub has_ways_to_centroids : Read PathMaxLabel → Bool
 has_ways_to_centroids view = list_all (λ (numbered : ℕ × CentroidLevel).
     has_way view numbered.0 numbered.1) (enumerate_from 0 view.own.levels)
@@ -49,7 +49,8 @@ is_heavy_outside view number port = is_in_tree view.state.up view.own number por
     || list_any (λ (both : CentroidLevel × CentroidLevel). meet_lightly port.weight both.0 both.1)
     (zip view.own.levels port.label.levels)
 
--- rule 6: so it is at each port
+-- rule 6: the edge at each port is in the tree, or on some level its ends have one centroid, and
+-- neither greatest weight is above the edge's
 abbrev pub other_edges_are_heavy : Read PathMaxLabel → Bool
 other_edges_are_heavy view = list_all (λ (numbered : ℕ × ReadPort PathMaxLabel).
     is_heavy_outside view numbered.0 numbered.1) (enumerate_from 0 view.ports)

@@ -26,7 +26,7 @@ depth_says depth = record { depth = depth }
 abbrev pub depth_label : List ℕ → DepthLabel
 depth_label list = depth_says (get_or list 0 0)
 
--- a label is one number, each in code
+-- a label is one number, in code
 abbrev pub forest_shape : Shape DepthLabel
 forest_shape = fixed_shape 1 numbers_of_depth depth_label
 

@@ -34,6 +34,6 @@ are_classed edges u v = class_of edges u == class_of edges v
 abbrev pub joins_without : List NodeRow → Edge → Bool
 joins_without rows edge = any_two (are_classed (without edge (edges_of rows))) (ids_of rows)
 
--- so for each edge
+-- for each edge, the edges but this one put all nodes into one class
 abbrev pub bridgeless_test : List NodeRow → Bool
 bridgeless_test rows = list_all (joins_without rows) (edges_of rows)

@@ -13,7 +13,7 @@ pub record Rechecked (J : Type 0) : Type 0 where
   pub judge : J
   pub touched : List ℕ
 
--- the same after an edit: the judge stays
+-- a network, its labels and its touched nodes after an edit; the judge stays
 abbrev pub edited_with : {J : Type 0} → Edit → Rechecked J → Rechecked J
 edited_with edit before =
     record {

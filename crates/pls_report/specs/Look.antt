@@ -23,13 +23,15 @@ abbrev pub look_line : ℕ × Outcome × List ℕ → List ℕ
 look_line row = line_of (codes "node" ∷ decimal row.0
     ∷ (outcome_words row.1 ++ stale_words (told_ports row.1 row.2)))
 
--- how many of the nodes reject, wait, and have a line with stale ports
+-- how many of the nodes reject
 abbrev pub rejecting_rows : List (ℕ × Outcome × List ℕ) → ℕ
 rejecting_rows rows = count_by (λ row. is_rejecting row.1) rows
 
+-- how many of the nodes wait
 abbrev pub waiting_rows : List (ℕ × Outcome × List ℕ) → ℕ
 waiting_rows rows = count_by (λ row. is_waiting row.1) rows
 
+-- how many of the nodes have a line with stale ports
 abbrev pub stale_rows : List (ℕ × Outcome × List ℕ) → ℕ
 stale_rows rows = count_by (λ row. not (length (told_ports row.1 row.2) == 0)) rows
 

@@ -21,10 +21,11 @@ is_accepting (Waiting ports) = false
 abbrev pub accept_by : {X : Type 0} → (X → Outcome) → List (ℕ × X) → Bool
 accept_by outcome rows = list_all (λ row. is_accepting (outcome row.1)) rows
 
--- so with outcomes, and with verdicts
+-- all nodes accept, by their outcomes
 abbrev pub all_accept : List (ℕ × Outcome) → Bool
 all_accept rows = accept_by (λ outcome. outcome) rows
 
+-- all nodes accept, by their verdicts
 abbrev pub all_verdicts_accept : List (ℕ × Verdict) → Bool
 all_verdicts_accept rows = accept_by Decided rows
 
@@ -39,13 +40,15 @@ abbrev pub is_waiting : Outcome → Bool
 is_waiting (Decided verdict) = false
 is_waiting (Waiting ports) = true
 
--- how many of the nodes reject, likewise
+-- how many of the nodes reject, where this is the outcome of what stands beside each identity
 abbrev pub rejecting_by : {X : Type 0} → (X → Outcome) → List (ℕ × X) → ℕ
 rejecting_by outcome rows = count_by (λ row. is_rejecting (outcome row.1)) rows
 
+-- how many of the nodes reject, by their outcomes
 abbrev pub rejecting : List (ℕ × Outcome) → ℕ
 rejecting rows = rejecting_by (λ outcome. outcome) rows
 
+-- how many of the nodes reject, by their verdicts
 abbrev pub rejecting_verdicts : List (ℕ × Verdict) → ℕ
 rejecting_verdicts rows = rejecting_by Decided rows
 
@@ -53,7 +56,7 @@ rejecting_verdicts rows = rejecting_by Decided rows
 abbrev pub waiting : List (ℕ × Outcome) → ℕ
 waiting rows = count_by (λ row. is_waiting row.1) rows
 
--- the words that say an outcome
+-- the pieces that stand behind the identity: the text of the verdict, or `waiting` and the ports
 abbrev pub outcome_words : Outcome → List (List ℕ)
 outcome_words (Decided verdict) = verdict_text verdict ∷ []
 outcome_words (Waiting ports) = codes "waiting" ∷ map decimal ports

@@ -2,6 +2,7 @@
 use Rattle.std.specs.Prelude.{◌≢◌, ℕ, AllPairs, List, [], map, get_or}
 use Rattle.pls_rules.specs.declared.field.Field.{Field}
 
+-- the names of fields, in their order
 abbrev pub names_of : List Field → List (List ℕ)
 names_of fields = map (λ field. field.name) fields
 

@@ -3,16 +3,17 @@ use Rattle.std.specs.Prelude.{◌≢◌, ℕ, ◌≤◌, All, List, ◌++◌, le
 use Rattle.pls_bits.specs.declared.num_code.TheConstants.{MAX_CODED}
 use Rattle.pls_rules.specs.Formula.{Formula, Term, Eq, Lt, Le, Same, Both, Either, Not, All as Each, Any, Number, Id, Mark, Num, Degree, Pointed, My, Up, UpWeight, Nb, NbWeight, NbUp, Add, Sum}
 
--- what a word opens and `)` closes: one part, or two parts that `,` divides
+-- what a word opens and `)` closes, with one part
 abbrev pub one_text : List ℕ → List ℕ → List ℕ
 one_text word inner = word ++ (inner ++ codes ")")
 
+-- what a word opens and `)` closes, with two parts that `,` divides
 abbrev pub two_text : List ℕ → List ℕ → List ℕ → List ℕ
 two_text word first second = word ++ (first ++ (codes "," ++ (second ++ codes ")")))
 
--- the text of an expression whose fields have these names
 module _ {F : Type 0} (name : F → List ℕ) where
   abbrev mutual
+    -- the text of a formula whose fields have these names
     pub formula_text : Formula F → List ℕ
     formula_text (Eq a b) = two_text (codes "eq(") (term_text a) (term_text b)
     formula_text (Lt a b) = two_text (codes "lt(") (term_text a) (term_text b)
@@ -24,6 +25,7 @@ module _ {F : Type 0} (name : F → List ℕ) where
     formula_text (Each a) = one_text (codes "all(") (formula_text a)
     formula_text (Any a) = one_text (codes "any(") (formula_text a)
 
+    -- the text of a term whose fields have these names
     pub term_text : Term F → List ℕ
     term_text (Number n) = decimal n
     term_text Id = codes "id"
@@ -52,9 +54,9 @@ pub record IsFieldName (name : List ℕ) : Type 0 where
   pub no_weight : name ≢ codes "weight"
   pub no_up : name ≢ codes "up"
 
--- an expression whose fields stand by their names is one of the grammar: its numbers are at most
--- 2^63 - 2, and where a port has a word of its own, that is what the word says
 abbrev mutual
+  -- a formula whose fields stand by their names is one of the grammar: its numbers are at most
+  -- 2^63 - 2, and where a port has a word of its own, that is what the word says
   pub FormulaIsWritten : Formula (List ℕ) → Type 0
   FormulaIsWritten (Eq a b) = TermIsWritten a × TermIsWritten b
   FormulaIsWritten (Lt a b) = TermIsWritten a × TermIsWritten b
@@ -66,6 +68,8 @@ abbrev mutual
   FormulaIsWritten (Each a) = FormulaIsWritten a
   FormulaIsWritten (Any a) = FormulaIsWritten a
 
+  -- a term whose fields stand by their names is one of the grammar: its numbers are at most
+  -- 2^63 - 2, and where a port has a word of its own, that is what the word says
   pub TermIsWritten : Term (List ℕ) → Type 0
   TermIsWritten (Number n) = n ≤ MAX_CODED
   TermIsWritten Id = Unit {0}

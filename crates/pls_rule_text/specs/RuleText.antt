@@ -13,7 +13,7 @@ pub data RuleSaid : Type 0 where
   Shallow : Formula (List ℕ) → RuleSaid
   Deep : List ℕ → RuleSaid
 
--- its text
+-- the text of a rule
 abbrev pub rule_text : RuleSaid → List ℕ
 rule_text (Shallow formula) = formula_text (λ name. name) formula
 rule_text (Deep text) = text
@@ -30,7 +30,7 @@ pub record FitsFormula (formula : Formula (List ℕ)) : Type 0 where
   pub few : length (rule_text (Shallow formula)) ≤ 4096
   pub shallow : formula_height formula ≤ 31
 
--- 1 to 4096 characters, among which parentheses stand deeper
+-- at most 4096 characters of rules, among which parentheses stand more than 31 deep
 pub record FitsDeep (text : List ℕ) : Type 0 where
   pub few : length text ≤ 4096
   pub characters : All IsCharacter text
@@ -57,10 +57,10 @@ place_of_name [] name = 0
 place_of_name (first ∷ others) name =
     if bytes_eq first name then 0 else 1 + place_of_name others name
 
--- each name is among these, and what is asked of a neighbour stands inside a quantifier, or
--- `inside` says that it may stand here
 module _ (names : List (List ℕ)) where
   abbrev mutual
+    -- each name in a formula is among these, and what is asked of a neighbour stands inside a
+    -- quantifier, or `inside` says that it may stand here
     pub is_known : Bool → Formula (List ℕ) → Bool
     is_known inside (Eq a b) = is_term_known inside a && is_term_known inside b
     is_known inside (Lt a b) = is_term_known inside a && is_term_known inside b
@@ -72,6 +72,8 @@ module _ (names : List (List ℕ)) where
     is_known inside (Each a) = is_known true a
     is_known inside (Any a) = is_known true a
 
+    -- each name in a term is among these, and what is asked of a neighbour stands inside a
+    -- quantifier, or `inside` says that it may stand here
     pub is_term_known : Bool → Term (List ℕ) → Bool
     is_term_known inside (Number n) = true
     is_term_known inside Id = true
@@ -88,9 +90,9 @@ module _ (names : List (List ℕ)) where
     is_term_known inside (Add a b) = is_term_known inside a && is_term_known inside b
     is_term_known inside (Sum a b) = is_known true a && is_term_known true b
 
--- the expression with other fields in the place of its own
 module _ {F G : Type 0} (of : F → G) where
   abbrev mutual
+    -- the formula with other fields in the place of its own
     pub formula_with : Formula F → Formula G
     formula_with (Eq a b) = Eq (term_with a) (term_with b)
     formula_with (Lt a b) = Lt (term_with a) (term_with b)
@@ -102,6 +104,7 @@ module _ {F G : Type 0} (of : F → G) where
     formula_with (Each a) = Each (formula_with a)
     formula_with (Any a) = Any (formula_with a)
 
+    -- the term with other fields in the place of its own
     pub term_with : Term F → Term G
     term_with (Number n) = Number n
     term_with Id = Id

@@ -6,8 +6,8 @@ use Rattle.pls_rules.specs.declared.rule_set.RuleSet.{RuleSet}
 use Rattle.pls_rules.specs.Formula.{Formula, Term, Eq, Lt, Le, Same, Both, Either, Not, All, Any, Number, Id, Mark, Num, Degree, Pointed, My, Up, UpWeight, Nb, NbWeight, NbUp, Add, Sum}
 use Rattle.pls_rules.specs.RuleSet.{Rules, rules_of}
 
--- the formula and the term that are held
 abbrev mutual
+  -- the formula that is held
   pub formula_of : BoolExpr → Formula ℕ
   formula_of (eq p a q b) = Eq (term_of a) (term_of b)
   formula_of (lt p a q b) = Lt (term_of a) (term_of b)
@@ -19,6 +19,7 @@ abbrev mutual
   formula_of (all p a) = All (formula_of a)
   formula_of (any p a) = Any (formula_of a)
 
+  -- the term that is held
   pub term_of : NumExpr → Term ℕ
   term_of (number n) = Number n
   term_of id = Id

@@ -18,9 +18,9 @@ rules_of fields rules = record { fields = fields; rules = rules }
 abbrev pub kinds_of : List Field → List FieldKind
 kinds_of fields = map (λ field. field.kind) fields
 
--- the numbers of an expression are small enough, there are so many fields, and what is asked of a
--- neighbour stands inside a quantifier, or `inside` says that it may stand here
 abbrev mutual
+  -- the numbers of a formula are small enough, its fields are among so many, and what is asked of a
+  -- neighbour stands inside a quantifier, or `inside` says that it may stand here
   pub FormulaFits : ℕ → Bool → Formula ℕ → Type 0
   FormulaFits count inside (Eq a b) = TermFits count inside a × TermFits count inside b
   FormulaFits count inside (Lt a b) = TermFits count inside a × TermFits count inside b
@@ -32,6 +32,8 @@ abbrev mutual
   FormulaFits count inside (Each a) = FormulaFits count true a
   FormulaFits count inside (Any a) = FormulaFits count true a
 
+  -- the numbers of a term are small enough, its fields are among so many, and what is asked of a
+  -- neighbour stands inside a quantifier, or `inside` says that it may stand here
   pub TermFits : ℕ → Bool → Term ℕ → Type 0
   TermFits count inside (Number n) = n ≤ MAX_CODED
   TermFits count inside Id = Unit {0}

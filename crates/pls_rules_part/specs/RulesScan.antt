@@ -21,11 +21,12 @@ abbrev pub words_of : RuleLine → LineWords
 words_of (OfField field) = FieldWords field
 words_of (OfRule rule) = RuleBytes (rule_text rule)
 
--- the first word, and those behind it
+-- the first word of a line
 abbrev pub first_word : LineWords → List ℕ
 first_word (FieldWords field) = codes "field"
 first_word (RuleBytes text) = codes "rule"
 
+-- the words behind the first word of a line
 abbrev pub words_behind : LineWords → List (List ℕ)
 words_behind (FieldWords field) = field.name ∷ kind_word field.kind ∷ []
 words_behind (RuleBytes text) = text ∷ []

@@ -21,7 +21,7 @@ pub record RulesSaid : Type 0 where
   pub fields : List Field
   pub rules : List RuleSaid
 
--- what one of its lines says: a field, or a rule
+-- what a line of a rules part says: a field, or a rule
 pub data RuleLine : Type 0 where
   OfField : Field → RuleLine
   OfRule : RuleSaid → RuleLine
@@ -52,10 +52,11 @@ pub record AreRulesSaid (said : RulesSaid) : Type 0 where
   pub rules : length said.rules ≤ 32
   pub each : All FitsRuleLine (rule_lines said)
 
--- the lines of a rules part, and its text
+-- the lines of a rules part
 abbrev pub rules_lines : RulesSaid → List (List ℕ)
 rules_lines said = list_lines (codes "rules") rule_line (rule_lines said)
 
+-- the text of a rules part
 abbrev pub rules_text : RulesSaid → List ℕ
 rules_text said = text_of (rules_lines said)
 
@@ -71,7 +72,7 @@ abbrev pub line_refusals : RulesSaid → List (Option ℕ)
 line_refusals said =
     field_refusals [] said.fields ++ map (rule_refusal (names_of said.fields)) said.rules
 
--- the same as errors that name the line, where this is the first
+-- the refusals of lines, as errors that name the line; the first of the lines has this number
 abbrev pub refusals_from : ℕ → List (Option ℕ) → List (Option TextError)
 refusals_from line [] = []
 refusals_from line (refusal ∷ others) =

@@ -13,7 +13,7 @@ use Rattle.pls_scheme.specs.Reading.{Read, ReadPort}
 abbrev pub first_weights : NodeRow → List ℕ
 first_weights row = take 4 (map (λ port. port.weight) row.ports)
 
--- they are the same at all nodes
+-- the weights at the first ports are the same at all nodes
 abbrev pub HaveSameWeights : List NodeRow → Type 0
 HaveSameWeights rows = (row other : NodeRow) → Contains rows row → Contains rows other
     → first_weights row ≡ first_weights other

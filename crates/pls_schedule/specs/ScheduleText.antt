@@ -21,7 +21,7 @@ event_word (Emit node port) = codes "emit"
 event_word (Arrive number) = codes "arrive"
 event_word (Restart node) = codes "restart"
 
--- and the numbers behind it
+-- the numbers behind the first word of an event's line
 abbrev pub event_numbers : Event → List ℕ
 event_numbers (Emit node port) = node ∷ port ∷ []
 event_numbers (Arrive number) = number ∷ []

@@ -22,7 +22,7 @@ pub record Read (L : Type 0) : Type 0 where
   pub own : L
   pub ports : List (ReadPort L)
 
--- what it reads at the port that it points at, if it points at one
+-- what a node reads at the port that it points at, if it points at one
 abbrev pub target : {L : Type 0} → Read L → Option (ReadPort L)
 target view = option_and_then (slice_get view.ports) view.state.up
 

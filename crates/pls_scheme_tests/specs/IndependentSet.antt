@@ -25,7 +25,7 @@ abbrev pub IsMaximal : List NodeRow → Type 0
 IsMaximal rows = (row : NodeRow) → Contains rows row → (row.state.mark ≡ 1 → ⊥)
     → (other : ℕ) × Adjacent (edges_of rows) row.id other × IsInside rows other
 
--- both
+-- no edge joins two nodes of the set, and each node outside is adjacent to one of the set
 abbrev pub IsMaximalIndependent : List NodeRow → Type 0
 IsMaximalIndependent rows = IsIndependent rows × IsMaximal rows
 
@@ -53,7 +53,7 @@ says_its_mark view = view.own.mark == view.state.mark
 abbrev pub is_apart : Read MarkLabel → Bool
 is_apart view = not (view.own.mark == 1 && list_any is_inside view.ports)
 
--- rule 5: a node outside has one
+-- rule 5: a node outside of the set has a neighbour in it
 abbrev pub has_one_beside : Read MarkLabel → Bool
 has_one_beside view = view.own.mark == 1 || list_any is_inside view.ports
 

@@ -5,12 +5,12 @@ use Rattle.pls_model.specs.declared.verdict.Verdict.{Verdict}
 use Rattle.pls_model.specs.declared.verdict.Verdict.TheVariants.{Accept, Reject}
 use Rattle.pls_scheme.specs.Judging.{LeafWithin}
 
--- the second, where the first accepts
+-- the second verdict where the first accepts, else the first
 abbrev pub both_accept : Verdict → Verdict → Verdict
 both_accept Accept second = second
 both_accept (Reject leaf rule) second = Reject leaf rule
 
--- it names a leaf of one of them
+-- what two verdicts come to names a leaf of one of them
 pub leaf_of_both : (one other : ℕ) (first second : Verdict) → LeafWithin one first
     → LeafWithin other second → LeafWithin (one + other) (both_accept first second)
 leaf_of_both one other Accept Accept here there = tt

@@ -69,11 +69,11 @@ named_after ends own nbr =
     else if (own == ends.other_head && nbr == ends.other_tail) then ends.tail
     else nbr
 
--- a port of a node, which keeps its weight
+-- a port of a node with its neighbour after the crossing; it keeps its weight
 abbrev pub cross_port : Ends → ℕ → Port → Port
 cross_port ends own port = record port { nbr = named_after ends own port.nbr }
 
--- a row, whose ports keep their places
+-- a row with its neighbours after the crossing; its ports keep their places
 abbrev pub cross_row : Ends → NodeRow → NodeRow
 cross_row ends row = record row { ports = map (cross_port ends row.id) row.ports }
 

@@ -21,7 +21,8 @@ next_number count i = if i + 1 == count then 0 else i + 1
 abbrev pub tail_of : List ℕ → ℕ → ℕ
 tail_of order i = slice_index_or order i 0
 
--- to the next node of the order, its head; the last edge leads back to node 0
+-- edge i leads to the next node of the order, its head, and the last edge back to node 0; here is
+-- the place of the head
 abbrev pub head_of : List ℕ → ℕ → ℕ
 head_of order i = tail_of order (next_number (length order) i)
 

@@ -43,7 +43,7 @@ abbrev pub tree_links : ℕ → ℕ → List Link
 tree_links count seed =
     map (λ i. tree_link i (draw seed (2 * i))) (range_with_len 0 count)
 
--- so many links besides, each by the next three draws
+-- so many links besides those of the tree, each by the next three draws
 abbrev pub other_links : ℕ → ℕ → ℕ → List Link
 other_links nodes count number =
     map (λ k. other_link nodes (draw number (3 * k))) (range_with_len 0 count)

@@ -24,7 +24,7 @@ row_off (id ∷ up ∷ mark ∷ num ∷ degree ∷ rest) =
     option_map (row_with id up mark num) (many_off port_off degree rest)
 row_off list = None
 
--- the map that numbers are, where they are one's
+-- the map that has these numbers, if there is one
 abbrev pub map_in : List ℕ → Option (List MapRow)
 map_in (count ∷ rest) = items_in row_off count rest
 map_in [] = None
@@ -33,7 +33,7 @@ map_in [] = None
 abbrev pub map_label_with : ℕ → List MapRow → MapLabel
 map_label_with own rows = record { own = own; rows = rows }
 
--- the label that numbers are, where they are one's
+-- the label that has these numbers, if there is one
 abbrev pub label_in : List ℕ → Option MapLabel
 label_in (own ∷ rest) = option_map (map_label_with own) (map_in rest)
 label_in [] = None

@@ -6,13 +6,14 @@ use Rattle.pls_watch_part.specs.declared.watch_event.WatchEvent.TheVariants.{Emi
 use Rattle.pls_watch.specs.declared.turn.Turn.{Turn}
 use Rattle.pls_watch.specs.declared.turn.Turn.TheVariants as Turns
 
--- what happens, but for the bits of a label
+-- an event as a turn: what happens, but for the bits of a label
 abbrev pub turn_of : WatchEvent → Turn
 turn_of (Emit node port) = Turns.Plain (Events.Emit node port)
 turn_of (Arrive number) = Turns.Plain (Events.Arrive number)
 turn_of (Restart node) = Turns.Plain (Events.Restart node)
 turn_of (Relabel node bits) = Turns.Relabel node
 
+-- events as turns, in their order
 abbrev pub turns_of : List WatchEvent → List Turn
 turns_of events = map turn_of events
 
@@ -43,6 +44,6 @@ given_by (Relabel other bits) = bits ∷ []
 abbrev pub labels_given : List WatchEvent → List (List Bool)
 labels_given events = flat_map given_by events
 
--- how many bits they have together
+-- how many bits the labels have together that are given to any node
 abbrev pub bits_given : List WatchEvent → ℕ
 bits_given events = sum_by length (labels_given events)

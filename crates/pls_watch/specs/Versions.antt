@@ -76,7 +76,7 @@ greatest (number ∷ numbers) = Some (option_map_or (max number) (greatest numbe
 abbrev pub held : List NodeRow → List Turn → ℕ → ℕ → Option ℕ
 held rows turns node neighbour = greatest (arrived rows turns node neighbour)
 
--- what a node holds is the newest
+-- what a node holds of a neighbour's label, if it holds anything, is the newest
 abbrev pub is_fresh : List NodeRow → List Turn → ℕ → ℕ → Bool
 is_fresh rows turns node neighbour =
     option_map_or (λ version. version == newest turns neighbour) (held rows turns node neighbour)

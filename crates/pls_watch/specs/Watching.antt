@@ -24,11 +24,11 @@ pub record Watched : Type 0 where
   pub bits : ℕ
   pub events : List WatchEvent
 
--- the same after one more event
+-- what is watched, after one more event
 abbrev pub watching : WatchEvent → Watched → Watched
 watching event watched = record watched { events = watched.events ++ event ∷ [] }
 
--- the same, but for the bits of labels
+-- what is watched, but for the bits of labels
 abbrev pub turned_of : Watched → Turned
 turned_of watched = record {
   network = watched.network;

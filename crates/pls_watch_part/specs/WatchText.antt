@@ -32,7 +32,7 @@ watch_word (Event (Restart node)) = codes "restart"
 watch_word (Event (Relabel node bits)) = codes "relabel"
 watch_word Look = codes "look"
 
--- and the words behind it
+-- the words behind the first word of a line
 abbrev pub watch_args : WatchLine → List (List ℕ)
 watch_args (Event (Emit node port)) = decimal node ∷ decimal port ∷ []
 watch_args (Event (Arrive number)) = decimal number ∷ []
@@ -82,7 +82,7 @@ looks_of lines = closing_of is_look lines
 abbrev pub watch_text : List WatchLine → List ℕ
 watch_text lines = list_text (codes "watch") watch_line lines
 
--- its lines
+-- the lines of a watch part
 abbrev pub watch_part_lines : List WatchLine → List (List ℕ)
 watch_part_lines lines = list_lines (codes "watch") watch_line lines
 
