@@ -32,7 +32,8 @@ use Rattle.pls_facts.proofs.Roots.{a_root, is_root-None}
 use Rattle.pls_facts.proofs.ShortestPaths.{distances_fall, shortest_by_numbers}
 use Rattle.pls_facts.proofs.Weights.{FallsByWeight, RisesByWeight, chain_weighs, distances_rise, port_weighs}
 use Rattle.pls_distance.specs.declared.spt.SptLabel.{SptLabel}
-use Rattle.pls_distance.specs.Spt.{far_says, spt_says}
+use Rattle.pls_distance.specs.Spt.{spt_says}
+use Rattle.pls_distance.specs.inner.Saying.{far_says}
 use Rattle.pls_distance.specs.inner.Following.{AreFollowed, AreLabelsSoFar, IsFollowed, far}
 
 -- of the port that is pointed at, it is enough

@@ -12,7 +12,7 @@ use Rattle.pls_scheme.specs.Reading.{Read, ReadPort, port_with, reading, target}
 use Rattle.pls_facts.specs.Pointer.{IsChainOf}
 use Rattle.pls_facts.specs.Weight.{walk_weight}
 use Rattle.pls_pointer.specs.Pointing.{points}
-use Rattle.pls_pointer.specs.Tree.{agrees_on_tree_root, is_deeper_in_tree, points_or_is_root, root_says}
+use Rattle.pls_pointer.specs.Tree.{agrees_on_tree_root, is_deeper_in_tree, points_or_is_root}
 use Rattle.pls_pointer.specs.declared.tree.TreeLabel.{TreeLabel}
 use Rattle.pls_distance.specs.declared.spt.SptLabel.{SptLabel}
 
@@ -20,13 +20,10 @@ use Rattle.pls_distance.specs.declared.spt.SptLabel.{SptLabel}
 abbrev pub numbers_of_spt : SptLabel → List ℕ
 numbers_of_spt label = label.root ∷ label.depth ∷ label.dist ∷ []
 
--- the label of a root, a depth and a distance
-abbrev pub far_says : ℕ → ℕ → ℕ → SptLabel
-far_says root depth dist = record { root = root; depth = depth; dist = dist }
-
 -- the label of three numbers
 abbrev pub spt_label : List ℕ → SptLabel
-spt_label list = far_says (get_or list 0 0) (get_or list 1 0) (get_or list 2 0)
+spt_label list =
+    record { root = get_or list 0 0; depth = get_or list 1 0; dist = get_or list 2 0 }
 
 -- a label is three numbers, each in code
 abbrev pub spt_shape : Shape SptLabel
@@ -34,7 +31,7 @@ spt_shape = fixed_shape 3 numbers_of_spt spt_label
 
 -- what a label says of the tree
 abbrev pub tree_part : SptLabel → TreeLabel
-tree_part label = root_says label.root label.depth
+tree_part label = record { root = label.root; depth = label.depth }
 
 -- what a node reads of the tree at a port
 abbrev pub tree_port : ReadPort SptLabel → ReadPort TreeLabel

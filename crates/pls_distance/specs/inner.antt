@@ -1,3 +1,4 @@
 -- What private functions say to each other.
 pub mod Gathering
 pub mod Following
+pub mod Saying

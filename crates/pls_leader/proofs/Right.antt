@@ -15,7 +15,8 @@ use Rattle.pls_facts.specs.Leader.{is_leader}
 use Rattle.pls_facts.specs.OnlyNode.{IsOnly}
 use Rattle.pls_facts.proofs.Levels.{known_level}
 use Rattle.pls_facts.proofs.OnlyNode.{the_only}
-use Rattle.pls_leader.specs.Leader.{leader_says, leader_at}
+use Rattle.pls_leader.specs.Leader.{leader_says}
+use Rattle.pls_leader.specs.inner.Saying.{leader_at}
 use Rattle.pls_leader.specs.inner.LevelsFrom.{AreLevelsFrom}
 
 -- in a connected network the levels that are found are those of all nodes

@@ -18,13 +18,9 @@ use Rattle.pls_leader.specs.Rooted.{is_0_at_root_alone}
 abbrev pub numbers_of_leader : LeaderLabel → List ℕ
 numbers_of_leader label = label.root ∷ label.depth ∷ []
 
--- the label of a root and a depth
-abbrev pub leader_at : ℕ → ℕ → LeaderLabel
-leader_at root depth = record { root = root; depth = depth }
-
 -- the label of two numbers
 abbrev pub leader_label : List ℕ → LeaderLabel
-leader_label list = leader_at (get_or list 0 0) (get_or list 1 0)
+leader_label list = record { root = get_or list 0 0; depth = get_or list 1 0 }
 
 -- a label is two numbers, each in code
 abbrev pub leader_shape : Shape LeaderLabel

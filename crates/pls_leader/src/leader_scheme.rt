@@ -1,7 +1,7 @@
 //! How networks with one leader are labelled.
 
 ghost use Rattle.std.specs.Prelude.{◌≡◌, map, IfOk};
-ghost use Rattle.pls_leader.specs.Leader.{leader_at};
+ghost use Rattle.pls_leader.specs.inner.Saying.{leader_at};
 
 use crate::leader::{LeaderLabel, LeaderRules};
 use crate::rooted::levels_from;

@@ -10,7 +10,8 @@ use Rattle.pls_search.specs.Depths.{AreDepths}
 use Rattle.pls_scheme.specs.Marked.{AreRight}
 use Rattle.pls_facts.specs.OnlyNode.{IsOnly, points_at_none}
 use Rattle.pls_facts.proofs.Lists.{item_at}
-use Rattle.pls_pointer.specs.Tree.{root_says, tree_says}
+use Rattle.pls_pointer.specs.Tree.{tree_says}
+use Rattle.pls_pointer.specs.inner.Saying.{root_says}
 use Rattle.pls_pointer.proofs.Right.{tree_right}
 use Rattle.pls_levels.specs.declared.label.LevelLabel.{LevelLabel}
 use Rattle.pls_levels.specs.Making.{AreMade, IsMadeAt, IsRightHead, label_from}

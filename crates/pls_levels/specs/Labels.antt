@@ -48,7 +48,7 @@ head_with root own parent depth count =
 -- what stands in front of the levels, and the numbers behind it
 abbrev pub head_off : List ℕ → Option (LevelHead × List ℕ)
 head_off (root ∷ own ∷ parent ∷ depth ∷ count ∷ rest) =
-    Some (head_with root own parent depth count, rest)
+    Some (record { root = root; own = own; parent = parent; depth = depth; count = count }, rest)
 head_off list = None
 
 -- the label of these levels with this in front
@@ -87,8 +87,13 @@ module _ {S X : Type 0} (form : LevelForm S X) where
 
   -- the label with this in front of these numbers, where they are as many levels as it says
   abbrev pub label_behind : LevelHead × List ℕ → Option (LevelLabel S)
-  label_behind front =
-      option_map (label_listed front.0) (items_in form.off front.0.count front.1)
+  label_behind front = option_map (λ levels. record {
+    root = front.0.root;
+    own = front.0.own;
+    parent = front.0.parent;
+    depth = front.0.depth;
+    levels = form.list_of levels;
+  }) (items_in form.off front.0.count front.1)
 
   -- the label that has these numbers, if there is one
   abbrev pub label_of : List ℕ → Option (LevelLabel S)

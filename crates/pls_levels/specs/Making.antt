@@ -1,9 +1,10 @@
 -- Labels with levels that a marker makes: what is right in front of their levels, and what they are
 -- made of.
-use Rattle.std.specs.Prelude.{◌≡◌, ℕ, List, length, get_or, slice_get, Contains, Some, None}
+use Rattle.std.specs.Prelude.{◌≡◌, ℕ, List, [], ◌∷◌, length, get_or, slice_get, Contains, Some, None}
 use Rattle.std.specs.Option.{option_map_or}
 use Rattle.pls_model.specs.declared.row.Port.{Port}
 use Rattle.pls_model.specs.declared.row.NodeRow.{NodeRow}
+use Rattle.pls_graph.specs.declared.size.Size.{Size}
 use Rattle.pls_facts.specs.Pointer.{IsChainOf, pointed_port}
 use Rattle.pls_levels.specs.declared.label.LevelLabel.{LevelLabel}
 
@@ -17,6 +18,12 @@ pub record IsRightHead {S : Type 0} (rows : List NodeRow) (row : NodeRow) (label
       → (label.root ≡ root.id) × IsChainOf rows row.id root.id label.depth
   pub parent : (port : Port) → pointed_port row ≡ Some port → label.parent ≡ port.nbr
   pub own_parent : pointed_port row ≡ None → label.parent ≡ row.id
+
+-- no numbers in front of so many levels of a marked label are greater: the greatest identity for the
+-- root, the node and the parent, the number of nodes, and how many levels there are
+abbrev pub head_limits : ℕ → Size → List ℕ
+head_limits count size =
+    size.max_id ∷ size.max_id ∷ size.max_id ∷ size.nodes ∷ count ∷ []
 
 -- the node that the node of a row points at, and else the node itself
 abbrev pub parent_or_own : NodeRow → ℕ

@@ -22,15 +22,11 @@ IsOrdered level = level.a < level.b
 abbrev pub AreOrdered : List Level → Type 0
 AreOrdered levels = All IsOrdered levels
 
--- the level of four numbers
-abbrev pub level_with : ℕ → ℕ → ℕ → ℕ → Level
-level_with fragment weight a b =
-    record { fragment = fragment; weight = weight; a = a; b = b }
-
 -- the level that stands in front, with its edge in order, and the numbers behind it
 abbrev pub level_off : List ℕ → Option (Level × List ℕ)
 level_off (fragment ∷ weight ∷ a ∷ b ∷ rest) =
-    if nat_lt a b then Some (level_with fragment weight a b, rest) else None
+    if nat_lt a b
+    then Some (record { fragment = fragment; weight = weight; a = a; b = b }, rest) else None
 level_off list = None
 
 -- levels of these numbers, whose edges are in order

@@ -6,7 +6,7 @@ use Rattle.pls_graph.specs.declared.size.Size.{Size}
 use Rattle.pls_scheme.specs.Length.{codes_length}
 use Rattle.pls_boruvka.specs.Boruvka.{AreChainLengths, AreBoruvkaLevels}
 use Rattle.pls_boruvka.specs.declared.level.Level.{Level}
-use Rattle.pls_levels.specs.Making.{IsRightHead}
+use Rattle.pls_levels.specs.Making.{IsRightHead, head_limits}
 use Rattle.pls_mst.specs.Labels.{MstLabel}
 
 -- these are Borůvka's levels of the node with this identity, from the first on
@@ -22,12 +22,6 @@ pub record MstSays (rows : List NodeRow) (row : NodeRow) (label : MstLabel) : Ty
   pub head : IsRightHead rows row label
   pub levels : AreLevelsOf rows row.id label.levels
 
--- no numbers in front of the levels of a marked label are greater: the greatest identity for the
--- root, the node and the parent, the number of nodes, and its logarithm to the base 2, rounded down
-abbrev pub front_limits : Size → List ℕ
-front_limits size =
-    size.max_id ∷ size.max_id ∷ size.max_id ∷ size.nodes ∷ floor_log size.nodes ∷ []
-
 -- no numbers of a level of a marked label are greater: the greatest identity for the fragment and
 -- the ends, and the greatest weight
 abbrev pub level_limits : Size → List ℕ
@@ -36,5 +30,5 @@ level_limits size = size.max_id ∷ size.max_weight ∷ size.max_id ∷ size.max
 -- how many bits a marked label has at most: the codes of the limits in front of its levels, and
 -- those of a level's limits as often as the logarithm of the number of nodes says
 abbrev pub longest_mst : (ℕ → List Bool) → Size → ℕ
-longest_mst code size = codes_length code [] (front_limits size)
+longest_mst code size = codes_length code [] (head_limits (floor_log size.nodes) size)
     + floor_log size.nodes * codes_length code [] (level_limits size)

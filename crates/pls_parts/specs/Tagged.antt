@@ -16,7 +16,7 @@ pub record AreTagged (tag : Bool) (marked : List NodeRow → List (List Bool) �
     (rows : List NodeRow) (labels : List (List Bool)) : Type 0 where
   pub rests : List (List Bool)
   pub rests_are : marked rows rests
-  pub tagged : EachTagged tag rests labels
+  pub tagged : ArePut (λ place. tag ∷ get_or rests place []) (length rests) labels
 
 -- the labels of a disjunction are those of the first part with tag 0 where its property holds, else
 -- those of the second with tag 1

@@ -14,14 +14,10 @@ PathMaxLabel = LevelLabel (List CentroidLevel)
 abbrev pub numbers_of_level : CentroidLevel → List ℕ
 numbers_of_level level = level.centroid ∷ level.hops ∷ level.greatest ∷ []
 
--- the level of three numbers
-abbrev pub level_with : ℕ → ℕ → ℕ → CentroidLevel
-level_with centroid hops greatest =
-    record { centroid = centroid; hops = hops; greatest = greatest }
-
 -- the level that stands in front, and the numbers behind it
 abbrev pub level_off : List ℕ → Option (CentroidLevel × List ℕ)
-level_off (centroid ∷ hops ∷ greatest ∷ rest) = Some (level_with centroid hops greatest, rest)
+level_off (centroid ∷ hops ∷ greatest ∷ rest) =
+    Some (record { centroid = centroid; hops = hops; greatest = greatest }, rest)
 level_off list = None
 
 -- levels of these numbers, of which nothing else is asked

@@ -5,7 +5,7 @@ use Rattle.pls_model.specs.declared.row.NodeRow.{NodeRow}
 use Rattle.pls_graph.specs.declared.size.Size.{Size}
 use Rattle.pls_scheme.specs.Length.{codes_length}
 use Rattle.pls_centroid.specs.Levels.{AreCentroidLevels}
-use Rattle.pls_levels.specs.Making.{IsRightHead}
+use Rattle.pls_levels.specs.Making.{IsRightHead, head_limits}
 use Rattle.pls_pathmax.specs.Labels.{PathMaxLabel}
 
 -- the label of a node: what stands in front of its levels is right, and they are the node's
@@ -13,13 +13,6 @@ use Rattle.pls_pathmax.specs.Labels.{PathMaxLabel}
 pub record PathMaxSays (rows : List NodeRow) (row : NodeRow) (label : PathMaxLabel) : Type 0 where
   pub head : IsRightHead rows row label
   pub levels : AreCentroidLevels rows row.id label.levels
-
--- no numbers in front of the levels of a marked label are greater: the greatest identity for the
--- root, the node and the parent, the number of nodes, and one more than its logarithm to the base
--- 2, rounded down
-abbrev pub front_limits : Size → List ℕ
-front_limits size = size.max_id ∷ size.max_id ∷ size.max_id ∷ size.nodes
-    ∷ (floor_log size.nodes + 1) ∷ []
 
 -- no numbers of a level of a marked label are greater: the greatest identity, the number of nodes,
 -- and the greatest weight
@@ -29,5 +22,5 @@ level_limits size = size.max_id ∷ size.nodes ∷ size.max_weight ∷ []
 -- how many bits a marked label has at most: the codes of the limits in front of its levels, and
 -- those of a level's limits once more than the logarithm of the number of nodes says
 abbrev pub longest_pathmax : (ℕ → List Bool) → Size → ℕ
-longest_pathmax code size = codes_length code [] (front_limits size)
+longest_pathmax code size = codes_length code [] (head_limits (floor_log size.nodes + 1) size)
     + (floor_log size.nodes + 1) * codes_length code [] (level_limits size)

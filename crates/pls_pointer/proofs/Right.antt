@@ -11,8 +11,10 @@ use Rattle.pls_facts.specs.Pointer.{IsChainOf}
 use Rattle.pls_facts.specs.SpanningTree.{IsTree}
 use Rattle.pls_facts.proofs.Roots.{is_root-None}
 use Rattle.pls_facts.proofs.Trees.{IsTree-falling}
-use Rattle.pls_pointer.specs.Forest.{depth_says, forest_says}
-use Rattle.pls_pointer.specs.Tree.{root_says, tree_says}
+use Rattle.pls_pointer.specs.Forest.{forest_says}
+use Rattle.pls_pointer.specs.inner.Saying.{depth_says}
+use Rattle.pls_pointer.specs.Tree.{tree_says}
+use Rattle.pls_pointer.specs.inner.Saying.{root_says}
 use Rattle.pls_facts.proofs.ChainDepths.{chain_end, chains_fall}
 
 module _ (rows : List NodeRow) (depths : List ℕ) (are : AreDepths rows depths) where

@@ -18,13 +18,9 @@ IsForest rows = NoneReturns rows
 abbrev pub numbers_of_depth : DepthLabel → List ℕ
 numbers_of_depth label = label.depth ∷ []
 
--- the label of a depth
-abbrev pub depth_says : ℕ → DepthLabel
-depth_says depth = record { depth = depth }
-
 -- the label of a number
 abbrev pub depth_label : List ℕ → DepthLabel
-depth_label list = depth_says (get_or list 0 0)
+depth_label list = record { depth = get_or list 0 0 }
 
 -- a label is one number, in code
 abbrev pub forest_shape : Shape DepthLabel

@@ -15,13 +15,9 @@ use Rattle.pls_pointer.specs.declared.tree.TreeLabel.{TreeLabel}
 abbrev pub numbers_of_tree : TreeLabel → List ℕ
 numbers_of_tree label = label.root ∷ label.depth ∷ []
 
--- the label of a root and a depth
-abbrev pub root_says : ℕ → ℕ → TreeLabel
-root_says root depth = record { root = root; depth = depth }
-
 -- the label of two numbers
 abbrev pub tree_label : List ℕ → TreeLabel
-tree_label list = root_says (get_or list 0 0) (get_or list 1 0)
+tree_label list = record { root = get_or list 0 0; depth = get_or list 1 0 }
 
 -- a label is two numbers, each in code
 abbrev pub tree_shape : Shape TreeLabel

@@ -1,7 +1,7 @@
 //! How networks in which no chain of pointers returns are labelled.
 
 ghost use Rattle.std.specs.Prelude.{◌≡◌, map, IfOk};
-ghost use Rattle.pls_pointer.specs.Forest.{depth_says};
+ghost use Rattle.pls_pointer.specs.inner.Saying.{depth_says};
 
 use crate::forest::{DepthLabel, ForestRules};
 use pls_base::NoMemory;

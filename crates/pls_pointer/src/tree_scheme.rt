@@ -5,7 +5,7 @@ ghost use Rattle.pls_model.specs.Configuration.{IsNetwork};
 ghost use Rattle.pls_facts.specs.OnlyNode.{IsOnly, points_at_none};
 ghost use Rattle.pls_facts.specs.SpanningTree.{IsTree};
 ghost use Rattle.pls_search.specs.Depths.{AreDepths};
-ghost use Rattle.pls_pointer.specs.Tree.{root_says};
+ghost use Rattle.pls_pointer.specs.inner.Saying.{root_says};
 
 use crate::tree::{TreeLabel, TreeRules};
 use pls_base::NoMemory;

@@ -10,17 +10,18 @@ use Rattle.pls_graph.proofs.Placed.{port_of_place, row_of_place}
 use Rattle.pls_facts.specs.SpanningTree.{edge_at}
 use Rattle.pls_facts.proofs.Decided.{same_Edge}
 use Rattle.pls_facts.proofs.PortEdges.{IsAtPort, ports_of_edge}
-use Rattle.pls_properties.specs.Bridgeless.{same_edge, without}
+use Rattle.pls_facts.specs.EdgeOrder.{is_same_edge}
+use Rattle.pls_properties.specs.Bridgeless.{without}
 
 -- edges of which the test says so are the same
-same_edge-same : (one other : Edge) → same_edge one other ≡ true → one ≡ other
+same_edge-same : (one other : Edge) → is_same_edge one other ≡ true → one ≡ other
 same_edge-same one other same =
     let first = and_parts (one.a == other.a) (one.b == other.b && one.weight == other.weight) same in
     let second = and_parts (one.b == other.b) (one.weight == other.weight) first.1 in
     same_Edge one other (eqb-true one.a other.a first.0) (eqb-true one.b other.b second.0)
     (eqb-true one.weight other.weight second.1)
 
-same_edge-itself : (edge : Edge) → same_edge edge edge ≡ true
+same_edge-itself : (edge : Edge) → is_same_edge edge edge ≡ true
 same_edge-itself edge =
     and_from (edge.a == edge.a) (edge.b == edge.b && edge.weight == edge.weight)
     (eq-eqb edge.a edge.a refl)
@@ -32,21 +33,21 @@ module _ (edges : List Edge) (edge : Edge) where
   pub is_left : (other : Edge) → Contains edges other → other ≢ edge
       → Contains (without edge edges) other
   is_left other in' apart =
-      Contains-filter (λ (other : Edge). not (same_edge edge other)) edges other in'
-      (not_from_false (same_edge edge other) (false_from_ne_true (same_edge edge other)
+      Contains-filter (λ (other : Edge). not (is_same_edge edge other)) edges other in'
+      (not_from_false (is_same_edge edge other) (false_from_ne_true (is_same_edge edge other)
       (λ same. apart (sym (same_edge-same edge other same)))))
 
   -- what is left is another edge
   pub was_other : (other : Edge) → Contains (without edge edges) other
       → Contains edges other × (other ≢ edge)
   was_other other in' =
-      let found : Contains edges other × (not (same_edge edge other) ≡ true) =
-      Contains-from_filter (λ (other : Edge). not (same_edge edge other)) edges other in' in (
+      let found : Contains edges other × (not (is_same_edge edge other) ≡ true) =
+      Contains-from_filter (λ (other : Edge). not (is_same_edge edge other)) edges other in' in (
         found.0,
         λ same.
-            let yes : same_edge edge other ≡ true =
-            ap (same_edge edge) same ∙ same_edge-itself edge in
-            let no = not-true (same_edge edge other) found.1 in
+            let yes : is_same_edge edge other ≡ true =
+            ap (is_same_edge edge) same ∙ same_edge-itself edge in
+            let no = not-true (is_same_edge edge other) found.1 in
             absurd (cc),
       )
 

@@ -1,18 +1,15 @@
 -- Networks that stay in one part when any one edge is left out (any textbook on graphs: an edge
 -- without which the nodes fall into two parts is a bridge).
-use Rattle.std.specs.Prelude.{not, ◌&&◌, ◌==◌, Bool, List, Contains}
+use Rattle.std.specs.Prelude.{not, List, Contains}
 use Rattle.std.specs.List.{filter}
 use Rattle.pls_model.specs.declared.row.NodeRow.{NodeRow}
 use Rattle.pls_model.specs.Configuration.{ids_of}
 use Rattle.pls_model.specs.Walk.{Edge, JoinAll, edges_of}
-
--- the two edges are the same
-abbrev pub same_edge : Edge → Edge → Bool
-same_edge one other = one.a == other.a && (one.b == other.b && one.weight == other.weight)
+use Rattle.pls_facts.specs.EdgeOrder.{is_same_edge}
 
 -- the edges but this one
 abbrev pub without : Edge → List Edge → List Edge
-without edge edges = filter (λ other. not (same_edge edge other)) edges
+without edge edges = filter (λ other. not (is_same_edge edge other)) edges
 
 -- for each edge, the other edges join all nodes
 abbrev pub IsBridgeless : List NodeRow → Type 0

@@ -4,7 +4,7 @@ use Rattle.std.specs.List.{list_all, list_any}
 use Rattle.pls_model.specs.declared.row.NodeRow.{NodeRow}
 use Rattle.pls_model.specs.Configuration.{ids_of}
 use Rattle.pls_model.specs.Walk.{Edge, edges_of}
-use Rattle.pls_facts.specs.Classes.{class_of}
+use Rattle.pls_facts.specs.Classes.{joins_all}
 use Rattle.pls_properties.specs.Bridgeless.{without}
 
 -- some edge leads from u to a node that passes
@@ -26,14 +26,7 @@ any_two test nodes = list_all (λ u. list_all (test u) nodes) nodes
 abbrev pub diameter_test : ℕ → List NodeRow → Bool
 diameter_test most rows = any_two (λ u v. walks_within (edges_of rows) most v u) (ids_of rows)
 
--- the edges put the two nodes into one class
-abbrev pub are_classed : List Edge → ℕ → ℕ → Bool
-are_classed edges u v = class_of edges u == class_of edges v
-
--- the edges but this one put all nodes into one class
-abbrev pub joins_without : List NodeRow → Edge → Bool
-joins_without rows edge = any_two (are_classed (without edge (edges_of rows))) (ids_of rows)
-
 -- for each edge, the edges but this one put all nodes into one class
 abbrev pub bridgeless_test : List NodeRow → Bool
-bridgeless_test rows = list_all (joins_without rows) (edges_of rows)
+bridgeless_test rows =
+    list_all (λ edge. joins_all (without edge (edges_of rows)) (ids_of rows)) (edges_of rows)

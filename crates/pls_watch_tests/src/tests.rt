@@ -50,10 +50,7 @@ fn bits_of(ports: &[u32]) -> u32 {
 type Shown = (u32, u32, u32, u32);
 
 // What a look shows of all nodes.
-fn look<K: Checker>(
-    alloc: Global,
-    lookout: &mut Lookout<'_, '_, K>,
-) -> Result<Vec<Shown>, Fail> {
+fn look<K: Checker>(alloc: Global, lookout: &mut Lookout<'_, '_, K>) -> Result<Vec<Shown>, Fail> {
     lookout.look(alloc, &mut Steps::new())?;
     let mut shown = Vec::new(alloc);
     for row in lookout.rows() {

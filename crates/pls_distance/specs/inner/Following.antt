@@ -5,7 +5,7 @@ use Rattle.pls_model.specs.declared.row.Port.{Port}
 use Rattle.pls_model.specs.declared.row.NodeRow.{NodeRow}
 use Rattle.pls_graph.specs.Places.{place_in}
 use Rattle.pls_distance.specs.declared.spt.SptLabel.{SptLabel}
-use Rattle.pls_distance.specs.Spt.{far_says}
+use Rattle.pls_distance.specs.inner.Saying.{far_says}
 
 -- how far a place was found to be, and 0 where no walk leads there
 abbrev pub far : List (Option ℕ) → ℕ → ℕ

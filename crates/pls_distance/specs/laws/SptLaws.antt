@@ -31,7 +31,8 @@ use Rattle.pls_pointer.specs.declared.tree.TreeLabel.{TreeLabel}
 use Rattle.pls_pointer.specs.laws.PointingLaws.{points_or, target_said}
 use Rattle.pls_pointer.specs.laws.TreeLaws.{tree_met, tree_show}
 use Rattle.pls_distance.specs.declared.spt.SptLabel.{SptLabel}
-use Rattle.pls_distance.specs.Spt.{far_says, is_farther_than_target, is_nearest, is_reached_by, spt_limits, spt_rules, spt_says, spt_shape, tree_part, tree_port, tree_reading}
+use Rattle.pls_distance.specs.Spt.{is_farther_than_target, is_nearest, is_reached_by, spt_limits, spt_rules, spt_says, spt_shape, tree_part, tree_port, tree_reading}
+use Rattle.pls_distance.specs.inner.Saying.{far_says}
 
 module _ (say : ℕ → SptLabel) where
   -- what labels say of the tree

@@ -23,7 +23,8 @@ use Rattle.pls_facts.proofs.OnlyNode.{only_from, only_of, the_only}
 use Rattle.pls_facts.proofs.Pointed.{row_of_id}
 use Rattle.pls_facts.proofs.RootLevels.{alone_at_0, below_nodes, levels_fall, root_at_0}
 use Rattle.pls_leader.specs.declared.leader.LeaderLabel.{LeaderLabel}
-use Rattle.pls_leader.specs.Leader.{falls_to_root, is_one_less_deep, leader_limits, leader_rules, leader_says, leader_shape, leader_at}
+use Rattle.pls_leader.specs.Leader.{falls_to_root, is_one_less_deep, leader_limits, leader_rules, leader_says, leader_shape}
+use Rattle.pls_leader.specs.inner.Saying.{leader_at}
 use Rattle.pls_leader.specs.laws.RootedLaws.{at_0_alone, beq-back, beq-from, beq-there, root_where_0}
 
 -- a test that one of two passes

@@ -7,7 +7,12 @@ use Rattle.pls_numbers.specs.laws.LeftLaws.{same_parts}
 use Rattle.pls_boruvka.specs.declared.level.Level.{Level}
 use Rattle.pls_levels.specs.Labels.{IsExactForm}
 use Rattle.pls_levels.specs.laws.LabelLaws.{level_numbers}
-use Rattle.pls_mst.specs.Labels.{IsOrdered, level_off, level_with, mst_levels, mst_shape, numbers_of_level}
+use Rattle.pls_mst.specs.Labels.{IsOrdered, level_off, mst_levels, mst_shape, numbers_of_level}
+
+-- the level of four numbers
+abbrev level_with : ℕ → ℕ → ℕ → ℕ → Level
+level_with fragment weight a b =
+    record { fragment = fragment; weight = weight; a = a; b = b }
 
 -- a level, where its edge is in order
 abbrev in_order : Bool → Level → List ℕ → Option (Level × List ℕ)

@@ -5,7 +5,7 @@ use Rattle.pls_numbers.specs.laws.LeftLaws.{same_parts}
 use Rattle.pls_centroid.specs.declared.level.CentroidLevel.{CentroidLevel}
 use Rattle.pls_levels.specs.Labels.{IsExactForm}
 use Rattle.pls_levels.specs.laws.LabelLaws.{level_numbers}
-use Rattle.pls_pathmax.specs.Labels.{level_off, level_with, numbers_of_level, pathmax_levels, pathmax_shape}
+use Rattle.pls_pathmax.specs.Labels.{level_off, numbers_of_level, pathmax_levels, pathmax_shape}
 
 -- three numbers are a level
 level_only : (list : List ℕ) (level : CentroidLevel) (rest : List ℕ)
@@ -14,7 +14,8 @@ level_only [] level rest is = absurd (cc)
 level_only (centroid ∷ []) level rest is = absurd (cc)
 level_only (centroid ∷ hops ∷ []) level rest is = absurd (cc)
 level_only (centroid ∷ hops ∷ greatest ∷ more) level rest is =
-    let same = same_parts (level_with centroid hops greatest, more) (level, rest) is in
+    let read : CentroidLevel = record { centroid = centroid; hops = hops; greatest = greatest } in
+    let same = same_parts (read, more) (level, rest) is in
     rw (sym same.0, sym same.1) (refl, tt)
 
 -- a level is taken off exactly where its numbers stand in front

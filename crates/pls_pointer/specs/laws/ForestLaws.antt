@@ -10,7 +10,8 @@ use Rattle.pls_facts.proofs.Bounded.{IsChainOf-short}
 use Rattle.pls_facts.proofs.ChainDepths.{chain_of_root, chains_fall}
 use Rattle.pls_facts.proofs.Chains.{Falls-NoneReturns, IsChainOf-one}
 use Rattle.pls_pointer.specs.declared.forest.DepthLabel.{DepthLabel}
-use Rattle.pls_pointer.specs.Forest.{IsForest, depth_says, forest_limits, forest_rules, forest_says, forest_shape}
+use Rattle.pls_pointer.specs.Forest.{IsForest, forest_limits, forest_rules, forest_says, forest_shape}
+use Rattle.pls_pointer.specs.inner.Saying.{depth_says}
 use Rattle.pls_pointer.specs.laws.PointingLaws.{deeper_falls, falls_deeper, points_or}
 
 -- where the rules hold everywhere, no chain of pointers returns

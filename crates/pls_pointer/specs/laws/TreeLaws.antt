@@ -24,7 +24,8 @@ use Rattle.pls_facts.proofs.Pointed.{id_of_row}
 use Rattle.pls_facts.proofs.Roots.{a_root}
 use Rattle.pls_facts.proofs.Trees.{IsTree-falling}
 use Rattle.pls_pointer.specs.declared.tree.TreeLabel.{TreeLabel}
-use Rattle.pls_pointer.specs.Tree.{agrees_on_tree_root, points_or_is_root, root_says, tree_limits, tree_rules, tree_says, tree_shape}
+use Rattle.pls_pointer.specs.Tree.{agrees_on_tree_root, points_or_is_root, tree_limits, tree_rules, tree_says, tree_shape}
+use Rattle.pls_pointer.specs.inner.Saying.{root_says}
 use Rattle.pls_pointer.specs.laws.PointingLaws.{deeper_falls, falls_deeper, points_or}
 
 module _ (say : ℕ → TreeLabel) (row : NodeRow) where

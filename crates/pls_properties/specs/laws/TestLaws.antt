@@ -5,12 +5,12 @@ use Rattle.std.proofs.lemmas.Bool.{and_from, and_parts, eq-eqb, eqb-true, or_cas
 use Rattle.pls_model.specs.declared.row.NodeRow.{NodeRow}
 use Rattle.pls_model.specs.Configuration.{ids_of}
 use Rattle.pls_model.specs.Walk.{Adjacent, Edge, JoinAll, Walk, edges_of}
-use Rattle.pls_facts.specs.Classes.{class_of}
+use Rattle.pls_facts.specs.Classes.{class_of, joins_all}
 use Rattle.pls_facts.proofs.Classes.{class-joined, joined-class}
 use Rattle.pls_facts.proofs.Lists.{all_pass, any_passes, each_passes, passes_any}
 use Rattle.pls_properties.specs.Diameter.{AreWithin, HasDiameter}
 use Rattle.pls_properties.specs.Bridgeless.{IsBridgeless, without}
-use Rattle.pls_properties.specs.Tests.{any_two, are_classed, bridgeless_test, diameter_test, joins_without, leads_to, walks_within}
+use Rattle.pls_properties.specs.Tests.{any_two, bridgeless_test, diameter_test, leads_to, walks_within}
 
 -- what all pass, any two pass, and the other way round
 module _ (test : ℕ → ℕ → Bool) (nodes : List ℕ) where
@@ -104,11 +104,11 @@ diameter_tested most rows = (
 
 -- the test of what edges join is right
 join_tested : (edges : List Edge) (nodes : List ℕ)
-    → (any_two (are_classed edges) nodes ≡ true) ↔ JoinAll edges nodes
+    → (joins_all edges nodes ≡ true) ↔ JoinAll edges nodes
 join_tested edges nodes = (
   λ passes u v in_u in_v. joined-class edges u v (eqb-true (class_of edges u) (class_of edges v)
-      (two_pass (are_classed edges) nodes passes u v in_u in_v)),
-  λ joined. any_two_pass (are_classed edges) nodes (λ u v in_u in_v.
+      (two_pass (λ u v. class_of edges u == class_of edges v) nodes passes u v in_u in_v)),
+  λ joined. any_two_pass (λ u v. class_of edges u == class_of edges v) nodes (λ u v in_u in_v.
       eq-eqb (class_of edges u) (class_of edges v)
       (class-joined edges u v (joined u v in_u in_v))),
 )
@@ -118,7 +118,9 @@ pub bridgeless_tested : (rows : List NodeRow)
     → (bridgeless_test rows ≡ true) ↔ IsBridgeless rows
 bridgeless_tested rows = (
   λ passes edge in'. (join_tested (without edge (edges_of rows)) (ids_of rows)).0
-      (each_passes (joins_without rows) (edges_of rows) passes edge in'),
-  λ holds. all_pass (joins_without rows) (edges_of rows) (λ edge in'.
+      (each_passes (λ edge. joins_all (without edge (edges_of rows)) (ids_of rows)) (edges_of rows)
+      passes edge in'),
+  λ holds. all_pass (λ edge. joins_all (without edge (edges_of rows)) (ids_of rows)) (edges_of rows)
+      (λ edge in'.
       (join_tested (without edge (edges_of rows)) (ids_of rows)).1 (holds edge in')),
 )

@@ -227,8 +227,7 @@ fn plain_look(alloc: Global, plain: &Plain) -> Result<Vec<Shown>, Fail> {
     Ok(shown)
 }
 
-// How many events are taken of random ones on a network; each is to be refused as the plain
-// program refuses it, and a look behind each fourth event or so is to show the same.
+// How many events are taken of random ones on a network.
 fn taken<K: Checker>(
     alloc: Global,
     net: &Network,
@@ -240,26 +239,47 @@ fn taken<K: Checker>(
     let colours = labels(alloc, net, text)?;
     let watch = Watch::start(alloc, net, &colours, 60, 60, 60)?;
     let mut lookout = Lookout::over(alloc, watch, checker, &mut Steps::new())?;
+    play(alloc, &mut lookout, plain, seed)
+}
+
+// The same of a watch. Each event is to be refused as the plain program refuses it, and a look
+// behind each fourth event or so is to show the same.
+fn play<K: Checker>(
+    alloc: Global,
+    lookout: &mut Lookout<'_, '_, K>,
+    plain: &mut Plain,
+    seed: u32,
+) -> Result<u32, Fail> {
     let (mut number, mut taken) = (seed, 0_u32);
     for _ in 0..60 {
         number = next(number);
         let event = chosen(number, plain.emits.len().min(250) as u32);
-        let refused = match lookout.step(&event_of(alloc, event)?) {
-            Ok(()) => None,
-            Err(error) => Some(error),
-        };
+        let refused = lookout.step(&event_of(alloc, event)?).err();
         if refused != plain.take(event)? {
             return Err(Fail::from("refused otherwise"));
         }
         if refused.is_none() {
             taken = taken.saturating_add(1);
         }
-        let looks = number & 0x3000_0000 == 0;
-        if looks && look(alloc, &mut lookout)?.as_slice() != plain_look(alloc, plain)?.as_slice() {
-            return Err(Fail::from("shown otherwise"));
+        if number & 0x3000_0000 == 0 {
+            compare(alloc, lookout, plain)?;
         }
     }
     Ok(taken)
+}
+
+// A look is to show what one of the plain program does.
+fn compare<K: Checker>(
+    alloc: Global,
+    lookout: &mut Lookout<'_, '_, K>,
+    plain: &Plain,
+) -> Result<(), Fail> {
+    let shown = look(alloc, lookout)?;
+    let due = plain_look(alloc, plain)?;
+    if shown.as_slice() != due.as_slice() {
+        return Err(Fail::from("shown otherwise"));
+    }
+    Ok(())
 }
 
 // So many nodes have so many sets of edges.
@@ -275,7 +295,14 @@ fn random_events_on_all_small_networks(rt: HostRuntime) -> Result<(), Fail> {
             let net = network(rt.alloc(), text.as_str())?;
             for seed in 1..9 {
                 let mut plain = Plain::of(rt.alloc(), *nodes, edges);
-                let events = taken(rt.alloc(), &net, &checker, &mut plain, colours.as_str(), seed)?;
+                let events = taken(
+                    rt.alloc(),
+                    &net,
+                    &checker,
+                    &mut plain,
+                    colours.as_str(),
+                    seed,
+                )?;
                 all = all.saturating_add(events);
             }
         }

@@ -38,24 +38,39 @@ const ROWS: &[(&str, &[Shown])] = &[
     ),
 ];
 
-// What the last look of a part shows.
-fn last_look<K: Checker>(alloc: Global, checker: &K, lines: &str) -> Result<Vec<Shown>, Fail> {
-    let net = network(alloc, PAIR)?;
-    let colours = labels(alloc, &net, COLOURS)?;
+// The lines of a part.
+fn lines_of(alloc: Global, lines: &str) -> Result<Vec<WatchLine>, Fail> {
     let text = format!(in alloc; "watch\n{lines}end\n")?;
     let Ok(part) = scan_watch(&mut Lines::new(text.as_bytes())) else {
         return Err(Fail::from("refused"));
     };
-    let Ok(list) = part.list(alloc) else {
-        return Err(Fail::from("no list"));
-    };
+    match part.list(alloc) {
+        Ok(list) => Ok(list),
+        Err(_) => Err(Fail::from("no list")),
+    }
+}
+
+// What the last look of a part shows.
+fn last_look<K: Checker>(alloc: Global, checker: &K, lines: &str) -> Result<Vec<Shown>, Fail> {
+    let net = network(alloc, PAIR)?;
+    let colours = labels(alloc, &net, COLOURS)?;
+    let list = lines_of(alloc, lines)?;
     let watch = Watch::start(alloc, &net, &colours, 100, 10, 100)?;
     let mut lookout = Lookout::over(alloc, watch, checker, &mut Steps::new())?;
+    play(alloc, &mut lookout, list.as_slice())
+}
+
+// What the last look shows, once the events of these lines have come.
+fn play<K: Checker>(
+    alloc: Global,
+    lookout: &mut Lookout<'_, '_, K>,
+    lines: &[WatchLine],
+) -> Result<Vec<Shown>, Fail> {
     let mut shown = Vec::new(alloc);
-    for line in &list {
+    for line in lines {
         match line {
             WatchLine::Event(event) => lookout.step(event)?,
-            WatchLine::Look => shown = look(alloc, &mut lookout)?,
+            WatchLine::Look => shown = look(alloc, lookout)?,
         }
     }
     Ok(shown)
@@ -103,24 +118,28 @@ fn refusal<K: Checker>(
 ) -> Result<Option<EventError>, Fail> {
     let net = network(alloc, PAIR)?;
     let colours = labels(alloc, &net, COLOURS)?;
-    let text = format!(in alloc; "watch\n{lines}end\n")?;
-    let Ok(part) = scan_watch(&mut Lines::new(text.as_bytes())) else {
-        return Err(Fail::from("refused"));
-    };
-    let Ok(list) = part.list(alloc) else {
-        return Err(Fail::from("no list"));
-    };
+    let list = lines_of(alloc, lines)?;
     let watch = Watch::start(alloc, &net, &colours, 5, 2, 3)?;
     let mut lookout = Lookout::over(alloc, watch, checker, &mut Steps::new())?;
-    for line in &list {
-        if let WatchLine::Event(event) = line {
-            let before = look(alloc, &mut lookout)?;
-            if let Err(error) = lookout.step(event) {
-                if look(alloc, &mut lookout)?.as_slice() == before.as_slice() {
-                    return Ok(Some(error));
-                }
-                return Err(Fail::from("a refused event changed something"));
+    first_refusal(alloc, &mut lookout, list.as_slice())
+}
+
+// The same of a watch.
+fn first_refusal<K: Checker>(
+    alloc: Global,
+    lookout: &mut Lookout<'_, '_, K>,
+    lines: &[WatchLine],
+) -> Result<Option<EventError>, Fail> {
+    for line in lines {
+        let WatchLine::Event(event) = line else {
+            continue;
+        };
+        let before = look(alloc, lookout)?;
+        if let Err(error) = lookout.step(event) {
+            if look(alloc, lookout)?.as_slice() == before.as_slice() {
+                return Ok(Some(error));
             }
+            return Err(Fail::from("a refused event changed something"));
         }
     }
     Ok(None)
