@@ -3,6 +3,7 @@
 from __future__ import annotations
 
 import math
+import re
 import shutil
 import time
 import unittest
@@ -40,6 +41,36 @@ def texts(svg: str) -> list[str]:
     return [one.text or "" for one in ElementTree.fromstring(svg).iter(SVG + "text")]
 
 
+def judged(network: Network, verdict: Verdict) -> str:
+    """The picture of a network at whose nodes there is one verdict."""
+    return svg_picture(scene_of(network, Report({node.identity: verdict for node in network.nodes})))
+
+
+def boxes(picture: ElementTree.Element) -> dict[str, tuple[float, float, float, float]]:
+    """The box of each line of words that belongs to a node, by its words and its place: left, top, right and bottom."""
+    found: dict[str, tuple[float, float, float, float]] = {}
+    for text in picture.iter(SVG + "text"):
+        if text.attrib["class"] == "w":
+            words, x, y = text.text or "", float(text.attrib["x"]), float(text.attrib["y"])
+            width = 5 * len(words)
+            left = x - width * {"text-anchor:start": 0, "text-anchor:end": 1}.get(text.attrib.get("style", ""), 0.5)
+            found[f"{words} at {x} {y}"] = (left, y - 8, left + width, y + 2)
+    return found
+
+
+def crossings(svg: str) -> list[str]:
+    """The words of nodes that an edge crosses."""
+    picture = ElementTree.fromstring(svg)
+    paths = [list(map(float, re.findall(r"-?[\d.]+", path.attrib["d"]))) for path in picture.iter(SVG + "path") if "Q" in path.attrib["d"]]
+    points = [tuple((1 - share) ** 2 * path[axis] + 2 * share * (1 - share) * path[axis + 2] + share**2 * path[axis + 4] for axis in (0, 1))
+              for path in paths for share in (step / 200 for step in range(201))]
+    return [words for words, (left, top, right, bottom) in boxes(picture).items()
+            if any(left < x < right and top < y < bottom for x, y in points)]
+
+
+VERDICTS = (Verdict("waiting", ports=(0,)), Verdict("reject", 2, 3), Verdict("accept", stale=(0,)))
+
+
 class Drawn(unittest.TestCase):
     """Pictures as SVG and as DOT."""
 
@@ -65,6 +96,23 @@ class Drawn(unittest.TestCase):
         self.assertLess(left, 0)
         for one in picture.iter(SVG + "text"):
             self.assertTrue(left + 10 <= float(one.attrib["x"]) <= left + width - 10, one.text)
+
+    def test_words_stand_where_no_edge_crosses_them(self) -> None:
+        for lines in ("1 2\n2 3\n3 1\n2 -> 1\n3 -> 1\n", "a b\nb c\nb -> a\nc -> b\n", "Oslo Bergen\nBergen Moss\nOslo -> Bergen\nBergen -> Oslo\n"):
+            for verdict in VERDICTS:
+                with self.subTest(lines, verdict=verdict):
+                    self.assertEqual(crossings(judged(read("edges", lines), verdict)), [])
+
+    def test_words_are_inside_of_the_picture_and_hide_no_node(self) -> None:
+        for network in (example("karate.edges", "karate.states"), example("abilene.edges", "abilene.states"), example("racks.dot")):
+            places = places_of(scene_of(network))
+            for verdict in VERDICTS:
+                picture = ElementTree.fromstring(judged(network, verdict))
+                start, _, width, _ = map(float, picture.attrib["viewBox"].split())
+                for words, (left, top, right, bottom) in boxes(picture).items():
+                    self.assertTrue(start < left and right < start + width, words)
+                    for x, y in places.values():
+                        self.assertFalse(left - RADIUS < x < right + RADIUS and top - RADIUS < y < bottom + RADIUS, words)
 
     def test_nodes_do_not_stand_on_one_another(self) -> None:
         for network in (example("karate.edges", "karate.states"), example("abilene.edges", "abilene.states"), example("florentine.adjlist"), grid(9)):
@@ -110,6 +158,13 @@ class Large(unittest.TestCase):
         svg = svg_picture(scene_of(network))
         self.assertLess(time.process_time() - before, SLOWER * 2.0)
         self.assertEqual(len(set(texts(svg))), 484)
+
+    def test_500_nodes_that_wait(self) -> None:
+        network = grid(22)
+        before = time.process_time()
+        svg = judged(network, VERDICTS[0])
+        self.assertLess(time.process_time() - before, SLOWER * 2.0)
+        self.assertEqual(texts(svg).count("waits"), 484 + 1)  # and the legend
 
     def test_more_nodes(self) -> None:
         network = grid(100)

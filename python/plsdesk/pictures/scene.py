@@ -14,7 +14,7 @@ MOST_DRAWN = 500  # nodes in a picture
 
 @dataclass(frozen=True, slots=True)
 class DrawnNode:
-    """A node: its identity and name, a line of words below it, its colour by verdict, and whether it has a mark."""
+    """A node: its identity and name, a line of words about it, its colour by verdict, and whether it has a mark."""
 
     identity: int
     name: str
@@ -48,6 +48,10 @@ class Scene:
     components: list[list[int]]
     note: str = ""
     network: Network = field(default_factory=lambda: Network([]))
+
+    def has_weights(self) -> bool:
+        """Whether the weights of the edges are drawn."""
+        return any(edge.weight != 1 for edge in self.edges)
 
 
 COLOURS = {"accept": "#ffffff", "stale": "#d7e3f4", "waiting": "#f3e08a", "reject": "#f4978e"}
