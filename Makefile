@@ -1,8 +1,7 @@
 # The toolchain's command `rt` is expected on the path.
 #
 #   make run    runs `verify bipartite` on examples/two-nodes.txt
-#   make pls    proves all that the program stands on, several crates side by side, builds it, and
-#               leaves it as ./pls
+#   make pls    proves all that the program stands on, builds it, and leaves it as ./pls
 #   make test   the gate: every proof, every edit that must be refused, every test and the program
 #   make believed   writes the definitions that the clauses of `run` rest on to out/believed.md, and
 #                   prints how many lines each clause has of them
