@@ -4,9 +4,10 @@ ghost use Rattle.std.specs.Prelude.{ℕ, ◌≤◌, ◌-◌, ◌++◌, ◌∷◌
 ghost use Rattle.std.specs.Io.KnownBytes.{Appends};
 ghost use Rattle.pls_base.specs.Gathered.{Writes};
 ghost use Rattle.pls_base.specs.Streams.{AppendsPart, Rose, StaysSure};
-ghost use Rattle.pls_report.specs.Look.{look_closing, look_text};
+ghost use Rattle.pls_report.specs.Look.{look_text};
 
-use crate::look_counting::counts_of;
+use crate::counting::{rejects, waits};
+use crate::look_counting::{one_if, told_ports};
 use crate::look_row::LookRow;
 use pls_base::{Fault, Gathered, Sink};
 
@@ -35,7 +36,7 @@ pub fn write_look<K: Sink>(number: u32, rows: &[LookRow], sink: &mut K) -> Resul
     gathered.flush(sink)
 }
 
-// Writes the lines of a look.
+// Writes the lines of a look, and counts while it does.
 fn write_rows<K: Sink>(
     number: u32,
     rows: &[LookRow],
@@ -46,35 +47,24 @@ fn write_rows<K: Sink>(
         (K.faults sink.old) (K.faults sink.new) (K.IsSureOf sink.old) (K.IsSureOf sink.new)
         result (look_text number rows.now) }
 {
+    let (mut rejecting, mut waiting, mut stale) = (0, 0, 0);
     for row in rows {
+        rejecting += one_if(rejects(row.outcome()));
+        waiting += one_if(waits(row.outcome()));
+        stale += one_if(!told_ports(row.outcome(), row.stale()).is_empty());
         gathered.put(sink, row.line())?;
     }
-    write_look_closing(number, rows, sink, gathered)
-}
-
-// Writes the line that closes a look.
-fn write_look_closing<K: Sink>(
-    number: u32,
-    rows: &[LookRow],
-    sink: &mut K,
-    gathered: &mut Gathered,
-) -> Result<(), Fault>
-    ensures { Writes gathered.old gathered.new (K.taken sink.old) (K.taken sink.new)
-        (K.faults sink.old) (K.faults sink.new) (K.IsSureOf sink.old) (K.IsSureOf sink.new)
-        result (look_closing number rows.now ++ 10 ∷ []) }
-{
-    let counts = counts_of(rows);
     write_counts(
         sink,
         gathered,
         number,
-        counts.rejecting as u64,
-        counts.waiting as u64,
-        counts.stale as u64,
+        rejecting as u64,
+        waiting as u64,
+        stale as u64,
     )
 }
 
-// Writes the numbers of that line.
+// Writes the line that closes a look.
 fn write_counts<K: Sink>(
     sink: &mut K,
     gathered: &mut Gathered,

@@ -161,6 +161,23 @@ module _ (judge : Seen → Verdict) (watched : Watched) where
         (ap Some is ∙ sym (slice_get-get_or old place shown within) ∙ was.1) in
         new ∙ (λ i. ((same i).0, (same i).1, are row stands i)))
 
+    -- where just those ports are stale that were shown, the row stays
+    pub renewed_as_shown : (shown : ℕ × Outcome × List ℕ) → place < length old
+        → slice_get changes place ≡ Some Beside → shown ≡ get_or old place shown
+        → ((row : NodeRow) → slice_get rows place ≡ Some row → shown.2 ≡ stale_in watched row)
+        → IsRenewed judge watched place old old
+    renewed_as_shown shown within beside is are = record {
+      as_many = refl;
+      here = λ row stands.
+          let was = current.outcomes place row Beside stands beside refl in
+          let same : shown ≡ (row.id, outcome_in judge watched row, was.0) =
+          same_Some shown (row.id, outcome_in judge watched row, was.0)
+          (ap Some is ∙ sym (slice_get-get_or old place shown within) ∙ was.1) in
+          slice_get-get_or old place shown within ∙ ap Some (sym is)
+          ∙ ap Some (λ i. ((same i).0, (same i).1, are row stands i));
+      others = λ i differs. refl;
+    }
+
 -- the change that is read at a place
 pub change_here : (changes : List Change) (place : ℕ) (read change : Change)
     → place < length changes → read ≡ get_or changes place read → read ≡ change

@@ -18,3 +18,4 @@ pub mod Staying
 pub mod Noted
 pub mod Current
 pub mod Columns
+pub mod Listed

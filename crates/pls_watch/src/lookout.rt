@@ -136,6 +136,10 @@ impl<'n, 'k, K: Checker> Lookout<'n, 'k, K> {
         match self.changes[i] {
             Change::Nothing => {}
             Change::Beside => {
+                let shown = &self.rows[i];
+                if self.watch.has_stale(i, shown.stale()) {
+                    return Ok(());
+                }
                 let stale = self.watch.stale(alloc, i)?;
                 self.rows[i].set_stale(alloc, stale)?;
             }

@@ -1,6 +1,6 @@
 //! What has become of the nodes.
 
-ghost use Rattle.std.specs.Prelude.{◌≡◌, ◌≢◌, ◌<◌, ◌+◌, ℕ, [], length, slice_get, IfOk, IfSome, OnErr, Some};
+ghost use Rattle.std.specs.Prelude.{◌≡◌, ◌≢◌, ◌<◌, ◌+◌, ℕ, [], true, length, slice_get, IfOk, IfSome, OnErr, Some};
 ghost use Rattle.pls_model.specs.declared.row.NodeRow.{NodeRow};
 ghost use Rattle.pls_view.specs.Seen.{seen};
 ghost use Rattle.pls_scheme.specs.Judging.{RoseByAtMost};
@@ -78,6 +78,15 @@ impl<'n> Watch<'n> {
     {
         let numbers = self.versions.stale(alloc, i)?;
         Ok(PortNumbers::from_vec(numbers))
+    }
+
+    /// Whether the stale ports of the node at place `i` are those of these numbers, in this order.
+    pub(crate) fn has_stale(&self, i: usize, ports: &[u32]) -> bool
+        requires { i < length self.now.network }
+        ensures { (row : NodeRow) → slice_get self.now.network i ≡ Some row → result ≡ true
+            → ports.now ≡ stale_in self.now row }
+    {
+        self.versions.has_stale(i, ports)
     }
 
     /// What is shown of the node at place `i`. What the node knows is written into a table.

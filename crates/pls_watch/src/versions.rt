@@ -1,6 +1,6 @@
 //! The versions that nodes have and hold of labels.
 
-ghost use Rattle.std.specs.Prelude.{◌≡◌, ◌≢◌, ◌<◌, ◌≤◌, ℕ, [], cond, false, length, max, option_map, replicate, slice_get, IfErr, IfOk, IfSome, OnErr, OnOk, None, Some};
+ghost use Rattle.std.specs.Prelude.{◌≡◌, ◌≢◌, ◌<◌, ◌≤◌, ℕ, [], cond, false, true, length, max, option_map, replicate, slice_get, IfErr, IfOk, IfSome, OnErr, OnOk, None, Some};
 ghost use Rattle.std.specs.List.{AllByRecursion};
 ghost use Rattle.pls_model.specs.declared.limits.TheConstants.{MAX_LINES};
 ghost use Rattle.pls_model.specs.declared.row.NodeRow.{NodeRow};
@@ -275,6 +275,28 @@ impl<'n> Versions<'n> {
             numbers.push(port as u32)?;
         }
         Ok(numbers)
+    }
+
+    /// Whether the stale ports of the node at place `i` are those of these numbers, in this order.
+    pub(crate) fn has_stale(&self, i: usize, ports: &[u32]) -> bool
+        requires { i < length self.now.network }
+        ensures same { result ≡ true → (row : NodeRow) → slice_get self.now.network i ≡ Some row
+            → ports.now ≡ stale self.now.network self.now.turns row }
+        ensures others { result ≡ false → (row : NodeRow)
+            → slice_get self.now.network i ≡ Some row
+            → ports.now ≢ stale self.now.network self.now.turns row }
+    {
+        let mut count = 0;
+        for port in 0..self.net.ports(i).len() {
+            if self.is_fresh(i, port) {
+                continue;
+            }
+            if count >= ports.len() || ports[count] != port as u32 {
+                return false;
+            }
+            count += 1;
+        }
+        count == ports.len()
     }
 
     /// The numbers of the ports at which the node at place `i` has not heard since its last

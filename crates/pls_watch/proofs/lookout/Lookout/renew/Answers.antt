@@ -1,7 +1,7 @@
-use Rattle.std.proofs.Common.{◌≡◌, ◌<◌, arith, length, set, subst}
+use Rattle.std.proofs.Common.{◌≡◌, ◌∙◌, ◌<◌, arith, length, set, subst, sym}
 use Rattle.pls_watch.specs.declared.change.Change.TheVariants.{Nothing, Beside}
 use Rattle.pls_watch.specs.inner.Current.{IsRenewed}
-use Rattle.pls_watch.proofs.Current.{change_here, renewed_current, renewed_same, renewed_set, renewed_shown, renewed_stale}
+use Rattle.pls_watch.proofs.Current.{change_here, renewed_current, renewed_as_shown, renewed_same, renewed_set, renewed_shown, renewed_stale}
 use Rattle.pls_watch.proofs.lookout.Lookout.renew.Goals as goal
 
 pub returns-in-Nothing-clause-renewed : goal.returns-in-Nothing-clause-renewed
@@ -53,6 +53,32 @@ returns-in_ok-set_stale-in-Beside-clause-renewed g c =
     (change_here changes c.args.i c.index.result.now Beside within c.index.ensures c.in-Beside.is)
     c.index_mut.ensures.value c.in_ok-stale-in-Beside.ensures.ports
     c.in_ok-set_stale-in-Beside.ensures.stale)
+
+pub returns-then-has_stale-clause-renewed : goal.returns-then-has_stale-clause-renewed
+returns-then-has_stale-clause-renewed g c =
+    let inside = c.self.inside in
+    let old = inside.rows.items in
+    let changes = inside.changes.items in
+    let judge = g.K.Checker.judge inside.checker.now in
+    let view = c.self.view_is in
+    let checker : inside.checker.now ≡ c.args.self.now.checker = λ k. (view k).checker in
+    let watched : inside.watch ≡ c.args.self.now.watched = λ k. (view k).watched in
+    let shown : old ≡ c.args.self.now.rows = λ k. (view k).rows in
+    let many : length inside.watch.network ≡ length c.args.self.now.watched.network =
+    λ k. length (view k).watched.network in
+    let within : c.args.i < length changes =
+    omega (arith, c.requires.place, c.self.invariant.each, many) in
+    let inside_rows : c.args.i < length old =
+    omega (arith, c.requires.place, c.self.invariant.all, many) in
+    subst (IsRenewed (g.K.Checker.judge c.args.self.now.checker) c.args.self.now.watched c.args.i
+    c.args.self.now.rows) shown
+    (renewed_shown g.K.Checker.judge inside.checker.now c.args.self.now.checker inside.watch
+    c.args.self.now.watched checker watched c.args.i old c.args.self.now.rows old shown
+    (renewed_as_shown judge inside.watch changes c.args.i old c.self.invariant
+    c.index-shown.result.now inside_rows
+    (change_here changes c.args.i c.index.result.now Beside within c.index.ensures c.in-Beside.is)
+    c.index-shown.ensures
+    (λ row stands. sym c.stale.ensures ∙ c.has_stale.ensures row stands c.if-has_stale.true)))
 
 pub returns-in_ok-row-in-Held-clause-renewed : goal.returns-in_ok-row-in-Held-clause-renewed
 returns-in_ok-row-in-Held-clause-renewed g c =
