@@ -29,8 +29,8 @@ pub use Rattle.pls_facts.specs.ShortestPath
 pub use Rattle.pls_facts.specs.SpanningTree
 pub use Rattle.pls_facts.specs.Weight
 pub use Rattle.pls_pointer.specs.Forest
-pub use Rattle.pls_properties.specs.Bridgeless
-pub use Rattle.pls_properties.specs.Diameter
+pub use Rattle.pls_diameter_bridges.specs.Bridgeless
+pub use Rattle.pls_diameter_bridges.specs.Diameter
 -- labels, and what a node sees
 pub use Rattle.pls_bits.specs.Delta
 pub use Rattle.pls_bits.specs.Gamma
@@ -48,8 +48,8 @@ pub use Rattle.pls_scheme.specs.Scheme
 pub use Rattle.pls_scheme.specs.SchemeLaws
 pub use Rattle.pls_scheme.specs.Spelled
 pub use Rattle.pls_combine.specs.Expression as ExpressionScheme
-pub use Rattle.pls_property.specs.Expression
-pub use Rattle.pls_property.specs.Held
+pub use Rattle.pls_expressions.specs.Expression
+pub use Rattle.pls_expressions.specs.Held
 -- networks that are edited
 pub use Rattle.pls_edits.specs.Edited
 pub use Rattle.pls_edits.specs.declared.edit.Edit

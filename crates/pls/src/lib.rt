@@ -50,15 +50,15 @@ pub use verdicts::{verdict_at, verdicts_by};
 // Schemes, their labels and their names.
 pub use pls_colour::{ColourLabel, CycleLabel};
 pub use pls_combine::AnyScheme;
+pub use pls_diameter_bridges::{Bridgeless, Diameter};
 pub use pls_distance::SptLabel;
+pub use pls_expressions::{ExpressionTree, LentProperty};
 pub use pls_leader::{CountLabel, LeaderLabel};
 pub use pls_mst::MstLabel;
 pub use pls_names::{Named, SchemeName, name_of};
 pub use pls_pairs::{Both, OneOf, PairLabel, Tagged};
 pub use pls_pathmax::PathMaxLabel;
 pub use pls_pointer::{DepthLabel, TreeLabel};
-pub use pls_properties::{Bridgeless, Diameter};
-pub use pls_property::{ExpressionTree, LentProperty};
 pub use pls_scheme_text::{SchemeError, print_expression, read_expression};
 pub use pls_universal::{MapLabel, Tested};
 pub use schemes::{Acyclic, Bipartite, Count, Forest, Leader, MapOf, Mst, PathMax, Spt, Tree};

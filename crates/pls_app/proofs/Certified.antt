@@ -21,7 +21,7 @@ use Rattle.pls_labelfile.specs.LabelsText.{AreLabels, labels_lines, named}
 use Rattle.pls_labelfile.specs.LabelsScan.{total_bits}
 use Rattle.pls_labelfile.proofs.LabelsPart.{either_may}
 use Rattle.pls_labelfile.proofs.Named.{named_no_misfit, net_labels_fit, total_bits-named}
-use Rattle.pls_property.specs.Expression.{Expression}
+use Rattle.pls_expressions.specs.Expression.{Expression}
 use Rattle.pls_components.specs.Components.{AreComponents, IsComponent, items_at}
 use Rattle.pls_components.proofs.Items.{length-items}
 use Rattle.pls_components.proofs.Part.{places_within}

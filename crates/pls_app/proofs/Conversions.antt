@@ -27,7 +27,7 @@ use Rattle.pls_labelfile.proofs.Named.{bare-named}
 use Rattle.pls_names.specs.laws.Recoding.{Changes, IsCode, changed}
 use Rattle.pls_sim.specs.declared.outcome.Outcome.{Outcome}
 use Rattle.pls_sim.specs.declared.outcome.Outcome.TheVariants.{Decided}
-use Rattle.pls_property.specs.Expression.{Expression}
+use Rattle.pls_expressions.specs.Expression.{Expression}
 use Rattle.pls_combine.specs.Converted.{all_converted, converted, first_unread}
 use Rattle.pls_combine.specs.Expression.{judge_of}
 use Rattle.pls_combine.specs.laws.ConvertedLaws.{expression_alike}

@@ -7,7 +7,7 @@ use Rattle.pls_words.specs.Words.{Said, said_by_words}
 use Rattle.pls_words.specs.declared.given.Flag.{Flag}
 use Rattle.pls_words.specs.declared.given.Flag.TheVariants.{Bare, Coded, Json}
 use Rattle.pls_scheme_text.specs.declared.scheme_error.SchemeError.{SchemeError}
-use Rattle.pls_property.specs.Expression.{Expression, IsSmall}
+use Rattle.pls_expressions.specs.Expression.{Expression, IsSmall}
 use Rattle.pls_scheme_text.specs.ExpressionText.{IsNoScheme, expression_text}
 use Rattle.pls_scheme_text.specs.inner.Fronts.{scheme_refusal_of}
 use Rattle.pls_scheme_text.proofs.Refusals.{kept_text, refused_text}

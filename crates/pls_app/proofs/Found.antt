@@ -6,7 +6,7 @@ use Rattle.pls_model.specs.declared.status.Status.TheVariants.{Done, No}
 use Rattle.pls_model.specs.Configuration.{IsNetwork}
 use Rattle.pls_base.specs.Steps.{up_by}
 use Rattle.pls_view.specs.Seen.{Seen}
-use Rattle.pls_property.specs.Expression.{Expression}
+use Rattle.pls_expressions.specs.Expression.{Expression}
 use Rattle.pls_edits.specs.declared.edit_line.EditLine.{EditLine}
 use Rattle.pls_edits.specs.declared.edit_line.EditLine.TheVariants.{Round}
 use Rattle.pls_edits.specs.EditsText.{AreEdits, is_round}

@@ -2,7 +2,7 @@
 use Rattle.std.proofs.Common.{◌≡◌, Bool, true, false, List, ℕ, codes, bytes_eq, Option, Some, None, option_and_then, if◌then◌else◌, refl, subst}
 use Rattle.std.proofs.lemmas.Option.{same_Some}
 use Rattle.std.specs.Option.{IsSome}
-use Rattle.pls_property.specs.Expression.{Expression, IsSmall}
+use Rattle.pls_expressions.specs.Expression.{Expression, IsSmall}
 use Rattle.pls_names.specs.declared.scheme_name.SchemeName.{SchemeName}
 use Rattle.pls_names.specs.declared.scheme_name.SchemeName.TheVariants.{Acyclic, Bipartite, Count, Forest, Leader, ShortestPathTree, Tree}
 use Rattle.pls_builtin.specs.Builtin.{name_with_set, set_of_name}

@@ -13,7 +13,7 @@ use Rattle.pls_scheme.specs.Judging.{AllAccept}
 use Rattle.pls_bits.specs.Gamma.{gamma_takes}
 use Rattle.pls_bits.specs.declared.code_name.CodeName.TheVariants.{Gamma}
 use Rattle.pls_names.specs.declared.scheme_name.SchemeName.{SchemeName}
-use Rattle.pls_property.specs.Expression.{Of}
+use Rattle.pls_expressions.specs.Expression.{Of}
 use Rattle.pls_rules.specs.RuleSet.{Rules}
 use Rattle.pls_compile.specs.RuleMeaning.{meaning}
 use Rattle.pls_builtin.specs.Builtin.{set_of_name}

@@ -4,7 +4,7 @@ use Rattle.pls_model.specs.declared.row.NodeRow.{NodeRow}
 use Rattle.pls_model.specs.Configuration.{IsNetwork}
 use Rattle.pls_lines.specs.Text.{text_of}
 use Rattle.pls_trial.specs.Generator.{trial_of}
-use Rattle.pls_property.specs.Expression.{Expression, HasProperty}
+use Rattle.pls_expressions.specs.Expression.{Expression, HasProperty}
 use Rattle.pls_combine.specs.Expression.{IsMarked}
 use Rattle.pls_combine.specs.laws.ExpressionLaws.{expression_marked_once}
 use Rattle.pls_components.specs.Components.{AreComponents, HasInEach}

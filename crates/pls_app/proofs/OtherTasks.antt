@@ -3,7 +3,7 @@ use Rattle.std.proofs.Common.{◌≡◌, ◌∙◌, ℕ, List, Result, Ok, Err, 
 use Rattle.pls_model.specs.declared.row.NodeRow.{NodeRow}
 use Rattle.pls_model.specs.declared.status.Status.TheVariants.{Done}
 use Rattle.pls_bits.specs.declared.code_name.CodeName.{CodeName}
-use Rattle.pls_property.specs.Expression.{Expression}
+use Rattle.pls_expressions.specs.Expression.{Expression}
 use Rattle.pls_inputs.specs.Parts.{Input}
 use Rattle.pls_app.specs.declared.command.Task.{Task}
 use Rattle.pls_app.specs.declared.command.Task.TheVariants.{Mark, Recheck}

@@ -26,7 +26,7 @@ use Rattle.pls_components.specs.Components.{IsComponent, items_at}
 use Rattle.pls_components.specs.Parts.{AcceptAt}
 use Rattle.pls_components.proofs.Items.{All-items, items-map}
 use Rattle.pls_components.proofs.Local.{part_holds}
-use Rattle.pls_property.specs.Expression.{Expression, HasProperty}
+use Rattle.pls_expressions.specs.Expression.{Expression, HasProperty}
 use Rattle.pls_combine.specs.laws.ExpressionLaws.{expression_sound}
 use Rattle.pls_inputs.specs.Parts.{Input, code_in, events_in, labels_in, rows_in}
 use Rattle.pls_inputs.proofs.Facts.{each, readable}

@@ -15,7 +15,7 @@ use Rattle.pls_scheme.specs.Theorem.{AreWords}
 use Rattle.pls_bits.specs.Gamma.{gamma_code}
 use Rattle.pls_bits.specs.NumberCode.{IsShort}
 use Rattle.pls_bits.specs.laws.GammaLaws.{gamma_short}
-use Rattle.pls_property.specs.Expression.{Expression, IsSmall}
+use Rattle.pls_expressions.specs.Expression.{Expression, IsSmall}
 use Rattle.pls_combine.specs.Expression.{longest_of}
 use Rattle.pls_combine.proofs.Bounds.{short_expression}
 use Rattle.pls_components.specs.Components.{AreComponents, IsComponent, items_at}

@@ -23,7 +23,7 @@ use Rattle.pls_components.specs.Components.{IsComponent, items_at}
 use Rattle.pls_components.proofs.Apart.{component_listed}
 use Rattle.pls_graph.proofs.Members.{Contains-cons_cases}
 use Rattle.pls_names.specs.declared.scheme_name.SchemeName.TheVariants.{Leader}
-use Rattle.pls_property.specs.Expression.{Expression, HasProperty, IsSmall, Of}
+use Rattle.pls_expressions.specs.Expression.{Expression, HasProperty, IsSmall, Of}
 use Rattle.pls_combine.specs.laws.ExpressionLaws.{expression_sound}
 use Rattle.pls_inputs.specs.Order.{IsInput}
 use Rattle.pls_inputs.specs.Parts.{Input, code_in, labels_in, named_in, net_labelling, net_labels_text, parts_with_labels, rows_in}

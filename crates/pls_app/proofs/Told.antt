@@ -5,7 +5,7 @@ use Rattle.pls_model.specs.declared.status.Status.{Status}
 use Rattle.pls_model.specs.declared.status.Status.TheVariants.{Done, No, Usage, Refused, ReadFault, WriteFault, NoMemory, Limit}
 use Rattle.pls_app.specs.declared.command.Command.{Command}
 use Rattle.pls_bits.specs.declared.code_name.CodeName.{CodeName}
-use Rattle.pls_property.specs.Expression.{Expression}
+use Rattle.pls_expressions.specs.Expression.{Expression}
 use Rattle.pls_app.specs.Command.{IsCommand, IsUsage, reads}
 use Rattle.pls_app.specs.Said.{Answer}
 use Rattle.pls_app.specs.Answer.{Answers, IsAnswer}

@@ -16,7 +16,7 @@ use Rattle.pls_scheme.specs.Judging.{AllAccept}
 use Rattle.pls_sim.specs.declared.outcome.Outcome.{Outcome}
 use Rattle.pls_sim.specs.declared.outcome.Outcome.TheVariants.{Decided}
 use Rattle.pls_report.specs.Report.{all_accept, is_accepting}
-use Rattle.pls_property.specs.Expression.{Expression, IsSmall}
+use Rattle.pls_expressions.specs.Expression.{Expression, IsSmall}
 use Rattle.pls_scheme_text.specs.ExpressionText.{expression_text}
 use Rattle.pls_scheme_text.proofs.Letters.{first_letter}
 use Rattle.pls_components.specs.Components.{AreComponents}

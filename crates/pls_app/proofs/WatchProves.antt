@@ -34,7 +34,7 @@ use Rattle.pls_watch.specs.Labelled.{turns_of}
 use Rattle.pls_watch.specs.Versions.{newest, plain_of}
 use Rattle.pls_watch.specs.Watching.{Watched, look_of, outcome_in, stale_in, version_of_label}
 use Rattle.pls_watch.proofs.Laws.{fresh_round}
-use Rattle.pls_property.specs.Expression.{Expression}
+use Rattle.pls_expressions.specs.Expression.{Expression}
 use Rattle.std.specs.Option.{unwrap_or}
 use Rattle.pls_inputs.specs.Parts.{Has, Input, code_in, labels_in, parts_with_watch, rows_in, watch_in}
 use Rattle.pls_inputs.specs.Order.{IsInput}

@@ -15,7 +15,7 @@ use Rattle.pls_report.specs.declared.part_row.PartRow.{PartRow}
 use Rattle.pls_report.specs.Report.{all_accept, report_text}
 use Rattle.pls_report.specs.PartLines.{if_several}
 use Rattle.pls_components.specs.Components.{AreComponents}
-use Rattle.pls_property.specs.Expression.{Expression}
+use Rattle.pls_expressions.specs.Expression.{Expression}
 use Rattle.pls_json.specs.Json.{json_text}
 use Rattle.pls_inputs.specs.Parts.{Input, code_in, edits_in, events_in, labels_in, net_labels_text, rows_in, watch_in}
 use Rattle.pls_inputs.specs.Order.{IsInput, IsNoInput, edits_heading, over, schedule_heading, watch_heading}

@@ -7,7 +7,7 @@ use Rattle.pls_base.specs.declared.text_error.Quantity.TheVariants.{Bits}
 use Rattle.pls_model.specs.declared.limits.TheConstants.{MAX_BITS}
 use Rattle.pls_model.specs.Configuration.{first_of, ids_of}
 use Rattle.pls_view.specs.Labels.{bits_together}
-use Rattle.pls_property.specs.Expression.{Expression}
+use Rattle.pls_expressions.specs.Expression.{Expression}
 use Rattle.pls_combine.specs.Converted.{all_converted, first_unread}
 use Rattle.pls_inputs.specs.Order.{over}
 use Rattle.pls_inputs.specs.Parts.{Input, code_in, labels_in, rows_in}

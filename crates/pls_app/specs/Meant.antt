@@ -11,7 +11,7 @@ use Rattle.pls_view.specs.Seen.{Seen}
 use Rattle.pls_scheme.specs.Judging.{AllAccept}
 use Rattle.pls_components.specs.Components.{FitsInEach, HasInEach}
 use Rattle.pls_components.specs.Parts.{AreLacking, AreWithinBound, LacksIn, bound_of_parts, room_of_parts}
-use Rattle.pls_property.specs.Expression.{Expression, HasProperty}
+use Rattle.pls_expressions.specs.Expression.{Expression, HasProperty}
 use Rattle.pls_combine.specs.Converted.{converted}
 use Rattle.pls_combine.specs.Expression.{IsMarked, judge_of, longest_of}
 use Rattle.pls_bits.specs.declared.code_name.CodeName.{CodeName}

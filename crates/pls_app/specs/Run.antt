@@ -15,7 +15,7 @@ use Rattle.pls_scheme.specs.Judging.{AllAccept}
 use Rattle.pls_components.specs.Components.{AreComponents, items_at}
 use Rattle.pls_splice.specs.Ring.{IsRing}
 use Rattle.pls_splice.specs.TwoRings.{AreTwoRings}
-use Rattle.pls_property.specs.Expression.{Expression, Of}
+use Rattle.pls_expressions.specs.Expression.{Expression, Of}
 use Rattle.pls_model.specs.declared.limits.TheConstants.{MAX_INPUT}
 use Rattle.pls_inputs.specs.Parts.{Input, code_in, parts_with_edits, edits_in, parts_with_gamma, parts_with_labels, parts_with_rules, labels_in, net_labels_text, network, rows_in, with_labels}
 use Rattle.pls_inputs.specs.Order.{IsInput}

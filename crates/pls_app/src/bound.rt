@@ -5,7 +5,7 @@ ghost use Rattle.pls_combine.specs.Expression.{longest_of};
 ghost use Rattle.pls_components.specs.Components.{AreComponents};
 ghost use Rattle.pls_components.specs.Parts.{bound_of_parts};
 ghost use Rattle.pls_netfile.specs.NetworkText.{AreRows};
-ghost use Rattle.pls_property.specs.Expression.{IsSmall};
+ghost use Rattle.pls_expressions.specs.Expression.{IsSmall};
 ghost use Rattle.pls_app.specs.Answer.{bounded};
 ghost use Rattle.pls_app.specs.inner.Tasks.{IsWorked};
 

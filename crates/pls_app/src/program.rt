@@ -6,7 +6,7 @@ ghost use Rattle.pls_base.specs.Gathered.{Writes};
 ghost use Rattle.pls_base.specs.Streams.{AppendsPart, Rose};
 ghost use Rattle.pls_inputs.specs.Parts.{net_labels_text};
 ghost use Rattle.pls_words.specs.Words.{words_in};
-ghost use Rattle.pls_property.specs.Expression.{Expression};
+ghost use Rattle.pls_expressions.specs.Expression.{Expression};
 ghost use Rattle.pls_app.specs.Command.{Checks, IsUsage};
 ghost use Rattle.pls_app.specs.Run.{Asks, Concerns, Consumes, CountsAsked, EndsAs, HasItsCause, HoldsAfter, IsAnswered, IsJudged, IsSureOfAnswer, IsUnread, Notices, Proves, ProvesByRules, RefusesExactly, SomeRejects, TellsAnswer, TellsPart, TookCertificate, TookConversion, TookLack, TookSplice};
 ghost use Rattle.pls_app.specs.inner.Causes.{Told};

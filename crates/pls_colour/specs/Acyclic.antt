@@ -1,5 +1,5 @@
 -- The scheme of networks without cycle: what a label says, what a node judges, and the marker's
--- labels. The property is that no edges close a ring through three or more nodes.
+-- labels. The property is that no edges make a cycle through three or more nodes.
 use Rattle.std.specs.Prelude.{ℕ, ◌+◌, ◌==◌, nat_le, Bool, ◌||◌, List, [], ◌∷◌, count_by, get_or}
 use Rattle.std.specs.List.{list_all}
 use Rattle.pls_model.specs.declared.row.NodeRow.{NodeRow}

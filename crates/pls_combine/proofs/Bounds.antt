@@ -13,7 +13,7 @@ use Rattle.pls_scheme.specs.Theorem.{AreWords}
 use Rattle.pls_scheme.specs.Length.{code_length, codes_length}
 use Rattle.pls_names.specs.laws.NamedLaws.{laws_of}
 use Rattle.pls_names.specs.laws.ShortCodes.{are_short, short_code}
-use Rattle.pls_property.specs.Expression.{And, Bridgeless, Diameter, Expression, IsSmall, Map, Of, Or}
+use Rattle.pls_expressions.specs.Expression.{And, Bridgeless, Diameter, Expression, IsSmall, Map, Of, Or}
 use Rattle.pls_combine.specs.Expression.{leaves_of, longest_of}
 use Rattle.pls_combine.proofs.Leaves.{leaves_few}
 

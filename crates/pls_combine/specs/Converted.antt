@@ -4,7 +4,7 @@ use Rattle.std.specs.Option.{unwrap_or}
 use Rattle.pls_numbers.specs.Shape.{recoded}
 use Rattle.pls_universal.specs.Reading.{map_shape}
 use Rattle.pls_names.specs.Named.{converted_named}
-use Rattle.pls_property.specs.Expression.{Expression, And, Of, Or}
+use Rattle.pls_expressions.specs.Expression.{Expression, And, Of, Or}
 use Rattle.pls_parts.specs.Joined.{joined_bits}
 use Rattle.pls_parts.specs.Parts.{parts_of}
 

@@ -13,7 +13,7 @@ use Rattle.pls_universal.specs.Bound.{longest_map}
 use Rattle.pls_universal.specs.Reading.{map_shape}
 use Rattle.pls_universal.specs.Rules.{map_rules, map_says}
 use Rattle.pls_names.specs.Named.{IsNamedMarked, judge_named, longest_named}
-use Rattle.pls_property.specs.Expression.{Expression, And, HasProperty, Of, Or, test_of}
+use Rattle.pls_expressions.specs.Expression.{Expression, And, HasProperty, Of, Or, test_of}
 use Rattle.pls_parts.specs.Combined.{judge_both, judge_one_of}
 use Rattle.pls_parts.specs.Joined.{AreLabelsOfBoth, longest_both}
 use Rattle.pls_parts.specs.Tagged.{AreOneOf, longest_one_of}

@@ -2,18 +2,18 @@
 
 ghost use Rattle.std.specs.Prelude.{◌≡◌, ◌≢◌, ◌≤◌, IfNone, IfSome};
 ghost use Rattle.pls_names.specs.declared.scheme_name.SchemeName.{SchemeName};
-ghost use Rattle.pls_property.specs.Expression.{IsSmall, Of};
+ghost use Rattle.pls_expressions.specs.Expression.{IsSmall, Of};
 ghost use Rattle.pls_combine.specs.Expression.{leaves_of};
-ghost use Rattle.pls_property.specs.Held.{expression_of};
+ghost use Rattle.pls_expressions.specs.Held.{expression_of};
 
 use crate::rounds::round_of;
 use crate::scheme_tree::{bound_of, leaves_of, lends_of, map_of, mark_tree, verify_tree};
 use pls_base::{NoMemory, Steps};
 use pls_bits::{BitBuf, Bits, NumCode};
+use pls_expressions::{ExpressionTree, decide_tree};
 use pls_graph::{Network, Size};
 use pls_model::Verdict;
 use pls_names::{Named, SchemeName};
-use pls_property::{ExpressionTree, decide_tree};
 use pls_scheme::{Checker, Property, Scheme};
 use pls_view::{LabelStore, Labels, View};
 use std::alloc::Global;
@@ -31,9 +31,9 @@ pub struct AnyScheme<C> {
 }
 
 impl<C> Model for AnyScheme<C> {
-    ghost use Rattle.pls_property.specs.Expression.{Expression, IsSmall};
-    ghost use Rattle.pls_property.specs.Held.{expression_of};
-    ghost use Rattle.pls_property.specs.inner.Codes.{coded_expression};
+    ghost use Rattle.pls_expressions.specs.Expression.{Expression, IsSmall};
+    ghost use Rattle.pls_expressions.specs.Held.{expression_of};
+    ghost use Rattle.pls_expressions.specs.inner.Codes.{coded_expression};
 
     ghost Value = { Expression };
 
@@ -140,7 +140,7 @@ impl<C: NumCode> Checker for AnyScheme<C> {
 }
 
 impl<C: NumCode> Property for AnyScheme<C> {
-    ghost use Rattle.pls_property.specs.Expression.{HasProperty};
+    ghost use Rattle.pls_expressions.specs.Expression.{HasProperty};
 
     ghost holds = { λ s rows. HasProperty s rows };
 

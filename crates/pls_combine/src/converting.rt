@@ -3,16 +3,16 @@
 ghost use Rattle.std.specs.Prelude.{◌≡◌, ◌<◌, ℕ, Bool, true, List, Option, Some, None, length, slice_get, take, IfOk, IfSome};
 ghost use Rattle.pls_numbers.specs.Shape.{recoded};
 ghost use Rattle.pls_universal.specs.Reading.{map_shape};
-ghost use Rattle.pls_property.specs.Held.{expression_of};
+ghost use Rattle.pls_expressions.specs.Held.{expression_of};
 ghost use Rattle.pls_combine.specs.Converted.{all_converted, converted, first_unread};
 
 use crate::any_scheme::AnyScheme;
 use pls_base::NoMemory;
 use pls_bits::{BitBuf, Bits, NumCode};
+use pls_expressions::ExpressionTree;
 use pls_names::Named;
 use pls_numbers::recode;
 use pls_parts::{joined_bits, parts, tagged_bits};
-use pls_property::ExpressionTree;
 use pls_universal::{MapFormat, recode_beside};
 use pls_view::LabelStore;
 use std::alloc::Global;

@@ -5,16 +5,16 @@ ghost use Rattle.std.specs.Prelude.{◌≡◌, ◌≤◌, true, All, length, IfO
 ghost use Rattle.pls_base.specs.Steps.{up_by};
 ghost use Rattle.pls_scheme.specs.Judging.{LeafWithin, RoseByAtMost, verdicts_by};
 ghost use Rattle.pls_combine.specs.Expression.{judge_map, judge_of, leaves_of};
-ghost use Rattle.pls_property.specs.Held.{expression_of};
+ghost use Rattle.pls_expressions.specs.Held.{expression_of};
 
 use crate::scheme_tree::{leaves_of, map_of};
 use pls_base::{NoMemory, Steps};
 use pls_bits::NumCode;
+use pls_expressions::ExpressionTree;
 use pls_graph::Network;
 use pls_model::Verdict;
 use pls_names::Named;
 use pls_parts::{both_verdicts, lend_all, one_of_verdicts, part_all, rests_of, some_true, tags_of};
-use pls_property::ExpressionTree;
 use pls_scheme::Checker;
 use pls_view::{Labels, LentLabels};
 use std::alloc::Global;

@@ -1,8 +1,8 @@
 //! Whether networks have bridges, at worked examples.
 
+use pls_diameter_bridges::Bridgeless;
 use pls_graph::{Network, connected};
 use pls_netfile::read_network;
-use pls_properties::Bridgeless;
 use pls_scheme::Property;
 use std::alloc::Global;
 use std::test::Fail;

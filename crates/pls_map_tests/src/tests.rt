@@ -2,9 +2,9 @@
 
 use pls_base::{NoMemory, Steps};
 use pls_bits::{BitBuf, Gamma};
+use pls_diameter_bridges::Diameter;
 use pls_graph::Network;
 use pls_netfile::read_network;
-use pls_properties::Diameter;
 use pls_scheme::{Checker, Property, Verdict};
 use pls_universal::{MapOf, Tested, map_labels};
 use pls_view::{LabelStore, View};
@@ -33,7 +33,7 @@ struct Counted {
 }
 
 impl Property for Counted {
-    ghost use Rattle.pls_properties.specs.Diameter.{HasDiameter};
+    ghost use Rattle.pls_diameter_bridges.specs.Diameter.{HasDiameter};
 
     ghost holds = { λ s. HasDiameter s.property.most };
 
@@ -44,8 +44,8 @@ impl Property for Counted {
 }
 
 impl Tested for Counted {
-    ghost use Rattle.pls_properties.specs.Tests.{diameter_test};
-    ghost use Rattle.pls_properties.specs.laws.TestLaws.{diameter_tested};
+    ghost use Rattle.pls_diameter_bridges.specs.Tests.{diameter_test};
+    ghost use Rattle.pls_diameter_bridges.specs.laws.TestLaws.{diameter_tested};
 
     ghost test = { λ s rows. diameter_test s.property.most rows };
 

@@ -6,7 +6,7 @@ use Rattle.std.proofs.lemmas.Bool.Decides.{nat_tests}
 use Rattle.pls_fronts.specs.LetterFront.{is_letter}
 use Rattle.pls_names.specs.Named.{name_of}
 use Rattle.pls_names.specs.laws.NamedLaws.{is_lettered, laws_of}
-use Rattle.pls_property.specs.Expression.{Expression, And, Bridgeless, Diameter, Map, Of, Or}
+use Rattle.pls_expressions.specs.Expression.{Expression, And, Bridgeless, Diameter, Map, Of, Or}
 use Rattle.pls_scheme_text.specs.ExpressionText.{expression_text}
 
 -- the first character is not `-`, which is 45

@@ -6,7 +6,7 @@ use Rattle.std.proofs.lemmas.Bool.{cases_lt, ltb-false, ltb-true}
 use Rattle.std.proofs.lemmas.Option.{same_Some}
 use Rattle.pls_scheme_text.specs.declared.scheme_error.SchemeError.{SchemeError}
 use Rattle.pls_scheme_text.specs.declared.scheme_error.SchemeError.TheVariants.{NoMemory, NotAScheme, TooDeep, TooMany}
-use Rattle.pls_property.specs.Expression.{Expression, IsSmall, CanBeWritten, depth_of, names_of}
+use Rattle.pls_expressions.specs.Expression.{Expression, IsSmall, CanBeWritten, depth_of, names_of}
 use Rattle.pls_scheme_text.specs.ExpressionText.{HasTooManyNames, IsNoExpression, IsNoScheme, IsTooDeep, expression_text}
 use Rattle.pls_fronts.specs.Depth.{deepest}
 use Rattle.pls_fronts.specs.Front.{Front, whole_item}

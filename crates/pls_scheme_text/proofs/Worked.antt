@@ -1,7 +1,7 @@
 -- Texts, and why they are refused, worked out.
 use Rattle.std.proofs.Common.{◌≡◌, codes, Some, None, refl}
 use Rattle.pls_names.specs.declared.scheme_name.SchemeName.TheVariants.{MinimumSpanningTree, Tree}
-use Rattle.pls_property.specs.Expression.{And, Bridgeless, Map, Of, Or}
+use Rattle.pls_expressions.specs.Expression.{And, Bridgeless, Map, Of, Or}
 use Rattle.pls_scheme_text.specs.declared.scheme_error.SchemeError.TheVariants.{NotAScheme, TooDeep, TooMany}
 use Rattle.pls_scheme_text.specs.inner.Fronts.{expression_in, leaf_front, scheme_refusal_of}
 

@@ -2,13 +2,13 @@
 
 ghost use Rattle.std.specs.Prelude.{◌≡◌, IfOk, option_map};
 ghost use Rattle.pls_fronts.specs.Front.{found_front};
-ghost use Rattle.pls_property.specs.Held.{expression_of};
+ghost use Rattle.pls_expressions.specs.Held.{expression_of};
 ghost use Rattle.pls_scheme_text.specs.inner.Fronts.{count_front, expression_front, expression_of_two, found_tree};
 
 use crate::fronts::{Join, join_front, leaf_front, map_front};
 use pls_base::NoMemory;
+use pls_expressions::ExpressionTree;
 use pls_fronts::after;
-use pls_property::ExpressionTree;
 use std::alloc::Global;
 
 // How many names stand in the expression at the front of a text, inside of `map` or not, with at most

@@ -3,14 +3,14 @@
 
 ghost use Rattle.std.specs.Prelude.{◌≡◌, IfSome, option_map};
 ghost use Rattle.pls_fronts.specs.Front.{found_front};
-ghost use Rattle.pls_property.specs.Expression.{names_of};
-ghost use Rattle.pls_property.specs.Held.{expression_of};
+ghost use Rattle.pls_expressions.specs.Expression.{names_of};
+ghost use Rattle.pls_expressions.specs.Held.{expression_of};
 ghost use Rattle.pls_scheme_text.specs.inner.Fronts.{edges_front, join_front, leaf_front, map_front, property_front, found_tree};
 
+use pls_expressions::ExpressionTree;
 use pls_fronts::{after, number_front};
 use pls_model::MAX_NODES;
 use pls_names::name_front;
-use pls_property::ExpressionTree;
 
 // How two expressions are joined.
 #[derive(Clone, Copy, Debug, PartialEq, Eq)]

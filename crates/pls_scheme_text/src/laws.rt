@@ -1,11 +1,11 @@
 //! What holds of the texts of all expressions.
 
 ghost use Rattle.std.specs.Prelude.{◌≡◌};
-ghost use Rattle.pls_property.specs.Expression.{IsSmall};
-ghost use Rattle.pls_property.specs.Held.{expression_of};
+ghost use Rattle.pls_expressions.specs.Expression.{IsSmall};
+ghost use Rattle.pls_expressions.specs.Held.{expression_of};
 ghost use Rattle.pls_scheme_text.specs.ExpressionText.{expression_text};
 
-use pls_property::ExpressionTree;
+use pls_expressions::ExpressionTree;
 
 /// Small expressions with one text are one.
 pub fn one_text(one: &ExpressionTree, other: &ExpressionTree)

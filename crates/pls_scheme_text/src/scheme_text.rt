@@ -4,17 +4,17 @@ ghost use Rattle.std.specs.Prelude.{◌≡◌, ◌↔◌, ◌⊎◌, ◌++◌, t
 ghost use Rattle.std.specs.Option.{is_some};
 ghost use Rattle.std.specs.Result.{IsErrOf};
 ghost use Rattle.std.specs.String.{string_bytes};
-ghost use Rattle.pls_property.specs.Expression.{IsSmall};
-ghost use Rattle.pls_property.specs.Held.{expression_of};
+ghost use Rattle.pls_expressions.specs.Expression.{IsSmall};
+ghost use Rattle.pls_expressions.specs.Held.{expression_of};
 ghost use Rattle.pls_scheme_text.specs.ExpressionText.{HasTooManyNames, IsNoExpression, IsNoScheme, IsTooDeep, expression_text};
 ghost use Rattle.pls_scheme_text.specs.inner.Fronts.{expression_in, names_in, scheme_refusal_of};
 
 use crate::expression_fronts::{names_front, tree_front};
 use crate::scheme_error::SchemeError;
 use pls_base::NoMemory;
+use pls_expressions::ExpressionTree;
 use pls_fronts::is_deeper;
 use pls_names::name_of;
-use pls_property::ExpressionTree;
 use std::alloc::Global;
 use std::fmt::Write;
 

@@ -1,7 +1,7 @@
 -- What was said, as a command.
 use Rattle.std.specs.Prelude.{◌≡◌, ℕ, List}
 use Rattle.pls_words.specs.Words.{Said}
-use Rattle.pls_property.specs.Expression.{Expression, IsSmall}
+use Rattle.pls_expressions.specs.Expression.{Expression, IsSmall}
 use Rattle.pls_scheme_text.specs.ExpressionText.{expression_text}
 use Rattle.pls_app.specs.declared.command.Command.{Command}
 use Rattle.pls_app.specs.declared.command.Command.TheVariants.{ByRules, Print, Trial, With}

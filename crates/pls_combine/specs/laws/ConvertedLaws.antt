@@ -16,7 +16,7 @@ use Rattle.pls_universal.specs.Rules.{map_rules}
 use Rattle.pls_universal.specs.laws.MapLaws.{map_numbers}
 use Rattle.pls_names.specs.laws.NamedLaws.{laws_of}
 use Rattle.pls_names.specs.laws.Recoding.{Changes, IsCode, JudgesAlike, changed, verdict_alike}
-use Rattle.pls_property.specs.Expression.{Expression, And, Bridgeless, Diameter, Map, Of, Or, test_of}
+use Rattle.pls_expressions.specs.Expression.{Expression, And, Bridgeless, Diameter, Map, Of, Or, test_of}
 use Rattle.pls_parts.specs.Combined.{else_second, judge_both, judge_one_of, judge_own_tag, judge_tagged, raised}
 use Rattle.pls_parts.specs.Joined.{joined_bits}
 use Rattle.pls_parts.specs.Parts.{first_part, has_parts, is_tagged, parts_of, second_part, tag_of}

@@ -8,9 +8,9 @@ use Rattle.pls_fronts.specs.Depth.{deepest}
 use Rattle.pls_fronts.specs.Front.{Front, after, followed, whole_item, word_front}
 use Rattle.pls_fronts.specs.NumberFront.{number_front}
 use Rattle.pls_names.specs.Front.{name_front}
-use Rattle.pls_property.specs.declared.expression_tree.ExpressionTree.{ExpressionTree}
-use Rattle.pls_property.specs.Held.{expression_of}
-use Rattle.pls_property.specs.Expression.{Expression, And, Bridgeless, Diameter, Map, Of, Or, names_of}
+use Rattle.pls_expressions.specs.declared.expression_tree.ExpressionTree.{ExpressionTree}
+use Rattle.pls_expressions.specs.Held.{expression_of}
+use Rattle.pls_expressions.specs.Expression.{Expression, And, Bridgeless, Diameter, Map, Of, Or, names_of}
 use Rattle.pls_scheme_text.specs.declared.fronts.Join.{Join}
 use Rattle.pls_scheme_text.specs.declared.fronts.Join.TheVariants.{Both, Either}
 use Rattle.pls_scheme_text.specs.declared.scheme_error.SchemeError.{SchemeError}

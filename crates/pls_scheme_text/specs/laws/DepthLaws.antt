@@ -9,7 +9,7 @@ use Rattle.pls_fronts.specs.laws.DepthLaws.{MakesDeep, all_plain, deep_one, deep
 use Rattle.pls_fronts.specs.laws.NumberFrontLaws.{decimal_digits}
 use Rattle.pls_names.specs.Named.{name_of}
 use Rattle.pls_names.specs.laws.NamedLaws.{is_lettered, laws_of}
-use Rattle.pls_property.specs.Expression.{Expression, And, Bridgeless, Diameter, CanBeWritten, Map, Of, Or, depth_of}
+use Rattle.pls_expressions.specs.Expression.{Expression, And, Bridgeless, Diameter, CanBeWritten, Map, Of, Or, depth_of}
 use Rattle.pls_scheme_text.specs.ExpressionText.{IsTooDeep, expression_text}
 use Rattle.pls_scheme_text.specs.laws.FrontLaws.{deep_some}
 

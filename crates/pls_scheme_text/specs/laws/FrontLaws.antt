@@ -13,7 +13,7 @@ use Rattle.pls_model.specs.declared.limits.TheConstants.{MAX_NODES}
 use Rattle.pls_names.specs.Front.{name_front}
 use Rattle.pls_names.specs.laws.FrontLaws.{name_found}
 use Rattle.pls_names.specs.laws.NamedLaws.{laws_of}
-use Rattle.pls_property.specs.Expression.{Expression, And, Bridgeless, Diameter, CanBeWritten, Map, Of, Or, depth_of}
+use Rattle.pls_expressions.specs.Expression.{Expression, And, Bridgeless, Diameter, CanBeWritten, Map, Of, Or, depth_of}
 use Rattle.pls_scheme_text.specs.declared.fronts.Join.{Join}
 use Rattle.pls_scheme_text.specs.declared.fronts.Join.TheVariants.{Both, Either}
 use Rattle.pls_scheme_text.specs.ExpressionText.{expression_text}

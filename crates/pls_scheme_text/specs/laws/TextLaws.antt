@@ -3,7 +3,7 @@ use Rattle.std.proofs.Common.{◌≡◌, ◌∙◌, ℕ, ◌+◌, ◌≤◌, ◌
 use Rattle.std.specs.Option.{option_and_then}
 use Rattle.std.proofs.lemmas.List.{append-nil}
 use Rattle.std.proofs.lemmas.Option.{option_and_then_some, same_Some}
-use Rattle.pls_property.specs.Expression.{Expression, CanBeWritten, depth_of}
+use Rattle.pls_expressions.specs.Expression.{Expression, CanBeWritten, depth_of}
 use Rattle.pls_scheme_text.specs.ExpressionText.{expression_text}
 use Rattle.pls_fronts.specs.Front.{Front, followed, whole_item}
 use Rattle.pls_fronts.specs.laws.FrontLaws.{whole_is}

@@ -3,7 +3,7 @@ use Rattle.pls_view.specs.Seen.{views}
 use Rattle.pls_scheme.specs.Judging.{verdicts_by}
 use Rattle.pls_combine.specs.Expression.{judge_of}
 use Rattle.pls_parts.specs.inner.Rounds.{SomeTrue}
-use Rattle.pls_property.specs.Held.{expression_of}
+use Rattle.pls_expressions.specs.Held.{expression_of}
 use Rattle.pls_combine.proofs.JudgedParts.{all_within, and_verdicts, is_asked, or_verdicts}
 use Rattle.pls_combine.proofs.rounds.+round_tree.Goals.{in-Of+in_ok-verdicts-in-Of, in-Diameter+in_ok-verdicts-in-Diameter, in-Bridgeless+in_ok-verdicts-in-Bridgeless, in-Map+in_ok-verdicts-in-Map, in-And+in_ok-parted-in-And+in_ok-firsts-in-And+in_ok-seconds-in-And+in_ok-verdicts-in-And, in-Or+in_ok-tags-in-Or+in_ok-rests-in-Or+in_ok-firsts-in-Or+in_ok-seconds-in-Or+in_ok-verdicts-in-Or}
 use Rattle.pls_combine.proofs.rounds.+round_tree.Goals as goal

@@ -1,7 +1,7 @@
 use Rattle.std.proofs.Common.{true, false, arith}
 use Rattle.pls_graph.specs.Size.{size_of}
 use Rattle.pls_combine.specs.Expression.{judge_of, leaves_of, longest_of}
-use Rattle.pls_property.specs.Held.{expression_of}
+use Rattle.pls_expressions.specs.Held.{expression_of}
 use Rattle.pls_parts.proofs.Marking.{both_accepted, both_short, tagged_accepted, tagged_short}
 use Rattle.pls_combine.proofs.scheme_tree.+mark_tree.Goals as goal
 

@@ -1,4 +1,4 @@
-use Rattle.pls_property.specs.Held.{expression_of}
+use Rattle.pls_expressions.specs.Held.{expression_of}
 use Rattle.pls_scheme_text.specs.laws.TextLaws.{one_expression}
 use Rattle.pls_scheme_text.proofs.laws.one_text.Goals as goal
 

@@ -1,9 +1,9 @@
 use Rattle.std.proofs.Common.{◌≡◌, ◌∙◌, None, Some, inr, sym, ap, refl, subst}
 use Rattle.pls_scheme_text.specs.declared.scheme_error.SchemeError.TheVariants.{NotAScheme, TooDeep, TooMany}
 use Rattle.pls_scheme_text.specs.ExpressionText.{HasTooManyNames, IsNoExpression, IsTooDeep}
-use Rattle.pls_property.specs.Expression.{IsSmall}
+use Rattle.pls_expressions.specs.Expression.{IsSmall}
 use Rattle.pls_scheme_text.specs.inner.Fronts.{scheme_refusal_of}
-use Rattle.pls_property.specs.Held.{expression_of}
+use Rattle.pls_expressions.specs.Held.{expression_of}
 use Rattle.std.proofs.lemmas.Option.{same_Some}
 use Rattle.pls_scheme_text.specs.laws.TextLaws.{expression_in-is}
 use Rattle.pls_scheme_text.proofs.Refusals.{deep_cause, kept_cause, kept_text, many_cause, memory_not_many, memory_not_other, other_cause, refused_text, told_cause}

@@ -66,9 +66,9 @@ returns-then-count-ports-clause-others c = λ no row stands same.
     (c.loop-port.invariant.same row stands)
     (sym (c.is_fresh.ensures row port.0 stands port.1) ∙ c.if-is_fresh.false) in
     elim c.then-count-ports.branch [
-      then-count-ports-via-then-count-ports w ↦
-      ends_before c.args.ports.now c.loop-port.count p later w.if-count-ports.true (same ∙ is)
-    | then-count-ports-via-else-count-ports+then-ports-count w ↦
-      goes_on_otherwise c.args.ports.now c.loop-port.count p later 0 w.if-count-ports.false
-      w.if-ports-count.true (same ∙ is)
+      | then-count-ports-via-then-count-ports w ↦
+          ends_before c.args.ports.now c.loop-port.count p later w.if-count-ports.true (same ∙ is)
+      | then-count-ports-via-else-count-ports+then-ports-count w ↦
+          goes_on_otherwise c.args.ports.now c.loop-port.count p later 0 w.if-count-ports.false
+          w.if-ports-count.true (same ∙ is)
     ]

@@ -1,5 +1,0 @@
-use Rattle.pls_decidable.specs.laws.PointerTestLaws.{spt_tested}
-use Rattle.pls_decidable.proofs.pointer_laws.spt_is_tested.Goals as goal
-
-pub returns : goal.returns
-returns c = spt_tested c.args.net.now c.is_valid.ensures

@@ -1,5 +1,0 @@
-use Rattle.pls_decidable.specs.laws.SearchTestLaws.{bipartite_tested}
-use Rattle.pls_decidable.proofs.search_laws.bipartite_is_tested.Goals as goal
-
-pub returns : goal.returns
-returns c = bipartite_tested c.args.net.now c.is_valid.ensures

@@ -1,0 +1,74 @@
+//! Whether any two nodes are at most so many edges apart, by the levels from each node.
+
+ghost use Rattle.std.specs.Prelude.{◌≡◌, ◌<◌, ◌↔◌, length, IfOk, IsTrue};
+ghost use Rattle.std.specs.List.{list_all};
+ghost use Rattle.pls_diameter_bridges.specs.Diameter.{HasDiameter};
+ghost use Rattle.pls_diameter_bridges.specs.inner.Reaching.{ReachesAll, is_within};
+
+use pls_base::NoMemory;
+use pls_graph::Network;
+use pls_scheme::Property;
+use pls_search::levels;
+use std::alloc::Global;
+
+/// The property that any two nodes are the ends of a walk of at most so many edges.
+#[derive(Clone, Copy, Debug, PartialEq, Eq)]
+pub struct Diameter {
+    /// The greatest number of edges between two nodes.
+    pub most: u32,
+}
+
+impl Diameter {
+    /// The property that at most `most` edges lie between any two nodes.
+    pub fn new(most: u32) -> Diameter
+        ensures { result.most ≡ most }
+    {
+        Diameter { most }
+    }
+}
+
+impl Property for Diameter {
+    ghost holds = { λ property. HasDiameter property.most };
+
+    fn decide(&self, alloc: Global, net: &Network) -> Result<bool, NoMemory> {
+        has_diameter(alloc, net, self.most)
+    }
+}
+
+// Whether at most so many edges lie between any two nodes.
+fn has_diameter(alloc: Global, net: &Network, most: u32) -> Result<bool, NoMemory>
+    ensures { IfOk result (λ yes. IsTrue yes ↔ HasDiameter most net.now) }
+{
+    for place in 0..net.len() {
+        if !reaches_all(alloc, net, place, most)? {
+            return Ok(false);
+        }
+    }
+    Ok(true)
+}
+
+// Whether at most so many edges lie between the node at a place and any other.
+fn reaches_all(alloc: Global, net: &Network, place: usize, most: u32) -> Result<bool, NoMemory>
+    requires { place < length net.now }
+    ensures { IfOk result (λ yes. IsTrue yes ↔ ReachesAll most net.now place) }
+{
+    let found = levels(alloc, net, place)?;
+    Ok(are_within(&found, most))
+}
+
+// Whether each level is found and at most this.
+fn are_within(found: &[Option<u32>], most: u32) -> bool
+    ensures { result ≡ list_all (is_within most) found.now }
+{
+    found.iter().all(|level| is_within(*level, most))
+}
+
+// Whether a level is found and at most this.
+fn is_within(level: Option<u32>, most: u32) -> bool
+    ensures { result ≡ is_within most level }
+{
+    match level {
+        Some(level) => level <= most,
+        None => false,
+    }
+}

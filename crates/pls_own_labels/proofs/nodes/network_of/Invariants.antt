@@ -1,6 +1,0 @@
-use Rattle.std.proofs.Common.{◌≡◌, length, All}
-use Rattle.pls_own_labels.specs.SmallRow.{IsSmallRow}
-use Rattle.pls_own_labels.proofs.nodes.network_of.Given as goal
-
-abbrev pub invariant-loop-i : goal.invariant-loop-i
-invariant-loop-i l = (length l.rows.items ≡ l.i) × All IsSmallRow l.rows.items

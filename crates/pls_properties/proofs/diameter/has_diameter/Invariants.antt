@@ -1,5 +1,0 @@
-use Rattle.pls_properties.proofs.Reached.{ReachSoFar}
-use Rattle.pls_properties.proofs.diameter.has_diameter.Given as goal
-
-abbrev pub invariant-loop-place : goal.invariant-loop-place
-invariant-loop-place l = ReachSoFar l.net l.most l.place
