@@ -17,7 +17,7 @@ struct Owned {
 /// was noted last.
 #[derive(Drop)]
 pub(crate) struct Guesses {
-    ends: Vec<usize>,
+    ends: Vec<u32>,
     ways: Vec<Owned>,
     noted: Vec<u16>,
 }
@@ -28,7 +28,7 @@ impl Guesses {
     pub(crate) fn of(
         alloc: Global,
         net: &Network,
-        firsts: &[usize],
+        firsts: &[u32],
         ports: usize,
     ) -> Result<Guesses, AllocError> {
         let none = Owned { owner: 0, port: 0 };
@@ -56,9 +56,9 @@ impl Guesses {
     fn put(&mut self, to: usize, way: Owned) {
         if to < self.ends.len() {
             let end = self.ends[to];
-            if end < self.ways.len() {
-                self.ways[end] = way;
-                self.ends[to] = end + 1;
+            if (end as usize) < self.ways.len() {
+                self.ways[end as usize] = way;
+                self.ends[to] = end.saturating_add(1);
             }
         }
     }
@@ -66,7 +66,7 @@ impl Guesses {
     /// Notes the ports that lead to the node at place i, whose first port has this number.
     pub(crate) fn note(&mut self, i: usize, first: usize) {
         let end = match self.ends.get(i) {
-            Some(end) => *end,
+            Some(end) => *end as usize,
             None => 0,
         };
         for at in first..end.min(self.ways.len()) {

@@ -31,16 +31,6 @@ const CONVERTED: &str = "
 ";
 
 #[test]
-fn labels_are_marked_in_the_code_that_is_named(rt: HostRuntime) -> Result<(), Fail> {
-    assert_rows(&rt, rt.alloc(), MARKED)
-}
-
-#[test]
-fn labels_are_read_in_the_code_of_their_heading(rt: HostRuntime) -> Result<(), Fail> {
-    assert_rows(&rt, rt.alloc(), READ)
-}
-
-#[test]
-fn labels_are_converted(rt: HostRuntime) -> Result<(), Fail> {
-    assert_rows(&rt, rt.alloc(), CONVERTED)
+fn labels_are_marked_read_and_converted_in_both_codes(rt: HostRuntime) -> Result<(), Fail> {
+    assert_rows(&rt, rt.alloc(), &[MARKED, READ, CONVERTED])
 }

@@ -42,11 +42,6 @@ const REPORTS: &str = "
 ";
 
 #[test]
-fn each_component_gets_labels_of_its_own(rt: HostRuntime) -> Result<(), Fail> {
-    assert_rows(&rt, rt.alloc(), MARKED)
-}
-
-#[test]
-fn a_report_has_a_line_for_each_component(rt: HostRuntime) -> Result<(), Fail> {
-    assert_rows(&rt, rt.alloc(), REPORTS)
+fn each_component_is_marked_and_reported_by_itself(rt: HostRuntime) -> Result<(), Fail> {
+    assert_rows(&rt, rt.alloc(), &[MARKED, REPORTS])
 }

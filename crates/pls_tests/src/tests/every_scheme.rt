@@ -114,33 +114,22 @@ fn assert_asked(
             let labels = lines_of(alloc, words.as_str(), input)?;
             let named = asked.replace(alloc, "NAME", name)?;
             let rows = named.as_str().replace(alloc, "LABELS", labels.as_str())?;
-            assert_rows(rt, alloc, rows.as_str())?;
+            assert_rows(rt, alloc, &[rows.as_str()])?;
         }
     }
     Ok(())
 }
 
 #[test]
-fn every_scheme_marks(rt: HostRuntime) -> Result<(), Fail> {
-    assert_rows(&rt, rt.alloc(), MARKED)
-}
-
-#[test]
-fn labels_of_every_scheme_are_converted(rt: HostRuntime) -> Result<(), Fail> {
-    assert_rows(&rt, rt.alloc(), CONVERTED)
-}
-
-#[test]
-fn bounds_of_every_scheme(rt: HostRuntime) -> Result<(), Fail> {
-    assert_rows(&rt, rt.alloc(), BOUNDS)
+fn every_scheme_marks_converts_and_bounds(rt: HostRuntime) -> Result<(), Fail> {
+    assert_rows(&rt, rt.alloc(), &[MARKED, CONVERTED, BOUNDS])
 }
 
 #[test]
 fn labels_of_every_scheme_are_judged_by_every_command(rt: HostRuntime) -> Result<(), Fail> {
-    assert_asked(&rt, rt.alloc(), [SCHEMES, "all", ASKED])
-}
-
-#[test]
-fn labels_of_every_scheme_are_judged_before_a_ring_is_crossed(rt: HostRuntime) -> Result<(), Fail> {
-    assert_asked(&rt, rt.alloc(), [RING_SCHEMES, "round", ASKED_OF_RING])
+    let ring = [RING_SCHEMES, "round", ASKED_OF_RING];
+    for table in [[SCHEMES, "all", ASKED], ring] {
+        assert_asked(&rt, rt.alloc(), table)?;
+    }
+    Ok(())
 }

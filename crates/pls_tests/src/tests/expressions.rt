@@ -30,11 +30,6 @@ const MAPS: &str = "
 ";
 
 #[test]
-fn expressions_are_marked_and_judged(rt: HostRuntime) -> Result<(), Fail> {
-    assert_rows(&rt, rt.alloc(), EXPRESSIONS)
-}
-
-#[test]
-fn maps_are_marked_and_judged(rt: HostRuntime) -> Result<(), Fail> {
-    assert_rows(&rt, rt.alloc(), MAPS)
+fn expressions_and_maps_are_marked_and_judged(rt: HostRuntime) -> Result<(), Fail> {
+    assert_rows(&rt, rt.alloc(), &[EXPRESSIONS, MAPS])
 }

@@ -46,16 +46,6 @@ const CENTROIDS: &str = "
 ";
 
 #[test]
-fn levels_are_marked(rt: HostRuntime) -> Result<(), Fail> {
-    assert_rows(&rt, rt.alloc(), LEVELS)
-}
-
-#[test]
-fn levels_are_judged(rt: HostRuntime) -> Result<(), Fail> {
-    assert_rows(&rt, rt.alloc(), JUDGED_LEVELS)
-}
-
-#[test]
-fn centroids_are_marked_and_judged(rt: HostRuntime) -> Result<(), Fail> {
-    assert_rows(&rt, rt.alloc(), CENTROIDS)
+fn levels_and_centroids_are_marked_and_judged(rt: HostRuntime) -> Result<(), Fail> {
+    assert_rows(&rt, rt.alloc(), &[LEVELS, JUDGED_LEVELS, CENTROIDS])
 }

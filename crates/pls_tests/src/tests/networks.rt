@@ -63,16 +63,6 @@ const LABELS: &str = "
 ";
 
 #[test]
-fn networks_are_refused(rt: HostRuntime) -> Result<(), Fail> {
-    assert_rows(&rt, rt.alloc(), REFUSED)
-}
-
-#[test]
-fn what_is_no_network_part_is_refused(rt: HostRuntime) -> Result<(), Fail> {
-    assert_rows(&rt, rt.alloc(), NO_PART)
-}
-
-#[test]
-fn labels_are_refused(rt: HostRuntime) -> Result<(), Fail> {
-    assert_rows(&rt, rt.alloc(), LABELS)
+fn networks_and_labels_are_refused(rt: HostRuntime) -> Result<(), Fail> {
+    assert_rows(&rt, rt.alloc(), &[REFUSED, NO_PART, LABELS])
 }

@@ -44,11 +44,6 @@ const REFUSED: &str = "
 ";
 
 #[test]
-fn rounds_judge_touched_nodes_alone(rt: HostRuntime) -> Result<(), Fail> {
-    assert_rows(&rt, rt.alloc(), ROUNDS)
-}
-
-#[test]
-fn edits_that_do_not_apply_are_refused(rt: HostRuntime) -> Result<(), Fail> {
-    assert_rows(&rt, rt.alloc(), REFUSED)
+fn rounds_judge_touched_nodes_and_other_edits_are_refused(rt: HostRuntime) -> Result<(), Fail> {
+    assert_rows(&rt, rt.alloc(), &[ROUNDS, REFUSED])
 }

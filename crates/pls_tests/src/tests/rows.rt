@@ -10,11 +10,13 @@ use std::alloc::Global;
 use std::process::Abort;
 use std::test::Fail;
 
-/// Runs each row of a table, and asserts its status and its text.
-pub(super) fn assert_rows(rt: &impl Abort, alloc: Global, rows: &str) -> Result<(), Fail> {
-    for row in rows.split('\n') {
-        if !row.is_empty() && !row.starts_with('#') {
-            assert_row(rt, alloc, row)?;
+/// Runs each row of some tables, and asserts its status and its text.
+pub(super) fn assert_rows(rt: &impl Abort, alloc: Global, tables: &[&str]) -> Result<(), Fail> {
+    for table in tables {
+        for row in table.split('\n') {
+            if !row.is_empty() && !row.starts_with('#') {
+                assert_row(rt, alloc, row)?;
+            }
         }
     }
     Ok(())

@@ -100,23 +100,8 @@ const JUDGED: &str = "
 const SETS: &str = "leader tree forest spt bipartite acyclic count";
 
 #[test]
-fn sets_of_schemes_are_printed(rt: HostRuntime) -> Result<(), Fail> {
-    assert_rows(&rt, rt.alloc(), PRINTED)
-}
-
-#[test]
-fn sets_are_listed(rt: HostRuntime) -> Result<(), Fail> {
-    assert_rows(&rt, rt.alloc(), LISTED)
-}
-
-#[test]
-fn sets_are_refused(rt: HostRuntime) -> Result<(), Fail> {
-    assert_rows(&rt, rt.alloc(), REFUSED)
-}
-
-#[test]
-fn labels_are_judged_by_sets(rt: HostRuntime) -> Result<(), Fail> {
-    assert_rows(&rt, rt.alloc(), JUDGED)
+fn sets_are_printed_listed_refused_and_judge(rt: HostRuntime) -> Result<(), Fail> {
+    assert_rows(&rt, rt.alloc(), &[PRINTED, LISTED, REFUSED, JUDGED])
 }
 
 #[test]
@@ -128,7 +113,7 @@ fn sets_of_schemes_accept_what_the_schemes_mark(rt: HostRuntime) -> Result<(), F
         let input = format!(in alloc; "all | = {labels} | = {rules}")?;
         let due = "node 1 accept / node 2 accept / rejecting 0";
         let row = format!(in alloc; "0 judge < {input} > {due}")?;
-        assert_rows(&rt, alloc, row.as_str())?;
+        assert_rows(&rt, alloc, &[row.as_str()])?;
     }
     Ok(())
 }

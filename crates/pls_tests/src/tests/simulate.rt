@@ -53,16 +53,6 @@ const JSON: &str = "
 ";
 
 #[test]
-fn rounds_are_played(rt: HostRuntime) -> Result<(), Fail> {
-    assert_rows(&rt, rt.alloc(), PLAYED)
-}
-
-#[test]
-fn the_first_event_that_does_not_apply_is_refused(rt: HostRuntime) -> Result<(), Fail> {
-    assert_rows(&rt, rt.alloc(), REFUSED)
-}
-
-#[test]
-fn reports_are_told_in_json(rt: HostRuntime) -> Result<(), Fail> {
-    assert_rows(&rt, rt.alloc(), JSON)
+fn rounds_are_played_and_told_and_other_events_refused(rt: HostRuntime) -> Result<(), Fail> {
+    assert_rows(&rt, rt.alloc(), &[PLAYED, REFUSED, JSON])
 }

@@ -43,11 +43,6 @@ const REFUSED: &str = "
 ";
 
 #[test]
-fn edges_of_rings_are_crossed(rt: HostRuntime) -> Result<(), Fail> {
-    assert_rows(&rt, rt.alloc(), CROSSED)
-}
-
-#[test]
-fn no_ring_and_rejecting_nodes_are_refused(rt: HostRuntime) -> Result<(), Fail> {
-    assert_rows(&rt, rt.alloc(), REFUSED)
+fn edges_of_rings_alone_are_crossed(rt: HostRuntime) -> Result<(), Fail> {
+    assert_rows(&rt, rt.alloc(), &[CROSSED, REFUSED])
 }

@@ -86,11 +86,6 @@ const JUDGED: &str = "
 ";
 
 #[test]
-fn networks_are_marked(rt: HostRuntime) -> Result<(), Fail> {
-    assert_rows(&rt, rt.alloc(), MARKED)
-}
-
-#[test]
-fn labels_are_judged(rt: HostRuntime) -> Result<(), Fail> {
-    assert_rows(&rt, rt.alloc(), JUDGED)
+fn networks_are_marked_and_labels_judged(rt: HostRuntime) -> Result<(), Fail> {
+    assert_rows(&rt, rt.alloc(), &[MARKED, JUDGED])
 }

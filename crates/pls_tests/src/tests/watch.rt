@@ -47,11 +47,6 @@ const REFUSED: &str = "
 ";
 
 #[test]
-fn a_look_tells_what_is_held_and_what_is_stale(rt: HostRuntime) -> Result<(), Fail> {
-    assert_rows(&rt, rt.alloc(), LOOKS)
-}
-
-#[test]
-fn events_that_name_nothing_are_refused(rt: HostRuntime) -> Result<(), Fail> {
-    assert_rows(&rt, rt.alloc(), REFUSED)
+fn looks_tell_what_is_held_and_other_events_are_refused(rt: HostRuntime) -> Result<(), Fail> {
+    assert_rows(&rt, rt.alloc(), &[LOOKS, REFUSED])
 }

@@ -89,28 +89,12 @@ const TRIALS: &str = "
 const USAGE: &str = "usage\n";
 
 #[test]
-fn words_that_are_no_command_are_usage(rt: HostRuntime) -> Result<(), Fail> {
-    assert_rows(&rt, rt.alloc(), NO_COMMAND)
-}
-
-#[test]
-fn a_code_stands_once_with_mark_and_bound_alone(rt: HostRuntime) -> Result<(), Fail> {
-    assert_rows(&rt, rt.alloc(), NO_CODE)
-}
-
-#[test]
-fn words_that_are_no_expression_are_usage(rt: HostRuntime) -> Result<(), Fail> {
-    assert_rows(&rt, rt.alloc(), NO_EXPRESSION)
-}
-
-#[test]
-fn words_that_are_no_trial_are_usage(rt: HostRuntime) -> Result<(), Fail> {
-    assert_rows(&rt, rt.alloc(), NO_TRIAL)
-}
-
-#[test]
-fn trials_tell_of_their_networks(rt: HostRuntime) -> Result<(), Fail> {
-    assert_rows(&rt, rt.alloc(), TRIALS)
+fn words_are_a_command_or_usage(rt: HostRuntime) -> Result<(), Fail> {
+    assert_rows(
+        &rt,
+        rt.alloc(),
+        &[NO_COMMAND, NO_CODE, NO_EXPRESSION, NO_TRIAL, TRIALS],
+    )
 }
 
 #[test]

@@ -9,6 +9,13 @@ overflow_add-firsts c =
     c.requires.within c.node-id.ensures.id c.places-place-items.ensures.places c.loop-place-test.true
     c.requires.firsts c.ports.ensures c.port_to-port.ensures in omega arith
 
+pub overflow_cast-firsts-in-loop-place : goal.overflow_cast-firsts-in-loop-place
+overflow_cast-firsts-in-loop-place c =
+    let way = step c.args.net.now c.node-id.ensures.valid c.args.i c.loop-place.place-index _
+    c.places-place-items.result.now c.args.firsts.now c.ports.result.now c.port_to-port.result
+    c.requires.within c.node-id.ensures.id c.places-place-items.ensures.places c.loop-place-test.true
+    c.requires.firsts c.ports.ensures c.port_to-port.ensures in omega arith
+
 pub loop-place-preserved : goal.loop-place-preserved
 loop-place-preserved c =
     let way = step c.args.net.now c.node-id.ensures.valid c.args.i c.loop-place.place-index _
