@@ -4,15 +4,13 @@ use Rattle.pls_base.specs.Streams.{Rose}
 use Rattle.pls_model.specs.declared.status.Status.{Status}
 use Rattle.pls_model.specs.declared.status.Status.TheVariants.{Done, No, Usage, Refused, ReadFault, WriteFault, NoMemory, Limit}
 use Rattle.pls_app.specs.declared.command.Command.{Command}
-use Rattle.pls_bits.specs.declared.code_name.CodeName.{CodeName}
-use Rattle.pls_expressions.specs.Expression.{Expression}
 use Rattle.pls_app.specs.Command.{IsCommand, IsUsage, reads}
 use Rattle.pls_app.specs.Said.{Answer}
 use Rattle.pls_app.specs.Answer.{Answers, IsAnswer}
 use Rattle.pls_app.specs.inner.Tasks.{IsWorked, Offers}
 use Rattle.pls_app.proofs.Answered.{command_answer}
 use Rattle.pls_app.proofs.Commands.{one_command}
-use Rattle.pls_app.specs.Run.{Certifies, Concerns, Converts, EndsAs, IsAnswered, IsUnread, TellsAnswer, TellsPart, Splits, TookCertificate, TookConversion, TookLack, TookSplice, Lacks}
+use Rattle.pls_app.specs.Run.{Concerns, EndsAs, IsAnswered, IsUnread, TellsAnswer, TellsPart, Took}
 use Rattle.pls_app.specs.inner.Causes.{Told}
 
 -- an answer that was told in the end
@@ -44,43 +42,13 @@ told_done due status before after old new text told done = elim told [
   | inr part ↦ absurd (let no : WriteFault ≡ Done = cc in cc)
 ]
 
--- the sink of a run that ends in `Done` took the whole text
-pub took_certificate : (code : CodeName) (scheme : Expression) (bytes text : List ℕ) (due status : Status)
-    (before after : ℕ) (old new : Option (List ℕ)) → Certifies code scheme bytes text
-    → Told due status before after old new text → status ≡ Done
-    → TookCertificate code scheme bytes old new
-took_certificate code scheme bytes text due status before after old new certifies told done = elim told [
-  | inl whole ↦ record { text = text; took = whole.1; certifies = certifies }
-  | inr part ↦ absurd (let other : WriteFault ≡ Done = cc in cc)
-]
-
--- and that of one that ends in `No`
-pub took_lack : (scheme : Expression) (bytes text : List ℕ) (due status : Status)
-    (before after : ℕ) (old new : Option (List ℕ)) → (due ≡ No → Lacks scheme bytes text)
-    → Told due status before after old new text → status ≡ No → TookLack scheme bytes old new
-took_lack scheme bytes text due status before after old new lacks told ends = elim told [
-  | inl whole ↦ record { text = text; took = whole.1; lacks = lacks (sym whole.0 ∙ ends) }
-  | inr part ↦ absurd (let other : WriteFault ≡ No = cc in cc)
-]
-
--- and that of a conversion
-pub took_conversion : (scheme : Expression) (bytes text : List ℕ) (due status : Status)
-    (before after : ℕ) (old new : Option (List ℕ)) → (due ≡ Done → Converts scheme bytes text)
-    → Told due status before after old new text → status ≡ Done
-    → TookConversion scheme bytes old new
-took_conversion scheme bytes text due status before after old new converts told done = elim told [
-  | inl whole ↦
-      record { text = text; took = whole.1; converts = converts (sym whole.0 ∙ done) }
-  | inr part ↦ absurd (let other : WriteFault ≡ Done = cc in cc)
-]
-
--- and that of two rings
-pub took_splice : (scheme : Expression) (bytes text : List ℕ) (due status : Status)
-    (before after : ℕ) (old new : Option (List ℕ)) → (due ≡ Done → Splits scheme bytes text)
-    → Told due status before after old new text → status ≡ Done → TookSplice scheme bytes old new
-took_splice scheme bytes text due status before after old new splits told done = elim told [
-  | inl whole ↦ record { text = text; took = whole.1; splits = splits (sym whole.0 ∙ done) }
-  | inr part ↦ absurd (let other : WriteFault ≡ Done = cc in cc)
+-- the sink of a run that ends as was due took the whole text
+pub took : (Says : List ℕ → Type 0) (text : List ℕ) (due status end : Status) (before after : ℕ)
+    (old new : Option (List ℕ)) → IsAnswered end → (due ≡ end → Says text)
+    → Told due status before after old new text → status ≡ end → Took Says old new
+took Says text due status end before after old new answered says told ends = elim told [
+  | inl whole ↦ record { text = text; took = whole.1; says = says (sym whole.0 ∙ ends) }
+  | inr part ↦ absurd (subst IsAnswered (sym ends ∙ part.0) answered)
 ]
 
 -- a run that ends in `No` was due to

@@ -50,11 +50,7 @@ abbrev pub IsAnswered : Status → Type 0
 IsAnswered ReadFault = ⊥
 IsAnswered WriteFault = ⊥
 IsAnswered NoMemory = ⊥
-IsAnswered Done = ⊤
-IsAnswered No = ⊤
-IsAnswered Usage = ⊤
-IsAnswered Refused = ⊤
-IsAnswered Limit = ⊤
+IsAnswered other = ⊤
 
 -- the status is that of the answer to the words on these bytes, and the sink took exactly its text
 pub record TellsAnswer (words : List (List ℕ)) (bytes : List ℕ) (status : Status)
@@ -82,12 +78,7 @@ IsSureOfAnswer words left sure =
 abbrev pub HasItsCause : Status → ℕ → ℕ → ℕ → ℕ → Type 0
 HasItsCause ReadFault old_reads new_reads old_writes new_writes = Rose old_reads new_reads
 HasItsCause WriteFault old_reads new_reads old_writes new_writes = Rose old_writes new_writes
-HasItsCause NoMemory old_reads new_reads old_writes new_writes = ⊤
-HasItsCause Done old_reads new_reads old_writes new_writes = ⊤
-HasItsCause No old_reads new_reads old_writes new_writes = ⊤
-HasItsCause Usage old_reads new_reads old_writes new_writes = ⊤
-HasItsCause Refused old_reads new_reads old_writes new_writes = ⊤
-HasItsCause Limit old_reads new_reads old_writes new_writes = ⊤
+HasItsCause other old_reads new_reads old_writes new_writes = ⊤
 
 -- a source that tells its bytes was read to its end, or up to the first byte past the limit
 abbrev pub HasRead : Option (List ℕ) → Option (List ℕ) → Type 0
@@ -174,13 +165,6 @@ pub record Certifies (code : CodeName) (scheme : Expression)
   pub few : bits_together labels ≤ MAX_BITS
   pub text_is : text ≡ net_labels_text code rows labels
 
--- the sink took labels that show the property of each component of the network of the bytes
-pub record TookCertificate (code : CodeName) (scheme : Expression) (bytes : List ℕ)
-    (old new : Option (List ℕ)) : Type 0 where
-  pub text : List ℕ
-  pub took : Appends old new text
-  pub certifies : Certifies code scheme bytes text
-
 -- the text is that of labels in the delta code, and the network of the bytes followed by the text is
 -- the same network with these labels, of which `verify` has the same outcomes as of those of the bytes
 pub record Converts (scheme : Expression) (bytes text : List ℕ) : Type 0 where
@@ -192,14 +176,6 @@ pub record Converts (scheme : Expression) (bytes text : List ℕ) : Type 0 where
       (with_labels Delta input labels)
   pub alike : outcomes_in (With (Verify false) scheme) (with_labels Delta input labels)
       ≡ outcomes_in (With (Verify false) scheme) input
-
--- the sink took labels in the delta code, on which `verify` has the outcomes that it has on the
--- bytes
-pub record TookConversion (scheme : Expression) (bytes : List ℕ)
-    (old new : Option (List ℕ)) : Type 0 where
-  pub text : List ℕ
-  pub took : Appends old new text
-  pub converts : Converts scheme bytes text
 
 -- the bytes are a ring with labels, and the text is a network of two rings with the same labels, in
 -- which no node sees a difference: all nodes accept, so that each of the two has the property, and
@@ -216,13 +192,6 @@ pub record Splits (scheme : Expression) (bytes text : List ℕ) : Type 0 where
   pub rings : (one other : ℕ) × AreTwoRings crossed one other
   pub leaderless : HasOneLeader (rows_in input)
       → (places : List ℕ) × LacksAt (Of Leader) crossed places
-
--- the sink took two rings, in which no node sees a difference from the ring of the bytes
-pub record TookSplice (scheme : Expression) (bytes : List ℕ)
-    (old new : Option (List ℕ)) : Type 0 where
-  pub text : List ℕ
-  pub took : Appends old new text
-  pub splits : Splits scheme bytes text
 
 -- the bytes are a network, labels and a rule set, and where the set is the one that has the name of a
 -- scheme, each component of the network has the property of that scheme
@@ -243,11 +212,11 @@ pub record Lacks (scheme : Expression) (bytes text : List ℕ) : Type 0 where
   pub lacking : NameLacking scheme rows ids
   pub says : text ≡ (no parts ids).text
 
--- the sink took the text that says which components of the network of the bytes lack the property
-pub record TookLack (scheme : Expression) (bytes : List ℕ) (old new : Option (List ℕ)) : Type 0 where
+-- the sink took a text of which this is so
+pub record Took (Says : List ℕ → Type 0) (old new : Option (List ℕ)) : Type 0 where
   pub text : List ℕ
   pub took : Appends old new text
-  pub lacks : Lacks scheme bytes text
+  pub says : Says text
 
 -- the bytes begin with the text of a network and end with that of edits, of which there is one list
 -- at most, as the heading `edits` stands once; after all edits each component has the property

@@ -8,7 +8,7 @@ ghost use Rattle.pls_inputs.specs.Parts.{net_labels_text};
 ghost use Rattle.pls_words.specs.Words.{words_in};
 ghost use Rattle.pls_expressions.specs.Expression.{Expression};
 ghost use Rattle.pls_app.specs.Command.{Checks, IsUsage};
-ghost use Rattle.pls_app.specs.Run.{Asks, Concerns, Consumes, CountsAsked, EndsAs, HasItsCause, HoldsAfter, IsAnswered, IsJudged, IsSureOfAnswer, IsUnread, Notices, Proves, ProvesByRules, RefusesExactly, SomeRejects, TellsAnswer, TellsPart, TookCertificate, TookConversion, TookLack, TookSplice};
+ghost use Rattle.pls_app.specs.Run.{Asks, Certifies, Concerns, Consumes, Converts, CountsAsked, EndsAs, HasItsCause, HoldsAfter, IsAnswered, IsJudged, IsSureOfAnswer, IsUnread, Lacks, Notices, Proves, ProvesByRules, RefusesExactly, SomeRejects, Splits, TellsAnswer, TellsPart, Took};
 ghost use Rattle.pls_app.specs.inner.Causes.{Told};
 ghost use Rattle.pls_app.specs.Answer.{IsRefused};
 ghost use Rattle.pls_app.specs.Reports.{reports_text};
@@ -53,11 +53,11 @@ pub fn run<'w, S: Source, K: Sink, B: Bench>(
     ensures mark { (code : CodeName) (scheme : Expression) (bytes : List ℕ)
         → Asks (words_in words.now) (S.left source.old) (Command.With (Task.Mark code) scheme) bytes
         → result ≡ Status.Done
-        → TookCertificate code scheme bytes (K.taken sink.old) (K.taken sink.new) }
+        → Took (Certifies code scheme bytes) (K.taken sink.old) (K.taken sink.new) }
     ensures mark_no { (code : CodeName) (scheme : Expression) (bytes : List ℕ)
         → Asks (words_in words.now) (S.left source.old) (Command.With (Task.Mark code) scheme) bytes
         → result ≡ Status.No
-        → TookLack scheme bytes (K.taken sink.old) (K.taken sink.new) }
+        → Took (Lacks scheme bytes) (K.taken sink.old) (K.taken sink.new) }
     ensures recheck { (scheme : Expression) (bytes : List ℕ)
         → Asks (words_in words.now) (S.left source.old) (Command.With Task.Recheck scheme) bytes
         → result ≡ Status.Done → HoldsAfter scheme bytes }
@@ -67,11 +67,11 @@ pub fn run<'w, S: Source, K: Sink, B: Bench>(
     ensures convert { (scheme : Expression) (bytes : List ℕ)
         → Asks (words_in words.now) (S.left source.old) (Command.With Task.Convert scheme) bytes
         → result ≡ Status.Done
-        → TookConversion scheme bytes (K.taken sink.old) (K.taken sink.new) }
+        → Took (Converts scheme bytes) (K.taken sink.old) (K.taken sink.new) }
     ensures splice { (scheme : Expression) (bytes : List ℕ)
         → Asks (words_in words.now) (S.left source.old) (Command.With Task.Splice scheme) bytes
         → result ≡ Status.Done
-        → TookSplice scheme bytes (K.taken sink.old) (K.taken sink.new) }
+        → Took (Splits scheme bytes) (K.taken sink.old) (K.taken sink.new) }
     ensures judge { (json : Bool) (bytes : List ℕ)
         → Asks (words_in words.now) (S.left source.old) (Command.ByRules (RuleTask.Judge json)) bytes
         → result ≡ Status.Done → ProvesByRules bytes }

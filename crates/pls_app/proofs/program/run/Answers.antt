@@ -1,13 +1,14 @@
 use Rattle.std.proofs.Common.{◌≡◌, ◌∙◌, true, refl, subst, sym, ℕ, List, inl, inr}
 use Rattle.pls_words.specs.Words.{words_in}
 use Rattle.pls_model.specs.declared.status.Status.{Status}
+use Rattle.pls_model.specs.declared.status.Status.TheVariants.{Done, No}
 use Rattle.pls_app.specs.declared.command.Command.{Command}
 use Rattle.pls_app.specs.declared.command.Command.TheVariants.{ByRules, With}
 use Rattle.pls_app.specs.declared.command.RuleTask.TheVariants.{Judge}
 use Rattle.pls_app.specs.declared.command.Task.TheVariants.{Convert, Mark, Recheck, Watch, Splice}
 use Rattle.pls_app.specs.Command.{IsCommand, IsUsage, reads}
 use Rattle.pls_app.specs.Answer.{usage}
-use Rattle.pls_app.specs.Run.{EndsAs, IsAnswered}
+use Rattle.pls_app.specs.Run.{Certifies, Converts, EndsAs, IsAnswered, Lacks, Splits}
 use Rattle.pls_app.specs.inner.Tasks.{IsWorked}
 use Rattle.pls_app.proofs.Answered.{refusal_has_cause, same_command, tells_refusal, unrefused_judged, usage_answer}
 use Rattle.pls_app.proofs.Asked.{counts_command, counts_fault, counts_none, told_judged}
@@ -16,7 +17,7 @@ use Rattle.pls_app.proofs.Consumed.{lost_nothing}
 use Rattle.pls_app.proofs.Conversions.{done_converts}
 use Rattle.pls_app.proofs.NamedSets.{done_judges}
 use Rattle.pls_app.proofs.Splits.{done_splits}
-use Rattle.pls_app.proofs.Told.{tells, tells_command, tells_part, tells_part_of, told_answered, told_done, told_no, told_ends, told_sure, told_usage, offered, took_certificate, took_conversion, took_lack, took_splice, unread_command, unread_usage, worked_answered}
+use Rattle.pls_app.proofs.Told.{tells, tells_command, tells_part, tells_part_of, told_answered, told_done, told_no, told_ends, told_sure, told_usage, offered, took, unread_command, unread_usage, worked_answered}
 use Rattle.pls_app.proofs.Proved.{done_proves, judged_notices, no_lacks, no_rejects}
 use Rattle.pls_app.proofs.WatchProves.{watch_proves}
 use Rattle.pls_app.proofs.program.run.Goals as goal
@@ -191,9 +192,8 @@ returns-in-Ok-clause-mark g c code scheme bytes asks done =
     let command : Command = c.in-Ok-Some.command in
     let is : IsCommand words command = rw c.in-Ok-Some.field-0-is at c.in-Ok-Some.ensures.some in
     let same = one_command words command (With (Mark code) scheme) is asks.asked in
-    took_certificate code scheme bytes _ _ _ _ _ _ _
-    (c.in-Ok.ensures.certified bytes asks.told code scheme same
-    (told_done _ _ _ _ _ _ _ c.tell-in-Ok.ensures.told done))
+    took (Certifies code scheme bytes) _ _ _ Done _ _ _ _ tt
+    (λ due. c.in-Ok.ensures.certified bytes asks.told code scheme same due)
     c.tell-in-Ok.ensures.told done
 
 pub returns-in-Ok-clause-mark_no : goal.returns-in-Ok-clause-mark_no
@@ -204,7 +204,7 @@ returns-in-Ok-clause-mark_no g c code scheme bytes asks ends =
     let answers =
     same_command words command (With (Mark code) scheme) bytes _ is asks.asked
     (c.in-Ok.ensures.answer bytes (inr asks.told)) in
-    took_lack scheme bytes _ _ _ _ _ _ _ (λ due. no_lacks code scheme bytes _ answers due)
+    took (Lacks scheme bytes) _ _ _ No _ _ _ _ tt (λ due. no_lacks code scheme bytes _ answers due)
     c.tell-in-Ok.ensures.told ends
 
 pub returns-in-Ok-clause-recheck : goal.returns-in-Ok-clause-recheck
@@ -224,7 +224,7 @@ returns-in-Ok-clause-convert g c scheme bytes asks done =
     let answers =
     same_command words command (With Convert scheme) bytes _ is asks.asked
     (c.in-Ok.ensures.answer bytes (inr asks.told)) in
-    took_conversion scheme bytes _ _ _ _ _ _ _ (λ ends. done_converts scheme bytes _ answers ends)
+    took (Converts scheme bytes) _ _ _ Done _ _ _ _ tt (λ ends. done_converts scheme bytes _ answers ends)
     c.tell-in-Ok.ensures.told done
 
 pub returns-in-Ok-clause-watch : goal.returns-in-Ok-clause-watch
@@ -245,7 +245,7 @@ returns-in-Ok-clause-splice g c scheme bytes asks done =
     let answers =
     same_command words command (With Splice scheme) bytes _ is asks.asked
     (c.in-Ok.ensures.answer bytes (inr asks.told)) in
-    took_splice scheme bytes _ _ _ _ _ _ _ (λ ends. done_splits scheme bytes _ answers ends)
+    took (Splits scheme bytes) _ _ _ Done _ _ _ _ tt (λ ends. done_splits scheme bytes _ answers ends)
     c.tell-in-Ok.ensures.told done
 
 pub returns-in-Ok-clause-judge : goal.returns-in-Ok-clause-judge
