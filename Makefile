@@ -11,6 +11,7 @@
 
 .PHONY: run test believed examples desk
 
+PROGRAM := crates/pls_main/out/pls_main
 SOURCES := Makefile crates.txt $(shell find crates -path '*/out' -prune -o -type f \( -name '*.rt' -o -name '*.antt' \) -print)
 
 # The sources as they are, which takes less time than their proofs. The example stands on few crates,
@@ -21,12 +22,15 @@ run:
 	@log=$$(mktemp) && cd crates/pls_example_routers && rt try 2> $$log || \
 		{ status=$$?; cat $$log >&2; exit $$status; }
 
-# The program is run without words, and answers `usage`.
-pls: $(SOURCES)
-	rm -f pls crates/pls_main/out/pls_main
+pls: $(PROGRAM)
+	cp $(PROGRAM) pls
+
+# What the gate left there serves, where no source is newer. The program is run without words, and
+# answers `usage`.
+$(PROGRAM): $(SOURCES)
+	rm -f $(PROGRAM)
 	python3 tools/prove pls_main
 	cd crates/pls_main && rt run < /dev/null > /dev/null; test -x out/pls_main
-	cp crates/pls_main/out/pls_main pls
 
 test:
 	.ci/run
