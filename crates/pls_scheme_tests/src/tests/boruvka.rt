@@ -2,7 +2,7 @@
 
 use super::{ALONE, HEAVY, RING, TRIANGLE, network};
 use pls_bits::Gamma;
-use pls_boruvka::{LevelLists, boruvka_levels, fragments};
+use pls_boruvka::{LevelList, LevelLists, boruvka_levels, fragments};
 use pls_graph::{Network, connected};
 use pls_pointer::Tree;
 use pls_scheme::Property;
@@ -10,20 +10,24 @@ use pls_search::pointer_depths;
 use std::alloc::Global;
 use std::test::Fail;
 
-// Of each node its levels, a line each: fragment, weight and ends, and a bar behind each level.
+// Puts levels behind a text: fragment, weight and ends, and a bar behind each level.
+fn put_levels(alloc: Global, text: &mut String, list: &LevelList) -> Result<(), Fail> {
+    for i in 0..list.len() {
+        let level = list.at(i);
+        let part = format!(in alloc;
+            "{} {} {} {}|",
+            level.fragment, level.weight, level.a, level.b
+        )?;
+        text.push_str(&part)?;
+    }
+    Ok(text.push_str("\n")?)
+}
+
+// Of each node its levels, a line each.
 fn text_of(alloc: Global, lists: &LevelLists) -> Result<String, Fail> {
     let mut text = String::new(alloc);
     for place in 0..lists.len() {
-        let list = lists.at(place)?;
-        for i in 0..list.len() {
-            let level = list.at(i);
-            let part = format!(in alloc;
-                "{} {} {} {}|",
-                level.fragment, level.weight, level.a, level.b
-            )?;
-            text.push_str(&part)?;
-        }
-        text.push_str("\n")?;
+        put_levels(alloc, &mut text, &lists.at(place)?)?;
     }
     Ok(text)
 }
@@ -46,6 +50,11 @@ fn names_of(alloc: Global, net: &Network, joined: &[bool]) -> Result<Vec<u32>, F
         return Err(Fail::from("a circle, or other nodes"));
     }
     Ok(fragments(alloc, net, joined)?)
+}
+
+// Whether these are those names.
+fn are_names(alloc: Global, net: &Network, joined: &[bool], due: &[u32]) -> Result<bool, Fail> {
+    Ok(names_of(alloc, net, joined)?.as_slice() == due)
 }
 
 // Networks, and the levels of their nodes.
@@ -84,8 +93,7 @@ const FRAGMENTS: &[([bool; 4], [u32; 4])] = &[
 fn fragments_are_named_by_the_ends_of_chains(rt: HostRuntime) -> Result<(), Fail> {
     let net = network(rt.alloc(), RING)?;
     for (joined, due) in FRAGMENTS {
-        let names = names_of(rt.alloc(), &net, joined)?;
-        assert!(rt; names.as_slice() == due.as_slice(), "names of four");
+        assert!(rt; are_names(rt.alloc(), &net, joined, due)?, "names of four");
     }
     Ok(())
 }

@@ -1,16 +1,21 @@
 //! Schemes joined by `and` and `or`, and expressions of them as texts.
 
+ghost use Rattle.std.specs.Prelude.{◌≡◌, ◌+◌, ◌<◌, ◌≤◌, IfOk, length};
+ghost use Rattle.pls_model.specs.Walk.{IsConnected};
+
 use super::joined;
-use pls_base::Steps;
-use pls_bits::Gamma;
+use pls_base::{NoMemory, Steps};
+use pls_bits::{Bits, Gamma};
 use pls_colour::{Acyclic, Bipartite};
 use pls_combine::AnyScheme;
+use pls_expressions::ExpressionTree;
+use pls_graph::Network;
 use pls_labelfile::read_labels;
 use pls_pairs::{Both, OneOf};
 use pls_pointer::Tree;
 use pls_scheme::{Checker, Scheme, Verdict, are_accepted};
 use pls_scheme_text::{SchemeError, print_expression, read_expression};
-use pls_view::View;
+use pls_view::{LabelStore, View};
 use std::alloc::Global;
 use std::test::Fail;
 
@@ -29,43 +34,115 @@ fn marks_as<S: Scheme>(
     bound: u64,
 ) -> Result<bool, Fail> {
     let net = joined(alloc, PAIR)?;
-    let Some(labels) = scheme.mark(alloc, &net)? else {
-        return Err(Fail::from("not marked"));
-    };
+    Ok(scheme.bound(&net.size()) == bound && marks(alloc, scheme, &net, texts)?)
+}
+
+// The same of the labels on a network, which must have two nodes.
+fn marks<S: Scheme>(
+    alloc: Global,
+    scheme: &S,
+    net: &Network,
+    texts: [&str; 2],
+) -> Result<bool, Fail>
+    requires { IsConnected net.now }
+{
+    match scheme.mark(alloc, net)? {
+        Some(labels) => are_accepted_as(alloc, scheme, net, &labels, texts),
+        None => Err(Fail::from("not marked")),
+    }
+}
+
+// Whether all accept the labels of two nodes, which are these in hex.
+fn are_accepted_as<K: Checker>(
+    alloc: Global,
+    checker: &K,
+    net: &Network,
+    labels: &LabelStore,
+    texts: [&str; 2],
+) -> Result<bool, Fail>
+    requires { length labels.now ≡ length net.now }
+{
     if labels.len() != 2 {
         return Err(Fail::from("not two labels"));
     }
-    let first = labels.bits(0).to_hex(alloc)?;
-    let second = labels.bits(1).to_hex(alloc)?;
-    let bits = first.as_bytes() == texts[0].as_bytes() && second.as_bytes() == texts[1].as_bytes();
-    let accepted = are_accepted(alloc, scheme, &net, &labels, &mut Steps::new())?;
-    Ok(bits && accepted && scheme.bound(&net.size()) == bound)
+    let [first, second] = texts;
+    Ok(
+        is_hex(alloc, labels.bits(0), first)?
+            && is_hex(alloc, labels.bits(1), second)?
+            && are_accepted(alloc, checker, net, labels, &mut Steps::new())?,
+    )
+}
+
+// Whether these are the digits of the bits.
+fn is_hex(alloc: Global, bits: Bits<'_>, digits: &str) -> Result<bool, NoMemory> {
+    Ok(bits.to_hex(alloc)?.as_str() == digits)
+}
+
+// The same of the conjunction of two schemes.
+fn both_mark_as<A: Scheme + Drop, B: Scheme + Drop>(
+    alloc: Global,
+    first: A,
+    second: B,
+    texts: [&str; 2],
+    bound: u64,
+) -> Result<bool, Fail>
+    requires { A.leaves first + B.leaves second ≤ 8 }
+{
+    marks_as(
+        alloc,
+        &Both::<A, B, Gamma>::new(first, second),
+        texts,
+        bound,
+    )
+}
+
+// The same of the disjunction of that conjunction and a third scheme.
+fn one_of_both_marks_as<A: Scheme + Drop, B: Scheme + Drop, C: Scheme + Drop>(
+    alloc: Global,
+    first: A,
+    second: B,
+    third: C,
+    texts: [&str; 2],
+    bound: u64,
+) -> Result<bool, Fail>
+    requires { A.leaves first + B.leaves second + C.leaves third ≤ 8 }
+{
+    let both = Both::<A, B, Gamma>::new(first, second);
+    marks_as(alloc, &OneOf::new(both, third), texts, bound)
 }
 
 #[test]
 fn a_conjunction_is_marked(rt: HostRuntime) -> Result<(), Fail> {
-    let both = Both::<Bipartite, Acyclic<Gamma>, Gamma>::new(Bipartite::new(), Acyclic::new());
-    assert!(rt; marks_as(rt.alloc(), &both, ["48", "54"], 7)?, "as by hand");
+    let (first, second) = (Bipartite::<Gamma>::new(), Acyclic::<Gamma>::new());
+    assert!(rt;
+        both_mark_as(rt.alloc(), first, second, ["48", "54"], 7)?,
+        "as by hand"
+    );
     Ok(())
 }
 
 #[test]
 fn a_disjunction_of_a_conjunction_is_marked(rt: HostRuntime) -> Result<(), Fail> {
-    let both = Both::<Bipartite, Acyclic<Gamma>, Gamma>::new(Bipartite::new(), Acyclic::new());
-    let one_of = OneOf::new(both, Tree::<Gamma>::new());
+    let (first, second) = (Bipartite::<Gamma>::new(), Acyclic::<Gamma>::new());
+    let third = Tree::<Gamma>::new();
     assert!(rt;
-        marks_as(rt.alloc(), &one_of, ["24", "2a"], 8)?,
+        one_of_both_marks_as(rt.alloc(), first, second, third, ["24", "2a"], 8)?,
         "behind the tag 0"
     );
     Ok(())
 }
 
-// Whether the expression marks two nodes with these labels, within this bound.
-fn text_marks_as(alloc: Global, text: &str, texts: [&str; 2], bound: u64) -> Result<bool, Fail> {
+// The scheme of a text.
+fn scheme_of(alloc: Global, text: &str) -> Result<AnyScheme<Gamma>, Fail> {
     match read_expression(alloc, text) {
-        Ok(tree) => marks_as(alloc, &AnyScheme::<Gamma>::new(tree), texts, bound),
+        Ok(tree) => Ok(AnyScheme::new(tree)),
         Err(_) => Err(Fail::from("not read")),
     }
+}
+
+// Whether the expression marks two nodes with these labels, within this bound.
+fn text_marks_as(alloc: Global, text: &str, texts: [&str; 2], bound: u64) -> Result<bool, Fail> {
+    marks_as(alloc, &scheme_of(alloc, text)?, texts, bound)
 }
 
 // Expressions, the labels of two nodes, and the bound.
@@ -89,16 +166,18 @@ fn expressions_mark_as_what_they_say(rt: HostRuntime) -> Result<(), Fail> {
     Ok(())
 }
 
+// Whether an expression is printed as this text.
+fn is_printed_as(alloc: Global, tree: &ExpressionTree, text: &str) -> Result<bool, NoMemory> {
+    Ok(print_expression(alloc, tree)?.as_str() == text)
+}
+
 // The refusal of a text, or `None` where it is read and printed as it was.
 fn refusal(alloc: Global, text: &str) -> Result<Option<SchemeError>, Fail> {
     match read_expression(alloc, text) {
-        Ok(tree) => {
-            let printed = print_expression(alloc, &tree)?;
-            if printed.as_bytes() != text.as_bytes() {
-                return Err(Fail::from("printed in another way"));
-            }
-            Ok(None)
-        }
+        Ok(tree) => match is_printed_as(alloc, &tree, text)? {
+            true => Ok(None),
+            false => Err(Fail::from("printed in another way")),
+        },
         Err(error) => Ok(Some(error)),
     }
 }
@@ -157,29 +236,81 @@ fn texts_are_read_and_printed_or_refused(rt: HostRuntime) -> Result<(), Fail> {
     Ok(())
 }
 
-// The verdict of the first of three nodes under these labels, each its length and its digits, in a
-// round, which is that on its view alone.
-fn first_verdict(alloc: Global, text: &str, labels: [&str; 3]) -> Result<Verdict, Fail> {
-    let net = joined(alloc, TRIANGLE)?;
-    let Ok(tree) = read_expression(alloc, text) else {
-        return Err(Fail::from("not read"));
-    };
-    let scheme = AnyScheme::<Gamma>::new(tree);
+// The labels of three nodes, each its length and its digits.
+fn labels_of(alloc: Global, net: &Network, labels: [&str; 3]) -> Result<LabelStore, Fail>
+    ensures { IfOk result (λ store. length store ≡ length net.now) }
+{
     let [first, second, third] = labels;
     let lines = format!(in alloc;
         "labels\nlabel 1 {first}\nlabel 2 {second}\nlabel 3 {third}\nend\n"
     )?;
-    let Ok((_, store)) = read_labels(alloc, lines.as_bytes(), &net) else {
-        return Err(Fail::from("labels refused"));
-    };
-    let verdicts = scheme.round(alloc, &net, &store, &mut Steps::new())?;
-    let view = View::of(alloc, &net, &store, 0)?;
-    let alone = scheme.verify(alloc, &view, &mut Steps::new())?;
-    match verdicts.first() {
-        Some(verdict) if *verdict == alone => Ok(alone),
-        Some(_) => Err(Fail::from("another verdict on the view alone")),
-        None => Err(Fail::from("no node")),
+    match read_labels(alloc, lines.as_bytes(), net) {
+        Ok((_, store)) => Ok(store),
+        Err(_) => Err(Fail::from("labels refused")),
     }
+}
+
+// The verdict of the first node in a round.
+fn verdict_in_round<K: Checker>(
+    alloc: Global,
+    checker: &K,
+    net: &Network,
+    labels: &LabelStore,
+) -> Result<Option<Verdict>, NoMemory>
+    requires { length labels.now ≡ length net.now }
+{
+    let verdicts = checker.round(alloc, net, labels, &mut Steps::new())?;
+    Ok(verdicts.first().copied())
+}
+
+// The verdict of the first node on its view alone.
+fn verdict_alone<K: Checker>(
+    alloc: Global,
+    checker: &K,
+    net: &Network,
+    labels: &LabelStore,
+) -> Result<Verdict, NoMemory>
+    requires each { length labels.now ≡ length net.now }
+    requires some { 0 < length net.now }
+{
+    let view = View::of(alloc, net, labels, 0)?;
+    checker.verify(alloc, &view, &mut Steps::new())
+}
+
+// The verdict of the first node in a round, which is that on its view alone.
+fn verdict<K: Checker>(
+    alloc: Global,
+    checker: &K,
+    net: &Network,
+    labels: &LabelStore,
+) -> Result<Verdict, Fail>
+    requires { length labels.now ≡ length net.now }
+{
+    if net.len() == 0 {
+        return Err(Fail::from("no node"));
+    }
+    let verdict = verdict_alone(alloc, checker, net, labels)?;
+    if verdict_in_round(alloc, checker, net, labels)? == Some(verdict) {
+        Ok(verdict)
+    } else {
+        Err(Fail::from("another verdict on the view alone"))
+    }
+}
+
+// That verdict on the first of three nodes under these labels.
+fn first_verdict<K: Checker>(
+    alloc: Global,
+    checker: &K,
+    labels: [&str; 3],
+) -> Result<Verdict, Fail> {
+    let net = joined(alloc, TRIANGLE)?;
+    let store = labels_of(alloc, &net, labels)?;
+    verdict(alloc, checker, &net, &store)
+}
+
+// The same by the scheme of a text.
+fn verdict_of_text(alloc: Global, text: &str, labels: [&str; 3]) -> Result<Verdict, Fail> {
+    first_verdict(alloc, &scheme_of(alloc, text)?, labels)
 }
 
 // The labels of three nodes, and the leaf and the rule by which the first rejects a disjunction.
@@ -208,7 +339,7 @@ fn rejections_name_the_leaf(rt: HostRuntime) -> Result<(), Fail> {
     for (text, rows) in [(one_of, REJECTED), (both, BOTH_REJECTED)] {
         for (labels, leaf, rule) in rows {
             let (leaf, rule) = (*leaf, *rule);
-            let verdict = first_verdict(rt.alloc(), text, *labels)?;
+            let verdict = verdict_of_text(rt.alloc(), text, *labels)?;
             let due = Verdict::Reject { leaf, rule };
             assert!(rt; verdict == due, "{text}: leaf {leaf}, rule {rule}");
         }

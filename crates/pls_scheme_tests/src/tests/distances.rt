@@ -61,18 +61,31 @@ fn says(
     Ok(label == Some(SptLabel { root, depth, dist }))
 }
 
+// The same of the label of the chain.
+fn chain_says(alloc: Global, place: usize, depth: u64, dist: u64) -> Result<bool, Fail> {
+    match marked(alloc, CHAIN)? {
+        Some(labels) => Ok(says(alloc, &labels, place, depth, dist)?),
+        None => Err(Fail::from("not marked")),
+    }
+}
+
 // The bound of the labels of a network.
 fn bound(alloc: Global, text: &str) -> Result<u64, Fail> {
     let net = network(alloc, text)?;
     Ok(Spt::<Gamma>::new().bound(&net.size()))
 }
 
+// The depths of the nodes of the chain, and their distances.
+const WEIGHTS: &[(u64, u64)] = &[(0, 0), (1, 1), (2, 3)];
+
 #[test]
 fn a_chain_is_marked_with_its_weights(rt: HostRuntime) -> Result<(), Fail> {
-    let labels = marked(rt.alloc(), CHAIN)?.ok_or("not marked")?;
-    assert!(rt; says(rt.alloc(), &labels, 0, 0, 0)?, "the root");
-    assert!(rt; says(rt.alloc(), &labels, 1, 1, 1)?, "node 2");
-    assert!(rt; says(rt.alloc(), &labels, 2, 2, 3)?, "node 3");
+    for (place, (depth, dist)) in WEIGHTS.iter().enumerate() {
+        assert!(rt;
+            chain_says(rt.alloc(), place, *depth, *dist)?,
+            "place {place}"
+        );
+    }
     // The codes of the greatest identity 3, of 3 nodes, and of 3 times the greatest weight 2.
     assert!(rt; bound(rt.alloc(), CHAIN)? == 5 + 5 + 5, "bound");
     Ok(())

@@ -1,6 +1,6 @@
 //! Checkers that are made of others and nested in each other, and a scheme of these tests' own.
 
-ghost use Rattle.std.specs.Prelude.{◌+◌, ◌≤◌, IfOk};
+ghost use Rattle.std.specs.Prelude.{◌≡◌, ◌+◌, ◌≤◌, IfOk, length};
 ghost use Rattle.pls_model.specs.Walk.{IsConnected};
 
 use super::joined;
@@ -82,49 +82,58 @@ fn accepts<V: Checker>(
     checker: &V,
     net: &Network,
     labels: &LabelStore,
-) -> Result<(bool, u64), NoMemory> {
+) -> Result<(bool, u64), NoMemory>
+    requires { length labels.now ≡ length net.now }
+{
     let mut steps = Steps::new();
-    if labels.len() != net.len() {
-        return Ok((false, 0));
-    }
     let accepted = are_accepted(alloc, checker, net, labels, &mut steps)?;
     Ok((accepted, steps.number()))
 }
 
-// The labels of a tree.
-fn tree_labels(alloc: Global, net: &Network) -> Result<LabelStore, Fail>
+// The same of the labels of a tree.
+fn accepts_tree<V: Checker>(alloc: Global, checker: &V, net: &Network) -> Result<(bool, u64), Fail>
     requires { IsConnected net.now }
 {
     match Tree::<Gamma>::new().mark(alloc, net)? {
-        Some(labels) => Ok(labels),
+        Some(labels) => Ok(accepts(alloc, checker, net, &labels)?),
         None => Err(Fail::from("no tree")),
     }
 }
 
+// The same of three nodes in a row.
+fn accepts_row<V: Checker>(alloc: Global, checker: &V) -> Result<(bool, u64), Fail> {
+    accepts_tree(alloc, checker, &row(alloc, [0, 0, 0])?)
+}
+
+// The same by a pair of a pair and a third checker.
+fn pairs_accept<A: Checker + Drop, B: Checker + Drop, C: Checker + Drop>(
+    alloc: Global,
+    first: A,
+    second: B,
+    third: C,
+) -> Result<(bool, u64), Fail>
+    requires { A.leaves first + B.leaves second + C.leaves third ≤ 8 }
+{
+    let pair = Pair { first, second };
+    let pairs = Pair {
+        first: pair,
+        second: third,
+    };
+    accepts_row(alloc, &pairs)
+}
+
 #[test]
 fn pairs_of_pairs_judge(rt: HostRuntime) -> Result<(), Fail> {
-    let net = row(rt.alloc(), [0, 0, 0])?;
-    let labels = tree_labels(rt.alloc(), &net)?;
-    let trees = Pair {
-        first: Pair {
-            first: Tree::<Gamma>::new(),
-            second: Tree::<Gamma>::new(),
-        },
+    let (first, second) = (Tree::<Gamma>::new(), Tree::<Gamma>::new());
+    let third = Tree::<Gamma>::new();
+    let trees = pairs_accept(rt.alloc(), first, second, third)?;
+    assert!(rt; trees == (true, 3), "trees, and one step a node");
+    let (first, second) = (Tree::<Gamma>::new(), Forest::<Gamma>::new());
+    let third = Pair {
+        first: Tree::<Gamma>::new(),
         second: Tree::<Gamma>::new(),
     };
-    let mixed = Pair {
-        first: Pair {
-            first: Tree::<Gamma>::new(),
-            second: Forest::<Gamma>::new(),
-        },
-        second: Pair {
-            first: Tree::<Gamma>::new(),
-            second: Tree::<Gamma>::new(),
-        },
-    };
-    let trees = accepts(rt.alloc(), &trees, &net, &labels)?;
-    assert!(rt; trees == (true, 3), "trees, and one step a node");
-    let mixed = accepts(rt.alloc(), &mixed, &net, &labels)?;
+    let mixed = pairs_accept(rt.alloc(), first, second, third)?;
     assert!(rt; mixed == (false, 3), "a forest too");
     Ok(())
 }

@@ -1,38 +1,65 @@
 //! Labels of spanning trees of least weight, of small networks.
 
+ghost use Rattle.std.specs.Prelude.{◌≡◌, length};
+ghost use Rattle.pls_model.specs.Walk.{IsConnected};
+
 use super::{ALONE, HEAVY, RING, TRIANGLE, joined};
 use pls_base::{NoMemory, Steps};
-use pls_bits::{Gamma, from_hex};
+use pls_bits::{BitBuf, Bits, Gamma, from_hex};
+use pls_graph::Network;
 use pls_mst::Mst;
 use pls_scheme::{Scheme, certifies};
 use pls_view::LabelStore;
 use std::alloc::Global;
 use std::test::Fail;
 
-// The marked labels as text, bits and digits, and a bar behind each label.
+// A label as text: its bits and digits, and a bar.
+fn label_text(alloc: Global, bits: Bits<'_>) -> Result<String, NoMemory> {
+    let digits = bits.to_hex(alloc)?;
+    Ok(format!(in alloc; "{} {}|", bits.len(), digits.as_str())?)
+}
+
+// Puts each label behind a text.
+fn put_labels(alloc: Global, text: &mut String, labels: &LabelStore) -> Result<(), NoMemory> {
+    for i in 0..labels.len() {
+        text.push_str(label_text(alloc, labels.bits(i))?.as_str())?;
+    }
+    Ok(())
+}
+
+// The labels as text.
 fn text_of(alloc: Global, labels: &LabelStore) -> Result<String, NoMemory> {
     let mut text = String::new(alloc);
-    for i in 0..labels.len() {
-        let bits = labels.bits(i);
-        let digits = bits.to_hex(alloc)?;
-        let part = format!(in alloc; "{} {}|", bits.len(), digits.as_str())?;
-        text.push_str(&part)?;
-    }
+    put_labels(alloc, &mut text, labels)?;
     Ok(text)
 }
 
-// The marked labels of a connected network, if all its nodes accept them, and `no` where it is not
-// marked.
-fn marked(alloc: Global, text: &str) -> Result<String, Fail> {
+// The labels as text, if all nodes accept them.
+fn certified(alloc: Global, net: &Network, labels: &LabelStore) -> Result<String, Fail>
+    requires connected { IsConnected net.now }
+    requires each { length labels.now ≡ length net.now }
+{
     let scheme = Mst::<Gamma>::new();
-    let net = joined(alloc, text)?;
-    let Some(labels) = scheme.mark(alloc, &net)? else {
-        return Ok(format!(in alloc; "no")?);
-    };
-    if !certifies(alloc, &scheme, &net, &labels, &mut Steps::new())? {
-        return Err(Fail::from("rejected"));
+    if certifies(alloc, &scheme, net, labels, &mut Steps::new())? {
+        Ok(text_of(alloc, labels)?)
+    } else {
+        Err(Fail::from("rejected"))
     }
-    Ok(text_of(alloc, &labels)?)
+}
+
+// The marked labels as text, if all nodes accept them, and `no` where the network is not marked.
+fn marked_on(alloc: Global, net: &Network) -> Result<String, Fail>
+    requires { IsConnected net.now }
+{
+    match Mst::<Gamma>::new().mark(alloc, net)? {
+        Some(labels) => certified(alloc, net, &labels),
+        None => Ok(format!(in alloc; "no")?),
+    }
+}
+
+// The same of the connected network of a text.
+fn marked(alloc: Global, text: &str) -> Result<String, Fail> {
+    marked_on(alloc, &joined(alloc, text)?)
 }
 
 // Networks, and their labels.
@@ -57,12 +84,9 @@ fn marked_labels_are_those_of_small_networks(rt: HostRuntime) -> Result<(), Fail
     Ok(())
 }
 
-// Whether these digits are a label, which is then written as it was.
-fn is_label(alloc: Global, len: usize, digits: &str) -> Result<bool, Fail> {
+// Whether bits are a label, which is then written as it was.
+fn is_label(alloc: Global, bits: &BitBuf) -> Result<bool, Fail> {
     let scheme = Mst::<Gamma>::new();
-    let Ok(bits) = from_hex(alloc, len, digits.as_bytes()) else {
-        return Err(Fail::from("other digits"));
-    };
     let Some(label) = scheme.read_label(alloc, bits.bits())? else {
         return Ok(false);
     };
@@ -70,6 +94,14 @@ fn is_label(alloc: Global, len: usize, digits: &str) -> Result<bool, Fail> {
         Ok(true)
     } else {
         Err(Fail::from("written otherwise"))
+    }
+}
+
+// The same of so many bits with these digits.
+fn are_label(alloc: Global, len: usize, digits: &str) -> Result<bool, Fail> {
+    match from_hex(alloc, len, digits.as_bytes()) {
+        Ok(bits) => is_label(alloc, &bits),
+        Err(_) => Err(Fail::from("other digits")),
     }
 }
 
@@ -88,7 +120,7 @@ const LABELS: &[(usize, &str, bool)] = &[
 fn labels_are_read_and_written_again(rt: HostRuntime) -> Result<(), Fail> {
     for (len, digits, due) in LABELS {
         assert!(rt;
-            is_label(rt.alloc(), *len, digits)? == *due,
+            are_label(rt.alloc(), *len, digits)? == *due,
             "{len} bits {digits}"
         );
     }
