@@ -76,11 +76,11 @@ fn bound(alloc: Global, text: &str) -> Result<u64, Fail> {
 }
 
 // The depths of the nodes of the chain, and their distances.
-const WEIGHTS: &[(u64, u64)] = &[(0, 0), (1, 1), (2, 3)];
+const DISTANCES: &[(u64, u64)] = &[(0, 0), (1, 1), (2, 3)];
 
 #[test]
 fn a_chain_is_marked_with_its_weights(rt: HostRuntime) -> Result<(), Fail> {
-    for (place, (depth, dist)) in WEIGHTS.iter().enumerate() {
+    for (place, (depth, dist)) in DISTANCES.iter().enumerate() {
         assert!(rt;
             chain_says(rt.alloc(), place, *depth, *dist)?,
             "place {place}"
