@@ -1,6 +1,6 @@
 //! Tests of the rule language, one file a subject.
 
-ghost use Rattle.std.specs.Prelude.{IfOk};
+ghost use Rattle.std.specs.Prelude.{◌≡◌, ◌<◌, IfOk, length};
 ghost use Rattle.pls_rules.specs.HeldTrees.{set_of};
 ghost use Rattle.pls_rules.specs.RuleSet.{AreRules};
 
@@ -13,9 +13,13 @@ mod rules_parts;
 mod steps;
 mod verdicts;
 
+use pls_base::{NoMemory, Steps};
+use pls_graph::Network;
 use pls_rules::{Field, FieldKind, Name, RuleSet};
 use pls_rules_part::read_rules;
-use std::alloc::Global;
+use pls_scheme::{Checker, Verdict};
+use pls_view::{LabelStore, View};
+use std::alloc::{AllocError, Global};
 use std::test::Fail;
 
 // Numbers that fields with these names hold.
@@ -29,14 +33,12 @@ fn number_fields(alloc: Global, names: &[&str]) -> Result<Vec<Field>, Fail> {
     Ok(fields)
 }
 
-// A piece so many times, and what follows.
-fn repeated(alloc: Global, piece: &str, count: u32, rest: &str) -> Result<String, Fail> {
-    let mut text = String::new(alloc);
+// Writes a piece so many times, and what follows.
+fn repeat(text: &mut String, piece: &str, count: u32, rest: &str) -> Result<(), AllocError> {
     for _ in 0..count {
         text.push_str(piece)?;
     }
-    text.push_str(rest)?;
-    Ok(text)
+    text.push_str(rest)
 }
 
 // The rule set of a text.
@@ -47,4 +49,19 @@ fn read_set(alloc: Global, text: &str) -> Result<RuleSet, Fail>
         Ok(set) => Ok(set),
         Err(_) => Err(Fail::from("no rule set")),
     }
+}
+
+// The verdict of a node on its view of these labels.
+fn verdict_at<S: Checker>(
+    alloc: Global,
+    checker: &S,
+    net: &Network,
+    labels: &LabelStore,
+    i: usize,
+) -> Result<Verdict, NoMemory>
+    requires each { length labels.now ≡ length net.now }
+    requires within { i < length net.now }
+{
+    let view = View::of(alloc, net, labels, i)?;
+    checker.verify(alloc, &view, &mut Steps::new())
 }

@@ -2,7 +2,9 @@
 
 use super::read_set;
 use pls_builtin::builtin;
+use pls_rules::RuleSet;
 use pls_rules_part::print_rules;
+use std::alloc::Global;
 use std::test::Fail;
 
 // The sets that have names, and their texts.
@@ -60,20 +62,40 @@ const SETS: &[(&str, &str)] = &[
     ),
 ];
 
+// Names of no set.
+const OTHERS: &[&str] = &["mst", "map", "Leader", "leaders", ""];
+
+// Whether a name is that of a set.
+fn has_set(alloc: Global, name: &str) -> Result<bool, Fail> {
+    Ok(builtin(alloc, name)?.is_some())
+}
+
+// Whether a set is printed as a text.
+fn is_printed(alloc: Global, set: &RuleSet, text: &str) -> Result<bool, Fail> {
+    Ok(print_rules(alloc, set)?.as_slice() == text.as_bytes())
+}
+
+// Whether the set of a name is.
+fn is_text_of(alloc: Global, name: &str, text: &str) -> Result<bool, Fail> {
+    match builtin(alloc, name)? {
+        Some(set) => is_printed(alloc, &set, text),
+        None => Err(Fail::from("no set")),
+    }
+}
+
+// Whether the set that is read from a text is.
+fn is_read(alloc: Global, text: &str) -> Result<bool, Fail> {
+    is_printed(alloc, &read_set(alloc, text)?, text)
+}
+
 #[test]
 fn sets_with_names_are_printed_and_read(rt: HostRuntime) -> Result<(), Fail> {
     for (name, text) in SETS {
-        let Some(set) = builtin(rt.alloc(), name)? else {
-            return Err(Fail::from("no set"));
-        };
-        let printed = print_rules(rt.alloc(), &set)?;
-        assert!(rt; printed.as_slice() == text.as_bytes(), "{name}");
-        let read = read_set(rt.alloc(), text)?;
-        let again = print_rules(rt.alloc(), &read)?;
-        assert!(rt; again.as_slice() == text.as_bytes(), "{name} is read");
+        assert!(rt; is_text_of(rt.alloc(), name, text)?, "{name}");
+        assert!(rt; is_read(rt.alloc(), text)?, "{name} is read");
     }
-    for name in ["mst", "map", "Leader", "leaders", ""] {
-        assert!(rt; builtin(rt.alloc(), name)?.is_none(), "{name} has a set");
+    for name in OTHERS {
+        assert!(rt; !has_set(rt.alloc(), name)?, "{name} has a set");
     }
     Ok(())
 }

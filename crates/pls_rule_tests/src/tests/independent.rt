@@ -1,14 +1,16 @@
 //! A rule set that has no name, on small networks, against a plain program: no two of the chosen
 //! nodes are neighbours, and each other node has a neighbour that is chosen.
 
+ghost use Rattle.std.specs.Prelude.{◌≡◌, length};
+
 use super::networks::networks;
-use super::read_set;
+use super::{read_set, verdict_at};
 use pls_base::Steps;
 use pls_bits::BitBuf;
 use pls_compile::RuleChecker;
 use pls_graph::Network;
 use pls_scheme::{Checker, Verdict};
-use pls_view::{LabelStore, View};
+use pls_view::LabelStore;
 use std::alloc::Global;
 use std::test::Fail;
 
@@ -41,13 +43,19 @@ fn label_of(alloc: Global, kind: u32) -> Result<BitBuf, Fail> {
 // The labels that a choice says.
 fn labels_of(alloc: Global, nodes: usize, choice: u32) -> Result<LabelStore, Fail> {
     let mut labels = LabelStore::blank(alloc, nodes)?;
+    put_choice(alloc, &mut labels, choice)?;
+    Ok(labels)
+}
+
+// Puts them in place of others.
+fn put_choice(alloc: Global, labels: &mut LabelStore, choice: u32) -> Result<(), Fail> {
     for node in 0..4_u32 {
         let i = node as usize;
         if i < labels.len() {
             labels.replace(i, &label_of(alloc, kind_of(choice, node))?)?;
         }
     }
-    Ok(labels)
+    Ok(())
 }
 
 // The rule by which a node rejects, 0 for none: its own label is one bit, and each neighbour's; no
@@ -76,25 +84,38 @@ fn verdict_of(rule: u8) -> Verdict {
     }
 }
 
-// How many nodes accept a choice, where all are judged as they should be, in the round and view by
-// view.
-fn accepting(
+// How many nodes accept the labels of a choice, where all are judged as they should be, in the round
+// and view by view.
+fn accepting<S: Checker>(
     alloc: Global,
-    checker: &RuleChecker,
+    checker: &S,
     net: &Network,
     choice: u32,
+    labels: &LabelStore,
 ) -> Result<u32, Fail> {
-    let labels = labels_of(alloc, net.len(), choice)?;
     if labels.len() != net.len() {
         return Err(Fail::from("not one label a node"));
     }
-    let found = checker.round(alloc, net, &labels, &mut Steps::new())?;
+    let verdicts = checker.round(alloc, net, labels, &mut Steps::new())?;
+    accepting_as(alloc, checker, net, choice, labels, verdicts.as_slice())
+}
+
+// The same, where these are the verdicts of the round.
+fn accepting_as<S: Checker>(
+    alloc: Global,
+    checker: &S,
+    net: &Network,
+    choice: u32,
+    labels: &LabelStore,
+    verdicts: &[Verdict],
+) -> Result<u32, Fail>
+    requires { length labels.now ≡ length net.now }
+{
     let mut count = 0_u32;
     for i in 0..net.len() {
         let due = verdict_of(due_rule(net, choice, i));
-        let view = View::of(alloc, net, &labels, i)?;
-        let verdict = checker.verify(alloc, &view, &mut Steps::new())?;
-        if found.get(i) != Some(&due) || verdict != due {
+        let verdict = verdict_at(alloc, checker, net, labels, i)?;
+        if verdicts.get(i) != Some(&due) || verdict != due {
             return Err(Fail::from("judged otherwise"));
         }
         count = count.saturating_add(u32::from(due == Verdict::Accept));
@@ -102,18 +123,34 @@ fn accepting(
     Ok(count)
 }
 
-#[test]
-fn independent_sets_are_judged(rt: HostRuntime) -> Result<(), Fail> {
-    let alloc = rt.alloc();
-    let checker = RuleChecker::new(alloc, read_set(alloc, INDEPENDENT)?)?;
+// How many choices on these networks all nodes accept.
+fn count_whole<S: Checker>(alloc: Global, checker: &S, nets: &[Network]) -> Result<u32, Fail> {
     let mut whole = 0_u32;
-    for net in &networks(alloc)? {
+    for net in nets {
         let choices = 1_u32.wrapping_shl((net.len() as u32).wrapping_mul(2));
         for choice in 0..choices {
-            let count = accepting(alloc, &checker, net, choice)?;
+            let labels = labels_of(alloc, net.len(), choice)?;
+            let count = accepting(alloc, checker, net, choice, &labels)?;
             whole = whole.saturating_add(u32::from(count as usize == net.len()));
         }
     }
+    Ok(whole)
+}
+
+// The same of all networks.
+fn count_on_networks<S: Checker>(alloc: Global, checker: &S) -> Result<u32, Fail> {
+    count_whole(alloc, checker, networks(alloc)?.as_slice())
+}
+
+// The same of the set of a text.
+fn count_by_set(alloc: Global, text: &str) -> Result<u32, Fail> {
+    let checker = RuleChecker::new(alloc, read_set(alloc, text)?)?;
+    count_on_networks(alloc, &checker)
+}
+
+#[test]
+fn independent_sets_are_judged(rt: HostRuntime) -> Result<(), Fail> {
+    let whole = count_by_set(rt.alloc(), INDEPENDENT)?;
     assert!(rt; whole == 2764, "choices that all accept: {whole}");
     Ok(())
 }

@@ -1,8 +1,14 @@
 //! Code as it is listed.
 
+ghost use Rattle.pls_rules.specs.HeldTrees.{set_of};
+ghost use Rattle.pls_rules.specs.RuleSet.{AreRules};
+
 use super::read_set;
+use pls_base::NoMemory;
 use pls_builtin::builtin;
 use pls_compile::{compile, listing};
+use pls_rules::RuleSet;
+use std::alloc::Global;
 use std::test::Fail;
 
 // The code of the set `bipartite`.
@@ -30,18 +36,31 @@ const LISTED: &[(&str, &str)] = &[
     ),
 ];
 
+// Whether the code of a set is listed so.
+fn is_listed(alloc: Global, set: &RuleSet, due: &str) -> Result<bool, NoMemory>
+    requires { AreRules (set_of set.now) }
+{
+    let code = compile(alloc, set)?;
+    Ok(listing(alloc, &code)?.as_slice() == due.as_bytes())
+}
+
+// Whether the code of the set of a name is.
+fn is_code_of(alloc: Global, name: &str, due: &str) -> Result<bool, Fail> {
+    match builtin(alloc, name)? {
+        Some(set) => Ok(is_listed(alloc, &set, due)?),
+        None => Err(Fail::from("no set")),
+    }
+}
+
 #[test]
 fn code_is_listed(rt: HostRuntime) -> Result<(), Fail> {
-    let alloc = rt.alloc();
-    let Some(set) = builtin(alloc, "bipartite")? else {
-        return Err(Fail::from("no set"));
-    };
-    let found = listing(alloc, &compile(alloc, &set)?)?;
-    assert!(rt; found.as_slice() == BIPARTITE.as_bytes(), "bipartite");
+    assert!(rt;
+        is_code_of(rt.alloc(), "bipartite", BIPARTITE)?,
+        "bipartite"
+    );
     for (text, due) in LISTED {
-        let set = read_set(alloc, text)?;
-        let found = listing(alloc, &compile(alloc, &set)?)?;
-        assert!(rt; found.as_slice() == due.as_bytes(), "{text}");
+        let set = read_set(rt.alloc(), text)?;
+        assert!(rt; is_listed(rt.alloc(), &set, due)?, "{text}");
     }
     Ok(())
 }

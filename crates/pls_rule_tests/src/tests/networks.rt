@@ -2,7 +2,7 @@
 
 use pls_graph::Network;
 use pls_netfile::read_network;
-use std::alloc::Global;
+use std::alloc::{AllocError, Global};
 use std::test::Fail;
 
 // A network of up to four nodes, 0 to 3: its edges, one bit a pair of nodes; for each node two bits
@@ -40,47 +40,54 @@ fn weight(edges: u32, a: u32, b: u32) -> Option<u32> {
 }
 
 impl Plan {
-    // The text of the network, or `None` where some pointer is no port's.
-    fn text(self, alloc: Global) -> Result<Option<String>, Fail> {
-        let mut text = String::from_str(alloc, "network\n")?;
-        for node in 0..self.nodes.min(4) {
-            let mut ports = String::new(alloc);
-            let mut degree = 0_u32;
-            for nbr in 0..self.nodes.min(4) {
-                if let Some(weight) = weight(self.edges, node, nbr) {
-                    ports.push_str(format!(in alloc; "port {nbr} {weight}\n")?.as_str())?;
-                    degree = degree.saturating_add(1);
-                }
-            }
-            let pointer = above(self.pointers, node.saturating_mul(2)) & 3;
-            if pointer > degree {
-                return Ok(None);
-            }
-            text.push_str(self.line(alloc, node, pointer)?.as_str())?;
-            text.push_str(ports.as_str())?;
-        }
-        text.push_str("end\n")?;
-        Ok(Some(text))
+    // The pointer of a node.
+    fn pointer(self, node: u32) -> u32 {
+        above(self.pointers, node.saturating_mul(2)) & 3
     }
 
-    // The line of a node.
-    fn line(self, alloc: Global, node: u32, pointer: u32) -> Result<String, Fail> {
-        let mark = above(self.marks, node) & 1;
-        let number = if mark == 1 { self.nodes } else { 0 };
-        Ok(match pointer {
-            0 => format!(in alloc; "node {node} - {mark} {number}\n")?,
-            up => format!(in alloc; "node {node} {} {mark} {number}\n", up - 1)?,
+    // Whether each pointer is a port's.
+    fn is_proper(self) -> bool {
+        let nodes = self.nodes.min(4);
+        (0..nodes).all(|node| {
+            let mut degree = 0_u32;
+            for nbr in 0..nodes {
+                degree = degree.saturating_add(u32::from(weight(self.edges, node, nbr).is_some()));
+            }
+            self.pointer(node) <= degree
         })
     }
 
+    // Writes the line of a node behind a text.
+    fn write_node(self, text: &mut String, node: u32) -> Result<(), AllocError> {
+        let mark = above(self.marks, node) & 1;
+        let number = if mark == 1 { self.nodes } else { 0 };
+        match self.pointer(node) {
+            0 => write!(text, "node {node} - {mark} {number}\n"),
+            up => write!(text, "node {node} {} {mark} {number}\n", up - 1),
+        }
+    }
+
+    // Writes the text of the network behind another.
+    fn write(self, text: &mut String) -> Result<(), AllocError> {
+        text.push_str("network\n")?;
+        for node in 0..self.nodes.min(4) {
+            self.write_node(text, node)?;
+            for nbr in 0..self.nodes.min(4) {
+                if let Some(weight) = weight(self.edges, node, nbr) {
+                    write!(text, "port {nbr} {weight}\n")?;
+                }
+            }
+        }
+        text.push_str("end\n")
+    }
+
     // The network, where each pointer is a port's.
-    fn network(self, alloc: Global) -> Result<Option<Network>, Fail> {
-        match self.text(alloc)? {
-            None => Ok(None),
-            Some(text) => match read_network(alloc, text.as_str().as_bytes()) {
-                Ok(net) => Ok(Some(net)),
-                Err(_) => Err(Fail::from("refused")),
-            },
+    fn network(self, alloc: Global) -> Result<Network, Fail> {
+        let mut text = String::new(alloc);
+        self.write(&mut text)?;
+        match read_network(alloc, text.as_str().as_bytes()) {
+            Ok(net) => Ok(net),
+            Err(_) => Err(Fail::from("refused")),
         }
     }
 }
@@ -97,6 +104,12 @@ const CHOICES: &[(u32, u32, u32, u32)] = &[
 // set of edges and each choice of pointers has one choice of marks, and one in seven is taken.
 pub(super) fn networks(alloc: Global) -> Result<Vec<Network>, Fail> {
     let mut nets = Vec::new(alloc);
+    put_networks(alloc, &mut nets)?;
+    Ok(nets)
+}
+
+// Puts them behind others.
+fn put_networks(alloc: Global, nets: &mut Vec<Network>) -> Result<(), Fail> {
     for (nodes, sets, choices, most) in CHOICES {
         let (nodes, step) = (*nodes, if *nodes == 4 { 7 } else { 1 });
         for number in 0..sets.saturating_mul(*choices) {
@@ -110,11 +123,11 @@ pub(super) fn networks(alloc: Global) -> Result<Vec<Network>, Fail> {
                     marks,
                 };
                 let is_taken = step == 1 || number % 7 == 0 && marks == number / 7 % 16;
-                if is_taken && let Some(net) = plan.network(alloc)? {
-                    nets.push(net)?;
+                if is_taken && plan.is_proper() {
+                    nets.push(plan.network(alloc)?)?;
                 }
             }
         }
     }
-    Ok(nets)
+    Ok(())
 }

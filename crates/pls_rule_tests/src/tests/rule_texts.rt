@@ -1,8 +1,9 @@
 //! Texts that are rules and texts that are none, what refuses a rule, and rules that are printed as
 //! they were read.
 
-use super::{number_fields, repeated};
+use super::{number_fields, repeat};
 use pls_rule_text::{RuleError, is_rule_text, print_rule, read_rule};
+use pls_rules::{BoolExpr, Field};
 use std::alloc::Global;
 use std::test::Fail;
 
@@ -87,32 +88,56 @@ const OTHERS: &[&str] = &[
     "xor(eq(id,0),eq(id,0))",
 ];
 
-// The number by which a rule is refused, 0 for none, where what is read is printed as it was.
-fn number_of(alloc: Global, text: &str) -> Result<u8, Fail> {
-    let fields = number_fields(alloc, NAMES)?;
+// 0 where a rule over these fields is printed as this text.
+fn number_if_printed(
+    alloc: Global,
+    fields: &[Field],
+    rule: &BoolExpr,
+    text: &str,
+) -> Result<u8, Fail> {
+    let mut printed = String::new(alloc);
+    print_rule(&mut printed, fields, rule)?;
+    if printed.as_str() == text {
+        Ok(0)
+    } else {
+        Err(Fail::from("printed otherwise"))
+    }
+}
+
+// The number by which a rule over these fields is refused, 0 for none, where what is read is printed
+// as it was.
+fn number_over(alloc: Global, fields: &[Field], text: &str) -> Result<u8, Fail> {
     if fields.len() > 8 || !is_rule_text(text.as_bytes()) {
         return Err(Fail::from("no rule"));
     }
-    match read_rule(alloc, fields.as_slice(), text.as_bytes()) {
-        Ok(rule) => {
-            let mut printed = String::new(alloc);
-            print_rule(&mut printed, fields.as_slice(), &rule)?;
-            if printed.as_str() == text {
-                Ok(0)
-            } else {
-                Err(Fail::from("printed otherwise"))
-            }
-        }
+    match read_rule(alloc, fields, text.as_bytes()) {
+        Ok(rule) => number_if_printed(alloc, fields, &rule, text),
         Err(RuleError::Refused(number)) => Ok(number),
         Err(RuleError::NoMemory) => Err(Fail::from("no memory")),
+    }
+}
+
+// The same over the fields of these tests.
+fn number_of(alloc: Global, text: &str) -> Result<u8, Fail> {
+    number_over(alloc, number_fields(alloc, NAMES)?.as_slice(), text)
+}
+
+// The number by which a rule is refused, 0 for none, and `None` where the text is no rule.
+fn number_if_rule(alloc: Global, text: &str) -> Result<Option<u8>, Fail> {
+    if is_rule_text(text.as_bytes()) {
+        Ok(Some(number_of(alloc, text)?))
+    } else {
+        Ok(None)
     }
 }
 
 #[test]
 fn rules_are_read_and_printed(rt: HostRuntime) -> Result<(), Fail> {
     for (text, number) in RULES {
-        assert!(rt; is_rule_text(text.as_bytes()), "{text} is a rule");
-        assert!(rt; number_of(rt.alloc(), text)? == *number, "{text}");
+        assert!(rt;
+            number_if_rule(rt.alloc(), text)? == Some(*number),
+            "{text}"
+        );
     }
     for text in OTHERS {
         assert!(rt; !is_rule_text(text.as_bytes()), "{text} is no rule");
@@ -148,19 +173,24 @@ const DEEP: &[(&str, &str, u32, &str, Option<u8>)] = &[
     ("", "()", 2048, "", None),
 ];
 
+// The number by which the rule of a text in parts is refused, 0 for none, and `None` where it is none.
+fn deep_number(
+    alloc: Global,
+    front: &str,
+    piece: &str,
+    count: u32,
+    rest: &str,
+) -> Result<Option<u8>, Fail> {
+    let mut text = String::from_str(alloc, front)?;
+    repeat(&mut text, piece, count, rest)?;
+    number_if_rule(alloc, text.as_str())
+}
+
 #[test]
 fn depth_is_counted_from_the_front(rt: HostRuntime) -> Result<(), Fail> {
     for (front, piece, count, rest, number) in DEEP {
-        let mut text = String::from_str(rt.alloc(), front)?;
-        text.push_str(repeated(rt.alloc(), piece, *count, rest)?.as_str())?;
-        let is_rule = is_rule_text(text.as_str().as_bytes());
-        assert!(rt; is_rule == number.is_some(), "{front}, {count} {piece}");
-        if let Some(number) = number {
-            assert!(rt;
-                number_of(rt.alloc(), text.as_str())? == *number,
-                "{front}, {count} {piece}"
-            );
-        }
+        let found = deep_number(rt.alloc(), front, piece, *count, rest)?;
+        assert!(rt; found == *number, "{front}, {count} {piece}");
     }
     Ok(())
 }
@@ -169,40 +199,52 @@ fn depth_is_counted_from_the_front(rt: HostRuntime) -> Result<(), Fail> {
 // is refused.
 const DENIED: &[(u32, u8)] = &[(0, 0), (29, 0), (30, 0), (31, 51), (32, 51)];
 
+// The number by which a rule that is denied so often is refused, 0 for none.
+fn denied_number(alloc: Global, count: u32) -> Result<u8, Fail> {
+    let mut text = String::new(alloc);
+    repeat(&mut text, "not(", count, "eq(id,0)")?;
+    repeat(&mut text, ")", count, "")?;
+    number_of(alloc, text.as_str())
+}
+
 #[test]
 fn rules_stand_at_most_31_deep(rt: HostRuntime) -> Result<(), Fail> {
     for (count, number) in DENIED {
-        let mut text = repeated(rt.alloc(), "not(", *count, "eq(id,0)")?;
-        text.push_str(repeated(rt.alloc(), ")", *count, "")?.as_str())?;
-        let found = number_of(rt.alloc(), text.as_str())?;
+        let found = denied_number(rt.alloc(), *count)?;
         assert!(rt; found == *number, "{count} times denied");
     }
     Ok(())
 }
 
+// A rule that is doubled so often: 113 characters after three times, and 3,833 after eight.
+fn doubled_rule(alloc: Global, turns: u32) -> Result<String, Fail> {
+    let mut rule = String::from_str(alloc, "eq(id,0)")?;
+    for _ in 0..turns {
+        rule = format!(in alloc; "both({rule},{rule})")?;
+    }
+    Ok(rule)
+}
+
 // A rule that is 4,087 characters and as many as the last number has.
 fn long_rule(alloc: Global, number: &str) -> Result<String, Fail> {
-    let mut rule = String::from_str(alloc, "eq(id,0)")?;
-    let mut end = format!(in alloc; "eq(id,{number})")?;
-    for turn in 0..9 {
-        // The fourth of these has 113 characters, and the ninth 3,833.
-        if turn == 3 {
-            end = format!(in alloc; "both({rule},both({rule},{end}))")?;
-        }
-        if turn < 8 {
-            rule = format!(in alloc; "both({rule},{rule})")?;
-        }
-    }
-    Ok(format!(in alloc; "both({rule},{end})")?)
+    let short = doubled_rule(alloc, 3)?;
+    let long = doubled_rule(alloc, 8)?;
+    let rule = format!(in alloc; "both({long},both({short},both({short},eq(id,{number}))))")?;
+    Ok(rule)
+}
+
+// How many characters it has, and the number by which it is refused, 0 for none, and `None` where it
+// is no rule.
+fn long_number(alloc: Global, number: &str) -> Result<(usize, Option<u8>), Fail> {
+    let rule = long_rule(alloc, number)?;
+    Ok((rule.len(), number_if_rule(alloc, rule.as_str())?))
 }
 
 #[test]
 fn rules_have_at_most_4096_characters(rt: HostRuntime) -> Result<(), Fail> {
-    let most = long_rule(rt.alloc(), "123456789")?;
-    assert!(rt; most.len() == 4096, "the length of the rule");
-    assert!(rt; number_of(rt.alloc(), most.as_str())? == 0, "is read");
-    let more = long_rule(rt.alloc(), "1234567890")?;
-    assert!(rt; more.len() == 4097, "the length of the other");
-    assert!(rt; !is_rule_text(more.as_str().as_bytes()), "is no rule");
+    let (length, found) = long_number(rt.alloc(), "123456789")?;
+    assert!(rt; length == 4096 && found == Some(0), "{length} are read");
+    let (length, found) = long_number(rt.alloc(), "1234567890")?;
+    assert!(rt; length == 4097 && found.is_none(), "{length} are no rule");
     Ok(())
 }

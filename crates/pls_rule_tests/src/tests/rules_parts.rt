@@ -1,10 +1,11 @@
 //! Rules parts: the first line that is not of the form, and the first that makes no sense.
 
-use super::repeated;
+use super::repeat;
 use pls_base::TextError;
 use pls_lines::Lines;
+use pls_rules::RuleSet;
 use pls_rules_part::{read_rules, scan_rules};
-use std::alloc::Global;
+use std::alloc::{AllocError, Global};
 use std::test::Fail;
 
 // Texts, and the first line that is not of the form.
@@ -103,14 +104,19 @@ const REFUSED: &[(&str, u8, u64)] = &[
     ),
 ];
 
-// What refuses a rules part, if something does: a number, 0 for the form, and a line.
-fn fault_of(alloc: Global, text: &str) -> Result<Option<(u8, u64)>, Fail> {
-    match read_rules(alloc, text.as_bytes()) {
+// What refused a rules part, if something did: a number, 0 for the form, and a line.
+fn fault_in(read: &Result<RuleSet, TextError>) -> Result<Option<(u8, u64)>, Fail> {
+    match read {
         Ok(_) => Ok(None),
-        Err(TextError::Form(line)) => Ok(Some((0, line))),
-        Err(TextError::Sense { number, place }) => Ok(Some((number, place))),
+        Err(TextError::Form(line)) => Ok(Some((0, *line))),
+        Err(TextError::Sense { number, place }) => Ok(Some((*number, *place))),
         Err(_) => Err(Fail::from("refused otherwise")),
     }
+}
+
+// What refuses a text.
+fn fault_of(alloc: Global, text: &str) -> Result<Option<(u8, u64)>, Fail> {
+    fault_in(&read_rules(alloc, text.as_bytes()))
 }
 
 #[test]
@@ -137,23 +143,28 @@ const COUNTS: &[(u32, u32, u64)] = &[
     (8, 33, 42),
 ];
 
-// A part with so many fields and rules.
-fn part_of(alloc: Global, fields: u32, rules: u32) -> Result<String, Fail> {
-    let mut text = String::from_str(alloc, "rules\n")?;
+// Writes a part with so many fields and rules.
+fn write_part(text: &mut String, fields: u32, rules: u32) -> Result<(), AllocError> {
+    text.push_str("rules\n")?;
     for field in 0..fields {
-        let letters = repeated(alloc, "a", field, "b")?;
-        text.push_str(format!(in alloc; "field {letters} num\n")?.as_str())?;
+        text.push_str("field ")?;
+        repeat(text, "a", field, "b num\n")?;
     }
-    text.push_str(repeated(alloc, "rule eq(my.b,1)\n", rules, "end\n")?.as_str())?;
-    Ok(text)
+    repeat(text, "rule eq(my.b,1)\n", rules, "end\n")
+}
+
+// What refuses it.
+fn fault_of_part(alloc: Global, fields: u32, rules: u32) -> Result<Option<(u8, u64)>, Fail> {
+    let mut text = String::new(alloc);
+    write_part(&mut text, fields, rules)?;
+    fault_of(alloc, text.as_str())
 }
 
 #[test]
 fn there_are_up_to_8_fields_and_32_rules(rt: HostRuntime) -> Result<(), Fail> {
     for (fields, rules, line) in COUNTS {
-        let text = part_of(rt.alloc(), *fields, *rules)?;
         let due = if *line == 0 { None } else { Some((0, *line)) };
-        let found = fault_of(rt.alloc(), text.as_str())?;
+        let found = fault_of_part(rt.alloc(), *fields, *rules)?;
         assert!(rt; found == due, "{fields} fields, {rules} rules");
     }
     Ok(())
@@ -163,23 +174,22 @@ fn there_are_up_to_8_fields_and_32_rules(rt: HostRuntime) -> Result<(), Fail> {
 const PARTS: &str = "rules\nfield id num\nrule eq(my.id,0)\nend\n\
                      rules\nfield abcdefghijklmnop bit\nfield num num\nrule eq(my.id,0)\nend\nend\n";
 
+// What refuses the next part, which is of the form.
+fn next_fault(alloc: Global, lines: &mut Lines<'_>) -> Result<Option<(u8, u64)>, Fail> {
+    match scan_rules(lines) {
+        Ok(part) => fault_in(&part.build(alloc)),
+        Err(_) => Err(Fail::from("not of the form")),
+    }
+}
+
 #[test]
 fn lines_are_counted_over_parts(rt: HostRuntime) -> Result<(), Fail> {
     let mut lines = Lines::new(PARTS.as_bytes());
-    let Ok(first) = scan_rules(&mut lines) else {
-        return Err(Fail::from("the first is refused"));
-    };
-    assert!(rt; first.build(rt.alloc()).is_ok(), "the first is read");
+    let first = next_fault(rt.alloc(), &mut lines)?;
+    assert!(rt; first.is_none(), "the first is read");
     assert!(rt; lines.number() == 5, "the line behind the first");
-    let Ok(second) = scan_rules(&mut lines) else {
-        return Err(Fail::from("the second is refused"));
-    };
+    let second = next_fault(rt.alloc(), &mut lines)?;
     assert!(rt; lines.rest() == b"end\n".as_slice(), "what follows both");
-    match second.build(rt.alloc()) {
-        Err(TextError::Sense { number, place }) => {
-            assert!(rt; number == 50 && place == 8, "{number} at {place}");
-        }
-        _ => return Err(Fail::from("the second is read")),
-    }
+    assert!(rt; second == Some((50, 8)), "the second is refused");
     Ok(())
 }

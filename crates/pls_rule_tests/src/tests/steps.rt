@@ -11,6 +11,7 @@ use pls_base::NoMemory;
 use pls_bits::{BitBuf, Gamma};
 use pls_builtin::builtin;
 use pls_compile::{Code, Machine, RuleChecker, compile};
+use pls_graph::Network;
 use pls_netfile::read_network;
 use pls_numbers::{FieldKind, Fields, Format};
 use pls_rules::RuleSet;
@@ -86,12 +87,8 @@ fn steps_of(
 const ROW: &str = "network\nnode 1 - 0 0\nport 2 1\nnode 2 - 0 0\nport 1 1\nport 3 1\n\
                    node 3 - 0 0\nport 2 1\nend\n";
 
-// The steps of `bipartite` at a place of the row, where the labels are these colours.
-fn steps_at(alloc: Global, colours: &[bool], place: usize) -> Result<Option<(Verdict, u32)>, Fail> {
-    let Ok(net) = read_network(alloc, ROW.as_bytes()) else {
-        return Err(Fail::from("refused"));
-    };
-    let mut labels = LabelStore::blank(alloc, net.len())?;
+// Puts these colours in place of labels.
+fn put_colours(alloc: Global, labels: &mut LabelStore, colours: &[bool]) -> Result<(), NoMemory> {
     for (i, colour) in colours.iter().enumerate() {
         let mut label = BitBuf::new(alloc);
         label.push(*colour)?;
@@ -99,13 +96,40 @@ fn steps_at(alloc: Global, colours: &[bool], place: usize) -> Result<Option<(Ver
             labels.replace(i, &label)?;
         }
     }
+    Ok(())
+}
+
+// The steps of `bipartite` on a view.
+fn steps_on(alloc: Global, view: &View<'_>) -> Result<Option<(Verdict, u32)>, Fail> {
+    match builtin(alloc, "bipartite")? {
+        Some(set) => Ok(steps_of(alloc, set, view)?),
+        None => Err(Fail::from("no set")),
+    }
+}
+
+// The same at a place of a network with these labels.
+fn steps_at(
+    alloc: Global,
+    net: &Network,
+    labels: &LabelStore,
+    place: usize,
+) -> Result<Option<(Verdict, u32)>, Fail> {
     if labels.len() != net.len() || place >= net.len() {
         return Err(Fail::from("no such place"));
     }
-    match builtin(alloc, "bipartite")? {
-        Some(set) => Ok(steps_of(alloc, set, &View::of(alloc, &net, &labels, place)?)?),
-        None => Err(Fail::from("no set")),
-    }
+    steps_on(alloc, &View::of(alloc, net, labels, place)?)
+}
+
+// The same where the labels are these colours.
+fn steps_among(
+    alloc: Global,
+    net: &Network,
+    colours: &[bool],
+    place: usize,
+) -> Result<Option<(Verdict, u32)>, Fail> {
+    let mut labels = LabelStore::blank(alloc, net.len())?;
+    put_colours(alloc, &mut labels, colours)?;
+    steps_at(alloc, net, &labels, place)
 }
 
 const CLASH: Verdict = Verdict::Reject { leaf: 1, rule: 3 };
@@ -122,8 +146,11 @@ const STEPPED: &[([bool; 3], usize, Verdict, u32)] = &[
 
 #[test]
 fn a_machine_steps_to_its_verdict(rt: HostRuntime) -> Result<(), Fail> {
+    let Ok(net) = read_network(rt.alloc(), ROW.as_bytes()) else {
+        return Err(Fail::from("refused"));
+    };
     for (colours, place, verdict, steps) in STEPPED {
-        let found = steps_at(rt.alloc(), colours, *place)?;
+        let found = steps_among(rt.alloc(), &net, colours, *place)?;
         assert!(rt; found == Some((*verdict, *steps)), "{place}, {steps}");
     }
     Ok(())

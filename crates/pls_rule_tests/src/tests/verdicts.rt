@@ -1,9 +1,11 @@
 //! Verdicts of rule sets on small networks: each set that has the name of a scheme judges as the
 //! scheme, and a set of no name as a plain program.
 
-ghost use Rattle.std.specs.Prelude.{IfOk};
+ghost use Rattle.std.specs.Prelude.{◌≡◌, length};
+ghost use Rattle.pls_model.specs.Walk.{IsConnected};
 
 use super::networks::networks;
+use super::verdict_at;
 use pls_base::Steps;
 use pls_bits::{BitBuf, Bits, Gamma};
 use pls_builtin::builtin;
@@ -12,7 +14,7 @@ use pls_compile::RuleChecker;
 use pls_graph::{Network, connected};
 use pls_scheme::{Checker, Scheme, Verdict};
 use pls_scheme_text::read_expression;
-use pls_view::{LabelStore, View};
+use pls_view::LabelStore;
 use std::alloc::Global;
 use std::test::Fail;
 
@@ -38,9 +40,9 @@ fn bit_of(verdict: Verdict) -> Result<u32, Fail> {
 
 // The bits of the rules by which nodes reject these labels, where a set judges as a scheme, in the
 // round and view by view.
-fn judged<S: Checker>(
+fn judged<R: Checker, S: Checker>(
     alloc: Global,
-    checker: &RuleChecker,
+    checker: &R,
     scheme: &S,
     net: &Network,
     labels: &LabelStore,
@@ -49,13 +51,42 @@ fn judged<S: Checker>(
         return Err(Fail::from("not one label a node"));
     }
     let due = scheme.round(alloc, net, labels, &mut Steps::new())?;
+    judged_as(alloc, checker, net, labels, due.as_slice())
+}
+
+// The bits of the rules by which nodes reject these labels, where a set judges so in the round.
+fn judged_as<S: Checker>(
+    alloc: Global,
+    checker: &S,
+    net: &Network,
+    labels: &LabelStore,
+    due: &[Verdict],
+) -> Result<u32, Fail>
+    requires { length labels.now ≡ length net.now }
+{
     let found = checker.round(alloc, net, labels, &mut Steps::new())?;
+    if found.as_slice() == due {
+        bits_of(alloc, checker, net, labels, due)
+    } else {
+        Err(Fail::from("judged otherwise in the round"))
+    }
+}
+
+// The same, where it judges so view by view.
+fn bits_of<S: Checker>(
+    alloc: Global,
+    checker: &S,
+    net: &Network,
+    labels: &LabelStore,
+    due: &[Verdict],
+) -> Result<u32, Fail>
+    requires { length labels.now ≡ length net.now }
+{
     let mut bits = 0_u32;
     for i in 0..net.len() {
-        let view = View::of(alloc, net, labels, i)?;
-        let verdict = checker.verify(alloc, &view, &mut Steps::new())?;
-        if due.get(i) != Some(&verdict) || found.get(i) != Some(&verdict) {
-            return Err(Fail::from("judged otherwise"));
+        let verdict = verdict_at(alloc, checker, net, labels, i)?;
+        if due.get(i) != Some(&verdict) {
+            return Err(Fail::from("judged otherwise view by view"));
         }
         bits |= bit_of(verdict)?;
     }
@@ -83,9 +114,9 @@ fn moved(alloc: Global, labels: &LabelStore) -> Result<LabelStore, Fail> {
 
 // The bits of the rules by which nodes reject these labels: as they are, each at another node, with
 // each of their bits turned, and with each of them empty; then they are as they were.
-fn judged_when_changed<S: Checker>(
+fn judged_when_changed<R: Checker, S: Checker>(
     alloc: Global,
-    checker: &RuleChecker,
+    checker: &R,
     scheme: &S,
     net: &Network,
     labels: &mut LabelStore,
@@ -94,14 +125,29 @@ fn judged_when_changed<S: Checker>(
     bits |= judged(alloc, checker, scheme, net, &moved(alloc, labels)?)?;
     for i in 0..labels.len() {
         let label = label_at(alloc, labels, i)?;
-        for place in 0..label.len() {
-            put(labels, i, &turned(alloc, &label.bits(), place)?)?;
-            bits |= judged(alloc, checker, scheme, net, labels)?;
-        }
-        put(labels, i, &BitBuf::new(alloc))?;
-        bits |= judged(alloc, checker, scheme, net, labels)?;
-        put(labels, i, &label)?;
+        bits |= judged_when_turned(alloc, checker, scheme, net, labels, i, &label)?;
     }
+    Ok(bits)
+}
+
+// The same where the label at a place has each of its bits turned, and is empty.
+fn judged_when_turned<R: Checker, S: Checker>(
+    alloc: Global,
+    checker: &R,
+    scheme: &S,
+    net: &Network,
+    labels: &mut LabelStore,
+    i: usize,
+    label: &BitBuf,
+) -> Result<u32, Fail> {
+    let mut bits = 0_u32;
+    for place in 0..label.len() {
+        put(labels, i, &turned(alloc, &label.bits(), place)?)?;
+        bits |= judged(alloc, checker, scheme, net, labels)?;
+    }
+    put(labels, i, &BitBuf::new(alloc))?;
+    bits |= judged(alloc, checker, scheme, net, labels)?;
+    put(labels, i, label)?;
     Ok(bits)
 }
 
@@ -122,24 +168,49 @@ fn put(labels: &mut LabelStore, i: usize, label: &BitBuf) -> Result<(), Fail> {
     Ok(())
 }
 
+// Labels that a scheme marks a connected network with, in place of these. One that it does not mark
+// gets these, or empty ones where these are not as many.
+fn relabel<S: Scheme>(
+    alloc: Global,
+    scheme: &S,
+    net: &Network,
+    labels: &mut LabelStore,
+) -> Result<(), Fail>
+    requires { IsConnected net.now }
+{
+    if let Some(marked) = scheme.mark(alloc, net)? {
+        *labels = marked;
+    } else if labels.len() != net.len() {
+        *labels = LabelStore::blank(alloc, net.len())?;
+    }
+    Ok(())
+}
+
 // The bits of the rules by which nodes of the networks reject what a scheme marks them with. One
 // that it does not mark gets the labels of the network before.
-fn judged_all(
+fn judged_all<R: Checker, S: Scheme>(
     alloc: Global,
-    checker: &RuleChecker,
-    scheme: &AnyScheme<Gamma>,
+    checker: &R,
+    scheme: &S,
     nets: &[Network],
 ) -> Result<u32, Fail> {
     let mut labels = LabelStore::blank(alloc, 1)?;
+    judged_from(alloc, checker, scheme, nets, &mut labels)
+}
+
+// The same, where these labels are those of the network before the first.
+fn judged_from<R: Checker, S: Scheme>(
+    alloc: Global,
+    checker: &R,
+    scheme: &S,
+    nets: &[Network],
+    labels: &mut LabelStore,
+) -> Result<u32, Fail> {
     let mut bits = 0_u32;
     for net in nets {
         if connected(alloc, net)?.is_none() {
-            if let Some(marked) = scheme.mark(alloc, net)? {
-                labels = marked;
-            } else if labels.len() != net.len() {
-                labels = LabelStore::blank(alloc, net.len())?;
-            }
-            bits |= judged_when_changed(alloc, checker, scheme, net, &mut labels)?;
+            relabel(alloc, scheme, net, labels)?;
+            bits |= judged_when_changed(alloc, checker, scheme, net, labels)?;
         }
     }
     Ok(bits)
@@ -161,13 +232,17 @@ fn scheme_of(alloc: Global, name: &str) -> Result<AnyScheme<Gamma>, Fail> {
     }
 }
 
+// The same of the set and the scheme of a name.
+fn judged_by_name(alloc: Global, name: &str, nets: &[Network]) -> Result<u32, Fail> {
+    let scheme = scheme_of(alloc, name)?;
+    judged_all(alloc, &checker_of(alloc, name)?, &scheme, nets)
+}
+
 #[test]
 fn sets_judge_as_schemes_of_their_names(rt: HostRuntime) -> Result<(), Fail> {
     let nets = networks(rt.alloc())?;
     for (name, rules) in NAMES {
-        let checker = checker_of(rt.alloc(), name)?;
-        let scheme = scheme_of(rt.alloc(), name)?;
-        let bits = judged_all(rt.alloc(), &checker, &scheme, nets.as_slice())?;
+        let bits = judged_by_name(rt.alloc(), name, nets.as_slice())?;
         // Some node accepts, and by each rule some node rejects.
         let due = 2_u32.wrapping_shl(*rules).wrapping_sub(1);
         assert!(rt; bits == due, "{name}: rules {bits}");
