@@ -1,5 +1,7 @@
 //! Tests of rings, of pairs of edges that may be crossed, and of crossing them.
 
+ghost use Rattle.pls_splice.specs.Ring.{IsRingOrder};
+
 mod crossing;
 mod large;
 mod rings;
@@ -8,8 +10,9 @@ mod small;
 use pls_bits::BitBuf;
 use pls_graph::Network;
 use pls_netfile::read_network;
+use pls_splice::{Pair, Ring, cross, find, leaderless, two_rings, views_stay};
 use pls_view::LabelStore;
-use std::alloc::Global;
+use std::alloc::{AllocError, Global};
 use std::test::Fail;
 
 // The network of a text.
@@ -23,34 +26,96 @@ fn network(alloc: Global, text: &str) -> Result<Network, Fail> {
 // A ring of so many nodes, numbered from 1, each with the node before it at port 0 but the first,
 // which is marked and has the second there; each weight is 1.
 fn plain_ring(alloc: Global, count: u32) -> Result<Network, Fail> {
-    let mut text = String::from_str(alloc, "network\n")?;
-    let last = format!(in alloc; "node 1 - 1 0\nport 2 1\nport {count} 1\n")?;
-    text.push_str(last.as_str())?;
+    let mut text = String::new(alloc);
+    write_plain_ring(&mut text, count)?;
+    network(alloc, text.as_str())
+}
+
+// Writes the text of it.
+fn write_plain_ring(text: &mut String, count: u32) -> Result<(), AllocError> {
+    write!(text, "network\nnode 1 - 1 0\nport 2 1\nport {count} 1\n")?;
     for id in 2..count {
         let before = id - 1;
         let behind = id + 1;
-        let node = format!(in alloc; "node {id} - 0 0\nport {before} 1\nport {behind} 1\n")?;
-        text.push_str(node.as_str())?;
+        write!(text, "node {id} - 0 0\nport {before} 1\nport {behind} 1\n")?;
     }
     let before = count.wrapping_sub(1);
-    let end = format!(in alloc; "node {count} - 0 0\nport {before} 1\nport 1 1\nend\n")?;
-    text.push_str(end.as_str())?;
-    network(alloc, text.as_str())
+    write!(text, "node {count} - 0 0\nport {before} 1\nport 1 1\nend\n")
 }
 
 // So many labels of `width` bits each: label `i` has the bits of word `i`, the lowest first.
 fn labels_of(alloc: Global, words: &[u32], width: u32) -> Result<LabelStore, Fail> {
     let mut labels = LabelStore::blank(alloc, words.len())?;
+    put_words(alloc, &mut labels, words, width)?;
+    Ok(labels)
+}
+
+// Puts them in place of others.
+fn put_words(
+    alloc: Global,
+    labels: &mut LabelStore,
+    words: &[u32],
+    width: u32,
+) -> Result<(), Fail> {
     for (i, word) in words.iter().enumerate() {
-        let mut bits = BitBuf::new(alloc);
-        let mut rest = *word;
-        for _ in 0..width {
-            bits.push(rest % 2 == 1)?;
-            rest /= 2;
-        }
         if i < labels.len() {
-            labels.replace(i, &bits)?;
+            labels.replace(i, &bits_of(alloc, *word, width)?)?;
         }
     }
-    Ok(labels)
+    Ok(())
+}
+
+// The label of a word.
+fn bits_of(alloc: Global, word: u32, width: u32) -> Result<BitBuf, Fail> {
+    let mut bits = BitBuf::new(alloc);
+    let mut rest = word;
+    for _ in 0..width {
+        bits.push(rest % 2 == 1)?;
+        rest /= 2;
+    }
+    Ok(bits)
+}
+
+// The first two edges of a ring that may be crossed, and what crossing them makes, if there are two.
+fn first_crossing(
+    alloc: Global,
+    ring: &Ring,
+    net: &Network,
+    labels: &LabelStore,
+) -> Result<Option<(Pair, Network)>, Fail>
+    requires { IsRingOrder net.now ring.now }
+{
+    if labels.len() != net.len() {
+        return Err(Fail::from("not as many labels"));
+    }
+    let Some(pair) = find(alloc, ring, net, labels)? else {
+        return Ok(None);
+    };
+    views_stay(ring, net, labels, pair);
+    leaderless(ring, net, labels, pair);
+    two_rings(ring, net, labels, pair);
+    Ok(Some((pair, cross(alloc, ring, net, labels, pair)?)))
+}
+
+// The same of a network that is a ring.
+fn crossing_in(
+    alloc: Global,
+    net: &Network,
+    labels: &LabelStore,
+) -> Result<Option<(Pair, Network)>, Fail> {
+    match Ring::read(alloc, net) {
+        Ok(ring) => first_crossing(alloc, &ring, net, labels),
+        Err(_) => Err(Fail::from("no ring")),
+    }
+}
+
+// The same of a ring of so many nodes, with labels of `width` bits each.
+fn plain_crossing(
+    alloc: Global,
+    count: u32,
+    words: &[u32],
+    width: u32,
+) -> Result<Option<(Pair, Network)>, Fail> {
+    let net = plain_ring(alloc, count)?;
+    crossing_in(alloc, &net, &labels_of(alloc, words, width)?)
 }

@@ -1,8 +1,8 @@
 //! Crossing at worked examples.
 
-use super::{labels_of, plain_ring};
+use super::plain_crossing;
 use pls_graph::Network;
-use pls_splice::{Pair, Ring, cross, find, leaderless, two_rings, views_stay};
+use pls_splice::Pair;
 use std::test::Fail;
 
 // Whether the node at place `i` has ports to these two and no other, of weight 1.
@@ -20,15 +20,7 @@ fn has_ports(net: &Network, i: usize, first: u32, second: u32) -> bool {
 
 #[test]
 fn eight_nodes_in_two_colours_become_four_and_four(rt: HostRuntime) -> Result<(), Fail> {
-    let eight = plain_ring(rt.alloc(), 8)?;
-    let labels = labels_of(rt.alloc(), &[0, 1, 0, 1, 0, 1, 0, 1], 1)?;
-    let Ok(ring) = Ring::read(rt.alloc(), &eight) else {
-        return Err(Fail::from("no ring"));
-    };
-    if labels.len() != eight.len() {
-        return Err(Fail::from("not eight labels"));
-    }
-    let Some(pair) = find(rt.alloc(), &ring, &eight, &labels)? else {
+    let Some((pair, net)) = plain_crossing(rt.alloc(), 8, &[0, 1, 0, 1, 0, 1, 0, 1], 1)? else {
         return Err(Fail::from("no pair"));
     };
     assert!(rt;
@@ -38,7 +30,6 @@ fn eight_nodes_in_two_colours_become_four_and_four(rt: HostRuntime) -> Result<()
         },
         "edges 0 and 4"
     );
-    let made = cross(rt.alloc(), &ring, &eight, &labels, pair)?;
     let due = [
         (6, 8),
         (5, 3),
@@ -51,14 +42,11 @@ fn eight_nodes_in_two_colours_become_four_and_four(rt: HostRuntime) -> Result<()
     ];
     for (i, ports) in due.iter().enumerate() {
         assert!(rt;
-            has_ports(&made, i, ports.0, ports.1),
+            has_ports(&net, i, ports.0, ports.1),
             "the node at place {i}"
         );
     }
-    assert!(rt; made.len() == 8, "eight nodes");
-    views_stay(&ring, &eight, &labels, pair);
-    leaderless(&ring, &eight, &labels, pair);
-    two_rings(&ring, &eight, &labels, pair);
+    assert!(rt; net.len() == 8, "eight nodes");
     Ok(())
 }
 
@@ -75,16 +63,8 @@ fn there_may_be_no_pair(rt: HostRuntime) -> Result<(), Fail> {
         (5, &[0, 0, 0, 0, 0][..], "two nodes at most on a side"),
     ];
     for (count, words, message) in &cases {
-        let net = plain_ring(rt.alloc(), *count)?;
-        let labels = labels_of(rt.alloc(), *words, 3)?;
-        let Ok(ring) = Ring::read(rt.alloc(), &net) else {
-            return Err(Fail::from("no ring"));
-        };
-        if labels.len() != net.len() {
-            return Err(Fail::from("not as many labels"));
-        }
-        let found = find(rt.alloc(), &ring, &net, &labels)?;
-        assert!(rt; found.is_none(), "{message}");
+        let pair = plain_crossing(rt.alloc(), *count, *words, 3)?;
+        assert!(rt; pair.is_none(), "{message}");
     }
     Ok(())
 }

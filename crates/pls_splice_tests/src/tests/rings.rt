@@ -1,6 +1,7 @@
 //! Which networks are rings, and in what order their nodes come.
 
 use super::{network, plain_ring};
+use pls_graph::Network;
 use pls_splice::{Ring, RingError};
 use std::alloc::Global;
 use std::test::Fail;
@@ -52,25 +53,25 @@ fn two_triangles_are_no_ring(rt: HostRuntime) -> Result<(), Fail> {
     Ok(())
 }
 
+// Whether the nodes of a ring come in this order.
+fn has_order(alloc: Global, net: &Network, order: &[u32]) -> Result<bool, Fail> {
+    match Ring::read(alloc, net) {
+        Ok(ring) => Ok(ring.order() == order),
+        Err(_) => Err(Fail::from("no ring")),
+    }
+}
+
 #[test]
 fn the_order_goes_on_through_port_0(rt: HostRuntime) -> Result<(), Fail> {
-    let eight = plain_ring(rt.alloc(), 8)?;
-    let Ok(ring) = Ring::read(rt.alloc(), &eight) else {
-        return Err(Fail::from("no ring"));
-    };
-    assert!(rt;
-        ring.order() == [0, 1, 2, 3, 4, 5, 6, 7].as_slice(),
-        "from 1 to 2"
-    );
+    let eight = has_order(
+        rt.alloc(),
+        &plain_ring(rt.alloc(), 8)?,
+        &[0, 1, 2, 3, 4, 5, 6, 7],
+    )?;
+    assert!(rt; eight, "from 1 to 2");
     let text = "network\nnode 2 - 0 0\nport 9 1\nport 5 1\nnode 5 - 0 0\nport 2 1\nport 7 1\n\
                 node 7 - 0 0\nport 9 1\nport 5 1\nnode 9 - 0 0\nport 7 1\nport 2 1\nend\n";
-    let four = network(rt.alloc(), text)?;
-    let Ok(other) = Ring::read(rt.alloc(), &four) else {
-        return Err(Fail::from("no ring of four"));
-    };
-    assert!(rt;
-        other.order() == [0, 3, 2, 1].as_slice(),
-        "from 2 to 9, 7 and 5"
-    );
+    let four = has_order(rt.alloc(), &network(rt.alloc(), text)?, &[0, 3, 2, 1])?;
+    assert!(rt; four, "from 2 to 9, 7 and 5");
     Ok(())
 }

@@ -2,12 +2,12 @@
 
 ghost use Rattle.pls_splice.specs.Ring.{IsRingOrder};
 
-use super::{labels_of, network};
+use super::{first_crossing, labels_of, network};
 use pls_components::components;
 use pls_graph::Network;
-use pls_splice::{Pair, Ring, cross, find};
+use pls_splice::{Pair, Ring};
 use pls_view::LabelStore;
-use std::alloc::Global;
+use std::alloc::{AllocError, Global};
 use std::test::Fail;
 
 // The identity of a node by its number in the order.
@@ -27,8 +27,8 @@ fn weight_of(edge: u32, weights: u32) -> u32 {
     edge.checked_rem(weights).unwrap_or(0).wrapping_add(1)
 }
 
-// The node and its ports, the one behind it first where its number is even.
-fn node_text(alloc: Global, count: u32, number: u32, weights: u32) -> Result<String, Fail> {
+// Writes the node and its ports, the one behind it first where its number is even.
+fn write_node(text: &mut String, count: u32, number: u32, weights: u32) -> Result<(), AllocError> {
     let id = id_of(count, number);
     let last = count.wrapping_sub(1);
     let back = if number == 0 {
@@ -46,27 +46,35 @@ fn node_text(alloc: Global, count: u32, number: u32, weights: u32) -> Result<Str
     let there = weight_of(number, weights);
     let here = weight_of(back, weights);
     if number % 2 == 0 {
-        let text = format!(in alloc;
+        write!(
+            text,
             "node {id} - 0 0\nport {behind} {there}\nport {before} {here}\n"
-        )?;
-        return Ok(text);
+        )
+    } else {
+        write!(
+            text,
+            "node {id} - 0 0\nport {before} {here}\nport {behind} {there}\n"
+        )
     }
-    let text = format!(in alloc; "node {id} - 0 0\nport {before} {here}\nport {behind} {there}\n")?;
-    Ok(text)
+}
+
+// Writes the text of a ring of so many nodes.
+fn write_ring(text: &mut String, count: u32, weights: u32) -> Result<(), AllocError> {
+    text.push_str("network\n")?;
+    for place in 0..count {
+        for number in 0..count {
+            if id_of(count, number) == place + 1 {
+                write_node(text, count, number, weights)?;
+            }
+        }
+    }
+    text.push_str("end\n")
 }
 
 // A ring of so many nodes.
 fn ring_of(alloc: Global, count: u32, weights: u32) -> Result<Network, Fail> {
-    let mut text = String::from_str(alloc, "network\n")?;
-    for place in 0..count {
-        for number in 0..count {
-            if id_of(count, number) == place + 1 {
-                let node = node_text(alloc, count, number, weights)?;
-                text.push_str(node.as_str())?;
-            }
-        }
-    }
-    text.push_str("end\n")?;
+    let mut text = String::new(alloc);
+    write_ring(&mut text, count, weights)?;
     network(alloc, text.as_str())
 }
 
@@ -108,50 +116,75 @@ fn labels(alloc: Global, count: u32, word: u32) -> Result<LabelStore, Fail> {
     labels_of(alloc, words.as_slice(), 1)
 }
 
-// Whether a pair is found where the plain program finds it, and crossing leaves components of so
-// many nodes.
+// Whether a network of so many nodes has two components, the second of so many.
+fn is_in_two(alloc: Global, net: &Network, count: usize, second: usize) -> Result<bool, Fail> {
+    let parts = components(alloc, net)?;
+    Ok(
+        parts.len() == 2
+            && parts.members(1).len() == second
+            && parts.members(0).len() == count.wrapping_sub(second),
+    )
+}
+
+// Whether the first pair of a ring with these labels is the due one, and crossing leaves components
+// of so many nodes.
 fn agrees(
+    alloc: Global,
+    net: &Network,
+    ring: &Ring,
+    labels: &LabelStore,
+    due: Option<Pair>,
+) -> Result<bool, Fail>
+    requires { IsRingOrder net.now ring.now }
+{
+    let Some((pair, other)) = first_crossing(alloc, ring, net, labels)? else {
+        return Ok(due.is_none());
+    };
+    if due != Some(pair) {
+        return Ok(false);
+    }
+    let apart = pair.second.wrapping_sub(pair.first) as usize;
+    is_in_two(alloc, &other, net.len(), apart)
+}
+
+// The first labels at which a ring does not agree with the plain program, if there are any.
+fn first_other(
     alloc: Global,
     net: &Network,
     ring: &Ring,
     count: u32,
     weights: u32,
-    word: u32,
-) -> Result<bool, Fail>
+) -> Result<Option<u32>, Fail>
     requires { IsRingOrder net.now ring.now }
 {
-    let labels = labels(alloc, count, word)?;
-    if labels.len() != net.len() {
-        return Ok(false);
+    for word in 0..1_u32.wrapping_shl(count) {
+        let labels = labels(alloc, count, word)?;
+        let due = first_pair(count, weights, word);
+        if labels.len() != net.len() || !agrees(alloc, net, ring, &labels, due)? {
+            return Ok(Some(word));
+        }
     }
-    let found = find(alloc, ring, net, &labels)?;
-    if found != first_pair(count, weights, word) {
-        return Ok(false);
+    Ok(None)
+}
+
+// The same of a ring of so many nodes.
+fn first_other_of(alloc: Global, count: u32, weights: u32) -> Result<Option<u32>, Fail> {
+    let net = ring_of(alloc, count, weights)?;
+    match Ring::read(alloc, &net) {
+        Ok(ring) => first_other(alloc, &net, &ring, count, weights),
+        Err(_) => Err(Fail::from("no ring")),
     }
-    let Some(pair) = found else {
-        return Ok(true);
-    };
-    let made = cross(alloc, ring, net, &labels, pair)?;
-    let parts = components(alloc, &made)?;
-    if parts.len() != 2 {
-        return Ok(false);
-    }
-    let apart = pair.second.wrapping_sub(pair.first) as usize;
-    Ok(parts.members(1).len() == apart && parts.members(0).len() == net.len().wrapping_sub(apart))
 }
 
 #[test]
 fn all_labels_of_one_bit(rt: HostRuntime) -> Result<(), Fail> {
     for count in 3..13u32 {
         for weights in 1..4u32 {
-            let net = ring_of(rt.alloc(), count, weights)?;
-            let Ok(ring) = Ring::read(rt.alloc(), &net) else {
-                return Err(Fail::from("no ring"));
-            };
-            for word in 0..(1u32 << count) {
-                let same = agrees(rt.alloc(), &net, &ring, count, weights, word)?;
-                assert!(rt; same, "{count} nodes, {weights} weights, labels {word}");
-            }
+            let other = first_other_of(rt.alloc(), count, weights)?;
+            assert!(rt;
+                other.is_none(),
+                "{count} nodes, {weights} weights, labels {other:?}"
+            );
         }
     }
     Ok(())
