@@ -2,19 +2,23 @@
 //! expression names just the components that plain programs find to lack its property, and labels of
 //! the others are accepted.
 
+ghost use Rattle.std.specs.Prelude.{◌≡◌, length};
+ghost use Rattle.pls_components.specs.Components.{AreComponents};
+
 use super::expressions::{EXPRESSIONS, expected};
 use super::network;
 use super::small::{
     SETS, Small, has, is_acyclic, is_bipartite, is_forest, is_tree, pair, reached, text_with, with,
 };
-use pls_base::Steps;
+use pls_base::{NoMemory, Steps};
 use pls_bits::Gamma;
 use pls_combine::AnyScheme;
-use pls_components::{Marked, components, mark_parts};
+use pls_components::{Components, Marked, components, mark_parts};
 use pls_graph::Network;
 use pls_model::Verdict;
-use pls_scheme::Checker;
+use pls_scheme::{Checker, Scheme};
 use pls_scheme_text::read_expression;
+use pls_view::LabelStore;
 use std::alloc::Global;
 use std::test::Fail;
 
@@ -120,42 +124,87 @@ fn lacking(net: Small) -> ([u32; 8], [u32; 9]) {
     (schemes, expressions)
 }
 
+// Whether all nodes accept these labels.
+fn all_accept<S: Checker>(
+    alloc: Global,
+    scheme: &S,
+    net: &Network,
+    labels: &LabelStore,
+) -> Result<bool, NoMemory>
+    requires { length labels.now ≡ length net.now }
+{
+    let verdicts = scheme.round(alloc, net, labels, &mut Steps::new())?;
+    Ok(
+        verdicts
+            .iter()
+            .all(|verdict| matches!(*verdict, Verdict::Accept)),
+    )
+}
+
+// These nodes, one bit a node.
+fn bits_of(ids: &[u32]) -> u32 {
+    ids.iter().fold(0, |all, id| with(all, *id))
+}
+
 // Whether just these components are named, or all nodes accept the labels where there are none.
-fn is_marked(alloc: Global, text: &str, net: &Network, due: u32) -> Result<bool, Fail> {
-    let Ok(tree) = read_expression(alloc, text) else {
-        return Err(Fail::from("not read"));
-    };
-    let scheme = AnyScheme::<Gamma>::new(tree);
-    let parts = components(alloc, net)?;
-    match mark_parts(alloc, &scheme, net, &parts)? {
-        Marked::Labels(labels) => {
-            let verdicts = scheme.round(alloc, net, &labels, &mut Steps::new())?;
-            Ok(
-                due == 0
-                    && verdicts
-                        .iter()
-                        .all(|verdict| matches!(*verdict, Verdict::Accept)),
-            )
-        }
-        Marked::Lacking(ids) => Ok(ids.as_slice().iter().fold(0, |all, id| with(all, *id)) == due),
+fn are_parts_marked<S: Scheme>(
+    alloc: Global,
+    scheme: &S,
+    net: &Network,
+    parts: &Components,
+    due: u32,
+) -> Result<bool, NoMemory>
+    requires { AreComponents net.now parts.now }
+{
+    match mark_parts(alloc, scheme, net, parts)? {
+        Marked::Labels(labels) if due == 0 => all_accept(alloc, scheme, net, &labels),
+        Marked::Labels(_) => Ok(false),
+        Marked::Lacking(ids) => Ok(bits_of(ids.as_slice()) == due),
     }
+}
+
+// The same where the components are not known.
+fn is_marked_by<S: Scheme>(
+    alloc: Global,
+    scheme: &S,
+    net: &Network,
+    due: u32,
+) -> Result<bool, NoMemory> {
+    let parts = components(alloc, net)?;
+    are_parts_marked(alloc, scheme, net, &parts, due)
+}
+
+// The same of the scheme of a text.
+fn is_marked(alloc: Global, text: &str, net: &Network, due: u32) -> Result<bool, Fail> {
+    match read_expression(alloc, text) {
+        Ok(tree) => Ok(is_marked_by(alloc, &AnyScheme::<Gamma>::new(tree), net, due)?),
+        Err(_) => Err(Fail::from("not read")),
+    }
+}
+
+// Whether all these schemes mark a network so.
+fn are_all_marked(
+    alloc: Global,
+    texts: &[&str],
+    net: &Network,
+    dues: &[u32],
+) -> Result<bool, Fail> {
+    for (text, due) in texts.iter().zip(dues.iter()) {
+        if !is_marked(alloc, text, net, *due)? {
+            return Ok(false);
+        }
+    }
+    Ok(true)
 }
 
 // Whether all schemes and expressions mark a network so.
 fn are_marked(alloc: Global, net: Small) -> Result<bool, Fail> {
     let read = network(alloc, text_with(alloc, net, 1, 2)?.as_str())?;
     let (schemes, expressions) = lacking(net);
-    for (text, due) in SCHEMES.iter().zip(schemes.iter()) {
-        if !is_marked(alloc, text, &read, *due)? {
-            return Ok(false);
-        }
-    }
-    for (text, due) in EXPRESSIONS.iter().zip(expressions.iter()) {
-        if !is_marked(alloc, text, &read, *due)? {
-            return Ok(false);
-        }
-    }
-    Ok(true)
+    Ok(
+        are_all_marked(alloc, SCHEMES, &read, &schemes)?
+            && are_all_marked(alloc, EXPRESSIONS, &read, &expressions)?,
+    )
 }
 
 #[test]

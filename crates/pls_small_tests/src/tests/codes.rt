@@ -3,6 +3,7 @@
 //! again, and all nodes accept it there. How many networks are marked was counted by a plain
 //! program.
 
+ghost use Rattle.std.specs.Prelude.{◌≡◌, length};
 ghost use Rattle.pls_model.specs.Walk.{IsConnected};
 
 use super::joined;
@@ -50,6 +51,46 @@ fn are_converted<C: NumCode, D: NumCode>(
     Ok(labels.len() == others.len())
 }
 
+// True where these labels of a connected network in the two codes are alike.
+fn are_alike(
+    alloc: Global,
+    gamma: &AnyScheme<Gamma>,
+    delta: &AnyScheme<Delta>,
+    net: &Network,
+    labels: &LabelStore,
+    others: &LabelStore,
+) -> Result<bool, Fail>
+    requires connected { IsConnected net.now }
+    requires each { length others.now ≡ length net.now }
+{
+    let alike = are_converted::<Gamma, Delta>(alloc, gamma, labels, others)?
+        && are_converted::<Delta, Gamma>(alloc, delta, others, labels)?
+        && certifies(alloc, delta, net, others, &mut Steps::new())?;
+    if alike {
+        Ok(true)
+    } else {
+        Err(Fail::from("marked otherwise in the other code"))
+    }
+}
+
+// Whether a connected network is marked, with labels that are alike to these in the first code, or
+// in neither code.
+fn is_marked_like(
+    alloc: Global,
+    gamma: &AnyScheme<Gamma>,
+    delta: &AnyScheme<Delta>,
+    net: &Network,
+    labels: Option<&LabelStore>,
+) -> Result<bool, Fail>
+    requires { IsConnected net.now }
+{
+    match (labels, delta.mark(alloc, net)?) {
+        (Some(labels), Some(others)) => are_alike(alloc, gamma, delta, net, labels, &others),
+        (None, None) => Ok(false),
+        _ => Err(Fail::from("marked in one code alone")),
+    }
+}
+
 // Whether a connected network is marked in both codes alike, or in neither.
 fn is_marked(
     alloc: Global,
@@ -59,19 +100,19 @@ fn is_marked(
 ) -> Result<bool, Fail>
     requires { IsConnected net.now }
 {
-    let (labels, others) = match (gamma.mark(alloc, net)?, delta.mark(alloc, net)?) {
-        (Some(labels), Some(others)) => (labels, others),
-        (None, None) => return Ok(false),
-        _ => return Err(Fail::from("marked in one code alone")),
-    };
-    let alike = are_converted::<Gamma, Delta>(alloc, gamma, &labels, &others)?
-        && are_converted::<Delta, Gamma>(alloc, delta, &others, &labels)?
-        && certifies(alloc, delta, net, &others, &mut Steps::new())?;
-    if alike {
-        Ok(true)
-    } else {
-        Err(Fail::from("marked otherwise in the other code"))
-    }
+    let labels = gamma.mark(alloc, net)?;
+    is_marked_like(alloc, gamma, delta, net, labels.as_ref())
+}
+
+// The same of a small network that is read.
+fn is_small_marked(
+    alloc: Global,
+    gamma: &AnyScheme<Gamma>,
+    delta: &AnyScheme<Delta>,
+    net: Small,
+) -> Result<bool, Fail> {
+    let read = joined(alloc, text_with(alloc, net, 1, net.nodes)?.as_str())?;
+    is_marked(alloc, gamma, delta, &read)
 }
 
 // The expression of a text, in a number code.
@@ -85,7 +126,23 @@ fn scheme_of<C: NumCode>(alloc: Global, text: &str) -> Result<AnyScheme<C>, Fail
 // How many networks of so many nodes with these edges and all pointers an expression marks.
 fn count_marked(alloc: Global, text: &str, nodes: u32, edges: u32) -> Result<u32, Fail> {
     let gamma = scheme_of::<Gamma>(alloc, text)?;
-    let delta = scheme_of::<Delta>(alloc, text)?;
+    count_alike(
+        alloc,
+        &gamma,
+        &scheme_of::<Delta>(alloc, text)?,
+        nodes,
+        edges,
+    )
+}
+
+// The same of an expression in both codes.
+fn count_alike(
+    alloc: Global,
+    gamma: &AnyScheme<Gamma>,
+    delta: &AnyScheme<Delta>,
+    nodes: u32,
+    edges: u32,
+) -> Result<u32, Fail> {
     let mut count = 0_u32;
     for pointers in 0..256 {
         let net = Small {
@@ -93,11 +150,8 @@ fn count_marked(alloc: Global, text: &str, nodes: u32, edges: u32) -> Result<u32
             edges,
             pointers,
         };
-        if net.is_proper() {
-            let read = joined(alloc, text_with(alloc, net, 1, nodes)?.as_str())?;
-            if is_marked(alloc, &gamma, &delta, &read)? {
-                count = count.saturating_add(1);
-            }
+        if net.is_proper() && is_small_marked(alloc, gamma, delta, net)? {
+            count = count.saturating_add(1);
         }
     }
     Ok(count)

@@ -3,10 +3,9 @@
 
 ghost use Rattle.pls_model.specs.Walk.{IsConnected};
 
-use super::joined;
 use super::small::{
-    SETS, Small, are_joined, has, is_acyclic, is_bipartite, is_forest, is_tree, marks, reached,
-    text_of, with,
+    SETS, Small, are_joined, has, is_acyclic, is_bipartite, is_forest, is_tree, joined_small,
+    marks, reached, with,
 };
 use pls_bits::Gamma;
 use pls_combine::AnyScheme;
@@ -68,14 +67,21 @@ fn text_marks(alloc: Global, text: &str, net: &Network) -> Result<bool, Fail>
 }
 
 // Whether each expression marks a network where it should.
-fn are_marked(alloc: Global, net: Small) -> Result<bool, Fail> {
-    let read = joined(alloc, text_of(alloc, net)?.as_str())?;
-    for (text, due) in EXPRESSIONS.iter().zip(expected(net).iter()) {
-        if text_marks(alloc, text, &read)? != *due {
+fn mark_where_due(alloc: Global, read: &Network, due: &[bool]) -> Result<bool, Fail>
+    requires { IsConnected read.now }
+{
+    for (text, due) in EXPRESSIONS.iter().zip(due.iter()) {
+        if text_marks(alloc, text, read)? != *due {
             return Ok(false);
         }
     }
     Ok(true)
+}
+
+// The same of a network that is read.
+fn are_marked(alloc: Global, net: Small) -> Result<bool, Fail> {
+    let read = joined_small(alloc, net)?;
+    mark_where_due(alloc, &read, &expected(net))
 }
 
 // How many networks of so many nodes with these edges and all pointers are marked as they should be;

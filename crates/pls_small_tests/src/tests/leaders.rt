@@ -1,13 +1,18 @@
 //! One leader, and the number of nodes: worked examples, and all small networks.
 
-use super::small::{SETS, Small, are_joined, has, marks};
+ghost use Rattle.std.specs.Prelude.{◌≡◌, length};
+ghost use Rattle.pls_model.specs.Walk.{IsConnected};
+
+use super::small::{SETS, Small, are_joined, has, marks, write_ports};
 use super::{joined, network};
-use pls_base::Steps;
+use pls_base::{NoMemory, Steps};
 use pls_bits::{CodeName, Gamma};
+use pls_graph::Network;
 use pls_labelfile::{read_labels, write_labels};
 use pls_leader::{Count, Leader};
 use pls_model::Verdict;
 use pls_scheme::{Checker, Scheme};
+use pls_view::LabelStore;
 use std::alloc::{AllocError, Global};
 use std::test::Fail;
 
@@ -24,13 +29,38 @@ const TWO: &str = "network\nnode 1 - 0 2\nport 2 1\nnode 2 - 0 2\nport 1 1\nend\
 
 const NONE: &str = "network\nnode 1 - 0 0\nport 2 1\nnode 2 - 0 0\nport 1 1\nend\n";
 
-// The text of the labels that a scheme marks a connected network with, or `no`.
-fn marks_as<S: Scheme>(alloc: Global, scheme: &S, text: &str) -> Result<Vec<u8>, Fail> {
-    let net = joined(alloc, text)?;
-    match scheme.mark(alloc, &net)? {
-        Some(labels) => Ok(write_labels(alloc, &net, &labels, CodeName::Gamma)?),
-        None => Ok(b"no".to_vec(alloc)?),
+// Whether the text of labels is this.
+fn are_written(
+    alloc: Global,
+    net: &Network,
+    labels: &LabelStore,
+    due: &str,
+) -> Result<bool, NoMemory>
+    requires { length labels.now ≡ length net.now }
+{
+    let text = write_labels(alloc, net, labels, CodeName::Gamma)?;
+    Ok(text.as_slice() == due.as_bytes())
+}
+
+// Whether a scheme marks a network with the labels of a text, or with none where it is `no`.
+fn is_marked<S: Scheme>(
+    alloc: Global,
+    scheme: &S,
+    net: &Network,
+    due: &str,
+) -> Result<bool, NoMemory>
+    requires { IsConnected net.now }
+{
+    match scheme.mark(alloc, net)? {
+        Some(labels) => are_written(alloc, net, &labels, due),
+        None => Ok(due == "no"),
     }
+}
+
+// The same of the connected network of a text.
+fn marks_as<S: Scheme>(alloc: Global, scheme: &S, text: &str, due: &str) -> Result<bool, Fail> {
+    let net = joined(alloc, text)?;
+    Ok(is_marked(alloc, scheme, &net, due)?)
 }
 
 // The labels of a leader of four nodes, and of two nodes that are counted.
@@ -41,14 +71,18 @@ const COUNTED: &str = "labels\nlabel 1 16 495b\nlabel 2 18 4d24c0\nend\n";
 #[test]
 fn leaders_and_numbers_are_marked(rt: HostRuntime) -> Result<(), Fail> {
     let leader = Leader::<Gamma>::new();
-    for (text, due) in [(FIRST, LED), (BOTH, "no"), (TWO, "no")] {
-        let labels = marks_as(rt.alloc(), &leader, text)?;
-        assert!(rt; labels.as_slice() == due.as_bytes(), "the leader of {text}");
+    for (text, due) in &[(FIRST, LED), (BOTH, "no"), (TWO, "no")] {
+        assert!(rt;
+            marks_as(rt.alloc(), &leader, text, due)?,
+            "the leader of {text}"
+        );
     }
     let count = Count::<Gamma>::new();
-    for (text, due) in [(TWO, COUNTED), (NONE, "no")] {
-        let labels = marks_as(rt.alloc(), &count, text)?;
-        assert!(rt; labels.as_slice() == due.as_bytes(), "the number of {text}");
+    for (text, due) in &[(TWO, COUNTED), (NONE, "no")] {
+        assert!(rt;
+            marks_as(rt.alloc(), &count, text, due)?,
+            "the number of {text}"
+        );
     }
     Ok(())
 }
@@ -56,12 +90,31 @@ fn leaders_and_numbers_are_marked(rt: HostRuntime) -> Result<(), Fail> {
 // The rules by which the nodes of a network reject these labels, a digit a node, 0 where it accepts.
 fn judged<V: Checker>(alloc: Global, checker: &V, text: &str, labels: &str) -> Result<u32, Fail> {
     let net = network(alloc, text)?;
-    let (_, store) = read_labels(alloc, labels.as_bytes(), &net)?;
+    judged_in(alloc, checker, &net, labels)
+}
+
+// The same of a network that is read.
+fn judged_in<V: Checker>(
+    alloc: Global,
+    checker: &V,
+    net: &Network,
+    labels: &str,
+) -> Result<u32, Fail> {
+    let (_, store) = read_labels(alloc, labels.as_bytes(), net)?;
+    Ok(digits(
+        checker
+            .round(alloc, net, &store, &mut Steps::new())?
+            .as_slice(),
+    ))
+}
+
+// The rules of verdicts, a digit each.
+fn digits(verdicts: &[Verdict]) -> u32 {
     let mut rules = 0_u32;
-    for verdict in &checker.round(alloc, &net, &store, &mut Steps::new())? {
+    for verdict in verdicts {
         rules = rules.wrapping_mul(10).wrapping_add(rule_of(*verdict));
     }
-    Ok(rules)
+    rules
 }
 
 // The rule by which a verdict rejects, and 0 where it accepts.
@@ -76,47 +129,51 @@ fn rule_of(verdict: Verdict) -> u32 {
 fn roots_and_numbers_are_judged(rt: HostRuntime) -> Result<(), Fail> {
     let leader = Leader::<Gamma>::new();
     let roots = "labels\nlabel 1 4 50\nlabel 2 6 48\nlabel 3 8 2a\nlabel 4 6 2c\nend\n";
-    for (text, labels, rules) in [(BOTH, roots, 330), (FIRST, LED, 0), (BOTH, LED, 6)] {
+    for (text, labels, rules) in &[(BOTH, roots, 330), (FIRST, LED, 0), (BOTH, LED, 6)] {
         assert!(rt;
-            judged(rt.alloc(), &leader, text, labels)? == rules,
+            judged(rt.alloc(), &leader, text, labels)? == *rules,
             "rules {rules}"
         );
     }
     let count = Count::<Gamma>::new();
-    for (text, rules) in [(TWO, 0), (NONE, 44)] {
+    for (text, rules) in &[(TWO, 0), (NONE, 44)] {
         assert!(rt;
-            judged(rt.alloc(), &count, text, COUNTED)? == rules,
+            judged(rt.alloc(), &count, text, COUNTED)? == *rules,
             "rules {rules}"
         );
     }
     Ok(())
 }
 
-// The text of a network, where the bits of the pointers tell which nodes are marked, and which know
-// how many nodes there are.
-fn text_of(alloc: Global, net: Small) -> Result<String, AllocError> {
-    let mut text = String::from_str(alloc, "network\n")?;
+// Writes a network, where the bits of the pointers tell which nodes are marked, and which know how
+// many nodes there are.
+fn write_marked(text: &mut String, net: Small) -> Result<(), AllocError> {
+    text.push_str("network\n")?;
     for node in 0..net.nodes.min(4) {
         let mark = u32::from(has(net.pointers, node));
         let number = if mark == 1 { net.nodes } else { 0 };
-        text.push_str(format!(in alloc; "node {node} - {mark} {number}\n")?.as_str())?;
-        for nbr in 0..net.nodes.min(4) {
-            if Small::joins(net.edges, node, nbr) {
-                text.push_str(format!(in alloc; "port {nbr} 1\n")?.as_str())?;
-            }
-        }
+        write!(text, "node {node} - {mark} {number}\n")?;
+        write_ports(text, net, node)?;
     }
-    text.push_str("end\n")?;
-    Ok(text)
+    text.push_str("end\n")
 }
 
 // Whether the schemes mark a network as the plain count of its marked nodes says.
-fn is_as_counted(alloc: Global, net: Small) -> Result<bool, Fail> {
-    let read = joined(alloc, text_of(alloc, net)?.as_str())?;
+fn is_counted(alloc: Global, read: &Network, net: Small) -> Result<bool, Fail>
+    requires { IsConnected read.now }
+{
+    let led = marks(alloc, &Leader::<Gamma>::new(), read)?;
+    let counted = marks(alloc, &Count::<Gamma>::new(), read)?;
     let marked = net.pointers.count_ones();
-    let led = marks(alloc, &Leader::<Gamma>::new(), &read)?;
-    let counted = marks(alloc, &Count::<Gamma>::new(), &read)?;
     Ok(led == (marked == 1) && counted == (marked == net.nodes))
+}
+
+// The same of a network that is read.
+fn is_as_counted(alloc: Global, net: Small) -> Result<bool, Fail> {
+    let mut text = String::new(alloc);
+    write_marked(&mut text, net)?;
+    let read = joined(alloc, text.as_str())?;
+    is_counted(alloc, &read, net)
 }
 
 // How many networks of so many nodes with these edges are not as they should be.

@@ -2,6 +2,7 @@
 //! just where a plain program does that tries all there is to try, and then its labels are
 //! accepted.
 
+ghost use Rattle.std.specs.Prelude.{◌≡◌, IfOk, length};
 ghost use Rattle.pls_model.specs.Walk.{IsConnected};
 
 use super::joined;
@@ -11,6 +12,7 @@ use pls_colour::{Acyclic, Bipartite};
 use pls_graph::Network;
 use pls_pointer::{Forest, Tree};
 use pls_scheme::{Scheme, certifies};
+use pls_view::LabelStore;
 use std::alloc::{AllocError, Global};
 use std::test::Fail;
 
@@ -176,9 +178,39 @@ fn closes(edges: u32, a: u32, b: u32, c: u32) -> bool {
     (0..4).any(|d| d != b && Small::joins(edges, c, d) && Small::joins(edges, d, a))
 }
 
-// The text of a network.
-pub(super) fn text_of(alloc: Global, net: Small) -> Result<String, AllocError> {
-    text_with(alloc, net, 0, 0)
+// Writes the line of a node.
+pub(super) fn write_node(
+    text: &mut String,
+    net: Small,
+    node: u32,
+    mark: u32,
+    number: u32,
+) -> Result<(), AllocError> {
+    match net.pointer(node) {
+        0 => write!(text, "node {node} - {mark} {number}\n"),
+        up => write!(text, "node {node} {} {mark} {number}\n", up - 1),
+    }
+}
+
+// Writes the lines of the ports of a node, of weight 1.
+pub(super) fn write_ports(text: &mut String, net: Small, node: u32) -> Result<(), AllocError> {
+    for nbr in 0..net.nodes.min(4) {
+        if Small::joins(net.edges, node, nbr) {
+            write!(text, "port {nbr} 1\n")?;
+        }
+    }
+    Ok(())
+}
+
+// Writes a network in which the first node has this mark, and each node this number.
+fn write_with(text: &mut String, net: Small, mark: u32, number: u32) -> Result<(), AllocError> {
+    text.push_str("network\n")?;
+    for node in 0..net.nodes.min(4) {
+        let mark = if node == 0 { mark } else { 0 };
+        write_node(text, net, node, mark, number)?;
+        write_ports(text, net, node)?;
+    }
+    text.push_str("end\n")
 }
 
 // The text of a network in which the first node has this mark, and each node this number.
@@ -188,22 +220,17 @@ pub(super) fn text_with(
     mark: u32,
     number: u32,
 ) -> Result<String, AllocError> {
-    let mut text = String::from_str(alloc, "network\n")?;
-    for node in 0..net.nodes.min(4) {
-        let mark = if node == 0 { mark } else { 0 };
-        let line = match net.pointer(node) {
-            0 => format!(in alloc; "node {node} - {mark} {number}\n")?,
-            up => format!(in alloc; "node {node} {} {mark} {number}\n", up - 1)?,
-        };
-        text.push_str(line.as_str())?;
-        for nbr in 0..net.nodes.min(4) {
-            if Small::joins(net.edges, node, nbr) {
-                text.push_str(format!(in alloc; "port {nbr} 1\n")?.as_str())?;
-            }
-        }
-    }
-    text.push_str("end\n")?;
+    let mut text = String::new(alloc);
+    write_with(&mut text, net, mark, number)?;
     Ok(text)
+}
+
+// A connected network without marks and numbers.
+pub(super) fn joined_small(alloc: Global, net: Small) -> Result<Network, Fail>
+    ensures { IfOk result (λ net. IsConnected net) }
+{
+    let text = text_with(alloc, net, 0, 0)?;
+    joined(alloc, text.as_str())
 }
 
 // Whether a scheme marks a connected network; what it decides is to be the same, and all nodes are
@@ -212,25 +239,60 @@ pub(super) fn marks<S: Scheme>(alloc: Global, scheme: &S, net: &Network) -> Resu
     requires { IsConnected net.now }
 {
     let decided = scheme.decide(alloc, net)?;
-    match scheme.mark(alloc, net)? {
-        Some(labels) if decided && certifies(alloc, scheme, net, &labels, &mut Steps::new())? => {
-            Ok(true)
-        }
-        None if !decided => Ok(false),
-        _ => Err(Fail::from("decided and marked differ")),
+    if is_certified(alloc, scheme, net)? == decided {
+        Ok(decided)
+    } else {
+        Err(Fail::from("decided and marked differ"))
     }
 }
 
-// Whether the schemes mark a network as the plain programs decide.
-fn is_as_decided(alloc: Global, net: Small) -> Result<bool, Fail> {
-    let text = text_of(alloc, net)?;
-    let read = joined(alloc, text.as_str())?;
+// Whether a scheme marks a connected network; all nodes are to accept its labels.
+fn is_certified<S: Scheme>(alloc: Global, scheme: &S, net: &Network) -> Result<bool, Fail>
+    requires { IsConnected net.now }
+{
+    match scheme.mark(alloc, net)? {
+        Some(labels) => are_accepted(alloc, scheme, net, &labels),
+        None => Ok(false),
+    }
+}
+
+// True where all nodes accept these labels.
+fn are_accepted<S: Scheme>(
+    alloc: Global,
+    scheme: &S,
+    net: &Network,
+    labels: &LabelStore,
+) -> Result<bool, Fail>
+    requires connected { IsConnected net.now }
+    requires each { length labels.now ≡ length net.now }
+{
+    if certifies(alloc, scheme, net, labels, &mut Steps::new())? {
+        Ok(true)
+    } else {
+        Err(Fail::from("marked and not accepted"))
+    }
+}
+
+// Whether the schemes mark a network as the plain programs decide of it.
+fn is_marked(alloc: Global, read: &Network, net: Small) -> Result<bool, Fail>
+    requires { IsConnected read.now }
+{
+    let tree = marks(alloc, &Tree::<Gamma>::new(), read)?;
+    let forest = marks(alloc, &Forest::<Gamma>::new(), read)?;
+    let bipartite = marks(alloc, &Bipartite::<Gamma>::new(), read)?;
+    let acyclic = marks(alloc, &Acyclic::<Gamma>::new(), read)?;
     Ok(
-        marks(alloc, &Tree::<Gamma>::new(), &read)? == is_tree(net)
-            && marks(alloc, &Forest::<Gamma>::new(), &read)? == is_forest(net)
-            && marks(alloc, &Bipartite::<Gamma>::new(), &read)? == is_bipartite(net)
-            && marks(alloc, &Acyclic::<Gamma>::new(), &read)? == is_acyclic(net),
+        tree == is_tree(net)
+            && forest == is_forest(net)
+            && bipartite == is_bipartite(net)
+            && acyclic == is_acyclic(net),
     )
+}
+
+// The same of a network that is read.
+fn is_as_decided(alloc: Global, net: Small) -> Result<bool, Fail> {
+    let read = joined_small(alloc, net)?;
+    is_marked(alloc, &read, net)
 }
 
 // How many networks of so many nodes with these edges and all pointers are as they should be; all

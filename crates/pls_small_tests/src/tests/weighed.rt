@@ -2,10 +2,13 @@
 //! and all pointers, of four nodes all that make a tree, decided as plain programs do that try all
 //! walks and all sets of edges.
 
+ghost use Rattle.pls_model.specs.Walk.{IsConnected};
+
 use super::joined;
-use super::small::{SETS, Small, are_joined, has, is_tree, marks, pair, pointed};
+use super::small::{SETS, Small, are_joined, has, is_tree, marks, pair, pointed, write_node};
 use pls_bits::Gamma;
 use pls_distance::Spt;
+use pls_graph::Network;
 use pls_mst::Mst;
 use std::alloc::{AllocError, Global};
 use std::test::Fail;
@@ -89,35 +92,37 @@ impl Weighed {
             })
     }
 
-    // The text of the network.
-    fn text(self, alloc: Global) -> Result<String, AllocError> {
-        let mut text = String::from_str(alloc, "network\n")?;
+    // Writes the network.
+    fn write(self, text: &mut String) -> Result<(), AllocError> {
+        text.push_str("network\n")?;
         for node in 0..self.net.nodes.min(4) {
-            let line = match self.net.pointer(node) {
-                0 => format!(in alloc; "node {node} - 0 0\n")?,
-                up => format!(in alloc; "node {node} {} 0 0\n", up - 1)?,
-            };
-            text.push_str(line.as_str())?;
+            write_node(text, self.net, node, 0, 0)?;
             for nbr in 0..self.net.nodes.min(4) {
                 if Small::joins(self.net.edges, node, nbr) {
                     let weight = self.weight(node, nbr);
-                    text.push_str(format!(in alloc; "port {nbr} {weight}\n")?.as_str())?;
+                    write!(text, "port {nbr} {weight}\n")?;
                 }
             }
         }
-        text.push_str("end\n")?;
-        Ok(text)
+        text.push_str("end\n")
     }
 }
 
-// Whether the schemes mark a network as the plain programs decide.
+// Whether the schemes mark a network as the plain programs decide of it.
+fn is_marked(alloc: Global, read: &Network, weighed: Weighed) -> Result<bool, Fail>
+    requires { IsConnected read.now }
+{
+    let shortest = marks(alloc, &Spt::<Gamma>::new(), read)?;
+    let lightest = marks(alloc, &Mst::<Gamma>::new(), read)?;
+    Ok(shortest == weighed.is_shortest() && lightest == weighed.is_lightest())
+}
+
+// The same of a network that is read.
 fn is_as_decided(alloc: Global, weighed: Weighed) -> Result<bool, Fail> {
-    let text = weighed.text(alloc)?;
+    let mut text = String::new(alloc);
+    weighed.write(&mut text)?;
     let read = joined(alloc, text.as_str())?;
-    Ok(
-        marks(alloc, &Spt::<Gamma>::new(), &read)? == weighed.is_shortest()
-            && marks(alloc, &Mst::<Gamma>::new(), &read)? == weighed.is_lightest(),
-    )
+    is_marked(alloc, &read, weighed)
 }
 
 // How many choices of weights a network has, with each of which it is as it should be; with all it
