@@ -9,6 +9,7 @@ mod graph;
 mod labelfile;
 mod lines;
 mod netfile;
+mod plain;
 mod rechecks;
 mod views;
 mod ways;

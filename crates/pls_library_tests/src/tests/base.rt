@@ -6,6 +6,7 @@ use pls_base::{
 };
 use std::alloc::Global;
 use std::io::{self, ErrorKind, Read};
+use std::process::Abort;
 use std::test::Fail;
 
 // All that is left of a source, if it is no more than so many bytes.
@@ -18,23 +19,25 @@ fn write<K: Sink>(sink: &mut K, bytes: &[u8]) -> Result<(), Fault> {
     write_all(sink, bytes)
 }
 
+// Asserts what is read of a source of four bytes whose third call fails.
+fn assert_reads<S: Source>(rt: &impl Abort, alloc: Global, source: &mut S) -> Result<(), Fail> {
+    assert!(rt; read(alloc, source, 9) == Err(ReadError::Fault), "a fault");
+    assert!(rt;
+        read(alloc, source, 1) == Err(ReadError::TooLong),
+        "too long"
+    );
+    assert!(rt;
+        read(alloc, source, 0)?.is_empty(),
+        "all four bytes are gone"
+    );
+    Ok(())
+}
+
 #[test]
 fn a_read_fails_in_mid_stream(rt: HostRuntime) -> Result<(), Fail> {
     let alloc = rt.alloc();
     let mut source = MemSource::new(b"abcd".to_vec(alloc)?, 1, vec![in alloc; 3]?);
-    assert!(rt;
-        read(alloc, &mut source, 9) == Err(ReadError::Fault),
-        "a fault"
-    );
-    assert!(rt;
-        read(alloc, &mut source, 1) == Err(ReadError::TooLong),
-        "too long"
-    );
-    assert!(rt;
-        read(alloc, &mut source, 0)?.is_empty(),
-        "all four bytes are gone"
-    );
-    Ok(())
+    assert_reads(&rt, alloc, &mut source)
 }
 
 #[test]

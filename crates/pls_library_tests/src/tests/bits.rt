@@ -1,8 +1,9 @@
 //! Known hex texts, and digits that are refused.
 
 use pls_base::NoMemory;
-use pls_bits::{BitBuf, HexError, from_hex, spells_bits};
+use pls_bits::{BitBuf, Bits, Cursor, HexError, from_hex, spells_bits};
 use std::alloc::Global;
+use std::process::Abort;
 use std::test::Fail;
 
 // The bits that a text of `0` and `1` shows.
@@ -79,21 +80,38 @@ fn refused_digits(rt: HostRuntime) {
     }
 }
 
+// The bits of two texts, the second behind the first.
+pub(super) fn joined(alloc: Global, front: &str, back: &str) -> Result<BitBuf, NoMemory> {
+    let mut buf = bits_of(alloc, front)?;
+    append(alloc, &mut buf, back)?;
+    Ok(buf)
+}
+
+// Puts the bits of a text behind others.
+fn append(alloc: Global, buf: &mut BitBuf, text: &str) -> Result<(), NoMemory> {
+    let bits = bits_of(alloc, text)?;
+    buf.append(bits.bits())
+}
+
+// Asserts what a cursor gives of four bits, `0` and then `front` and `1`.
+fn assert_cursor(rt: &impl Abort, cursor: &mut Cursor<'_>, front: Bits<'_>) -> Result<(), Fail> {
+    assert!(rt; cursor.bit() == Some(false), "the first bit");
+    assert!(rt; cursor.take(4).is_none(), "only three bits are left");
+    let two = cursor.take(2).ok_or("two bits")?;
+    assert!(rt; two.equal(front), "the two bits behind it");
+    assert!(rt; cursor.rest().len() == 1, "one bit is left");
+    assert!(rt; cursor.bit() == Some(true), "the last bit");
+    assert!(rt; cursor.bit().is_none(), "no bit is left");
+    assert!(rt; cursor.rest().is_empty(), "the rest is empty");
+    Ok(())
+}
+
 #[test]
 fn a_cursor_stays_where_too_little_is_left(rt: HostRuntime) -> Result<(), Fail> {
-    let mut buf = bits_of(rt.alloc(), "101")?;
-    buf.append(bits_of(rt.alloc(), "01")?.bits())?;
+    let front = bits_of(rt.alloc(), "10")?;
+    let buf = joined(rt.alloc(), "101", "01")?;
     assert_eq!(rt; buf.len(), 5);
-    let mut cursor = buf.bits().cut(1, 5).cursor();
-    assert_eq!(rt; cursor.bit(), Some(false));
-    assert!(rt; cursor.take(4).is_none());
-    let front = cursor.take(2).ok_or("two bits")?;
-    assert!(rt; front.equal(bits_of(rt.alloc(), "10")?.bits()));
-    assert_eq!(rt; cursor.rest().len(), 1);
-    assert_eq!(rt; cursor.bit(), Some(true));
-    assert_eq!(rt; cursor.bit(), None);
-    assert!(rt; cursor.rest().is_empty());
-    Ok(())
+    assert_cursor(&rt, &mut buf.bits().cut(1, 5).cursor(), front.bits())
 }
 
 // So many zeros and then so many ones.

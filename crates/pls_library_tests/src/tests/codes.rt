@@ -1,10 +1,17 @@
 //! Known codes of numbers, and bits that no code stands in front of.
 
-use super::bits::bits_of;
+use super::bits::{bits_of, joined};
 use pls_base::NoMemory;
-use pls_bits::{Delta, Gamma, MAX_CODED, NumCode};
+use pls_bits::{BitBuf, Delta, Gamma, MAX_CODED, NumCode};
 use std::alloc::Global;
 use std::test::Fail;
+
+// The code of a number behind these bits.
+fn coded<C: NumCode>(alloc: Global, front: &str, number: u64) -> Result<BitBuf, NoMemory> {
+    let mut buf = bits_of(alloc, front)?;
+    C::write(&mut buf, number.min(MAX_CODED))?;
+    Ok(buf)
+}
 
 // Whether the code of a number is these bits, also behind others, and is read as it.
 fn is_code<C: NumCode>(
@@ -13,10 +20,8 @@ fn is_code<C: NumCode>(
     number: u64,
     code: &str,
 ) -> Result<bool, NoMemory> {
-    let mut wanted = bits_of(alloc, front)?;
-    wanted.append(bits_of(alloc, code)?.bits())?;
-    let mut buf = bits_of(alloc, front)?;
-    C::write(&mut buf, number.min(MAX_CODED))?;
+    let buf = coded::<C>(alloc, front, number)?;
+    let wanted = joined(alloc, front, code)?;
     let mut cursor = buf.bits().cursor();
     Ok(
         buf.bits().equal(wanted.bits())

@@ -1,13 +1,17 @@
 //! Networks of several components: the components by themselves, and what is marked of them.
 
 use super::network;
+use pls_base::NoMemory;
 use pls_bits::Gamma;
 use pls_colour::{Acyclic, Bipartite};
 use pls_components::{
-    Components, Marked, bound_parts, components, in_a_component, mark_parts, room_parts,
+    Components, IdList, Marked, bound_parts, components, in_a_component, mark_parts, room_parts,
 };
-use pls_graph::connected;
+use pls_graph::{Network, connected};
+use pls_scheme::Scheme;
+use pls_view::LabelStore;
 use std::alloc::Global;
+use std::process::Abort;
 use std::test::Fail;
 
 // Two nodes with an edge, and one alone.
@@ -30,20 +34,31 @@ fn has_places(parts: &Components, k: usize, places: &[u32]) -> bool {
     k < parts.len() && parts.members(k) == places
 }
 
+// Networks, and at which places their components have their nodes.
+const PLACES: &[(&str, &[&[u32]])] = &[
+    (PAIR_AND_ONE, &[&[0, 1], &[2]]),
+    (EIGHT, &[&[0, 3, 5], &[1, 4, 7], &[2, 6]]),
+    (TRIANGLE, &[&[0, 1, 2]]),
+];
+
+// Asserts at which places the components have their nodes.
+fn assert_places(rt: &impl Abort, parts: &Components, due: &[&[u32]]) {
+    assert!(rt; parts.len() == due.len(), "{} components", due.len());
+    for (k, places) in due.iter().enumerate() {
+        assert!(rt;
+            has_places(parts, k, places),
+            "component {k} of {}",
+            due.len()
+        );
+    }
+}
+
 #[test]
 fn components_come_by_their_smallest_identities(rt: HostRuntime) -> Result<(), Fail> {
-    let pair = network(rt.alloc(), PAIR_AND_ONE)?;
-    let two = components(rt.alloc(), &pair)?;
-    assert!(rt; two.len() == 2 && has_places(&two, 0, &[0, 1]), "the pair");
-    assert!(rt; has_places(&two, 1, &[2]), "the node alone");
-    let eight = network(rt.alloc(), EIGHT)?;
-    let three = components(rt.alloc(), &eight)?;
-    assert!(rt;
-        three.len() == 3 && has_places(&three, 0, &[0, 3, 5]),
-        "1, 4 and 6"
-    );
-    assert!(rt; has_places(&three, 1, &[1, 4, 7]), "2, 5 and 8");
-    assert!(rt; has_places(&three, 2, &[2, 6]), "3 and 7");
+    for (text, due) in PLACES {
+        let parts = components(rt.alloc(), &network(rt.alloc(), text)?)?;
+        assert_places(&rt, &parts, due);
+    }
     Ok(())
 }
 
@@ -51,9 +66,7 @@ fn components_come_by_their_smallest_identities(rt: HostRuntime) -> Result<(), F
 fn a_node_is_in_its_component(rt: HostRuntime) -> Result<(), Fail> {
     let eight = network(rt.alloc(), EIGHT)?;
     let three = components(rt.alloc(), &eight)?;
-    if eight.len() != 8 {
-        return Err(Fail::from("not eight nodes"));
-    }
+    assert!(rt; eight.len() == 8, "eight nodes");
     for (place, due) in [0, 1, 2, 0, 1, 0, 2, 1].iter().enumerate() {
         in_a_component(&eight, &three, place);
         assert!(rt; three.of(place) == *due, "the node at place {place}");
@@ -61,35 +74,43 @@ fn a_node_is_in_its_component(rt: HostRuntime) -> Result<(), Fail> {
     Ok(())
 }
 
-#[test]
-fn a_component_is_a_connected_network(rt: HostRuntime) -> Result<(), Fail> {
-    let eight = network(rt.alloc(), EIGHT)?;
-    let three = components(rt.alloc(), &eight)?;
+// The second of the three components of a network, by itself.
+fn second_part(alloc: Global, net: &Network) -> Result<Network, Fail> {
+    let three = components(alloc, net)?;
     if three.len() != 3 {
         return Err(Fail::from("not three components"));
     }
-    let part = three.part(rt.alloc(), &eight, 1)?;
+    Ok(three.part(alloc, net, 1)?)
+}
+
+#[test]
+fn a_component_is_a_connected_network(rt: HostRuntime) -> Result<(), Fail> {
+    let part = second_part(rt.alloc(), &network(rt.alloc(), EIGHT)?)?;
     assert!(rt;
         part.len() == 3 && part.place_of(8) == Some(2),
         "2, 5 and 8"
     );
-    assert_eq!(rt; connected(rt.alloc(), &part), Ok(None));
+    assert!(rt; connected(rt.alloc(), &part) == Ok(None), "it is connected");
     Ok(())
 }
 
-#[test]
-fn each_component_is_marked_by_itself(rt: HostRuntime) -> Result<(), Fail> {
-    let pair = network(rt.alloc(), PAIR_AND_ONE)?;
-    let two = components(rt.alloc(), &pair)?;
-    let Marked::Labels(labels) = mark_parts(rt.alloc(), &Bipartite::<Gamma>::new(), &pair, &two)?
-    else {
-        return Err(Fail::from("not marked"));
-    };
-    for (place, due) in ["00", "80", "00"].iter().enumerate() {
-        if place >= labels.len() {
-            return Err(Fail::from("not three labels"));
-        }
-        let hex = labels.bits(place).to_hex(rt.alloc())?;
+// A colouring of the components of the network of a text, each by itself.
+fn colouring(alloc: Global, text: &str) -> Result<Marked, Fail> {
+    let net = network(alloc, text)?;
+    let parts = components(alloc, &net)?;
+    Ok(mark_parts(alloc, &Bipartite::<Gamma>::new(), &net, &parts)?)
+}
+
+// Asserts which labels there are.
+fn assert_labels(
+    rt: &impl Abort,
+    alloc: Global,
+    labels: &LabelStore,
+    due: &[&str],
+) -> Result<(), Fail> {
+    assert!(rt; labels.len() == due.len(), "{} labels", due.len());
+    for (place, due) in due.iter().enumerate() {
+        let hex = labels.bits(place).to_hex(alloc)?;
         assert!(rt;
             hex.as_bytes() == due.as_bytes(),
             "the label at place {place}"
@@ -99,44 +120,65 @@ fn each_component_is_marked_by_itself(rt: HostRuntime) -> Result<(), Fail> {
 }
 
 #[test]
+fn each_component_is_marked_by_itself(rt: HostRuntime) -> Result<(), Fail> {
+    match colouring(rt.alloc(), PAIR_AND_ONE)? {
+        Marked::Labels(labels) => assert_labels(&rt, rt.alloc(), &labels, &["00", "80", "00"]),
+        Marked::Lacking(_) => Err(Fail::from("not marked")),
+    }
+}
+
+// The smallest identities of the components of the network of a text that have no colouring.
+fn not_coloured(alloc: Global, text: &str) -> Result<IdList, Fail> {
+    match colouring(alloc, text)? {
+        Marked::Labels(_) => Err(Fail::from("marked")),
+        Marked::Lacking(ids) => Ok(ids),
+    }
+}
+
+#[test]
 fn all_components_that_lack_the_property_are_named(rt: HostRuntime) -> Result<(), Fail> {
-    let eight = network(rt.alloc(), EIGHT)?;
-    let three = components(rt.alloc(), &eight)?;
-    let Marked::Lacking(ids) = mark_parts(rt.alloc(), &Bipartite::<Gamma>::new(), &eight, &three)?
-    else {
-        return Err(Fail::from("marked"));
-    };
-    let triangles = [1, 2];
-    assert_eq!(rt; ids.as_slice(), triangles.as_slice());
+    let ids = not_coloured(rt.alloc(), EIGHT)?;
+    assert!(rt; ids.as_slice() == [1, 2].as_slice(), "the two triangles");
     Ok(())
+}
+
+// The greatest number of bits of a label of a network, whose components are marked each by itself.
+fn bound<S: Scheme>(alloc: Global, scheme: &S, net: &Network) -> Result<u64, NoMemory> {
+    let parts = components(alloc, net)?;
+    bound_parts(alloc, scheme, net, &parts)
+}
+
+// The greatest number of bits of all its labels together.
+fn room<S: Scheme>(alloc: Global, scheme: &S, net: &Network) -> Result<u64, NoMemory> {
+    let parts = components(alloc, net)?;
+    room_parts(alloc, scheme, net, &parts)
+}
+
+// Both numbers of the network of a text.
+fn bounds<S: Scheme>(alloc: Global, scheme: &S, text: &str) -> Result<(u64, u64), Fail> {
+    let net = network(alloc, text)?;
+    Ok((bound(alloc, scheme, &net)?, room(alloc, scheme, &net)?))
 }
 
 // Depths up to 3 have 5 bits in the gamma code, and those up to 2 have 3.
 #[test]
 fn bounds_are_those_of_the_components(rt: HostRuntime) -> Result<(), Fail> {
-    let eight = network(rt.alloc(), EIGHT)?;
-    let three = components(rt.alloc(), &eight)?;
     let acyclic = Acyclic::<Gamma>::new();
-    assert_eq!(rt; bound_parts(rt.alloc(), &acyclic, &eight, &three), Ok(5));
-    assert_eq!(rt; room_parts(rt.alloc(), &acyclic, &eight, &three), Ok(36));
+    assert!(rt;
+        bounds(rt.alloc(), &acyclic, EIGHT)? == (5, 36),
+        "5 bits a label, and 36 together"
+    );
     Ok(())
 }
 
 #[test]
 fn a_connected_network_is_one_component(rt: HostRuntime) -> Result<(), Fail> {
-    let triangle = network(rt.alloc(), TRIANGLE)?;
-    let one = components(rt.alloc(), &triangle)?;
-    assert!(rt;
-        one.len() == 1 && has_places(&one, 0, &[0, 1, 2]),
-        "all three nodes"
-    );
+    let ids = not_coloured(rt.alloc(), TRIANGLE)?;
+    assert!(rt; ids.as_slice() == [2].as_slice(), "the smallest identity");
     let bipartite = Bipartite::<Gamma>::new();
-    let Marked::Lacking(ids) = mark_parts(rt.alloc(), &bipartite, &triangle, &one)? else {
-        return Err(Fail::from("marked"));
-    };
-    let smallest = [2];
-    assert_eq!(rt; ids.as_slice(), smallest.as_slice());
-    assert_eq!(rt; bound_parts(rt.alloc(), &bipartite, &triangle, &one), Ok(1));
-    assert_eq!(rt; room_parts(rt.alloc(), &bipartite, &triangle, &one), Ok(3));
+    assert!(rt;
+        bounds(rt.alloc(), &bipartite, TRIANGLE)? == (1, 3),
+        "a bit a label, and 3 together"
+    );
     Ok(())
 }

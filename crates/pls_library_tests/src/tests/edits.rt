@@ -1,49 +1,13 @@
-//! Networks that are edited: all edits of all small networks are compared with a plain program that
-//! keeps nodes and ports in two lists.
+//! Networks that are edited: all edits of all small networks are compared with the plain program.
 
 ghost use Rattle.std.specs.Prelude.{◌<◌, length};
 
 use super::network;
+use super::plain::{Edit, Plain, WEIGHT, small};
 use pls_graph::{Network, State};
 use pls_graph_edits::{EditError, join, leave, link, set_state, set_weight, unlink};
-use std::alloc::{AllocError, Global};
+use std::alloc::Global;
 use std::test::Fail;
-
-// A node of the plain program, and its pointer.
-#[derive(Clone, Copy)]
-struct PlainNode {
-    id: u32,
-    up: Option<u32>,
-}
-
-// A port of the plain program: whose it is, and the port.
-#[derive(Clone, Copy)]
-struct PlainPort {
-    owner: u32,
-    nbr: u32,
-    weight: u32,
-}
-
-// A network as two lists: its nodes, and its ports, those of a node in their order.
-#[derive(Drop)]
-struct Plain {
-    nodes: Vec<PlainNode>,
-    ports: Vec<PlainPort>,
-}
-
-// An edit of a network.
-#[derive(Clone, Copy)]
-enum Edit {
-    State(u32, Option<u32>),
-    Weight(u32, u32),
-    Link(u32, u32),
-    Unlink(u32, u32),
-    Join(u32),
-    Leave(u32),
-}
-
-// The weight that an edit gives.
-const WEIGHT: u32 = 8;
 
 // Makes the edit of a network.
 fn make(net: &mut Network, edit: Edit) -> Option<EditError> {
@@ -64,174 +28,6 @@ fn make(net: &mut Network, edit: Edit) -> Option<EditError> {
         Edit::Leave(id) => leave(net, id),
     };
     answer.err()
-}
-
-impl Plain {
-    fn has(&self, id: u32) -> bool {
-        self.nodes.as_slice().iter().any(|node| node.id == id)
-    }
-
-    fn degree(&self, id: u32) -> usize {
-        let mut count = 0_usize;
-        for port in &self.ports {
-            count = count.saturating_add(usize::from(port.owner == id));
-        }
-        count
-    }
-
-    // The number of the port of a node to another.
-    fn number(&self, owner: u32, nbr: u32) -> Option<u32> {
-        let mut number = 0_u32;
-        for port in &self.ports {
-            if port.owner == owner {
-                if port.nbr == nbr {
-                    return Some(number);
-                }
-                number = number.saturating_add(1);
-            }
-        }
-        None
-    }
-
-    // Why an edit is refused.
-    fn refusal(&self, edit: Edit) -> Option<EditError> {
-        match edit {
-            Edit::State(id, _) | Edit::Leave(id) if !self.has(id) => Some(EditError::Absent),
-            Edit::State(id, Some(up)) if up as usize >= self.degree(id) => Some(EditError::Pointer),
-            Edit::Weight(a, b) | Edit::Unlink(a, b) if self.number(a, b).is_none() => {
-                Some(EditError::Absent)
-            }
-            Edit::Link(a, b) if !self.has(a) || !self.has(b) => Some(EditError::Absent),
-            Edit::Link(a, b) if a == b => Some(EditError::SelfLink),
-            Edit::Link(a, b) if self.number(a, b).is_some() => Some(EditError::Present),
-            Edit::Join(id) if self.has(id) => Some(EditError::Present),
-            Edit::Leave(id) if self.degree(id) > 0 => Some(EditError::HasPorts),
-            Edit::Leave(_) if self.nodes.len() == 1 => Some(EditError::Last),
-            _ => None,
-        }
-    }
-
-    // Gives a node the pointer.
-    fn point(&mut self, id: u32, up: Option<u32>) {
-        for node in self.nodes.iter_mut() {
-            if node.id == id {
-                node.up = up;
-            }
-        }
-    }
-
-    // Takes the port of a node to another away, and mends the pointer.
-    fn cut(&mut self, owner: u32, nbr: u32) {
-        let number = self.number(owner, nbr);
-        for node in self.nodes.iter_mut() {
-            if node.id == owner && node.up.is_some() {
-                node.up = match (node.up, number) {
-                    (Some(up), Some(gone)) if up > gone => Some(up - 1),
-                    (up, gone) if up == gone => None,
-                    (up, _) => up,
-                };
-            }
-        }
-        self.ports
-            .retain(|port| !(port.owner == owner && port.nbr == nbr));
-    }
-
-    // Makes the edit, which is not refused.
-    fn make(&mut self, edit: Edit) -> Result<(), AllocError> {
-        match edit {
-            Edit::State(id, up) => self.point(id, up),
-            Edit::Weight(a, b) => {
-                for port in self.ports.iter_mut() {
-                    let ends = (port.owner, port.nbr);
-                    if ends == (a, b) || ends == (b, a) {
-                        port.weight = WEIGHT;
-                    }
-                }
-            }
-            Edit::Link(a, b) => {
-                for (owner, nbr) in [(a, b), (b, a)] {
-                    self.ports.push(PlainPort {
-                        owner,
-                        nbr,
-                        weight: WEIGHT,
-                    })?;
-                }
-            }
-            Edit::Unlink(a, b) => {
-                self.cut(a, b);
-                self.cut(b, a);
-            }
-            Edit::Join(id) => {
-                self.nodes.push(PlainNode { id, up: None })?;
-                self.nodes.sort_by_key(|node| node.id)?;
-            }
-            Edit::Leave(id) => self.nodes.retain(|node| node.id != id),
-        }
-        Ok(())
-    }
-
-    // The text of the network.
-    fn text(&self, alloc: Global) -> Result<String, AllocError> {
-        let mut text = String::from_str(alloc, "network\n")?;
-        for node in &self.nodes {
-            text.push_str(line_of(alloc, *node)?.as_str())?;
-            for port in &self.ports {
-                if port.owner == node.id {
-                    let (nbr, weight) = (port.nbr, port.weight);
-                    text.push_str(format!(in alloc; "port {nbr} {weight}\n")?.as_str())?;
-                }
-            }
-        }
-        text.push_str("end\n")?;
-        Ok(text)
-    }
-
-    // The same once more.
-    fn again(&self, alloc: Global) -> Result<Plain, AllocError> {
-        Ok(Plain {
-            nodes: self.nodes.as_slice().to_vec(alloc)?,
-            ports: self.ports.as_slice().to_vec(alloc)?,
-        })
-    }
-}
-
-// The line of a node.
-fn line_of(alloc: Global, node: PlainNode) -> Result<String, AllocError> {
-    let id = node.id;
-    match node.up {
-        None => format!(in alloc; "node {id} - 0 0\n"),
-        Some(up) => format!(in alloc; "node {id} {up} 0 0\n"),
-    }
-}
-
-// The nodes 1, 3 and 5, as many as are wanted, with these edges, one bit a pair, and pointers, two
-// bits a node: 3 for none, else the number of a port. `None` where a pointer names no port.
-fn small(
-    alloc: Global,
-    nodes: u32,
-    edges: u32,
-    pointers: u32,
-) -> Result<Option<Plain>, AllocError> {
-    let mut plain = Plain {
-        nodes: Vec::new(alloc),
-        ports: Vec::new(alloc),
-    };
-    for (bit, a, b) in [(1, 1, 3), (2, 3, 5), (4, 1, 5)] {
-        if edges & bit != 0 {
-            plain.make(Edit::Link(a, b))?;
-        }
-    }
-    for (id, shift) in [(1, 0), (3, 2), (5, 4)] {
-        if id < 2 * nodes.min(3) {
-            let up = pointers.wrapping_shr(shift) & 3;
-            let up = if up == 3 { None } else { Some(up) };
-            if up.is_some_and(|up| up as usize >= plain.degree(id)) {
-                return Ok(None);
-            }
-            plain.nodes.push(PlainNode { id, up })?;
-        }
-    }
-    Ok(Some(plain))
 }
 
 // Whether the pointers of nodes that are not there are none.
@@ -292,9 +88,14 @@ const MORE: &[Edit] = &[
 fn ends_alike(alloc: Global, plain: &Plain, text: &str, first: Edit) -> Result<bool, Fail> {
     let mut net = network(alloc, text)?;
     let mut plain = plain.again(alloc)?;
-    let mut alike = agree(&mut net, &mut plain, first)?;
+    end_alike(&mut net, &mut plain, first)
+}
+
+// The same of a network and the plain one that are edited.
+fn end_alike(net: &mut Network, plain: &mut Plain, first: Edit) -> Result<bool, Fail> {
+    let mut alike = agree(net, plain, first)?;
     for next in MORE {
-        alike &= agree(&mut net, &mut plain, *next)?;
+        alike &= agree(net, plain, *next)?;
     }
     Ok(alike)
 }

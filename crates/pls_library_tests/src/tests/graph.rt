@@ -15,9 +15,12 @@ const PATH: &str = "network\nnode 1 - 0 0\nport 2 1\nnode 2 - 0 0\nport 1 1\npor
 #[test]
 fn two_pairs_are_a_network_in_two_parts(rt: HostRuntime) -> Result<(), Fail> {
     let net = network(rt.alloc(), PAIRS)?;
-    assert_eq!(rt; net.place_of(9), Some(3));
-    assert_eq!(rt; net.size().max_weight, 7);
-    assert_eq!(rt; connected(rt.alloc(), &net), Ok(Some(6)));
+    assert!(rt; net.place_of(9) == Some(3), "the last place");
+    assert!(rt; net.size().max_weight == 7, "the greatest weight");
+    assert!(rt;
+        connected(rt.alloc(), &net) == Ok(Some(6)),
+        "6 is not joined to the first node"
+    );
     Ok(())
 }
 

@@ -1,13 +1,14 @@
 //! Texts of labels for a network of three nodes: what is read, and why others are refused.
 
 use super::{line_of, network};
-use pls_base::{Fault, MemSink, TextError};
+use pls_base::{Fault, MemSink, Sink, TextError};
 use pls_graph::Network;
 use pls_labelfile::{
     MAX_BITS, read_labels, scan_labels, stream_labels, write_labels, written_is_read,
 };
 use pls_lines::Lines;
 use std::alloc::Global;
+use std::process::Abort;
 use std::test::Fail;
 
 // The nodes 1, 20 and 21, without edges.
@@ -29,21 +30,31 @@ fn read_again(alloc: Global, net: &Network, text: &[u8]) -> Result<(usize, u64),
     Ok((again.len(), again.total()))
 }
 
+// Texts of three labels, with 18 bits together.
+const TEXTS: &[&str] = &[
+    "labels\nlabel 1 17 318d80\nlabel 20 0 -\nlabel 21 1 00\nend\n",
+    "labels delta\nlabel 1 17 318d80\nlabel 20 0 -\nlabel 21 1 00\nend\n",
+];
+
+// Asserts that the labels of a text are written as this text, which is read again.
+fn assert_written(rt: &impl Abort, alloc: Global, net: &Network, text: &str) -> Result<(), Fail> {
+    let bytes = text.as_bytes();
+    assert!(rt;
+        written(alloc, net, bytes)?.as_slice() == bytes,
+        "the text {text}"
+    );
+    assert!(rt;
+        read_again(alloc, net, bytes)? == (3, 18),
+        "read again: {text}"
+    );
+    Ok(())
+}
+
 #[test]
 fn the_text_that_was_read_is_written(rt: HostRuntime) -> Result<(), Fail> {
     let net = network(rt.alloc(), THREE)?;
-    for heading in ["labels", "labels delta"] {
-        let text = format!(in rt.alloc();
-            "{heading}\nlabel 1 17 318d80\nlabel 20 0 -\nlabel 21 1 00\nend\n"
-        )?;
-        assert!(rt;
-            written(rt.alloc(), &net, text.as_bytes())?.as_slice() == text.as_bytes(),
-            "the text with {heading}"
-        );
-        assert!(rt;
-            read_again(rt.alloc(), &net, text.as_bytes())? == (3, 18),
-            "read again with {heading}"
-        );
+    for text in TEXTS {
+        assert_written(&rt, rt.alloc(), &net, text)?;
     }
     Ok(())
 }
@@ -59,26 +70,50 @@ fn long_text(alloc: Global) -> Result<String, Fail> {
     Ok(text)
 }
 
+// How a sink takes the labels of a text.
+fn stream<K: Sink>(
+    alloc: Global,
+    net: &Network,
+    text: &[u8],
+    sink: &mut K,
+) -> Result<Result<(), Fault>, Fail> {
+    let (code, labels) = read_labels(alloc, text, net)?;
+    Ok(stream_labels(net, &labels, code, sink))
+}
+
+// How a sink of which these writes fail takes the labels of a text, and how many bytes it has then,
+// if they are a front of the text.
+fn streamed(
+    alloc: Global,
+    net: &Network,
+    text: &[u8],
+    fails: Vec<u64>,
+) -> Result<(Result<(), Fault>, Option<usize>), Fail> {
+    let mut sink = MemSink::new(alloc, 5100, 4096, fails)?;
+    let end = stream(alloc, net, text, &mut sink)?;
+    let bytes = sink.bytes();
+    Ok((end, text.starts_with(bytes).then_some(bytes.len())))
+}
+
+// Asserts how a text is written to a sink, and to one whose second write fails.
+fn assert_pieces(rt: &impl Abort, alloc: Global, net: &Network, text: &[u8]) -> Result<(), Fail> {
+    let (whole, length) = streamed(alloc, net, text, Vec::new(alloc))?;
+    assert!(rt; whole.is_ok(), "all is taken");
+    assert!(rt; length == Some(text.len()), "the text");
+    let (torn, length) = streamed(alloc, net, text, vec![in alloc; 2]?)?;
+    assert!(rt; torn == Err(Fault), "the second write fails");
+    assert!(rt;
+        length == Some(4085),
+        "a front of the text, which is all that the first write had"
+    );
+    Ok(())
+}
+
 #[test]
 fn a_long_text_is_written_in_pieces(rt: HostRuntime) -> Result<(), Fail> {
     let net = network(rt.alloc(), THREE)?;
-    let long = long_text(rt.alloc())?;
-    let text = long.as_bytes();
-    let (code, labels) = read_labels(rt.alloc(), text, &net)?;
-    let mut whole = MemSink::new(rt.alloc(), 5100, 4096, Vec::new(rt.alloc()))?;
-    let mut torn = MemSink::new(rt.alloc(), 5100, 4096, vec![in rt.alloc(); 2]?)?;
-    assert!(rt;
-        stream_labels(&net, &labels, code, &mut whole).is_ok(),
-        "all is taken"
-    );
-    assert!(rt; whole.bytes() == text, "the text");
-    assert!(rt;
-        stream_labels(&net, &labels, code, &mut torn) == Err(Fault),
-        "the second write fails"
-    );
-    assert!(rt; text.starts_with(torn.bytes()), "a front of the text");
-    assert!(rt; torn.bytes().len() == 4085, "all that the first write had");
-    Ok(())
+    let text = long_text(rt.alloc())?;
+    assert_pieces(&rt, rt.alloc(), &net, text.as_bytes())
 }
 
 // Texts that are no labels', and the first faulty line of each.

@@ -129,13 +129,19 @@ fn three_parts_name_the_first_faulty_line(rt: HostRuntime) -> Result<(), Fail> {
 fn the_events_of_a_schedule(rt: HostRuntime) -> Result<(), Fail> {
     let text = b"schedule\nemit 7 1\narrive 0\nrestart 4294967295\nend\n";
     let part = read_list::<Count<ScheduleWord, Event>>(text)?;
-    assert_eq!(rt; part.kept.items, 3);
+    assert!(rt; part.kept.items == 3, "three events");
     let events = [
         Event::Emit { node: 7, port: 1 },
         Event::Arrive(0),
         Event::Restart(4294967295),
     ];
-    assert_eq!(rt; part.items(rt.alloc())?.as_slice(), events.as_slice());
-    assert_eq!(rt; (part.number_of(0), part.number_of(3)), (2, 5));
+    assert!(rt;
+        part.items(rt.alloc())?.as_slice() == events.as_slice(),
+        "the events"
+    );
+    assert!(rt;
+        part.number_of(0) == 2 && part.number_of(3) == 5,
+        "the first line and the last"
+    );
     Ok(())
 }

@@ -6,6 +6,7 @@ use pls_graph::Network;
 use pls_lines::Lines;
 use pls_netfile::{read_network, read_written, scan_network, write_network, write_read};
 use std::alloc::Global;
+use std::process::Abort;
 use std::test::Fail;
 
 // A network of two nodes.
@@ -52,8 +53,14 @@ fn a_part_is_scanned_and_the_rest_left(rt: HostRuntime) -> Result<(), Fail> {
                  port 8 3\nend\nrest";
     let mut lines = Lines::new(text);
     let part = scan_network(&mut lines)?;
-    assert_eq!(rt; (part.nodes(), part.ports()), (2, 2));
-    assert_eq!(rt; (lines.number(), lines.rest()), (7, b"rest".as_slice()));
+    assert!(rt;
+        part.nodes() == 2 && part.ports() == 2,
+        "two nodes and two ports"
+    );
+    assert!(rt;
+        lines.number() == 7 && lines.rest() == b"rest".as_slice(),
+        "the rest from line 7 on"
+    );
     Ok(())
 }
 
@@ -72,12 +79,17 @@ fn read_again(alloc: Global, net: &Network) -> Result<usize, Fail> {
     Ok(read_written(alloc, net)?.len())
 }
 
+// Asserts that a network is the pair, and is read again of its text.
+fn assert_pair(rt: &impl Abort, alloc: Global, net: &Network) -> Result<(), Fail> {
+    assert!(rt; net.place_of(20) == Some(1), "the second node");
+    assert!(rt; read_again(alloc, net)? == 2, "two nodes");
+    Ok(())
+}
+
 #[test]
 fn what_is_read_is_written_again(rt: HostRuntime) -> Result<(), Fail> {
     let pair = PAIR.as_bytes();
-    let net = network(rt.alloc(), PAIR)?;
-    assert!(rt; net.place_of(20) == Some(1), "the second node");
-    assert!(rt; read_again(rt.alloc(), &net)? == 2, "two nodes");
+    assert_pair(&rt, rt.alloc(), &network(rt.alloc(), PAIR)?)?;
     assert!(rt; written(rt.alloc(), PAIR)?.as_slice() == pair, "the text");
     assert!(rt;
         written_at_once(rt.alloc(), PAIR)?.as_slice() == pair,

@@ -9,6 +9,7 @@ use pls_labelfile::{read_labels, write_labels};
 use pls_netfile::write_network;
 use pls_recheck::{Counted, Edit, Judge, Recheck, Tally};
 use std::alloc::Global;
+use std::process::Abort;
 use std::test::Fail;
 
 // Two linked nodes.
@@ -73,24 +74,35 @@ fn verdicts<J: Judge>(alloc: Global, recheck: &mut Recheck<J>) -> Result<(u32, u
     }
 }
 
-#[test]
-fn a_node_joins_and_leaves(rt: HostRuntime) -> Result<(), Fail> {
-    let alloc = rt.alloc();
+// The pair with its colouring, which this judge rechecks.
+fn start<J: Judge + Drop>(alloc: Global, judge: J) -> Result<Recheck<J>, Fail> {
     let net = network(alloc, PAIR)?;
     let (_, labels) = read_labels(alloc, COLOURS.as_bytes(), &net)?;
-    let mut tally = Tally::new();
-    let judge = Counted::new(Bipartite::<Gamma>::new(), &mut tally);
-    let mut recheck = Recheck::start(alloc, net, labels, judge)?;
+    Ok(Recheck::start(alloc, net, labels, judge)?)
+}
+
+// Asserts what is touched, and what two rounds ask, while node 9 joins and leaves.
+fn assert_rounds<J: Judge>(
+    rt: &impl Abort,
+    alloc: Global,
+    recheck: &mut Recheck<J>,
+) -> Result<(), Fail> {
+    assert!(rt; joins_and_leaves(alloc, recheck, 2)?, "before the round");
+    assert!(rt; verdicts(alloc, recheck)? == (2, 2), "the first round");
+    assert!(rt; joins_and_leaves(alloc, recheck, 0)?, "behind it");
     assert!(rt;
-        joins_and_leaves(alloc, &mut recheck, 2)?,
-        "before the round"
-    );
-    assert!(rt; verdicts(alloc, &mut recheck)? == (2, 2), "the first round");
-    assert!(rt; joins_and_leaves(alloc, &mut recheck, 0)?, "behind it");
-    assert!(rt;
-        verdicts(alloc, &mut recheck)? == (0, 2),
+        verdicts(alloc, recheck)? == (0, 2),
         "a round that asks for none"
     );
+    Ok(())
+}
+
+#[test]
+fn a_node_joins_and_leaves(rt: HostRuntime) -> Result<(), Fail> {
+    let mut tally = Tally::new();
+    let judge = Counted::new(Bipartite::<Gamma>::new(), &mut tally);
+    let mut recheck = start(rt.alloc(), judge)?;
+    assert_rounds(&rt, rt.alloc(), &mut recheck)?;
     recheck.finish();
     assert!(rt; tally.number() == 2, "two nodes were judged");
     Ok(())

@@ -2,6 +2,7 @@
 
 use super::network;
 use pls_sim::Ways;
+use std::process::Abort;
 use std::test::Fail;
 
 // A triangle, and a fourth node at one of its corners.
@@ -9,19 +10,25 @@ const TRIANGLE: &str = "network\nnode 1 - 0 0\nport 3 1\nport 2 1\n\
                         node 2 - 0 0\nport 1 1\nport 3 1\nport 5 1\n\
                         node 3 - 0 0\nport 2 1\nport 1 1\nnode 5 - 0 0\nport 2 1\nend\n";
 
+// Asserts which port leads back from each.
+fn assert_back(rt: &impl Abort, ways: &Ways, due: &[u32]) {
+    assert!(rt; ways.len() == due.len(), "as many ports");
+    for (number, due) in due.iter().enumerate() {
+        assert!(rt; ways.back(number) == *due, "back from port {number}");
+    }
+}
+
 #[test]
 fn each_port_has_one_that_leads_back(rt: HostRuntime) -> Result<(), Fail> {
     let net = network(rt.alloc(), TRIANGLE)?;
     let ways = Ways::of(rt.alloc(), &net)?;
-    let mut back = Vec::new(rt.alloc());
-    for number in 0..ways.len() {
-        back.push(ways.back(number))?;
+    assert_back(&rt, &ways, &[6, 2, 1, 5, 7, 3, 0, 4]);
+    assert!(rt; net.len() == 4, "four nodes");
+    for (i, due) in [0, 2, 5, 7].iter().enumerate() {
+        assert!(rt;
+            ways.first(i) == *due,
+            "the first port of the node at place {i}"
+        );
     }
-    assert_eq!(rt; back.as_slice(), [6, 2, 1, 5, 7, 3, 0, 4].as_slice());
-    let mut firsts = Vec::new(rt.alloc());
-    for i in 0..net.len() {
-        firsts.push(ways.first(i))?;
-    }
-    assert_eq!(rt; firsts.as_slice(), [0, 2, 5, 7].as_slice());
     Ok(())
 }
