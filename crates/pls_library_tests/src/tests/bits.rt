@@ -81,7 +81,7 @@ fn refused_digits(rt: HostRuntime) {
 }
 
 // The bits of two texts, the second behind the first.
-pub(super) fn joined(alloc: Global, front: &str, back: &str) -> Result<BitBuf, NoMemory> {
+pub(super) fn bits_of_both(alloc: Global, front: &str, back: &str) -> Result<BitBuf, NoMemory> {
     let mut buf = bits_of(alloc, front)?;
     append(alloc, &mut buf, back)?;
     Ok(buf)
@@ -109,7 +109,7 @@ fn assert_cursor(rt: &impl Abort, cursor: &mut Cursor<'_>, front: Bits<'_>) -> R
 #[test]
 fn a_cursor_stays_where_too_little_is_left(rt: HostRuntime) -> Result<(), Fail> {
     let front = bits_of(rt.alloc(), "10")?;
-    let buf = joined(rt.alloc(), "101", "01")?;
+    let buf = bits_of_both(rt.alloc(), "101", "01")?;
     assert_eq!(rt; buf.len(), 5);
     assert_cursor(&rt, &mut buf.bits().cut(1, 5).cursor(), front.bits())
 }

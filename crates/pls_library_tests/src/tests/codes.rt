@@ -1,13 +1,13 @@
 //! Known codes of numbers, and bits that no code stands in front of.
 
-use super::bits::{bits_of, joined};
+use super::bits::{bits_of, bits_of_both};
 use pls_base::NoMemory;
 use pls_bits::{BitBuf, Delta, Gamma, MAX_CODED, NumCode};
 use std::alloc::Global;
 use std::test::Fail;
 
 // The code of a number behind these bits.
-fn coded<C: NumCode>(alloc: Global, front: &str, number: u64) -> Result<BitBuf, NoMemory> {
+fn code_behind<C: NumCode>(alloc: Global, front: &str, number: u64) -> Result<BitBuf, NoMemory> {
     let mut buf = bits_of(alloc, front)?;
     C::write(&mut buf, number.min(MAX_CODED))?;
     Ok(buf)
@@ -20,8 +20,8 @@ fn is_code<C: NumCode>(
     number: u64,
     code: &str,
 ) -> Result<bool, NoMemory> {
-    let buf = coded::<C>(alloc, front, number)?;
-    let wanted = joined(alloc, front, code)?;
+    let buf = code_behind::<C>(alloc, front, number)?;
+    let wanted = bits_of_both(alloc, front, code)?;
     let mut cursor = buf.bits().cursor();
     Ok(
         buf.bits().equal(wanted.bits())
