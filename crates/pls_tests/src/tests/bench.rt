@@ -1,7 +1,7 @@
 //! Who answers for the nodes that edits touch.
 
 use super::input::input_of;
-use super::rows::end_of;
+use super::rows::{end_of, end_with};
 use pls_app::{Bench, run};
 use pls_base::{MemSink, NoMemory, Steps, SureSource};
 use pls_model::Verdict;
@@ -43,29 +43,31 @@ impl Bench for Refusing {
 // How the rounds of the star end, where the bench answers the question of this number with want of
 // memory.
 fn star_end(alloc: Global, refuses: u64) -> Result<String, Fail> {
-    let input = input_of(alloc, EDITS)?;
-    let mut source = SureSource::new(input.into_bytes());
+    let mut source = SureSource::new(input_of(alloc, EDITS)?.into_bytes());
     let mut sink = MemSink::new(alloc, 65_536, 65_536, Vec::new(alloc))?;
     let questions = Steps::new();
     let mut bench = Refusing { questions, refuses };
     let words = ["recheck", "bipartite"];
     let status = run(alloc, &words, &mut source, &mut sink, &mut bench);
-    let text = String::from_utf8_lossy(alloc, sink.bytes())?;
-    Ok(format!(in alloc; "{}\n{text}", status.code())?)
+    Ok(end_with(alloc, status, sink.bytes())?)
+}
+
+// Whether they end as the row of want of memory.
+fn is_refused(alloc: Global, refuses: u64) -> Result<bool, Fail> {
+    Ok(star_end(alloc, refuses)?.as_str() == "6\n")
+}
+
+// Whether they end as those of `recheck`, where no question is refused.
+fn is_answered(alloc: Global, refuses: u64) -> Result<bool, Fail> {
+    let due = end_of(alloc, "recheck bipartite", input_of(alloc, EDITS)?)?;
+    Ok(star_end(alloc, refuses)?.as_str() == due.as_str())
 }
 
 #[test]
 fn each_verdict_is_that_of_the_bench(rt: HostRuntime) -> Result<(), Fail> {
-    let alloc = rt.alloc();
     for refuses in 1..12 {
-        let end = star_end(alloc, refuses)?;
-        assert!(rt; end.as_str() == "6\n", "question {refuses} ends with {end}");
+        assert!(rt; is_refused(rt.alloc(), refuses)?, "question {refuses}");
     }
-    let due = end_of(alloc, "recheck bipartite", input_of(alloc, EDITS)?)?;
-    let end = star_end(alloc, 12)?;
-    assert!(rt;
-        end.as_str() == due.as_str(),
-        "eleven questions end with {end}"
-    );
+    assert!(rt; is_answered(rt.alloc(), 12)?, "eleven questions");
     Ok(())
 }

@@ -1,6 +1,7 @@
 //! Each scheme by each command that judges labels.
 
 use super::rows::{assert_rows, lines_of};
+use pls_base::NoMemory;
 use std::alloc::Global;
 use std::process::Abort;
 use std::test::Fail;
@@ -101,8 +102,31 @@ const RING_SCHEMES: &str = "tree forest bipartite leader count spt mst pathmax \
 
 const ASKED_OF_RING: &str = "1 splice NAME < round | = LABELS > none";
 
-// Marks an input with each scheme in each code, and runs the rows in which its name stands for NAME
-// and its labels for LABELS.
+// The labels with which a scheme in a code marks an input, as lines of another.
+fn labels_by(alloc: Global, name: &str, code: &str, input: &str) -> Result<String, Fail> {
+    let words = format!(in alloc; "mark {name} --code {code}")?;
+    lines_of(alloc, words.as_str(), input)
+}
+
+// The rows in which the name of a scheme stands for NAME and its labels for LABELS.
+fn rows_about(alloc: Global, asked: &str, name: &str, labels: &str) -> Result<String, NoMemory> {
+    let named = asked.replace(alloc, "NAME", name)?;
+    Ok(named.as_str().replace(alloc, "LABELS", labels)?)
+}
+
+// Runs these rows about a scheme in a code, which marks an input.
+fn assert_asked_of(
+    rt: &impl Abort,
+    alloc: Global,
+    [name, code]: [&str; 2],
+    [input, asked]: [&str; 2],
+) -> Result<(), Fail> {
+    let labels = labels_by(alloc, name, code, input)?;
+    let rows = rows_about(alloc, asked, name, labels.as_str())?;
+    assert_rows(rt, alloc, &[rows.as_str()])
+}
+
+// The same of each scheme in each code.
 fn assert_asked(
     rt: &impl Abort,
     alloc: Global,
@@ -110,11 +134,7 @@ fn assert_asked(
 ) -> Result<(), Fail> {
     for name in schemes.split(' ') {
         for code in ["gamma", "delta"] {
-            let words = format!(in alloc; "mark {name} --code {code}")?;
-            let labels = lines_of(alloc, words.as_str(), input)?;
-            let named = asked.replace(alloc, "NAME", name)?;
-            let rows = named.as_str().replace(alloc, "LABELS", labels.as_str())?;
-            assert_rows(rt, alloc, &[rows.as_str()])?;
+            assert_asked_of(rt, alloc, [name, code], [input, asked])?;
         }
     }
     Ok(())
@@ -127,9 +147,6 @@ fn every_scheme_marks_converts_and_bounds(rt: HostRuntime) -> Result<(), Fail> {
 
 #[test]
 fn labels_of_every_scheme_are_judged_by_every_command(rt: HostRuntime) -> Result<(), Fail> {
-    let ring = [RING_SCHEMES, "round", ASKED_OF_RING];
-    for table in [[SCHEMES, "all", ASKED], ring] {
-        assert_asked(&rt, rt.alloc(), table)?;
-    }
-    Ok(())
+    assert_asked(&rt, rt.alloc(), [SCHEMES, "all", ASKED])?;
+    assert_asked(&rt, rt.alloc(), [RING_SCHEMES, "round", ASKED_OF_RING])
 }

@@ -12,13 +12,19 @@ use std::alloc::Global;
 /// The text of an input.
 pub(super) fn input_of(alloc: Global, notation: &str) -> Result<String, NoMemory> {
     let mut input = String::new(alloc);
+    write_input(&mut input, notation)?;
+    Ok(input)
+}
+
+// Writes an input behind a text.
+fn write_input(text: &mut String, notation: &str) -> Result<(), NoMemory> {
     if notation.is_empty() {
-        return Ok(input);
+        return Ok(());
     }
     for part in notation.split(" | ") {
-        input.push_str(part_of(alloc, unnamed(part))?.as_str())?;
+        write_part(text, unnamed(part))?;
     }
-    Ok(input)
+    Ok(())
 }
 
 // What a part is where its name stands, or else the part.
@@ -33,21 +39,62 @@ fn unnamed(part: &str) -> &str {
     part
 }
 
-// The text of a part.
-fn part_of(alloc: Global, part: &str) -> Result<String, NoMemory> {
+// Writes a part behind a text.
+fn write_part(text: &mut String, part: &str) -> Result<(), NoMemory> {
     if let Some(lines) = part.strip_prefix("= ") {
-        let lines = lines.replace(alloc, "; ", "\n")?;
-        return Ok(format!(in alloc; "{lines}\n")?);
+        write_lines(text, lines)?;
+        return Ok(text.push('\n')?);
     }
     if is_network(part) {
-        let nodes = part.replace(alloc, "; ", "\nnode ")?;
-        let first_ports = nodes.as_str().replace(alloc, ": ", "\nport ")?;
-        let ports = first_ports.as_str().replace(alloc, ", ", "\nport ")?;
-        let lines = ports.as_str().replace(alloc, " by ", " ")?;
-        return Ok(format!(in alloc; "network\nnode {lines}\nend\n")?);
+        write_nodes(text, part)?;
+    } else {
+        write_lines(text, part)?;
     }
-    let lines = part.replace(alloc, "; ", "\n")?;
-    Ok(format!(in alloc; "{lines}\nend\n")?)
+    Ok(text.push_str("\nend\n")?)
+}
+
+// Writes lines, with a line feed between two of them.
+fn write_lines(text: &mut String, lines: &str) -> Result<(), NoMemory> {
+    write_replaced(text, lines, "; ", "\n")
+}
+
+// Writes a text in which something stands in the place of a mark.
+fn write_replaced(
+    text: &mut String,
+    whole: &str,
+    mark: &str,
+    instead: &str,
+) -> Result<(), NoMemory> {
+    for (i, piece) in whole.split(mark).enumerate() {
+        if i > 0 {
+            text.push_str(instead)?;
+        }
+        text.push_str(piece)?;
+    }
+    Ok(())
+}
+
+// Writes a network but for its last line.
+fn write_nodes(text: &mut String, nodes: &str) -> Result<(), NoMemory> {
+    text.push_str("network")?;
+    for node in nodes.split("; ") {
+        text.push_str("\nnode ")?;
+        write_node(text, node)?;
+    }
+    Ok(())
+}
+
+// Writes the state and the ports of a node.
+fn write_node(text: &mut String, node: &str) -> Result<(), NoMemory> {
+    for (i, ports) in node.split(": ").enumerate() {
+        for (k, port) in ports.split(", ").enumerate() {
+            if i > 0 || k > 0 {
+                text.push_str("\nport ")?;
+            }
+            write_replaced(text, port, " by ", " ")?;
+        }
+    }
+    Ok(())
 }
 
 // Whether a part is a network: it begins with an identity.

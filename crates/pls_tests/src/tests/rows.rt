@@ -6,6 +6,7 @@
 
 use super::input::input_of;
 use crate::run_in_memory;
+use pls_base::{NoMemory, Status};
 use std::alloc::Global;
 use std::process::Abort;
 use std::test::Fail;
@@ -28,31 +29,43 @@ fn assert_row(rt: &impl Abort, alloc: Global, row: &str) -> Result<(), Fail> {
     let (asked, input) = front.split_once(" < ").unwrap_or((front, ""));
     let (status, words) = asked.split_once(' ').unwrap_or((asked, ""));
     let end = end_of(alloc, words, input_of(alloc, input)?)?;
-    let due = end_text(alloc, status, text)?;
-    assert!(rt; end.as_str() == due.as_str(), "{row}\nends with {end}");
+    assert!(rt;
+        is_end(alloc, end.as_str(), status, text)?,
+        "{row}\nends with {end}"
+    );
     Ok(())
 }
 
 /// How a run ends: the number of its status, and in the lines below it its text.
 pub(super) fn end_of(alloc: Global, words: &str, input: String) -> Result<String, Fail> {
     let words: Vec<&str> = words.split_whitespace().collect(alloc)?;
-    let (status, sink) = run_in_memory(alloc, &words, input.into_bytes())?;
-    let text = String::from_utf8_lossy(alloc, sink.bytes())?;
+    end_of_run(alloc, &words, input.into_bytes())
+}
+
+// The same of the run on these words.
+fn end_of_run(alloc: Global, words: &[&str], input: Vec<u8>) -> Result<String, Fail> {
+    let (status, sink) = run_in_memory(alloc, words, input)?;
+    Ok(end_with(alloc, status, sink.bytes())?)
+}
+
+/// The same of a run with this status that wrote these bytes.
+pub(super) fn end_with(alloc: Global, status: Status, bytes: &[u8]) -> Result<String, NoMemory> {
+    let text = String::from_utf8_lossy(alloc, bytes)?;
     Ok(format!(in alloc; "{}\n{text}", status.code())?)
 }
 
-/// The same of a run that ends as a row says.
-pub(super) fn end_text(alloc: Global, status: &str, text: &str) -> Result<String, Fail> {
+/// Whether a run that ends so ends as a row says.
+pub(super) fn is_end(alloc: Global, end: &str, status: &str, text: &str) -> Result<bool, NoMemory> {
     let lines = text.replace(alloc, " / ", "\n")?;
-    Ok(format!(in alloc; "{status}\n{lines}\n")?)
+    let due = format!(in alloc; "{status}\n{lines}\n")?;
+    Ok(end == due.as_str())
 }
 
 /// The lines of the text of a run that does what its words say, as they stand in an input.
 pub(super) fn lines_of(alloc: Global, words: &str, input: &str) -> Result<String, Fail> {
     let end = end_of(alloc, words, input_of(alloc, input)?)?;
-    let text = end
-        .as_str()
-        .strip_prefix("0\n")
-        .ok_or("no labels and no rules")?;
-    Ok(text.trim_end().replace(alloc, "\n", "; ")?)
+    match end.as_str().strip_prefix("0\n") {
+        Some(text) => Ok(text.trim_end().replace(alloc, "\n", "; ")?),
+        None => Err(Fail::from("no labels and no rules")),
+    }
 }

@@ -1,6 +1,7 @@
 //! Rule sets, and what they judge.
 
 use super::rows::{assert_rows, lines_of};
+use std::alloc::Global;
 use std::test::Fail;
 
 // The rule sets that have the names of schemes.
@@ -104,16 +105,25 @@ fn sets_are_printed_listed_refused_and_judge(rt: HostRuntime) -> Result<(), Fail
     assert_rows(&rt, rt.alloc(), &[PRINTED, LISTED, REFUSED, JUDGED])
 }
 
+// What a command says of a name, as lines of an input.
+fn lines_by(alloc: Global, command: &str, name: &str, input: &str) -> Result<String, Fail> {
+    let words = format!(in alloc; "{command} {name}")?;
+    lines_of(alloc, words.as_str(), input)
+}
+
+// The row in which the set of a scheme judges labels that the scheme marks.
+fn judge_row(alloc: Global, name: &str) -> Result<String, Fail> {
+    let labels = lines_by(alloc, "mark", name, "all")?;
+    let rules = lines_by(alloc, "rules", name, "")?;
+    let due = "node 1 accept / node 2 accept / rejecting 0";
+    Ok(format!(in alloc; "0 judge < all | = {labels} | = {rules} > {due}")?)
+}
+
 #[test]
 fn sets_of_schemes_accept_what_the_schemes_mark(rt: HostRuntime) -> Result<(), Fail> {
-    let alloc = rt.alloc();
     for name in SETS.split(' ') {
-        let labels = lines_of(alloc, format!(in alloc; "mark {name}")?.as_str(), "all")?;
-        let rules = lines_of(alloc, format!(in alloc; "rules {name}")?.as_str(), "")?;
-        let input = format!(in alloc; "all | = {labels} | = {rules}")?;
-        let due = "node 1 accept / node 2 accept / rejecting 0";
-        let row = format!(in alloc; "0 judge < {input} > {due}")?;
-        assert_rows(&rt, alloc, &[row.as_str()])?;
+        let row = judge_row(rt.alloc(), name)?;
+        assert_rows(&rt, rt.alloc(), &[row.as_str()])?;
     }
     Ok(())
 }

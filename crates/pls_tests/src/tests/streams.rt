@@ -1,7 +1,7 @@
 //! Runs whose reads and writes are of one byte each, one of which fails, and inputs cut off.
 
 use super::input::input_of;
-use super::rows::{end_of, end_text};
+use super::rows::{end_of, is_end};
 use pls_app::{Tally, run};
 use pls_base::{MemSink, MemSource, Status};
 use std::alloc::Global;
@@ -18,14 +18,25 @@ const ACCEPTED: &str = "node 1 accept\nnode 2 accept\nrejecting 0\n";
 fn ends_by_bytes(
     alloc: Global,
     [words, input]: [&str; 2],
+    failing: [u64; 2],
+    due: (&str, Status),
+) -> Result<bool, Fail> {
+    let words: Vec<&str> = words.split_whitespace().collect(alloc)?;
+    ends_on_words(alloc, &words, input, failing, due)
+}
+
+// The same of the run on these words.
+fn ends_on_words(
+    alloc: Global,
+    words: &[&str],
+    input: &str,
     [failing_read, failing_write]: [u64; 2],
     (text, status): (&str, Status),
 ) -> Result<bool, Fail> {
-    let words: Vec<&str> = words.split_whitespace().collect(alloc)?;
     let bytes = input_of(alloc, input)?.into_bytes();
     let mut source = MemSource::new(bytes, 1, vec![in alloc; failing_read]?);
     let mut sink = MemSink::new(alloc, 1000, 1, vec![in alloc; failing_write]?)?;
-    let end = run(alloc, &words, &mut source, &mut sink, &mut Tally::new());
+    let end = run(alloc, words, &mut source, &mut sink, &mut Tally::new());
     Ok(end == status && sink.bytes() == text.as_bytes())
 }
 
@@ -98,26 +109,32 @@ fn reads_and_writes_of_other_commands_fail(rt: HostRuntime) -> Result<(), Fail> 
     Ok(())
 }
 
+// Whether the refusal of this line is told of the first so many bytes of an input.
+fn is_cut_off_at(alloc: Global, input: &str, count: usize, line: u64) -> Result<bool, Fail> {
+    let front = input.get(..count).ok_or("no letter ends there")?;
+    let end = end_of(alloc, "verify bipartite", String::from_str(alloc, front)?)?;
+    is_refused_at(alloc, end.as_str(), line)
+}
+
+// Whether a run ends with the refusal of this line.
+fn is_refused_at(alloc: Global, end: &str, line: u64) -> Result<bool, Fail> {
+    let text = format!(in alloc; "refused form at {line}")?;
+    Ok(is_end(alloc, end, "3", text.as_str())?)
+}
+
 #[test]
 fn an_input_cut_off_is_refused_at_its_last_line(rt: HostRuntime) -> Result<(), Fail> {
-    let alloc = rt.alloc();
-    let input = input_of(alloc, INPUT)?;
-    let mut front = String::new(alloc);
+    let input = input_of(rt.alloc(), INPUT)?;
     let mut line = 1_u64;
-    for letter in input.as_str().chars() {
-        let text = format!(in alloc; "refused form at {line}")?;
-        let due = end_text(alloc, "3", text.as_str())?;
-        let end = end_of(alloc, "verify bipartite", front.clone()?)?;
+    for (count, letter) in input.as_str().chars().enumerate() {
         assert!(rt;
-            end.as_str() == due.as_str(),
-            "{} bytes end with {end}",
-            front.len()
+            is_cut_off_at(rt.alloc(), input.as_str(), count, line)?,
+            "{count} bytes"
         );
-        front.push(letter)?;
         if letter == '\n' {
             line = line.saturating_add(1);
         }
     }
-    assert_eq!(rt; front.len(), 93);
+    assert_eq!(rt; input.len(), 93);
     Ok(())
 }

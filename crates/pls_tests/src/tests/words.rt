@@ -3,6 +3,7 @@
 use super::rows::assert_rows;
 use crate::run_in_memory;
 use pls_base::Status;
+use std::alloc::Global;
 use std::test::Fail;
 
 // Words that are no command.
@@ -97,18 +98,24 @@ fn words_are_a_command_or_usage(rt: HostRuntime) -> Result<(), Fail> {
     )
 }
 
+// Words that one row cannot say, since a space parts its words.
+const ODD: &[[&str; 2]] = &[
+    ["verify", ""],
+    ["trial", ""],
+    ["trial", "1 1"],
+    ["mark", "tree "],
+];
+
+// Whether words are answered with `usage`.
+fn are_usage(alloc: Global, words: &[&str]) -> Result<bool, Fail> {
+    let (status, sink) = run_in_memory(alloc, words, Vec::new(alloc))?;
+    Ok(status == Status::Usage && sink.bytes() == USAGE.as_bytes())
+}
+
 #[test]
 fn an_empty_word_and_one_with_a_space_are_usage(rt: HostRuntime) -> Result<(), Fail> {
-    let alloc = rt.alloc();
-    for words in [
-        ["verify", ""],
-        ["trial", ""],
-        ["trial", "1 1"],
-        ["mark", "tree "],
-    ] {
-        let (status, sink) = run_in_memory(alloc, &words, Vec::new(alloc))?;
-        let well = status == Status::Usage && sink.bytes() == USAGE.as_bytes();
-        assert!(rt; well, "{} {}", words[0], words[1]);
+    for words in ODD {
+        assert!(rt; are_usage(rt.alloc(), words)?, "{} {}", words[0], words[1]);
     }
     Ok(())
 }
