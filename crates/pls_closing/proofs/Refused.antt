@@ -15,21 +15,13 @@ module _ (lines closing : ℕ) where
       subst (λ (error : TextError). IsLinesRefusal lines closing error) (sym is) few
 
   -- lines beyond a limit are refused so
-  beyond_one : (error : TextError) → IsBeyond lines closing error
+  pub beyond_one : (error : TextError) → IsBeyond lines closing error
       → IsLinesRefusal lines closing error
   beyond_one (Form line) beyond = beyond
   beyond_one (Limit quantity) beyond = beyond
   beyond_one (Sense number place) beyond = beyond
   beyond_one NoMemory (inl many) = let no = many.0 in absurd (cc)
   beyond_one NoMemory (inr many) = let no = many.0 in absurd (cc)
-
-  pub beyond_refused : {T : Type 0} (result : Result T TextError) {error : TextError}
-      → IsErrAnd result (λ found. found ≡ error) → IsBeyond lines closing error
-      → IfErr result (λ found. IsLinesRefusal lines closing found)
-  beyond_refused (Ok value) is beyond = tt
-  beyond_refused (Err found) is beyond =
-      subst (λ (error : TextError). IsLinesRefusal lines closing error) (sym is)
-      (beyond_one _ beyond)
 
   -- lines within the limits are refused for want of memory alone
   pub few_refused : AreFew lines closing → (error : TextError)

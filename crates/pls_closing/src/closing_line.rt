@@ -1,9 +1,11 @@
 //! Kinds of line of which some close what stands before them.
 
-ghost use Rattle.std.specs.Prelude.{◌≡◌, ℕ, Bool};
+ghost use Rattle.std.specs.Prelude.{◌≡◌, ℕ, Bool, IfOk};
 ghost use Rattle.pls_closing.specs.Closing.{HasClosing};
 
+use pls_base::NoMemory;
 use pls_lines::LineKind;
+use std::alloc::Global;
 
 /// A kind of line of which some close what stands before them.
 pub trait ClosingLine<'a>: LineKind<'a> {
@@ -35,4 +37,17 @@ pub trait ClosingLine<'a>: LineKind<'a> {
     final fn closing_laws()
         ensures { HasClosing Self.Fits Self.closes }
     {}
+}
+
+/// A kind of line of which is kept what it says, and nothing of the text.
+pub trait OwnLine<'a>: ClosingLine<'a> {
+    /// What is kept of a line.
+    type Line: Drop;
+
+    /// What is kept of a line.
+    ghost line: { Self → Self.Line };
+
+    /// What is kept of the line. The one refusal is want of memory.
+    fn into_line(self, alloc: Global) -> Result<Self::Line, NoMemory>
+        ensures { IfOk result (λ kept. kept ≡ line self) };
 }

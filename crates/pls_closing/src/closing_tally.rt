@@ -1,7 +1,9 @@
 //! Parts whose last line closes them, and what is counted of their lines.
 
-use crate::closing_line::ClosingLine;
-use pls_lines::{Headed, HeadingWord, ListTally};
+use crate::closing_line::{ClosingLine, OwnLine};
+use pls_base::NoMemory;
+use pls_lines::{Headed, HeadingWord, Keep, ListTally};
+use std::alloc::Global;
 use std::marker::PhantomData;
 
 /// How many lines a part has, how many of them close, and how many bits the labels have that they
@@ -68,5 +70,15 @@ impl<'a, W: HeadingWord, K: ClosingLine<'a>> ListTally<'a> for ClosingTally<W, K
 
     fn is_whole(&self) -> bool {
         self.closed
+    }
+}
+
+impl<'a, W: HeadingWord, K: OwnLine<'a>> Keep<'a> for ClosingTally<W, K> {
+    type Line = K::Line;
+
+    ghost line = { K.line };
+
+    fn line_of(alloc: Global, item: K) -> Result<K::Line, NoMemory> {
+        item.into_line(alloc)
     }
 }

@@ -4,14 +4,15 @@
 //! A [`ClosingLine`] is a kind of line that says which of its lines close. [`ClosingTally`] is the
 //! list of a part of them under a heading of one word; it counts the lines, those that close, and
 //! the bits of the labels that lines give, without memory, and [`check_limits`] tries the counts.
-//! `specs/Closing` says which lists close.
+//! What an [`OwnLine`] says can be kept while its part is passed. `specs/Closing` says which lists
+//! close.
 #![tactic(auto)]
 
 mod closing_line;
 mod closing_tally;
 mod limits;
 
-pub use closing_line::ClosingLine;
+pub use closing_line::{ClosingLine, OwnLine};
 pub use closing_tally::ClosingTally;
 pub use limits::check_limits;
 pub use pls_base::{Quantity, TextError};

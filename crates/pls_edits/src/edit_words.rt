@@ -11,7 +11,7 @@ use crate::edit::Edit;
 use crate::edit_line::EditLine;
 use crate::number_words::{state_after, three_numbers};
 use pls_base::NoMemory;
-use pls_closing::ClosingLine;
+use pls_closing::{ClosingLine, OwnLine};
 use pls_labelfile::LabelLine;
 use pls_lines::{HeadingWord, LineKind, after_line, one_number, two_numbers};
 use pls_model::{MAX_NUM, MAX_WORD};
@@ -118,11 +118,13 @@ impl<'a> ClosingLine<'a> for EditWords<'a> {
     }
 }
 
-impl<'a> EditWords<'a> {
-    // The line, with the bits of its label on their own. The one error is want of memory.
-    pub(crate) fn into_line(self, alloc: Global) -> Result<EditLine, NoMemory>
-        ensures { IfOk result (λ line. line ≡ self.entry) }
-    {
+/// The bits of a label on their own.
+impl<'a> OwnLine<'a> for EditWords<'a> {
+    type Line = EditLine;
+
+    ghost line = { λ words. words };
+
+    fn into_line(self, alloc: Global) -> Result<EditLine, NoMemory> {
         match self.words {
             Words::Label(label) => {
                 let bits = label.to_bits(alloc)?;

@@ -1,16 +1,15 @@
 //! The text of edits: scanned without memory, and read as the list of its lines.
 
-ghost use Rattle.std.specs.Prelude.{◌≡◌, ◌<◌, ◌+◌, ◌^◌, List, IfErr, IfOk, OnErr};
+ghost use Rattle.std.specs.Prelude.{◌≡◌, ◌<◌, ◌+◌, ◌^◌, List, IfErr, IfOk, OnErr, OnOk};
 ghost use Rattle.pls_lines.specs.Lines.{IsFormFault};
-ghost use Rattle.pls_lines.specs.ListPart.{Remains};
-ghost use Rattle.pls_edits.specs.EditsText.{AreFew, FitsEdit, IsEditsPart, IsEditsRefusal, PassesEdits, TellsEdits, edit_line};
+ghost use Rattle.pls_edits.specs.EditsText.{AreFew, IsEditsPart, IsEditsRefusal, PassesEdits, TellsEdits};
 ghost use Rattle.pls_edits.specs.declared.edit_line.EditLine.{EditLine};
 
 use crate::edit_line::EditLine;
 use crate::edit_words::{EditWords, EditsWord};
-use pls_base::{NoMemory, TextError};
+use pls_base::TextError;
 use pls_closing::{ClosingTally, check_limits};
-use pls_lines::{Lines, ListText, Part, next_item, scan};
+use pls_lines::{Lines, ListText, Part, scan};
 use std::alloc::Global;
 use std::marker::Model;
 
@@ -18,7 +17,7 @@ use std::marker::Model;
 /// and how many rounds it has.
 #[derive(Drop)]
 pub struct EditsText<'a> {
-    part: ListText<'a, ClosingTally<EditsWord, EditWords<'a>>>,
+    pub(crate) part: ListText<'a, ClosingTally<EditsWord, EditWords<'a>>>,
 }
 
 impl<'a> Model for EditsText<'a> {
@@ -96,20 +95,17 @@ impl<'a> EditsText<'a> {
         ensures refused { (lines : List EditLine) → TellsEdits self.now.text lines
             → IfErr result (λ error. IsEditsRefusal lines error) }
     {
-        check_limits(self.part.kept.lines, self.part.kept.closing)?;
-        Ok(lines_of(alloc, self.part.behind_heading())?)
+        self.check()?;
+        Ok(self.part.list(alloc)?)
     }
-}
 
-// The edits and rounds of the lines that a text says before its `end`. The one refusal is want of
-// memory.
-fn lines_of(alloc: Global, mut lines: Lines<'_>) -> Result<Vec<EditLine>, NoMemory>
-    ensures { (items : List EditLine) → Remains FitsEdit edit_line lines.entry.rest items
-        → IfOk result (λ list. list.items ≡ items) }
-{
-    let mut list = Vec::new(alloc);
-    while let Some(words) = next_item::<EditWords<'_>>(&mut lines) {
-        list.push(words.into_line(alloc)?)?;
+    // Refuses more lines than a limit.
+    pub(crate) fn check(&self) -> Result<(), TextError>
+        ensures few { OnOk result ((lines : List EditLine) → TellsEdits self.now.text lines
+            → AreFew lines) }
+        ensures refused { IfErr result (λ error. (lines : List EditLine)
+            → TellsEdits self.now.text lines → IsEditsRefusal lines error) }
+    {
+        check_limits(self.part.kept.lines, self.part.kept.closing)
     }
-    Ok(list)
 }

@@ -4,15 +4,15 @@ ghost use Rattle.std.specs.Prelude.{IfErr, IfOk, option_map};
 ghost use Rattle.pls_inputs.specs.inner.Built.{AreBuilt, AreListed, AreEditsIfAny, AreRefused, AreUnlisted, AreUnmade, IsBuilt, IsNoSet, IsSetIfAny, IsUnbuilt, IsUnwatched, IsWatchIfAny};
 
 use pls_base::TextError;
-use pls_edits::{EditLine, EditsText};
+use pls_edits::{EditLine, ReadEdits};
 use pls_graph::Network;
 use pls_labelfile::LabelsText;
 use pls_netfile::ReadNetwork;
 use pls_rules::RuleSet;
 use pls_rules_part::RulesText;
-use pls_schedule::{Event, ScheduleText};
+use pls_schedule::{Event, ReadSchedule};
 use pls_view::LabelStore;
-use pls_watch_part::{WatchLine, WatchText};
+use pls_watch_part::{ReadWatch, WatchLine};
 use std::alloc::Global;
 
 // The network that a text says, where there is one, or why it is none.
@@ -48,14 +48,14 @@ pub(crate) fn build_labels(
 // The events that a text says, where there is one, or why they are refused.
 pub(crate) fn list_events(
     alloc: Global,
-    schedule: &Option<ScheduleText<'_>>,
+    schedule: Option<ReadSchedule<'_>>,
 ) -> Result<Option<Vec<Event>>, TextError>
     ensures listed { IfOk result
-        (λ list. AreListed schedule.now (option_map (λ list. list.items) list)) }
-    ensures refused { IfErr result (λ error. AreUnlisted schedule.now error) }
+        (λ list. AreListed schedule.entry (option_map (λ list. list.items) list)) }
+    ensures refused { IfErr result (λ error. AreUnlisted schedule.entry error) }
 {
     match schedule {
-        Some(text) => Ok(Some(text.list(alloc)?)),
+        Some(text) => Ok(Some(text.into_list(alloc)?)),
         None => Ok(None),
     }
 }
@@ -63,14 +63,14 @@ pub(crate) fn list_events(
 // The edits and rounds that a text says, where there is one, or why they are refused.
 pub(crate) fn list_edits(
     alloc: Global,
-    edits: &Option<EditsText<'_>>,
+    edits: Option<ReadEdits<'_>>,
 ) -> Result<Option<Vec<EditLine>>, TextError>
     ensures made { IfOk result
-        (λ list. AreEditsIfAny edits.now (option_map (λ list. list.items) list)) }
-    ensures refused { IfErr result (λ error. AreUnmade edits.now error) }
+        (λ list. AreEditsIfAny edits.entry (option_map (λ list. list.items) list)) }
+    ensures refused { IfErr result (λ error. AreUnmade edits.entry error) }
 {
     match edits {
-        Some(text) => Ok(Some(text.list(alloc)?)),
+        Some(text) => Ok(Some(text.into_list(alloc)?)),
         None => Ok(None),
     }
 }
@@ -78,14 +78,14 @@ pub(crate) fn list_edits(
 // The events and looks that a text says, where there is one, or why they are refused.
 pub(crate) fn list_watch(
     alloc: Global,
-    watch: &Option<WatchText<'_>>,
+    watch: Option<ReadWatch<'_>>,
 ) -> Result<Option<Vec<WatchLine>>, TextError>
     ensures listed { IfOk result
-        (λ list. IsWatchIfAny watch.now (option_map (λ list. list.items) list)) }
-    ensures refused { IfErr result (λ error. IsUnwatched watch.now error) }
+        (λ list. IsWatchIfAny watch.entry (option_map (λ list. list.items) list)) }
+    ensures refused { IfErr result (λ error. IsUnwatched watch.entry error) }
 {
     match watch {
-        Some(text) => Ok(Some(text.list(alloc)?)),
+        Some(text) => Ok(Some(text.into_list(alloc)?)),
         None => Ok(None),
     }
 }

@@ -13,14 +13,14 @@ use crate::scanning::scan_parts;
 use crate::texts::{Texts, test_limits};
 use pls_base::TextError;
 use pls_bits::CodeName;
-use pls_edits::{EditLine, EditsText};
+use pls_edits::{EditLine, ReadEdits};
 use pls_graph::Network;
 use pls_labelfile::LabelsText;
 use pls_model::MAX_INPUT;
 use pls_rules::RuleSet;
-use pls_schedule::{Event, ScheduleText};
+use pls_schedule::{Event, ReadSchedule};
 use pls_view::LabelStore;
-use pls_watch_part::{WatchLine, WatchText};
+use pls_watch_part::{ReadWatch, WatchLine};
 use std::alloc::Global;
 
 /// What an input says: a value for each part that it has.
@@ -67,11 +67,11 @@ pub fn read_input(alloc: Global, parts: Parts, bytes: &[u8]) -> Result<Input, Te
     let network = build_network(alloc, rows)?;
     let labels = build_labels(alloc, &named, &network)?;
     let code = code(&named);
-    let schedule = list_events(alloc, &events)?;
-    let edits = list_edits(alloc, &lines)?;
-    let watch = list_watch(alloc, &watch_text)?;
-    let rules = build_rules(alloc, &expressions)?;
     let first_line = first_line(&events, &lines, &watch_text);
+    let schedule = list_events(alloc, events)?;
+    let edits = list_edits(alloc, lines)?;
+    let watch = list_watch(alloc, watch_text)?;
+    let rules = build_rules(alloc, &expressions)?;
     Ok(Input {
         network,
         labels,
@@ -97,9 +97,9 @@ fn code(labels: &Option<LabelsText<'_>>) -> CodeName
 // The number of the line of the first event or edit, or the first of a watch, 0 where there is no
 // part for them.
 fn first_line(
-    schedule: &Option<ScheduleText<'_>>,
-    edits: &Option<EditsText<'_>>,
-    watch: &Option<WatchText<'_>>,
+    schedule: &Option<ReadSchedule<'_>>,
+    edits: &Option<ReadEdits<'_>>,
+    watch: &Option<ReadWatch<'_>>,
 ) -> u64
     ensures { result ≡ first_line_of schedule.now edits.now watch.now }
 {

@@ -14,17 +14,18 @@ ghost use Rattle.pls_inputs.specs.inner.Scanned.{If, IsScanned, PassesIf};
 use crate::parts::Parts;
 use crate::texts::Texts;
 use pls_base::TextError;
-use pls_edits::EditsText;
+use pls_edits::ReadEdits;
 use pls_labelfile::{LabelsText, scan_labels};
-use pls_lines::{Lines, Part};
+use pls_lines::{Lines, Part, ReadOnce};
 use pls_netfile::{ReadNetwork, pass_network};
 use pls_rules_part::RulesText;
-use pls_schedule::ScheduleText;
-use pls_watch_part::WatchText;
+use pls_schedule::ReadSchedule;
+use pls_watch_part::ReadWatch;
 use std::alloc::Global;
 
 // The texts of the parts that are wanted, which are to be the whole text, or its first faulty line.
-// Want of memory is no answer: it costs the rows of the network that are kept while they are passed.
+// Want of memory is no answer: it costs the rows, events and edits that are kept while they are
+// passed.
 pub(crate) fn scan_parts<'a>(
     alloc: Global,
     parts: Parts,
@@ -36,9 +37,9 @@ pub(crate) fn scan_parts<'a>(
     let mut lines = Lines::new(bytes);
     let network = pass_network_if(alloc, parts.network, &mut lines)?;
     let labels = pass_labels_if(parts.labels, parts.delta, &mut lines)?;
-    let schedule = pass_if::<ScheduleText<'a>>(parts.schedule, &mut lines)?;
-    let edits = pass_if::<EditsText<'a>>(parts.edits, &mut lines)?;
-    let watch = pass_if::<WatchText<'a>>(parts.watch, &mut lines)?;
+    let schedule = keep_if::<ReadSchedule<'a>>(alloc, parts.schedule, &mut lines)?;
+    let edits = keep_if::<ReadEdits<'a>>(alloc, parts.edits, &mut lines)?;
+    let watch = keep_if::<ReadWatch<'a>>(alloc, parts.watch, &mut lines)?;
     let rules = pass_if::<RulesText<'a>>(parts.rules, &mut lines)?;
     if !lines.at_end() {
         return Err(lines.form_error());
@@ -103,5 +104,22 @@ fn pass_if<'a, P: Part<'a>>(wanted: bool, lines: &mut Lines<'a>) -> Result<Optio
         return Ok(None);
     }
     let part = P::pass(lines)?;
+    Ok(Some(part))
+}
+
+// The same for a part that is read once: what it says is kept as far as there is memory.
+fn keep_if<'a, P: ReadOnce<'a>>(
+    alloc: Global,
+    wanted: bool,
+    lines: &mut Lines<'a>,
+) -> Result<Option<P>, TextError>
+    ensures passed { IfOk result (λ part. PassesIf wanted P.Passed lines.old lines.new part) }
+    ensures format { OnOk result (PassesFormat (If wanted P.Format) lines.old lines.new) }
+    ensures form { IfErr result (λ error. IsFormFault (If wanted P.Format) lines.old error) }
+{
+    if !wanted {
+        return Ok(None);
+    }
+    let part = P::keep(alloc, lines)?;
     Ok(Some(part))
 }

@@ -6,22 +6,22 @@ ghost use Rattle.pls_inputs.specs.Order.{over};
 ghost use Rattle.pls_inputs.specs.inner.Scanned.{bits_in, count_in, limits_told};
 
 use pls_base::{Quantity, TextError};
-use pls_edits::EditsText;
+use pls_edits::ReadEdits;
 use pls_labelfile::LabelsText;
 use pls_model::{MAX_BITS, MAX_LINES, MAX_NODES, MAX_PORTS, MAX_ROUNDS};
 use pls_netfile::ReadNetwork;
 use pls_rules_part::RulesText;
-use pls_schedule::ScheduleText;
-use pls_watch_part::WatchText;
+use pls_schedule::ReadSchedule;
+use pls_watch_part::ReadWatch;
 
 /// The texts of the parts of an input, as they were scanned; `None` where there is no such part.
 #[derive(Drop)]
 pub(crate) struct Texts<'a> {
     pub(crate) network: Option<ReadNetwork<'a>>,
     pub(crate) labels: Option<LabelsText<'a>>,
-    pub(crate) schedule: Option<ScheduleText<'a>>,
-    pub(crate) edits: Option<EditsText<'a>>,
-    pub(crate) watch: Option<WatchText<'a>>,
+    pub(crate) schedule: Option<ReadSchedule<'a>>,
+    pub(crate) edits: Option<ReadEdits<'a>>,
+    pub(crate) watch: Option<ReadWatch<'a>>,
     pub(crate) rules: Option<RulesText<'a>>,
 }
 
@@ -97,7 +97,7 @@ fn label_bits_in(labels: &Option<LabelsText<'_>>) -> u64
 }
 
 // How many bits the labels have together that a watch gives, if there is one.
-fn watch_bits_in(watch: &Option<WatchText<'_>>) -> u64
+fn watch_bits_in(watch: &Option<ReadWatch<'_>>) -> u64
     ensures { result ≡ count_in (λ text. text.bits) watch.now }
 {
     match watch {
@@ -107,7 +107,7 @@ fn watch_bits_in(watch: &Option<WatchText<'_>>) -> u64
 }
 
 // How many events a schedule has, if there is one.
-fn events_in(schedule: &Option<ScheduleText<'_>>) -> u64
+fn events_in(schedule: &Option<ReadSchedule<'_>>) -> u64
     ensures { result ≡ count_in (λ text. text.events) schedule.now }
 {
     match schedule {
@@ -117,7 +117,7 @@ fn events_in(schedule: &Option<ScheduleText<'_>>) -> u64
 }
 
 // How many lines edits have, if there are some.
-fn lines_in(edits: &Option<EditsText<'_>>) -> u64
+fn lines_in(edits: &Option<ReadEdits<'_>>) -> u64
     ensures { result ≡ count_in (λ text. text.events) edits.now }
 {
     match edits {
@@ -127,7 +127,7 @@ fn lines_in(edits: &Option<EditsText<'_>>) -> u64
 }
 
 // How many of these lines ask for a round.
-fn rounds_in(edits: &Option<EditsText<'_>>) -> u64
+fn rounds_in(edits: &Option<ReadEdits<'_>>) -> u64
     ensures { result ≡ count_in (λ text. text.rounds) edits.now }
 {
     match edits {
@@ -137,7 +137,7 @@ fn rounds_in(edits: &Option<EditsText<'_>>) -> u64
 }
 
 // How many lines a watch has, if there is one.
-fn watch_lines_in(watch: &Option<WatchText<'_>>) -> u64
+fn watch_lines_in(watch: &Option<ReadWatch<'_>>) -> u64
     ensures { result ≡ count_in (λ text. text.events) watch.now }
 {
     match watch {
@@ -147,7 +147,7 @@ fn watch_lines_in(watch: &Option<WatchText<'_>>) -> u64
 }
 
 // How many of these lines ask for a look.
-fn looks_in(watch: &Option<WatchText<'_>>) -> u64
+fn looks_in(watch: &Option<ReadWatch<'_>>) -> u64
     ensures { result ≡ count_in (λ text. text.looks) watch.now }
 {
     match watch {

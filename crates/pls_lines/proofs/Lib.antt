@@ -5,6 +5,7 @@ pub mod WholeTexts
 pub mod Passing
 pub mod ListItems
 pub mod ListPassed
+pub mod ListKept
 pub mod ListRead
 pub mod BothPassed
 pub mod ListOfAll

@@ -1,7 +1,5 @@
 -- The items of a text that was passed, read again.
-use Rattle.std.proofs.Common.{◌≡◌, ℕ, ◌+◌, List, [], ◌∷◌, ◌++◌, map, codes, refl, sym, ◌∙◌, ap, subst, Option, Some, None, IfSome, IfNone, Ok, Err, append-nil}
-use Rattle.std.specs.List.{All}
-use Rattle.std.specs.Prelude.{Result, IfOk, OnOk}
+use Rattle.std.proofs.Common.{◌≡◌, ℕ, List, [], ◌∷◌, ◌++◌, map, codes, refl, sym, ◌∙◌, ap, subst, Option, Some, None, IfSome, IfNone, append-nil}
 use Rattle.std.proofs.lemmas.List.Elements.{All-head, All-tail}
 use Rattle.pls_lines.specs.Text.{text_of}
 use Rattle.pls_lines.specs.Lines.{Left, Passes, Stands}
@@ -13,7 +11,7 @@ use Rattle.pls_lines.specs.laws.ListLaws.{is_list_part, list_is_part}
 use Rattle.pls_lines.proofs.ListItems.{same_items}
 use Rattle.pls_lines.specs.ListPart.{IsListKind, IsListPart, IsWholeList, NextItem, PassesList, Remains, TellsItems, list_lines, list_text, to_end}
 use Rattle.pls_lines.specs.laws.Frames.{end_plain}
-use Rattle.pls_lines.specs.laws.Fronts.{first_line, same_line}
+use Rattle.pls_lines.specs.laws.Fronts.{same_line}
 
 -- a part tells its heading and what follows it
 same_parts : (g h : List ℕ) (a b : List (List ℕ)) → part_lines g a ≡ part_lines h b
@@ -67,29 +65,6 @@ module _ {X : Type 0} (Fits : X → Type 0) (written : X → List ℕ)
         cut = remains.is;
       }))
 
-  -- as many as stand were read
-  pub all_read : (old new : Left) (values items : List X) → All Fits values
-      → old.rest ≡ text_of (map written values) ++ new.rest
-      → (Stands (Says Fits written) new.rest → ⊥)
-      → Remains Fits written old.rest items → values ≡ items
-  all_read old new [] items fits stands absent remains =
-      sym (none_left new.rest items absent
-      (record { fits = remains.fits; is = sym stands ∙ remains.is }))
-  all_read old new (value ∷ values) items fits stands absent remains =
-      let mid : Left = record {
-        number = old.number + 1;
-        rest = text_of (map written values) ++ new.rest;
-      } in
-      let passes : Passes old mid (written value ∷ []) = record {
-        stands = stands ∙ first_line (written value) (map written values) new.rest
-            ∙ sym (first_line (written value) [] mid.rest);
-        number = refl;
-      } in
-      let next = one_less old mid value items (All-head Fits value values fits) passes remains in
-      let rest = all_read mid new values next.more (All-tail Fits value values fits) refl absent
-      next.remains in
-      ap (λ (vs : List X). value ∷ vs) rest ∙ sym next.are
-
   -- what one step of reading says of the items
   pub next_told : (old new : Left) (read : Option X) → IfSome read Fits
       → IfSome read (λ value. Passes old new (written value ∷ []))
@@ -104,16 +79,6 @@ module _ {X : Type 0} (Fits : X → Type 0) (written : X → List ℕ)
       → IfNone read ((items : List X) → Remains Fits written text items → items ≡ [])
   none_told text None absent = λ items remains. none_left text items absent remains
   none_told text (Some value) absent = tt
-
-  -- and what reading all says
-  pub all_told : {V E : Type 0} (items_of : V → List X) (old new : Left) (read : Result V E)
-      (items : List X) → IfOk read (λ values. All Fits (items_of values))
-      → IfOk read (λ values. Passes old new (map written (items_of values)))
-      → OnOk read (Stands (Says Fits written) new.rest → ⊥)
-      → Remains Fits written old.rest items → IfOk read (λ values. items_of values ≡ items)
-  all_told items_of old new (Ok values) items fits passes absent remains =
-      all_read old new (items_of values) items fits passes.stands absent remains
-  all_told items_of old new (Err error) items fits passes absent remains = tt
 
 module _ {H X : Type 0} (Headed : H → Type 0) (title : H → List ℕ) (Fits : X → Type 0)
     (written : X → List ℕ) (Are : List X → Type 0) (titles : IsLineKind Headed title)

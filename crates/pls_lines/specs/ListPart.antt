@@ -84,3 +84,11 @@ pub record IsWholeList {H X S : Type 0} (Headed : H → Type 0) (title : H → L
   pub rest : at.rest ≡ text
   pub counted : (others : List X) → TellsItems Headed title written Are text heading others
       → kept ≡ tally others
+
+-- the text says items of which these lines are kept
+pub record AreKept {H X L : Type 0} (Headed : H → Type 0) (title : H → List ℕ)
+    (written : X → List ℕ) (Are : List X → Type 0) (line : X → L) (text : List ℕ) (heading : H)
+    (list : List L) : Type 0 where
+  pub items : List X
+  pub tells : TellsItems Headed title written Are text heading items
+  pub are : list ≡ map line items

@@ -4,8 +4,10 @@ ghost use Rattle.std.specs.Prelude.{◌≡◌, ℕ, List, All};
 ghost use Rattle.pls_lines.specs.Counted.{IsHeadingWord, counted};
 
 use crate::line_kind::LineKind;
-use crate::list_tally::ListTally;
+use crate::list_tally::{Keep, ListTally};
 use crate::words::after_line;
+use pls_base::NoMemory;
+use std::alloc::Global;
 use std::marker::PhantomData;
 
 /// A word that is the heading of a part, alone in its line.
@@ -80,5 +82,16 @@ impl<'a, W: HeadingWord, K: LineKind<'a>> ListTally<'a> for Count<W, K> {
 
     fn is_whole(&self) -> bool {
         true
+    }
+}
+
+/// The items themselves are kept.
+impl<'a, W: HeadingWord, K: LineKind<'a>> Keep<'a> for Count<W, K> {
+    type Line = K;
+
+    ghost line = { λ item. item };
+
+    fn line_of(_alloc: Global, item: K) -> Result<K, NoMemory> {
+        Ok(item)
     }
 }

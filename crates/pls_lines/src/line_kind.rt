@@ -1,12 +1,10 @@
 //! Kinds of line, and how the next line is read as one.
 
-ghost use Rattle.std.specs.Prelude.{◌≡◌, ℕ, ◌<◌, ◌≤◌, ◌^◌, List, [], ◌∷◌, ◌++◌, map, length, All, IfNone, IfOk, IfSome, OnOk};
+ghost use Rattle.std.specs.Prelude.{◌≡◌, ℕ, ◌<◌, ◌≤◌, ◌^◌, List, [], ◌∷◌, ◌++◌, length, IfNone, IfSome};
 ghost use Rattle.pls_lines.specs.Lines.{Passes, Stands};
 ghost use Rattle.pls_lines.specs.LineKind.{IsLineKind, PassesAll, Says};
 
 use crate::lines::Lines;
-use pls_base::NoMemory;
-use std::alloc::Global;
 
 /// A kind of line. A value is what one line of the kind says; it may lend parts of the line.
 pub trait LineKind<'a>: Sized + Drop {
@@ -59,23 +57,4 @@ pub fn count_of<'a, K: LineKind<'a>>(lines: &mut Lines<'a>) -> u64
         count += 1;
     }
     count
-}
-
-/// What the lines of a kind say that stand next, as many as there are; the reader passes them. The
-/// one refusal is want of memory.
-pub fn list_of<'a, K: LineKind<'a>>(
-    alloc: Global,
-    lines: &mut Lines<'a>,
-) -> Result<Vec<K>, NoMemory>
-    ensures fits { IfOk result (λ values. All K.Fits values.items) }
-    ensures passed { IfOk result
-        (λ values. Passes lines.old lines.new (map K.written values.items)) }
-    ensures none { OnOk result (Stands (Says K.Fits K.written) lines.new.rest → ⊥) }
-    ensures no_more { OnOk result (length lines.new.rest ≤ length lines.old.rest) }
-{
-    let mut values = Vec::new(alloc);
-    while let Some(value) = next_of::<K>(lines) {
-        values.push(value)?;
-    }
-    Ok(values)
 }

@@ -1,10 +1,12 @@
 //! Lists of items, one a line, and what is counted of them while they are passed.
 
-ghost use Rattle.std.specs.Prelude.{◌≡◌, List, [], ◌∷◌, ◌++◌};
+ghost use Rattle.std.specs.Prelude.{◌≡◌, List, [], ◌∷◌, ◌++◌, IfOk};
 ghost use Rattle.std.specs.Bool.{OnFalse, OnTrue};
 ghost use Rattle.pls_lines.specs.ListPart.{Begun, IsListKind};
 
 use crate::line_kind::LineKind;
+use pls_base::NoMemory;
+use std::alloc::Global;
 
 /// The lists that one part of an input can be, as what is counted of their items.
 pub trait ListTally<'a>: Sized + Drop {
@@ -49,4 +51,17 @@ pub trait ListTally<'a>: Sized + Drop {
     final fn laws()
         ensures { IsListKind Self.Heading.Fits Self.Item.Fits Are }
     {}
+}
+
+/// Lists of which a line is kept for each item, that lends nothing of the text.
+pub trait Keep<'a>: ListTally<'a> {
+    /// What is kept of an item.
+    type Line: Drop;
+
+    /// What is kept of an item.
+    ghost line: { Self.Item → Self.Line };
+
+    /// What is kept of an item. The one refusal is want of memory.
+    fn line_of(alloc: Global, item: Self::Item) -> Result<Self::Line, NoMemory>
+        ensures { IfOk result (λ kept. kept ≡ line item) };
 }

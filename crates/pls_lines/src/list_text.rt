@@ -10,12 +10,11 @@ ghost use Rattle.pls_lines.specs.inner.ListScan.{MayFollow, PassesItem, PassesIt
 ghost use Rattle.pls_lines.specs.Part.{PassesFormat};
 ghost use Rattle.pls_lines.specs.laws.ListLaws.{list_is_some_part};
 
-use crate::line_kind::{LineKind, list_of, next_of};
+use crate::line_kind::{LineKind, next_of};
 use crate::lines::Lines;
 use crate::list_tally::ListTally;
 use crate::part::Part;
-use pls_base::{NoMemory, TextError};
-use std::alloc::Global;
+use pls_base::TextError;
 
 /// The text of a part with a list of items, which it lends from its heading line to its `end`, and
 /// what is counted of the items.
@@ -147,18 +146,6 @@ impl<'a, T: ListTally<'a>> ListText<'a, T> {
         let mut lines = self.lines.again();
         let _ = next_of::<T::Heading>(&mut lines);
         lines
-    }
-
-    /// The items, in the order of their lines. The one refusal is want of memory.
-    pub fn items(&self, alloc: Global) -> Result<Vec<T::Item>, NoMemory>
-        ensures { (items : List T.Item)
-            → TellsItems T.Heading.Fits T.Heading.written T.Item.written T.Are
-            self.now.lines.rest self.now.heading items
-            → IfOk result (λ read. read.items ≡ items) }
-    {
-        T::Item::laws();
-        let mut lines = self.behind_heading();
-        list_of::<T::Item>(alloc, &mut lines)
     }
 }
 

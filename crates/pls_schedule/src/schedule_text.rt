@@ -1,6 +1,6 @@
 //! The text of a schedule: scanned without memory, and read as the list of its events.
 
-ghost use Rattle.std.specs.Prelude.{◌≡◌, ◌<◌, ◌≤◌, ◌+◌, ◌^◌, List, length, IfErr, IfOk, OnErr};
+ghost use Rattle.std.specs.Prelude.{◌≡◌, ◌<◌, ◌≤◌, ◌+◌, ◌^◌, List, length, IfErr, IfOk, OnErr, OnOk};
 ghost use Rattle.pls_lines.specs.Lines.{IsFormFault};
 ghost use Rattle.pls_schedule.specs.ScheduleText.{IsEventsRefusal, IsRefusedSchedule, IsSchedulePart, PassesSchedule, TellsSchedule};
 
@@ -32,7 +32,7 @@ impl HeadingWord for ScheduleWord {
 /// it has.
 #[derive(Drop)]
 pub struct ScheduleText<'a> {
-    part: ListText<'a, Count<ScheduleWord, Event>>,
+    pub(crate) part: ListText<'a, Count<ScheduleWord, Event>>,
 }
 
 impl<'a> Model for ScheduleText<'a> {
@@ -103,10 +103,21 @@ impl<'a> ScheduleText<'a> {
         ensures refused { (events : List Event) → TellsSchedule self.now.text events
             → IfErr result (λ error. IsEventsRefusal events error) }
     {
+        self.check()?;
+        Ok(self.part.list(alloc)?)
+    }
+
+    // Refuses more events than a limit.
+    pub(crate) fn check(&self) -> Result<(), TextError>
+        ensures few { OnOk result ((events : List Event) → TellsSchedule self.now.text events
+            → length events ≤ MAX_LINES) }
+        ensures refused { IfErr result (λ error. (events : List Event)
+            → TellsSchedule self.now.text events → IsEventsRefusal events error) }
+    {
         if self.part.kept.items > MAX_LINES as u64 {
             return Err(TextError::Limit(Quantity::Events));
         }
-        Ok(self.part.items(alloc)?)
+        Ok(())
     }
 }
 

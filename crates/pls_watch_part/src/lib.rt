@@ -4,15 +4,18 @@
 //! [`WatchLine`] is an event or asks for a look. `specs/WatchText` says how lists of them are
 //! written, one a line: [`scan_watch`] passes one watch part without memory, or names its first
 //! faulty line, and the [`WatchText`] that it gives lends the text, counts its lines, its looks and
-//! the bits of its labels, and reads the lines ([`WatchText::list`]).
+//! the bits of its labels, and reads the lines ([`WatchText::list`]). A [`ReadWatch`] has them too,
+//! where they were kept while the text was passed.
 #![tactic(auto)]
 
 mod watch_event;
+mod watch_read;
 mod watch_text;
 mod watch_words;
 
 pub use pls_base::NoMemory;
 pub use pls_model::{MAX_LINES, MAX_ROUNDS};
 pub use watch_event::{WatchEvent, WatchLine};
+pub use watch_read::ReadWatch;
 pub use watch_text::{WatchText, scan_watch};
 pub use watch_words::WatchWord;

@@ -1,17 +1,16 @@
 //! The text of a watch part: scanned without memory, and read as the list of its lines.
 
-ghost use Rattle.std.specs.Prelude.{◌≡◌, ◌<◌, ◌+◌, ◌^◌, List, length, IfErr, IfOk, OnErr};
+ghost use Rattle.std.specs.Prelude.{◌≡◌, ◌<◌, ◌+◌, ◌^◌, List, length, IfErr, IfOk, OnErr, OnOk};
 ghost use Rattle.pls_lines.specs.Lines.{IsFormFault};
-ghost use Rattle.pls_lines.specs.ListPart.{Remains};
 ghost use Rattle.pls_closing.specs.Closing.{AreFew};
-ghost use Rattle.pls_watch_part.specs.WatchText.{FitsWatch, IsWatchPart, IsWatchRefusal, PassesWatch, TellsWatch, looks_of, watch_line};
+ghost use Rattle.pls_watch_part.specs.WatchText.{IsWatchPart, IsWatchRefusal, PassesWatch, TellsWatch, looks_of};
 ghost use Rattle.pls_watch_part.specs.declared.watch_event.WatchLine.{WatchLine};
 
 use crate::watch_event::WatchLine;
 use crate::watch_words::{WatchWord, WatchWords};
-use pls_base::{NoMemory, TextError};
+use pls_base::TextError;
 use pls_closing::{ClosingTally, check_limits};
-use pls_lines::{Lines, ListText, Part, next_item, scan};
+use pls_lines::{Lines, ListText, Part, scan};
 use std::alloc::Global;
 use std::marker::Model;
 
@@ -19,7 +18,7 @@ use std::marker::Model;
 /// how many looks and how many bits of labels it has.
 #[derive(Drop)]
 pub struct WatchText<'a> {
-    part: ListText<'a, ClosingTally<WatchWord, WatchWords<'a>>>,
+    pub(crate) part: ListText<'a, ClosingTally<WatchWord, WatchWords<'a>>>,
 }
 
 impl<'a> Model for WatchText<'a> {
@@ -105,20 +104,17 @@ impl<'a> WatchText<'a> {
         ensures refused { (lines : List WatchLine) → TellsWatch self.now.text lines
             → IfErr result (λ error. IsWatchRefusal lines error) }
     {
-        check_limits(self.part.kept.lines, self.part.kept.closing)?;
-        Ok(lines_of(alloc, self.part.behind_heading())?)
+        self.check()?;
+        Ok(self.part.list(alloc)?)
     }
-}
 
-// The events and looks of the lines that a text says before its `end`. The one refusal is want of
-// memory.
-fn lines_of(alloc: Global, mut lines: Lines<'_>) -> Result<Vec<WatchLine>, NoMemory>
-    ensures { (items : List WatchLine) → Remains FitsWatch watch_line lines.entry.rest items
-        → IfOk result (λ list. list.items ≡ items) }
-{
-    let mut list = Vec::new(alloc);
-    while let Some(words) = next_item::<WatchWords<'_>>(&mut lines) {
-        list.push(words.into_line(alloc)?)?;
+    // Refuses more lines than a limit.
+    pub(crate) fn check(&self) -> Result<(), TextError>
+        ensures few { OnOk result ((lines : List WatchLine) → TellsWatch self.now.text lines
+            → AreFew (length lines) (length (looks_of lines))) }
+        ensures refused { IfErr result (λ error. (lines : List WatchLine)
+            → TellsWatch self.now.text lines → IsWatchRefusal lines error) }
+    {
+        check_limits(self.part.kept.lines, self.part.kept.closing)
     }
-    Ok(list)
 }

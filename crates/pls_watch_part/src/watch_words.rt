@@ -6,7 +6,7 @@ ghost use Rattle.pls_watch_part.specs.WatchText.{FitsWatch, bits_of, is_look, wa
 
 use crate::watch_event::{WatchEvent, WatchLine};
 use pls_base::NoMemory;
-use pls_closing::ClosingLine;
+use pls_closing::{ClosingLine, OwnLine};
 use pls_labelfile::LabelLine;
 use pls_lines::{HeadingWord, LineKind, after_byte, after_line};
 use pls_schedule::Event;
@@ -117,11 +117,13 @@ impl<'a> ClosingLine<'a> for WatchWords<'a> {
     }
 }
 
-impl<'a> WatchWords<'a> {
-    // The line, with the bits of its label on their own. The one error is want of memory.
-    pub(crate) fn into_line(self, alloc: Global) -> Result<WatchLine, NoMemory>
-        ensures { IfOk result (λ line. line ≡ self.entry) }
-    {
+/// The bits of a label on their own.
+impl<'a> OwnLine<'a> for WatchWords<'a> {
+    type Line = WatchLine;
+
+    ghost line = { λ words. words };
+
+    fn into_line(self, alloc: Global) -> Result<WatchLine, NoMemory> {
         match self.words {
             Words::Plain(event) => Ok(WatchLine::Event(WatchEvent::of(event))),
             Words::Relabel(label) => {

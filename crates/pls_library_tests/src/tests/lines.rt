@@ -3,7 +3,8 @@
 use super::line_of;
 use pls_labelfile::LabelsText;
 use pls_lines::{
-    Both, Count, bytes_before, number_before, one_number, read_list, read_whole, two_numbers,
+    Both, Count, Lines, bytes_before, keep_list, number_before, one_number, read_list, read_whole,
+    two_numbers,
 };
 use pls_netfile::NetworkText;
 use pls_schedule::{Event, ScheduleText, ScheduleWord};
@@ -136,8 +137,13 @@ fn the_events_of_a_schedule(rt: HostRuntime) -> Result<(), Fail> {
         Event::Restart(4294967295),
     ];
     assert!(rt;
-        part.items(rt.alloc())?.as_slice() == events.as_slice(),
+        part.list(rt.alloc())?.as_slice() == events.as_slice(),
         "the events"
+    );
+    let kept = keep_list::<Count<ScheduleWord, Event>>(rt.alloc(), &mut Lines::new(text));
+    assert!(rt;
+        kept.is_some_and(|kept| kept.1.as_slice() == events.as_slice()),
+        "the events that are kept"
     );
     assert!(rt;
         part.number_of(0) == 2 && part.number_of(3) == 5,
