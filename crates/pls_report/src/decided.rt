@@ -1,6 +1,6 @@
 //! The line of a node that has decided, put together where there is room for it.
 
-ghost use Rattle.std.specs.Prelude.{◌≡◌, ◌≤◌, ◌+◌, ◌++◌, ◌∷◌, [], codes, decimal, length, take};
+ghost use Rattle.std.specs.Prelude.{◌≡◌, ◌<◌, ◌≤◌, ◌+◌, ◌++◌, ◌∷◌, [], codes, decimal, length, take};
 ghost use Rattle.pls_base.specs.Gathered.{Writes};
 ghost use Rattle.pls_sim.specs.declared.outcome.Outcome.TheVariants.{Decided};
 ghost use Rattle.pls_report.specs.Report.{outcome_line};
@@ -21,16 +21,19 @@ pub(crate) fn put_decided<K: Sink>(
         result (outcome_line (id, Decided verdict) ++ 10 ∷ []) }
 {
     let mut line = [0; 80];
-    let count = line_in(&mut line, id, verdict);
+    let end = line_in(&mut line, id, verdict);
+    let count = bytes_at(&mut line, end, b"\n");
     gathered.put_front(sink, &line, count)
 }
 
-// Puts the line of a node that has decided into the front of some bytes, and answers how long it is.
-fn line_in(into: &mut [u8], id: u32, verdict: Verdict) -> usize
+/// Puts the line of a node that has decided, without its line feed, into the front of some bytes,
+/// and answers how long it is.
+pub(crate) fn line_in(into: &mut [u8], id: u32, verdict: Verdict) -> usize
     requires { 80 ≤ length into.old }
-    ensures within { result ≤ 80 }
+    ensures within { result < 80 }
     ensures length { length into.new ≡ length into.old }
-    ensures line { take result into.new ≡ outcome_line (id, Decided verdict) ++ 10 ∷ [] }
+    ensures line { take result into.new
+        ≡ (codes "node " ++ decimal id) ++ outcome_tail (Decided verdict) }
 {
     let word = bytes_at(into, 0, b"node ");
     let named = number_at(into, word, id as u64);
@@ -41,24 +44,22 @@ fn line_in(into: &mut [u8], id: u32, verdict: Verdict) -> usize
 fn tail_at(into: &mut [u8], at: usize, verdict: Verdict) -> usize
     requires { at + 50 ≤ length into.old }
     ensures length { length into.new ≡ length into.old }
-    ensures within { result ≤ at + 50 }
-    ensures tail { take result into.new
-        ≡ take at into.old ++ (outcome_tail (Decided verdict) ++ codes "\n") }
+    ensures within { result < at + 50 }
+    ensures tail { take result into.new ≡ take at into.old ++ outcome_tail (Decided verdict) }
 {
     match verdict {
-        Verdict::Accept => bytes_at(into, at, b" accept\n"),
+        Verdict::Accept => bytes_at(into, at, b" accept"),
         Verdict::Reject { leaf, rule } => {
             let word = bytes_at(into, at, b" reject ");
             let part = number_at(into, word, leaf as u64);
             let space = bytes_at(into, part, b" ");
-            let last = number_at(into, space, rule as u64);
-            bytes_at(into, last, b"\n")
+            number_at(into, space, rule as u64)
         }
     }
 }
 
-// Writes a number.
-fn number_at(into: &mut [u8], at: usize, number: u64) -> usize
+/// Writes a number behind the first `at` bytes, and answers where it ends.
+pub(crate) fn number_at(into: &mut [u8], at: usize, number: u64) -> usize
     requires { at + 20 ≤ length into.old }
     ensures length { length into.new ≡ length into.old }
     ensures within { result ≤ at + 20 }

@@ -1,11 +1,12 @@
 //! The line of a node of a look, put together in memory.
 
-ghost use Rattle.std.specs.Prelude.{◌≡◌, ◌++◌, ◌∷◌, [], decimal, IfOk, OnOk};
+ghost use Rattle.std.specs.Prelude.{◌≡◌, ◌++◌, ◌∷◌, [], codes, decimal, IfOk, OnOk};
 ghost use Rattle.pls_report.specs.Look.{look_line};
 ghost use Rattle.pls_report.specs.inner.Pieces.{outcome_tail, spaced, stale_tail};
 
+use crate::decided::{line_in, number_at};
 use crate::look_counting::told_ports;
-use pls_base::{NoMemory, write_decimal};
+use pls_base::NoMemory;
 use pls_model::Verdict;
 use pls_sim::Outcome;
 use smallvec::SmallVec;
@@ -26,35 +27,36 @@ pub(crate) fn node_line(
         (λ line. line.items ≡ look_line (id, outcome.now, stale.now) ++ 10 ∷ []) }
 {
     let mut line = SmallVec::new(alloc);
-    add_number(&mut line, b"node ", id as u64)?;
-    add_outcome(&mut line, outcome)?;
+    add_outcome(&mut line, id, outcome)?;
     add_stale(&mut line, told_ports(outcome, stale))?;
     line.push(b'\n')?;
     Ok(line)
 }
 
-// Adds what the line says of an outcome.
-fn add_outcome(line: &mut Line, outcome: &Outcome) -> Result<(), NoMemory>
-    ensures { OnOk result (line.new.items ≡ line.old.items ++ outcome_tail outcome.now) }
+// Adds the identity of a node, and what the line says of its outcome.
+fn add_outcome(line: &mut Line, id: u32, outcome: &Outcome) -> Result<(), NoMemory>
+    ensures { OnOk result (line.new.items
+        ≡ line.old.items ++ ((codes "node " ++ decimal id) ++ outcome_tail outcome.now)) }
 {
     match outcome {
-        Outcome::Decided(verdict) => add_verdict(line, *verdict),
-        Outcome::Waiting(ports) => add_listed(line, b" waiting", ports.as_slice()),
+        Outcome::Decided(verdict) => add_decided(line, id, *verdict),
+        Outcome::Waiting(ports) => {
+            line.extend_from_slice(b"node")?;
+            add_spaced(line, id)?;
+            add_listed(line, b" waiting", ports.as_slice())
+        }
     }
 }
 
-// Adds what the line says of a verdict.
-fn add_verdict(line: &mut Line, verdict: Verdict) -> Result<(), NoMemory>
-    ensures { OnOk result
-        (line.new.items ≡ line.old.items ++ outcome_tail (Outcome.Decided verdict)) }
+// The same of a node that has decided. Its pieces are put together first, since it costs less to add
+// one than many.
+fn add_decided(line: &mut Line, id: u32, verdict: Verdict) -> Result<(), NoMemory>
+    ensures { OnOk result (line.new.items ≡ line.old.items
+        ++ ((codes "node " ++ decimal id) ++ outcome_tail (Outcome.Decided verdict))) }
 {
-    match verdict {
-        Verdict::Accept => line.extend_from_slice(b" accept")?,
-        Verdict::Reject { leaf, rule } => {
-            add_number(line, b" reject ", leaf as u64)?;
-            add_number(line, b" ", rule as u64)?;
-        }
-    }
+    let mut front = [0; 80];
+    let count = line_in(&mut front, id, verdict);
+    line.extend_from_slice(&front[..count])?;
     Ok(())
 }
 
@@ -74,18 +76,17 @@ fn add_listed(line: &mut Line, word: &[u8], numbers: &[u32]) -> Result<(), NoMem
 {
     line.extend_from_slice(word)?;
     for number in numbers {
-        add_number(line, b" ", *number as u64)?;
+        add_spaced(line, *number)?;
     }
     Ok(())
 }
 
-// Adds a word and a number.
-fn add_number(line: &mut Line, word: &[u8], number: u64) -> Result<(), NoMemory>
-    ensures { OnOk result (line.new.items ≡ line.old.items ++ (word.now ++ decimal number)) }
+// Adds a space and a number, as one piece.
+fn add_spaced(line: &mut Line, number: u32) -> Result<(), NoMemory>
+    ensures { OnOk result (line.new.items ≡ line.old.items ++ (codes " " ++ decimal number)) }
 {
-    let mut digits = [0; 20];
-    let count = write_decimal(number, &mut digits);
-    line.extend_from_slice(word)?;
-    line.extend_from_slice(&digits[..count])?;
+    let mut piece = [b' '; 21];
+    let count = number_at(&mut piece, 1, number as u64);
+    line.extend_from_slice(&piece[..count])?;
     Ok(())
 }

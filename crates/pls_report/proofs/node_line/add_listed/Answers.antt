@@ -8,7 +8,7 @@ pub loop-number-preserved : goal.loop-number-preserved
 loop-number-preserved c =
     let numbers = c.args.numbers.now in
     let i : ℕ = c.loop-number.number-index in
-    c.in_ok-add_number.ensures
+    c.in_ok-add_spaced.ensures
     ∙ ap (λ (line : List ℕ). line ++ (codes " " ++ decimal (get_or numbers i 0)))
     c.loop-number.invariant
     ∙ listed_more c.args.line.now.items c.args.word.now numbers i 0 c.loop-number-test.true

@@ -13,7 +13,6 @@ returns c =
     ∙ ap (λ (line : List ℕ). line ++ 10 ∷ [])
     (c.in_ok-add_stale.ensures
     ∙ (λ i. c.in_ok-add_outcome.ensures i ++ stale_tail (c.told_ports.ensures i))
-    ∙ ap (λ (line : List ℕ). (line ++ outcome_tail outcome) ++ stale_tail (told_ports outcome stale))
-    (c.in_ok-add_number.ensures
-    ∙ ap (λ (line : List ℕ). line ++ (codes "node " ++ decimal id)) c.new-line.ensures.items))
+    ∙ ap (λ (line : List ℕ). (line ++ ((codes "node " ++ decimal id) ++ outcome_tail outcome))
+    ++ stale_tail (told_ports outcome stale)) c.new-line.ensures.items)
     ∙ node_seen id outcome stale
