@@ -12,8 +12,8 @@ use pls_app::{Tally, run};
 use pls_base::{MemSink, NoMemory, Status, SureSource};
 use std::alloc::Global;
 
-/// The room of the sink of a run in memory, in bytes: more than any text of a small network.
-pub const ROOM: usize = 65_536;
+/// The room of the sink of a run in memory, in bytes: more than any text of the tables.
+pub const ROOM: usize = 4_194_304;
 
 /// The status of the program on these words and this input, and the sink with what it wrote. A run
 /// whose text fits the room ends in its answer or in want of memory. The error is want of memory

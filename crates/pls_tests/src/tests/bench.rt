@@ -2,13 +2,14 @@
 
 use super::input::input_of;
 use super::rows::{end_of, end_with};
+use crate::ROOM;
 use pls_app::{Bench, run};
 use pls_base::{MemSink, NoMemory, Steps, SureSource};
 use pls_model::Verdict;
 use pls_scheme::Checker;
 use pls_view::View;
 use std::alloc::Global;
-use std::test::Fail;
+use std::process::Abort;
 
 // A star of which four nodes are judged, and then four, one and two that were touched.
 const EDITS: &str = "star | star-colours \
@@ -42,32 +43,29 @@ impl Bench for Refusing {
 
 // How the rounds of the star end, where the bench answers the question of this number with want of
 // memory.
-fn star_end(alloc: Global, refuses: u64) -> Result<String, Fail> {
-    let mut source = SureSource::new(input_of(alloc, EDITS)?.into_bytes());
-    let mut sink = MemSink::new(alloc, 65_536, 65_536, Vec::new(alloc))?;
+fn star_end(rt: &impl Abort, alloc: Global, refuses: u64) -> String {
+    let mut source = SureSource::new(input_of(rt, alloc, EDITS).into_bytes());
+    let mut sink = MemSink::new(alloc, ROOM, ROOM, Vec::new(alloc)).expect(rt, "memory");
     let questions = Steps::new();
     let mut bench = Refusing { questions, refuses };
     let words = ["recheck", "bipartite"];
     let status = run(alloc, &words, &mut source, &mut sink, &mut bench);
-    Ok(end_with(alloc, status, sink.bytes())?)
+    end_with(rt, alloc, status, sink.bytes())
 }
 
-// Whether they end as the row of want of memory.
-fn is_refused(alloc: Global, refuses: u64) -> Result<bool, Fail> {
-    Ok(star_end(alloc, refuses)?.as_str() == "6\n")
-}
-
-// Whether they end as those of `recheck`, where no question is refused.
-fn is_answered(alloc: Global, refuses: u64) -> Result<bool, Fail> {
-    let due = end_of(alloc, "recheck bipartite", input_of(alloc, EDITS)?)?;
-    Ok(star_end(alloc, refuses)?.as_str() == due.as_str())
+// Asserts that they end so.
+fn assert_star_end(rt: &impl Abort, alloc: Global, refuses: u64, due: &str) {
+    let end = star_end(rt, alloc, refuses);
+    assert!(rt; end.as_str() == due, "question {refuses}\nends with {end}");
 }
 
 #[test]
-fn each_verdict_is_that_of_the_bench(rt: HostRuntime) -> Result<(), Fail> {
+fn each_verdict_is_that_of_the_bench(rt: HostRuntime) {
     for refuses in 1..12 {
-        assert!(rt; is_refused(rt.alloc(), refuses)?, "question {refuses}");
+        assert_star_end(&rt, rt.alloc(), refuses, "6\n");
     }
-    assert!(rt; is_answered(rt.alloc(), 12)?, "eleven questions");
-    Ok(())
+    // There is no twelfth question: all are answered, as where the program asks.
+    let input = input_of(&rt, rt.alloc(), EDITS);
+    let due = end_of(&rt, rt.alloc(), "recheck bipartite", input.as_str());
+    assert_star_end(&rt, rt.alloc(), 12, due.as_str());
 }

@@ -1,20 +1,15 @@
 //! Networks of several components.
 
-use super::rows::assert_rows;
-use std::test::Fail;
-
-// Networks of two components, which are marked one by one.
-const MARKED: &str = "
+pub(super) const ROWS: &str = "
+## Networks of two components, which are marked one by one.
 0 mark tree < apart > labels / label 1 4 50 / label 2 4 70 / end
 0 mark bipartite < pair-and-one > labels / label 1 1 00 / label 2 1 80 / label 3 1 00 / end
 1 mark leader < pair-and-one > no 1
 1 mark leader < apart > no 1 2
 0 bound tree < pair-and-one > bound 8
 0 bound bipartite < apart > bound 1
-";
 
-// Reports of two components.
-const REPORTS: &str = "
+## Reports of two components.
 0 verify bipartite < pair-and-one | one-colours \
     > node 1 accept / node 2 accept / node 3 accept / component 1 nodes 2 rejecting 0 \
     / component 3 nodes 1 rejecting 0 / rejecting 0
@@ -40,8 +35,3 @@ const REPORTS: &str = "
     / round 0 checked 4 connected yes rejecting 0 / node 1 accept / node 2 accept \
     / node 3 accept / node 4 accept / round 1 checked 2 connected no rejecting 0
 ";
-
-#[test]
-fn each_component_is_marked_and_reported_by_itself(rt: HostRuntime) -> Result<(), Fail> {
-    assert_rows(&rt, rt.alloc(), &[MARKED, REPORTS])
-}

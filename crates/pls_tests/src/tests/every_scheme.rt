@@ -1,13 +1,12 @@
 //! Each scheme by each command that judges labels.
 
-use super::rows::{assert_rows, lines_of};
-use pls_base::NoMemory;
+use super::rows::assert_rows;
+use super::rules;
 use std::alloc::Global;
 use std::process::Abort;
-use std::test::Fail;
 
-// Each scheme, and its labels for one network.
-const MARKED: &str = "
+pub(super) const ROWS: &str = "
+## Each scheme, and its labels for one network.
 0 mark tree < all > labels / label 1 4 50 / label 2 6 48 / end
 0 mark forest < all > labels / label 1 1 80 / label 2 3 40 / end
 0 mark bipartite < all > labels / label 1 1 00 / label 2 1 80 / end
@@ -20,10 +19,8 @@ const MARKED: &str = "
 0 mark map(tree) < all > labels / label 1 44 4d534d356920 / label 2 44 6d534d356920 / end
 0 mark and(leader,spt) < all > labels / label 1 14 2aac / label 2 20 3a4920 / end
 0 mark or(mst,count) < all > labels / label 1 26 24a924c0 / label 2 28 26926930 / end
-";
 
-// These labels in the delta code.
-const CONVERTED: &str = "
+## These labels in the delta code.
 0 convert tree < all | labels; label 1 4 50; label 2 6 48 \
     > labels delta / label 1 5 48 / label 2 8 44 / end
 0 convert forest < all | labels; label 1 1 80; label 2 3 40 \
@@ -47,10 +44,8 @@ const CONVERTED: &str = "
     > labels delta / label 1 16 7253 / label 2 28 21444440 / end
 0 convert or(mst,count) < all | labels; label 1 26 24a924c0; label 2 28 26926930 \
     > labels delta / label 1 34 2225111140 / label 2 37 22a222a228 / end
-";
 
-// How long these labels may be, in both codes.
-const BOUNDS: &str = "
+## How long these labels may be, in both codes.
 0 bound tree < all > bound 6
 0 bound --code delta tree < all > bound 8
 0 bound forest < all > bound 3
@@ -81,72 +76,45 @@ const BOUNDS: &str = "
 const SCHEMES: &str = "tree forest bipartite acyclic leader count spt mst pathmax map(tree) \
     and(leader,spt) or(mst,count)";
 
-// What is asked with these labels.
+// What is asked with the labels that a scheme marks in a code.
 const ASKED: &str = "
-0 verify NAME < all | = LABELS > node 1 accept / node 2 accept / rejecting 0
-0 verify NAME --json < all | = LABELS > {\"nodes\":[{\"id\":1,\"verdict\":\"accept\"},{\"id\":2,\
-    \"verdict\":\"accept\"}],\"rejecting\":0,\"waiting\":0}
-0 simulate NAME < all | = LABELS | schedule; emit 1 0; emit 2 0; arrive 1; arrive 2 \
+0 verify NAME < all | as mark NAME --code CODE > node 1 accept / node 2 accept / rejecting 0
+0 verify NAME --json < all | as mark NAME --code CODE \
+    > {\"nodes\":[{\"id\":1,\"verdict\":\"accept\"},{\"id\":2,\"verdict\":\"accept\"}],\
+    \"rejecting\":0,\"waiting\":0}
+0 simulate NAME < all | as mark NAME --code CODE \
+    | schedule; emit 1 0; emit 2 0; arrive 1; arrive 2 \
     > node 1 accept / node 2 accept / rejecting 0 waiting 0
-0 recheck NAME < all | = LABELS | edits; state 1 - 1 2; round \
+0 recheck NAME < all | as mark NAME --code CODE | edits; state 1 - 1 2; round \
     > node 1 accept / node 2 accept / round 0 checked 2 connected yes rejecting 0 \
     / node 1 accept / node 2 accept / round 1 checked 1 connected yes rejecting 0
-0 watch NAME < all | = LABELS | watch; emit 1 0; emit 2 0; arrive 1; arrive 2; look \
+0 watch NAME < all | as mark NAME --code CODE \
+    | watch; emit 1 0; emit 2 0; arrive 1; arrive 2; look \
     > node 1 accept / node 2 accept / look 1 rejecting 0 waiting 0 stale 0
-3 splice NAME < all | = LABELS > refused 70 at 1
+3 splice NAME < all | as mark NAME --code CODE > refused 70 at 1
 ";
 
 // The schemes whose property the ring of six has, and what is asked of it.
 const RING_SCHEMES: &str = "tree forest bipartite leader count spt mst pathmax \
     map(bridgeless) and(leader,count) or(acyclic,spt)";
 
-const ASKED_OF_RING: &str = "1 splice NAME < round | = LABELS > none";
+const ASKED_OF_RING: &str = "1 splice NAME < round | as mark NAME --code CODE > none";
 
-// The labels with which a scheme in a code marks an input, as lines of another.
-fn labels_by(alloc: Global, name: &str, code: &str, input: &str) -> Result<String, Fail> {
-    let words = format!(in alloc; "mark {name} --code {code}")?;
-    lines_of(alloc, words.as_str(), input)
-}
-
-// The rows in which the name of a scheme stands for NAME and its labels for LABELS.
-fn rows_about(alloc: Global, asked: &str, name: &str, labels: &str) -> Result<String, NoMemory> {
-    let named = asked.replace(alloc, "NAME", name)?;
-    Ok(named.as_str().replace(alloc, "LABELS", labels)?)
-}
-
-// Runs these rows about a scheme in a code, which marks an input.
-fn assert_asked_of(
-    rt: &impl Abort,
-    alloc: Global,
-    [name, code]: [&str; 2],
-    [input, asked]: [&str; 2],
-) -> Result<(), Fail> {
-    let labels = labels_by(alloc, name, code, input)?;
-    let rows = rows_about(alloc, asked, name, labels.as_str())?;
-    assert_rows(rt, alloc, &[rows.as_str()])
-}
-
-// The same of each scheme in each code.
-fn assert_asked(
-    rt: &impl Abort,
-    alloc: Global,
-    [schemes, input, asked]: [&str; 3],
-) -> Result<(), Fail> {
+// Runs these rows about each of these schemes, with labels in this code.
+fn assert_about(rt: &impl Abort, alloc: Global, code: &str, schemes: &str, asked: &str) {
+    let rows = asked.replace(alloc, "CODE", code).expect(rt, "memory");
     for name in schemes.split(' ') {
-        for code in ["gamma", "delta"] {
-            assert_asked_of(rt, alloc, [name, code], [input, asked])?;
-        }
+        let table = rows.as_str().replace(alloc, "NAME", name);
+        assert_rows(rt, alloc, &[table.expect(rt, "memory").as_str()]);
     }
-    Ok(())
 }
 
 #[test]
-fn every_scheme_marks_converts_and_bounds(rt: HostRuntime) -> Result<(), Fail> {
-    assert_rows(&rt, rt.alloc(), &[MARKED, CONVERTED, BOUNDS])
-}
-
-#[test]
-fn labels_of_every_scheme_are_judged_by_every_command(rt: HostRuntime) -> Result<(), Fail> {
-    assert_asked(&rt, rt.alloc(), [SCHEMES, "all", ASKED])?;
-    assert_asked(&rt, rt.alloc(), [RING_SCHEMES, "round", ASKED_OF_RING])
+fn labels_of_every_scheme_are_judged_by_every_command(rt: HostRuntime) {
+    for code in ["gamma", "delta"] {
+        assert_about(&rt, rt.alloc(), code, SCHEMES, ASKED);
+        assert_about(&rt, rt.alloc(), code, RING_SCHEMES, ASKED_OF_RING);
+    }
+    // Sets of rules are judged in the gamma code alone.
+    assert_about(&rt, rt.alloc(), "gamma", rules::SETS, rules::ASKED);
 }

@@ -1,10 +1,7 @@
 //! Expressions of schemes, and properties that a map shows.
 
-use super::rows::assert_rows;
-use std::test::Fail;
-
-// Both of two schemes, and one of two.
-const EXPRESSIONS: &str = "
+pub(super) const ROWS: &str = "
+## Both of two schemes, and one of two.
 0 mark and(bipartite,acyclic) < pair > labels / label 1 5 48 / label 2 7 54 / end
 0 bound and(bipartite,acyclic) < pair > bound 7
 0 verify and(bipartite,acyclic) < pair | labels; label 1 5 48; label 2 7 54 \
@@ -14,10 +11,8 @@ const EXPRESSIONS: &str = "
 # A tag names no scheme that has these labels.
 1 verify or(bipartite,mst) < pair | labels; label 1 2 00; label 2 1 80 \
     > node 1 reject 0 3 / node 2 reject 0 3 / rejecting 2
-";
 
-// Properties without a scheme, shown by a map of the network.
-const MAPS: &str = "
+## Properties without a scheme, shown by a map of the network.
 0 mark map(diameter:1) < pair > labels / label 1 36 4d74d3e920 / label 2 36 6d74d3e920 / end
 1 verify map(diameter:2) < pair | labels; label 1 63 445d34fb48889d34; \
     label 2 63 645d34fb48889d34 > node 1 accept / node 2 reject 1 6 / rejecting 1
@@ -28,8 +23,3 @@ const MAPS: &str = "
 1 verify map(bridgeless) < alone | labels; label 5 126 30000000000000004000000000000004 \
     > node 5 reject 1 1 / rejecting 1
 ";
-
-#[test]
-fn expressions_and_maps_are_marked_and_judged(rt: HostRuntime) -> Result<(), Fail> {
-    assert_rows(&rt, rt.alloc(), &[EXPRESSIONS, MAPS])
-}

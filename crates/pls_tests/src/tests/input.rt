@@ -1,30 +1,23 @@
 //! How the rows of a table write the input of a run.
 //!
-//! An input is its parts, with a bar between two of them. A network is its nodes, each with its
-//! ports behind a colon: `1 - 0 0: 2 by 7; 2 - 0 0: 1 by 7`. Any other part is its lines but the
-//! last, which is `end`: `labels; label 1 1 00; label 2 1 80`. Behind `=` stand lines alone, and
-//! some parts have names.
+//! An input is its parts, with a bar between two of them; some have names. A part is its lines but
+//! the last, which is `end`: `labels; label 1 1 00; label 2 1 80`. Behind `=` stand lines alone,
+//! behind `+` a text that ends without a line feed, and behind `as` the words of a run on the parts
+//! in front, whose text is the part. `{9 of ; port #2# 1}` stands for nine lines, the first of them
+//! `port 2 1` and the last `port 10 1`.
 
 use super::named::NAMED;
-use pls_base::NoMemory;
-use std::alloc::Global;
+use super::rows::end_of;
+use std::alloc::{AllocError, Global};
+use std::process::Abort;
 
 /// The text of an input.
-pub(super) fn input_of(alloc: Global, notation: &str) -> Result<String, NoMemory> {
+pub(super) fn input_of(rt: &impl Abort, alloc: Global, notation: &str) -> String {
     let mut input = String::new(alloc);
-    write_input(&mut input, notation)?;
-    Ok(input)
-}
-
-// Writes an input behind a text.
-fn write_input(text: &mut String, notation: &str) -> Result<(), NoMemory> {
-    if notation.is_empty() {
-        return Ok(());
-    }
     for part in notation.split(" | ") {
-        write_part(text, unnamed(part))?;
+        write_part(rt, alloc, &mut input, unnamed(part));
     }
-    Ok(())
+    input
 }
 
 // What a part is where its name stands, or else the part.
@@ -39,68 +32,62 @@ fn unnamed(part: &str) -> &str {
     part
 }
 
-// Writes a part behind a text.
-fn write_part(text: &mut String, part: &str) -> Result<(), NoMemory> {
-    if let Some(lines) = part.strip_prefix("= ") {
-        write_lines(text, lines)?;
-        return Ok(text.push('\n')?);
+// Writes a part behind those in front of it.
+fn write_part(rt: &impl Abort, alloc: Global, input: &mut String, part: &str) {
+    let (kind, rest) = part.split_once(' ').unwrap_or((part, ""));
+    match kind {
+        "as" => write_end(rt, alloc, input, rest),
+        "+" => write_lines(rt, alloc, input, [rest, ""]),
+        "=" => write_lines(rt, alloc, input, [rest, "\n"]),
+        _ => write_lines(rt, alloc, input, [part, "\nend\n"]),
     }
-    if is_network(part) {
-        write_nodes(text, part)?;
-    } else {
-        write_lines(text, part)?;
-    }
-    Ok(text.push_str("\nend\n")?)
 }
 
-// Writes lines, with a line feed between two of them.
-fn write_lines(text: &mut String, lines: &str) -> Result<(), NoMemory> {
-    write_replaced(text, lines, "; ", "\n")
+// Writes the text of a run on what is written. Where it does not end well, the number of its status
+// is written too, so that no run reads it.
+fn write_end(rt: &impl Abort, alloc: Global, input: &mut String, words: &str) {
+    let end = end_of(rt, alloc, words, input.as_str());
+    let text = end.as_str().strip_prefix("0\n").unwrap_or(end.as_str());
+    input.push_str(text).expect(rt, "memory");
 }
 
-// Writes a text in which something stands in the place of a mark.
-fn write_replaced(
-    text: &mut String,
-    whole: &str,
-    mark: &str,
-    instead: &str,
-) -> Result<(), NoMemory> {
-    for (i, piece) in whole.split(mark).enumerate() {
-        if i > 0 {
-            text.push_str(instead)?;
-        }
-        text.push_str(piece)?;
-    }
-    Ok(())
+// Writes lines, and what stands behind the last one.
+fn write_lines(rt: &impl Abort, alloc: Global, input: &mut String, [lines, last]: [&str; 2]) {
+    let text = lines.replace(alloc, "; ", "\n").expect(rt, "memory");
+    write_pieces(input, text.as_str()).expect(rt, "memory");
+    input.push_str(last).expect(rt, "memory");
 }
 
-// Writes a network but for its last line.
-fn write_nodes(text: &mut String, nodes: &str) -> Result<(), NoMemory> {
-    text.push_str("network")?;
-    for node in nodes.split("; ") {
-        text.push_str("\nnode ")?;
-        write_node(text, node)?;
-    }
-    Ok(())
-}
-
-// Writes the state and the ports of a node.
-fn write_node(text: &mut String, node: &str) -> Result<(), NoMemory> {
-    for (i, ports) in node.split(": ").enumerate() {
-        for (k, port) in ports.split(", ").enumerate() {
-            if i > 0 || k > 0 {
-                text.push_str("\nport ")?;
-            }
-            write_replaced(text, port, " by ", " ")?;
+// Writes a text, in which braces stand around what is repeated.
+fn write_pieces(input: &mut String, text: &str) -> Result<(), AllocError> {
+    for (i, piece) in text.split(['{', '}']).enumerate() {
+        if i % 2 == 0 {
+            input.push_str(piece)?;
+        } else {
+            write_times(input, piece)?;
         }
     }
     Ok(())
 }
 
-// Whether a part is a network: it begins with an identity.
-fn is_network(part: &str) -> bool {
-    match part.as_bytes().first() {
-        Some(byte) => byte.is_ascii_digit(),
-        None => false,
+// Writes what is repeated, as often as the number in front of it says.
+fn write_times(input: &mut String, piece: &str) -> Result<(), AllocError> {
+    let (count, repeated) = piece.split_once(" of ").unwrap_or((piece, ""));
+    for number in 0..count.parse().unwrap_or(0) {
+        write_counted(input, repeated, number)?;
     }
+    Ok(())
+}
+
+// Writes what is repeated, in which the numbers between two marks are counted on from.
+fn write_counted(input: &mut String, repeated: &str, number: u32) -> Result<(), AllocError> {
+    for (i, piece) in repeated.split('#').enumerate() {
+        if i % 2 == 0 {
+            input.push_str(piece)?;
+        } else {
+            let first: u32 = piece.parse().unwrap_or(0);
+            write!(input, "{}", first.saturating_add(number))?;
+        }
+    }
+    Ok(())
 }

@@ -1,10 +1,7 @@
 //! Lightest trees, by the levels of Boruvka's method and by centroids.
 
-use super::rows::assert_rows;
-use std::test::Fail;
-
-// Lightest trees, others, and the levels that show them.
-const LEVELS: &str = "
+pub(super) const ROWS: &str = "
+## Lightest trees, others, and the levels that show them.
 0 mark mst < alone > labels / label 5 17 318d80 / end
 0 mark mst < triangle > labels / label 1 29 49521098 / label 2 31 4d24c426 \
     / label 3 37 446d104320 / end
@@ -12,10 +9,8 @@ const LEVELS: &str = "
 0 mark mst < ring > labels / label 1 41 495a49a33200 / label 2 43 4d26d268cc80 \
     / label 3 53 446d9110a43320 / label 4 57 452119510a433200 / end
 0 bound mst < ring > bound 63
-";
 
-// Levels, right and wrong.
-const JUDGED_LEVELS: &str = "
+## Levels, right and wrong.
 0 verify mst < alone | labels; label 5 17 318d80 > node 5 accept / rejecting 0
 0 verify mst < triangle | labels; label 1 29 49521098; label 2 31 4d24c426; \
     label 3 37 446d104320 > node 1 accept / node 2 accept / node 3 accept / rejecting 0
@@ -29,10 +24,8 @@ const JUDGED_LEVELS: &str = "
     > node 5 reject 1 1 / rejecting 1
 1 verify mst < triangle | labels; label 1 29 49521098; label 2 31 4d24c426; label 3 31 4d24c426 \
     > node 1 accept / node 2 accept / node 3 reject 1 3 / rejecting 1
-";
 
-// Lightest trees, and the centroids that show them.
-const CENTROIDS: &str = "
+## Lightest trees, and the centroids that show them.
 0 mark pathmax < alone > labels / label 5 26 318d46c0 / end
 0 mark pathmax < triangle > labels / label 1 31 495b4216 / label 2 20 4d24f0 \
     / label 3 37 446db42098 / end
@@ -44,8 +37,3 @@ const CENTROIDS: &str = "
 0 verify pathmax < triangle | labels; label 1 31 495b4216; label 2 20 4d24f0; \
     label 3 37 446db42098 > node 1 accept / node 2 accept / node 3 accept / rejecting 0
 ";
-
-#[test]
-fn levels_and_centroids_are_marked_and_judged(rt: HostRuntime) -> Result<(), Fail> {
-    assert_rows(&rt, rt.alloc(), &[LEVELS, JUDGED_LEVELS, CENTROIDS])
-}

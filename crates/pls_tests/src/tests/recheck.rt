@@ -1,10 +1,7 @@
 //! Edits, and rounds in which touched nodes are judged again.
 
-use super::rows::assert_rows;
-use std::test::Fail;
-
-// Edits, and the rounds in which nodes are judged again.
-const ROUNDS: &str = "
+pub(super) const ROWS: &str = "
+## Edits, and the rounds in which nodes are judged again.
 1 recheck bipartite < star | star-colours \
     | edits; label 1 1 80; round; state 2 - 0 7; round; unlink 1 4; round \
     > node 1 accept / node 2 accept / node 3 accept / node 4 accept \
@@ -27,10 +24,8 @@ const ROUNDS: &str = "
     / node 1 accept / node 2 accept / node 9 reject 1 1 \
     / round 1 checked 1 connected no rejecting 1 / node 1 accept / node 2 accept \
     / node 9 accept / round 2 checked 2 connected yes rejecting 0
-";
 
-// Edits of which one does not apply.
-const REFUSED: &str = "
+## Edits of which one does not apply.
 3 recheck bipartite < pair | colours | edits; link 1 2 3; round > refused 30 at 12
 3 recheck bipartite < pair | colours | edits; leave 1; round > refused 30 at 12
 3 recheck bipartite < pair | colours | edits; state 1 1 0 0; round > refused 30 at 12
@@ -42,8 +37,3 @@ const REFUSED: &str = "
 # The last line is no `round`.
 3 recheck bipartite < pair | colours | edits; state 1 - 0 1 > refused form at 13
 ";
-
-#[test]
-fn rounds_judge_touched_nodes_and_other_edits_are_refused(rt: HostRuntime) -> Result<(), Fail> {
-    assert_rows(&rt, rt.alloc(), &[ROUNDS, REFUSED])
-}

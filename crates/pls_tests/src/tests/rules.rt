@@ -1,11 +1,7 @@
 //! Rule sets, and what they judge.
 
-use super::rows::{assert_rows, lines_of};
-use std::alloc::Global;
-use std::test::Fail;
-
-// The rule sets that have the names of schemes.
-const PRINTED: &str = "
+pub(super) const ROWS: &str = "
+## The rule sets that have the names of schemes.
 0 rules leader > rules / field root num / field depth num / rule all(eq(nb.root,my.root)) \
     / rule same(eq(my.depth,0),eq(id,my.root)) \
     / rule either(eq(my.depth,0),any(eq(add(nb.depth,1),my.depth))) \
@@ -31,10 +27,8 @@ const PRINTED: &str = "
     / rule either(lt(0,my.depth),both(eq(my.parent,id),eq(my.size,my.total))) \
     / rule either(eq(my.depth,0),any(both(eq(nb.own,my.parent),eq(add(nb.depth,1),my.depth)))) \
     / rule eq(my.size,add(sum(eq(nb.parent,id),nb.size),1)) / end
-";
 
-// Rule sets and their code.
-const LISTED: &str = "
+## Rule sets and their code.
 0 code < differ > code / 0 push 1 / 1 begin / 2 more 9 / 3 nb 0 / 4 my 0 / 5 eq / 6 not \
     / 7 both / 8 next 2 / 9 rule 3 / 10 accept / end
 # What stands at a pointed port, the greatest number, no rule at all.
@@ -49,10 +43,8 @@ const LISTED: &str = "
     / 6 not / 7 not / 8 not / 9 not / 10 not / 11 not / 12 not / 13 not / 14 not / 15 not \
     / 16 not / 17 not / 18 not / 19 not / 20 not / 21 not / 22 not / 23 not / 24 not / 25 not \
     / 26 not / 27 not / 28 not / 29 not / 30 not / 31 not / 32 not / 33 rule 3 / 34 accept / end
-";
 
-// Rule sets with a fault.
-const REFUSED: &str = "
+## Rule sets with a fault.
 # A field that is not there, a neighbour outside of all quantifiers, a field told twice.
 3 code < rules; field depth num; rule eq(my.root,0) > refused 50 at 3
 3 code < rules; field depth num; rule eq(nb.depth,0) > refused 50 at 3
@@ -75,10 +67,8 @@ const REFUSED: &str = "
 3 code < rules; field depth num; rule eq(9223372036854775807,0) > refused form at 3
 3 code < rules; field depth num; rule eq(00,0) > refused form at 3
 3 code < pair | differ > refused form at 1
-";
 
-// Labels judged by a rule set, and inputs with several faults.
-const JUDGED: &str = "
+## Labels judged by a rule set, and inputs with several faults.
 0 judge < pair | colours | differ > node 1 accept / node 2 accept / rejecting 0
 1 judge < pair | labels; label 1 0 -; label 2 1 80 | differ \
     > node 1 reject 1 1 / node 2 reject 1 2 / rejecting 2
@@ -97,33 +87,9 @@ const JUDGED: &str = "
 3 judge < pair | colours > refused form at 11
 ";
 
-// The schemes that have a rule set of their name.
-const SETS: &str = "leader tree forest spt bipartite acyclic count";
+/// The schemes that have a rule set of their name.
+pub(super) const SETS: &str = "leader tree forest spt bipartite acyclic count";
 
-#[test]
-fn sets_are_printed_listed_refused_and_judge(rt: HostRuntime) -> Result<(), Fail> {
-    assert_rows(&rt, rt.alloc(), &[PRINTED, LISTED, REFUSED, JUDGED])
-}
-
-// What a command says of a name, as lines of an input.
-fn lines_by(alloc: Global, command: &str, name: &str, input: &str) -> Result<String, Fail> {
-    let words = format!(in alloc; "{command} {name}")?;
-    lines_of(alloc, words.as_str(), input)
-}
-
-// The row in which the set of a scheme judges labels that the scheme marks.
-fn judge_row(alloc: Global, name: &str) -> Result<String, Fail> {
-    let labels = lines_by(alloc, "mark", name, "all")?;
-    let rules = lines_by(alloc, "rules", name, "")?;
-    let due = "node 1 accept / node 2 accept / rejecting 0";
-    Ok(format!(in alloc; "0 judge < all | = {labels} | = {rules} > {due}")?)
-}
-
-#[test]
-fn sets_of_schemes_accept_what_the_schemes_mark(rt: HostRuntime) -> Result<(), Fail> {
-    for name in SETS.split(' ') {
-        let row = judge_row(rt.alloc(), name)?;
-        assert_rows(&rt, rt.alloc(), &[row.as_str()])?;
-    }
-    Ok(())
-}
+/// Labels that such a scheme marks, judged by its set.
+pub(super) const ASKED: &str =
+    "0 judge < all | as mark NAME | as rules NAME > node 1 accept / node 2 accept / rejecting 0";

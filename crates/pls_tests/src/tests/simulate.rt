@@ -1,10 +1,7 @@
 //! Rounds that are played from a schedule.
 
-use super::rows::assert_rows;
-use std::test::Fail;
-
-// Schedules, and what nodes have heard.
-const PLAYED: &str = "
+pub(super) const ROWS: &str = "
+## Schedules, and what nodes have heard.
 # Nothing was heard, one node has heard, a restart forgets, what comes late is heard.
 1 simulate bipartite < pair | colours | schedule \
     > node 1 waiting 0 / node 2 waiting 0 / rejecting 0 waiting 2
@@ -23,10 +20,8 @@ const PLAYED: &str = "
 1 simulate bipartite < row | labels; label 1 1 00; label 2 1 00; label 3 1 80 \
     | schedule; emit 1 0; emit 2 0; emit 2 1; emit 3 0; arrive 4; arrive 3; arrive 2; arrive 1 \
     > node 1 reject 1 3 / node 2 reject 1 3 / node 3 accept / rejecting 2 waiting 0
-";
 
-// Events that name no node, no port or no emit.
-const REFUSED: &str = "
+## Events that name no node, no port or no emit.
 3 simulate bipartite < pair | colours | schedule; arrive 1 > refused 40 at 12
 3 simulate bipartite < pair | colours | schedule; emit 1 1 > refused 40 at 12
 3 simulate bipartite < pair | colours | schedule; emit 3 0 > refused 40 at 12
@@ -37,10 +32,8 @@ const REFUSED: &str = "
 # Lines that cannot stand there.
 3 simulate bipartite < pair | colours | schedule; emit 1 > refused form at 12
 3 simulate bipartite < pair | colours | schedule; emit 1 0; end > refused form at 14
-";
 
-// Reports in JSON.
-const JSON: &str = "
+## Reports in JSON.
 1 verify bipartite --json < pair | labels; label 1 1 00; label 2 1 00 \
     > {\"nodes\":[{\"id\":1,\"leaf\":1,\"rule\":3,\"verdict\":\"reject\"},{\"id\":2,\"leaf\":1,\
     \"rule\":3,\"verdict\":\"reject\"}],\"rejecting\":2,\"waiting\":0}
@@ -51,8 +44,3 @@ const JSON: &str = "
     > {\"nodes\":[{\"id\":1,\"leaf\":1,\"rule\":3,\"verdict\":\"reject\"},{\"id\":2,\"leaf\":1,\
     \"rule\":3,\"verdict\":\"reject\"}],\"rejecting\":2,\"waiting\":0}
 ";
-
-#[test]
-fn rounds_are_played_and_told_and_other_events_refused(rt: HostRuntime) -> Result<(), Fail> {
-    assert_rows(&rt, rt.alloc(), &[PLAYED, REFUSED, JSON])
-}

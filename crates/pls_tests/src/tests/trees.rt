@@ -1,10 +1,7 @@
 //! Trees, forests, networks without a ring, two-colourings, leaders, counts and nearest walks.
 
-use super::rows::assert_rows;
-use std::test::Fail;
-
-// Networks and their labels, or none.
-const MARKED: &str = "
+pub(super) const ROWS: &str = "
+## Networks and their labels, or none.
 # Pointers that make a tree, and others.
 1 mark tree < circle > no
 1 mark forest < circle > no
@@ -29,16 +26,14 @@ const MARKED: &str = "
 0 mark leader < marked > labels / label 1 4 50 / label 2 6 48 / label 3 6 4c / label 4 8 44 / end
 0 mark leader < eight > labels / label 1 4 50 / label 2 6 48 / label 3 6 4c / label 4 8 44 \
     / label 5 8 45 / label 6 8 44 / label 7 6 4c / label 8 6 48 / end
-0 mark count < 1 - 0 2: 2 by 1; 2 - 0 2: 1 by 1 \
+0 mark count < network; node 1 - 0 2; port 2 1; node 2 - 0 2; port 1 1 \
     > labels / label 1 16 495b / label 2 18 4d24c0 / end
 1 mark count < pair > no
 1 mark spt < circle > no
 1 mark spt < ring > no
 0 bound bipartite < pair > bound 1
-";
 
-// Networks with labels, right and wrong.
-const JUDGED: &str = "
+## Networks with labels, right and wrong.
 # Two colours, one colour, a label of two bits, an empty one.
 0 verify bipartite < pair | colours > node 1 accept / node 2 accept / rejecting 0
 1 verify bipartite < pair | labels; label 1 0 -; label 2 1 80 \
@@ -48,11 +43,12 @@ const JUDGED: &str = "
 1 verify bipartite < pair | labels; label 1 2 00; label 2 1 80 \
     > node 1 reject 1 1 / node 2 reject 1 2 / rejecting 2
 # Labels that were marked, of nodes with pointers, marks, numbers and weights of their own.
-0 mark bipartite < 3 - 0 0: 5 by 2, 9 by 0; 5 0 1 7: 3 by 2, 6 by 1; 6 - 0 0: 5 by 1, 9 by 1; \
-    9 - 0 0: 3 by 0, 6 by 1 > labels / label 3 1 00 / label 5 1 80 / label 6 1 00 \
-    / label 9 1 80 / end
-0 verify bipartite < 3 - 0 0: 5 by 2, 9 by 0; 5 0 1 7: 3 by 2, 6 by 1; 6 - 0 0: 5 by 1, 9 by 1; \
-    9 - 0 0: 3 by 0, 6 by 1 | labels; label 3 1 00; label 5 1 80; label 6 1 00; label 9 1 80 \
+0 mark bipartite < network; node 3 - 0 0; port 5 2; port 9 0; node 5 0 1 7; port 3 2; port 6 1; \
+    node 6 - 0 0; port 5 1; port 9 1; node 9 - 0 0; port 3 0; port 6 1 \
+    > labels / label 3 1 00 / label 5 1 80 / label 6 1 00 / label 9 1 80 / end
+0 verify bipartite < network; node 3 - 0 0; port 5 2; port 9 0; node 5 0 1 7; port 3 2; port 6 1; \
+    node 6 - 0 0; port 5 1; port 9 1; node 9 - 0 0; port 3 0; port 6 1 | labels; label 3 1 00; \
+    label 5 1 80; label 6 1 00; label 9 1 80 \
     > node 3 accept / node 5 accept / node 6 accept / node 9 accept / rejecting 0
 # A leader, and two.
 0 verify leader < marked | labels; label 1 4 50; label 2 6 48; label 3 6 4c; label 4 8 44 \
@@ -80,12 +76,7 @@ const JUDGED: &str = "
     > node 5 reject 1 1 / rejecting 1
 1 verify forest < alone | labels; label 5 125 0000000000000003fffffffffffffff8 \
     > node 5 reject 1 3 / rejecting 1
-1 verify forest < 1 - 0 0: 2 by 1; 2 0 0 0: 1 by 1 \
-    | labels; label 1 125 0000000000000003fffffffffffffff8; label 2 1 80 \
+1 verify forest < network; node 1 - 0 0; port 2 1; node 2 0 0 0; port 1 1 | labels; \
+    label 1 125 0000000000000003fffffffffffffff8; label 2 1 80 \
     > node 1 reject 1 3 / node 2 reject 1 4 / rejecting 2
 ";
-
-#[test]
-fn networks_are_marked_and_labels_judged(rt: HostRuntime) -> Result<(), Fail> {
-    assert_rows(&rt, rt.alloc(), &[MARKED, JUDGED])
-}

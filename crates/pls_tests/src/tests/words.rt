@@ -1,13 +1,9 @@
 //! Words that are no command, and commands that read nothing.
 
-use super::rows::assert_rows;
-use crate::run_in_memory;
-use pls_base::Status;
-use std::alloc::Global;
-use std::test::Fail;
+use super::rows::end_of_run;
 
-// Words that are no command.
-const NO_COMMAND: &str = "
+pub(super) const ROWS: &str = "
+## Words that are no command.
 # Words of other programs, none, too few, too many flags.
 2 --help > usage
 2 --version > usage
@@ -33,10 +29,8 @@ const NO_COMMAND: &str = "
 2 trial 1:7 --json > usage
 2 verify colour < pair | colours > usage
 2 verify colour > usage
-";
 
-// Words with a code where none may stand.
-const NO_CODE: &str = "
+## Words with a code where none may stand.
 2 verify --code delta bipartite > usage
 2 mark tree --code=delta > usage
 2 mark tree --code > usage
@@ -45,10 +39,8 @@ const NO_CODE: &str = "
 2 mark mst --code beta > usage
 2 mark --code delta --code > usage
 2 mark tree --json --code > usage
-";
 
-// Words that name no scheme.
-const NO_EXPRESSION: &str = "
+## Words that name no scheme.
 2 verify map(diameter:01) > usage
 2 verify map(diameter:32768) > usage
 2 verify map(map(tree)) > usage
@@ -64,10 +56,8 @@ const NO_EXPRESSION: &str = "
 2 verify tree,tree < pair > usage
 2 verify and(and(and(and(and(and(and(and(tree,tree),tree),tree),tree),tree),tree),tree),tree) \
     < pair > usage
-";
 
-// Words that are no number of nodes and number to begin with.
-const NO_TRIAL: &str = "
+## Words that are no number of nodes and number to begin with.
 2 trial 0:1 > usage
 2 trial 1:0 > usage
 2 trial 01:1 > usage
@@ -78,27 +68,13 @@ const NO_TRIAL: &str = "
 2 trial 1: > usage
 2 trial :1 > usage
 2 trial 1:1:1 > usage
-";
 
-// Trials of one node and of two.
-const TRIALS: &str = "
+## Trials of one node and of two.
 0 trial 1:7 > trial nodes 1 edges 0 bound 13 longest 11 rejecting 0
 0 trial 2:1 > trial nodes 2 edges 1 bound 43 longest 43 rejecting 0
 ";
 
-// What is told of words that are no command.
-const USAGE: &str = "usage\n";
-
-#[test]
-fn words_are_a_command_or_usage(rt: HostRuntime) -> Result<(), Fail> {
-    assert_rows(
-        &rt,
-        rt.alloc(),
-        &[NO_COMMAND, NO_CODE, NO_EXPRESSION, NO_TRIAL, TRIALS],
-    )
-}
-
-// Words that one row cannot say, since a space parts its words.
+// Words that no row can say, since a space parts its words.
 const ODD: &[[&str; 2]] = &[
     ["verify", ""],
     ["trial", ""],
@@ -106,16 +82,10 @@ const ODD: &[[&str; 2]] = &[
     ["mark", "tree "],
 ];
 
-// Whether words are answered with `usage`.
-fn are_usage(alloc: Global, words: &[&str]) -> Result<bool, Fail> {
-    let (status, sink) = run_in_memory(alloc, words, Vec::new(alloc))?;
-    Ok(status == Status::Usage && sink.bytes() == USAGE.as_bytes())
-}
-
 #[test]
-fn an_empty_word_and_one_with_a_space_are_usage(rt: HostRuntime) -> Result<(), Fail> {
+fn an_empty_word_and_one_with_a_space_are_usage(rt: HostRuntime) {
     for words in ODD {
-        assert!(rt; are_usage(rt.alloc(), words)?, "{} {}", words[0], words[1]);
+        let end = end_of_run(&rt, rt.alloc(), words, "");
+        assert!(rt; end.as_str() == "2\nusage\n", "{} {}", words[0], words[1]);
     }
-    Ok(())
 }
