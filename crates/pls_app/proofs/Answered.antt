@@ -17,7 +17,7 @@ use Rattle.pls_app.specs.declared.command.Command.TheVariants.{ByRules, Print, T
 use Rattle.pls_app.specs.declared.command.Task.TheVariants.{Mark, Verify, Simulate, Recheck, Watch, Bound, Convert, Splice}
 use Rattle.pls_app.specs.declared.command.RuleTask.TheVariants.{Code, Judge, Splice as SpliceByRules}
 use Rattle.pls_names.specs.declared.scheme_name.SchemeName.{SchemeName}
-use Rattle.pls_app.specs.Ruled.{printed}
+use Rattle.pls_app.specs.Ruled.{rules_answer}
 use Rattle.pls_app.specs.Command.{IsCommand, IsUsage, input_parts_of, read_by, reads}
 use Rattle.pls_app.specs.Reports.{ends_well}
 use Rattle.pls_app.specs.Looks.{ends_in_well, looks_in}
@@ -92,7 +92,7 @@ trial_answers bytes nodes seed answer tried =
     })
 
 -- and that which prints a rule set
-pub print_answers : (bytes : List ℕ) (name : SchemeName) (answer : Answer) → answer ≡ printed name
+pub print_answers : (bytes : List ℕ) (name : SchemeName) (answer : Answer) → answer ≡ rules_answer name
     → Answers (Print name) bytes answer
 print_answers bytes name answer same =
     inr (record {

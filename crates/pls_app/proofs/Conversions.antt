@@ -39,7 +39,7 @@ use Rattle.pls_inputs.proofs.WithinLimits.{few_of}
 use Rattle.pls_app.specs.declared.command.Command.TheVariants.{With}
 use Rattle.pls_app.specs.declared.command.Task.TheVariants.{Convert}
 use Rattle.pls_app.specs.Answer.{Answers}
-use Rattle.pls_app.specs.Convert.{converted_labels, unconverted}
+use Rattle.pls_app.specs.Convert.{converted_labels, convert_refusal}
 use Rattle.pls_app.specs.Meant.{converted_in, judge_in}
 use Rattle.pls_app.specs.Reports.{decided_by}
 use Rattle.pls_app.specs.Run.{Converts}
@@ -136,7 +136,7 @@ both_none None (Some error) none = absurd (cc)
 both_none (Some error) second none = absurd (cc)
 
 module _ (scheme : Expression) (bytes : List ℕ) (input : Input)
-    (is : IsInput parts_with_gamma bytes input) (accepted : unconverted scheme input ≡ None) where
+    (is : IsInput parts_with_gamma bytes input) (accepted : convert_refusal scheme input ≡ None) where
   abbrev to : List Bool → Option (List Bool)
   to = converted gamma_takes delta_code scheme
 

@@ -13,7 +13,7 @@ use Rattle.pls_expressions.specs.Expression.{Expression}
 use Rattle.pls_inputs.specs.Order.{over}
 use Rattle.pls_inputs.specs.Parts.{Input, code_in, labels_in, rows_in}
 use Rattle.pls_combine.specs.Converted.{all_converted, first_unread}
-use Rattle.pls_app.specs.Convert.{converted_labels, unconverted}
+use Rattle.pls_app.specs.Convert.{converted_labels, convert_refusal}
 use Rattle.pls_app.specs.Meant.{converted_in}
 
 module _ (scheme : Expression) (input : Input) (to : List Bool → Option (List Bool))
@@ -28,7 +28,7 @@ module _ (scheme : Expression) (input : Input) (to : List Bool → Option (List 
   pub unread_refused : (rows : List NodeRow) (place id : ℕ) → rows_in input ≡ rows
       → Some place ≡ first_unread to labels
       → option_map (λ row. row.id) (slice_get rows place) ≡ Some id
-      → unconverted scheme input ≡ Some (Sense UNREAD id)
+      → convert_refusal scheme input ≡ Some (Sense UNREAD id)
   unread_refused rows place id of_rows found at =
       let there : slice_get (ids_of (rows_in input)) place ≡ Some id =
       ap (λ (rows : List NodeRow). slice_get (ids_of rows) place) of_rows
@@ -43,7 +43,7 @@ module _ (scheme : Expression) (input : Input) (to : List Bool → Option (List 
 
     -- where all can be read, the limit on bits decides
     pub bits_decide : (found : Option TextError) → over Bits MAX_BITS (bits_together store) ≡ found
-        → unconverted scheme input ≡ found
+        → convert_refusal scheme input ≡ found
     bits_decide found limit =
         rw (found_in None none, converted_same, limit) (only found)
       where

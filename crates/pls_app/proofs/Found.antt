@@ -18,8 +18,8 @@ use Rattle.pls_base.specs.declared.text_error.TextError.TheVariants.{Sense}
 use Rattle.pls_base.specs.declared.refusal_number.TheConstants.{EDIT}
 use Rattle.pls_app.specs.Inapplicable.{first_refused, inapplicable}
 use Rattle.pls_app.specs.Said.{Answer}
-use Rattle.pls_app.specs.Answer.{refusal, reported}
-use Rattle.pls_app.specs.Reports.{Report, ReportInput, Situation, begun, checked_in, edited_by, ends_well}
+use Rattle.pls_app.specs.Answer.{refusal, rounds_answer}
+use Rattle.pls_app.specs.Reports.{Report, ReportInput, Situation, first_situation, checked_in, edited_by, ends_well}
 use Rattle.pls_app.specs.inner.Rechecking.{AddsReports, AddsReport, behind_all}
 use Rattle.pls_app.specs.inner.Tasks.{RecheckedIn}
 use Rattle.pls_app.proofs.Proved.{refused_not_done, refused_not_judged, round_holds}
@@ -34,16 +34,16 @@ round_first (edit ∷ edits) closed = closed
 -- round 0, and then the lines of an input
 pub all_played : (judge : Seen → Verdict) (input : Input) (mid now : Situation)
     (first reports : List Report) (old asked new : ℕ)
-    → AddsReport judge (begun input) mid [] first old asked
+    → AddsReport judge (first_situation input) mid [] first old asked
     → AddsReports judge mid now first reports (edits_in input) asked new
-    → AddsReports judge (begun input) now [] reports (Round ∷ (edits_in input)) old new
+    → AddsReports judge (first_situation input) now [] reports (Round ∷ (edits_in input)) old new
 all_played judge input mid now first reports old asked new one others =
-    played_more judge (begun input) mid now [] first reports (Round ∷ []) (edits_in input) old asked new
-    (round_played judge (begun input) mid [] first old asked one) others
+    played_more judge (first_situation input) mid now [] first reports (Round ∷ []) (edits_in input) old asked new
+    (round_played judge (first_situation input) mid [] first old asked one) others
 
 module _ (scheme : Expression) (input : Input) (now : Situation) (reports : List Report)
     (old new : ℕ)
-    (played : AddsReports (judge_in (code_in input) scheme) (begun input) now [] reports
+    (played : AddsReports (judge_in (code_in input) scheme) (first_situation input) now [] reports
     (Round ∷ (edits_in input)) old new) where
   -- these are the reports of the input
   pub are_reports : ReportInput (judge_in (code_in input) scheme) input reports
@@ -64,18 +64,18 @@ module _ (scheme : Expression) (input : Input) (now : Situation) (reports : List
       → ends_well reports ≡ true → Holds scheme (edited_by (edits_in input) (rows_in input))
   all_well edits network each well =
       let judge = judge_in (code_in input) scheme in
-      let ends : EndsIn judge (behind_all (Round ∷ (edits_in input)) (begun input)) =
-      ends_so judge Round (edits_in input) (begun input) 0 reports
+      let ends : EndsIn judge (behind_all (Round ∷ (edits_in input)) (first_situation input)) =
+      ends_so judge Round (edits_in input) (first_situation input) 0 reports
       (round_first (edits_in input) edits.closed) are_reports well in
       let here : EndsIn judge now = subst (EndsIn judge) (sym played.is) ends in
       let rows : now.rows ≡ edited_by (edits_in input) (rows_in input) =
-      ap (λ (now : Situation). now.rows) played.is ∙ rows_after (Round ∷ (edits_in input)) (begun input) in
+      ap (λ (now : Situation). now.rows) played.is ∙ rows_after (Round ∷ (edits_in input)) (first_situation input) in
       subst (Holds scheme) rows
       (round_holds (code_in input) scheme now.rows now.labels network each here)
 
   -- so the answer with the reports says
   pub all_found : AreEdits (edits_in input) → IsNetwork now.rows → length now.labels ≡ length now.rows
-      → RecheckedIn scheme input (reported reports).status old new
+      → RecheckedIn scheme input (rounds_answer reports).status old new
   all_found edits network each = record {
     held = λ done. all_well edits network each (done_well (ends_well reports) done);
     asked = λ judged. are_asked;
@@ -97,16 +97,16 @@ refused_in scheme input error answer old new same =
 -- the same, of what is known to be the parts of the input
 pub played_input : (judge one other : Seen → Verdict) (input : Input) (start mid now : Situation)
     (none first reports : List Report) (edits : List EditLine) (old asked new : ℕ) → one ≡ judge
-    → other ≡ judge → start ≡ begun input → none ≡ [] → edits ≡ (edits_in input)
+    → other ≡ judge → start ≡ first_situation input → none ≡ [] → edits ≡ (edits_in input)
     → AddsReport one start mid none first old asked
     → AddsReports other mid now first reports edits asked new
-    → AddsReports judge (begun input) now [] reports (Round ∷ (edits_in input)) old new
+    → AddsReports judge (first_situation input) now [] reports (Round ∷ (edits_in input)) old new
 played_input judge one other input start mid now none first reports edits old asked new same too
-    begins empty are reported played =
-    let here : AddsReport judge (begun input) mid [] first old asked =
-    subst (λ (judge : Seen → Verdict). AddsReport judge (begun input) mid [] first old asked) same
+    begins empty are one_report played =
+    let here : AddsReport judge (first_situation input) mid [] first old asked =
+    subst (λ (judge : Seen → Verdict). AddsReport judge (first_situation input) mid [] first old asked) same
     (subst (λ (start : Situation). AddsReport one start mid [] first old asked) begins
-    (subst (λ (none : List Report). AddsReport one start mid none first old asked) empty reported)) in
+    (subst (λ (none : List Report). AddsReport one start mid none first old asked) empty one_report)) in
     let there : AddsReports judge mid now first reports (edits_in input) asked new =
     subst (λ (judge : Seen → Verdict). AddsReports judge mid now first reports (edits_in input) asked new) too
     (subst (λ (edits : List EditLine). AddsReports other mid now first reports edits asked new) are played) in

@@ -23,9 +23,9 @@ use Rattle.pls_app.specs.declared.command.Command.TheVariants.{ByRules, Print, T
 use Rattle.pls_app.specs.declared.command.Task.TheVariants.{Mark, Verify, Simulate, Recheck, Watch, Bound, Convert, Splice}
 use Rattle.pls_app.specs.Command.{input_parts_of, read_by}
 use Rattle.pls_app.specs.Meant.{number_code_of, judge_in}
-use Rattle.pls_app.specs.Reports.{begun}
+use Rattle.pls_app.specs.Reports.{first_situation}
 use Rattle.pls_app.specs.Said.{Answer}
-use Rattle.pls_app.specs.Answer.{Answers, IsAnswer, Marks, Reads, Works, Yields, labels_answer, no, refusal, reported}
+use Rattle.pls_app.specs.Answer.{Answers, IsAnswer, Marks, Reads, Works, Yields, labels_answer, no, refusal, rounds_answer}
 use Rattle.pls_app.specs.Trial.{IsTrialAnswer, trial_line, tried_scheme}
 use Rattle.pls_app.proofs.Commands.{one_command}
 use Rattle.pls_app.proofs.OneRefusal.{one_parts, one_refusal, refused_untaken}
@@ -86,9 +86,9 @@ one_yield (With (Mark code) scheme) bytes input parts answer other is are one tw
 one_yield (With (Verify json) scheme) bytes input parts answer other is are one two = one ∙ sym two
 one_yield (With (Simulate json) scheme) bytes input parts answer other is are one two = one ∙ sym two
 one_yield (With Recheck scheme) bytes input parts answer other is are one two =
-    let same = one_reports (judge_in (code_in input) scheme) (Round ∷ edits_in input) (begun input) 0 one.0
+    let same = one_reports (judge_in (code_in input) scheme) (Round ∷ edits_in input) (first_situation input) 0 one.0
     two.0 one.1 two.1 in
-    one.2 ∙ ap reported same ∙ sym two.2
+    one.2 ∙ ap rounds_answer same ∙ sym two.2
 one_yield (With (Bound code) scheme) bytes input parts answer other is are one two = one ∙ sym two
 one_yield (With Watch scheme) bytes input parts answer other is are one two = one ∙ sym two
 one_yield (With Convert scheme) bytes input parts answer other is are one two = one ∙ sym two

@@ -24,7 +24,7 @@ use Rattle.pls_app.specs.Answer.{refusal}
 use Rattle.pls_app.specs.Reports.{decided_by}
 use Rattle.pls_app.specs.Run.{IsJudged}
 use Rattle.pls_app.specs.Said.{Answer}
-use Rattle.pls_app.specs.Splice.{IsCrossed, IsUncrossed, Splices, crossed_answer, first_rejecting, no_ring_at, uncrossed_answer, unspliced}
+use Rattle.pls_app.specs.Splice.{IsCrossed, IsUncrossed, Splices, crossed_answer, first_rejecting, no_ring_at, uncrossed_answer, splice_refusal}
 use Rattle.pls_app.specs.inner.Tasks.{DoesSplice}
 use Rattle.pls_app.proofs.RingParts.{no_second, second_least}
 
@@ -61,23 +61,23 @@ module _ (judge : Seen → Verdict) (rows : List NodeRow) (labels : List (List B
     (parts : List (List ℕ)) where
   -- what is no ring is refused for it
   pub refused_ring : (id : ℕ) → no_ring_at rows parts ≡ Some id
-      → unspliced judge rows labels parts ≡ Some (Sense NO_RING id)
+      → splice_refusal judge rows labels parts ≡ Some (Sense NO_RING id)
   refused_ring id named = rw named refl
 
   -- a ring with a node that rejects for that
   pub refused_node : (id : ℕ) → no_ring_at rows parts ≡ None
       → first_rejecting (decided_by judge rows labels) ≡ Some id
-      → unspliced judge rows labels parts ≡ Some (Sense REJECTS id)
+      → splice_refusal judge rows labels parts ≡ Some (Sense REJECTS id)
   refused_node id ring rejects = rw (ring, rejects) refl
 
   -- and a ring without one is not
   pub unrefused : no_ring_at rows parts ≡ None
       → first_rejecting (decided_by judge rows labels) ≡ None
-      → unspliced judge rows labels parts ≡ None
+      → splice_refusal judge rows labels parts ≡ None
   unrefused ring none = rw (ring, none) refl
 
   -- what is not refused has no node that rejects
-  no_reject : unspliced judge rows labels parts ≡ None
+  no_reject : splice_refusal judge rows labels parts ≡ None
       → first_rejecting (decided_by judge rows labels) ≡ None
   no_reject none =
       by (no_ring_at rows parts) (first_rejecting (decided_by judge rows labels)) none
@@ -90,7 +90,7 @@ module _ (judge : Seen → Verdict) (rows : List NodeRow) (labels : List (List B
       by None None none = refl
 
   -- so all of them accept
-  pub unrefused_accept : unspliced judge rows labels parts ≡ None → AllAccept judge rows labels
+  pub unrefused_accept : splice_refusal judge rows labels parts ≡ None → AllAccept judge rows labels
   unrefused_accept none =
       let outcome : Seen → ℕ × Outcome = λ view. (view.id, Decided (judge view)) in
       let rejects : ℕ × Outcome → Bool = λ row. is_rejecting row.1 in

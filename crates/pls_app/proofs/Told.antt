@@ -11,12 +11,12 @@ use Rattle.pls_app.specs.inner.Tasks.{IsWorked, Offers}
 use Rattle.pls_app.proofs.Answered.{command_answer}
 use Rattle.pls_app.proofs.Commands.{one_command}
 use Rattle.pls_app.specs.Run.{Concerns, EndsAs, IsAnswered, IsUnread, TellsAnswer, TellsPart, Took}
-use Rattle.pls_app.specs.inner.Causes.{Told}
+use Rattle.pls_app.specs.inner.Causes.{WritesOrFails}
 
 -- an answer that was told in the end
 pub tells : (words : List (List ℕ)) (bytes : List ℕ) (answer : Answer) (status : Status)
     (before after : ℕ) (old new : Option (List ℕ)) → IsAnswer words bytes answer
-    → Told answer.status status before after old new answer.text → IsAnswered status
+    → WritesOrFails answer.status status before after old new answer.text → IsAnswered status
     → TellsAnswer words bytes status old new
 tells words bytes answer status before after old new is told answered = elim told [
   | inl whole ↦ record { answer = answer; is = is; ends = whole.0; took = whole.1 }
@@ -27,7 +27,7 @@ tells words bytes answer status before after old new is told answered = elim tol
 pub tells_part : (words : List (List ℕ)) (bytes : List ℕ) (answer : Answer) (status : Status)
     (before after : ℕ) (old new : Option (List ℕ)) → IsAnswer words bytes answer
     → IsAnswered answer.status
-    → Told answer.status status before after old new answer.text → status ≡ WriteFault
+    → WritesOrFails answer.status status before after old new answer.text → status ≡ WriteFault
     → TellsPart words bytes old new
 tells_part words bytes answer status before after old new is answered told fault = elim told [
   | inl whole ↦ let same : answer.status ≡ WriteFault = cc in absurd (rw same at answered)
@@ -36,7 +36,7 @@ tells_part words bytes answer status before after old new is answered told fault
 
 -- a run that ends in `Done` was due to
 pub told_done : (due status : Status) (before after : ℕ) (old new : Option (List ℕ)) (text : List ℕ)
-    → Told due status before after old new text → status ≡ Done → due ≡ Done
+    → WritesOrFails due status before after old new text → status ≡ Done → due ≡ Done
 told_done due status before after old new text told done = elim told [
   | inl whole ↦ cc
   | inr part ↦ absurd (let no : WriteFault ≡ Done = cc in cc)
@@ -45,7 +45,7 @@ told_done due status before after old new text told done = elim told [
 -- the sink of a run that ends as was due took the whole text
 pub took : (Says : List ℕ → Type 0) (text : List ℕ) (due status end : Status) (before after : ℕ)
     (old new : Option (List ℕ)) → IsAnswered end → (due ≡ end → Says text)
-    → Told due status before after old new text → status ≡ end → Took Says old new
+    → WritesOrFails due status before after old new text → status ≡ end → Took Says old new
 took Says text due status end before after old new answered says told ends = elim told [
   | inl whole ↦ record { text = text; took = whole.1; says = says (sym whole.0 ∙ ends) }
   | inr part ↦ absurd (subst IsAnswered (sym ends ∙ part.0) answered)
@@ -53,7 +53,7 @@ took Says text due status end before after old new answered says told ends = eli
 
 -- a run that ends in `No` was due to
 pub told_no : (due status : Status) (before after : ℕ) (old new : Option (List ℕ)) (text : List ℕ)
-    → Told due status before after old new text → status ≡ No → due ≡ No
+    → WritesOrFails due status before after old new text → status ≡ No → due ≡ No
 told_no due status before after old new text told ends = elim told [
   | inl whole ↦ cc
   | inr part ↦ absurd (let other : WriteFault ≡ No = cc in cc)
@@ -63,7 +63,7 @@ told_no due status before after old new text told ends = elim told [
 pub tells_command : (words : List (List ℕ)) (bytes : List ℕ) (command : Command) (answer : Answer)
     (status : Status) (before after : ℕ) (old new : Option (List ℕ))
     → IsCommand words command → Answers command bytes answer
-    → Told answer.status status before after old new answer.text → IsAnswered status
+    → WritesOrFails answer.status status before after old new answer.text → IsAnswered status
     → TellsAnswer words bytes status old new
 tells_command words bytes command answer status before after old new read answers told answered =
     tells words bytes answer status before after old new
@@ -73,7 +73,7 @@ tells_command words bytes command answer status before after old new read answer
 pub tells_part_of : (words : List (List ℕ)) (bytes : List ℕ) (command : Command) (answer : Answer)
     (status : Status) (before after : ℕ) (old new : Option (List ℕ))
     → IsCommand words command → Answers command bytes answer → IsAnswered answer.status
-    → Told answer.status status before after old new answer.text → status ≡ WriteFault
+    → WritesOrFails answer.status status before after old new answer.text → status ≡ WriteFault
     → TellsPart words bytes old new
 tells_part_of words bytes command answer status before after old new read answers ended told fault =
     tells_part words bytes answer status before after old new
@@ -90,7 +90,7 @@ told_sure words bytes answer status sure command read answers each ends =
 
 -- a run that wrote no answer, although one was due, met a write that failed
 pub told_answered : (due status : Status) (before after : ℕ) (old new : Option (List ℕ))
-    (text : List ℕ) → Told due status before after old new text → IsAnswered due
+    (text : List ℕ) → WritesOrFails due status before after old new text → IsAnswered due
     → (Rose before after → ⊥) → IsAnswered status
 told_answered due status before after old new text told answered kept = elim told [
   | inl whole ↦ subst IsAnswered (sym whole.0) answered
@@ -105,7 +105,7 @@ sure_ok (Err error) P sure = absurd sure
 
 -- a run ends as was due, or a write failed
 pub told_ends : (due status : Status) (before after : ℕ) (old new : Option (List ℕ)) (text : List ℕ)
-    → Told due status before after old new text → EndsAs due status
+    → WritesOrFails due status before after old new text → EndsAs due status
 told_ends due status before after old new text told = elim told [
   | inl whole ↦ inl whole.0
   | inr part ↦ inr (inl part.0)
@@ -142,7 +142,7 @@ offered words command left bytes is concerns = elim concerns [
 
 -- a run that answers `usage` was due to
 pub told_usage : (due status : Status) (before after : ℕ) (old new : Option (List ℕ)) (text : List ℕ)
-    → Told due status before after old new text → status ≡ Usage → due ≡ Usage
+    → WritesOrFails due status before after old new text → status ≡ Usage → due ≡ Usage
 told_usage due status before after old new text told ends = elim told [
   | inl whole ↦ cc
   | inr part ↦ absurd (let other : WriteFault ≡ Usage = cc in cc)

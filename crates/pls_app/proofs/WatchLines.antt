@@ -20,7 +20,7 @@ use Rattle.pls_watch.specs.Watching.{Watched, look_of}
 use Rattle.pls_app.specs.Looks.{ends_in_well, look_after, looks_behind, looks_text}
 use Rattle.pls_app.specs.Unwatched.{event_of, events_of, first_unwatched, line_names_nothing}
 use Rattle.pls_app.specs.inner.Watching.{AreShown, shown_at}
-use Rattle.pls_app.specs.declared.watch.Shown.{Shown}
+use Rattle.pls_app.specs.declared.watch.LooksSoFar.{LooksSoFar}
 
 -- the events of lines behind lines
 pub events_more : (lines later : List WatchLine)
@@ -176,7 +176,7 @@ looks_text_more (first ∷ looks) look number =
     (look_text (number + length (first ∷ looks)) look))
 
 -- one look more is shown
-pub shown_more : (old new : Shown) (looks : List (List (ℕ × Outcome × List ℕ)))
+pub shown_more : (old new : LooksSoFar) (looks : List (List (ℕ × Outcome × List ℕ)))
     (look : List (ℕ × Outcome × List ℕ)) → AreShown old looks
     → new.text.taken ≡ old.text.taken ++ look_text new.looks look → new.looks ≡ old.looks + 1
     → new.well ≡ look_is_well look → AreShown new (looks ++ look ∷ [])

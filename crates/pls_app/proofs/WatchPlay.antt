@@ -13,7 +13,7 @@ use Rattle.pls_watch.specs.Watching.{Watched}
 use Rattle.pls_app.specs.Looks.{look_after, looks_behind}
 use Rattle.pls_app.specs.Unwatched.{event_of, events_of, first_unwatched, line_names_nothing}
 use Rattle.pls_app.specs.inner.Watching.{AreShown, HasRoomForEvents, shown_at, watched_behind}
-use Rattle.pls_app.specs.declared.watch.Shown.{Shown}
+use Rattle.pls_app.specs.declared.watch.LooksSoFar.{LooksSoFar}
 use Rattle.pls_app.proofs.WatchLines.{events_more, line_shows, looks_more, unwatched_later}
 use Rattle.pls_app.proofs.WatchRoom.{room_behind, room_first}
 
@@ -76,7 +76,7 @@ module _ (lines : List WatchLine) (place : ℕ) (d : WatchLine) (within : place 
         ∙ ap (λ events. events ++ event_of line) taken ∙ events_here
 
     -- the looks so far, with what the line shows
-    pub shown_on : (judge : Seen → Verdict) (shown : Shown)
+    pub shown_on : (judge : Seen → Verdict) (shown : LooksSoFar)
         → AreShown shown (looks_behind (look_after judge rows labels) [] (take place lines)
         ++ shown_at judge old line)
         → AreShown shown (looks_behind (look_after judge rows labels) [] (take (place + 1) lines))

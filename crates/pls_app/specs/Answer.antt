@@ -28,16 +28,16 @@ use Rattle.pls_app.specs.declared.command.Task.TheVariants.{Mark, Verify, Simula
 use Rattle.pls_app.specs.Command.{IsCommand, IsUsage, input_parts_of, read_by}
 use Rattle.pls_app.specs.Meant.{AreMarks, Holds, NameLacking, bound_in, judge_in, room_in}
 use Rattle.pls_app.specs.PartRows.{part_rows}
-use Rattle.pls_app.specs.Convert.{converted_labels, unconverted}
-use Rattle.pls_app.specs.Splice.{Splices, unspliced}
-use Rattle.pls_app.specs.Unapplied.{unapplied}
-use Rattle.pls_app.specs.Unwatched.{unwatched}
+use Rattle.pls_app.specs.Convert.{converted_labels, convert_refusal}
+use Rattle.pls_app.specs.Splice.{Splices, splice_refusal}
+use Rattle.pls_app.specs.Unapplied.{schedule_refusal}
+use Rattle.pls_app.specs.Unwatched.{watch_lines_refusal}
 use Rattle.pls_app.specs.Inapplicable.{inapplicable}
 use Rattle.pls_bits.specs.Gamma.{gamma_takes}
 use Rattle.pls_compile.specs.RuleMeaning.{meaning}
-use Rattle.pls_app.specs.Ruled.{listed, printed, set_in}
+use Rattle.pls_app.specs.Ruled.{code_answer, rules_answer, set_in}
 use Rattle.pls_app.specs.Reports.{Report, ReportInput, decided_by, ends_well, reports_text}
-use Rattle.pls_app.specs.Looks.{looked, looks_in}
+use Rattle.pls_app.specs.Looks.{looks_answer, looks_in}
 use Rattle.pls_app.specs.Said.{Answer}
 use Rattle.pls_app.specs.Trial.{IsTrialAnswer}
 
@@ -77,8 +77,8 @@ report json simulated rows parts outcomes = record {
 }
 
 -- the answer with the number of bits that a label has at most
-abbrev pub bounded : ℕ → Answer
-bounded number = record {
+abbrev pub bound_answer : ℕ → Answer
+bound_answer number = record {
   status = Done;
   text = text_of (line_of (codes "bound" ∷ decimal number ∷ []) ∷ []);
 }
@@ -97,8 +97,8 @@ labels_answer code rows labels =
     record { status = Done; text = net_labels_text code rows labels }
 
 -- the answer with the reports of rounds
-abbrev pub reported : List Report → Answer
-reported reports = record {
+abbrev pub rounds_answer : List Report → Answer
+rounds_answer reports = record {
   status = if ends_well reports then Done else No;
   text = reports_text reports;
 }
@@ -132,7 +132,7 @@ Marks code scheme rows parts answer =
 abbrev pub Rechecks : Expression → Input → Answer → Type 0
 Rechecks scheme input answer =
     (reports : List Report) × ReportInput (judge_in (code_in input) scheme) input reports
-    × (answer ≡ reported reports)
+    × (answer ≡ rounds_answer reports)
 
 -- the report of a command that judges nodes, of an input whose network has these components
 abbrev pub reports_on : Command → Bool → Bool → Input → List (List ℕ) → Answer
@@ -148,9 +148,9 @@ Yields (With (Simulate json) scheme) input parts answer =
     answer ≡ reports_on (With (Simulate json) scheme) json true input parts
 Yields (With Recheck scheme) input parts answer = Rechecks scheme input answer
 Yields (With Watch scheme) input parts answer =
-    answer ≡ looked (looks_in (judge_in (code_in input) scheme) input)
+    answer ≡ looks_answer (looks_in (judge_in (code_in input) scheme) input)
 Yields (With (Bound code) scheme) input parts answer =
-    answer ≡ bounded (bound_in code scheme (rows_in input) parts)
+    answer ≡ bound_answer (bound_in code scheme (rows_in input) parts)
 Yields (With Convert scheme) input parts answer =
     answer ≡ labels_answer Delta (rows_in input) (converted_labels scheme input)
 Yields (With Splice scheme) input parts answer =
@@ -158,26 +158,26 @@ Yields (With Splice scheme) input parts answer =
 Yields (Trial nodes seed) input parts answer = IsTrialAnswer nodes seed answer
 Yields (ByRules (Judge json)) input parts answer =
     answer ≡ reports_on (ByRules (Judge json)) json false input parts
-Yields (ByRules Code) input parts answer = answer ≡ listed (set_in input)
+Yields (ByRules Code) input parts answer = answer ≡ code_answer (set_in input)
 Yields (ByRules SpliceByRules) input parts answer =
     Splices (code_in input) (rows_in input) (labels_in input) answer
-Yields (Print name) input parts answer = answer ≡ printed name
+Yields (Print name) input parts answer = answer ≡ rules_answer name
 
 -- why a command refuses an input whose network has these components
 abbrev pub work_refusal : Command → Input → List (List ℕ) → Option TextError
 work_refusal (With (Mark code) scheme) input parts =
     over Labels MAX_BITS (room_in code scheme (rows_in input) parts)
 work_refusal (With (Simulate json) scheme) input parts =
-    unapplied (rows_in input) (schedule_heading input + 1) (events_in input)
+    schedule_refusal (rows_in input) (schedule_heading input + 1) (events_in input)
 work_refusal (With Recheck scheme) input parts =
     inapplicable (rows_in input) (labels_in input) (edits_heading input + 1) (edits_in input)
 work_refusal (With Watch scheme) input parts =
-    unwatched (rows_in input) (watch_heading input + 1) (watch_in input)
-work_refusal (With Convert scheme) input parts = unconverted scheme input
+    watch_lines_refusal (rows_in input) (watch_heading input + 1) (watch_in input)
+work_refusal (With Convert scheme) input parts = convert_refusal scheme input
 work_refusal (With Splice scheme) input parts =
-    unspliced (judge_in (code_in input) scheme) (rows_in input) (labels_in input) parts
+    splice_refusal (judge_in (code_in input) scheme) (rows_in input) (labels_in input) parts
 work_refusal (ByRules SpliceByRules) input parts =
-    unspliced (meaning gamma_takes (set_in input)) (rows_in input) (labels_in input) parts
+    splice_refusal (meaning gamma_takes (set_in input)) (rows_in input) (labels_in input) parts
 work_refusal other input parts = None
 
 -- a command refuses an input

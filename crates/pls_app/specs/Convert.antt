@@ -25,6 +25,6 @@ unread scheme input = option_map (λ id. Sense UNREAD id)
 
 -- why labels are not converted: one of them cannot be read, or else they have too many bits together
 -- in the delta code
-abbrev pub unconverted : Expression → Input → Option TextError
-unconverted scheme input = first_of (unread scheme input
+abbrev pub convert_refusal : Expression → Input → Option TextError
+convert_refusal scheme input = first_of (unread scheme input
     ∷ over Bits MAX_BITS (bits_together (converted_labels scheme input)) ∷ [])

@@ -55,8 +55,8 @@ abbrev pub ends_in_well : List (List (ℕ × Outcome × List ℕ)) → Bool
 ends_in_well looks = is_closed look_is_well true looks
 
 -- the answer with looks
-abbrev pub looked : List (List (ℕ × Outcome × List ℕ)) → Answer
-looked looks = record {
+abbrev pub looks_answer : List (List (ℕ × Outcome × List ℕ)) → Answer
+looks_answer looks = record {
   status = if ends_in_well looks then Done else No;
   text = looks_text 1 looks;
 }

@@ -16,12 +16,12 @@ abbrev pub set_in : Input → Rules
 set_in input = option_map_or set_said input.rules (rules_of [] [])
 
 -- the answer with the code of a set
-abbrev pub listed : Rules → Answer
-listed set = record { status = Done; text = listing_text (code_of_rules set.rules) }
+abbrev pub code_answer : Rules → Answer
+code_answer set = record { status = Done; text = listing_text (code_of_rules set.rules) }
 
 -- the answer with the text of the set that has the name of a scheme
-abbrev pub printed : SchemeName → Answer
-printed name = record {
+abbrev pub rules_answer : SchemeName → Answer
+rules_answer name = record {
   status = Done;
   text = option_map_or (λ set. rules_text (said_of_set set)) (set_of_name name) [];
 }

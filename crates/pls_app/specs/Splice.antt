@@ -33,9 +33,9 @@ first_rejecting outcomes = option_map (λ row. row.0) (find (λ row. is_rejectin
 
 -- why a network with these labels and components is not spliced: 70 where it is no ring, 71 where
 -- some node rejects
-abbrev pub unspliced : (Seen → Verdict) → List NodeRow → List (List Bool) → List (List ℕ)
+abbrev pub splice_refusal : (Seen → Verdict) → List NodeRow → List (List Bool) → List (List ℕ)
     → Option TextError
-unspliced judge rows labels parts = first_of
+splice_refusal judge rows labels parts = first_of
     (option_map (λ id. Sense NO_RING id) (no_ring_at rows parts)
     ∷ option_map (λ id. Sense REJECTS id) (first_rejecting (decided_by judge rows labels)) ∷ [])
 

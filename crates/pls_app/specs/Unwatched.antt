@@ -48,6 +48,6 @@ first_unwatched rows before number (line ∷ later) = if line_names_nothing rows
     then Some number else first_unwatched rows (before ++ event_of line) (number + 1) later
 
 -- 41: the first event that does not apply, by its line
-abbrev pub unwatched : List NodeRow → ℕ → List WatchLine → Option TextError
-unwatched rows number lines =
+abbrev pub watch_lines_refusal : List NodeRow → ℕ → List WatchLine → Option TextError
+watch_lines_refusal rows number lines =
     option_map (λ number. Sense WATCH_EVENT number) (first_unwatched rows [] number lines)

@@ -6,7 +6,7 @@ ghost use Rattle.pls_components.specs.Components.{AreComponents};
 ghost use Rattle.pls_report.specs.Report.{all_accept};
 ghost use Rattle.pls_report.specs.PartLines.{if_several};
 ghost use Rattle.pls_report.specs.inner.Pieces.{spaced};
-ghost use Rattle.pls_app.specs.Answer.{no, refusal, refusal_status, report, reported, usage};
+ghost use Rattle.pls_app.specs.Answer.{no, refusal, refusal_status, report, rounds_answer, usage};
 ghost use Rattle.pls_app.specs.Reports.{ends_well};
 ghost use Rattle.pls_app.specs.inner.Tasks.{IsWorked};
 
@@ -145,8 +145,8 @@ pub(crate) fn report(
 }
 
 // The answer with the reports of rounds.
-pub(crate) fn reported(reports: Vec<RoundReport>) -> Answer
-    ensures reports { result ≡ reported reports.items }
+pub(crate) fn rounds_answer(reports: Vec<RoundReport>) -> Answer
+    ensures reports { result ≡ rounds_answer reports.items }
     ensures worked { IsWorked result.status }
 {
     let status = if ends_well(&reports) {

@@ -6,7 +6,7 @@ ghost use Rattle.pls_components.specs.Components.{AreComponents};
 ghost use Rattle.pls_components.specs.Parts.{bound_of_parts};
 ghost use Rattle.pls_netfile.specs.NetworkText.{AreRows};
 ghost use Rattle.pls_expressions.specs.Expression.{IsSmall};
-ghost use Rattle.pls_app.specs.Answer.{bounded};
+ghost use Rattle.pls_app.specs.Answer.{bound_answer};
 ghost use Rattle.pls_app.specs.inner.Tasks.{IsWorked};
 
 use crate::answer::{Answer, Content};
@@ -29,7 +29,7 @@ pub(crate) fn bound<C: NumCode>(
     requires ranges { AreRows net.now }
     ensures bounded { IfOk result
         (λ answer. answer
-        ≡ bounded (bound_of_parts (longest_of C.code scheme.now) net.now parts.now)) }
+        ≡ bound_answer (bound_of_parts (longest_of C.code scheme.now) net.now parts.now)) }
     ensures worked { IfOk result (λ answer. IsWorked answer.status) }
 {
     // A network is valid.

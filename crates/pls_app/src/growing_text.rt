@@ -17,9 +17,9 @@ pub(crate) struct GrowingText {
 }
 
 impl Model for GrowingText {
-    ghost use Rattle.pls_app.specs.inner.Growing.{Grown};
+    ghost use Rattle.pls_app.specs.inner.Growing.{TextSoFar};
 
-    ghost Value = { Grown };
+    ghost Value = { TextSoFar };
 
     ghost view = { λ text. record { taken = text.bytes.items; faults = text.faults } };
 }

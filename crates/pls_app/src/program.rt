@@ -9,7 +9,7 @@ ghost use Rattle.pls_words.specs.Words.{words_in};
 ghost use Rattle.pls_expressions.specs.Expression.{Expression};
 ghost use Rattle.pls_app.specs.Command.{Checks, IsUsage};
 ghost use Rattle.pls_app.specs.Run.{Asks, Certifies, Concerns, Consumes, Converts, CountsAsked, EndsAs, HasItsCause, HoldsAfter, IsAnswered, IsJudged, IsSureOfAnswer, IsUnread, Lacks, Notices, Proves, ProvesByRules, RefusesExactly, SomeRejects, Splits, TellsAnswer, TellsPart, Took};
-ghost use Rattle.pls_app.specs.inner.Causes.{Told};
+ghost use Rattle.pls_app.specs.inner.Causes.{WritesOrFails};
 ghost use Rattle.pls_app.specs.Answer.{IsRefused};
 ghost use Rattle.pls_app.specs.Reports.{reports_text};
 ghost use Rattle.pls_base.specs.declared.text_error.TextError.{TextError as Error};
@@ -126,7 +126,7 @@ pub fn run<'w, S: Source, K: Sink, B: Bench>(
 
 // Writes the text of an answer, and gives its status, or says that a write failed.
 fn tell<K: Sink>(sink: &mut K, answer: &Answer) -> Status
-    ensures told { Told answer.now.status result (K.faults sink.old) (K.faults sink.new)
+    ensures told { WritesOrFails answer.now.status result (K.faults sink.old) (K.faults sink.new)
         (K.taken sink.old) (K.taken sink.new) answer.now.text }
     ensures sure { K.IsSureOf sink.old (length answer.now.text) → result ≡ answer.now.status }
 {

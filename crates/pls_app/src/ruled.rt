@@ -9,7 +9,7 @@ ghost use Rattle.pls_rules.specs.HeldTrees.{set_of};
 ghost use Rattle.pls_rules.specs.RuleSet.{AreRules};
 ghost use Rattle.pls_app.specs.Answer.{report};
 ghost use Rattle.pls_app.specs.Reports.{decided_by};
-ghost use Rattle.pls_app.specs.Ruled.{listed, printed};
+ghost use Rattle.pls_app.specs.Ruled.{code_answer, rules_answer};
 ghost use Rattle.pls_app.specs.inner.Tasks.{DoesSplice, IsWorked};
 
 use crate::answer::{Answer, Content};
@@ -67,7 +67,7 @@ pub(crate) fn splice_by_rules(
 // The machine code of a rule set, as a text.
 pub(crate) fn list_code(alloc: Global, set: &RuleSet) -> Result<Answer, NoMemory>
     requires { AreRules (set_of set.now) }
-    ensures { IfOk result (λ answer. answer ≡ listed (set_of set.now)) }
+    ensures { IfOk result (λ answer. answer ≡ code_answer (set_of set.now)) }
 {
     let code = compile(alloc, set)?;
     Ok(Answer {
@@ -79,7 +79,7 @@ pub(crate) fn list_code(alloc: Global, set: &RuleSet) -> Result<Answer, NoMemory
 // The rules part of the set that has the name of a scheme.
 pub(crate) fn print_named(alloc: Global, name: SchemeName) -> Result<Answer, NoMemory>
     requires { IsSome (set_of_name name) }
-    ensures { IfOk result (λ answer. answer ≡ printed name) }
+    ensures { IfOk result (λ answer. answer ≡ rules_answer name) }
 {
     let set = builtin_set(alloc, name)?.unwrap();
     Ok(Answer {

@@ -64,8 +64,8 @@ fn splice_ring<V: Checker>(
         return refuse_node(alloc, REJECTS, id);
     }
     match find(alloc, ring, &net, &labels)? {
-        Some(pair) => crossed(alloc, ring, pair, code, net, labels),
-        None => Ok(uncrossed()),
+        Some(pair) => crossed_answer(alloc, ring, pair, code, net, labels),
+        None => Ok(uncrossed_answer()),
     }
 }
 
@@ -83,7 +83,7 @@ fn rejects(outcome: &Outcome) -> bool
 }
 
 // The answer where two edges are crossed.
-fn crossed(
+fn crossed_answer(
     alloc: Global,
     ring: &Ring,
     pair: Pair,
@@ -112,7 +112,7 @@ fn crossed(
 }
 
 // The answer where no two edges may be crossed.
-fn uncrossed() -> Answer
+fn uncrossed_answer() -> Answer
     ensures says { result ≡ uncrossed_answer }
     ensures worked { IsWorked result.status }
 {

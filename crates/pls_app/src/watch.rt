@@ -6,7 +6,7 @@ ghost use Rattle.pls_sim.specs.declared.outcome.Outcome.{Outcome};
 ghost use Rattle.pls_watch_part.specs.WatchText.{total_bits};
 ghost use Rattle.pls_watch.specs.Labelled.{bits_given, labels_given};
 ghost use Rattle.pls_inputs.specs.Parts.{Input, code_in};
-ghost use Rattle.pls_app.specs.Looks.{look_after, looked, looks_behind};
+ghost use Rattle.pls_app.specs.Looks.{look_after, looks_answer, looks_behind};
 ghost use Rattle.pls_app.specs.Meant.{takes_of};
 ghost use Rattle.pls_app.specs.Unwatched.{event_of, events_of, first_unwatched, line_names_nothing};
 ghost use Rattle.pls_app.specs.inner.Tasks.{Does, IsWorked};
@@ -50,7 +50,7 @@ pub(crate) fn watch<C: NumCode>(
     let (relabels, bits) = relabels_in(lines);
     let watch = Watch::start(alloc, net, labels, lines.len(), relabels, bits)?;
     let mut lookout = Lookout::over(alloc, watch, scheme, &mut Steps::new())?;
-    let mut shown = Shown::nothing(alloc);
+    let mut shown = LooksSoFar::nothing(alloc);
     match play(alloc, &mut lookout, lines, &mut shown)? {
         Some(place) => {
             let place = first_line + place as u64;
@@ -87,7 +87,7 @@ fn play<K: Checker>(
     alloc: Global,
     lookout: &mut Lookout<'_, '_, K>,
     lines: &[WatchLine],
-    shown: &mut Shown,
+    shown: &mut LooksSoFar,
 ) -> Result<Option<usize>, NoMemory>
     requires start { lookout.old.watched.events ≡ [] }
     requires room { HasRoomForEvents lookout.old.watched (events_of lines.now) }
@@ -114,7 +114,7 @@ fn take_line<K: Checker>(
     alloc: Global,
     lookout: &mut Lookout<'_, '_, K>,
     line: &WatchLine,
-    shown: &mut Shown,
+    shown: &mut LooksSoFar,
 ) -> Result<bool, NoMemory>
     requires room { HasRoomForEvents lookout.old.watched (event_of line.now) }
     requires few { shown.old.looks < 2 ^ 31 }
@@ -140,17 +140,17 @@ fn take_line<K: Checker>(
 /// What the looks have shown so far: their text, how many there were, and whether all was well at
 /// the last one.
 #[derive(Drop)]
-pub(crate) struct Shown {
+pub(crate) struct LooksSoFar {
     text: GrowingText,
     looks: u32,
     well: bool,
 }
 
-impl Shown {
-    fn nothing(alloc: Global) -> Shown
+impl LooksSoFar {
+    fn nothing(alloc: Global) -> LooksSoFar
         ensures { AreShown result [] }
     {
-        Shown {
+        LooksSoFar {
             text: GrowingText::new(alloc),
             looks: 0,
             well: true,
@@ -173,7 +173,7 @@ impl Shown {
 
     fn into_answer(self) -> Answer
         ensures says { (looks : List (List (ℕ × Outcome × List ℕ))) → AreShown self looks
-            → result ≡ looked looks }
+            → result ≡ looks_answer looks }
         ensures worked { IsWorked result.status }
     {
         let status = if self.well { Status::Done } else { Status::No };

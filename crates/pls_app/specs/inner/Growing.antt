@@ -2,10 +2,10 @@
 use Rattle.std.specs.Prelude.{ℕ, List}
 
 -- the bytes that it has, and how many writes found no memory
-pub record Grown : Type 0 where
+pub record TextSoFar : Type 0 where
   pub taken : List ℕ
   pub faults : ℕ
 
 -- memory may end with any piece
-abbrev pub IsNeverSure : Grown → ℕ → Type 0
+abbrev pub IsNeverSure : TextSoFar → ℕ → Type 0
 IsNeverSure text most = ⊥

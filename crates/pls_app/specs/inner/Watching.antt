@@ -12,7 +12,7 @@ use Rattle.pls_watch.specs.Watching.{Watched, look_of, watching}
 use Rattle.pls_inputs.specs.Parts.{Input, labels_in, rows_in, watch_in}
 use Rattle.pls_inputs.specs.Order.{watch_heading}
 use Rattle.pls_app.specs.Looks.{ends_in_well, looks_text}
-use Rattle.pls_app.specs.declared.watch.Shown.{Shown}
+use Rattle.pls_app.specs.declared.watch.LooksSoFar.{LooksSoFar}
 
 -- an input with these rows, labels and lines of a watch, the first in this line
 pub record IsWatchInput (rows : List NodeRow) (labels : List (List Bool)) (lines : List WatchLine)
@@ -40,7 +40,7 @@ shown_at judge watched (Event event) = []
 shown_at judge watched Look = look_of judge watched ∷ []
 
 -- what was shown are these looks
-pub record AreShown (shown : Shown) (looks : List (List (ℕ × Outcome × List ℕ))) : Type 0 where
+pub record AreShown (shown : LooksSoFar) (looks : List (List (ℕ × Outcome × List ℕ))) : Type 0 where
   pub says : shown.text.taken ≡ looks_text 1 looks
   pub count : shown.looks ≡ length looks
   pub ends : shown.well ≡ ends_in_well looks

@@ -4,7 +4,7 @@ use Rattle.pls_app.specs.declared.command.Command.{Command}
 use Rattle.pls_app.specs.declared.command.Command.TheVariants.{With}
 use Rattle.pls_app.specs.declared.command.Task.{Task}
 use Rattle.pls_app.specs.Answer.{Answers}
-use Rattle.pls_app.specs.Ruled.{printed}
+use Rattle.pls_app.specs.Ruled.{rules_answer}
 use Rattle.pls_app.specs.Trial.{IsTrialAnswer}
 use Rattle.pls_app.specs.inner.Commands.{IsInWords}
 use Rattle.pls_app.proofs.Answered.{print_answers, trial_answers}
@@ -33,7 +33,7 @@ returns-in-Trial-clause-answer g c =
 
 pub returns-in-Print-clause-answer : goal.returns-in-Print-clause-answer
 returns-in-Print-clause-answer g c =
-    IfOk-weaker c.print_named.result (λ answer. answer ≡ printed c.in-Print.name)
+    IfOk-weaker c.print_named.result (λ answer. answer ≡ rules_answer c.in-Print.name)
     (λ answer. Answers c.args.command c.args.bytes.now answer)
     (λ answer same. subst (λ (command : Command). Answers command c.args.bytes.now answer)
     (sym c.in-Print.is) (print_answers c.args.bytes.now c.in-Print.name answer same))

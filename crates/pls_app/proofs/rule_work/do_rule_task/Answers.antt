@@ -13,7 +13,7 @@ use Rattle.pls_app.specs.declared.command.Command.TheVariants.{ByRules}
 use Rattle.pls_app.specs.declared.command.RuleTask.{RuleTask}
 use Rattle.pls_app.specs.Answer.{report}
 use Rattle.pls_app.specs.Reports.{decided_by}
-use Rattle.pls_app.specs.Ruled.{listed}
+use Rattle.pls_app.specs.Ruled.{code_answer}
 use Rattle.pls_app.specs.inner.Tasks.{DoesSplice, DoesWork}
 use Rattle.pls_app.proofs.Spliced.{spliced_so}
 use Rattle.pls_app.proofs.Values.{labels_are, labels_each, made_of, no_rows, rows_are, rules_sense, set_is}
@@ -100,11 +100,11 @@ returns-in-Code-clause-does c =
     let sets = set_is _ _ c.args.input is c.unwrap-set.result c.unwrap-set.ensures in
     let none : rows_in input ≡ [] = no_rows _ _ input is.is
     (ap (λ (task : RuleTask). (input_parts_of (ByRules task)).network) c.in-Code.is) in
-    IfOk-weaker c.list_code.result (λ answer. answer ≡ listed set)
+    IfOk-weaker c.list_code.result (λ answer. answer ≡ code_answer set)
     (λ answer. DoesWork (ByRules c.args.task) input answer)
     (λ answer same. subst (λ (task : RuleTask). DoesWork (ByRules task) input answer)
     (sym c.in-Code.is) (record {
       parts = [];
       components = subst (λ (rows : List NodeRow). AreComponents rows []) (sym none) empty_parts;
-      does = inr (refl, same ∙ ap listed (sym sets));
+      does = inr (refl, same ∙ ap code_answer (sym sets));
     })) c.list_code.ensures

@@ -30,7 +30,7 @@ returns-in-Some-2-clause-does g c =
     let labels = c.args.labels in
     let order = c.args.ring.now in
     let pair = c.in-Some-2.pair in
-    IfOk-weaker c.crossed.result
+    IfOk-weaker c.crossed_answer.result
     (λ answer. answer ≡ crossed_answer code net labels order pair.first pair.second)
     (DoesSplice judge code net labels)
     (splice_crosses judge code net c.len.ensures.valid labels order c.requires.read
@@ -39,7 +39,7 @@ returns-in-Some-2-clause-does g c =
     pair.second
     (subst (λ (found : Option Pair). IfSome found
     (λ pair. IsFirstPair net labels order pair.first pair.second)) c.in-Some-2.is
-    c.in_ok-pair.ensures.pair)) c.crossed.ensures.says
+    c.in_ok-pair.ensures.pair)) c.crossed_answer.ensures.says
 
 pub returns-in-None-clause-does : goal.returns-in-None-clause-does
 returns-in-None-clause-does g c =
@@ -48,7 +48,7 @@ returns-in-None-clause-does g c =
     let net = c.args.net in
     let labels = c.args.labels in
     let order = c.args.ring.now in
-    subst (DoesSplice judge code net labels) (sym c.uncrossed.ensures.says)
+    subst (DoesSplice judge code net labels) (sym c.uncrossed_answer.ensures.says)
     (splice_finds_none judge code net c.len.ensures.valid labels order c.requires.read
     c.in_ok-rows.rows.items c.in_ok-rows.ensures.decided
     (ap first_rejecting (sym c.deref.ensures.value) ∙ sym c.in_default.ensures)

@@ -11,9 +11,9 @@ use Rattle.pls_inputs.specs.Parts.{Input, code_in}
 use Rattle.pls_app.specs.declared.command.Command.TheVariants.{With}
 use Rattle.pls_app.specs.declared.command.Task.TheVariants.{Watch}
 use Rattle.pls_app.specs.Answer.{refusal}
-use Rattle.pls_app.specs.Looks.{look_after, looked, looks_behind}
+use Rattle.pls_app.specs.Looks.{look_after, looks_answer, looks_behind}
 use Rattle.pls_app.specs.Meant.{takes_of}
-use Rattle.pls_app.specs.Unwatched.{events_of, first_unwatched, unwatched}
+use Rattle.pls_app.specs.Unwatched.{events_of, first_unwatched, watch_lines_refusal}
 use Rattle.pls_app.specs.inner.Tasks.{Does}
 use Rattle.pls_app.specs.inner.Watching.{IsWatchInput}
 use Rattle.pls_app.proofs.WatchLines.{few_events, few_labels, total_given}
@@ -79,7 +79,7 @@ returns-in-Some-clause-does g c =
     let error : TextError = Sense WATCH_EVENT (first + place) in
     let network = ap (λ (watched : Watched). watched.network) c.in_ok-lookout.ensures.watched
     ∙ c.in_ok-watch.ensures.network in
-    let some : unwatched net first lines ≡ Some error =
+    let some : watch_lines_refusal net first lines ≡ Some error =
     ap (option_map (λ line. Sense WATCH_EVENT line))
     ((λ i. first_unwatched (sym network i) [] first lines)
     ∙ c.in_ok-place.ensures.place first ∙ ap (option_map (λ place. first + place)) c.in-Some.is) in
@@ -89,7 +89,7 @@ returns-in-Some-clause-does g c =
     → Does command input parts answer)
     (λ answer same input is takes parts. inl (
       error,
-      (λ i. unwatched (is.net i) (sym is.at i) (is.list i)) ∙ some,
+      (λ i. watch_lines_refusal (is.net i) (sym is.at i) (is.list i)) ∙ some,
       same,
     )) c.refuse.ensures.says
 
@@ -102,15 +102,15 @@ returns-clause-does g c input is takes parts =
     let same = c.in_ok-lookout.ensures.watched in
     let checker = c.in_ok-lookout.ensures.checker in
     let network = ap (λ (watched : Watched). watched.network) same ∙ start.network in
-    let none : unwatched net first lines ≡ None =
+    let none : watch_lines_refusal net first lines ≡ None =
     ap (option_map (λ line. Sense WATCH_EVENT line))
     ((λ i. first_unwatched (sym network i) [] first lines)
     ∙ c.in_ok-place.ensures.place first ∙ ap (option_map (λ place. first + place)) c.in-None.is) in
     let networks = network ∙ sym is.net in
     let labels = ap (λ (watched : Watched). watched.start) same ∙ start.labels ∙ sym is.store in
     inr (
-      (λ i. unwatched (is.net i) (sym is.at i) (is.list i)) ∙ none,
+      (λ i. watch_lines_refusal (is.net i) (sym is.at i) (is.list i)) ∙ none,
       c.into_answer.ensures.says _ (c.in_ok-place.ensures.shown c.in-None.is)
-          ∙ (λ i. looked (looks_behind (look_after (judge_of (takes i) (checker i))
+          ∙ (λ i. looks_answer (looks_behind (look_after (judge_of (takes i) (checker i))
           (networks i) (labels i)) [] (sym is.list i))),
     )

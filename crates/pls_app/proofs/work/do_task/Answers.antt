@@ -9,7 +9,7 @@ use Rattle.pls_model.specs.declared.status.Status.TheVariants.{Done}
 use Rattle.pls_app.specs.declared.command.Command.TheVariants.{With}
 use Rattle.pls_app.specs.declared.command.Task.{Task}
 use Rattle.pls_app.specs.declared.command.Task.TheVariants.{Verify, Convert, Mark, Simulate, Recheck, Splice, Watch}
-use Rattle.pls_app.specs.Answer.{bounded, report}
+use Rattle.pls_app.specs.Answer.{bound_answer, report}
 use Rattle.pls_app.specs.Command.{input_parts_of}
 use Rattle.pls_app.specs.Meant.{number_code_of, takes_of}
 use Rattle.pls_app.specs.Reports.{decided_by}
@@ -102,7 +102,7 @@ returns-in-Bound-clause-does g c =
     let writes = c.requires.named.writes_so
     ∙ ap (λ (task : Task). number_code_of (working_code task input)) c.in-Bound.is in
     IfOk-weaker c.bound.result
-    (λ answer. answer ≡ bounded (bound_of_parts (longest_of g.C.NumCode.code scheme) net parts))
+    (λ answer. answer ≡ bound_answer (bound_of_parts (longest_of g.C.NumCode.code scheme) net parts))
     (λ answer. DoesWork (With c.args.task scheme) input answer)
     (λ answer same. subst (λ (task : Task). DoesWork (With task scheme) input answer)
     (sym c.in-Bound.is) (record {
@@ -110,7 +110,7 @@ returns-in-Bound-clause-does g c =
       components = are;
       does = inr (
         refl,
-        same ∙ (λ i. bounded (bound_of_parts (longest_of (writes i) scheme) (sym rows i) parts)),
+        same ∙ (λ i. bound_answer (bound_of_parts (longest_of (writes i) scheme) (sym rows i) parts)),
       );
     })) c.bound.ensures.bounded
 

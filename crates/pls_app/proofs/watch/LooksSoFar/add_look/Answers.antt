@@ -1,11 +1,11 @@
 use Rattle.std.proofs.Common.{◌+◌, refl}
-use Rattle.pls_app.specs.declared.watch.Shown.{Shown}
+use Rattle.pls_app.specs.declared.watch.LooksSoFar.{LooksSoFar}
 use Rattle.pls_app.proofs.WatchLines.{shown_more}
-use Rattle.pls_app.proofs.watch.Shown.add_look.Goals as goal
+use Rattle.pls_app.proofs.watch.LooksSoFar.add_look.Goals as goal
 
 pub returns-in-Ok : goal.returns-in-Ok
 returns-in-Ok c looks are =
-    let new : Shown = record {
+    let new : LooksSoFar = record {
       text = c.write_look.new.sink;
       looks = c.args.self.now.looks + 1;
       well = c.look_is_well-self.result;
