@@ -71,7 +71,7 @@ pub use pls_recheck::{Bench, Counted, Judge, Monitor, Recheck, Tally, Watched};
 // Rounds of messages.
 pub use pls_schedule::Event;
 pub use pls_sim::{EventError, Outcome, PortNumbers, Sim};
-pub use pls_watch::{LookRow, Lookout, Turn, Watch};
+pub use pls_watch::{LookRow, LookRows, Lookout, Turn, Watch};
 pub use pls_watch_part::WatchEvent;
 
 // Rule sets, which judge as a text says.

@@ -23,7 +23,7 @@ use pls_graph::Network;
 use pls_report::{look_is_well, write_look};
 use pls_scheme::Checker;
 use pls_view::LabelStore;
-use pls_watch::{LookRow, Lookout, Watch, WatchEvent};
+use pls_watch::{LookRows, Lookout, Watch, WatchEvent};
 use pls_watch_part::WatchLine;
 use std::alloc::Global;
 
@@ -131,7 +131,7 @@ fn take_line<K: Checker>(
         WatchLine::Event(event) => Ok(lookout.step(event).is_ok()),
         WatchLine::Look => {
             lookout.look(alloc, &mut Steps::new())?;
-            shown.add_look(lookout.rows())?;
+            shown.add_look(lookout.shown())?;
             Ok(true)
         }
     }
@@ -158,14 +158,14 @@ impl LooksSoFar {
     }
 
     // A text in memory fails to take what is written only for want of memory.
-    fn add_look(&mut self, rows: &[LookRow]) -> Result<(), NoMemory>
+    fn add_look(&mut self, look: &LookRows) -> Result<(), NoMemory>
         requires { self.old.looks < 2 ^ 31 }
         ensures { OnOk result ((looks : List (List (ℕ × Outcome × List ℕ)))
-            → AreShown self.old looks → AreShown self.new (looks ++ rows.now ∷ [])) }
+            → AreShown self.old looks → AreShown self.new (looks ++ look.now.rows ∷ [])) }
     {
         self.looks += 1;
-        self.well = look_is_well(rows);
-        match write_look(self.looks, rows, &mut self.text) {
+        self.well = look_is_well(look.rows());
+        match write_look(self.looks, look, &mut self.text) {
             Ok(()) => Ok(()),
             Err(Fault) => Err(NoMemory),
         }

@@ -3,11 +3,12 @@ use Rattle.std.proofs.Common.{◌≡◌, ◌∙◌, ℕ, ◌+◌, ◌<◌, List,
 use Rattle.pls_model.specs.declared.verdict.Verdict.{Verdict}
 use Rattle.pls_model.specs.Verdict.{verdict_text}
 use Rattle.pls_sim.specs.declared.outcome.Outcome.TheVariants.{Decided, Waiting}
-use Rattle.pls_report.specs.Look.{look_closing, look_line, rejecting_rows, stale_rows, told_ports, waiting_rows}
+use Rattle.pls_report.specs.Look.{look_closing, look_line, look_text, rejecting_rows, stale_rows, told_ports, waiting_rows}
 use Rattle.pls_report.specs.inner.Pieces.{outcome_tail, spaced, stale_tail}
 use Rattle.pls_report.proofs.Texts.{line_spaced, node_text, spaced_more}
 use Rattle.pls_sim.specs.declared.outcome.Outcome.{Outcome}
-use Rattle.pls_lines.specs.Text.{line_of}
+use Rattle.pls_lines.specs.Text.{line_of, text_of}
+use Rattle.pls_lines.specs.laws.Fronts.{text_of-append}
 use Rattle.pls_report.specs.Report.{outcome_line}
 
 -- a word and numbers behind a text, with one number more
@@ -62,3 +63,11 @@ pub look_closing_text : (number : ℕ) (rows : List (ℕ × Outcome × List ℕ)
     ++ (codes " stale " ++ decimal (stale_rows rows))))) ++ codes "\n"
     ≡ look_closing number rows ++ 10 ∷ []
 look_closing_text number rows = refl
+
+-- a look is the lines of its nodes, in two pieces, and its closing line
+pub look_pieces : (number : ℕ) (rows : List (ℕ × Outcome × List ℕ)) (front behind : List ℕ)
+    → front ++ behind ≡ text_of (map look_line rows)
+    → (front ++ behind) ++ (look_closing number rows ++ 10 ∷ []) ≡ look_text number rows
+look_pieces number rows front behind are =
+    ap (λ (lines : List ℕ). lines ++ (look_closing number rows ++ 10 ∷ [])) are
+    ∙ sym (text_of-append (map look_line rows) (look_closing number rows ∷ []))

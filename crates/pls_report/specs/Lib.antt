@@ -1,4 +1,5 @@
 pub mod Look
+pub mod LookRows
 pub mod PartLines
 pub mod Report
 pub mod inner

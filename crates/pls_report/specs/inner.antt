@@ -1,2 +1,3 @@
 -- What private functions say to each other.
+pub mod Lines
 pub mod Pieces

@@ -5,15 +5,19 @@
 //! where there are several. [`rejecting`] and [`waiting`] count the nodes that it closes with, and
 //! [`all_accept`] tells whether there is none. [`write_round`] writes the report of a round in
 //! which touched nodes were judged again. [`write_look`] writes what is seen at a look at a round
-//! in which labels change (`specs/Look`), of which a [`LookRow`] is what is shown of one node, and
-//! [`look_is_well`] tells whether all accept there on the newest labels.
+//! in which labels change (`specs/Look`), of which a [`LookRow`] is what is shown of one node and
+//! [`LookRows`] are those of all, with their text; [`look_is_well`] tells whether all accept there
+//! on the newest labels.
 #![tactic(auto)]
 
 mod counting;
 mod decided;
+mod line_block;
 mod look;
 mod look_counting;
+mod look_lines;
 mod look_row;
+mod look_rows;
 mod node_line;
 mod part_lines;
 mod part_row;
@@ -25,6 +29,7 @@ pub use counting::{all_accept, all_verdicts_accept, rejecting, waiting};
 pub use look::write_look;
 pub use look_counting::look_is_well;
 pub use look_row::LookRow;
+pub use look_rows::LookRows;
 pub use part_row::PartRow;
 pub use report::write_report;
 pub use round::write_round;

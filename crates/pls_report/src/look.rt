@@ -1,14 +1,12 @@
 //! The text of a look, line by line.
 
-ghost use Rattle.std.specs.Prelude.{ℕ, ◌≤◌, ◌-◌, ◌++◌, ◌∷◌, [], codes, decimal, length, map, MatchResult, OnErr, OnOk};
+ghost use Rattle.std.specs.Prelude.{ℕ, ◌≤◌, ◌-◌, ◌++◌, codes, decimal, length, MatchResult, OnErr, OnOk};
 ghost use Rattle.std.specs.Io.KnownBytes.{Appends};
 ghost use Rattle.pls_base.specs.Gathered.{Writes};
 ghost use Rattle.pls_base.specs.Streams.{AppendsPart, Rose, StaysSure};
 ghost use Rattle.pls_report.specs.Look.{look_text};
 
-use crate::counting::{rejects, waits};
-use crate::look_counting::{one_if, told_ports};
-use crate::look_row::LookRow;
+use crate::look_rows::LookRows;
 use pls_base::{Fault, Gathered, Sink};
 
 /// Writes what is seen at a look at a round in which labels change: a line for each node, with its
@@ -18,49 +16,46 @@ use pls_base::{Fault, Gathered, Sink};
 ///
 /// `Fault` comes only where the sink's count of faults rose in this call; the sink has then taken a
 /// front of the text, but not all. A sink that is sure of so many bytes takes all.
-pub fn write_look<K: Sink>(number: u32, rows: &[LookRow], sink: &mut K) -> Result<(), Fault>
+pub fn write_look<K: Sink>(number: u32, look: &LookRows, sink: &mut K) -> Result<(), Fault>
     ensures all { OnOk result (Appends (K.taken sink.old) (K.taken sink.new)
-        (look_text number rows.now)) }
+        (look_text number look.now.rows)) }
     ensures part { OnErr result (AppendsPart (K.taken sink.old) (K.taken sink.new)
-        (look_text number rows.now)) }
+        (look_text number look.now.rows)) }
     ensures fault { OnErr result (Rose (K.faults sink.old) (K.faults sink.new)) }
     ensures never_falls { K.faults sink.old ≤ K.faults sink.new }
     ensures sure { (most : ℕ) → K.IsSureOf sink.old most
-        → length (look_text number rows.now) ≤ most
+        → length (look_text number look.now.rows) ≤ most
         → MatchResult result (λ _. StaysSure (K.IsSureOf sink.new)
-        (most - length (look_text number rows.now)) (K.faults sink.old) (K.faults sink.new))
-        (λ _. ⊥) }
+        (most - length (look_text number look.now.rows)) (K.faults sink.old)
+        (K.faults sink.new)) (λ _. ⊥) }
 {
     let mut gathered = Gathered::new();
-    write_rows(number, rows, sink, &mut gathered)?;
+    write_rows(number, look, sink, &mut gathered)?;
     gathered.flush(sink)
 }
 
-// Writes the lines of a look, and counts while it does.
+// Writes the lines of a look.
 fn write_rows<K: Sink>(
     number: u32,
-    rows: &[LookRow],
+    look: &LookRows,
     sink: &mut K,
     gathered: &mut Gathered,
 ) -> Result<(), Fault>
     ensures { Writes gathered.old gathered.new (K.taken sink.old) (K.taken sink.new)
         (K.faults sink.old) (K.faults sink.new) (K.IsSureOf sink.old) (K.IsSureOf sink.new)
-        result (look_text number rows.now) }
+        result (look_text number look.now.rows) }
 {
-    let (mut rejecting, mut waiting, mut stale) = (0, 0, 0);
-    for row in rows {
-        rejecting += one_if(rejects(row.outcome()));
-        waiting += one_if(waits(row.outcome()));
-        stale += one_if(!told_ports(row.outcome(), row.stale()).is_empty());
-        gathered.put(sink, row.line())?;
-    }
+    let (front, behind) = look.text();
+    let counts = look.counts();
+    gathered.put(sink, front)?;
+    gathered.put(sink, behind)?;
     write_counts(
         sink,
         gathered,
         number,
-        rejecting as u64,
-        waiting as u64,
-        stale as u64,
+        counts.rejecting as u64,
+        counts.waiting as u64,
+        counts.stale as u64,
     )
 }
 

@@ -1,6 +1,6 @@
-//! What of the nodes of a look is counted, and whether all is well.
+//! Whether all is well at a look, and which stale ports a line tells of.
 
-ghost use Rattle.std.specs.Prelude.{◌≡◌, cond};
+ghost use Rattle.std.specs.Prelude.{◌≡◌};
 ghost use Rattle.pls_report.specs.Look.{look_is_well, told_ports};
 
 use crate::counting::accepts;
@@ -13,14 +13,6 @@ pub fn look_is_well(rows: &[LookRow]) -> bool
 {
     rows.iter()
         .all(|row| accepts(row.outcome()) && row.stale().is_empty())
-}
-
-/// Counts one where something holds.
-#[inline(always)]
-pub(crate) fn one_if(holds: bool) -> usize
-    ensures { result ≡ cond holds 1 0 }
-{
-    if holds { 1 } else { 0 }
 }
 
 /// The stale ports that a node's line tells of.

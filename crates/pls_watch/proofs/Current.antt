@@ -147,19 +147,23 @@ module _ (judge : Seen → Verdict) (watched : Watched) where
       others = λ i differs. refl;
     }
 
-    pub renewed_stale : (shown next : ℕ × Outcome × List ℕ) (stale : List ℕ)
-        → place < length old → slice_get changes place ≡ Some Beside → shown ≡ get_or old place shown
+    pub renewed_stale : (new : List (ℕ × Outcome × List ℕ)) (stale : List ℕ)
+        → place < length rows → slice_get changes place ≡ Some Beside
         → ((row : NodeRow) → slice_get rows place ≡ Some row → stale ≡ stale_in watched row)
-        → next ≡ (shown.0, shown.1, stale)
-        → IsRenewed judge watched place old (set old place next)
-    renewed_stale shown next stale within beside is are new =
-        renewed_set place old next within
-        (λ row stands.
-        let was = current.outcomes place row Beside stands beside refl in
-        let same : shown ≡ (row.id, outcome_in judge watched row, was.0) =
-        same_Some shown (row.id, outcome_in judge watched row, was.0)
-        (ap Some is ∙ sym (slice_get-get_or old place shown within) ∙ was.1) in
-        new ∙ (λ i. ((same i).0, (same i).1, are row stands i)))
+        → ((id : ℕ) (outcome : Outcome) (before : List ℕ)
+        → slice_get old place ≡ Some (id, outcome, before)
+        → new ≡ set old place (id, outcome, stale))
+        → IsRenewed judge watched place old new
+    renewed_stale new stale within beside are is =
+        let here = item_at rows place within in
+        let row = here.0 in
+        let was = current.outcomes place row Beside here.1 beside refl in
+        let outcome = outcome_in judge watched row in
+        subst (IsRenewed judge watched place old) (sym (is row.id outcome was.0 was.1))
+        (renewed_set place old (row.id, outcome, stale) (omega (arith, within, current.all))
+        (λ other stands.
+        let same : row ≡ other = same_Some row other (sym here.1 ∙ stands) in
+        λ i. ((same i).id, outcome_in judge watched (same i), are other stands i)))
 
     -- where just those ports are stale that were shown, the row stays
     pub renewed_as_shown : (shown : ℕ × Outcome × List ℕ) → place < length old
@@ -184,30 +188,6 @@ pub change_here : (changes : List Change) (place : ℕ) (read change : Change)
     → slice_get changes place ≡ Some change
 change_here changes place read change within at is =
     slice_get-get_or changes place read within ∙ ap Some (sym at ∙ is)
-
--- what holds of a watch with its looks, of what it is seen as
-module _ {K : Type 0} (judge : K → Seen → Verdict) where
-  pub look_shown : (one other : K) (watched next : Watched) → one ≡ other → watched ≡ next
-      → look_of (judge one) watched ≡ look_of (judge other) next
-  look_shown one other watched next same is i = look_of (judge (same i)) (is i)
-
-  pub renewed_shown : (one other : K) (watched next : Watched) → one ≡ other → watched ≡ next
-      → (place : ℕ) (old shown new : List (ℕ × Outcome × List ℕ)) → old ≡ shown
-      → IsRenewed (judge one) watched place old new → IsRenewed (judge other) next place shown new
-  renewed_shown one other watched next same is place old shown new are =
-      subst (λ (old : List (ℕ × Outcome × List ℕ)). IsRenewed (judge one) watched place old new
-      → IsRenewed (judge other) next place shown new) (sym are)
-      (λ renewed. subst (λ (next : Watched). IsRenewed (judge other) next place shown new) is
-      (subst (λ (one : K). IsRenewed (judge one) watched place shown new) same renewed))
-
-  -- one row more is true now
-  pub now_next : (one other : K) (watched next : Watched) → one ≡ other → watched ≡ next
-      → (place : ℕ) (old new : List (ℕ × Outcome × List ℕ))
-      → IsRenewed (judge one) watched place old new → AreNow (judge other) next place old
-      → AreNow (judge other) next (place + 1) new
-  now_next one other watched next same is place old new renewed =
-      renewed_now (judge other) next place old new
-      (renewed_shown one other watched next same is place old old new refl renewed)
 
 -- after an event the rows are current where what it changes is noted
 module _ (judge : Seen → Verdict) (watched : Watched) (event : WatchEvent) (place : Option ℕ)

@@ -14,6 +14,7 @@ mod changing;
 mod known_labels;
 mod lookout;
 mod looks;
+mod renewing;
 mod stock;
 mod turn;
 mod version_list;
@@ -22,7 +23,7 @@ mod watch;
 
 pub use lookout::Lookout;
 pub use pls_base::NoMemory;
-pub use pls_report::LookRow;
+pub use pls_report::{LookRow, LookRows};
 pub use pls_sim::{EventError, Outcome, PortNumbers};
 pub use pls_watch_part::WatchEvent;
 pub use turn::Turn;

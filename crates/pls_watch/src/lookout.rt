@@ -8,10 +8,9 @@ ghost use Rattle.pls_watch.specs.inner.Current.{IsRenewed};
 ghost use Rattle.pls_watch.specs.inner.Known.{IsTable};
 
 use crate::change::{Change, forget, no_changes, note};
-use crate::versions::noughts;
 use crate::watch::Watch;
 use pls_base::{NoMemory, Steps};
-use pls_report::LookRow;
+use pls_report::{LookRow, LookRows};
 use pls_scheme::Checker;
 use pls_sim::EventError;
 use pls_watch_part::WatchEvent;
@@ -24,7 +23,7 @@ use std::marker::Model;
 pub struct Lookout<'n, 'k, K: Checker> {
     watch: Watch<'n>,
     checker: &'k K,
-    rows: Vec<LookRow>,
+    shown: LookRows,
     // For each node what of it changed since the last look.
     changes: Vec<Change>,
 }
@@ -38,11 +37,11 @@ impl<'n, 'k, K: Checker> Model for Lookout<'n, 'k, K> {
     ghost view = { λ lookout. record {
       checker = lookout.checker.now;
       watched = lookout.watch;
-      rows = lookout.rows.items;
+      rows = lookout.shown.rows;
     } };
 
     ghost invariant = { λ lookout. IsCurrent (K.judge lookout.checker.now) lookout.watch
-        lookout.changes.items lookout.rows.items };
+        lookout.changes.items lookout.shown.rows };
 }
 
 impl<'n, 'k, K: Checker> Lookout<'n, 'k, K> {
@@ -62,10 +61,11 @@ impl<'n, 'k, K: Checker> Lookout<'n, 'k, K> {
     {
         let rows = watch.outcomes(alloc, checker, steps)?;
         let changes = no_changes(alloc, rows.len())?;
+        let shown = LookRows::of(alloc, rows)?;
         Ok(Lookout {
             watch,
             checker,
-            rows,
+            shown,
             changes,
         })
     }
@@ -99,10 +99,9 @@ impl<'n, 'k, K: Checker> Lookout<'n, 'k, K> {
             (self.new.rows ≡ look_of (K.judge self.old.checker) self.old.watched) }
         ensures few_steps { RoseByAtMost (length self.old.watched.network) steps.old steps.new }
     {
-        let mut table = noughts(alloc, self.rows.len())?;
-        for i in 0..self.rows.len() {
-            self.renew(alloc, i, &mut table, steps)?;
-        }
+        let changes = self.changes.as_slice();
+        self.watch
+            .renew_all(alloc, changes, &mut self.shown, self.checker, steps)?;
         forget(&mut self.changes);
         Ok(())
     }
@@ -111,51 +110,13 @@ impl<'n, 'k, K: Checker> Lookout<'n, 'k, K> {
     pub fn rows(&self) -> &[LookRow]
         ensures { result.now ≡ self.now.rows }
     {
-        self.rows.as_slice()
+        self.shown.rows()
     }
 
-    // Renews the row of the node at place i as far as something of it changed. What the node knows
-    // is written into a table.
-    fn renew(
-        &mut self,
-        alloc: Global,
-        i: usize,
-        table: &mut Vec<u32>,
-        steps: &mut Steps,
-    ) -> Result<(), NoMemory>
-        requires place { i < length self.old.watched.network }
-        requires table { IsTable self.old.watched table.old.items }
-        ensures watched { self.new.watched ≡ self.old.watched }
-        ensures checker { self.new.checker ≡ self.old.checker }
-        ensures table { IsTable self.old.watched table.new.items }
-        ensures renewed { OnOk result (IsRenewed (K.judge self.old.checker) self.old.watched i
-            self.old.rows self.new.rows) }
-        ensures unchanged { OnErr result (self.new.rows ≡ self.old.rows) }
-        ensures few_steps { RoseByAtMost 1 steps.old steps.new }
+    /// What was shown at the last look, with its text.
+    pub fn shown(&self) -> &LookRows
+        ensures { result.now.rows ≡ self.now.rows }
     {
-        match self.changes[i] {
-            Change::Nothing => {}
-            Change::Beside => {
-                let shown = &self.rows[i];
-                if self.watch.has_stale(i, shown.stale()) {
-                    return Ok(());
-                }
-                let stale = self.watch.stale(alloc, i)?;
-                self.rows[i].set_stale(alloc, stale)?;
-            }
-            Change::Held | Change::Label => {
-                let row = self.watch.look_at(alloc, i, table, self.checker, steps)?;
-                set_row(&mut self.rows, i, row);
-            }
-        }
-        Ok(())
+        &self.shown
     }
-}
-
-// Puts another row at a place.
-fn set_row(rows: &mut Vec<LookRow>, i: usize, row: LookRow)
-    requires { i < length rows.old.items }
-    ensures { rows.new.items ≡ slice_set rows.old.items i row }
-{
-    rows[i] = row;
 }

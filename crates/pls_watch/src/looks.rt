@@ -108,7 +108,7 @@ impl<'n> Watch<'n> {
     {
         let stale = self.stale(alloc, i)?;
         let outcome = self.outcome_by(alloc, i, table, checker, steps)?;
-        LookRow::new(alloc, self.net.node(i).0, outcome, stale)
+        Ok(LookRow::new(self.net.node(i).0, outcome, stale))
     }
 
     // The outcome of the node at place i. What the node knows is written into a table.

@@ -7,10 +7,13 @@
 //! Want of memory ends a test at once, so that no helper has an error to hand on.
 
 use super::input::input_of;
-use crate::run_in_memory;
-use pls_base::Status;
+use pls_app::{Tally, run};
+use pls_base::{MemSink, Status, SureSource};
 use std::alloc::Global;
 use std::process::Abort;
+
+/// The room for the text of a run in memory, in bytes: more than that of any row.
+pub(super) const ROOM: usize = 4_194_304;
 
 /// Runs each row of some tables, and asserts its status and its text.
 pub(super) fn assert_rows(rt: &impl Abort, alloc: Global, tables: &[&str]) {
@@ -45,8 +48,9 @@ pub(super) fn end_of(rt: &impl Abort, alloc: Global, words: &str, input: &str) -
 
 /// The same of words that may hold spaces.
 pub(super) fn end_of_run(rt: &impl Abort, alloc: Global, words: &[&str], input: &str) -> String {
-    let bytes = input.as_bytes().to_vec(alloc).expect(rt, "memory");
-    let (status, sink) = run_in_memory(alloc, words, bytes).expect(rt, "memory");
+    let mut source = SureSource::new(input.as_bytes().to_vec(alloc).expect(rt, "memory"));
+    let mut sink = MemSink::new(alloc, ROOM, ROOM, Vec::new(alloc)).expect(rt, "memory");
+    let status = run(alloc, words, &mut source, &mut sink, &mut Tally::new());
     end_with(rt, alloc, status, sink.bytes())
 }
 

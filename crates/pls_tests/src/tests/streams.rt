@@ -7,11 +7,11 @@ use pls_base::{MemSink, MemSource, Status};
 use std::alloc::Global;
 use std::process::Abort;
 
-// Two nodes with their colours, 93 bytes.
-const INPUT: &str = "pair | colours";
+// Two nodes with their colours, 93 bytes, and what asks for them to be judged.
+const WHOLE: &str = "network\nnode 1 - 0 0\nport 2 1\nnode 2 - 0 0\nport 1 1\nend\n\
+    labels\nlabel 1 1 00\nlabel 2 1 80\nend\n";
 
-// The words that ask for them to be judged, and their input.
-const ASKED: (&[&str], &str) = (&["verify", "bipartite"], INPUT);
+const ASKED: (&[&str], &str) = (&["verify", "bipartite"], "pair | colours");
 
 // What is told of them, 40 bytes.
 const ACCEPTED: &str = "node 1 accept\nnode 2 accept\nrejecting 0\n";
@@ -53,65 +53,55 @@ const OTHERS: &[((&[&str], &str), [u64; 2], (Status, &str))] = &[
     ),
 ];
 
-// Whether a run ends in this status, and wrote this text, where the read and the write of these
-// numbers fail.
-fn ends_by_bytes(
+// Asserts that a run ends in this status, and wrote this text, where the read and the write of
+// these numbers fail.
+fn assert_end(
     rt: &impl Abort,
     alloc: Global,
     (words, input): (&[&str], &str),
     [read, write]: [u64; 2],
     (status, text): (Status, &str),
-) -> bool {
+) {
     let bytes = input_of(rt, alloc, input).into_bytes();
     let reads = vec![in alloc; read].expect(rt, "memory");
     let writes = vec![in alloc; write].expect(rt, "memory");
     let mut source = MemSource::new(bytes, 1, reads);
     let mut sink = MemSink::new(alloc, 1000, 1, writes).expect(rt, "memory");
     let end = run(alloc, words, &mut source, &mut sink, &mut Tally::new());
-    end == status && sink.bytes() == text.as_bytes()
-}
-
-#[test]
-fn a_failed_read_leaves_nothing_written(rt: HostRuntime) {
-    for read in 1..95 {
-        let due = (Status::ReadFault, "");
-        assert!(rt;
-            ends_by_bytes(&rt, rt.alloc(), ASKED, [read, 0], due),
-            "read {read} fails"
-        );
-    }
-    let due = (Status::Done, ACCEPTED);
     assert!(rt;
-        ends_by_bytes(&rt, rt.alloc(), ASKED, [95, 0], due),
-        "no read is asked for behind the one that finds the end"
+        end == status && sink.bytes() == text.as_bytes(),
+        "{input} with faults at {read} or {write}"
     );
 }
 
 #[test]
-fn a_failed_write_leaves_a_front_of_the_text(rt: HostRuntime) {
+fn a_failed_read_leaves_nothing_and_a_failed_write_a_front(rt: HostRuntime) {
+    for read in 1..95 {
+        let due = (Status::ReadFault, "");
+        assert_end(&rt, rt.alloc(), ASKED, [read, 0], due);
+    }
     for write in 1..41 {
         let front = ACCEPTED.get(..write - 1).expect(&rt, "a front");
         let due = (Status::WriteFault, front);
-        let well = ends_by_bytes(&rt, rt.alloc(), ASKED, [0, write as u64], due);
-        assert!(rt; well, "write {write} fails");
+        assert_end(&rt, rt.alloc(), ASKED, [0, write as u64], due);
     }
+    // No read is asked for behind the one that finds the end, and no write behind the last byte.
     let due = (Status::Done, ACCEPTED);
-    assert!(rt;
-        ends_by_bytes(&rt, rt.alloc(), ASKED, [0, 41], due),
-        "no write is asked for behind the last byte"
-    );
+    assert_end(&rt, rt.alloc(), ASKED, [95, 41], due);
+    for (asked, failing, due) in OTHERS {
+        assert_end(&rt, rt.alloc(), *asked, *failing, *due);
+    }
 }
 
 #[test]
-fn reads_and_writes_of_other_commands_fail(rt: HostRuntime) {
-    for (asked, failing, due) in OTHERS {
-        assert!(rt;
-            ends_by_bytes(&rt, rt.alloc(), *asked, *failing, *due),
-            "{} with faults at {} or {}",
-            asked.1,
-            failing[0],
-            failing[1]
-        );
+fn an_input_cut_off_is_refused_at_its_last_line(rt: HostRuntime) {
+    let mut line = 1_u64;
+    for (count, letter) in WHOLE.chars().enumerate() {
+        let front = WHOLE.get(..count).expect(&rt, "a front");
+        assert_cut_off(&rt, rt.alloc(), front, line);
+        if letter == '\n' {
+            line = line.saturating_add(1);
+        }
     }
 }
 
@@ -119,18 +109,4 @@ fn reads_and_writes_of_other_commands_fail(rt: HostRuntime) {
 fn assert_cut_off(rt: &impl Abort, alloc: Global, front: &str, line: u64) {
     let row = format!(in alloc; "3 verify bipartite < + {front} > refused form at {line}");
     assert_row(rt, alloc, row.expect(rt, "memory").as_str());
-}
-
-#[test]
-fn an_input_cut_off_is_refused_at_its_last_line(rt: HostRuntime) {
-    let input = input_of(&rt, rt.alloc(), INPUT);
-    let mut line = 1_u64;
-    for (count, letter) in input.as_str().chars().enumerate() {
-        let front = input.as_str().get(..count).expect(&rt, "a front");
-        assert_cut_off(&rt, rt.alloc(), front, line);
-        if letter == '\n' {
-            line = line.saturating_add(1);
-        }
-    }
-    assert_eq!(rt; input.len(), 93);
 }

@@ -16,6 +16,6 @@ invariant_of-self-2 g c =
     let taken = c.in_ok-step.ensures.taken in
     let noted = subst (λ (net : List NodeRow). IsNoted net event place old.changes.items new)
     (c.network.ensures ∙ ap (λ (watched : Watched). watched.network) taken) c.note.ensures in
-    subst (λ (watched : Watched). IsCurrent judge watched new old.rows.items) (sym taken)
-    (current_next judge old.watch event place change.valid old.changes.items new old.rows.items
+    subst (λ (watched : Watched). IsCurrent judge watched new old.shown.rows) (sym taken)
+    (current_next judge old.watch event place change.valid old.changes.items new old.shown.rows
     c.self.invariant noted change.others)

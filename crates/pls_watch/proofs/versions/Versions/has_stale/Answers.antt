@@ -1,10 +1,8 @@
-use Rattle.std.proofs.Common.{◌≡◌, ◌∙◌, ◌∷◌, ◌++◌, ◌+◌, [], ℕ, List, length, slice_get, drop, take, sym, ap, arith, append_assoc}
+use Rattle.std.proofs.Common.{◌∙◌, ◌∷◌, ◌++◌, ◌+◌, [], ℕ, List, drop, take, sym, ap, arith, append_assoc}
 use Rattle.std.proofs.lemmas.List.{take_more}
-use Rattle.pls_model.specs.declared.row.NodeRow.{NodeRow}
-use Rattle.pls_model.specs.declared.row.Port.{Port}
 use Rattle.pls_watch.specs.Turning.{Turned}
 use Rattle.pls_sim.specs.Schedule.{unheard_from}
-use Rattle.pls_watch.specs.Versions.{is_fresh, stale}
+use Rattle.pls_watch.specs.Versions.{is_fresh}
 use Rattle.pls_sim.proofs.Unheard.{adds_unheard, has_port, passes_heard, port_small}
 use Rattle.pls_watch.proofs.Listed.{ends_before, goes_on_otherwise}
 use Rattle.pls_watch.proofs.versions.Versions.has_stale.Goals as goal

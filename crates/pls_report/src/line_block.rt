@@ -1,0 +1,201 @@
+//! Lines of nodes one behind another.
+
+ghost use Rattle.std.specs.Prelude.{◌≡◌, ◌+◌, ◌^◌, ◌<◌, ◌≤◌, ◌++◌, ◌∷◌, [], count_by, drop, length, take, IfOk, OnErr, OnOk};
+ghost use Rattle.pls_report.specs.inner.Lines.{IsPlace, bytes_in, counts_in, shown_line, text_in};
+
+use crate::counting::{rejects, waits};
+use crate::look_counting::told_ports;
+use crate::node_line::node_line;
+use pls_base::NoMemory;
+use pls_sim::Outcome;
+use std::alloc::Global;
+use std::marker::Model;
+
+/// How long a line is, with its line feed, and what its node counts as.
+#[derive(Clone, Copy, Debug)]
+pub(crate) struct LineMark {
+    length: usize,
+    rejects: bool,
+    waits: bool,
+    tells_stale: bool,
+}
+
+/// A place among lines: how many are in front of it, and how many bytes these have.
+#[derive(Clone, Copy, Debug)]
+pub(crate) struct LinePlace {
+    pub(crate) lines: usize,
+    pub(crate) bytes: usize,
+}
+
+/// How many nodes reject, how many wait, and how many have a line with stale ports.
+#[derive(Clone, Copy, Debug)]
+pub(crate) struct LookCounts {
+    pub(crate) rejecting: usize,
+    pub(crate) waiting: usize,
+    pub(crate) stale: usize,
+}
+
+/// Lines of nodes at a look, their texts one behind another, seen as their list.
+#[derive(Drop)]
+pub(crate) struct LineBlock {
+    text: Vec<u8>,
+    marks: Vec<LineMark>,
+}
+
+impl Model for LineBlock {
+    ghost use Rattle.std.specs.Prelude.{◌≡◌, List, length};
+    ghost use Rattle.pls_report.specs.inner.Lines.{ShownLine, bytes_in, cut};
+
+    ghost Value = { List ShownLine };
+
+    ghost view = { λ block. cut block.marks.items block.text.items };
+
+    ghost invariant = { λ block. bytes_in block.marks.items ≡ length block.text.items };
+}
+
+impl LineBlock {
+    /// No lines.
+    pub(crate) fn new(alloc: Global) -> LineBlock
+        ensures { result ≡ [] }
+    {
+        LineBlock {
+            text: Vec::new(alloc),
+            marks: Vec::new(alloc),
+        }
+    }
+
+    /// Takes all lines away. The memory for them stays.
+    pub(crate) fn clear(&mut self)
+        ensures { self.new ≡ [] }
+    {
+        self.text.clear();
+        self.marks.clear();
+    }
+
+    /// How many lines there are.
+    pub(crate) fn len(&self) -> usize
+        ensures { result ≡ length self.now }
+    {
+        self.marks.len()
+    }
+
+    /// The text of the lines behind a place.
+    pub(crate) fn text_behind(&self, place: LinePlace) -> &[u8]
+        requires { IsPlace self.now place }
+        ensures { result.now ≡ text_in (drop place.lines self.now) }
+    {
+        &self.text[place.bytes..]
+    }
+
+    /// What the lines behind the first ones count as.
+    pub(crate) fn counts_behind(&self, first: usize) -> LookCounts
+        requires { first ≤ length self.now }
+        ensures counts { result ≡ counts_in (drop first self.now) }
+        ensures few { length self.now < 2 ^ 63 }
+    {
+        let marks = &self.marks[first..];
+        LookCounts {
+            rejecting: rejecting_in(marks),
+            waiting: waiting_in(marks),
+            stale: stale_in(marks),
+        }
+    }
+
+    /// The place behind the line that stands at one.
+    pub(crate) fn next(&self, place: LinePlace) -> LinePlace
+        requires place { IsPlace self.now place }
+        requires within { place.lines < length self.now }
+        ensures lines { result.lines ≡ place.lines + 1 }
+        ensures place { IsPlace self.now result }
+    {
+        let bytes = place.bytes + self.marks[place.lines].length;
+        let lines = place.lines + 1;
+        LinePlace { lines, bytes }
+    }
+
+    /// Adds the line of a node. The one error is want of memory: the lines are then as they were.
+    pub(crate) fn add(
+        &mut self,
+        alloc: Global,
+        id: u32,
+        outcome: &Outcome,
+        stale: &[u32],
+    ) -> Result<(), NoMemory>
+        ensures added { OnOk result
+            (self.new ≡ self.old ++ shown_line (id, outcome.now, stale.now) ∷ []) }
+        ensures unchanged { OnErr result (self.new ≡ self.old) }
+    {
+        let line = node_line(alloc, id, outcome, stale)?;
+        let mark = LineMark {
+            length: line.len(),
+            rejects: rejects(outcome),
+            waits: waits(outcome),
+            tells_stale: !told_ports(outcome, stale).is_empty(),
+        };
+        self.marks.reserve(1)?;
+        self.text.extend_from_slice(line.as_slice())?;
+        self.marks.push_reserved(mark);
+        Ok(())
+    }
+
+    /// Adds so many of other lines, from a place on, and answers the place behind them. The one error
+    /// is want of memory: the lines are then as they were.
+    pub(crate) fn add_part(
+        &mut self,
+        other: &LineBlock,
+        place: LinePlace,
+        count: usize,
+    ) -> Result<LinePlace, NoMemory>
+        requires place { IsPlace other.now place }
+        requires within { place.lines + count ≤ length other.now }
+        ensures added { OnOk result
+            (self.new ≡ self.old ++ take count (drop place.lines other.now)) }
+        ensures lines { IfOk result (λ end. end.lines ≡ place.lines + count) }
+        ensures place { IfOk result (IsPlace other.now) }
+        ensures unchanged { OnErr result (self.new ≡ self.old) }
+    {
+        let marks = &other.marks[place.lines..][..count];
+        let text = other.text_behind(place);
+        let bytes = bytes_of(marks);
+        self.marks.reserve(count)?;
+        self.text.extend_from_slice(&text[..bytes])?;
+        self.marks.extend_from_slice(marks).unwrap();
+        Ok(LinePlace {
+            lines: place.lines + count,
+            bytes: place.bytes + bytes,
+        })
+    }
+}
+
+// How many lines are those of nodes that reject.
+fn rejecting_in(marks: &[LineMark]) -> usize
+    ensures { result ≡ count_by (λ mark. mark.rejects) marks.now }
+{
+    marks.iter().filter(|mark| mark.rejects).count()
+}
+
+// How many lines are those of nodes that wait.
+fn waiting_in(marks: &[LineMark]) -> usize
+    ensures { result ≡ count_by (λ mark. mark.waits) marks.now }
+{
+    marks.iter().filter(|mark| mark.waits).count()
+}
+
+// How many lines tell of stale ports.
+fn stale_in(marks: &[LineMark]) -> usize
+    ensures { result ≡ count_by (λ mark. mark.tells_stale) marks.now }
+{
+    marks.iter().filter(|mark| mark.tells_stale).count()
+}
+
+// How long lines are together.
+fn bytes_of(marks: &[LineMark]) -> usize
+    requires { bytes_in marks.now < 2 ^ 63 }
+    ensures { result ≡ bytes_in marks.now }
+{
+    let mut bytes = 0;
+    for mark in marks {
+        bytes += mark.length;
+    }
+    bytes
+}

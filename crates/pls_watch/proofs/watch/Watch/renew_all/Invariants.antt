@@ -1,0 +1,15 @@
+use Rattle.std.proofs.Common.{◌≡◌}
+use Rattle.pls_scheme.specs.Judging.{RoseByAtMost}
+use Rattle.pls_watch.specs.inner.Current.{IsCurrent}
+use Rattle.pls_watch.specs.inner.Known.{IsTable}
+use Rattle.pls_watch.proofs.Current.{AreNow}
+use Rattle.pls_watch.proofs.watch.Watch.renew_all.Given as goal
+
+abbrev pub invariant-loop : goal.invariant-loop
+invariant-loop g l = record {
+  passed : l.shown.passed ≡ l.index;
+  current : IsCurrent (g.K.Checker.judge l.checker) l.self l.changes l.shown.rows;
+  table : IsTable l.self l.table.items;
+  now : AreNow (g.K.Checker.judge l.checker) l.self l.index l.shown.rows;
+  rose : RoseByAtMost l.index l.fn.steps l.steps;
+}
