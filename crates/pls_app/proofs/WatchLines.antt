@@ -1,6 +1,6 @@
 -- The lines of a watch one by one, and what the looks show that they ask for.
 use Rattle.std.proofs.Common.{◌≡◌, ◌∙◌, ℕ, ◌+◌, ◌<◌, ◌≤◌, Bool, true, List, [], ◌∷◌, ◌++◌, length, take, drop, get_or, Some, None, false, refl, sym, ap, arith, add-one, append-nil, append_assoc, length-append}
-use Rattle.std.proofs.lemmas.List.{drop_all, take_more}
+use Rattle.std.proofs.lemmas.List.{drop_all}
 use Rattle.std.proofs.Math.Seq.{drop-cons}
 use Rattle.std.specs.List.{sum_by}
 use Rattle.std.proofs.lemmas.List.Sums.{sum_by-append, sum_by-cons, sum_by-drop_more, sum_by-take-drop}
@@ -17,7 +17,7 @@ use Rattle.pls_watch_part.specs.declared.watch_event.WatchLine.{WatchLine}
 use Rattle.pls_watch_part.specs.declared.watch_event.WatchLine.TheVariants.{Event, Look}
 use Rattle.pls_watch.specs.Labelled.{bits_given, labels_given}
 use Rattle.pls_watch.specs.Watching.{Watched, look_of}
-use Rattle.pls_app.specs.Looks.{ends_in_well, look_after, looks_behind, looks_text}
+use Rattle.pls_app.specs.Looks.{look_after, looks_behind, looks_text}
 use Rattle.pls_app.specs.Unwatched.{event_of, events_of, first_unwatched, line_names_nothing}
 use Rattle.pls_app.specs.inner.Watching.{AreShown, shown_at}
 use Rattle.pls_app.specs.declared.watch.LooksSoFar.{LooksSoFar}

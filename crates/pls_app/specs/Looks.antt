@@ -13,7 +13,6 @@ use Rattle.pls_watch_part.specs.declared.watch_event.WatchLine.{WatchLine}
 use Rattle.pls_watch.specs.Watching.{Watched, look_of}
 use Rattle.pls_inputs.specs.Parts.{Input, labels_in, rows_in, watch_in}
 use Rattle.pls_app.specs.Said.{Answer}
-use Rattle.pls_app.specs.Unwatched.{event_of}
 use Rattle.pls_watch_part.specs.declared.watch_event.WatchLine.TheVariants.{Event, Look}
 
 -- a network with these labels at the start, after these events, of as many as an input has at most

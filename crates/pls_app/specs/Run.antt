@@ -17,7 +17,7 @@ use Rattle.pls_splice.specs.Ring.{IsRing}
 use Rattle.pls_splice.specs.TwoRings.{AreTwoRings}
 use Rattle.pls_expressions.specs.Expression.{Expression, Of}
 use Rattle.pls_model.specs.declared.limits.TheConstants.{MAX_INPUT}
-use Rattle.pls_inputs.specs.Parts.{Input, code_in, parts_with_edits, edits_in, parts_with_gamma, parts_with_labels, parts_with_rules, labels_in, net_labels_text, network, rows_in, with_labels}
+use Rattle.pls_inputs.specs.Parts.{Input, code_in, parts_with_edits, parts_with_gamma, parts_with_labels, parts_with_rules, labels_in, net_labels_text, rows_in, with_labels}
 use Rattle.pls_inputs.specs.Order.{IsInput}
 use Rattle.pls_bits.specs.declared.code_name.CodeName.{CodeName}
 use Rattle.pls_bits.specs.declared.code_name.CodeName.TheVariants.{Delta}

@@ -1,14 +1,13 @@
-use Rattle.std.proofs.Common.{◌≡◌, ◌∙◌, ◌++◌, ℕ, List, [], false, get_or, length, take, ap, arith, subst, sym}
+use Rattle.std.proofs.Common.{◌≡◌, ◌∙◌, ◌++◌, ℕ, List, [], false, get_or, take, ap, arith, subst, sym}
 use Rattle.std.proofs.lemmas.List.{length-take}
 use Rattle.pls_model.specs.declared.verdict.Verdict.{Verdict}
 use Rattle.pls_view.specs.Seen.{Seen}
 use Rattle.pls_watch_part.specs.declared.watch_event.WatchLine.{WatchLine}
-use Rattle.pls_watch.specs.Watching.{Watched}
 use Rattle.pls_app.specs.Looks.{look_after, looks_behind}
 use Rattle.pls_app.specs.Unwatched.{line_names_nothing}
 use Rattle.pls_app.specs.inner.Watching.{AreShown, shown_at, watched_behind}
 use Rattle.pls_app.proofs.WatchLines.{few_looks}
-use Rattle.pls_app.proofs.WatchPlay.{applies_so, first_on, network_on, room_here, room_on, shown_on, start_on, taken_on}
+use Rattle.pls_app.proofs.WatchPlay.{applies_so, first_on, network_on, room_on, shown_on, start_on, taken_on}
 use Rattle.pls_app.proofs.watch.play.Goals as goal
 
 pub take_line-requires-clause-few : goal.take_line-requires-clause-few

@@ -1,4 +1,4 @@
-use Rattle.std.proofs.Common.{◌≡◌, ℕ, ◌+◌, ◌≤◌, [], take, drop}
+use Rattle.std.proofs.Common.{◌≡◌, ℕ, ◌+◌, [], take, drop}
 use Rattle.pls_app.specs.Looks.{look_after, looks_behind}
 use Rattle.pls_app.specs.Unwatched.{events_of, first_unwatched}
 use Rattle.pls_app.specs.inner.Watching.{AreShown, HasRoomForEvents}

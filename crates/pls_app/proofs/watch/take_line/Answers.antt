@@ -1,4 +1,4 @@
-use Rattle.std.proofs.Common.{◌≡◌, ◌∙◌, not, ap, subst, sym, [], ◌∷◌}
+use Rattle.std.proofs.Common.{◌∙◌, not, ap, subst, sym, [], ◌∷◌}
 use Rattle.pls_watch_part.specs.declared.watch_event.WatchLine.{WatchLine}
 use Rattle.pls_app.specs.Unwatched.{event_of, line_names_nothing}
 use Rattle.pls_app.specs.inner.Watching.{HasRoomForEvents}
