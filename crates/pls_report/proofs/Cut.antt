@@ -1,14 +1,15 @@
 -- Texts cut into lines, and lines put one behind another.
-use Rattle.std.proofs.Common.{◌≡◌, ◌∙◌, ℕ, suc, ◌+◌, ◌-◌, ◌<◌, ◌≤◌, Bool, List, [], ◌∷◌, ◌++◌, map, take, drop, length, get_or, count_by, fold, cond, drop-cons, refl, sym, ap, arith, append_assoc}
+use Rattle.std.proofs.Common.{◌≡◌, ◌∙◌, ℕ, zero, suc, ◌+◌, ◌-◌, ◌<◌, ◌≤◌, List, [], ◌∷◌, ◌++◌, map, take, drop, length, get_or, slice_get, Some, drop-cons, refl, sym, ap, arith, append_assoc}
 use Rattle.std.proofs.Math.Seq.{take-add}
 use Rattle.std.proofs.lemmas.List.{drop-append-le, drop_at, length-drop, length-take-le, take-append-drop, take-append-le, take_all, take_at}
 use Rattle.std.proofs.lemmas.List.Sums.{sum_by-append, sum_by-cons, sum_by-take-drop}
+use Rattle.std.proofs.lemmas.Option.{same_Some}
 use Rattle.pls_lines.specs.Text.{text_of}
 use Rattle.pls_sim.specs.declared.outcome.Outcome.{Outcome}
 use Rattle.pls_report.specs.Look.{look_line}
 use Rattle.pls_report.specs.declared.line_block.LineMark.{LineMark}
 use Rattle.pls_report.specs.declared.line_block.LinePlace.{LinePlace}
-use Rattle.pls_report.specs.inner.Lines.{IsPlace, ShownLine, bytes_in, counts_in, cut, shown_line, text_in}
+use Rattle.pls_report.specs.inner.Lines.{IsPlace, ShownLine, bytes_in, cut, shown_line, text_in}
 
 pub length_cut : (marks : List LineMark) (text : List ℕ) → length (cut marks text) ≡ length marks
 length_cut [] text = refl
@@ -36,12 +37,7 @@ cut_both (mark ∷ front) behind text more whole =
     drop-append-le mark.length text more within in
     let others = cut_both front behind (drop mark.length text) more
     (omega (arith, whole, bytes_more mark front, length-drop mark.length text)) in
-    λ i. record {
-      text = here i;
-      rejects = mark.rejects;
-      waits = mark.waits;
-      tells_stale = mark.tells_stale;
-    } ∷ (ap (cut (front ++ behind)) rest ∙ others) i
+    λ i. record { text = here i; kind = mark.kind } ∷ (ap (cut (front ++ behind)) rest ∙ others) i
 
 -- the lines of a text that is cut are all of it
 pub text_cut : (marks : List LineMark) (text : List ℕ) → bytes_in marks ≡ length text
@@ -53,34 +49,6 @@ text_cut (mark ∷ marks) text whole =
     (text_cut marks (drop mark.length text)
     (omega (arith, whole, bytes_more mark marks, length-drop mark.length text)))
     ∙ take-append-drop mark.length text
-
-module _ (p : Bool → Bool → Bool → Bool) where
-  abbrev lines_from : ℕ → List ShownLine → ℕ
-  lines_from count lines =
-      fold (λ count line. count + cond (p line.rejects line.waits line.tells_stale) 1 0) count lines
-
-  abbrev marks_from : ℕ → List LineMark → ℕ
-  marks_from count marks =
-      fold (λ count mark. count + cond (p mark.rejects mark.waits mark.tells_stale) 1 0) count marks
-
-  count_cut : (count : ℕ) (marks : List LineMark) (text : List ℕ)
-      → lines_from count (cut marks text) ≡ marks_from count marks
-  count_cut count [] text = refl
-  count_cut count (mark ∷ marks) text =
-      count_cut (count + cond (p mark.rejects mark.waits mark.tells_stale) 1 0) marks
-      (drop mark.length text)
-
-pub counts_cut : (marks : List LineMark) (text : List ℕ)
-    → counts_in (cut marks text) ≡ record {
-      rejecting = count_by (λ (mark : LineMark). mark.rejects) marks;
-      waiting = count_by (λ (mark : LineMark). mark.waits) marks;
-      stale = count_by (λ (mark : LineMark). mark.tells_stale) marks;
-    }
-counts_cut marks text i = record {
-  rejecting = count_cut (λ rejects waits stale. rejects) 0 marks text i;
-  waiting = count_cut (λ rejects waits stale. waits) 0 marks text i;
-  stale = count_cut (λ rejects waits stale. stale) 0 marks text i;
-}
 
 -- the first lines of a text that is cut, and those behind them
 module _ (n : ℕ) (marks : List LineMark) (text : List ℕ) (few : n ≤ length marks)
@@ -166,18 +134,21 @@ shown_text (row ∷ rows) =
 
 -- one line
 pub cut_one : (mark : LineMark) (line : List ℕ) → mark.length ≡ length line
-    → cut (mark ∷ []) line ≡ record {
-      text = line;
-      rejects = mark.rejects;
-      waits = mark.waits;
-      tells_stale = mark.tells_stale;
-    } ∷ []
+    → cut (mark ∷ []) line ≡ record { text = line; kind = mark.kind } ∷ []
 cut_one mark line long i = record {
   text = take_all mark.length line (omega (arith, long)) i;
-  rejects = mark.rejects;
-  waits = mark.waits;
-  tells_stale = mark.tells_stale;
+  kind = mark.kind;
 } ∷ []
+
+-- the kind of a line is that of its mark
+pub kind_cut : (marks : List LineMark) (text : List ℕ) (i : ℕ) (mark : LineMark) (line : ShownLine)
+    → i < length marks → slice_get (cut marks text) i ≡ Some line
+    → (get_or marks i mark).kind ≡ line.kind
+kind_cut [] text i mark line within is = absurd (omega (arith, within))
+kind_cut (first ∷ marks) text zero mark line within is =
+    ap (λ (line : ShownLine). line.kind) (same_Some _ line is)
+kind_cut (first ∷ marks) text (suc i) mark line within is =
+    kind_cut marks (drop first.length text) i mark line (omega (arith, within)) is
 
 -- a block of lines, of the marks and the text that it is seen by
 module _ (marks : List LineMark) (text : List ℕ) (lines : List ShownLine)
@@ -244,17 +215,6 @@ module _ (marks : List LineMark) (text : List ℕ) (lines : List ShownLine)
           ap (λ (lines : List ShownLine). take count (drop place.lines lines)) (sym is)
           ∙ middle_cut place.lines count marks text (few_marks (place.lines + count) few) whole
           ∙ ap (λ (bytes : ℕ). cut part (take (bytes_in part) (drop bytes text))) (sym block_at)
-
-  pub block_counts : (first : ℕ) → first ≤ length lines
-      → record {
-        rejecting = count_by (λ (mark : LineMark). mark.rejects) (drop first marks);
-        waiting = count_by (λ (mark : LineMark). mark.waits) (drop first marks);
-        stale = count_by (λ (mark : LineMark). mark.tells_stale) (drop first marks);
-      } ≡ counts_in (drop first lines)
-  block_counts first few =
-      sym (counts_cut (drop first marks) (drop (bytes_in (take first marks)) text))
-      ∙ ap counts_in (sym (behind_cut first marks text (few_marks first few) whole)
-      ∙ ap (drop first) is)
 
 -- the bytes of one line
 pub one_bytes : (marks : List LineMark) (i : ℕ) (mark : LineMark) → i < length marks

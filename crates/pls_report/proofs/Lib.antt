@@ -1,3 +1,4 @@
+pub mod Counts
 pub mod Cut
 pub mod Lines
 pub mod LookTexts

@@ -4,7 +4,7 @@ use Rattle.pls_model.specs.declared.verdict.Verdict.{Verdict}
 use Rattle.pls_model.specs.Verdict.{verdict_text}
 use Rattle.pls_sim.specs.declared.outcome.Outcome.TheVariants.{Decided, Waiting}
 use Rattle.pls_report.specs.Look.{look_closing, look_line, look_text, rejecting_rows, stale_rows, told_ports, waiting_rows}
-use Rattle.pls_report.specs.inner.Pieces.{outcome_tail, spaced, stale_tail}
+use Rattle.pls_report.specs.inner.Pieces.{BeginsWith, outcome_tail, spaced, stale_tail}
 use Rattle.pls_report.proofs.Texts.{line_spaced, node_text, spaced_more}
 use Rattle.pls_sim.specs.declared.outcome.Outcome.{Outcome}
 use Rattle.pls_lines.specs.Text.{line_of, text_of}
@@ -45,7 +45,7 @@ none_seen id outcome =
     ∙ node_text id outcome
 
 -- the line of a node, piece by piece
-pub node_seen : (id : ℕ) (outcome : Outcome) (stale : List ℕ)
+node_seen : (id : ℕ) (outcome : Outcome) (stale : List ℕ)
     → (((codes "node " ++ decimal id) ++ outcome_tail outcome)
     ++ stale_tail (told_ports outcome stale)) ++ 10 ∷ []
     ≡ look_line (id, outcome, stale) ++ 10 ∷ []
@@ -57,12 +57,38 @@ node_seen id (Waiting ports) stale =
     ++ 10 ∷ [])
     (sym (append-nil (map decimal ports)))
 
+-- behind a text
+pub node_behind : (front : List ℕ) (id : ℕ) (outcome : Outcome) (stale : List ℕ)
+    → ((front ++ ((codes "node " ++ decimal id) ++ outcome_tail outcome))
+    ++ stale_tail (told_ports outcome stale)) ++ 10 ∷ []
+    ≡ front ++ (look_line (id, outcome, stale) ++ 10 ∷ [])
+node_behind front id outcome stale =
+    let node : List ℕ = (codes "node " ++ decimal id) ++ outcome_tail outcome in
+    let tail : List ℕ = stale_tail (told_ports outcome stale) in
+    ap (λ (text : List ℕ). text ++ 10 ∷ []) (append_assoc front node tail)
+    ∙ append_assoc front (node ++ tail) (10 ∷ [])
+    ∙ ap (λ (text : List ℕ). front ++ text) (node_seen id outcome stale)
+
 pub look_closing_text : (number : ℕ) (rows : List (ℕ × Outcome × List ℕ))
     → ((codes "look " ++ decimal number) ++ ((codes " rejecting " ++ decimal (rejecting_rows rows))
     ++ ((codes " waiting " ++ decimal (waiting_rows rows))
     ++ (codes " stale " ++ decimal (stale_rows rows))))) ++ codes "\n"
     ≡ look_closing number rows ++ 10 ∷ []
 look_closing_text number rows = refl
+
+-- what goes on from a text that goes on from another goes on from that one
+pub begins_later : (front middle text : List ℕ) → BeginsWith front middle
+    → BeginsWith middle text → BeginsWith front text
+begins_later front middle text first then = (
+  first.0 ++ then.0,
+  then.1
+      ∙ ap (λ (text : List ℕ). text ++ then.0) first.1
+      ∙ append_assoc front first.0 then.0,
+)
+
+-- a text goes on from itself
+pub begins_with_itself : (text : List ℕ) → BeginsWith text text
+begins_with_itself text = ([], sym (append-nil text))
 
 -- a look is the lines of its nodes, in two pieces, and its closing line
 pub look_pieces : (number : ℕ) (rows : List (ℕ × Outcome × List ℕ)) (front behind : List ℕ)

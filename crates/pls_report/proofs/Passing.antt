@@ -1,10 +1,9 @@
 -- The lines and the rows of a look while it passes over them.
-use Rattle.std.proofs.Common.{◌≡◌, ◌∙◌, ℕ, ◌+◌, ◌<◌, Bool, List, [], ◌∷◌, ◌++◌, map, take, drop, set, length, get_or, fold, cond, refl, sym, ap, arith, append_assoc}
+use Rattle.std.proofs.Common.{◌≡◌, ◌∙◌, ℕ, ◌+◌, ◌<◌, ◌≤◌, List, [], ◌∷◌, ◌++◌, map, take, drop, set, length, get_or, sym, ap, arith, append_assoc}
 use Rattle.std.proofs.lemmas.List.{drop-drop, drop_more, length-append, length-drop, length-take-le, set_at, take-append-drop}
-use Rattle.std.proofs.lemmas.List.Sums.{sum_by-append}
+use Rattle.std.proofs.Math.Seq.{map-set}
 use Rattle.pls_sim.specs.declared.outcome.Outcome.{Outcome}
-use Rattle.pls_report.specs.Look.{rejecting_rows, stale_rows, waiting_rows}
-use Rattle.pls_report.specs.inner.Lines.{ShownLine, counts_in, shown_line}
+use Rattle.pls_report.specs.inner.Lines.{ShownLine, shown_line}
 
 -- lines of which some stand in front, and the others behind those of another list
 module _ (front last : List ShownLine) (lines count : ℕ) where
@@ -19,7 +18,16 @@ module _ (front last : List ShownLine) (lines count : ℕ) where
       (sym (drop-drop count lines last))
       ∙ ap (λ (lines : List ShownLine). front ++ lines) (take-append-drop count rest)
 
-  -- and behind them another line in the place of the next one
+  -- the next one is among them
+  pub one_among : (d : ShownLine) → lines + count < length last
+      → front ++ rest
+      ≡ (front ++ take count rest) ++ get_or last (lines + count) d ∷ drop (lines + count + 1) last
+  one_among d within =
+      sym more_front
+      ∙ ap (λ (behind : List ShownLine). (front ++ take count rest) ++ behind)
+      (drop_more last (lines + count) d within)
+
+  -- another line is in its place
   pub one_replaced : (line : ShownLine) → lines + count < length last
       → ((front ++ take count rest) ++ line ∷ []) ++ drop (lines + count + 1) last
       ≡ set (front ++ rest) (length front + count) line
@@ -27,7 +35,8 @@ module _ (front last : List ShownLine) (lines count : ℕ) where
       append_assoc (front ++ take count rest) (line ∷ []) (drop (lines + count + 1) last)
       ∙ sym (set_at (front ++ take count rest) (get_or last (lines + count) line)
       (drop (lines + count + 1) last) line (length front + count) long)
-      ∙ ap (λ (lines : List ShownLine). set lines (length front + count) line) (sym whole)
+      ∙ ap (λ (lines : List ShownLine). set lines (length front + count) line)
+      (sym (one_among line within))
     where
       long : length (front ++ take count rest) ≡ length front + count
       long =
@@ -35,39 +44,24 @@ module _ (front last : List ShownLine) (lines count : ℕ) where
           ∙ ap (λ (n : ℕ). length front + n)
           (length-take-le count rest (omega (arith, within, length-drop lines last)))
 
-      whole : front ++ rest ≡ (front ++ take count rest)
-          ++ get_or last (lines + count) line ∷ drop (lines + count + 1) last
-      whole =
-          sym more_front
-          ∙ ap (λ (behind : List ShownLine). (front ++ take count rest) ++ behind)
-          (drop_more last (lines + count) line within)
+  -- there is a next one, where the place behind those that are put in front is one of the lines
+  pub next_within : (i : ℕ) (all : List ShownLine) → front ++ rest ≡ all → lines ≤ length last
+      → length front + count ≡ i → i < length all → lines + count < length last
+  next_within i all is few place within =
+      omega (
+        arith,
+        place,
+        within,
+        few,
+        ap (length {A = ShownLine}) is,
+        length-append front rest,
+        length-drop lines last,
+      )
 
--- what lines count as
-pub counts_both : (front behind : List ShownLine) → counts_in (front ++ behind) ≡ record {
-  rejecting = (counts_in front).rejecting + (counts_in behind).rejecting;
-  waiting = (counts_in front).waiting + (counts_in behind).waiting;
-  stale = (counts_in front).stale + (counts_in behind).stale;
-}
-counts_both front behind i = record {
-  rejecting = sum_by-append (λ (line : ShownLine). cond line.rejects 1 0) front behind i;
-  waiting = sum_by-append (λ (line : ShownLine). cond line.waits 1 0) front behind i;
-  stale = sum_by-append (λ (line : ShownLine). cond line.tells_stale 1 0) front behind i;
-}
-
-module _ {X Y : Type 0} (p : Y → Bool) (f : X → Y) where
-  count_map : (count : ℕ) (xs : List X)
-      → fold (λ count y. count + cond (p y) 1 0) count (map f xs)
-      ≡ fold (λ count x. count + cond (p (f x)) 1 0) count xs
-  count_map count [] = refl
-  count_map count (x ∷ xs) = count_map (count + cond (p (f x)) 1 0) xs
-
-pub shown_counts : (rows : List (ℕ × Outcome × List ℕ)) → counts_in (map shown_line rows) ≡ record {
-  rejecting = rejecting_rows rows;
-  waiting = waiting_rows rows;
-  stale = stale_rows rows;
-}
-shown_counts rows i = record {
-  rejecting = count_map (λ (line : ShownLine). line.rejects) shown_line 0 rows i;
-  waiting = count_map (λ (line : ShownLine). line.waits) shown_line 0 rows i;
-  stale = count_map (λ (line : ShownLine). line.tells_stale) shown_line 0 rows i;
-}
+-- the lines of rows of which one is replaced
+pub rows_replaced : (rows : List (ℕ × Outcome × List ℕ)) (row : ℕ × Outcome × List ℕ) (i : ℕ)
+    (lines others : List ShownLine) → lines ≡ map shown_line rows
+    → others ≡ set lines i (shown_line row) → others ≡ map shown_line (set rows i row)
+rows_replaced rows row i lines others are is =
+    is ∙ ap (λ (lines : List ShownLine). set lines i (shown_line row)) are
+    ∙ sym (map-set shown_line rows i row)

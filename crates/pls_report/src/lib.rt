@@ -13,6 +13,7 @@
 mod counting;
 mod decided;
 mod line_block;
+mod line_kind;
 mod look;
 mod look_counting;
 mod look_lines;

@@ -1,11 +1,10 @@
 //! Lines of nodes one behind another.
 
-ghost use Rattle.std.specs.Prelude.{◌≡◌, ◌+◌, ◌^◌, ◌<◌, ◌≤◌, ◌++◌, ◌∷◌, [], count_by, drop, length, take, IfOk, OnErr, OnOk};
-ghost use Rattle.pls_report.specs.inner.Lines.{IsPlace, bytes_in, counts_in, shown_line, text_in};
+ghost use Rattle.std.specs.Prelude.{◌≡◌, ◌+◌, ◌^◌, ◌<◌, ◌≤◌, ◌++◌, ◌∷◌, [], drop, length, slice_get, take, IfOk, OnErr, OnOk, Some};
+ghost use Rattle.pls_report.specs.inner.Lines.{IsPlace, ShownLine, bytes_in, shown_line, text_in};
 
-use crate::counting::{rejects, waits};
-use crate::look_counting::told_ports;
-use crate::node_line::node_line;
+use crate::line_kind::LineKind;
+use crate::node_line::add_line;
 use pls_base::NoMemory;
 use pls_sim::Outcome;
 use std::alloc::Global;
@@ -15,9 +14,7 @@ use std::marker::Model;
 #[derive(Clone, Copy, Debug)]
 pub(crate) struct LineMark {
     length: usize,
-    rejects: bool,
-    waits: bool,
-    tells_stale: bool,
+    kind: LineKind,
 }
 
 /// A place among lines: how many are in front of it, and how many bytes these have.
@@ -25,14 +22,6 @@ pub(crate) struct LineMark {
 pub(crate) struct LinePlace {
     pub(crate) lines: usize,
     pub(crate) bytes: usize,
-}
-
-/// How many nodes reject, how many wait, and how many have a line with stale ports.
-#[derive(Clone, Copy, Debug)]
-pub(crate) struct LookCounts {
-    pub(crate) rejecting: usize,
-    pub(crate) waiting: usize,
-    pub(crate) stale: usize,
 }
 
 /// Lines of nodes at a look, their texts one behind another, seen as their list.
@@ -74,7 +63,8 @@ impl LineBlock {
 
     /// How many lines there are.
     pub(crate) fn len(&self) -> usize
-        ensures { result ≡ length self.now }
+        ensures count { result ≡ length self.now }
+        ensures few { length self.now < 2 ^ 63 }
     {
         self.marks.len()
     }
@@ -87,18 +77,13 @@ impl LineBlock {
         &self.text[place.bytes..]
     }
 
-    /// What the lines behind the first ones count as.
-    pub(crate) fn counts_behind(&self, first: usize) -> LookCounts
-        requires { first ≤ length self.now }
-        ensures counts { result ≡ counts_in (drop first self.now) }
+    /// What the node of the line at a place counts as.
+    pub(crate) fn kind(&self, i: usize) -> LineKind
+        requires { i < length self.now }
+        ensures kind { (line : ShownLine) → slice_get self.now i ≡ Some line → result ≡ line.kind }
         ensures few { length self.now < 2 ^ 63 }
     {
-        let marks = &self.marks[first..];
-        LookCounts {
-            rejecting: rejecting_in(marks),
-            waiting: waiting_in(marks),
-            stale: stale_in(marks),
-        }
+        self.marks[i].kind
     }
 
     /// The place behind the line that stands at one.
@@ -114,27 +99,18 @@ impl LineBlock {
     }
 
     /// Adds the line of a node. The one error is want of memory: the lines are then as they were.
-    pub(crate) fn add(
-        &mut self,
-        alloc: Global,
-        id: u32,
-        outcome: &Outcome,
-        stale: &[u32],
-    ) -> Result<(), NoMemory>
+    pub(crate) fn add(&mut self, id: u32, outcome: &Outcome, stale: &[u32]) -> Result<(), NoMemory>
         ensures added { OnOk result
             (self.new ≡ self.old ++ shown_line (id, outcome.now, stale.now) ∷ []) }
         ensures unchanged { OnErr result (self.new ≡ self.old) }
     {
-        let line = node_line(alloc, id, outcome, stale)?;
-        let mark = LineMark {
-            length: line.len(),
-            rejects: rejects(outcome),
-            waits: waits(outcome),
-            tells_stale: !told_ports(outcome, stale).is_empty(),
-        };
         self.marks.reserve(1)?;
-        self.text.extend_from_slice(line.as_slice())?;
-        self.marks.push_reserved(mark);
+        let start = self.text.len();
+        add_line(&mut self.text, id, outcome, stale)?;
+        self.marks.push_reserved(LineMark {
+            length: self.text.len() - start,
+            kind: LineKind::of(outcome, stale),
+        });
         Ok(())
     }
 
@@ -165,27 +141,6 @@ impl LineBlock {
             bytes: place.bytes + bytes,
         })
     }
-}
-
-// How many lines are those of nodes that reject.
-fn rejecting_in(marks: &[LineMark]) -> usize
-    ensures { result ≡ count_by (λ mark. mark.rejects) marks.now }
-{
-    marks.iter().filter(|mark| mark.rejects).count()
-}
-
-// How many lines are those of nodes that wait.
-fn waiting_in(marks: &[LineMark]) -> usize
-    ensures { result ≡ count_by (λ mark. mark.waits) marks.now }
-{
-    marks.iter().filter(|mark| mark.waits).count()
-}
-
-// How many lines tell of stale ports.
-fn stale_in(marks: &[LineMark]) -> usize
-    ensures { result ≡ count_by (λ mark. mark.tells_stale) marks.now }
-{
-    marks.iter().filter(|mark| mark.tells_stale).count()
 }
 
 // How long lines are together.

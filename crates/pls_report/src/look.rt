@@ -1,4 +1,4 @@
-//! The text of a look, line by line.
+//! The text of a look: the lines of all nodes, and the line that closes it.
 
 ghost use Rattle.std.specs.Prelude.{ℕ, ◌≤◌, ◌-◌, ◌++◌, codes, decimal, length, MatchResult, OnErr, OnOk};
 ghost use Rattle.std.specs.Io.KnownBytes.{Appends};

@@ -3,7 +3,8 @@
 ghost use Rattle.std.specs.Prelude.{◌≡◌, ◌<◌, ◌≤◌, ◌+◌, ◌++◌, length, map, slice_set, IfOk, OnErr, OnOk};
 ghost use Rattle.pls_report.specs.inner.Lines.{counts_in, shown_line, text_in};
 
-use crate::line_block::{LineBlock, LinePlace, LookCounts};
+use crate::line_block::{LineBlock, LinePlace};
+use crate::line_kind::{LineKind, LookCounts};
 use crate::look_row::LookRow;
 use pls_base::NoMemory;
 use pls_sim::Outcome;
@@ -20,11 +21,13 @@ pub(crate) struct LookLines {
     last: LineBlock,
     // Where those begin in `last` that are not in front.
     rest: LinePlace,
+    // What all lines count as.
+    counts: LookCounts,
 }
 
 impl Model for LookLines {
-    ghost use Rattle.std.specs.Prelude.{◌++◌, drop, length};
-    ghost use Rattle.pls_report.specs.inner.Lines.{IsPlace, SettledLines};
+    ghost use Rattle.std.specs.Prelude.{◌≡◌, ◌++◌, drop, length};
+    ghost use Rattle.pls_report.specs.inner.Lines.{IsPlace, SettledLines, counts_in};
 
     ghost Value = { SettledLines };
 
@@ -33,7 +36,8 @@ impl Model for LookLines {
       settled = length lines.front;
     } };
 
-    ghost invariant = { λ lines. IsPlace lines.last lines.rest };
+    ghost invariant = { λ lines. IsPlace lines.last lines.rest
+        × lines.counts ≡ counts_in (lines.front ++ drop lines.rest.lines lines.last) };
 }
 
 impl LookLines {
@@ -43,12 +47,17 @@ impl LookLines {
         ensures settled { IfOk result (λ lines. lines.settled ≡ length rows.now) }
     {
         let mut front = LineBlock::new(alloc);
+        let mut counts = LookCounts::none();
         for row in rows {
-            front.add(alloc, row.id(), row.outcome(), row.stale())?;
+            front.add(row.id(), row.outcome(), row.stale())?;
+            counts.add(LineKind::of(row.outcome(), row.stale()));
         }
-        let last = LineBlock::new(alloc);
-        let rest = LinePlace { lines: 0, bytes: 0 };
-        Ok(LookLines { front, last, rest })
+        Ok(LookLines {
+            front,
+            last: LineBlock::new(alloc),
+            rest: LinePlace { lines: 0, bytes: 0 },
+            counts,
+        })
     }
 
     /// Settles no line any more. The one error is want of memory: the lines are then as they were.
@@ -69,7 +78,6 @@ impl LookLines {
     /// of memory: all lines are then as they were.
     pub(crate) fn replace(
         &mut self,
-        alloc: Global,
         i: usize,
         id: u32,
         outcome: &Outcome,
@@ -85,7 +93,9 @@ impl LookLines {
     {
         let count = i - self.front.len();
         self.rest = self.front.add_part(&self.last, self.rest, count)?;
-        self.front.add(alloc, id, outcome, stale)?;
+        self.front.add(id, outcome, stale)?;
+        self.counts.take_away(self.last.kind(self.rest.lines));
+        self.counts.add(LineKind::of(outcome, stale));
         self.rest = self.last.next(self.rest);
         Ok(())
     }
@@ -105,12 +115,6 @@ impl LookLines {
     pub(crate) fn counts(&self) -> LookCounts
         ensures { result ≡ counts_in self.now.all }
     {
-        let front = self.front.counts_behind(0);
-        let last = self.last.counts_behind(self.rest.lines);
-        LookCounts {
-            rejecting: front.rejecting + last.rejecting,
-            waiting: front.waiting + last.waiting,
-            stale: front.stale + last.stale,
-        }
+        self.counts
     }
 }

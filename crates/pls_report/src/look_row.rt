@@ -45,6 +45,13 @@ impl LookRow {
         &self.outcome
     }
 
+    /// What has become of the node, without the rest.
+    pub fn into_outcome(self) -> Outcome
+        ensures { result ≡ self.1 }
+    {
+        self.outcome
+    }
+
     /// The numbers of its ports whose label is not the neighbour's newest, in rising order.
     pub fn stale(&self) -> &[u32]
         ensures { result.now ≡ self.now.2 }

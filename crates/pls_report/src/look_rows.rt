@@ -5,7 +5,7 @@ ghost use Rattle.pls_lines.specs.Text.{text_of};
 ghost use Rattle.pls_sim.specs.declared.outcome.Outcome.{Outcome};
 ghost use Rattle.pls_report.specs.Look.{look_line, rejecting_rows, stale_rows, waiting_rows};
 
-use crate::line_block::LookCounts;
+use crate::line_kind::LookCounts;
 use crate::look_lines::LookLines;
 use crate::look_row::LookRow;
 use pls_base::NoMemory;
@@ -82,7 +82,7 @@ impl LookRows {
 
     /// Passes the next row, and puts another in its place. The one error is want of memory: nothing
     /// changes then.
-    pub fn replace(&mut self, alloc: Global, row: LookRow) -> Result<(), NoMemory>
+    pub fn replace(&mut self, row: LookRow) -> Result<(), NoMemory>
         requires { self.old.passed < length self.old.rows }
         ensures rows { OnOk result
             (self.new.rows ≡ slice_set self.old.rows self.old.passed row) }
@@ -90,8 +90,7 @@ impl LookRows {
         ensures unchanged { OnErr result (self.new ≡ self.old) }
     {
         let i = self.passed;
-        self.lines
-            .replace(alloc, i, row.id(), row.outcome(), row.stale())?;
+        self.lines.replace(i, row.id(), row.outcome(), row.stale())?;
         self.rows[i] = row;
         self.passed = i + 1;
         Ok(())
@@ -99,7 +98,7 @@ impl LookRows {
 
     /// Passes the next row, and shows other ports of its node as stale. The one error is want of
     /// memory: nothing changes then.
-    pub fn replace_stale(&mut self, alloc: Global, stale: PortNumbers) -> Result<(), NoMemory>
+    pub fn replace_stale(&mut self, stale: PortNumbers) -> Result<(), NoMemory>
         requires { self.old.passed < length self.old.rows }
         ensures rows { OnOk result ((id : ℕ) (outcome : Outcome) (before : List ℕ)
             → slice_get self.old.rows self.old.passed ≡ Some (id, outcome, before)
@@ -110,7 +109,7 @@ impl LookRows {
         let i = self.passed;
         let row = &mut self.rows[i];
         self.lines
-            .replace(alloc, i, row.id(), row.outcome(), stale.as_slice())?;
+            .replace(i, row.id(), row.outcome(), stale.as_slice())?;
         row.set_stale(stale);
         self.passed = i + 1;
         Ok(())

@@ -1,92 +1,107 @@
-//! The line of a node of a look, put together in memory.
+//! The line of a node of a look, put behind a text.
 
-ghost use Rattle.std.specs.Prelude.{◌≡◌, ◌++◌, ◌∷◌, [], codes, decimal, IfOk, OnOk};
+ghost use Rattle.std.specs.Prelude.{◌≡◌, ◌++◌, ◌∷◌, [], codes, decimal, OnErr, OnOk};
 ghost use Rattle.pls_report.specs.Look.{look_line};
-ghost use Rattle.pls_report.specs.inner.Pieces.{outcome_tail, spaced, stale_tail};
+ghost use Rattle.pls_report.specs.inner.Pieces.{BeginsWith, outcome_tail, spaced, stale_tail};
 
 use crate::decided::{line_in, number_at};
 use crate::look_counting::told_ports;
 use pls_base::NoMemory;
 use pls_model::Verdict;
 use pls_sim::Outcome;
-use smallvec::SmallVec;
-use std::alloc::Global;
 
-/// The bytes of a line. Most have room in the value, so that the lines of rows that lie side by
-/// side do too.
-pub(crate) type Line = SmallVec<u8, 40>;
-
-/// The line of a node with its line feed. The one error is want of memory.
-pub(crate) fn node_line(
-    alloc: Global,
+/// Adds the line of a node with its line feed. The one error is want of memory: the text is then as
+/// it was.
+pub(crate) fn add_line(
+    text: &mut Vec<u8>,
     id: u32,
     outcome: &Outcome,
     stale: &[u32],
-) -> Result<Line, NoMemory>
-    ensures { IfOk result
-        (λ line. line.items ≡ look_line (id, outcome.now, stale.now) ++ 10 ∷ []) }
+) -> Result<(), NoMemory>
+    ensures line { OnOk result
+        (text.new.items ≡ text.old.items ++ (look_line (id, outcome.now, stale.now) ++ 10 ∷ [])) }
+    ensures unchanged { OnErr result (text.new.items ≡ text.old.items) }
 {
-    let mut line = SmallVec::new(alloc);
-    add_outcome(&mut line, id, outcome)?;
-    add_stale(&mut line, told_ports(outcome, stale))?;
-    line.push(b'\n')?;
-    Ok(line)
+    let start = text.len();
+    let added = add_pieces(text, id, outcome, stale);
+    if added.is_err() {
+        text.truncate(start);
+    }
+    added
+}
+
+// Adds the pieces of the line of a node. The one error is want of memory: some of them may then have
+// been added.
+fn add_pieces(text: &mut Vec<u8>, id: u32, outcome: &Outcome, stale: &[u32]) -> Result<(), NoMemory>
+    ensures line { OnOk result
+        (text.new.items ≡ text.old.items ++ (look_line (id, outcome.now, stale.now) ++ 10 ∷ [])) }
+    ensures begins { BeginsWith text.old.items text.new.items }
+{
+    add_outcome(text, id, outcome)?;
+    add_stale(text, told_ports(outcome, stale))?;
+    text.push(b'\n')?;
+    Ok(())
 }
 
 // Adds the identity of a node, and what the line says of its outcome.
-fn add_outcome(line: &mut Line, id: u32, outcome: &Outcome) -> Result<(), NoMemory>
-    ensures { OnOk result (line.new.items
-        ≡ line.old.items ++ ((codes "node " ++ decimal id) ++ outcome_tail outcome.now)) }
+fn add_outcome(text: &mut Vec<u8>, id: u32, outcome: &Outcome) -> Result<(), NoMemory>
+    ensures text { OnOk result (text.new.items
+        ≡ text.old.items ++ ((codes "node " ++ decimal id) ++ outcome_tail outcome.now)) }
+    ensures begins { BeginsWith text.old.items text.new.items }
 {
     match outcome {
-        Outcome::Decided(verdict) => add_decided(line, id, *verdict),
+        Outcome::Decided(verdict) => add_decided(text, id, *verdict),
         Outcome::Waiting(ports) => {
-            line.extend_from_slice(b"node")?;
-            add_spaced(line, id)?;
-            add_listed(line, b" waiting", ports.as_slice())
+            text.extend_from_slice(b"node")?;
+            add_spaced(text, id)?;
+            add_listed(text, b" waiting", ports.as_slice())
         }
     }
 }
 
 // The same of a node that has decided. Its pieces are put together first, since it costs less to add
 // one than many.
-fn add_decided(line: &mut Line, id: u32, verdict: Verdict) -> Result<(), NoMemory>
-    ensures { OnOk result (line.new.items ≡ line.old.items
+fn add_decided(text: &mut Vec<u8>, id: u32, verdict: Verdict) -> Result<(), NoMemory>
+    ensures text { OnOk result (text.new.items ≡ text.old.items
         ++ ((codes "node " ++ decimal id) ++ outcome_tail (Outcome.Decided verdict))) }
+    ensures begins { BeginsWith text.old.items text.new.items }
 {
     let mut front = [0; 80];
     let count = line_in(&mut front, id, verdict);
-    line.extend_from_slice(&front[..count])?;
+    text.extend_from_slice(&front[..count])?;
     Ok(())
 }
 
 // Adds which ports are stale, where there is one.
-fn add_stale(line: &mut Line, ports: &[u32]) -> Result<(), NoMemory>
-    ensures { OnOk result (line.new.items ≡ line.old.items ++ stale_tail ports.now) }
+fn add_stale(text: &mut Vec<u8>, ports: &[u32]) -> Result<(), NoMemory>
+    ensures text { OnOk result (text.new.items ≡ text.old.items ++ stale_tail ports.now) }
+    ensures begins { BeginsWith text.old.items text.new.items }
 {
     if ports.is_empty() {
         return Ok(());
     }
-    add_listed(line, b" stale", ports)
+    add_listed(text, b" stale", ports)
 }
 
 // Adds a word and numbers, each behind a space.
-fn add_listed(line: &mut Line, word: &[u8], numbers: &[u32]) -> Result<(), NoMemory>
-    ensures { OnOk result (line.new.items ≡ line.old.items ++ (word.now ++ spaced numbers.now)) }
+fn add_listed(text: &mut Vec<u8>, word: &[u8], numbers: &[u32]) -> Result<(), NoMemory>
+    ensures text { OnOk result (text.new.items ≡ text.old.items ++ (word.now ++ spaced numbers.now)) }
+    ensures begins { BeginsWith text.old.items text.new.items }
 {
-    line.extend_from_slice(word)?;
+    text.extend_from_slice(word)?;
     for number in numbers {
-        add_spaced(line, *number)?;
+        add_spaced(text, *number)?;
     }
     Ok(())
 }
 
 // Adds a space and a number, as one piece.
-fn add_spaced(line: &mut Line, number: u32) -> Result<(), NoMemory>
-    ensures { OnOk result (line.new.items ≡ line.old.items ++ (codes " " ++ decimal number)) }
+fn add_spaced(text: &mut Vec<u8>, number: u32) -> Result<(), NoMemory>
+    ensures text { OnOk result (text.new.items ≡ text.old.items ++ (codes " " ++ decimal number)) }
+    ensures begins { BeginsWith text.old.items text.new.items }
 {
     let mut piece = [b' '; 21];
     let count = number_at(&mut piece, 1, number as u64);
-    line.extend_from_slice(&piece[..count])?;
+    text.extend_from_slice(&piece[..count])?;
     Ok(())
 }

@@ -18,4 +18,4 @@ pub mod Staying
 pub mod Noted
 pub mod Current
 pub mod Columns
-pub mod Listed
+pub mod Walked

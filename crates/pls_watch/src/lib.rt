@@ -14,6 +14,7 @@ mod changing;
 mod known_labels;
 mod lookout;
 mod looks;
+mod port_state;
 mod renewing;
 mod stock;
 mod turn;

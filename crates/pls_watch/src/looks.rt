@@ -1,17 +1,19 @@
 //! What has become of the nodes.
 
-ghost use Rattle.std.specs.Prelude.{◌≡◌, ◌≢◌, ◌<◌, ◌+◌, ℕ, [], true, length, slice_get, IfOk, IfSome, OnErr, Some};
+ghost use Rattle.std.specs.Prelude.{◌≡◌, ◌≢◌, ◌<◌, ◌+◌, ℕ, [], length, slice_get, IfOk, IfSome, OnErr, OnOk, Some};
 ghost use Rattle.pls_model.specs.declared.row.NodeRow.{NodeRow};
+ghost use Rattle.pls_model.specs.declared.row.Port.{Port};
 ghost use Rattle.pls_view.specs.Seen.{seen};
 ghost use Rattle.pls_scheme.specs.Judging.{RoseByAtMost};
 ghost use Rattle.pls_sim.specs.Schedule.{unheard};
 ghost use Rattle.pls_watch.specs.Labelled.{turns_of};
 ghost use Rattle.pls_watch.specs.Versions.{known, newest, plain_of};
 ghost use Rattle.pls_watch.specs.Watching.{look_of, outcome_in, stale_in, version_of_label};
-ghost use Rattle.pls_watch.specs.inner.Known.{AreKnown, IsKnown, IsTable};
+ghost use Rattle.pls_watch.specs.inner.Known.{AreKnown, IsKnown, IsPortState, IsTable};
 ghost use Rattle.pls_watch.specs.inner.Current.{look_row};
 
 use crate::known_labels::KnownLabels;
+use crate::port_state::PortState;
 use crate::versions::noughts;
 use crate::watch::Watch;
 use pls_base::{NoMemory, Steps};
@@ -43,7 +45,8 @@ impl<'n> Watch<'n> {
         ensures few_steps { RoseByAtMost 1 steps.old steps.new }
     {
         let mut table = noughts(alloc, self.net.len())?;
-        self.outcome_by(alloc, i, &mut table, checker, steps)
+        let row = self.look_at(alloc, i, &mut table, checker, steps)?;
+        Ok(row.into_outcome())
     }
 
     /// The rows of a look: what has become of each node, with its identity, and the numbers of its
@@ -80,15 +83,6 @@ impl<'n> Watch<'n> {
         Ok(PortNumbers::from_vec(numbers))
     }
 
-    /// Whether the stale ports of the node at place `i` are those of these numbers, in this order.
-    pub(crate) fn has_stale(&self, i: usize, ports: &[u32]) -> bool
-        requires { i < length self.now.network }
-        ensures { (row : NodeRow) → slice_get self.now.network i ≡ Some row → result ≡ true
-            → ports.now ≡ stale_in self.now row }
-    {
-        self.versions.has_stale(i, ports)
-    }
-
     /// What is shown of the node at place `i`. What the node knows is written into a table.
     pub(crate) fn look_at<K: Checker>(
         &self,
@@ -106,55 +100,75 @@ impl<'n> Watch<'n> {
             → shown ≡ look_row (K.judge checker.now) self.now row) }
         ensures few_steps { RoseByAtMost 1 steps.old steps.new }
     {
-        let stale = self.stale(alloc, i)?;
-        let outcome = self.outcome_by(alloc, i, table, checker, steps)?;
+        let (unheard, stale) = self.know(alloc, i, table)?;
+        let outcome = self.outcome_by(alloc, i, unheard, table.as_slice(), checker, steps)?;
         Ok(LookRow::new(self.net.node(i).0, outcome, stale))
     }
 
-    // The outcome of the node at place i. What the node knows is written into a table.
+    // The outcome of the node at place i, which has not heard at these ports.
     fn outcome_by<K: Checker>(
         &self,
         alloc: Global,
         i: usize,
-        table: &mut Vec<u32>,
+        silent: PortNumbers,
+        table: &[u32],
         checker: &K,
         steps: &mut Steps,
     ) -> Result<Outcome, NoMemory>
         requires place { i < length self.now.network }
-        requires table { IsTable self.now table.old.items }
-        ensures table { IsTable self.now table.new.items }
+        requires silent { (row : NodeRow) → slice_get self.now.network i ≡ Some row
+            → silent ≡ unheard self.now.network (plain_of (turns_of self.now.events)) row }
+        requires table { IsTable self.now table.now }
+        requires known { (row : NodeRow) → slice_get self.now.network i ≡ Some row
+            → IsKnown self.now i row table.now }
         ensures outcome { IfOk result (λ outcome. (row : NodeRow)
             → slice_get self.now.network i ≡ Some row
             → outcome ≡ outcome_in (K.judge checker.now) self.now row) }
         ensures few_steps { RoseByAtMost 1 steps.old steps.new }
     {
-        let numbers = self.versions.unheard(alloc, i)?;
-        if !numbers.is_empty() {
-            return Ok(Outcome::Waiting(PortNumbers::from_vec(numbers)));
+        if !silent.as_slice().is_empty() {
+            return Ok(Outcome::Waiting(silent));
         }
-        self.know(i, table);
-        let verdict = self.verdict(alloc, i, table.as_slice(), checker, steps)?;
+        let verdict = self.verdict(alloc, i, table, checker, steps)?;
         Ok(Outcome::Decided(verdict))
     }
 
     // Writes into a table the number of the own newest label of the node at place i, and at the
-    // places of its neighbours those of the labels that it holds.
-    fn know(&self, i: usize, table: &mut Vec<u32>)
+    // places of its neighbours those of the labels that it holds. Answers at which ports it has not
+    // heard, and which are stale.
+    fn know(
+        &self,
+        alloc: Global,
+        i: usize,
+        table: &mut Vec<u32>,
+    ) -> Result<(PortNumbers, PortNumbers), NoMemory>
         requires place { i < length self.now.network }
         requires table { IsTable self.now table.old.items }
         ensures table { IsTable self.now table.new.items }
-        ensures known { (row : NodeRow) → slice_get self.now.network i ≡ Some row
-            → IsKnown self.now i row table.new.items }
+        ensures known { OnOk result ((row : NodeRow) → slice_get self.now.network i ≡ Some row
+            → IsKnown self.now i row table.new.items) }
+        ensures unheard { IfOk result (λ ports. (row : NodeRow)
+            → slice_get self.now.network i ≡ Some row
+            → ports.0 ≡ unheard self.now.network (plain_of (turns_of self.now.events)) row) }
+        ensures stale { IfOk result (λ ports. (row : NodeRow)
+            → slice_get self.now.network i ≡ Some row → ports.1 ≡ stale_in self.now row) }
     {
+        let mut unheard = Vec::new(alloc);
+        let mut stale = Vec::new(alloc);
         for port in 0..self.net.ports(i).len() {
-            self.know_port(i, port, table);
+            match self.know_port(i, port, table) {
+                PortState::Unheard => unheard.push(port as u32)?,
+                PortState::Stale => stale.push(port as u32)?,
+                PortState::Fresh => {}
+            }
         }
         table[i] = self.versions.newest(i).1;
+        Ok((PortNumbers::from_vec(unheard), PortNumbers::from_vec(stale)))
     }
 
     // Writes the number of the label that the node at place i holds at a port, if it holds one, at
-    // the place of the neighbour.
-    fn know_port(&self, i: usize, port: usize, table: &mut Vec<u32>)
+    // the place of the neighbour, and answers what the node has heard there.
+    fn know_port(&self, i: usize, port: usize, table: &mut Vec<u32>) -> PortState
         requires place { i < length self.now.network }
         requires port { IfSome (slice_get self.now.network i) (λ row. port < length row.ports) }
         requires table { IsTable self.now table.old.items }
@@ -164,11 +178,15 @@ impl<'n> Watch<'n> {
         ensures known { (row : NodeRow) → slice_get self.now.network i ≡ Some row
             → AreKnown self.now.network (turns_of self.now.events) i row (port + 1)
             table.new.items }
+        ensures state { (row : NodeRow) (at : Port) → slice_get self.now.network i ≡ Some row
+            → slice_get row.ports port ≡ Some at
+            → IsPortState self.now.network (turns_of self.now.events) row.id at.nbr result }
     {
-        let Some((_, number)) = self.versions.held(i, port) else {
-            return;
+        let Some((version, number)) = self.versions.held(i, port) else {
+            return PortState::Unheard;
         };
         table[self.net.places(i)[port] as usize] = number;
+        PortState::of(version, self.versions.newest_beside(i, port))
     }
 
     // The verdict on what the node at place i knows, where it has heard at all ports.

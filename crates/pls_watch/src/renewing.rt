@@ -64,16 +64,16 @@ impl<'n> Watch<'n> {
         match changes[i] {
             Change::Nothing => shown.keep(),
             Change::Beside => {
-                if self.has_stale(i, shown.rows()[i].stale()) {
+                let stale = self.stale(alloc, i)?;
+                if stale.as_slice() == shown.rows()[i].stale() {
                     shown.keep();
                 } else {
-                    let stale = self.stale(alloc, i)?;
-                    shown.replace_stale(alloc, stale)?;
+                    shown.replace_stale(stale)?;
                 }
             }
             Change::Held | Change::Label => {
                 let row = self.look_at(alloc, i, table, checker, steps)?;
-                shown.replace(alloc, row)?;
+                shown.replace(row)?;
             }
         }
         Ok(())

@@ -6,7 +6,7 @@ ghost use Rattle.pls_model.specs.declared.limits.TheConstants.{MAX_LINES};
 ghost use Rattle.pls_model.specs.declared.row.NodeRow.{NodeRow};
 ghost use Rattle.pls_model.specs.declared.row.Port.{Port};
 ghost use Rattle.pls_sim.specs.Applying.{names_no_node, names_no_port};
-ghost use Rattle.pls_sim.specs.Schedule.{emits_of, unheard};
+ghost use Rattle.pls_sim.specs.Schedule.{emits_of};
 ghost use Rattle.pls_sim.specs.inner.Kept.{NamesEmit};
 ghost use Rattle.pls_watch.specs.Versions.{held, is_fresh, newest, plain_of, stale};
 ghost use Rattle.pls_watch.specs.Turning.{turn_refusal, turning};
@@ -247,8 +247,8 @@ impl<'n> Versions<'n> {
         }
     }
 
-    // The newest version of the label of the neighbour at a port.
-    fn newest_beside(&self, i: usize, port: usize) -> u32
+    /// The newest version of the label of the neighbour at a port.
+    pub(crate) fn newest_beside(&self, i: usize, port: usize) -> u32
         requires place { i < length self.now.network }
         requires port { IfSome (slice_get self.now.network i) (λ row. port < length row.ports) }
         ensures { (row : NodeRow) (at : Port) → slice_get self.now.network i ≡ Some row
@@ -275,42 +275,6 @@ impl<'n> Versions<'n> {
             numbers.push(port as u32)?;
         }
         Ok(numbers)
-    }
-
-    /// Whether the stale ports of the node at place `i` are those of these numbers, in this order.
-    pub(crate) fn has_stale(&self, i: usize, ports: &[u32]) -> bool
-        requires { i < length self.now.network }
-        ensures same { result ≡ true → (row : NodeRow) → slice_get self.now.network i ≡ Some row
-            → ports.now ≡ stale self.now.network self.now.turns row }
-        ensures others { result ≡ false → (row : NodeRow)
-            → slice_get self.now.network i ≡ Some row
-            → ports.now ≢ stale self.now.network self.now.turns row }
-    {
-        let mut count = 0;
-        for port in 0..self.net.ports(i).len() {
-            if self.is_fresh(i, port) {
-                continue;
-            }
-            if count >= ports.len() || ports[count] != port as u32 {
-                return false;
-            }
-            count += 1;
-        }
-        count == ports.len()
-    }
-
-    /// The numbers of the ports at which the node at place `i` has not heard since its last
-    /// restart, in rising order. The one error is want of memory, which does not come where there
-    /// is no such port.
-    pub(crate) fn unheard(&self, alloc: Global, i: usize) -> Result<Vec<u32>, NoMemory>
-        requires { i < length self.now.network }
-        ensures ports { IfOk result (λ numbers. (row : NodeRow)
-            → slice_get self.now.network i ≡ Some row
-            → numbers.items ≡ unheard self.now.network (plain_of self.now.turns) row) }
-        ensures no_memory { OnErr result ((row : NodeRow) → slice_get self.now.network i ≡ Some row
-            → unheard self.now.network (plain_of self.now.turns) row ≢ []) }
-    {
-        self.sim.unheard(alloc, i)
     }
 
     /// The number of a version of the label of the node at place `i`, in as many steps as there are

@@ -1,27 +1,32 @@
 -- The lines of nodes at a look, with what is counted of each.
-use Rattle.std.specs.Prelude.{◌≡◌, ℕ, ◌≤◌, ◌==◌, Bool, not, List, [], ◌∷◌, ◌++◌, take, drop, length, count_by, sum_by}
+use Rattle.std.specs.Prelude.{◌≡◌, ℕ, ◌+◌, ◌≤◌, ◌<◌, ◌^◌, ◌==◌, cond, not, List, [], ◌∷◌, ◌++◌, take, drop, length, count_by, sum_by}
 use Rattle.std.specs.List.{flat_map}
 use Rattle.pls_sim.specs.declared.outcome.Outcome.{Outcome}
 use Rattle.pls_report.specs.Look.{look_line, told_ports}
 use Rattle.pls_report.specs.Report.{is_rejecting, is_waiting}
 use Rattle.pls_report.specs.declared.line_block.LineMark.{LineMark}
 use Rattle.pls_report.specs.declared.line_block.LinePlace.{LinePlace}
-use Rattle.pls_report.specs.declared.line_block.LookCounts.{LookCounts}
+use Rattle.pls_report.specs.declared.line_kind.LineKind.{LineKind}
+use Rattle.pls_report.specs.declared.line_kind.LookCounts.{LookCounts}
 
 -- the line of a node with its line feed, and what its node counts as
 pub record ShownLine : Type 0 where
   pub text : List ℕ
-  pub rejects : Bool
-  pub waits : Bool
-  pub tells_stale : Bool
+  pub kind : LineKind
+
+-- what a node counts as, of its outcome and its stale ports
+abbrev pub shown_kind : Outcome → List ℕ → LineKind
+shown_kind outcome stale = record {
+  rejects = is_rejecting outcome;
+  waits = is_waiting outcome;
+  tells_stale = not (length (told_ports outcome stale) == 0);
+}
 
 -- the line of a node
 abbrev pub shown_line : ℕ × Outcome × List ℕ → ShownLine
 shown_line row = record {
   text = look_line row ++ 10 ∷ [];
-  rejects = is_rejecting row.1;
-  waits = is_waiting row.1;
-  tells_stale = not (length (told_ports row.1 row.2) == 0);
+  kind = shown_kind row.1 row.2;
 }
 
 -- the text of lines
@@ -31,10 +36,28 @@ text_in lines = flat_map (λ line. line.text) lines
 -- how many of the lines are those of nodes that reject, that wait, and that tell of stale ports
 abbrev pub counts_in : List ShownLine → LookCounts
 counts_in lines = record {
-  rejecting = count_by (λ line. line.rejects) lines;
-  waiting = count_by (λ line. line.waits) lines;
-  stale = count_by (λ line. line.tells_stale) lines;
+  rejecting = count_by (λ line. line.kind.rejects) lines;
+  waiting = count_by (λ line. line.kind.waits) lines;
+  stale = count_by (λ line. line.kind.tells_stale) lines;
 }
+
+-- what lines count as, where there is one more of a kind
+abbrev pub with_line : LineKind → LookCounts → LookCounts
+with_line kind counts = record {
+  rejecting = counts.rejecting + cond kind.rejects 1 0;
+  waiting = counts.waiting + cond kind.waits 1 0;
+  stale = counts.stale + cond kind.tells_stale 1 0;
+}
+
+-- a line of a kind is among those that were counted
+abbrev pub HasLine : LineKind → LookCounts → Type 0
+HasLine kind counts = (others : LookCounts) × (counts ≡ with_line kind others)
+
+-- one line more can be counted
+pub record HasRoomForOne (counts : LookCounts) : Type 0 where
+  pub rejecting : counts.rejecting + 1 < 2 ^ 64
+  pub waiting : counts.waiting + 1 < 2 ^ 64
+  pub stale : counts.stale + 1 < 2 ^ 64
 
 -- how long lines are together
 abbrev pub bytes_in : List LineMark → ℕ
@@ -45,9 +68,7 @@ abbrev pub cut : List LineMark → List ℕ → List ShownLine
 cut [] text = []
 cut (mark ∷ marks) text = record {
   text = take mark.length text;
-  rejects = mark.rejects;
-  waits = mark.waits;
-  tells_stale = mark.tells_stale;
+  kind = mark.kind;
 } ∷ cut marks (drop mark.length text)
 
 -- a place behind so many of the lines, which have so many bytes

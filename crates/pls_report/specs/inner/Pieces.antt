@@ -1,5 +1,5 @@
 -- The pieces that lines of a report are made of.
-use Rattle.std.specs.Prelude.{ℕ, codes, Bool, true, false, List, [], ◌∷◌, ◌++◌, decimal}
+use Rattle.std.specs.Prelude.{◌≡◌, ℕ, codes, Bool, true, false, List, [], ◌∷◌, ◌++◌, decimal}
 use Rattle.std.specs.List.{flat_map}
 use Rattle.pls_model.specs.Verdict.{verdict_text}
 use Rattle.pls_sim.specs.declared.outcome.Outcome.{Outcome}
@@ -28,3 +28,7 @@ waiting_tail false count = []
 abbrev pub connected_tail : Bool → List ℕ
 connected_tail true = codes " connected yes rejecting "
 connected_tail false = codes " connected no rejecting "
+
+-- the text goes on from another
+abbrev pub BeginsWith : List ℕ → List ℕ → Type 0
+BeginsWith front text = (more : List ℕ) × (text ≡ front ++ more)

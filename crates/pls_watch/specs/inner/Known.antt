@@ -1,11 +1,14 @@
 -- What a node knows of the labels: its own newest one, and those that it holds of its neighbours.
-use Rattle.std.specs.Prelude.{◌≡◌, ℕ, ◌+◌, ◌<◌, All, Bool, List, [], map, length, slice_get, slice_index_or, Some}
+use Rattle.std.specs.Prelude.{◌≡◌, ℕ, ◌+◌, ◌<◌, All, Bool, true, false, List, [], map, length, slice_get, slice_index_or, Some}
 use Rattle.pls_model.specs.declared.row.Port.{Port}
 use Rattle.pls_model.specs.declared.row.NodeRow.{NodeRow}
 use Rattle.pls_graph.specs.Places.{beside}
+use Rattle.pls_sim.specs.Schedule.{has_heard}
+use Rattle.pls_watch.specs.declared.port_state.PortState.{PortState}
+use Rattle.pls_watch.specs.declared.port_state.PortState.TheVariants.{Unheard, Stale, Fresh}
 use Rattle.pls_watch.specs.declared.turn.Turn.{Turn}
 use Rattle.pls_watch.specs.Labelled.{turns_of}
-use Rattle.pls_watch.specs.Versions.{held, newest}
+use Rattle.pls_watch.specs.Versions.{held, is_fresh, newest, plain_of}
 use Rattle.pls_watch.specs.Watching.{Watched}
 use Rattle.pls_watch.specs.inner.Numbers.{IsLabel}
 
@@ -32,3 +35,21 @@ pub record IsKnown (watched : Watched) (place : ℕ) (row : NodeRow) (numbers : 
       (newest (turns_of watched.events) row.id) (slice_index_or numbers place 0)
   pub others : AreKnown watched.network (turns_of watched.events) place row (length row.ports)
       numbers
+
+-- something was heard
+abbrev pub is_heard : PortState → Bool
+is_heard Unheard = false
+is_heard Stale = true
+is_heard Fresh = true
+
+-- what was heard, if anything was, is the newest
+abbrev pub is_newest : PortState → Bool
+is_newest Unheard = true
+is_newest Stale = false
+is_newest Fresh = true
+
+-- what a node has heard from a neighbour
+pub record IsPortState (rows : List NodeRow) (turns : List Turn) (node neighbour : ℕ)
+    (state : PortState) : Type 0 where
+  pub heard : has_heard rows (plain_of turns) node neighbour ≡ is_heard state
+  pub fresh : is_fresh rows turns node neighbour ≡ is_newest state

@@ -8,15 +8,15 @@ pub loop-number-preserved : goal.loop-number-preserved
 loop-number-preserved c =
     let numbers = c.args.numbers.now in
     let i : ℕ = c.loop-number.number-index in
-    c.in_ok-add_spaced.ensures
+    c.in_ok-add_spaced.ensures.text
     ∙ ap (λ (line : List ℕ). line ++ (codes " " ++ decimal (get_or numbers i 0)))
     c.loop-number.invariant
-    ∙ listed_more c.args.line.now.items c.args.word.now numbers i 0 c.loop-number-test.true
+    ∙ listed_more c.args.text.now.items c.args.word.now numbers i 0 c.loop-number-test.true
 
-pub returns : goal.returns
-returns c =
+pub returns-clause-text : goal.returns-clause-text
+returns-clause-text c =
     let numbers = c.args.numbers.now in
     let i : ℕ = c.loop-number.number-index in
     c.loop-number.invariant
-    ∙ ap (λ (front : List ℕ). c.args.line.now.items ++ (c.args.word.now ++ spaced front))
+    ∙ ap (λ (front : List ℕ). c.args.text.now.items ++ (c.args.word.now ++ spaced front))
     (take_all i numbers c.loop-number-test.false)

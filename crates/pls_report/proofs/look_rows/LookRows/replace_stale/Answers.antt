@@ -1,9 +1,9 @@
-use Rattle.std.proofs.Common.{◌≡◌, ◌<◌, ◌∙◌, ℕ, List, Some, ap, arith, length, map, set, slice_get, sym}
-use Rattle.std.proofs.Math.Seq.{map-set}
+use Rattle.std.proofs.Common.{◌≡◌, ◌<◌, ◌∙◌, ℕ, List, Some, ap, arith, length, set, slice_get, sym}
 use Rattle.std.proofs.lemmas.List.{length-set}
 use Rattle.std.proofs.lemmas.Option.{same_Some, slice_get-get_or}
 use Rattle.pls_sim.specs.declared.outcome.Outcome.{Outcome}
 use Rattle.pls_report.specs.inner.Lines.{shown_line}
+use Rattle.pls_report.proofs.Passing.{rows_replaced}
 use Rattle.pls_report.proofs.look_rows.LookRows.replace_stale.Goals as goal
 
 pub invariant_of-self-2 : goal.invariant_of-self-2
@@ -14,11 +14,11 @@ invariant_of-self-2 c =
     let row = c.set_stale.new.self in
     let many : length rows ≡ length c.args.self.now.rows = λ k. length (c.self.view_is k).rows in
     let passed : i ≡ c.args.self.now.passed = λ k. (c.self.view_is k).passed in (
-      c.in_ok-replace.ensures.all
-          ∙ (λ k. set (c.self.invariant.0 k) i
+      rows_replaced rows row i inside.lines.all c.replace.new.self.all c.self.invariant.0
+          (c.in_ok-replace.ensures.all
+          ∙ (λ k. set inside.lines.all i
           (shown_line (c.id.ensures k, c.outcome.ensures k, c.as_slice.ensures.numbers k)))
-          ∙ (λ k. set (map shown_line rows) i (shown_line (sym c.set_stale.ensures k)))
-          ∙ sym (map-set shown_line rows i row),
+          ∙ (λ k. set inside.lines.all i (shown_line (sym c.set_stale.ensures k)))),
       omega (arith, c.in_ok-replace.ensures.settled),
       omega (arith, c.requires, many, passed, length-set rows i row),
     )

@@ -1,4 +1,5 @@
-use Rattle.std.proofs.Common.{◌≡◌, ◌∙◌, ℕ, ◌+◌, List, length, option_map, get_or, set, slice_get, sym, ap, subst, arith}
+use Rattle.std.proofs.Common.{◌≡◌, ◌∙◌, ◌==◌, ℕ, ◌+◌, true, List, length, Option, is_some, option_map, get_or, set, slice_get, sym, ap, subst, arith}
+use Rattle.std.specs.Option.{option_map_or}
 use Rattle.std.proofs.lemmas.Option.{same_Some, slice_get_within}
 use Rattle.pls_model.specs.declared.row.NodeRow.{NodeRow}
 use Rattle.pls_graph.specs.Places.{beside}
@@ -6,7 +7,9 @@ use Rattle.pls_sim.proofs.Ends.{beside_length}
 use Rattle.pls_watch.specs.Labelled.{turns_of}
 use Rattle.pls_watch.specs.inner.Known.{AreKnown}
 use Rattle.pls_watch.proofs.Arrived.{port_there}
-use Rattle.pls_watch.proofs.Stocked.{few_seen, held_seen, is_label_seen, network_seen, stands_seen, valid_seen}
+use Rattle.pls_watch.specs.Versions.{newest}
+use Rattle.pls_watch.proofs.More.{heard_held}
+use Rattle.pls_watch.proofs.Stocked.{few_seen, held_seen, is_label_seen, network_seen, newest_seen, stands_seen, valid_seen}
 use Rattle.pls_watch.proofs.Table.{known_none, known_one, table_set}
 use Rattle.pls_watch.proofs.watch.Watch.know_port.Goals as goal
 
@@ -53,11 +56,11 @@ returns-clause-table c =
     let here = stands_seen old.versions old.labels old.relabels old.bits old.net.now old.given
     old.given_bits c.self.invariant now c.self.view_is c.args.i there.0 there.2 in
     table_set now c.args.table.now.items (get_or c.places.result.now c.args.port 0) c.in-Some.number
-    there.1.nbr c.in-Some.field-0-0 c.requires.table
+    there.1.nbr c.in-Some.version c.requires.table
     (few_seen old.versions old.labels old.relabels old.bits old.net.now old.given old.given_bits
     c.self.invariant now c.self.view_is)
     (is_label_seen old.versions old.labels old.relabels old.bits old.net.now old.given
-    old.given_bits c.self.invariant now c.self.view_is there.1.nbr c.in-Some.field-0-0
+    old.given_bits c.self.invariant now c.self.view_is there.1.nbr c.in-Some.version
     c.in-Some.number
     (c.in-Some.ensures.label there.0 there.1 here there.3))
 
@@ -85,8 +88,50 @@ returns-clause-known c = λ row stands.
     (known_one now.network (valid_seen old.versions old.labels old.relabels old.bits old.net.now
     old.given old.given_bits c.self.invariant now c.self.view_is) (turns_of now.events)
     c.args.i row stands c.args.table.now.items c.requires.table.long c.args.port there.1 has
-    (c.requires.known row stands) c.in-Some.number c.in-Some.field-0-0 held_is
+    (c.requires.known row stands) c.in-Some.number c.in-Some.version held_is
     (is_label_seen old.versions old.labels old.relabels old.bits old.net.now old.given
-    old.given_bits c.self.invariant now c.self.view_is there.1.nbr c.in-Some.field-0-0
+    old.given_bits c.self.invariant now c.self.view_is there.1.nbr c.in-Some.version
     c.in-Some.number
     (c.in-Some.ensures.label row there.1 here has)))
+
+pub returns-in_default-clause-state : goal.returns-in_default-clause-state
+returns-in_default-clause-state c = λ row at stands has.
+    let old = c.self.inside in
+    let now = c.args.self.now in
+    let turns = turns_of now.events in
+    let here = stands_seen old.versions old.labels old.relabels old.bits old.net.now old.given
+    old.given_bits c.self.invariant now c.self.view_is c.args.i row stands in
+    let none = sym (held_seen old.versions old.labels old.relabels old.bits old.net.now old.given
+    old.given_bits c.self.invariant now c.self.view_is row.id at.nbr)
+    ∙ sym (c.held.ensures.version row at here has)
+    ∙ ap (option_map (λ (label : ℕ × ℕ). label.0)) c.in_default.is in
+    record {
+      heard = heard_held now.network turns row.id at.nbr ∙ ap is_some none;
+      fresh =
+          ap (λ (o : Option ℕ). option_map_or (λ version. version == newest turns at.nbr) o true)
+          none;
+    }
+
+pub returns-clause-state : goal.returns-clause-state
+returns-clause-state c = λ row at stands has.
+    let old = c.self.inside in
+    let now = c.args.self.now in
+    let turns = turns_of now.events in
+    let here = stands_seen old.versions old.labels old.relabels old.bits old.net.now old.given
+    old.given_bits c.self.invariant now c.self.view_is c.args.i row stands in
+    let some = sym (held_seen old.versions old.labels old.relabels old.bits old.net.now old.given
+    old.given_bits c.self.invariant now c.self.view_is row.id at.nbr)
+    ∙ sym (c.held.ensures.version row at here has)
+    ∙ ap (option_map (λ (label : ℕ × ℕ). label.0)) c.in-Some.is in
+    let latest : c.newest_beside.result ≡ newest turns at.nbr =
+    c.newest_beside.ensures row at here has
+    ∙ newest_seen old.versions old.labels old.relabels old.bits old.net.now old.given
+    old.given_bits c.self.invariant now c.self.view_is at.nbr in
+    record {
+      heard = heard_held now.network turns row.id at.nbr ∙ ap is_some some ∙ sym c.of.ensures.heard;
+      fresh =
+          ap (λ (o : Option ℕ). option_map_or (λ version. version == newest turns at.nbr) o true)
+          some
+          ∙ ap (λ (n : ℕ). c.in-Some.version == n) (sym latest)
+          ∙ sym c.of.ensures.newest;
+    }

@@ -1,7 +1,8 @@
 use Rattle.std.proofs.Common.{◌≡◌, ◌<◌, ◌∙◌, Some, ap, arith, get_or, length, slice_get, sym}
 use Rattle.std.proofs.lemmas.Option.{slice_get-get_or}
+use Rattle.std.proofs.lemmas.Slice.Eq.{bytes_eq-Decides}
 use Rattle.pls_watch.specs.declared.change.Change.TheVariants.{Nothing, Beside}
-use Rattle.pls_watch.proofs.Current.{renewed_set, renewed_stale}
+use Rattle.pls_watch.proofs.Current.{renewed_as_shown, renewed_set, renewed_stale}
 use Rattle.pls_watch.proofs.watch.Watch.renew.Goals as goal
 
 pub returns-in_ok-replace_stale-in-Beside-clause-renewed :
@@ -32,4 +33,28 @@ returns-in_ok-replace-in-Held-clause-renewed g c =
     (renewed_set judge c.args.self.now place old row
     (omega (arith, c.requires.place, c.requires.current.all))
     (λ other stands. c.in_ok-row-in-Held.ensures.shows other
+    ((λ k. slice_get c.args.self.now.network (c.passed-i.ensures k)) ∙ stands)))
+
+pub returns-then-eq-clause-renewed : goal.returns-then-eq-clause-renewed
+returns-then-eq-clause-renewed g c =
+    let judge = g.K.Checker.judge c.args.checker.now in
+    let changes = c.args.changes.now in
+    let old = c.args.shown.now.rows in
+    let place = c.args.shown.now.passed in
+    let current = c.requires.current in
+    let within : place < length changes = omega (arith, c.requires.place, current.each) in
+    let is : slice_get changes place ≡ Some Beside =
+    slice_get-get_or changes place Nothing within
+    ∙ (λ k. Some (get_or changes (sym c.passed-i.ensures k) Nothing)) ∙ ap Some c.in-Beside.is in
+    let shown = c.index-rows-i.result in
+    let same : c.as_slice.result.now ≡ c.stale-in-Beside-2.result.now =
+    (bytes_eq-Decides c.as_slice.result.now c.stale-in-Beside-2.result.now).0
+    (sym c.eq.ensures ∙ c.if-eq.true) in
+    rw c.keep-then-eq.ensures.rows
+    (renewed_as_shown judge c.args.self.now changes place old current shown
+    (omega (arith, c.requires.place, current.all)) is
+    (c.index-rows-i.is
+    ∙ (λ k. get_or (c.rows.ensures k) (c.passed-i.ensures k) c.index-rows-i.result))
+    (λ row stands. sym c.stale-in-Beside-2.ensures ∙ sym same ∙ c.as_slice.ensures.numbers
+    ∙ c.in_ok-stale-in-Beside.ensures.ports row
     ((λ k. slice_get c.args.self.now.network (c.passed-i.ensures k)) ∙ stands)))
