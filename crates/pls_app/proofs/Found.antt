@@ -16,7 +16,7 @@ use Rattle.pls_app.specs.Meant.{Holds, judge_in}
 use Rattle.pls_base.specs.declared.text_error.TextError.{TextError}
 use Rattle.pls_base.specs.declared.text_error.TextError.TheVariants.{Sense}
 use Rattle.pls_base.specs.declared.refusal_number.TheConstants.{EDIT}
-use Rattle.pls_app.specs.Inapplicable.{first_refused, inapplicable}
+use Rattle.pls_app.specs.EditsRefusal.{first_refused_edit, edits_refusal}
 use Rattle.pls_app.specs.Said.{Answer}
 use Rattle.pls_app.specs.Answer.{refusal, rounds_answer}
 use Rattle.pls_app.specs.Reports.{Report, ReportInput, Situation, first_situation, checked_in, edited_by, ends_well}
@@ -116,12 +116,12 @@ played_input judge one other input start mid now none first reports edits old as
 pub refused_lines : (input : Input) (rows : List NodeRow) (labels : List (List Bool))
     (edits : List EditLine) (line : ℕ) (found : Option ℕ) → rows ≡ (rows_in input)
     → labels ≡ (labels_in input) → edits ≡ (edits_in input)
-    → ((line : ℕ) → first_refused rows labels line edits ≡ option_map (λ place. line + place) found)
-    → inapplicable (rows_in input) (labels_in input) line (edits_in input)
+    → ((line : ℕ) → first_refused_edit rows labels line edits ≡ option_map (λ place. line + place) found)
+    → edits_refusal (rows_in input) (labels_in input) line (edits_in input)
     ≡ option_map (λ place. Sense EDIT (line + place)) found
 refused_lines input rows labels edits line found same_rows same_labels same_edits each =
     ap (option_map (λ line. Sense EDIT line))
-    ((λ i. first_refused (sym same_rows i) (sym same_labels i) line (sym same_edits i)) ∙ each line)
+    ((λ i. first_refused_edit (sym same_rows i) (sym same_labels i) line (sym same_edits i)) ∙ each line)
     ∙ by found
   where
     by : (found : Option ℕ)

@@ -149,17 +149,6 @@ module _ (scheme : Expression) (bytes : List ℕ) (input : Input)
       (subst (IsInput parts_with_labels
       (network_text crossed ++ net_labels_text code crossed labels)) same whole)
 
-  leaderless : HasOneLeader rows → (places : List ℕ) × LacksAt (Of Leader) crossed places
-  leaderless one =
-      let none : IsLeaderlessIn crossed =
-      no_leader rows known.network labels order of i j pair one in (
-        none.places,
-        record { component = none.component; lacks = λ has. zero_not_one _ none.none has },
-      )
-    where
-      zero_not_one : (count : ℕ) → count ≡ 0 → count ≡ 1 → ⊥
-      zero_not_one count none one = absurd (omega arith)
-
   pub splits : Splits scheme bytes (network_text crossed ++ net_labels_text code rows labels)
   splits = record {
     input = input;
@@ -175,7 +164,7 @@ module _ (scheme : Expression) (bytes : List ℕ) (input : Input)
       j - i,
       two_parts rows known.network labels order of i j pair,
     );
-    leaderless = leaderless;
+    leaderless = no_leader rows known.network labels order of i j pair;
   }
 
 -- what `splice` answers with `Done`

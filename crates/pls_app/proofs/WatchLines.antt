@@ -18,7 +18,7 @@ use Rattle.pls_watch_part.specs.declared.watch_event.WatchLine.TheVariants.{Even
 use Rattle.pls_watch.specs.Labelled.{bits_given, labels_given}
 use Rattle.pls_watch.specs.Watching.{Watched, look_of}
 use Rattle.pls_app.specs.Looks.{look_after, looks_behind, looks_text}
-use Rattle.pls_app.specs.Unwatched.{event_of, events_of, first_unwatched, line_names_nothing}
+use Rattle.pls_app.specs.WatchRefusal.{event_of, events_of, first_refused_line, line_does_not_apply}
 use Rattle.pls_app.specs.inner.Watching.{AreShown, shown_at}
 use Rattle.pls_app.specs.declared.watch.LooksSoFar.{LooksSoFar}
 
@@ -102,13 +102,13 @@ few_looks shown before (Look ∷ lines) = omega (arith, few_looks shown before l
 module _ (rows : List NodeRow) (before : List WatchEvent) (lines : List WatchLine)
     (place number : ℕ) (d : WatchLine) (within : place < length lines) where
   -- the first line whose event does not apply is the next, or one behind it
-  pub unwatched_here : line_names_nothing rows before (get_or lines place d) ≡ true
-      → first_unwatched rows before (number + place) (drop place lines) ≡ Some (number + place)
+  pub unwatched_here : line_does_not_apply rows before (get_or lines place d) ≡ true
+      → first_refused_line rows before (number + place) (drop place lines) ≡ Some (number + place)
   unwatched_here bad = rw (drop-cons lines place d within, bad) refl
 
-  pub unwatched_later : line_names_nothing rows before (get_or lines place d) ≡ false
-      → first_unwatched rows before (number + place) (drop place lines)
-      ≡ first_unwatched rows (before ++ event_of (get_or lines place d)) (number + (place + 1))
+  pub unwatched_later : line_does_not_apply rows before (get_or lines place d) ≡ false
+      → first_refused_line rows before (number + place) (drop place lines)
+      ≡ first_refused_line rows (before ++ event_of (get_or lines place d)) (number + (place + 1))
       (drop (place + 1) lines)
   unwatched_later fits =
       let next : number + place + 1 ≡ number + (place + 1) = omega arith in
@@ -117,7 +117,7 @@ module _ (rows : List NodeRow) (before : List WatchEvent) (lines : List WatchLin
 -- behind all lines there is none
 pub unwatched_none : (rows : List NodeRow) (before : List WatchEvent) (lines : List WatchLine)
     (place number : ℕ) → length lines ≤ place
-    → first_unwatched rows before number (drop place lines) ≡ None
+    → first_refused_line rows before number (drop place lines) ≡ None
 unwatched_none rows before lines place number past = rw (drop_all place lines past) refl
 
 -- one line more asks for what it asks for behind the events before it

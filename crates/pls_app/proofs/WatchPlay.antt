@@ -11,7 +11,7 @@ use Rattle.pls_watch_part.specs.declared.watch_event.WatchLine.{WatchLine}
 use Rattle.pls_watch_part.specs.declared.watch_event.WatchLine.TheVariants.{Event, Look}
 use Rattle.pls_watch.specs.Watching.{Watched}
 use Rattle.pls_app.specs.Looks.{look_after, looks_behind}
-use Rattle.pls_app.specs.Unwatched.{event_of, events_of, first_unwatched, line_names_nothing}
+use Rattle.pls_app.specs.WatchRefusal.{event_of, events_of, first_refused_line, line_does_not_apply}
 use Rattle.pls_app.specs.inner.Watching.{AreShown, HasRoomForEvents, shown_at, watched_behind}
 use Rattle.pls_app.specs.declared.watch.LooksSoFar.{LooksSoFar}
 use Rattle.pls_app.proofs.WatchLines.{events_more, line_shows, looks_more, unwatched_later}
@@ -89,18 +89,18 @@ module _ (lines : List WatchLine) (place : ℕ) (d : WatchLine) (within : place 
         ∙ ap (looks_behind look []) (sym (take_more lines place d within))) are
 
     -- a line that applies hands on to those behind it
-    pub first_on : (number : ℕ) → line_names_nothing old.network old.events line ≡ false
-        → first_unwatched rows [] number lines
-        ≡ first_unwatched rows (events_of (take place lines)) (number + place) (drop place lines)
-        → first_unwatched rows [] number lines
-        ≡ first_unwatched rows (events_of (take (place + 1) lines)) (number + (place + 1))
+    pub first_on : (number : ℕ) → line_does_not_apply old.network old.events line ≡ false
+        → first_refused_line rows [] number lines
+        ≡ first_refused_line rows (events_of (take place lines)) (number + place) (drop place lines)
+        → first_refused_line rows [] number lines
+        ≡ first_refused_line rows (events_of (take (place + 1) lines)) (number + (place + 1))
         (drop (place + 1) lines)
     first_on number fits so_far =
-        let fits_there : line_names_nothing rows (events_of (take place lines)) line ≡ false =
-        (λ i. line_names_nothing (sym network i) (sym taken i) line) ∙ fits in
+        let fits_there : line_does_not_apply rows (events_of (take place lines)) line ≡ false =
+        (λ i. line_does_not_apply (sym network i) (sym taken i) line) ∙ fits in
         so_far ∙ unwatched_later rows (events_of (take place lines)) lines place number d within
         fits_there
-        ∙ ap (λ (before : List WatchEvent). first_unwatched rows before (number + (place + 1))
+        ∙ ap (λ (before : List WatchEvent). first_refused_line rows before (number + (place + 1))
         (drop (place + 1) lines)) events_here
 
 -- what is not refused applies

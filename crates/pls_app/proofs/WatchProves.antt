@@ -46,7 +46,7 @@ use Rattle.pls_app.specs.Looks.{ends_in_well, look_after, looks_behind, looks_in
 use Rattle.pls_app.specs.Meant.{Holds, judge_in}
 use Rattle.pls_app.specs.Run.{Proves}
 use Rattle.pls_app.specs.Said.{Answer}
-use Rattle.pls_app.specs.Unwatched.{events_of}
+use Rattle.pls_app.specs.WatchRefusal.{events_of}
 use Rattle.pls_app.proofs.Proved.{accepted_holds, accepts_after, done_all, refused_not_done}
 use Rattle.pls_app.proofs.Spelled.{begins_with_network}
 

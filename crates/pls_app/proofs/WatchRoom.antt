@@ -20,8 +20,8 @@ use Rattle.pls_watch.specs.Versions.{plain_of}
 use Rattle.pls_watch.specs.Watching.{Watched, lacks_room, turned_of, watch_refusal}
 use Rattle.pls_watch.proofs.Arrived.{plain_few}
 use Rattle.pls_watch.proofs.Room.{play_refusal, relabel_refusal}
-use Rattle.pls_app.specs.Unapplied.{does_not_apply}
-use Rattle.pls_app.specs.Unwatched.{event_of, names_nothing, turn_does_not_apply}
+use Rattle.pls_app.specs.ScheduleRefusal.{does_not_apply}
+use Rattle.pls_app.specs.WatchRefusal.{event_of, watch_event_does_not_apply, turn_does_not_apply}
 use Rattle.pls_app.specs.inner.Watching.{HasRoomForEvents, watched_behind}
 use Rattle.pls_app.proofs.Schedules.{applies, fails}
 use Rattle.pls_app.proofs.WatchLines.{bits_more, labels_more}
@@ -119,7 +119,7 @@ module _ (watched : Watched) (event : WatchEvent)
           ∙ by_round (Turns.Relabel node)
 
   -- it is refused exactly where it names nothing
-  pub refused_exactly : names_nothing watched.network watched.events event
+  pub refused_exactly : watch_event_does_not_apply watched.network watched.events event
       ≡ is_some (watch_refusal watched event)
   refused_exactly = of_turn (turn_of event) ∙ ap is_some (sym refusal_is)
     where

@@ -30,9 +30,9 @@ use Rattle.pls_app.specs.Meant.{AreMarks, Holds, NameLacking, bound_in, judge_in
 use Rattle.pls_app.specs.PartRows.{part_rows}
 use Rattle.pls_app.specs.Convert.{converted_labels, convert_refusal}
 use Rattle.pls_app.specs.Splice.{Splices, splice_refusal}
-use Rattle.pls_app.specs.Unapplied.{schedule_refusal}
-use Rattle.pls_app.specs.Unwatched.{watch_lines_refusal}
-use Rattle.pls_app.specs.Inapplicable.{inapplicable}
+use Rattle.pls_app.specs.ScheduleRefusal.{schedule_refusal}
+use Rattle.pls_app.specs.WatchRefusal.{watch_lines_refusal}
+use Rattle.pls_app.specs.EditsRefusal.{edits_refusal}
 use Rattle.pls_bits.specs.Gamma.{gamma_takes}
 use Rattle.pls_compile.specs.RuleMeaning.{meaning}
 use Rattle.pls_app.specs.Ruled.{code_answer, rules_answer, set_in}
@@ -170,7 +170,7 @@ work_refusal (With (Mark code) scheme) input parts =
 work_refusal (With (Simulate json) scheme) input parts =
     schedule_refusal (rows_in input) (schedule_heading input + 1) (events_in input)
 work_refusal (With Recheck scheme) input parts =
-    inapplicable (rows_in input) (labels_in input) (edits_heading input + 1) (edits_in input)
+    edits_refusal (rows_in input) (labels_in input) (edits_heading input + 1) (edits_in input)
 work_refusal (With Watch scheme) input parts =
     watch_lines_refusal (rows_in input) (watch_heading input + 1) (watch_in input)
 work_refusal (With Convert scheme) input parts = convert_refusal scheme input

@@ -14,7 +14,7 @@ use Rattle.pls_view.specs.Seen.{views}
 use Rattle.pls_scheme.specs.Judging.{AllAccept}
 use Rattle.pls_components.specs.Components.{AreComponents, items_at}
 use Rattle.pls_splice.specs.Ring.{IsRing}
-use Rattle.pls_splice.specs.TwoRings.{AreTwoRings}
+use Rattle.pls_splice.specs.TwoRings.{AreTwoRings, IsLeaderlessIn}
 use Rattle.pls_expressions.specs.Expression.{Expression, Of}
 use Rattle.pls_model.specs.declared.limits.TheConstants.{MAX_INPUT}
 use Rattle.pls_inputs.specs.Parts.{Input, code_in, parts_with_edits, parts_with_gamma, parts_with_labels, parts_with_rules, labels_in, net_labels_text, rows_in, with_labels}
@@ -23,7 +23,6 @@ use Rattle.pls_bits.specs.declared.code_name.CodeName.{CodeName}
 use Rattle.pls_bits.specs.declared.code_name.CodeName.TheVariants.{Delta}
 use Rattle.pls_netfile.specs.NetworkText.{network_text}
 use Rattle.pls_names.specs.declared.scheme_name.SchemeName.{SchemeName}
-use Rattle.pls_names.specs.declared.scheme_name.SchemeName.TheVariants.{Leader}
 use Rattle.pls_builtin.specs.Builtin.{set_of_name}
 use Rattle.pls_app.specs.declared.command.Command.{Command}
 use Rattle.pls_app.specs.declared.command.Command.TheVariants.{With}
@@ -67,12 +66,6 @@ pub record TellsPart (words : List (List ℕ)) (bytes : List ℕ)
   pub is : IsAnswer words bytes answer
   pub took : AppendsPart old new answer.text
 
--- the source tells its bytes, and the sink is sure of as many as the text of the answer has
-abbrev pub IsSureOfAnswer : List (List ℕ) → Option (List ℕ) → (ℕ → Type 0) → Type 0
-IsSureOfAnswer words left sure =
-    (bytes : List ℕ) × (left ≡ Some bytes)
-    × ((answer : Answer) → IsAnswer words bytes answer → sure (length answer.text))
-
 -- what a run without an answer comes from: a call on the source failed, so that its count rose, or
 -- a call on the sink. Want of memory has no cause that is told
 abbrev pub HasItsCause : Status → ℕ → ℕ → ℕ → ℕ → Type 0
@@ -97,6 +90,13 @@ IsUnread words due = (IsUsage words × (due ≡ Usage))
 -- source tells
 abbrev pub Concerns : List (List ℕ) → Option (List ℕ) → List ℕ → Type 0
 Concerns words left bytes = (left ≡ Some bytes) ⊎ ((due : Status) × IsUnread words due)
+
+-- the sink is sure of as many bytes as the text of the answer to these bytes has, which the source
+-- tells, or the words read nothing
+abbrev pub IsSureOfAnswer : List (List ℕ) → Option (List ℕ) → (ℕ → Type 0) → Type 0
+IsSureOfAnswer words left sure =
+    (bytes : List ℕ) × Concerns words left bytes
+    × ((answer : Answer) → IsAnswer words bytes answer → sure (length answer.text))
 
 -- a run ends as was due, or a write failed, or there was no memory
 abbrev pub EndsAs : Status → Status → Type 0
@@ -152,8 +152,9 @@ pub record Notices (scheme : Expression) (command : Command) (bytes : List ℕ) 
   pub notices : (places : List ℕ) → LacksAt scheme (rows_in input) places
       → SomeFails (items_at (outcomes_in command input) places)
 
--- the text is that of labels which show the property of each component of the network of the bytes
--- under the code, and which can stand in a text behind it
+-- the bytes are the text of a network with these components, and the text is that of labels which show
+-- the property of each of them under the code; together they have no more bits than an input may have.
+-- That `verify` ends with `Done` on the bytes with the text behind them is the law `marked_is_verified`
 pub record Certifies (code : CodeName) (scheme : Expression)
     (bytes text : List ℕ) : Type 0 where
   pub rows : List NodeRow
@@ -190,8 +191,7 @@ pub record Splits (scheme : Expression) (bytes text : List ℕ) : Type 0 where
   pub accepted : AllAccept (judge_in (code_in input) scheme) crossed (labels_in input)
   pub holds : Holds scheme crossed
   pub rings : (one other : ℕ) × AreTwoRings crossed one other
-  pub leaderless : HasOneLeader (rows_in input)
-      → (places : List ℕ) × LacksAt (Of Leader) crossed places
+  pub leaderless : HasOneLeader (rows_in input) → IsLeaderlessIn crossed
 
 -- the bytes are a network, labels and a rule set, and where the set is the one that has the name of a
 -- scheme, each component of the network has the property of that scheme

@@ -12,7 +12,8 @@ pub record IsNetworkText (bytes : List ℕ) (rows : List NodeRow) : Type 0 where
   pub ranges : AreRows rows
   pub is : bytes ≡ network_text rows
 
--- the bytes begin with the text of this network
+-- the bytes begin with the text of this network; there is one such network at most, since its last
+-- line closes it
 pub record BeginsWithNetwork (bytes : List ℕ) (rows : List NodeRow) : Type 0 where
   pub front : List ℕ
   pub behind : List ℕ

@@ -12,7 +12,7 @@ ghost use Rattle.pls_app.specs.Run.{Asks, Certifies, Concerns, Consumes, Convert
 ghost use Rattle.pls_app.specs.inner.Causes.{WritesOrFails};
 ghost use Rattle.pls_app.specs.Answer.{IsRefused};
 ghost use Rattle.pls_app.specs.Reports.{reports_text};
-ghost use Rattle.pls_base.specs.declared.text_error.TextError.{TextError as Error};
+ghost use Rattle.pls_base.specs.declared.text_error.TextError.{TextError};
 ghost use Rattle.pls_app.specs.inner.Written.{text_in};
 
 use crate::answer::{Answer, Content, usage};
@@ -96,7 +96,7 @@ pub fn run<'w, S: Source, K: Sink, B: Bench>(
         → RefusesExactly command bytes result (K.taken sink.old) (K.taken sink.new) }
     ensures completes { (command : Command) (bytes : List ℕ)
         → Asks (words_in words.now) (S.left source.old) command bytes
-        → ((error : Error) → IsRefused command bytes error → ⊥) → IsAnswered result
+        → ((error : TextError) → IsRefused command bytes error → ⊥) → IsAnswered result
         → IsJudged result }
     ensures usage { result ≡ Status.Usage → IsUsage (words_in words.now) }
 

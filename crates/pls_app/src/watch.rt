@@ -8,7 +8,7 @@ ghost use Rattle.pls_watch.specs.Labelled.{bits_given, labels_given};
 ghost use Rattle.pls_inputs.specs.Parts.{Input, code_in};
 ghost use Rattle.pls_app.specs.Looks.{look_after, looks_answer, looks_behind};
 ghost use Rattle.pls_app.specs.Meant.{takes_of};
-ghost use Rattle.pls_app.specs.Unwatched.{event_of, events_of, first_unwatched, line_names_nothing};
+ghost use Rattle.pls_app.specs.WatchRefusal.{event_of, events_of, first_refused_line, line_does_not_apply};
 ghost use Rattle.pls_app.specs.inner.Tasks.{Does, IsWorked};
 ghost use Rattle.pls_app.specs.inner.Watching.{AreShown, HasRoomForEvents, IsWatchInput, shown_at, watched_behind};
 
@@ -94,7 +94,7 @@ fn play<K: Checker>(
     requires few { length lines.now ≤ MAX_LINES }
     requires none { AreShown shown.old [] }
     ensures place { IfOk result (λ found. (number : ℕ)
-        → first_unwatched lookout.old.watched.network [] number lines.now
+        → first_refused_line lookout.old.watched.network [] number lines.now
         ≡ option_map (λ place. number + place) found) }
     ensures within { IfOk result (λ found. IfSome found (λ place. place < length lines.now)) }
     ensures shown { IfOk result (λ found. found ≡ None → AreShown shown.new
@@ -119,7 +119,7 @@ fn take_line<K: Checker>(
     requires room { HasRoomForEvents lookout.old.watched (event_of line.now) }
     requires few { shown.old.looks < 2 ^ 31 }
     ensures checker { lookout.new.checker ≡ lookout.old.checker }
-    ensures refused { IfOk result (λ applies. applies ≡ not (line_names_nothing
+    ensures refused { IfOk result (λ applies. applies ≡ not (line_does_not_apply
         lookout.old.watched.network lookout.old.watched.events line.now)) }
     ensures taken { IfOk result (λ applies. applies ≡ true
         → lookout.new.watched ≡ watched_behind line.now lookout.old.watched) }

@@ -312,7 +312,7 @@ returns-in-Ok-clause-answers g c read_all sure =
       | inl held ↦ told_answered _ _ _ _ _ _ _ c.tell-in-Ok.ensures.told due held
       | inr sure ↦
           let ends = told_sure words sure.0 c.in-Ok.answer _ (g.K.Sink.IsSureOf c.args.sink.now)
-          command is (c.in-Ok.ensures.answer sure.0 (inr sure.1)) sure.2
+          command is (c.in-Ok.ensures.answer sure.0 (offered words command _ sure.0 is sure.1)) sure.2
           c.tell-in-Ok.ensures.sure in
           subst IsAnswered (sym ends) due
     ])

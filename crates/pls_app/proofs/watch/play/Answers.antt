@@ -4,7 +4,7 @@ use Rattle.pls_model.specs.declared.verdict.Verdict.{Verdict}
 use Rattle.pls_view.specs.Seen.{Seen}
 use Rattle.pls_watch_part.specs.declared.watch_event.WatchLine.{WatchLine}
 use Rattle.pls_app.specs.Looks.{look_after, looks_behind}
-use Rattle.pls_app.specs.Unwatched.{line_names_nothing}
+use Rattle.pls_app.specs.WatchRefusal.{line_does_not_apply}
 use Rattle.pls_app.specs.inner.Watching.{AreShown, shown_at, watched_behind}
 use Rattle.pls_app.proofs.WatchLines.{few_looks}
 use Rattle.pls_app.proofs.WatchPlay.{applies_so, first_on, network_on, room_on, shown_on, start_on, taken_on}
@@ -39,8 +39,8 @@ loop-place-preserved g c =
     let at : line ≡ get_or lines place line = c.index-lines-place.is in
     let is : new ≡ watched_behind (get_or lines place line) old =
     step.taken c.if-not-branch.false ∙ ap (λ (line : WatchLine). watched_behind line old) at in
-    let fits : line_names_nothing old.network old.events (get_or lines place line) ≡ false =
-    ap (line_names_nothing old.network old.events) (sym at)
+    let fits : line_does_not_apply old.network old.events (get_or lines place line) ≡ false =
+    ap (line_does_not_apply old.network old.events) (sym at)
     ∙ applies_so _ (sym step.refused ∙ c.if-not-branch.false) in
     let judge = g.K.Checker.judge c.args.lookout.now.checker in
     record {

@@ -1,6 +1,6 @@
 use Rattle.std.proofs.Common.{◌≡◌, ℕ, ◌+◌, [], take, drop}
 use Rattle.pls_app.specs.Looks.{look_after, looks_behind}
-use Rattle.pls_app.specs.Unwatched.{events_of, first_unwatched}
+use Rattle.pls_app.specs.WatchRefusal.{events_of, first_refused_line}
 use Rattle.pls_app.specs.inner.Watching.{AreShown, HasRoomForEvents}
 use Rattle.pls_app.proofs.watch.play.Given as goal
 
@@ -13,7 +13,7 @@ invariant-loop-place g l = record {
   room : HasRoomForEvents l.lookout.watched (events_of (drop l.place l.lines));
   shown : AreShown l.shown (looks_behind (look_after (g.K.Checker.judge l.fn.lookout.checker)
       l.fn.lookout.watched.network l.fn.lookout.watched.start) [] (take l.place l.lines));
-  so_far : (number : ℕ) → first_unwatched l.fn.lookout.watched.network [] number l.lines
-      ≡ first_unwatched l.fn.lookout.watched.network (events_of (take l.place l.lines)) (number + l.place)
+  so_far : (number : ℕ) → first_refused_line l.fn.lookout.watched.network [] number l.lines
+      ≡ first_refused_line l.fn.lookout.watched.network (events_of (take l.place l.lines)) (number + l.place)
       (drop l.place l.lines);
 }

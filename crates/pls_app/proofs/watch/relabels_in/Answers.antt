@@ -3,7 +3,7 @@ use Rattle.std.proofs.lemmas.List.{length-take}
 use Rattle.pls_watch_part.specs.WatchText.{bits_of}
 use Rattle.pls_watch_part.specs.declared.watch_event.WatchLine.{WatchLine}
 use Rattle.pls_watch_part.specs.declared.watch_event.WatchLine.TheVariants.{Event}
-use Rattle.pls_app.specs.Unwatched.{events_of}
+use Rattle.pls_app.specs.WatchRefusal.{events_of}
 use Rattle.pls_app.proofs.WatchLines.{few_events, few_labels, given_within}
 use Rattle.pls_app.proofs.watch.relabels_in.Goals as goal
 

@@ -1,6 +1,6 @@
 use Rattle.std.proofs.Common.{◌≡◌, length, take}
 use Rattle.pls_watch.specs.Labelled.{bits_given, labels_given}
-use Rattle.pls_app.specs.Unwatched.{events_of}
+use Rattle.pls_app.specs.WatchRefusal.{events_of}
 use Rattle.pls_app.proofs.watch.relabels_in.Given as goal
 
 abbrev pub invariant-loop-line : goal.invariant-loop-line

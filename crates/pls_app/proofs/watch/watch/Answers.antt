@@ -13,7 +13,7 @@ use Rattle.pls_app.specs.declared.command.Task.TheVariants.{Watch}
 use Rattle.pls_app.specs.Answer.{refusal}
 use Rattle.pls_app.specs.Looks.{look_after, looks_answer, looks_behind}
 use Rattle.pls_app.specs.Meant.{takes_of}
-use Rattle.pls_app.specs.Unwatched.{events_of, first_unwatched, watch_lines_refusal}
+use Rattle.pls_app.specs.WatchRefusal.{events_of, first_refused_line, watch_lines_refusal}
 use Rattle.pls_app.specs.inner.Tasks.{Does}
 use Rattle.pls_app.specs.inner.Watching.{IsWatchInput}
 use Rattle.pls_app.proofs.WatchLines.{few_events, few_labels, total_given}
@@ -81,7 +81,7 @@ returns-in-Some-clause-does g c =
     ∙ c.in_ok-watch.ensures.network in
     let some : watch_lines_refusal net first lines ≡ Some error =
     ap (option_map (λ line. Sense WATCH_EVENT line))
-    ((λ i. first_unwatched (sym network i) [] first lines)
+    ((λ i. first_refused_line (sym network i) [] first lines)
     ∙ c.in_ok-place.ensures.place first ∙ ap (option_map (λ place. first + place)) c.in-Some.is) in
     IfOk-weaker c.refuse.result (λ answer. answer ≡ refusal error)
     (λ answer. (input : Input) → IsWatchInput net c.args.labels.now lines first input
@@ -104,7 +104,7 @@ returns-clause-does g c input is takes parts =
     let network = ap (λ (watched : Watched). watched.network) same ∙ start.network in
     let none : watch_lines_refusal net first lines ≡ None =
     ap (option_map (λ line. Sense WATCH_EVENT line))
-    ((λ i. first_unwatched (sym network i) [] first lines)
+    ((λ i. first_refused_line (sym network i) [] first lines)
     ∙ c.in_ok-place.ensures.place first ∙ ap (option_map (λ place. first + place)) c.in-None.is) in
     let networks = network ∙ sym is.net in
     let labels = ap (λ (watched : Watched). watched.start) same ∙ start.labels ∙ sym is.store in

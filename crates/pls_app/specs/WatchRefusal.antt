@@ -14,7 +14,7 @@ use Rattle.pls_watch.specs.declared.turn.Turn.{Turn}
 use Rattle.pls_watch.specs.declared.turn.Turn.TheVariants.{Plain, Relabel}
 use Rattle.pls_watch.specs.Labelled.{turn_of, turns_of}
 use Rattle.pls_watch.specs.Versions.{plain_of}
-use Rattle.pls_app.specs.Unapplied.{does_not_apply}
+use Rattle.pls_app.specs.ScheduleRefusal.{does_not_apply}
 
 -- the event that a line says, if it says one
 abbrev pub event_of : WatchLine → List WatchEvent
@@ -30,24 +30,24 @@ abbrev pub turn_does_not_apply : List NodeRow → List Played → Turn → Bool
 turn_does_not_apply rows before (Plain event) = does_not_apply rows before event
 turn_does_not_apply rows before (Relabel node) = is_none (row_of rows node)
 
--- the event names no node, no port of its node, or no emit before it
-abbrev pub names_nothing : List NodeRow → List WatchEvent → WatchEvent → Bool
-names_nothing rows before event =
+-- the event names no node, no port of its node, or no emit before it; a relabel, no node
+abbrev pub watch_event_does_not_apply : List NodeRow → List WatchEvent → WatchEvent → Bool
+watch_event_does_not_apply rows before event =
     turn_does_not_apply rows (plain_of (turns_of before)) (turn_of event)
 
--- the line says an event that names no node, no port of its node, or no emit before it
-abbrev pub line_names_nothing : List NodeRow → List WatchEvent → WatchLine → Bool
-line_names_nothing rows before (Event event) = names_nothing rows before event
-line_names_nothing rows before Look = false
+-- the line says an event that does not apply
+abbrev pub line_does_not_apply : List NodeRow → List WatchEvent → WatchLine → Bool
+line_does_not_apply rows before (Event event) = watch_event_does_not_apply rows before event
+line_does_not_apply rows before Look = false
 
--- the first line that says an event which does not apply, of lines that stand from this one on,
--- behind these events
-abbrev pub first_unwatched : List NodeRow → List WatchEvent → ℕ → List WatchLine → Option ℕ
-first_unwatched rows before number [] = None
-first_unwatched rows before number (line ∷ later) = if line_names_nothing rows before line
-    then Some number else first_unwatched rows (before ++ event_of line) (number + 1) later
+-- the number of the first line that says an event which does not apply; the first of these lines has
+-- this number, each later one the next, and these events were before them
+abbrev pub first_refused_line : List NodeRow → List WatchEvent → ℕ → List WatchLine → Option ℕ
+first_refused_line rows before number [] = None
+first_refused_line rows before number (line ∷ later) = if line_does_not_apply rows before line
+    then Some number else first_refused_line rows (before ++ event_of line) (number + 1) later
 
 -- 41: the first event that does not apply, by its line
 abbrev pub watch_lines_refusal : List NodeRow → ℕ → List WatchLine → Option TextError
 watch_lines_refusal rows number lines =
-    option_map (λ number. Sense WATCH_EVENT number) (first_unwatched rows [] number lines)
+    option_map (λ number. Sense WATCH_EVENT number) (first_refused_line rows [] number lines)
