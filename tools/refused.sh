@@ -168,7 +168,7 @@ try edited_chain recheck pathmax
 "$top/pls" mark 'and(pathmax,mst)' < "$chain" | cat "$chain" - > marked
 try marked convert 'and(pathmax,mst)'
 
-# the reads and writes of ten commands
+# the reads and writes of eleven commands
 each_byte "$pair" verify bipartite
 each_byte net mark bipartite
 each_byte net bound mst
