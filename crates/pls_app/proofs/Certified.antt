@@ -1,7 +1,6 @@
 -- Labels that `mark` wrote are read back with their network.
 use Rattle.std.specs.List.{sum_by}
-use Rattle.std.proofs.Common.{◌+◌, ◌≡◌, ◌∙◌, ℕ, ◌*◌, ◌≤◌, inl, inr, Bool, true, false, List, [], ◌∷◌, ◌++◌, length, All, Contains, Option, Some, None, append-nil, ap, subst, refl, sym, arith}
-use Rattle.std.specs.Option.{unwrap_or}
+use Rattle.std.proofs.Common.{◌+◌, ◌≡◌, ◌∙◌, ℕ, ◌*◌, ◌≤◌, inl, inr, Bool, true, false, List, [], ◌∷◌, ◌++◌, length, All, Contains, Some, None, append-nil, ap, subst, refl, sym, arith}
 use Rattle.std.proofs.Math.Nat.{suc-mul}
 use Rattle.std.proofs.lemmas.List.{length-map}
 use Rattle.std.proofs.lemmas.List.Elements.{All-head, All-tail}
@@ -15,9 +14,9 @@ use Rattle.pls_graph.specs.Size.{size_of}
 use Rattle.pls_graph.proofs.Members.{Contains-first, Contains-later}
 use Rattle.pls_lines.specs.Text.{text_of}
 use Rattle.pls_lines.specs.laws.Fronts.{text_of-append}
-use Rattle.pls_netfile.specs.NetworkText.{AreRows, network_lines, network_text}
+use Rattle.pls_netfile.specs.NetworkText.{network_lines, network_text}
 use Rattle.pls_view.specs.Labels.{bits_together}
-use Rattle.pls_labelfile.specs.LabelsText.{AreLabels, labels_lines, named}
+use Rattle.pls_labelfile.specs.LabelsText.{labels_lines, named}
 use Rattle.pls_labelfile.specs.LabelsScan.{total_bits}
 use Rattle.pls_labelfile.proofs.LabelsPart.{either_may}
 use Rattle.pls_labelfile.proofs.Named.{named_no_misfit, net_labels_fit, total_bits-named}
@@ -27,9 +26,9 @@ use Rattle.pls_components.proofs.Items.{length-items}
 use Rattle.pls_components.proofs.Part.{places_within}
 use Rattle.pls_components.proofs.Partition.{sum_of_parts}
 use Rattle.pls_inputs.specs.declared.parts.Parts.{Parts}
-use Rattle.pls_inputs.specs.Parts.{Has, Input, input_lines, parts_with_labels, lines_of, net_labelling, net_labels_text, network, rows_in, with_labels}
+use Rattle.pls_inputs.specs.Parts.{Input, parts_with_labels, net_labelling, net_labels_text, network, rows_in, with_labels}
 use Rattle.pls_inputs.specs.Order.{IsInput, over, refusals}
-use Rattle.pls_inputs.proofs.Facts.{IsReadable, readable, there}
+use Rattle.pls_inputs.proofs.Facts.{IsReadable, readable}
 use Rattle.pls_inputs.proofs.WithinLimits.{few_of, within}
 use Rattle.pls_bits.specs.declared.code_name.CodeName.{CodeName}
 use Rattle.pls_app.specs.declared.command.Command.TheVariants.{With}

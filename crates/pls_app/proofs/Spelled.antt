@@ -1,5 +1,5 @@
 -- What the bytes of an input begin and end with.
-use Rattle.std.proofs.Common.{◌≡◌, ◌∙◌, ℕ, Bool, true, false, List, [], ◌++◌, Option, Some, None, append-nil, append_assoc, ap, refl, subst, sym}
+use Rattle.std.proofs.Common.{◌≡◌, ◌∙◌, ℕ, Bool, true, false, List, [], ◌++◌, Option, Some, None, append-nil, append_assoc, ap, refl, sym}
 use Rattle.std.specs.Option.{unwrap_or}
 use Rattle.pls_model.specs.declared.row.NodeRow.{NodeRow}
 use Rattle.pls_lines.specs.Text.{text_of}
@@ -7,7 +7,6 @@ use Rattle.pls_lines.specs.laws.Fronts.{text_of-append}
 use Rattle.pls_netfile.specs.NetworkText.{AreRows, network_lines, network_text}
 use Rattle.pls_labelfile.specs.LabelsText.{AreLabels, labels_lines}
 use Rattle.pls_schedule.specs.ScheduleText.{AreEvents, schedule_lines}
-use Rattle.pls_edits.specs.declared.edit_line.EditLine.{EditLine}
 use Rattle.pls_edits.specs.EditsText.{AreEdits, edits_lines}
 use Rattle.pls_watch_part.specs.WatchText.{AreWatch, watch_part_lines}
 use Rattle.pls_rules_part.specs.RulesText.{AreRulesSaid, rules_lines}

@@ -22,8 +22,7 @@ use Rattle.pls_scheme.specs.Judging.{AllAccept}
 use Rattle.pls_components.specs.Components.{IsComponent, items_at}
 use Rattle.pls_components.proofs.Apart.{component_listed}
 use Rattle.pls_graph.proofs.Members.{Contains-cons_cases}
-use Rattle.pls_names.specs.declared.scheme_name.SchemeName.TheVariants.{Leader}
-use Rattle.pls_expressions.specs.Expression.{Expression, HasProperty, IsSmall, Of}
+use Rattle.pls_expressions.specs.Expression.{Expression, HasProperty, IsSmall}
 use Rattle.pls_combine.specs.laws.ExpressionLaws.{expression_sound}
 use Rattle.pls_inputs.specs.Order.{IsInput}
 use Rattle.pls_inputs.specs.Parts.{Input, code_in, labels_in, named_in, net_labelling, net_labels_text, parts_with_labels, rows_in}
@@ -38,7 +37,7 @@ use Rattle.pls_splice.proofs.SameViews.{same_views}
 use Rattle.pls_app.specs.declared.command.Command.TheVariants.{With}
 use Rattle.pls_app.specs.declared.command.Task.TheVariants.{Splice}
 use Rattle.pls_app.specs.Answer.{Answers}
-use Rattle.pls_app.specs.Meant.{LacksAt, judge_in, number_code_of, takes_of}
+use Rattle.pls_app.specs.Meant.{judge_in, number_code_of, takes_of}
 use Rattle.pls_app.specs.Run.{Splits}
 use Rattle.pls_app.specs.Said.{Answer}
 use Rattle.pls_app.specs.Verified.{IsDone, verify_words}
@@ -230,10 +229,12 @@ one_leader_stays scheme leads bytes text splits =
     expression_sound (number_code_of code) (takes_of code) (takes_only code) scheme rows
     (labels_in input) (readable parts_with_labels bytes input splits.is refl).network
     splits.ring.connected (each parts_with_labels bytes input splits.is refl) accepted in
-    let (places, lacks) : (places : List ℕ) × LacksAt (Of Leader) crossed places =
-    splits.leaderless (leads rows splits.ring has) in
+    let none : IsLeaderlessIn crossed = splits.leaderless (leads rows splits.ring has) in
     let net : IsNetwork crossed = (readable parts_with_labels text
     (record input { network = Some crossed }) splits.read_back refl).network in
-    lacks.lacks (leads (items_at crossed places)
-    (ring_alone crossed net splits.rings.0 splits.rings.1 splits.rings.2 places lacks.component)
-    (splits.holds places lacks.component))
+    zero_not_one none.none (leads (items_at crossed none.places)
+    (ring_alone crossed net splits.rings.0 splits.rings.1 splits.rings.2 none.places none.component)
+    (splits.holds none.places none.component))
+  where
+    zero_not_one : {count : ℕ} → count ≡ 0 → count ≡ 1 → ⊥
+    zero_not_one none one = absurd (omega (arith, none, one))
