@@ -5,6 +5,7 @@ ghost use Rattle.pls_model.specs.declared.row.NodeRow.{NodeRow};
 ghost use Rattle.pls_model.specs.declared.row.Port.{Port};
 ghost use Rattle.pls_view.specs.Seen.{seen};
 ghost use Rattle.pls_scheme.specs.Judging.{RoseByAtMost};
+ghost use Rattle.pls_sim.specs.Rising.{IsRising};
 ghost use Rattle.pls_sim.specs.Schedule.{unheard};
 ghost use Rattle.pls_watch.specs.Labelled.{turns_of};
 ghost use Rattle.pls_watch.specs.Versions.{known, newest, plain_of};
@@ -81,6 +82,17 @@ impl<'n> Watch<'n> {
     {
         let numbers = self.versions.stale(alloc, i)?;
         Ok(PortNumbers::from_vec(numbers))
+    }
+
+    /// Writes these numbers into a list, in the place of what it has. The one error is want of memory.
+    pub(crate) fn list_stale(&self, i: usize, numbers: &mut Vec<u32>) -> Result<(), NoMemory>
+        requires { i < length self.now.network }
+        ensures ports { OnOk result ((row : NodeRow) → slice_get self.now.network i ≡ Some row
+            → numbers.new.items ≡ stale_in self.now row) }
+        ensures rising { OnOk result (IsRising numbers.new.items) }
+    {
+        self.versions.list_stale(i, numbers)?;
+        Ok(())
     }
 
     /// What is shown of the node at place `i`. What the node knows is written into a table.

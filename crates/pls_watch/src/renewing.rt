@@ -12,7 +12,16 @@ use crate::watch::Watch;
 use pls_base::{NoMemory, Steps};
 use pls_report::LookRows;
 use pls_scheme::Checker;
+use pls_sim::PortNumbers;
 use std::alloc::Global;
+
+/// What a look needs for one node after another: the table of what the node knows, and the list of
+/// its stale ports.
+#[derive(Drop)]
+struct LookRoom {
+    table: Vec<u32>,
+    stale: Vec<u32>,
+}
 
 impl<'n> Watch<'n> {
     /// Looks again: renews the rows of the nodes of which something changed. The one error is want
@@ -31,29 +40,31 @@ impl<'n> Watch<'n> {
         ensures few_steps { RoseByAtMost (length self.now.network) steps.old steps.new }
     {
         shown.begin()?;
-        let mut table = noughts(alloc, changes.len())?;
+        let mut room = LookRoom {
+            table: noughts(alloc, changes.len())?,
+            stale: Vec::new(alloc),
+        };
         for _ in changes {
-            self.renew(alloc, changes, shown, &mut table, checker, steps)?;
+            self.renew(alloc, changes, shown, &mut room, checker, steps)?;
         }
         Ok(())
     }
 
-    // Renews the next row as far as something of its node changed. What the node knows is written
-    // into a table.
+    // Renews the next row as far as something of its node changed.
     #[inline(always)]
     fn renew<K: Checker>(
         &self,
         alloc: Global,
         changes: &[Change],
         shown: &mut LookRows,
-        table: &mut Vec<u32>,
+        room: &mut LookRoom,
         checker: &K,
         steps: &mut Steps,
     ) -> Result<(), NoMemory>
         requires place { shown.old.passed < length self.now.network }
         requires current { IsCurrent (K.judge checker.now) self.now changes.now shown.old.rows }
-        requires table { IsTable self.now table.old.items }
-        ensures table { IsTable self.now table.new.items }
+        requires table { IsTable self.now room.old.table.items }
+        ensures table { IsTable self.now room.new.table.items }
         ensures renewed { OnOk result (IsRenewed (K.judge checker.now) self.now shown.old.passed
             shown.old.rows shown.new.rows) }
         ensures passed { OnOk result (shown.new.passed ≡ shown.old.passed + 1) }
@@ -64,15 +75,16 @@ impl<'n> Watch<'n> {
         match changes[i] {
             Change::Nothing => shown.keep(),
             Change::Beside => {
-                let stale = self.stale(alloc, i)?;
-                if stale.as_slice() == shown.rows()[i].stale() {
+                self.list_stale(i, &mut room.stale)?;
+                let stale = room.stale.as_slice();
+                if stale == shown.rows()[i].stale() {
                     shown.keep();
                 } else {
-                    shown.replace_stale(stale)?;
+                    shown.replace_stale(PortNumbers::from_vec(stale.to_vec(alloc)?))?;
                 }
             }
             Change::Held | Change::Label => {
-                let row = self.look_at(alloc, i, table, checker, steps)?;
+                let row = self.look_at(alloc, i, &mut room.table, checker, steps)?;
                 shown.replace(row)?;
             }
         }

@@ -268,13 +268,26 @@ impl<'n> Versions<'n> {
             → stale self.now.network self.now.turns row ≢ []) }
     {
         let mut numbers = Vec::new(alloc);
+        self.list_stale(i, &mut numbers)?;
+        Ok(numbers)
+    }
+
+    /// Writes these numbers into a list, in the place of what it has. The errors are the same.
+    pub(crate) fn list_stale(&self, i: usize, numbers: &mut Vec<u32>) -> Result<(), NoMemory>
+        requires { i < length self.now.network }
+        ensures ports { OnOk result ((row : NodeRow) → slice_get self.now.network i ≡ Some row
+            → numbers.new.items ≡ stale self.now.network self.now.turns row) }
+        ensures no_memory { OnErr result ((row : NodeRow) → slice_get self.now.network i ≡ Some row
+            → stale self.now.network self.now.turns row ≢ []) }
+    {
+        numbers.clear();
         for port in 0..self.net.ports(i).len() {
             if self.is_fresh(i, port) {
                 continue;
             }
             numbers.push(port as u32)?;
         }
-        Ok(numbers)
+        Ok(())
     }
 
     /// The number of a version of the label of the node at place `i`, in as many steps as there are

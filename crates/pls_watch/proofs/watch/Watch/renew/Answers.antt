@@ -17,8 +17,10 @@ returns-in_ok-replace_stale-in-Beside-clause-renewed g c =
     slice_get-get_or changes place Nothing within
     ∙ (λ k. Some (get_or changes (sym c.passed-i.ensures k) Nothing)) ∙ ap Some c.in-Beside.is in
     renewed_stale judge c.args.self.now changes place c.args.shown.now.rows current
-    c.replace_stale.new.self.rows c.in_ok-stale-in-Beside.stale c.requires.place is
-    (λ row stands. c.in_ok-stale-in-Beside.ensures.ports row
+    c.replace_stale.new.self.rows c.from_vec.result c.requires.place is
+    (λ row stands. c.from_vec.ensures
+    ∙ c.in_ok-to_vec-in-Beside.ensures.items_if_clones_equal (λ x y is. is)
+    ∙ c.as_slice-stale.ensures.value ∙ c.in_ok-list_stale-in-Beside.ensures.ports row
     ((λ k. slice_get c.args.self.now.network (c.passed-i.ensures k)) ∙ stands))
     c.in_ok-replace_stale-in-Beside.ensures.rows
 
@@ -47,14 +49,14 @@ returns-then-eq-clause-renewed g c =
     slice_get-get_or changes place Nothing within
     ∙ (λ k. Some (get_or changes (sym c.passed-i.ensures k) Nothing)) ∙ ap Some c.in-Beside.is in
     let shown = c.index-rows-i.result in
-    let same : c.as_slice.result.now ≡ c.stale-in-Beside-2.result.now =
-    (bytes_eq-Decides c.as_slice.result.now c.stale-in-Beside-2.result.now).0
+    let same : c.as_slice-stale.result.now ≡ c.stale.result.now =
+    (bytes_eq-Decides c.as_slice-stale.result.now c.stale.result.now).0
     (sym c.eq.ensures ∙ c.if-eq.true) in
     rw c.keep-then-eq.ensures.rows
     (renewed_as_shown judge c.args.self.now changes place old current shown
     (omega (arith, c.requires.place, current.all)) is
     (c.index-rows-i.is
     ∙ (λ k. get_or (c.rows.ensures k) (c.passed-i.ensures k) c.index-rows-i.result))
-    (λ row stands. sym c.stale-in-Beside-2.ensures ∙ sym same ∙ c.as_slice.ensures.numbers
-    ∙ c.in_ok-stale-in-Beside.ensures.ports row
+    (λ row stands. sym c.stale.ensures ∙ sym same ∙ c.as_slice-stale.ensures.value
+    ∙ c.in_ok-list_stale-in-Beside.ensures.ports row
     ((λ k. slice_get c.args.self.now.network (c.passed-i.ensures k)) ∙ stands)))

@@ -9,7 +9,7 @@ abbrev pub invariant-loop : goal.invariant-loop
 invariant-loop g l = record {
   passed : l.shown.passed ≡ l.index;
   current : IsCurrent (g.K.Checker.judge l.checker) l.self l.changes l.shown.rows;
-  table : IsTable l.self l.table.items;
+  table : IsTable l.self l.room.table.items;
   now : AreNow (g.K.Checker.judge l.checker) l.self l.index l.shown.rows;
   rose : RoseByAtMost l.index l.fn.steps l.steps;
 }

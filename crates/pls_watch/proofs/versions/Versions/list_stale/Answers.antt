@@ -5,7 +5,7 @@ use Rattle.pls_sim.specs.Schedule.{unheard_from}
 use Rattle.pls_watch.specs.Versions.{is_fresh}
 use Rattle.pls_sim.proofs.Unheard.{adds_unheard, all_passed, has_port, on_err, passes_heard, port_small, port_within, some_in}
 use Rattle.pls_sim.proofs.Refusing.{ports_at}
-use Rattle.pls_watch.proofs.versions.Versions.stale.Goals as goal
+use Rattle.pls_watch.proofs.versions.Versions.list_stale.Goals as goal
 
 pub overflow_cast-port : goal.overflow_cast-port
 overflow_cast-port c =

@@ -1,0 +1,26 @@
+use Rattle.std.proofs.Common.{◌∙◌, List, slice_get, sym, ap}
+use Rattle.pls_graph.proofs.Finds.{item_at}
+use Rattle.pls_watch.specs.declared.turn.Turn.{Turn}
+use Rattle.pls_watch.specs.Labelled.{turns_of}
+use Rattle.pls_watch.specs.Versions.{stale}
+use Rattle.pls_watch.specs.Watching.{Watched}
+use Rattle.pls_watch.proofs.Looked.{stale_rise}
+use Rattle.pls_watch.proofs.Stocked.{turns_are}
+use Rattle.pls_watch.proofs.watch.Watch.list_stale.Goals as goal
+
+pub returns-clause-ports : goal.returns-clause-ports
+returns-clause-ports c = λ row stands.
+    let old = c.self.inside in
+    c.in_ok-list_stale.ensures.ports row
+    (ap (λ (watched : Watched). slice_get watched.network c.args.i) c.self.view_is ∙ stands)
+    ∙ ap (λ (turns : List Turn). stale old.versions.network turns row)
+    (sym (turns_are old.versions old.labels old.relabels old.bits))
+    ∙ ap (λ (watched : Watched). stale watched.network (turns_of watched.events) row) c.self.view_is
+
+pub returns-clause-rising : goal.returns-clause-rising
+returns-clause-rising c =
+    let old = c.self.inside in
+    let row = item_at c.args.self.now.network c.args.i c.requires in
+    stale_rise old.versions.network old.versions.turns row.0 c.list_stale.new.numbers.items
+    (c.in_ok-list_stale.ensures.ports row.0
+    (ap (λ (watched : Watched). slice_get watched.network c.args.i) c.self.view_is ∙ row.1))
