@@ -61,14 +61,13 @@ pub fn network_of(alloc: Global, rows: Vec<NodeRow>) -> Result<Network, NetworkE
     }
 }
 
-// Whether rows are within the limits of networks.
 fn are_within_limits(rows: &[NodeRow]) -> bool
     ensures { result ≡ is_within_limits rows.now }
 {
     !rows.is_empty() && rows.len() <= MAX_NODES && have_few_ports(rows) && have_small_numbers(rows)
 }
 
-// Whether rows have no more ports together than a network may have.
+// The ports of all rows together.
 fn have_few_ports(rows: &[NodeRow]) -> bool
     ensures { result ≡ nat_le (ports_in rows.now) MAX_PORTS }
 {
@@ -112,7 +111,7 @@ pub fn plain_row(
     })
 }
 
-// A port to each of these nodes, beyond an edge of weight 1.
+// Each port lies at an edge of weight 1.
 fn plain_ports(alloc: Global, neighbours: &[u32]) -> Result<Vec<Port>, NoMemory>
     ensures { IfOk result (λ ports. ports.items ≡ map plain_port neighbours.now) }
 {

@@ -81,8 +81,7 @@ pub(crate) fn usage() -> Answer
     }
 }
 
-// The answer to a network of which the components with these smallest identities lack the property.
-// The one error is want of memory.
+// `ids` are the smallest identities of the components that lack the property.
 pub(crate) fn no(alloc: Global, parts: &Components, ids: &[u32]) -> Result<Answer, NoMemory>
     ensures says { IfOk result (λ answer. answer ≡ no parts.now ids.now) }
     ensures worked { IfOk result (λ answer. IsWorked answer.status) }
@@ -97,14 +96,14 @@ pub(crate) fn no(alloc: Global, parts: &Components, ids: &[u32]) -> Result<Answe
     })
 }
 
-// One component is not named.
+// A single component is not named.
 fn named_ids<'a>(parts: &Components, ids: &'a [u32]) -> &'a [u32]
     ensures { result.now ≡ if_several parts.now ids.now }
 {
     if parts.len() > 1 { ids } else { &[] }
 }
 
-// Puts numbers behind a text, each behind a space.
+// Each number follows a space.
 fn push_ids(text: &mut String, ids: &[u32]) -> Result<(), NoMemory>
     ensures { OnOk result (string_bytes text.new ≡ string_bytes text.old ++ spaced ids.now) }
 {
@@ -114,8 +113,6 @@ fn push_ids(text: &mut String, ids: &[u32]) -> Result<(), NoMemory>
     Ok(())
 }
 
-// The answer with a report of outcomes, each with the identity of its node. The one error is want of
-// memory.
 pub(crate) fn report(
     alloc: Global,
     json: bool,
@@ -144,7 +141,6 @@ pub(crate) fn report(
     Ok(Answer { status, content })
 }
 
-// The answer with the reports of rounds.
 pub(crate) fn rounds_answer(reports: Vec<RoundReport>) -> Answer
     ensures reports { result ≡ rounds_answer reports.items }
     ensures worked { IsWorked result.status }
@@ -160,7 +156,7 @@ pub(crate) fn rounds_answer(reports: Vec<RoundReport>) -> Answer
     }
 }
 
-// Whether all is well in the last report, where there is one.
+// Whether all is well in the last report; true where there is none.
 fn ends_well(reports: &[RoundReport]) -> bool
     ensures { result ≡ ends_well reports.now }
 {
@@ -170,7 +166,6 @@ fn ends_well(reports: &[RoundReport]) -> bool
     }
 }
 
-// The status of a round: whether all nodes accept.
 fn round_status(rows: &[(u32, Outcome)]) -> Status
     ensures status { result ≡ (if all_accept rows.now then Status.Done else Status.No) }
     ensures worked { IsWorked result }
@@ -182,7 +177,7 @@ fn round_status(rows: &[(u32, Outcome)]) -> Status
     }
 }
 
-// The answer that says a refusal. Want of memory has none, and is answered by itself.
+// `TextError::NoMemory` has no text, and is passed on as the error.
 pub(crate) fn refuse(alloc: Global, error: TextError) -> Result<Answer, NoMemory>
     ensures says { IfOk result (λ answer. answer ≡ refusal error) }
     ensures refused { OnOk result (error ≢ TextError.NoMemory) }
@@ -200,7 +195,7 @@ pub(crate) fn refuse(alloc: Global, error: TextError) -> Result<Answer, NoMemory
     })
 }
 
-// The refusal that has this number and names a node.
+// `number` is that of the refusal, `id` that of the node.
 pub(crate) fn refuse_node(alloc: Global, number: u8, id: u32) -> Result<Answer, NoMemory>
     ensures says { IfOk result (λ answer. answer ≡ refusal (Sense number id)) }
     ensures worked { IfOk result (λ answer. IsWorked answer.status) }
@@ -209,7 +204,6 @@ pub(crate) fn refuse_node(alloc: Global, number: u8, id: u32) -> Result<Answer, 
     refuse(alloc, TextError::Sense { number, place })
 }
 
-// The status of a refusal.
 fn refusal_status(error: TextError) -> Status
     ensures { result ≡ refusal_status error }
 {

@@ -17,7 +17,7 @@ use pls_components::{Components, bound_parts};
 use pls_graph::Network;
 use std::alloc::Global;
 
-// How many bits a marked label of the network has at most. The one error is want of memory.
+// How many bits a marked label has at most.
 pub(crate) fn bound<C: NumCode>(
     alloc: Global,
     scheme: &AnyScheme<C>,

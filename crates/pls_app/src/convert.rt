@@ -23,8 +23,7 @@ use pls_model::MAX_BITS;
 use pls_view::LabelStore;
 use std::alloc::Global;
 
-// The labels of a network in the delta code; or the refusal of the first that cannot be read, or
-// else of too many bits together.
+// The labels in the delta code; refuses the first unreadable one, or else too many bits together.
 pub(crate) fn convert<C: NumCode>(
     alloc: Global,
     scheme: &AnyScheme<C>,
@@ -45,7 +44,7 @@ pub(crate) fn convert<C: NumCode>(
     }
 }
 
-// The labels of a network in the delta code, or the refusal of too many bits together.
+// Refuses labels with too many bits together.
 fn labels_within(alloc: Global, net: Network, labels: LabelStore) -> Result<Answer, NoMemory>
     ensures within { over Bits MOST (bits_together labels) ≡ None
         → IfOk result (λ answer. answer ≡ labels_answer DeltaName net labels) }

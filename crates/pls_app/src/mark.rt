@@ -20,8 +20,7 @@ use pls_graph::Network;
 use pls_model::MAX_BITS;
 use std::alloc::Global;
 
-// The labels of a network, where each component has the property of the scheme, else `no`; or the
-// refusal of labels that can be too long. The one error is want of memory.
+// Answers `no` where a component lacks the property; refuses labels that can be too long.
 pub(crate) fn mark<C: NumCode>(
     alloc: Global,
     scheme: &AnyScheme<C>,
@@ -55,7 +54,6 @@ fn test_room(room: u64) -> Result<(), TextError>
     Ok(())
 }
 
-// The labels of a network, where each component has the property of the scheme, else `no`.
 fn mark_within<C: NumCode>(
     alloc: Global,
     scheme: &AnyScheme<C>,

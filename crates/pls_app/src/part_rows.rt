@@ -13,8 +13,6 @@ use pls_report::PartRow;
 use pls_sim::Outcome;
 use std::alloc::Global;
 
-// Of each component its smallest identity, and how many nodes it has, reject and wait. The one error
-// is want of memory.
 pub(crate) fn part_rows(
     alloc: Global,
     net: &Network,
@@ -51,7 +49,7 @@ fn part_row(net: &Network, parts: &Components, k: usize, outcomes: &[(u32, Outco
     }
 }
 
-// How many of the nodes at some places reject, and how many wait.
+// How many of the nodes reject, and how many wait.
 fn failing_at(places: &[u32], outcomes: &[(u32, Outcome)]) -> (usize, usize)
     requires within { All (λ place. place < length outcomes.now) places.now }
     requires few { length places.now < 2 ^ 32 }

@@ -124,7 +124,7 @@ pub fn run<'w, S: Source, K: Sink, B: Bench>(
     }
 }
 
-// Writes the text of an answer, and gives its status, or says that a write failed.
+// The status of the answer, or `WriteFault` where a write failed.
 fn tell<K: Sink>(sink: &mut K, answer: &Answer) -> Status
     ensures told { WritesOrFails answer.now.status result (K.faults sink.old) (K.faults sink.new)
         (K.taken sink.old) (K.taken sink.new) answer.now.text }
@@ -136,7 +136,6 @@ fn tell<K: Sink>(sink: &mut K, answer: &Answer) -> Status
     }
 }
 
-// Writes what a text is made of. It takes no memory.
 fn write_content<K: Sink>(sink: &mut K, content: &Content) -> Result<(), Fault>
     ensures all { OnOk result (Appends (K.taken sink.old) (K.taken sink.new)
         (text_in content.now)) }
@@ -164,7 +163,6 @@ fn write_content<K: Sink>(sink: &mut K, content: &Content) -> Result<(), Fault>
     }
 }
 
-// Writes the text of a network, and behind it labels. It takes no memory.
 fn write_configuration<K: Sink>(
     network: &[u8],
     code: CodeName,
@@ -180,7 +178,6 @@ fn write_configuration<K: Sink>(
     stream_labels(net, labels, code, sink)
 }
 
-// Writes the reports of rounds, one after another. It takes no memory.
 fn write_rounds<K: Sink>(reports: &[RoundReport], sink: &mut K) -> Result<(), Fault>
     ensures all { OnOk result (Appends (K.taken sink.old) (K.taken sink.new)
         (reports_text reports.now)) }

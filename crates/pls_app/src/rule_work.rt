@@ -15,8 +15,7 @@ use pls_inputs::{Input, read_input};
 use pls_model::MAX_INPUT;
 use std::alloc::Global;
 
-// The answer to a task with a rule set on an input within the limit. The one error is want of
-// memory.
+// `bytes` are within the limit.
 pub(crate) fn answer_by_rules(
     alloc: Global,
     task: RuleTask,
@@ -32,7 +31,6 @@ pub(crate) fn answer_by_rules(
     }
 }
 
-// The answer to a task on what its input says. The one error is want of memory.
 fn do_rule_task(alloc: Global, task: RuleTask, input: Input) -> Result<Answer, NoMemory>
     requires { (bytes : List ℕ) × IsRead (input_parts_of (Command.ByRules task)) bytes input }
     ensures does { IfOk result (λ answer. DoesWork (Command.ByRules task) (said input) answer) }

@@ -27,7 +27,6 @@ use pls_rules_part::print_rules;
 use pls_view::LabelStore;
 use std::alloc::Global;
 
-// The report of the round of a rule set under labels.
 pub(crate) fn judge(
     alloc: Global,
     set: RuleSet,
@@ -47,7 +46,6 @@ pub(crate) fn judge(
     verify(alloc, &checker, json, net, parts, labels)
 }
 
-// The network with its first two edges crossed that may be, where the nodes judge by a rule set.
 pub(crate) fn splice_by_rules(
     alloc: Global,
     set: RuleSet,
@@ -64,7 +62,6 @@ pub(crate) fn splice_by_rules(
     splice(alloc, &checker, code, net, labels)
 }
 
-// The machine code of a rule set, as a text.
 pub(crate) fn list_code(alloc: Global, set: &RuleSet) -> Result<Answer, NoMemory>
     requires { AreRules (set_of set.now) }
     ensures { IfOk result (λ answer. answer ≡ code_answer (set_of set.now)) }
@@ -76,7 +73,7 @@ pub(crate) fn list_code(alloc: Global, set: &RuleSet) -> Result<Answer, NoMemory
     })
 }
 
-// The rules part of the set that has the name of a scheme.
+// Prints the rules part alone.
 pub(crate) fn print_named(alloc: Global, name: SchemeName) -> Result<Answer, NoMemory>
     requires { IsSome (set_of_name name) }
     ensures { IfOk result (λ answer. answer ≡ rules_answer name) }

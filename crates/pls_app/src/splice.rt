@@ -21,8 +21,8 @@ use pls_splice::{Pair, Ring, RingError, cross, find};
 use pls_view::LabelStore;
 use std::alloc::Global;
 
-// A ring with the first two of its edges crossed that may be, and its labels; or the refusal of what
-// is no ring, or of the first node that rejects. The one error is want of memory.
+// Crosses the first two edges that may be; refuses what is no ring, and the first node that
+// rejects.
 pub(crate) fn splice<V: Checker>(
     alloc: Global,
     checker: &V,
@@ -43,7 +43,6 @@ pub(crate) fn splice<V: Checker>(
     }
 }
 
-// The same, where the network is a ring.
 fn splice_ring<V: Checker>(
     alloc: Global,
     checker: &V,
@@ -69,7 +68,6 @@ fn splice_ring<V: Checker>(
     }
 }
 
-// The identity of the first node that rejects.
 fn first_rejecting(rows: &[(u32, Outcome)]) -> Option<u32>
     ensures { result ≡ first_rejecting rows.now }
 {
@@ -82,7 +80,6 @@ fn rejects(outcome: &Outcome) -> bool
     matches!(outcome, Outcome::Decided(Verdict::Reject { .. }))
 }
 
-// The answer where two edges are crossed.
 fn crossed_answer(
     alloc: Global,
     ring: &Ring,
@@ -111,7 +108,6 @@ fn crossed_answer(
     })
 }
 
-// The answer where no two edges may be crossed.
 fn uncrossed_answer() -> Answer
     ensures says { result ≡ uncrossed_answer }
     ensures worked { IsWorked result.status }

@@ -27,8 +27,7 @@ use pls_watch::{LookRows, Lookout, Watch, WatchEvent};
 use pls_watch_part::WatchLine;
 use std::alloc::Global;
 
-// The looks at the round in which labels change, or the refusal of the first event that does not
-// apply.
+// Shows each look, or refuses the first event that does not apply.
 pub(crate) fn watch<C: NumCode>(
     alloc: Global,
     scheme: &AnyScheme<C>,
@@ -61,7 +60,7 @@ pub(crate) fn watch<C: NumCode>(
     }
 }
 
-// How many lines give a label, and how many bits these labels have together.
+// How many lines give a label, and the bits of these labels together.
 fn relabels_in(lines: &[WatchLine]) -> (usize, u64)
     requires few { length lines.now ≤ MAX_LINES }
     requires bits { total_bits lines.now ≤ MAX_BITS }
@@ -81,8 +80,7 @@ fn relabels_in(lines: &[WatchLine]) -> (usize, u64)
     (count, total)
 }
 
-// Takes the events in their order, and shows each look, up to the first event that does not apply,
-// and answers the place of its line, where there is one.
+// The place of the first line whose event does not apply, `None` where all do.
 fn play<K: Checker>(
     alloc: Global,
     lookout: &mut Lookout<'_, '_, K>,
@@ -109,7 +107,7 @@ fn play<K: Checker>(
     Ok(None)
 }
 
-// Takes the event of a line, or shows the look that it asks for; whether it applies.
+// False where the event does not apply.
 fn take_line<K: Checker>(
     alloc: Global,
     lookout: &mut Lookout<'_, '_, K>,
@@ -157,7 +155,7 @@ impl LooksSoFar {
         }
     }
 
-    // A text in memory fails to take what is written only for want of memory.
+    // Writing into memory fails only for want of memory.
     fn add_look(&mut self, look: &LookRows) -> Result<(), NoMemory>
         requires { self.old.looks < 2 ^ 31 }
         ensures { OnOk result ((looks : List (List (ℕ × Outcome × List ℕ)))

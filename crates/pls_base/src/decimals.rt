@@ -28,7 +28,7 @@ fn is_plain(text: &[u8]) -> bool
     !text.is_empty() && (text.len() == 1 || text[0] != b'0')
 }
 
-// The number that digits stand for, leading zeros allowed, where it is below 2^64.
+// Leading zeros are allowed; `None` for a byte that is no digit, or from 2^64 on.
 #[tactic(auto, using(crate::proofs::Numerals::digit_below, crate::proofs::Numerals::front_below))]
 fn digits_number(text: &[u8]) -> Option<u64>
     ensures digits { IfSome result (λ _. AllDigits 10 text.now) }
@@ -42,7 +42,7 @@ fn digits_number(text: &[u8]) -> Option<u64>
     Some(number)
 }
 
-// The number with one more digit behind it, where the byte is a digit and it is below 2^64.
+// `None` where the byte is no digit, or the number would reach 2^64.
 fn with_digit(number: u64, byte: u8) -> Option<u64>
     ensures digit { IfSome result (λ _. digit_value byte < 10) }
     ensures value { IfSome result (λ next. next ≡ number * 10 + digit_value byte) }
@@ -64,7 +64,7 @@ pub fn write_decimal(value: u64, into: &mut [u8; 20]) -> usize
     put_digits(value, into)
 }
 
-// Writes the digits of a number into the front of a slice that has room for them, two at a time.
+// Writes two digits at a time; `into` must have room for all.
 #[tactic(auto, using(crate::proofs::Numerals::one_more_digit))]
 fn put_digits(value: u64, into: &mut [u8]) -> usize
     requires { length (decimal value) ≤ length into.old }
@@ -79,7 +79,7 @@ fn put_digits(value: u64, into: &mut [u8]) -> usize
     put_last(value, next, into)
 }
 
-// Writes the digits of a number below a hundred.
+// `value` is below 100.
 #[tactic(auto, using(crate::proofs::Numerals::one_digit, crate::proofs::Numerals::one_more_digit))]
 fn put_few(value: u64, into: &mut [u8]) -> usize
     requires few { value < 100 }
@@ -94,7 +94,7 @@ fn put_few(value: u64, into: &mut [u8]) -> usize
     put_last(value, front, into)
 }
 
-// Writes the digit of a number below ten.
+// `value` is below 10.
 #[tactic(auto, using(crate::proofs::Numerals::one_digit))]
 fn put_one(value: u64, into: &mut [u8]) -> usize
     requires one { value < 10 }
@@ -106,7 +106,7 @@ fn put_one(value: u64, into: &mut [u8]) -> usize
     1
 }
 
-// Writes the last digit of a number behind its others.
+// Writes the last digit of `value` at `front`, behind its others.
 #[tactic(auto, using(crate::proofs::Numerals::one_more_digit))]
 fn put_last(value: u64, front: usize, into: &mut [u8]) -> usize
     requires several { 10 ≤ value }

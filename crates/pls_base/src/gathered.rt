@@ -43,7 +43,7 @@ impl Gathered {
         }
     }
 
-    // Adds bytes, where there is room for them.
+    // False, and nothing added, where there is no room for all.
     #[inline(always)]
     fn add(&mut self, bytes: &[u8]) -> bool
         ensures { self.new ≡ (if result then self.old ++ bytes.now else self.old) }
@@ -75,8 +75,7 @@ impl Gathered {
         write_all(sink, bytes)
     }
 
-    // Adds the first `count` of some bytes, where there is room for all of them. As many are copied as
-    // the type says, which takes no call; what stands behind the first `count` is written over later.
+    // Copies all `N` bytes, which takes no call; those behind `count` are written over later.
     #[inline(always)]
     fn add_front<const N: usize>(&mut self, bytes: &[u8; N], count: usize) -> bool
         requires { count ≤ N }

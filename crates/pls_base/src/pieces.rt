@@ -2,7 +2,7 @@
 
 ghost use Rattle.std.specs.Prelude.{◌≡◌, ◌+◌, ◌↔◌, min, length, take, IsTrue, Contains};
 
-// Whether the next call after so many stands in the list. There is no call past 2^64-1 in it.
+// Whether the call after the first `calls` is in the list; none is past 2^64-1.
 pub(crate) fn is_due(fails: &[u64], calls: u64) -> bool
     ensures { IsTrue result ↔ Contains fails.now (calls + 1) }
 {
@@ -12,7 +12,7 @@ pub(crate) fn is_due(fails: &[u64], calls: u64) -> bool
     }
 }
 
-// Copies as many bytes as both slices have, and at most `most`.
+// Copies as many bytes as both slices have, at most `most`.
 pub(crate) fn copy_front(from: &[u8], into: &mut [u8], most: usize) -> usize
     ensures count { result ≡ min (min most (length into.new)) (length from.now) }
     ensures same { take result into.new ≡ take result from.now }

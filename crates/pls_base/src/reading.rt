@@ -88,7 +88,6 @@ pub fn read_all<S: Source>(alloc: Global, source: &mut S, limit: u64) -> Result<
     }
 }
 
-// Reads once into a buffer, at most `most` bytes, and lends what came.
 fn read_piece<'a, S: Source>(
     source: &mut S,
     buffer: &'a mut [u8],

@@ -35,8 +35,7 @@ impl SureSource {
         SureSource { bytes, at: 0 }
     }
 
-    // Moves the next bytes into the front of `into`, as many as there are and as there is room for,
-    // and at most `most`.
+    // Moves as many bytes as there are and fit, at most `most`.
     pub(crate) fn give(&mut self, into: &mut [u8], most: usize) -> usize
         ensures count { result ≡ min (min most (length into.new)) (length self.old) }
         ensures given { self.old ≡ take result into.new ++ self.new }

@@ -55,7 +55,7 @@ impl NumCode for Delta {
     ghost short_law = { λ number _. delta_short number };
 }
 
-// The number that a one and the next `count` binary digits show, less 1.
+// A one and the next `count` bits as a binary number, less 1.
 #[inline(always)]
 fn digits_behind_one(cursor: &mut Cursor<'_>, count: u64) -> Option<u64>
     ensures { Takes (behind_one count) result cursor.old cursor.new }

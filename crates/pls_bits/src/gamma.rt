@@ -27,8 +27,7 @@ impl NumCode for Gamma {
         buf.push_digits(0, zeros, number + 1, zeros + 1)
     }
 
-    // The next 64 bits show the zeros, and mostly all of the code; the code of 0 is a one alone.
-    // The cursor moves only where a code comes.
+    // The next 64 bits mostly show the whole code; the cursor moves only where a code comes.
     #[inline(always)]
     fn read(cursor: &mut Cursor<'_>) -> Option<u64> {
         let ahead = cursor.peek();
@@ -67,7 +66,7 @@ impl NumCode for Gamma {
     ghost short_law = { λ number _. gamma_short number };
 }
 
-// The logarithm to the base 2 of the next number, rounded down: as many zeros begin its gamma code.
+// To the base 2, rounded down: the number of zeros that begin the gamma code.
 #[inline(always)]
 pub(crate) fn log_of_next(number: u64) -> usize
     requires { number ≤ MAX_CODED }

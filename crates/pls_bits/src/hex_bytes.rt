@@ -20,7 +20,7 @@ pub(crate) fn eight_bytes(digits: &[u8]) -> [u8; 8]
     bytes
 }
 
-// The value of a lower-case digit. The codes of the letters begin at 97, which is 6 * 16 + 1.
+// Lower case only: the codes of the letters begin at 97, which is 6 * 16 + 1.
 #[inline(always)]
 fn digit_value(digit: u8) -> u8
     requires { is_lower_digit digit ≡ true }

@@ -34,7 +34,7 @@ pub fn append_hex(words: &mut Vec<u64>, len: usize, digits: &[u8]) -> Result<(),
     Ok(())
 }
 
-// Word `k` of the bits of some digits, with zeros behind the last of them.
+// Zeros stand behind the last digit.
 fn word_at(digits: &[u8], k: usize) -> u64
     requires within { 16 * k ≤ length digits.now }
     requires lower { list_all is_lower_digit digits.now ≡ true }
@@ -50,7 +50,7 @@ fn word_at(digits: &[u8], k: usize) -> u64
     word_of(&padded)
 }
 
-// The word whose hex text the sixteen digits are.
+// There are sixteen digits.
 fn word_of(digits: &[u8]) -> u64
     requires long { length digits.now ≡ 16 }
     requires lower { list_all is_lower_digit digits.now ≡ true }
@@ -59,7 +59,6 @@ fn word_of(digits: &[u8]) -> u64
     u64::from_be_bytes(eight_bytes(digits))
 }
 
-// The hex text of a word.
 pub(crate) fn word_digits(word: u64) -> [u8; 16]
     ensures { result ≡ hex_digits (bits_of_word word) }
 {

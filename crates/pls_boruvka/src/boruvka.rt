@@ -56,7 +56,6 @@ pub fn boruvka_levels(alloc: Global, net: &Network) -> Result<Option<LevelLists>
     }
 }
 
-// Whether all tops are the same.
 fn are_one(tops: &[u32]) -> bool
     requires { 0 < length tops.now }
     ensures one { result ≡ true → AreOne tops.now }
@@ -70,7 +69,6 @@ fn are_one(tops: &[u32]) -> bool
     true
 }
 
-// So many nodes whose pointers are not joined.
 fn none_joined(alloc: Global, count: usize) -> Result<Vec<bool>, NoMemory>
     ensures { IfOk result (λ joined. joined.items ≡ replicate count false) }
 {

@@ -14,7 +14,7 @@ pub(crate) struct Choice {
     pub(crate) b: u32,
 }
 
-// Whether there is an edge, and it weighs less than this.
+// False where there is no edge.
 pub(crate) fn is_lighter(one: Option<Choice>, weight: u32) -> bool
     ensures { result ≡ true → IsLighter one weight }
 {
@@ -24,7 +24,7 @@ pub(crate) fn is_lighter(one: Option<Choice>, weight: u32) -> bool
     }
 }
 
-// The earlier of two edges, where there are two.
+// Where only one is an edge, that one.
 pub(crate) fn earlier(one: Option<Choice>, other: Option<Choice>) -> Option<Choice>
     ensures { IsEarlier one other result }
 {
@@ -41,8 +41,7 @@ pub(crate) fn earlier(one: Option<Choice>, other: Option<Choice>) -> Option<Choi
     }
 }
 
-// Whether an edge comes before another: by weight, at one weight pointed edges first, then by the
-// smaller end, then by the greater.
+// By weight, at one weight pointed edges first, then by the smaller end, then by the greater.
 fn is_before(one: Choice, other: Choice) -> bool
     ensures before { result ≡ true → IsAtMost (key_of one) (key_of other) }
     ensures after { result ≡ false → IsAtMost (key_of other) (key_of one) }

@@ -10,8 +10,7 @@ use pls_graph::Network;
 use pls_model::Port;
 use std::alloc::Global;
 
-// Puts at the top of each fragment the first edge that leaves it, if any does, in memory that is
-// written anew.
+// Puts at each fragment's top the first edge that leaves it, if any; `choices` is written anew.
 pub(crate) fn choices_of(
     net: &Network,
     parents: &[Option<u32>],
@@ -31,15 +30,13 @@ pub(crate) fn choices_of(
     }
 }
 
-// Nothing found at so many tops.
 pub(crate) fn no_choices(alloc: Global, count: usize) -> Result<Vec<Option<Choice>>, NoMemory>
     ensures { IfOk result (λ choices. length choices.items ≡ count) }
 {
     Ok(vec![in alloc; None; count]?)
 }
 
-// The first of the edges that leave a fragment, with those at a node of it, from the first of those
-// at the nodes before. What is heavier than the first so far is passed.
+// The first edge that leaves the fragment at `place` or, by `before`, at an earlier place.
 fn first_with(
     net: &Network,
     parents: &[Option<u32>],
@@ -68,7 +65,7 @@ fn first_with(
     first
 }
 
-// Of two places the one that points at the other, if one does.
+// Whichever of the two places points at the other, if one does.
 fn child_of(parents: &[Option<u32>], place: u32, other: u32) -> Option<u32>
     requires within { place < length parents.now }
     requires inside { other < length parents.now }
@@ -83,7 +80,6 @@ fn child_of(parents: &[Option<u32>], place: u32, other: u32) -> Option<u32>
     }
 }
 
-// The edge at a port of the node with this identity.
 fn choice_at(id: u32, port: Port, child: Option<u32>) -> Choice
     ensures { result ≡ choice_at id port child }
 {

@@ -17,7 +17,7 @@ pub(crate) struct Chosen {
     pub(crate) child: u32,
 }
 
-// For each node what the level says of it; `None` where some chosen edge is not a pointed one.
+// One per node; `None` where some chosen edge is not a pointed one.
 pub(crate) fn chosen_of(
     alloc: Global,
     net: &Network,
@@ -42,7 +42,6 @@ pub(crate) fn chosen_of(
     Ok(Some(all))
 }
 
-// What the level says of the nodes of a fragment, by its top and its choice.
 fn chosen_at(net: &Network, top: usize, choice: Option<Choice>) -> Option<Chosen>
     requires within { top < length net.now }
     ensures chosen { IfSome result (λ chosen. IsChosen net.now top choice chosen) }
@@ -54,7 +53,6 @@ fn chosen_at(net: &Network, top: usize, choice: Option<Choice>) -> Option<Chosen
     Some(Chosen { level, child })
 }
 
-// Joins the pointers that lie on chosen edges.
 pub(crate) fn join(joined: &mut [bool], all: &[Chosen])
     requires within { AreChildrenWithin (length joined.old) all.now }
     ensures { JoinChildren all.now (length all.now) joined.old joined.new }

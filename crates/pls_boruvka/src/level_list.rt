@@ -42,7 +42,6 @@ impl LevelList {
         }
     }
 
-    // What these rounds say of the node at a place. It takes no memory.
     pub(crate) fn of_rounds(rounds: Rc<Vec<Vec<Chosen>>>, place: usize) -> LevelList
         ensures { result ≡ said_at (map (λ all. all.items) rounds.value.items) place }
     {
@@ -73,7 +72,7 @@ impl LevelList {
     }
 }
 
-// What a round says of the node at a place, and zeros where it says nothing.
+// All zeros where the round says nothing of the place.
 fn said_of(all: &[Chosen], place: usize) -> Level
     ensures { result ≡ (slice_index_or all.now place no_chosen).level }
 {

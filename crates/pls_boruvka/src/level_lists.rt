@@ -30,7 +30,7 @@ impl Model for LevelLists {
 }
 
 impl LevelLists {
-    // What these rounds say of so many nodes. The one error is want of memory.
+    // `count` is the number of nodes.
     pub(crate) fn of_rounds(
         alloc: Global,
         rounds: Vec<Vec<Chosen>>,

@@ -28,7 +28,6 @@ impl Model for ShortLevel {
 }
 
 impl ShortLevel {
-    // The level of this fragment with this edge.
     pub(crate) fn of(fragment: u32, weight: u32, a: u32, b: u32) -> ShortLevel
         ensures { result ≡ record { fragment = fragment; weight = weight; a = a; b = b } }
     {
@@ -40,7 +39,7 @@ impl ShortLevel {
         }
     }
 
-    // The level with room for every number of a label.
+    // The same level in the wider numbers of a label.
     #[inline(always)]
     pub(crate) fn whole(&self) -> Level
         ensures { result ≡ self.now }

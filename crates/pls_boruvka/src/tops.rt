@@ -10,7 +10,6 @@ use pls_graph::Network;
 use pls_search::pointed_place;
 use std::alloc::Global;
 
-// For each place the place that its node points at, or `None` where it points at none.
 pub(crate) fn parents_of(alloc: Global, net: &Network) -> Result<Vec<Option<u32>>, NoMemory>
     ensures { IfOk result (λ parents. AreParents net.now parents.items) }
 {
@@ -21,7 +20,6 @@ pub(crate) fn parents_of(alloc: Global, net: &Network) -> Result<Vec<Option<u32>
     Ok(parents)
 }
 
-// The place that the node at a place points at.
 fn parent_of(net: &Network, place: usize) -> Option<u32>
     requires within { place < length net.now }
     requires few { length net.now ≤ MAX_NODES }
@@ -33,7 +31,6 @@ fn parent_of(net: &Network, place: usize) -> Option<u32>
     }
 }
 
-// For each place the top of its chain.
 pub(crate) fn tops_of(
     alloc: Global,
     parents: &[Option<u32>],
@@ -48,14 +45,13 @@ pub(crate) fn tops_of(
     tops_with(alloc, parents, joined, noted.as_mut_slice())
 }
 
-// No top of so many places.
 pub(crate) fn none_noted(alloc: Global, count: usize) -> Result<Vec<Option<u32>>, NoMemory>
     ensures { IfOk result (λ noted. length noted.items ≡ count) }
 {
     Ok(vec![in alloc; None; count]?)
 }
 
-// For each place the top of its chain, where they are noted in memory that is written anew.
+// As `tops_of`, in the memory of `noted`, which is written anew.
 pub(crate) fn tops_with(
     alloc: Global,
     parents: &[Option<u32>],
@@ -79,7 +75,6 @@ pub(crate) fn tops_with(
     Ok(tops)
 }
 
-// The top of a place.
 fn top_from(parents: &[Option<u32>], joined: &[bool], noted: &[Option<u32>], start: usize) -> u32
     requires within { start < length parents.now }
     requires each { length joined.now ≡ length parents.now }
@@ -100,7 +95,7 @@ fn top_from(parents: &[Option<u32>], joined: &[bool], noted: &[Option<u32>], sta
     }
 }
 
-// Notes the top of a place for it and for those that its chain leads to, up to one that is noted.
+// Notes `top` along the chain from `start`, up to a place already noted.
 fn note_top(
     parents: &[Option<u32>],
     joined: &[bool],
@@ -125,7 +120,6 @@ fn note_top(
     }
 }
 
-// The parent of a place that is joined to it.
 fn joined_parent(parents: &[Option<u32>], joined: &[bool], place: usize) -> Option<u32>
     requires within { place < length parents.now }
     requires each { length joined.now ≡ length parents.now }

@@ -7,7 +7,6 @@ use pls_base::NoMemory;
 use pls_rules::{Field, FieldKind, Name};
 use std::alloc::Global;
 
-// A field with a name, written so.
 pub(crate) fn field(alloc: Global, name: &str, kind: FieldKind) -> Result<Field, NoMemory>
     ensures { IfOk result (λ made. made ≡ field name.now kind) }
 {
@@ -15,7 +14,7 @@ pub(crate) fn field(alloc: Global, name: &str, kind: FieldKind) -> Result<Field,
     Ok(Field { name, kind })
 }
 
-// A field with a name, written in the number code.
+// A field written in the number code.
 pub(crate) fn number(alloc: Global, name: &str) -> Result<Field, NoMemory>
     ensures { IfOk result (λ made. made ≡ number name.now) }
 {

@@ -9,7 +9,7 @@ use pls_base::NoMemory;
 use pls_rules::{BoolExpr, NumExpr};
 use std::alloc::Global;
 
-// A neighbour has in a field what the node has.
+// A neighbour has the node's value in the field.
 pub(crate) fn is_shared(alloc: Global, field: u8) -> Result<BoolExpr, NoMemory>
     ensures { IfOk result (λ made. formula_of made ≡ Eq (Nb field) (My field)) }
 {
@@ -38,7 +38,6 @@ pub(crate) fn is_deeper(alloc: Global, depth: u8) -> Result<BoolExpr, NoMemory>
     equal(alloc, NumExpr::My(depth), next)
 }
 
-// The node points at a port, or else this holds.
 pub(crate) fn points_or(alloc: Global, other: BoolExpr) -> Result<BoolExpr, NoMemory>
     ensures { IfOk result (λ made. formula_of made
         ≡ Either (Eq Pointed (Number 1)) (formula_of other)) }
@@ -47,7 +46,6 @@ pub(crate) fn points_or(alloc: Global, other: BoolExpr) -> Result<BoolExpr, NoMe
     either(alloc, points, other)
 }
 
-// The node points at no port, or else this holds.
 pub(crate) fn points_nowhere_or(alloc: Global, other: BoolExpr) -> Result<BoolExpr, NoMemory>
     ensures { IfOk result (λ made. formula_of made
         ≡ Either (Eq Pointed (Number 0)) (formula_of other)) }

@@ -45,7 +45,7 @@ pub fn centroid_levels(alloc: Global, net: &Network) -> Result<Vec<CentroidList>
     Ok(lists)
 }
 
-// What the rounds say, one after another, until each node has been a centroid.
+// Until each node has been a centroid.
 fn all_rounds(
     alloc: Global,
     net: &Network,
@@ -76,14 +76,12 @@ fn all_rounds(
     Ok(rounds)
 }
 
-// Whether all places are taken away.
 fn are_all(taken: &[bool]) -> bool
     ensures { result ≡ list_all (λ flag. flag) taken.now }
 {
     taken.iter().all(|flag| *flag)
 }
 
-// For each of so many places what the rounds say of it.
 fn lists_of(
     alloc: Global,
     rounds: &[Vec<LevelEntry>],
@@ -99,7 +97,7 @@ fn lists_of(
     Ok(lists)
 }
 
-// What the rounds say of a place, up to the first that says nothing.
+// Up to the first round that says nothing of the place.
 fn list_at(
     alloc: Global,
     rounds: &[Vec<LevelEntry>],
@@ -118,7 +116,7 @@ fn list_at(
     Ok(CentroidList::from_vec(levels))
 }
 
-// What a round says of a place, and nothing where there is no such place.
+// `None` also where there is no such place.
 fn level_at(round: &[LevelEntry], place: usize) -> Option<CentroidLevel>
     ensures { result ≡ slice_index_or round.now place None }
 {

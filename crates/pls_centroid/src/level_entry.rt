@@ -28,7 +28,6 @@ impl Model for LevelEntry {
 }
 
 impl LevelEntry {
-    // Nothing.
     pub(crate) fn nothing() -> LevelEntry
         ensures { result ≡ None }
     {
@@ -39,7 +38,6 @@ impl LevelEntry {
         }
     }
 
-    // The centroid of this identity, and the way there.
     pub(crate) fn of_way(centroid: u32, way: Way) -> LevelEntry
         ensures { result ≡ Some (level_with centroid way.hops way.greatest) }
     {
@@ -50,7 +48,6 @@ impl LevelEntry {
         }
     }
 
-    // The level, if there is one.
     pub(crate) fn level(&self) -> Option<CentroidLevel>
         ensures { result ≡ self.now }
     {

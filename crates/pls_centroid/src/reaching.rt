@@ -32,8 +32,7 @@ impl Way {
     }
 }
 
-// The ways of all places, by the parents that are left and the weights of the edges to parents, the
-// tops of the pieces, and their centroids.
+// `left` are the remaining parents, `weights` those of the edges to parents.
 pub(crate) fn ways_of(
     alloc: Global,
     order: &[usize],
@@ -61,7 +60,6 @@ pub(crate) fn ways_of(
     Ok(ways)
 }
 
-// The ways of the centroids.
 fn start_ways(
     alloc: Global,
     tops: &[usize],
@@ -77,7 +75,7 @@ fn start_ways(
     Ok(ways)
 }
 
-// The way of a place, where it is the centroid of its piece.
+// `None` where the place is not the centroid of its piece.
 fn start_at(tops: &[usize], centroids: &[Option<usize>], place: usize) -> Option<Way>
     requires tops { All (λ top. top < length centroids.now) tops.now }
     requires within { place < length tops.now }
@@ -98,8 +96,7 @@ fn start_at(tops: &[usize], centroids: &[Option<usize>], place: usize) -> Option
     }
 }
 
-// Notes the ways of the places that the centroids' chains of parents lead to, from the last place
-// in the order on.
+// Sets the ways of the centroids' ancestors, going back from the end of `order`.
 fn note_up(order: &[usize], weights: &[u32], left: &[Option<usize>], ways: &mut [Option<Way>])
     requires order { AreBehindParents left.now order.now }
     requires weights { length weights.now ≡ length left.now }
@@ -117,7 +114,7 @@ fn note_up(order: &[usize], weights: &[u32], left: &[Option<usize>], ways: &mut 
     }
 }
 
-// Notes the ways of all other places, each by way of its parent.
+// Sets the ways of all other places, each through its parent.
 fn note_down(order: &[usize], weights: &[u32], left: &[Option<usize>], ways: &mut [Option<Way>])
     requires order { AreBehindParents left.now order.now }
     requires weights { length weights.now ≡ length left.now }
@@ -131,7 +128,7 @@ fn note_down(order: &[usize], weights: &[u32], left: &[Option<usize>], ways: &mu
     }
 }
 
-// The way of a place: its own, or by way of its parent.
+// Its own way, or else one through its parent.
 fn way_by(
     weights: &[u32],
     left: &[Option<usize>],

@@ -22,7 +22,7 @@ pub(crate) struct Round {
     pub(crate) taken: Vec<bool>,
 }
 
-// What the level says of each node where these have been centroids before.
+// `taken` are the nodes that have been centroids before.
 pub(crate) fn round_of(
     alloc: Global,
     net: &Network,
@@ -58,7 +58,6 @@ pub(crate) fn round_of(
     Ok(Round { said, taken })
 }
 
-// What is said of each place.
 fn levels_of_places(
     alloc: Global,
     net: &Network,
@@ -84,7 +83,7 @@ fn levels_of_places(
     Ok(said)
 }
 
-// What is said of a place: nothing where it is taken away, and else its level.
+// Nothing where the place is taken away.
 fn level_of_place(
     net: &Network,
     taken: &[bool],
@@ -117,7 +116,7 @@ fn level_of_place(
     }
 }
 
-// Which nodes have been centroids, with those of this level.
+// The nodes of `taken`, and the centroids of this level.
 fn with_centroids(
     alloc: Global,
     tops: &[usize],

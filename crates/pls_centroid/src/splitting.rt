@@ -11,7 +11,7 @@ use pls_base::NoMemory;
 use pls_search::subtree_sizes;
 use std::alloc::Global;
 
-// The parents that are left where some places are taken away: of no such place, and no such place.
+// `None` for a taken place, and where its parent is taken.
 pub(crate) fn parents_left(
     alloc: Global,
     parents: &[Option<usize>],
@@ -33,7 +33,6 @@ pub(crate) fn parents_left(
     Ok(left)
 }
 
-// The parent of a place that is left.
 fn parent_left(parents: &[Option<usize>], taken: &[bool], place: usize) -> Option<usize>
     requires within { place < length parents.now }
     requires each { length taken.now ≡ length parents.now }
@@ -52,7 +51,7 @@ fn parent_left(parents: &[Option<usize>], taken: &[bool], place: usize) -> Optio
     }
 }
 
-// For each place the top of its piece: where its chain of parents ends.
+// The top of a piece is where its chains of parents end.
 pub(crate) fn tops_of(
     alloc: Global,
     order: &[usize],
@@ -71,7 +70,6 @@ pub(crate) fn tops_of(
     Ok(tops)
 }
 
-// The top of a place, by those of other places.
 fn top_by(left: &[Option<usize>], tops: &[usize], place: usize) -> usize
     requires within { place < length left.now }
     requires each { length tops.now ≡ length left.now }
@@ -84,7 +82,7 @@ fn top_by(left: &[Option<usize>], tops: &[usize], place: usize) -> usize
     }
 }
 
-// For each place the greatest size of those whose parent it is.
+// The greatest size among the children of each place.
 fn greatest_below(
     alloc: Global,
     left: &[Option<usize>],
@@ -105,7 +103,7 @@ fn greatest_below(
     Ok(greatest)
 }
 
-// For each top the centroid of its piece: the first place without which no part is more than half.
+// For each top, the first place whose removal leaves no part over half of the piece.
 pub(crate) fn centroids_of(
     alloc: Global,
     left: &[Option<usize>],
@@ -136,15 +134,13 @@ pub(crate) fn centroids_of(
     Ok(centroids)
 }
 
-// Whether a place is central in a piece of so many, of which so many are it and those below it, and
-// so many at most are below one whose parent it is.
+// `all` nodes in the piece, `own` from the place down, at most `below` under one child.
 fn is_central(all: u32, own: u32, below: u32) -> bool
     ensures { result ≡ (nat_le all (2 * own) && nat_le (2 * below) all) }
 {
     u64::from(all) <= 2 * u64::from(own) && 2 * u64::from(below) <= u64::from(all)
 }
 
-// The first central place, with one place more.
 fn first_of(found: Option<usize>, central: bool, place: usize) -> Option<usize>
     ensures { result ≡ first_of found central place }
 {

@@ -125,7 +125,7 @@ impl<C: NumCode> Rules for AcyclicRules<C> {
     }
 }
 
-// Whether the neighbour is one deeper, or one less deep.
+// Whether the depths differ by one.
 fn is_beside(own: &CycleLabel, weight: u32, label: &CycleLabel) -> bool
     ensures { result ≡ is_beside own.now.depth (port_with weight label.now) }
 {

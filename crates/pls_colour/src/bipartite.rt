@@ -74,7 +74,6 @@ impl<C: NumCode> Rules for BipartiteRules<C> {
     }
 }
 
-// Whether two colours differ.
 fn colours_differ(one: bool, other: bool) -> bool
     ensures { result ≡ differ one other }
 {

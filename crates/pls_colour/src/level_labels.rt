@@ -17,12 +17,10 @@ use std::alloc::Global;
 pub(crate) trait SaysLevels: Judgement {
     ghost level_label: { ℕ → Self.Format.Label };
 
-    // The label that says a level.
     fn level_label(level: u32) -> <Self::Format as Format>::Label
         ensures { result ≡ level_label level };
 }
 
-// For each node of a connected network, in their order, the label that says its level.
 pub(crate) fn level_labels<R: SaysLevels>(
     alloc: Global,
     net: &Network,
@@ -37,7 +35,7 @@ pub(crate) fn level_labels<R: SaysLevels>(
     Ok(labels)
 }
 
-// The labels that say these levels, in their order. A node without one gets level 0.
+// A node without a level gets level 0.
 fn labels_of_levels<R: SaysLevels>(
     alloc: Global,
     levels: &[Option<u32>],

@@ -56,7 +56,7 @@ impl<C: NumCode> AnyScheme<C> {
         Ok(None)
     }
 
-    // The label at a place in the code `D`, where those before it are there.
+    // `into` holds the labels before `place`; `None` where the label cannot be read.
     fn convert_at<D: NumCode>(
         &self,
         alloc: Global,
@@ -91,7 +91,7 @@ impl<C: NumCode> AnyScheme<C> {
     }
 }
 
-// The label that the bits are, written in the code `D`.
+// `None` where the bits cannot be read.
 fn convert_tree<C: NumCode, D: NumCode>(
     alloc: Global,
     tree: &ExpressionTree,

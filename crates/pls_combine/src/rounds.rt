@@ -19,7 +19,7 @@ use pls_scheme::Checker;
 use pls_view::{Labels, LentLabels};
 use std::alloc::Global;
 
-// The verdict of each node on its view. It adds one step a node.
+// Adds one step per node.
 pub(crate) fn round_of<C: NumCode, L: Labels>(
     alloc: Global,
     tree: &ExpressionTree,
@@ -38,7 +38,6 @@ pub(crate) fn round_of<C: NumCode, L: Labels>(
     round_tree::<C>(alloc, tree, net, &lent, true)
 }
 
-// Counts so many steps.
 fn count(steps: &mut Steps, most: usize)
     ensures { steps.new ≡ up_by most steps.old }
 {
@@ -47,8 +46,7 @@ fn count(steps: &mut Steps, most: usize)
     }
 }
 
-// The verdict of each node on its view, where they are asked for, and else none. Of a disjunction
-// those on a part are, where some label has its tag.
+// Empty unless `asked`; a part of a disjunction is asked only where some label has its tag.
 fn round_tree<C: NumCode>(
     alloc: Global,
     tree: &ExpressionTree,
@@ -91,7 +89,6 @@ fn round_tree<C: NumCode>(
     Ok(verdicts)
 }
 
-// The verdict of each node on its view, by the universal scheme of a property.
 fn round_map<C: NumCode>(
     alloc: Global,
     property: &ExpressionTree,

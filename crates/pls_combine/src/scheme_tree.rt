@@ -25,14 +25,12 @@ use pls_universal::MapOf;
 use pls_view::{LabelStore, View};
 use std::alloc::Global;
 
-// The universal scheme of a property that is lent.
 pub(crate) fn map_of<C>(tree: &ExpressionTree) -> MapOf<LentProperty<'_>, C>
     ensures { result.property.tree.now ≡ tree.now }
 {
     MapOf::new(LentProperty { tree })
 }
 
-// How many leaves the expression has.
 pub(crate) fn leaves_of(tree: &ExpressionTree) -> u8
     requires { leaves_of (expression_of tree.now) ≤ 8 }
     ensures value { result ≡ leaves_of (expression_of tree.now) }
@@ -59,7 +57,6 @@ pub(crate) fn lends_of(tree: &ExpressionTree) -> bool
     }
 }
 
-// What a node answers to its view.
 #[tactic(auto, using(pls_parts::proofs::Verdicts::judged_first, pls_parts::proofs::Verdicts::judged_second, crate::proofs::Leaves::expression_leaf))]
 pub(crate) fn verify_tree<C: NumCode>(
     alloc: Global,
@@ -105,7 +102,7 @@ pub(crate) fn verify_tree<C: NumCode>(
     }
 }
 
-// The bound of the expression, or `u64::MAX` where it is greater.
+// `u64::MAX` where the bound is greater.
 pub(crate) fn bound_of<C: NumCode>(tree: &ExpressionTree, size: &Size) -> u64
     ensures { result ≡ capped (longest_of C.code (expression_of tree.now) size.now) }
 {
@@ -121,7 +118,7 @@ pub(crate) fn bound_of<C: NumCode>(tree: &ExpressionTree, size: &Size) -> u64
     }
 }
 
-// The labels that prove the property of a connected network, or `None` exactly where it fails.
+// `None` exactly where the property fails; the network is connected.
 pub(crate) fn mark_tree<C: NumCode>(
     alloc: Global,
     tree: &ExpressionTree,

@@ -9,7 +9,6 @@ use crate::instr::Instr;
 use pls_base::NoMemory;
 use pls_rules::{BoolExpr, NumExpr};
 
-// Appends the code of a formula. The one error is want of memory.
 #[cycle(emit)]
 pub(crate) fn emit_formula(code: &mut Vec<Instr>, formula: &BoolExpr) -> Result<(), NoMemory>
     ensures { OnOk result (code.new.items
@@ -31,7 +30,6 @@ pub(crate) fn emit_formula(code: &mut Vec<Instr>, formula: &BoolExpr) -> Result<
     }
 }
 
-// Appends the code of two terms, and the instruction that takes their values.
 #[cycle(emit)]
 fn emit_terms(
     code: &mut Vec<Instr>,
@@ -47,7 +45,6 @@ fn emit_terms(
     put(code, instr)
 }
 
-// Appends the code of two formulas, and the instruction that takes what they come to.
 #[cycle(emit)]
 fn emit_formulas(
     code: &mut Vec<Instr>,
@@ -64,8 +61,7 @@ fn emit_formulas(
     put(code, instr)
 }
 
-// Appends the code of a loop over the ports: it begins with a number, which the instruction takes
-// with what the formula comes to at each port.
+// A loop over the ports, in which `instr` takes `first` and then the value of `inner` at each.
 #[cycle(emit)]
 fn emit_at_ports(
     code: &mut Vec<Instr>,
@@ -82,7 +78,6 @@ fn emit_at_ports(
     end_loop(code, start)
 }
 
-// Appends the code of a term. The one error is want of memory.
 #[cycle(emit)]
 fn emit_term(code: &mut Vec<Instr>, term: &NumExpr) -> Result<(), NoMemory>
     ensures { OnOk result (code.new.items
@@ -113,7 +108,6 @@ fn emit_term(code: &mut Vec<Instr>, term: &NumExpr) -> Result<(), NoMemory>
     }
 }
 
-// One more instruction.
 pub(crate) fn put(code: &mut Vec<Instr>, instr: Instr) -> Result<(), NoMemory>
     ensures { OnOk result (code.new.items ≡ code.old.items ++ instr ∷ []) }
 {
@@ -121,8 +115,7 @@ pub(crate) fn put(code: &mut Vec<Instr>, instr: Instr) -> Result<(), NoMemory>
     Ok(())
 }
 
-// The front of a loop, whose end is written later; the place of the instruction that tries whether
-// there is one more port.
+// The place of the instruction that tests for one more port; the end is written later.
 fn begin_loop(code: &mut Vec<Instr>, first: u64) -> Result<usize, NoMemory>
     ensures code { OnOk result (code.new.items
         ≡ code.old.items ++ Push first ∷ (Begin ∷ (More 0 ∷ []))) }
@@ -135,7 +128,6 @@ fn begin_loop(code: &mut Vec<Instr>, first: u64) -> Result<usize, NoMemory>
     Ok(start)
 }
 
-// The end of a loop.
 fn end_loop(code: &mut Vec<Instr>, start: usize) -> Result<(), NoMemory>
     requires { start < length code.old.items }
     ensures { OnOk result (code.new.items ≡ slice_set (code.old.items ++ Next start ∷ []) start

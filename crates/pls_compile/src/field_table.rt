@@ -34,7 +34,6 @@ impl Model for FieldTable {
 }
 
 impl FieldTable {
-    // Reads each label. The one error is want of memory.
     pub(crate) fn of<L: Labels>(
         alloc: Global,
         kinds: &[FieldKind],
@@ -54,7 +53,7 @@ impl FieldTable {
         })
     }
 
-    // The numbers of the label at a place, or `None` where it could not be read.
+    // `None` where the label could not be read.
     #[inline(always)]
     pub(crate) fn label(&self, place: usize) -> Option<&[u64]>
         requires { place < length self.now }
@@ -66,7 +65,6 @@ impl FieldTable {
         }
     }
 
-    // Whether the labels at these places could all be read.
     #[inline(always)]
     pub(crate) fn are_read(&self, places: &[u32]) -> bool
         requires { All (λ place. place < length self.now) places.now }
@@ -81,7 +79,7 @@ impl FieldTable {
     }
 }
 
-// The number of a field, where the label has it.
+// 0 where the label lacks the field.
 #[inline(always)]
 pub(crate) fn number_of(label: &[u64], field: u8) -> u64
     ensures { IfSome (slice_get label.now field) (λ value. result ≡ value) }

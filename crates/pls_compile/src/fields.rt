@@ -11,8 +11,7 @@ use pls_bits::{Bits, Gamma};
 use pls_numbers::{FieldKind, read_field};
 use pls_view::PortView;
 
-// The numbers of the fields of a label, at the front of an array, or `None` where the bits are no
-// label, read to their last bit. It takes no memory.
+// At the front of the array; `None` where the bits are not exactly a label.
 #[inline(always)]
 pub(crate) fn read_fields(kinds: &[FieldKind], bits: &Bits<'_>) -> Option<[u64; 8]>
     requires { length kinds.now ≤ 8 }
@@ -44,7 +43,7 @@ pub(crate) fn are_read(kinds: &[FieldKind], ports: &[PortView<'_>]) -> bool
     true
 }
 
-// The number of a field of a label, where the label has it.
+// 0 where the bits are no label or lack the field.
 #[inline(always)]
 pub(crate) fn field_in(kinds: &[FieldKind], bits: &Bits<'_>, field: u8) -> u64
     requires { length kinds.now ≤ 8 }

@@ -65,7 +65,6 @@ impl<'a> Sees for InNetwork<'a> {
     }
 }
 
-// The numbers of a node are of 64 bits.
 #[inline(always)]
 pub(crate) fn node_fits(id: u32, state: &State, ports: &[Port])
     ensures id { id < 2 ^ 64 }
@@ -79,7 +78,6 @@ pub(crate) fn node_fits(id: u32, state: &State, ports: &[Port])
     weights_fit(ports);
 }
 
-// So are the weights of ports.
 #[inline(always)]
 fn weights_fit(ports: &[Port])
     ensures { All (λ port. port.weight < 2 ^ 64) ports.now }

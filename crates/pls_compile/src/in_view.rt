@@ -61,7 +61,6 @@ impl<'a, 'b> Sees for InView<'a, 'b> {
     }
 }
 
-// The numbers of a view are of 64 bits.
 #[inline(always)]
 pub(crate) fn view_fits(view: &View<'_>)
     ensures id { view.now.id < 2 ^ 64 }
@@ -77,7 +76,6 @@ pub(crate) fn view_fits(view: &View<'_>)
     weights_fit(view.ports.as_slice());
 }
 
-// So are the weights of ports.
 #[inline(always)]
 fn weights_fit(ports: &[PortView<'_>])
     ensures { All (λ port. port.weight < 2 ^ 64) ports.now }

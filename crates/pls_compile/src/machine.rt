@@ -52,7 +52,7 @@ impl Machine {
         }
     }
 
-    // Goes back to the start. The stack lies behind `top`, so its numbers need not be cleared.
+    // The stack lies behind `top`, so its numbers need not be cleared.
     #[inline(always)]
     pub(crate) fn restart(&mut self)
         ensures { self.new ≡ start }
@@ -62,7 +62,6 @@ impl Machine {
         self.inner = MOST_PORTS;
     }
 
-    // The place in the code.
     #[inline(always)]
     pub(crate) fn place(&self) -> usize
         ensures { result ≡ self.now.place }
@@ -70,7 +69,6 @@ impl Machine {
         self.place
     }
 
-    // Puts a number.
     #[inline(always)]
     fn push(&mut self, number: u128)
         requires { length self.old.stack < 40 }
@@ -80,7 +78,6 @@ impl Machine {
         self.stack[self.top] = number;
     }
 
-    // Takes the top of the stack.
     #[inline(always)]
     fn pop(&mut self) -> u128
         requires { 1 ≤ length self.old.stack }
@@ -91,7 +88,6 @@ impl Machine {
         number
     }
 
-    // Goes on at the next place.
     #[inline(always)]
     fn go_on(&mut self)
         requires { self.old.place < 2 ^ 63 }
@@ -100,7 +96,7 @@ impl Machine {
         self.place += 1;
     }
 
-    // Puts a number and goes on.
+    // Pushes a number and goes on.
     #[inline(always)]
     pub(crate) fn put(&mut self, number: u128) -> Option<Verdict>
         requires able { IsAble (put number self.old) }
@@ -112,7 +108,7 @@ impl Machine {
         None
     }
 
-    // Replaces the top two by what an instruction makes of them, and goes on.
+    // Replaces the top two by the value of `instr` on them, and goes on.
     #[inline(always)]
     pub(crate) fn combine(&mut self, instr: Instr) -> Option<Verdict>
         requires able { IsAble
@@ -126,7 +122,7 @@ impl Machine {
         self.put(operator_value(instr, first, second))
     }
 
-    // Replaces the top by what it lacks of 1, and goes on.
+    // Replaces the top by 1 where it is 0, else by 0, and goes on.
     #[inline(always)]
     pub(crate) fn negate(&mut self) -> Option<Verdict>
         requires able { IsAble (on_top (λ x. 1 - x) self.old.place self.old.stack self.old.ports) }
@@ -139,7 +135,7 @@ impl Machine {
         self.put(other)
     }
 
-    // Begins with port 0.
+    // Begins a loop at port 0.
     #[inline(always)]
     pub(crate) fn begin(&mut self) -> Option<Verdict>
         requires able { IsAble (begin self.old.place self.old.stack self.old.ports) }
@@ -161,7 +157,7 @@ impl Machine {
         self.ports[self.inner]
     }
 
-    // Leaves the innermost port where it is the number of ports, and goes to a place.
+    // Leaves the innermost quantifier for `end` when its port equals `degree`, else goes on.
     #[inline(always)]
     pub(crate) fn more(&mut self, end: usize, degree: u32) -> Option<Verdict>
         requires able { IsAble (more degree end self.old.place self.old.stack self.old.ports) }
@@ -178,7 +174,7 @@ impl Machine {
         None
     }
 
-    // Turns to the next port and goes to a place.
+    // Advances the innermost port, then jumps to `place`.
     #[inline(always)]
     pub(crate) fn turn(&mut self, place: usize, degree: u32) -> Option<Verdict>
         requires able { IsAble (turn degree place self.old.stack self.old.ports) }
@@ -189,7 +185,7 @@ impl Machine {
         None
     }
 
-    // Takes what a rule came to.
+    // Pops a rule's value: 0 rejects with `number`, any other goes on.
     #[inline(always)]
     pub(crate) fn rule(&mut self, number: u8) -> Option<Verdict>
         requires able { IsAble (rule number self.old.place self.old.stack self.old.ports) }

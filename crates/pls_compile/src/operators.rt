@@ -6,7 +6,7 @@ ghost use Rattle.pls_compile.specs.RuleMachine.{second_if_one, two_of};
 
 use crate::instr::Instr;
 
-// What an instruction makes of the top two numbers.
+// 0 unless `instr` is an operator on two numbers.
 #[inline(always)]
 pub(crate) fn operator_value(instr: Instr, first: u128, second: u128) -> u128
     requires { two_of instr first second < 2 ^ 128 }
@@ -24,7 +24,7 @@ pub(crate) fn operator_value(instr: Instr, first: u128, second: u128) -> u128
     }
 }
 
-// The second number where the first is 1, else 0.
+// 0 unless `first` is 1.
 #[inline(always)]
 fn second_if_one(first: u128, second: u128) -> u128
     ensures { result ≡ second_if_one first second }
@@ -32,7 +32,6 @@ fn second_if_one(first: u128, second: u128) -> u128
     if first == 1 { second } else { 0 }
 }
 
-// 1 where something holds, else 0.
 #[inline(always)]
 pub(crate) fn one_if(holds: bool) -> u128
     ensures { result ≡ weigh holds }

@@ -80,7 +80,6 @@ impl RuleChecker {
         &self.format
     }
 
-    // The verdict on a view.
     fn verdict_on(&self, view: &View<'_>) -> Verdict
         ensures { result ≡ meaning gamma_takes (set_of self.now) view.now }
     {
@@ -97,7 +96,6 @@ impl RuleChecker {
         run_code(&mut machine, &self.set, self.code.instructions(), &node)
     }
 
-    // The verdict of the node at a place, by what all labels say.
     fn verdict_at<L: Labels>(
         &self,
         machine: &mut Machine,

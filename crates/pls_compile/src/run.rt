@@ -15,8 +15,7 @@ use crate::step::step_on;
 use pls_model::Verdict;
 use pls_rules::RuleSet;
 
-// The verdict of the rules on a node whose labels are read, by their code, on a machine that is lent
-// in any state. It takes no memory.
+// `machine` may be in any state, as it is restarted first.
 pub(crate) fn run_code<S: Sees>(
     machine: &mut Machine,
     set: &RuleSet,

@@ -13,7 +13,7 @@ use crate::operators::one_if;
 use crate::sees::Sees;
 use pls_model::Verdict;
 
-// One step of a machine that is not stuck: the verdict, if it answers. It takes no memory.
+// `None` where the machine goes on; it must not be stuck before the step.
 #[inline(always)]
 pub(crate) fn step_on<S: Sees>(machine: &mut Machine, code: &[Instr], node: &S) -> Option<Verdict>
     requires { IsAble (step code.now (S.sight node.now) machine.old) }
@@ -23,7 +23,6 @@ pub(crate) fn step_on<S: Sees>(machine: &mut Machine, code: &[Instr], node: &S) 
     act_on(machine, instr, node)
 }
 
-// What an instruction does.
 #[inline(always)]
 fn act_on<S: Sees>(machine: &mut Machine, instr: Instr, node: &S) -> Option<Verdict>
     requires able { IsAble (act (S.sight node.now) instr machine.old) }
@@ -59,7 +58,7 @@ fn act_on<S: Sees>(machine: &mut Machine, instr: Instr, node: &S) -> Option<Verd
     }
 }
 
-// Puts a field of the label at the port that the node points at, and 0 where it points at none.
+// 0 where the node points at no port.
 #[inline(always)]
 fn put_above<S: Sees>(machine: &mut Machine, field: u8, node: &S) -> Option<Verdict>
     requires able { IsAble (put_above field (target (S.sight node.now)) machine.old) }
@@ -83,7 +82,6 @@ fn put_beside<S: Sees>(machine: &mut Machine, field: u8, node: &S) -> Option<Ver
     machine.put(u128::from(node.beside(port, field)))
 }
 
-// Puts the weight of the innermost port.
 #[inline(always)]
 fn put_weight_beside<S: Sees>(machine: &mut Machine, node: &S) -> Option<Verdict>
     requires able { IsAble (act (S.sight node.now) NbWeight machine.old) }
@@ -105,7 +103,7 @@ fn put_is_above<S: Sees>(machine: &mut Machine, node: &S) -> Option<Verdict>
     machine.put(one_if(is_pointer(node.state().up, port)))
 }
 
-// The weight of the port that the node points at, and 0 where it points at none.
+// 0 where the node points at no port.
 #[inline(always)]
 fn weight_above<S: Sees>(node: &S) -> u32
     ensures { result ≡ weight_at (target (S.sight node.now)) }
@@ -116,7 +114,6 @@ fn weight_above<S: Sees>(node: &S) -> u32
     }
 }
 
-// Whether a pointer is a port.
 #[inline(always)]
 fn is_pointer(up: Option<u32>, port: u32) -> bool
     ensures { result ≡ is_pointer up port }

@@ -103,7 +103,7 @@ impl Components {
     }
 }
 
-// With room for so many ports.
+// Reserves room for `ports` ports.
 fn rows_of(
     alloc: Global,
     net: &Network,

@@ -43,14 +43,14 @@ fn one_component(alloc: Global, net: &Network) -> Result<Components, NoMemory>
     })
 }
 
-// The one component has the number 0, and each place is in it.
+// With one component, each place has the number 0.
 fn all_zero(alloc: Global, count: usize) -> Result<Vec<u32>, NoMemory>
     ensures { IfOk result (λ numbers. numbers.items ≡ replicate count 0) }
 {
     Ok(vec![in alloc; 0u32; count]?)
 }
 
-// The places are sorted by the numbers of their components, which rise with the smallest identities.
+// Sorts the places by component number, which rises with the smallest identity.
 fn several_components(alloc: Global, net: &Network) -> Result<Components, NoMemory>
     ensures { IfOk result (λ parts. AreComponents net.now parts) }
 {

@@ -18,7 +18,7 @@ pub(crate) struct Flood {
 }
 
 impl Flood {
-    // Gives the number to the whole component of `root`, none of which has a number yet.
+    // No place in the component of `root` may have a number yet.
     fn fill(&mut self, net: &Network, root: u32, number: u32) -> Result<(), NoMemory>
         requires sized { length self.old.numbers.items ≡ length net.now }
         requires within { root < length net.now }
@@ -38,8 +38,7 @@ impl Flood {
         Ok(())
     }
 
-    // Numbers the component of `root` with the count of those before it, unless it has a number; the
-    // answer is the count after it.
+    // Numbers the component of `root` with `count` unless it has a number; returns the new count.
     fn fill_if_none(&mut self, net: &Network, root: usize, count: u32) -> Result<u32, NoMemory>
         requires within { root < length net.now }
         requires none { self.old.waiting.items ≡ [] }
@@ -68,7 +67,7 @@ impl Flood {
         Ok(())
     }
 
-    // A place has its number before its neighbours are looked at, so that it waits only once.
+    // Numbered before its neighbours are visited, so that a place waits only once.
     #[inline(always)]
     fn enter(&mut self, place: u32, number: u32) -> Result<(), NoMemory>
         requires { place < length self.old.numbers.items }
@@ -82,7 +81,7 @@ impl Flood {
     }
 }
 
-// For each node the number of its component, and how many components there are.
+// The component number of each node, and the number of components.
 pub(crate) fn number_all(alloc: Global, net: &Network) -> Result<(Vec<Option<u32>>, u32), NoMemory>
     ensures { IfOk result
         (λ found. AreNumbered net.now found.0.items (length net.now) found.1) }
@@ -107,7 +106,7 @@ fn no_numbers(alloc: Global, count: usize) -> Result<Vec<Option<u32>>, NoMemory>
     Ok(vec![in alloc; None; count]?)
 }
 
-// The numbers without their `Some`, where no place is without one.
+// Unwraps the numbers, none of which may be `None`.
 pub(crate) fn all_numbers(alloc: Global, found: &[Option<u32>]) -> Result<Vec<u32>, NoMemory>
     requires { (place : ℕ) → place < length found.now → (known : ℕ) × HasNumber found.now place known }
     ensures { IfOk result (λ numbers. map Some numbers.items ≡ found.now) }

@@ -79,7 +79,7 @@ fn one_id(alloc: Global, id: u32) -> Result<IdList, NoMemory>
     Ok(IdList { ids })
 }
 
-// Whether component `k` has the property; if so, its labels stand at the places of its nodes.
+// `false` where component `k` lacks the property, else its labels are put at its places.
 fn mark_part<S: Scheme>(
     alloc: Global,
     scheme: &S,
@@ -107,7 +107,7 @@ fn mark_part<S: Scheme>(
     }
 }
 
-// Puts labels at places, behind room for all of them, so that none takes memory of its own.
+// Reserves room for all labels first, so that none allocates on its own.
 fn put_labels(labels: &mut LabelStore, places: &[u32], marked: &LabelStore) -> Result<(), NoMemory>
     requires rising { NumbersRise places.now }
     requires within { All (λ place. place < length labels.old) places.now }
@@ -125,7 +125,7 @@ fn put_labels(labels: &mut LabelStore, places: &[u32], marked: &LabelStore) -> R
     Ok(())
 }
 
-// The same where there is room, in which each label begins a word of its own. It takes no memory.
+// Each label begins a new word of `room`, which must have space for all.
 fn put_into(room: &mut LabelRoom, places: &[u32], marked: &LabelStore)
     requires rising { NumbersRise places.now }
     requires within { All (λ place. place < length room.old.labels) places.now }

@@ -10,7 +10,6 @@ ghost use Rattle.pls_components.specs.Components.{items_at};
 use pls_graph::{Network, Size};
 use pls_model::Port;
 
-// The size of the network of the rows at these places. It takes no memory.
 pub(crate) fn size_at(net: &Network, places: &[u32]) -> Size
     requires within { All (λ place. place < length net.now) places.now }
     requires network { IsNetwork (items_at net.now places.now) }
@@ -31,7 +30,6 @@ pub(crate) fn size_at(net: &Network, places: &[u32]) -> Size
     size
 }
 
-// The size of some rows and of one more, which stands at a place of the network.
 fn with_row(size: Size, net: &Network, place: usize) -> Size
     requires within { place < length net.now }
     requires few_nodes { size.nodes < 2 ^ 32 }
@@ -52,7 +50,7 @@ fn with_row(size: Size, net: &Network, place: usize) -> Size
     }
 }
 
-// The greatest weight of the ports, 0 where there is none.
+// 0 where there are no ports.
 fn max_weight(ports: &[Port]) -> u32
     ensures { result ≡ greatest (map (λ port. port.weight) ports.now) }
 {

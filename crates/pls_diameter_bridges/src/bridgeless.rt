@@ -43,7 +43,6 @@ impl Property for Bridgeless {
     }
 }
 
-// Whether for each edge the other edges join all nodes.
 fn is_bridgeless(alloc: Global, net: &Network) -> Result<bool, NoMemory>
     requires { IsConnected net.now }
     ensures { IfOk result (λ yes. IsTrue yes ↔ IsBridgeless net.now) }
@@ -60,8 +59,7 @@ fn is_bridgeless(alloc: Global, net: &Network) -> Result<bool, NoMemory>
     all_have_ways_round(alloc, net)
 }
 
-// Whether the first edge is a bridge along which a place without a rank home was entered from one
-// with a rank.
+// Whether the first tree edge from a ranked place to an unranked one is a bridge.
 fn has_bridge_down(
     alloc: Global,
     net: &Network,
@@ -80,7 +78,7 @@ fn has_bridge_down(
     Ok(false)
 }
 
-// Whether there is an edge between the nodes at two places and it is a bridge.
+// `false` where the two places are not neighbours.
 fn is_bridge(alloc: Global, net: &Network, place: usize, other: usize) -> Result<bool, NoMemory>
     requires joined { IsConnected net.now }
     requires within { place < length net.now }
@@ -94,7 +92,6 @@ fn is_bridge(alloc: Global, net: &Network, place: usize, other: usize) -> Result
     Ok(!round)
 }
 
-// Whether a place is beside another.
 fn is_beside(net: &Network, place: usize, other: usize) -> bool
     requires { place < length net.now }
     ensures { result ≡ list_any (λ k. k == other) (beside net.now place) }
@@ -103,7 +100,6 @@ fn is_beside(net: &Network, place: usize, other: usize) -> bool
     places.iter().any(|k| *k as usize == other)
 }
 
-// Whether the edges of each node have ways round.
 fn all_have_ways_round(alloc: Global, net: &Network) -> Result<bool, NoMemory>
     requires { IsConnected net.now }
     ensures { IfOk result (λ yes. IsTrue yes ↔ IsBridgeless net.now) }
@@ -116,8 +112,7 @@ fn all_have_ways_round(alloc: Global, net: &Network) -> Result<bool, NoMemory>
     Ok(true)
 }
 
-// Whether the node at a place and each neighbour at a later place are joined by the edges but that
-// between them.
+// Tests only the edges to later places.
 fn have_ways_round(alloc: Global, net: &Network, place: usize) -> Result<bool, NoMemory>
     requires joined { IsConnected net.now }
     requires within { place < length net.now }
@@ -132,8 +127,7 @@ fn have_ways_round(alloc: Global, net: &Network, place: usize) -> Result<bool, N
     Ok(true)
 }
 
-// The same of a neighbour at a later place; `true` of one at an earlier place, from which the edge
-// is judged.
+// `true` where `other` is earlier: that edge is tested from there.
 fn later_has_way_round(
     alloc: Global,
     net: &Network,
@@ -152,8 +146,7 @@ fn later_has_way_round(
     ends_have_way_round(alloc, net, place, other)
 }
 
-// Whether the nodes at two places that are neighbours are joined by the other edges, by a search
-// from each.
+// Searches from both places, which must be neighbours.
 fn ends_have_way_round(
     alloc: Global,
     net: &Network,
@@ -171,7 +164,7 @@ fn ends_have_way_round(
     Ok(has_way_round(net, place, &near, other, &far))
 }
 
-// The same by the levels from either.
+// `near` and `far` are the levels from `place` and from `other`.
 fn has_way_round(
     net: &Network,
     place: usize,

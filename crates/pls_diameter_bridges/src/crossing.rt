@@ -9,8 +9,7 @@ ghost use Rattle.pls_diameter_bridges.specs.inner.Crossing.{IsCrossedElsewhere, 
 
 use pls_graph::Network;
 
-// Whether of all ports the one from a place to another is the only one that crosses from the nodes
-// nearer to the first, by the levels from there, to the others.
+// Whether only the port from `place` to `other` leaves the nodes nearer to `place`.
 pub(crate) fn is_only_crossing(
     net: &Network,
     place: usize,
@@ -30,7 +29,6 @@ pub(crate) fn is_only_crossing(
     true
 }
 
-// Whether no port of the node at a place crosses, but the one from the first end to the other.
 fn all_allowed(
     net: &Network,
     place: usize,
@@ -46,7 +44,7 @@ fn all_allowed(
     places.iter().all(|to| is_allowed(place, near, other, far, from, *to as usize))
 }
 
-// Whether the port from one place to another does not cross, or is that of the edge.
+// Whether the port does not cross, or is the one from `place` to `other`.
 fn is_allowed(
     place: usize,
     near: &[Option<u32>],
@@ -60,14 +58,13 @@ fn is_allowed(
     !is_nearer(near, far, from) || is_nearer(near, far, to) || (from == place && to == other)
 }
 
-// Whether a place is nearer to the first end.
 fn is_nearer(near: &[Option<u32>], far: &[Option<u32>], place: usize) -> bool
     ensures { result ≡ is_nearer near.now far.now place }
 {
     level_at(near, place) < level_at(far, place)
 }
 
-// The level of a place; 0 where none is found.
+// 0 where no level was found.
 fn level_at(found: &[Option<u32>], place: usize) -> u32
     ensures { result ≡ level_at found.now place }
 {

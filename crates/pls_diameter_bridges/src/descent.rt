@@ -17,9 +17,7 @@ pub(crate) struct Descent {
     pub(crate) parents: Vec<usize>,
 }
 
-// Searches a network in depth from its first node. A turn enters a neighbour of the place at hand
-// that has not been entered, or goes back to the place from which that one was entered; so twice as
-// many turns as there are nodes end at the first.
+// Depth-first search from the first node; two turns per node (enter or go back) suffice.
 pub(crate) fn descend(alloc: Global, net: &Network) -> Result<Descent, NoMemory> {
     let mut numbers = vec![in alloc; 0; net.len()]?;
     let mut parents = vec![in alloc; 0; net.len()]?;
@@ -45,7 +43,7 @@ pub(crate) fn descend(alloc: Global, net: &Network) -> Result<Descent, NoMemory>
     Ok(Descent { numbers, parents })
 }
 
-// The first port, from this on, that leads to a place that has not been entered.
+// The first port from `from` on that leads to a place not yet entered.
 fn next_new(places: &[u32], numbers: &[usize], from: usize) -> Option<usize>
     ensures { IfSome result (λ port. port < length places.now) }
 {
@@ -57,7 +55,7 @@ fn next_new(places: &[u32], numbers: &[usize], from: usize) -> Option<usize>
     None
 }
 
-// The number that is listed for a place; 0 where there is none.
+// 0 where `place` has no entry.
 pub(crate) fn entry_at(entries: &[usize], place: usize) -> usize
     ensures { result ≡ entry_at entries.now place }
 {

@@ -35,7 +35,7 @@ impl Property for Diameter {
     }
 }
 
-// Whether at most so many edges lie between any two nodes.
+// Whether the diameter is at most `most`, not exactly that.
 fn has_diameter(alloc: Global, net: &Network, most: u32) -> Result<bool, NoMemory>
     ensures { IfOk result (λ yes. IsTrue yes ↔ HasDiameter most net.now) }
 {
@@ -47,7 +47,6 @@ fn has_diameter(alloc: Global, net: &Network, most: u32) -> Result<bool, NoMemor
     Ok(true)
 }
 
-// Whether at most so many edges lie between the node at a place and any other.
 fn reaches_all(alloc: Global, net: &Network, place: usize, most: u32) -> Result<bool, NoMemory>
     requires { place < length net.now }
     ensures { IfOk result (λ yes. IsTrue yes ↔ ReachesAll most net.now place) }
@@ -56,14 +55,12 @@ fn reaches_all(alloc: Global, net: &Network, place: usize, most: u32) -> Result<
     Ok(are_within(&found, most))
 }
 
-// Whether each level is found and at most this.
 fn are_within(found: &[Option<u32>], most: u32) -> bool
     ensures { result ≡ list_all (is_within most) found.now }
 {
     found.iter().all(|level| is_within(*level, most))
 }
 
-// Whether a level is found and at most this.
 fn is_within(level: Option<u32>, most: u32) -> bool
     ensures { result ≡ is_within most level }
 {

@@ -15,8 +15,7 @@ use pls_base::NoMemory;
 use pls_graph::Network;
 use std::alloc::Global;
 
-// For each place its rank in a search from the first against the directions, the first having rank
-// 1; 0 where the directions do not lead from it to the first. Nothing is claimed of the ranks.
+// Search from the first place (rank 1) against the directions; 0 where it does not reach.
 pub(crate) fn ranks_home(
     alloc: Global,
     net: &Network,
@@ -36,7 +35,7 @@ pub(crate) fn ranks_home(
     Ok(homes)
 }
 
-// Gives ranks to the places without one from which the directions lead to this one.
+// Ranks the unranked neighbours from which the directions lead to `to`.
 fn reach_beside(
     net: &Network,
     numbers: &[usize],
@@ -61,7 +60,7 @@ fn reach_beside(
     Ok(())
 }
 
-// Whether each place but the first has a way in and a way home.
+// Each place but the first needs a way in and a way home.
 pub(crate) fn is_strong(
     net: &Network,
     numbers: &[usize],
@@ -80,7 +79,7 @@ pub(crate) fn is_strong(
     true
 }
 
-// Whether the directions lead to a place from a neighbour that was entered earlier.
+// A way in comes from a neighbour that was entered earlier.
 fn has_way_in(net: &Network, numbers: &[usize], parents: &[usize], place: usize) -> bool
     requires { place < length net.now }
     ensures { result ≡ list_any (is_way_in numbers.now parents.now place) (beside net.now place) }
@@ -91,14 +90,13 @@ fn has_way_in(net: &Network, numbers: &[usize], parents: &[usize], place: usize)
         .any(|from| is_way_in(numbers, parents, place, *from as usize))
 }
 
-// Whether the directions lead to a place from this neighbour, and that was entered earlier.
 fn is_way_in(numbers: &[usize], parents: &[usize], place: usize, from: usize) -> bool
     ensures { result ≡ is_way_in numbers.now parents.now place from }
 {
     leads(numbers, parents, from, place) && entry_at(numbers, from) < entry_at(numbers, place)
 }
 
-// Whether the directions lead from a place to a neighbour of a smaller rank.
+// A way home leads to a neighbour of smaller rank.
 fn has_way_home(
     net: &Network,
     numbers: &[usize],
@@ -114,7 +112,6 @@ fn has_way_home(
     places.iter().any(|to| is_way_home(numbers, parents, homes, place, *to as usize))
 }
 
-// Whether the directions lead from a place to this neighbour, and that has a smaller rank.
 fn is_way_home(
     numbers: &[usize],
     parents: &[usize],
@@ -127,8 +124,7 @@ fn is_way_home(
     leads(numbers, parents, place, to) && entry_at(homes, to) < entry_at(homes, place)
 }
 
-// Whether the edge between two neighbours leads from the first to the second: down to a place from
-// the one from which it was entered, or up along any other edge.
+// Tree edges are directed down, all others up.
 fn leads(numbers: &[usize], parents: &[usize], from: usize, to: usize) -> bool
     ensures { result ≡ leads numbers.now parents.now from to }
 {

@@ -2,14 +2,14 @@
 
 ghost use Rattle.std.specs.Prelude.{◌≡◌, ◌+◌, ◌==◌, nat_le};
 
-// Whether a distance is the other one and the weight.
+// Whether `dist` equals `other + weight`.
 pub(crate) fn is_farther_by(dist: u64, other: u64, weight: u32) -> bool
     ensures { result ≡ (dist == other + weight) }
 {
     u128::from(dist) == u128::from(other) + u128::from(weight)
 }
 
-// Whether a distance is at most the other one and the weight.
+// Whether `dist` is at most `other + weight`.
 pub(crate) fn is_reached_by(dist: u64, other: u64, weight: u32) -> bool
     ensures { result ≡ nat_le dist (other + weight) }
 {

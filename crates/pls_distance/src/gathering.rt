@@ -37,7 +37,7 @@ impl Gathered {
         }
     }
 
-    // With one more port, the one at this place, of a node with this pointer.
+    // Adds the port at `place`; `up` is the pointer of the node.
     pub(crate) fn with(
         self,
         up: Option<u32>,
@@ -63,7 +63,7 @@ impl Gathered {
         }
     }
 
-    // Which rules hold, of a node with this identity and state that has gathered all its ports.
+    // Whether each rule holds, once all ports are gathered.
     pub(crate) fn rules(&self, id: u32, state: State) -> [bool; 4]
         ensures { (own : SptLabel) (ports : List (ReadPort SptLabel))
             → self.now ≡ spt_tally (reading id state own ports)
@@ -80,7 +80,6 @@ impl Gathered {
     }
 }
 
-// Whether a pointer names the port at a place.
 fn is_pointer(up: Option<u32>, place: usize) -> bool
     ensures { result ≡ is_pointer up place }
 {
@@ -90,15 +89,13 @@ fn is_pointer(up: Option<u32>, place: usize) -> bool
     }
 }
 
-// Whether both hold.
 fn both(one: bool, other: bool) -> bool
     ensures { result ≡ (one && other) }
 {
     one && other
 }
 
-// Whether a node is one deeper than the node at a port, and farther by the weight of the edge, if
-// it points at that port, and else what held before.
+// Tests depth and distance where the node points at this port, else returns `before`.
 fn follows_so_far(own: &SptLabel, points: bool, weight: u32, above: &SptLabel, before: bool) -> bool
     ensures { result ≡ (if points then (own.now.depth == above.now.depth + 1
         && own.now.dist == above.now.dist + weight) else before) }

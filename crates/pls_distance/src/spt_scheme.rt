@@ -58,8 +58,7 @@ impl<C: NumCode> Marker for SptRules<C> {
     ghost fits_law = { λ _. spt_fits C.code C.grows_law C.short_law };
 }
 
-// Whether each node is farther than the one that it points at, by the weight of the edge. A
-// distance within the limits is below 2^47, the weight of 32,767 edges.
+// A distance within the limits is below 2^47, the weight of 32,767 edges.
 fn follow_pointers(net: &Network, found: &[Option<u64>]) -> bool
     requires { length found.now ≡ length net.now }
     ensures { IsTrue result ↔ AreFollowed net.now found.now }
@@ -72,8 +71,7 @@ fn follow_pointers(net: &Network, found: &[Option<u64>]) -> bool
     true
 }
 
-// Whether the node at a place points at none, or is farther than the one that it points at by the
-// weight of the edge.
+// `true` where the node points at none.
 fn follows_pointer(net: &Network, found: &[Option<u64>], place: usize) -> bool
     requires each { length found.now ≡ length net.now }
     requires within { place < length net.now }
@@ -88,7 +86,6 @@ fn follows_pointer(net: &Network, found: &[Option<u64>], place: usize) -> bool
     is_farther_by(found[place].unwrap_or(0), found[above].unwrap_or(0), weight)
 }
 
-// The labels of this root, these depths and these distances.
 fn labels_of(
     alloc: Global,
     root: u32,

@@ -136,8 +136,7 @@ impl<'a> OwnLine<'a> for EditWords<'a> {
     }
 }
 
-// The line at the front of a text that gives no label, and what follows its line feed; `None` where
-// no such line stands there.
+// A line that gives no label, and the text after it; `None` where none stands there.
 fn plain_line(text: &[u8]) -> Option<(EditLine, &[u8])>
     ensures fits { IfSome result (λ read. FitsEdit read.0) }
     ensures stands { IfSome result (λ read. text.now ≡ edit_line read.0 ++ 10 ∷ read.1.now) }
@@ -151,8 +150,7 @@ fn plain_line(text: &[u8]) -> Option<(EditLine, &[u8])>
     Some((EditLine::Edit(edit), rest))
 }
 
-// The edit at the front of a text that gives no label, and what follows its line feed; `None` where
-// no such edit stands there.
+// An edit that gives no label, and the text after it; `None` where none stands there.
 fn plain_edit(text: &[u8]) -> Option<(Edit, &[u8])>
     ensures fits { IfSome result (λ read. FitsEdit (Makes read.0)) }
     ensures stands { IfSome result

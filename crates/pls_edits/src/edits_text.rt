@@ -99,7 +99,7 @@ impl<'a> EditsText<'a> {
         Ok(self.part.list(alloc)?)
     }
 
-    // Refuses more lines than a limit.
+    // Refuses more lines than the limits allow.
     pub(crate) fn check(&self) -> Result<(), TextError>
         ensures few { OnOk result ((lines : List EditLine) → TellsEdits self.now.text lines
             → AreFew lines) }

@@ -11,8 +11,7 @@ use pls_lines::{after_word, number_before, u32_before};
 use pls_model::State;
 use pls_netfile::read_state;
 
-// The identity and the state of a line at the front of a text that is a word and these, and what
-// follows its line feed; `None` where no such line stands there.
+// Reads the line `word`, identity, state; `None` where `text` does not start with one.
 pub(crate) fn state_after<'a>(text: &'a [u8], word: &[u8]) -> Option<(u32, State, &'a [u8])>
     ensures fits { IfSome result (λ read. FitsNode read.0 read.1) }
     ensures stands { IfSome result (λ read.
@@ -25,9 +24,7 @@ pub(crate) fn state_after<'a>(text: &'a [u8], word: &[u8]) -> Option<(u32, State
     Some((id, state, rest))
 }
 
-// The numbers of a line at the front of a text that is a word and these, the first two below 2^32
-// and the third at most `most`, and what follows its line feed; `None` where no such line stands
-// there.
+// Reads a line of `word` and three numbers, the last of them at most `most`.
 pub(crate) fn three_numbers<'a>(
     text: &'a [u8],
     word: &[u8],

@@ -49,7 +49,6 @@ fn main(rt: HostRuntime) -> ExitCode {
     }
 }
 
-// Tells what the nodes find.
 fn report(rt: &HostRuntime) -> io::Result<()> {
     let alloc = rt.alloc();
     let Ok(Some(net)) = network_of(alloc, &ROUTERS) else {

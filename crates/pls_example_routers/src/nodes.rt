@@ -43,7 +43,7 @@ pub(crate) fn network_of(alloc: Global, nodes: &[Node]) -> Result<Option<Network
     Ok(Some(net))
 }
 
-// The row of a node, with a port to the one before it and then a port to the one behind it.
+// The port to the previous node comes first, then that to the next.
 fn row_of(alloc: Global, node: Node, id: u32, last: u32) -> Result<NodeRow, NoMemory>
     requires { (1 ≤ id) × (id ≤ last) × (last ≤ 100) }
     ensures { IfOk result IsSmallRow }

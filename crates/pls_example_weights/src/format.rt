@@ -45,7 +45,7 @@ impl ReadsInPlace for WeightsFormat {
     }
 }
 
-// The weights that the bits are, read to their last bit.
+// `None` unless the bits are weights to the last bit.
 fn read_weights<C: NumCode>(bits: &Bits<'_>) -> Option<Weights>
     ensures { result ≡ said_by weights_shape C.takes bits.now }
 {

@@ -48,7 +48,6 @@ impl<C: NumCode> Marker for SameWeightsRules<C> {
     ghost fits_law = { λ _. same_weights_fits C.code C.grows_law C.short_law };
 }
 
-// The label of each node, in their order.
 fn all_weights(alloc: Global, net: &Network) -> Result<Vec<Weights>, NoMemory>
     ensures { IfOk result (λ labels. labels.items ≡ map first_weights net.now) }
 {
@@ -59,7 +58,7 @@ fn all_weights(alloc: Global, net: &Network) -> Result<Vec<Weights>, NoMemory>
     Ok(labels)
 }
 
-// The weights at the first of some ports.
+// The weights at the first four ports.
 fn weights_at(ports: &[Port]) -> Weights
     ensures { result ≡ take 4 (map (λ port. port.weight) ports.now) }
 {

@@ -91,7 +91,6 @@ impl<C: NumCode> Rules for SameWeightsRules<C> {
     }
 }
 
-// Whether two lists of weights are the same.
 fn are_same(one: &Weights, other: &Weights) -> bool
     ensures { result ≡ bytes_eq one.now other.now }
 {

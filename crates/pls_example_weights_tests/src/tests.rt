@@ -52,7 +52,7 @@ const LABELS: &[(&str, &str, Option<usize>)] = &[
     ("five weights", "0011011111", None),
 ];
 
-// The connected network of a text.
+// Fails where the network is not connected.
 fn joined(alloc: Global, text: &str) -> Result<Network, Fail>
     ensures { IfOk result (λ net. IsConnected net) }
 {
@@ -65,14 +65,14 @@ fn joined(alloc: Global, text: &str) -> Result<Network, Fail>
     Ok(net)
 }
 
-// The bits of all labels of the network of a text, where it is marked.
+// The total length of the labels in bits; `None` where the network is not marked.
 fn marked_bits(alloc: Global, text: &str) -> Result<Option<u64>, Fail> {
     let net = joined(alloc, text)?;
     let marked = SameWeights::<Gamma>::new().mark(alloc, &net)?;
     Ok(marked.map(|labels| labels.total()))
 }
 
-// How many weights these bits are, where they are a label.
+// The number of weights; `None` where `digits` are no label.
 fn count_read(alloc: Global, digits: &str) -> Result<Option<usize>, Fail> {
     let mut bits = BitBuf::new(alloc);
     for digit in digits.bytes() {

@@ -29,7 +29,7 @@ fn main(rt: HostRuntime) -> io::Result<()> {
     Ok(())
 }
 
-// Each router after the first points at the one before it, its port number 0.
+// Each router after the first points at the previous one, through port 0.
 fn routers(alloc: Global) -> Result<Network, NetworkError> {
     let mut rows = Vec::new(alloc);
     rows.push(plain_row(alloc, 1, None, &[2])?)?;
@@ -38,7 +38,7 @@ fn routers(alloc: Global) -> Result<Network, NetworkError> {
     network_of(alloc, rows)
 }
 
-// Whether the labels of the marker prove the tree, and the verdicts after one of them was changed.
+// Whether the marker's labels prove the tree, and the verdicts after one label changed.
 fn answers(alloc: Global) -> Result<(bool, Vec<Verdict>), NetworkError> {
     let net = routers(alloc)?;
     let tree = <Tree>::new();

@@ -17,7 +17,7 @@ pub fn is_deeper(text: &[u8], most: u8) -> bool
     false
 }
 
-// How deep parentheses stand behind a character.
+// The nesting depth of parentheses after `character`.
 fn depth_after(depth: u16, character: u8) -> u16
     requires { depth ≤ 255 }
     ensures { result ≡ depth_after depth character }

@@ -16,7 +16,6 @@ pub fn number_front(text: &[u8], most: u64) -> Option<(u64, &[u8])>
     Some((number, rest))
 }
 
-// How many digits stand at the front of a text.
 fn digits_ahead(text: &[u8]) -> usize
     ensures { result ≡ digits_ahead text.now }
 {

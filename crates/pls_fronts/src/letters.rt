@@ -11,7 +11,7 @@ pub fn letters_front(text: &[u8]) -> (&[u8], &[u8])
     text.split_at(letters_ahead(text))
 }
 
-// How many small letters stand at the front of a text.
+// Counts small letters only.
 fn letters_ahead(text: &[u8]) -> usize
     ensures { result ≡ letters_ahead text.now }
 {

@@ -10,7 +10,6 @@ pub fn after<'a>(text: &'a [u8], word: &[u8]) -> Option<&'a [u8]>
     after_word(text, word)
 }
 
-// The same, by the word.
 fn after_word<'a>(text: &'a [u8], word: &[u8]) -> Option<&'a [u8]>
     ensures { MatchOption result ((rest : List ℕ) → text.now ≢ word.now ++ rest)
         (λ rest. text.now ≡ word.now ++ rest.now) }

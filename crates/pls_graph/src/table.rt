@@ -258,7 +258,6 @@ impl Table {
     }
 }
 
-// Gives a node another range.
 #[inline]
 fn set_range(nodes: &mut Vec<Node>, i: usize, start: usize, count: usize, room: usize)
     requires { i < length nodes.old.items }

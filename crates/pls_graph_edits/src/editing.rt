@@ -136,7 +136,6 @@ pub fn leave(net: &mut Network, id: u32) -> Result<(), EditError>
     Ok(())
 }
 
-// The places of two nodes that may be linked.
 fn ends_to_link(net: &Network, a: u32, b: u32) -> Result<(usize, usize), EditError>
     ensures first { IfOk result (λ ends. position (λ row. a == row.id) net.now
         ≡ Some ends.0) }
@@ -163,7 +162,6 @@ fn ends_to_link(net: &Network, a: u32, b: u32) -> Result<(usize, usize), EditErr
     Ok((i, j))
 }
 
-// Where the ends of an edge stand, and the numbers of their ports to one another.
 fn edge_at(net: &Network, a: u32, b: u32) -> Result<EdgeAt, EditError>
     ensures ends { IfOk result (λ at. AreEnds net.now a b at.i at.j at.p at.q) }
     ensures allowed { OnOk result (unlink_refusal net.now a b ≡ None) }
@@ -194,14 +192,13 @@ struct EdgeAt {
     q: usize,
 }
 
-// The number of the port that names the node.
 fn port_number(ports: &[Port], nbr: u32) -> Option<usize>
     ensures { result ≡ position (λ port. nbr == port.nbr) ports.now }
 {
     ports.iter().position(|port| nbr == port.nbr)
 }
 
-// Whether the state points at no port but these.
+// `true` where the state has no pointer.
 fn fits_state(state: State, ports: &[Port]) -> bool
     ensures { (row : NodeRow) → row.ports ≡ ports.now → result ≡ fits_state state row }
 {

@@ -15,7 +15,6 @@ use pls_view::LabelStore;
 use pls_watch_part::{ReadWatch, WatchLine};
 use std::alloc::Global;
 
-// The network that a text says, where there is one, or why it is none.
 pub(crate) fn build_network(
     alloc: Global,
     network: Option<ReadNetwork<'_>>,
@@ -29,8 +28,6 @@ pub(crate) fn build_network(
     }
 }
 
-// The labels that a text says, where there is one, for the nodes of a network, or why they are
-// refused.
 pub(crate) fn build_labels(
     alloc: Global,
     labels: &Option<LabelsText<'_>>,
@@ -45,7 +42,6 @@ pub(crate) fn build_labels(
     }
 }
 
-// The events that a text says, where there is one, or why they are refused.
 pub(crate) fn list_events(
     alloc: Global,
     schedule: Option<ReadSchedule<'_>>,
@@ -60,7 +56,6 @@ pub(crate) fn list_events(
     }
 }
 
-// The edits and rounds that a text says, where there is one, or why they are refused.
 pub(crate) fn list_edits(
     alloc: Global,
     edits: Option<ReadEdits<'_>>,
@@ -75,7 +70,6 @@ pub(crate) fn list_edits(
     }
 }
 
-// The events and looks that a text says, where there is one, or why they are refused.
 pub(crate) fn list_watch(
     alloc: Global,
     watch: Option<ReadWatch<'_>>,
@@ -90,7 +84,6 @@ pub(crate) fn list_watch(
     }
 }
 
-// The rule set that a text says, where there is one, or why it is refused.
 pub(crate) fn build_rules(
     alloc: Global,
     rules: &Option<RulesText<'_>>,

@@ -84,7 +84,7 @@ pub fn read_input(alloc: Global, parts: Parts, bytes: &[u8]) -> Result<Input, Te
     })
 }
 
-// The number code of labels, the gamma code where there are none.
+// The gamma code where there are no labels.
 fn code(labels: &Option<LabelsText<'_>>) -> CodeName
     ensures { result ≡ code_of labels.now }
 {
@@ -94,8 +94,7 @@ fn code(labels: &Option<LabelsText<'_>>) -> CodeName
     }
 }
 
-// The number of the line of the first event or edit, or the first of a watch, 0 where there is no
-// part for them.
+// 0 where there is no part for events, edits or a watch.
 fn first_line(
     schedule: &Option<ReadSchedule<'_>>,
     edits: &Option<ReadEdits<'_>>,

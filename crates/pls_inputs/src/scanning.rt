@@ -23,9 +23,7 @@ use pls_schedule::ReadSchedule;
 use pls_watch_part::ReadWatch;
 use std::alloc::Global;
 
-// The texts of the parts that are wanted, which are to be the whole text, or its first faulty line.
-// Want of memory is no answer: it costs the rows, events and edits that are kept while they are
-// passed.
+// The wanted parts must make up all of `bytes`; short memory only limits what is kept.
 pub(crate) fn scan_parts<'a>(
     alloc: Global,
     parts: Parts,
@@ -54,7 +52,6 @@ pub(crate) fn scan_parts<'a>(
     })
 }
 
-// Passes the network that stands next where it is wanted, or names its first faulty line.
 fn pass_network_if<'a>(
     alloc: Global,
     wanted: bool,
@@ -72,8 +69,7 @@ fn pass_network_if<'a>(
     Ok(Some(part))
 }
 
-// Passes the labels that stand next where they are wanted, or names their first faulty line, where
-// `delta` says whether they may be under the delta code. It takes no memory.
+// `delta` says whether the delta code is allowed.
 fn pass_labels_if<'a>(
     wanted: bool,
     delta: bool,
@@ -93,8 +89,6 @@ fn pass_labels_if<'a>(
     Ok(Some(part))
 }
 
-// Passes the part that stands next where it is wanted, or names its first faulty line. It takes no
-// memory.
 fn pass_if<'a, P: Part<'a>>(wanted: bool, lines: &mut Lines<'a>) -> Result<Option<P>, TextError>
     ensures passed { IfOk result (λ part. PassesIf wanted P.Passed lines.old lines.new part) }
     ensures format { OnOk result (PassesFormat (If wanted P.Format) lines.old lines.new) }
@@ -107,7 +101,7 @@ fn pass_if<'a, P: Part<'a>>(wanted: bool, lines: &mut Lines<'a>) -> Result<Optio
     Ok(Some(part))
 }
 
-// The same for a part that is read once: what it says is kept as far as there is memory.
+// Keeps what the part says as far as there is memory.
 fn keep_if<'a, P: ReadOnce<'a>>(
     alloc: Global,
     wanted: bool,

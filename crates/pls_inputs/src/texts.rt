@@ -25,7 +25,7 @@ pub(crate) struct Texts<'a> {
     pub(crate) rules: Option<RulesText<'a>>,
 }
 
-// Refuses texts with too much of a quantity, in the order of the limits. It takes no memory.
+// Tests the quantities in the order of the limits.
 pub(crate) fn test_limits(texts: &Texts<'_>) -> Result<(), TextError>
     ensures within { OnOk result (first_of (limits_told texts.now) ≡ None) }
     ensures refused { IfErr result (λ error. first_of (limits_told texts.now) ≡ Some error) }
@@ -48,7 +48,6 @@ pub(crate) fn test_limits(texts: &Texts<'_>) -> Result<(), TextError>
     test_count(Quantity::Rounds, MAX_ROUNDS as u64, looks_in(&texts.watch))
 }
 
-// Refuses a quantity that passes its limit.
 fn test_count(quantity: Quantity, most: u64, count: u64) -> Result<(), TextError>
     ensures within { OnOk result (over quantity most count ≡ None) }
     ensures refused { IfErr result (λ error. over quantity most count ≡ Some error) }
@@ -59,7 +58,6 @@ fn test_count(quantity: Quantity, most: u64, count: u64) -> Result<(), TextError
     Ok(())
 }
 
-// How many nodes a network has, if there is one.
 fn nodes_in(network: &Option<ReadNetwork<'_>>) -> u64
     ensures { result ≡ count_in (λ text. text.nodes) network.now }
 {
@@ -69,7 +67,6 @@ fn nodes_in(network: &Option<ReadNetwork<'_>>) -> u64
     }
 }
 
-// How many ports its nodes have together.
 fn ports_in(network: &Option<ReadNetwork<'_>>) -> u64
     ensures { result ≡ count_in (λ text. text.ports) network.now }
 {
@@ -79,14 +76,13 @@ fn ports_in(network: &Option<ReadNetwork<'_>>) -> u64
     }
 }
 
-// How many bits the labels and those that a watch gives have together, and `u64::MAX` at the most.
+// Of the labels and of those in the watch, capped at `u64::MAX`.
 fn bits_in(texts: &Texts<'_>) -> u64
     ensures { result ≡ bits_in texts.now }
 {
     label_bits_in(&texts.labels).saturating_add(watch_bits_in(&texts.watch))
 }
 
-// How many bits labels have together, if there are some.
 fn label_bits_in(labels: &Option<LabelsText<'_>>) -> u64
     ensures { result ≡ count_in (λ text. text.bits) labels.now }
 {
@@ -96,7 +92,6 @@ fn label_bits_in(labels: &Option<LabelsText<'_>>) -> u64
     }
 }
 
-// How many bits the labels have together that a watch gives, if there is one.
 fn watch_bits_in(watch: &Option<ReadWatch<'_>>) -> u64
     ensures { result ≡ count_in (λ text. text.bits) watch.now }
 {
@@ -106,7 +101,6 @@ fn watch_bits_in(watch: &Option<ReadWatch<'_>>) -> u64
     }
 }
 
-// How many events a schedule has, if there is one.
 fn events_in(schedule: &Option<ReadSchedule<'_>>) -> u64
     ensures { result ≡ count_in (λ text. text.events) schedule.now }
 {
@@ -116,7 +110,6 @@ fn events_in(schedule: &Option<ReadSchedule<'_>>) -> u64
     }
 }
 
-// How many lines edits have, if there are some.
 fn lines_in(edits: &Option<ReadEdits<'_>>) -> u64
     ensures { result ≡ count_in (λ text. text.events) edits.now }
 {
@@ -126,7 +119,6 @@ fn lines_in(edits: &Option<ReadEdits<'_>>) -> u64
     }
 }
 
-// How many of these lines ask for a round.
 fn rounds_in(edits: &Option<ReadEdits<'_>>) -> u64
     ensures { result ≡ count_in (λ text. text.rounds) edits.now }
 {
@@ -136,7 +128,6 @@ fn rounds_in(edits: &Option<ReadEdits<'_>>) -> u64
     }
 }
 
-// How many lines a watch has, if there is one.
 fn watch_lines_in(watch: &Option<ReadWatch<'_>>) -> u64
     ensures { result ≡ count_in (λ text. text.events) watch.now }
 {
@@ -146,7 +137,6 @@ fn watch_lines_in(watch: &Option<ReadWatch<'_>>) -> u64
     }
 }
 
-// How many of these lines ask for a look.
 fn looks_in(watch: &Option<ReadWatch<'_>>) -> u64
     ensures { result ≡ count_in (λ text. text.looks) watch.now }
 {

@@ -35,7 +35,7 @@ pub fn json_report(
     Ok(text)
 }
 
-// Adds how many nodes reject and how many wait, and closes the object.
+// Also closes the object.
 fn push_counts(text: &mut String, rejecting: usize, waiting: usize) -> Result<(), NoMemory>
     ensures { OnOk result (string_bytes text.new ≡ string_bytes text.old
         ++ (codes "],\"rejecting\":" ++ (decimal rejecting ++ (codes ",\"waiting\":"
@@ -46,7 +46,6 @@ fn push_counts(text: &mut String, rejecting: usize, waiting: usize) -> Result<()
     Ok(())
 }
 
-// Adds the objects of nodes, with a comma between each two.
 fn push_nodes(alloc: Global, text: &mut String, rows: &[(u32, Outcome)]) -> Result<(), NoMemory>
     ensures { OnOk result (string_bytes text.new
         ≡ string_bytes text.old ++ with_commas (map node_text rows.now)) }
@@ -57,7 +56,6 @@ fn push_nodes(alloc: Global, text: &mut String, rows: &[(u32, Outcome)]) -> Resu
     Ok(())
 }
 
-// Adds the object of a node, behind a comma if it is not the first.
 fn push_node(
     alloc: Global,
     text: &mut String,
@@ -71,7 +69,7 @@ fn push_node(
     push_behind(text, first, &object)
 }
 
-// Adds the components, where there are two or more.
+// Adds nothing for fewer than two components.
 fn push_parts(text: &mut String, parts: &[PartRow]) -> Result<(), NoMemory>
     ensures { OnOk result (string_bytes text.new ≡ string_bytes text.old ++ parts_text parts.now) }
 {
@@ -84,7 +82,6 @@ fn push_parts(text: &mut String, parts: &[PartRow]) -> Result<(), NoMemory>
     Ok(())
 }
 
-// Adds the objects of components, with a comma between each two.
 fn push_each_part(text: &mut String, parts: &[PartRow]) -> Result<(), NoMemory>
     ensures { OnOk result (string_bytes text.new
         ≡ string_bytes text.old ++ with_commas (map part_text parts.now)) }
@@ -95,8 +92,7 @@ fn push_each_part(text: &mut String, parts: &[PartRow]) -> Result<(), NoMemory>
     Ok(())
 }
 
-// Adds the object of a component, behind a comma if it is not the first. All its members are numbers,
-// and there may be as many components as nodes: no value is made of them.
+// Makes no `Value`, since there may be as many components as nodes.
 fn push_part(text: &mut String, first: bool, part: PartRow) -> Result<(), NoMemory>
     ensures { OnOk result (string_bytes text.new
         ≡ string_bytes text.old ++ after_others first (part_text part)) }
@@ -117,7 +113,7 @@ fn push_part(text: &mut String, first: bool, part: PartRow) -> Result<(), NoMemo
     Ok(())
 }
 
-// Adds an object, behind a comma if it is not the first.
+// Adds `object`, after a comma unless it is the first.
 fn push_behind(text: &mut String, first: bool, object: &str) -> Result<(), NoMemory>
     ensures { OnOk result (string_bytes text.new
         ≡ string_bytes text.old ++ after_others first object.now) }
@@ -127,7 +123,6 @@ fn push_behind(text: &mut String, first: bool, object: &str) -> Result<(), NoMem
     Ok(())
 }
 
-// Adds the comma that stands before all but the first.
 fn push_comma(text: &mut String, first: bool) -> Result<(), NoMemory>
     ensures { OnOk result (string_bytes text.new ≡ string_bytes text.old ++ comma_before first) }
 {
@@ -137,7 +132,6 @@ fn push_comma(text: &mut String, first: bool) -> Result<(), NoMemory>
     Ok(())
 }
 
-// The object of a node as text.
 fn node_object(alloc: Global, row: &(u32, Outcome)) -> Result<String, NoMemory>
     ensures { IfOk result (λ text. string_bytes text ≡ node_text row.now) }
 {
@@ -145,7 +139,6 @@ fn node_object(alloc: Global, row: &(u32, Outcome)) -> Result<String, NoMemory>
     Ok(text)
 }
 
-// The value of one node.
 fn node_value(alloc: Global, id: u32, outcome: &Outcome) -> Result<Value, AllocError>
     ensures { IfOk result (λ value. view value ≡ node_data (id, outcome.now)) }
 {
@@ -161,7 +154,6 @@ fn node_value(alloc: Global, id: u32, outcome: &Outcome) -> Result<Value, AllocE
     }
 }
 
-// The value of port numbers.
 fn ports_value(alloc: Global, ports: &[u32]) -> Result<Value, AllocError>
     ensures { IfOk result (λ value. view value ≡ array (items_of (map number_data ports.now))) }
 {

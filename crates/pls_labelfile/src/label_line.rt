@@ -71,8 +71,7 @@ impl<'a> LabelLine<'a> {
         self.len
     }
 
-    // Puts the bits of the label at a place of a store with room for them. Its digits were tested
-    // when the line was read, and are not tested again.
+    // The digits were tested when the line was read, so not again here.
     pub(crate) fn put_into(&self, room: &mut LabelRoom, place: usize)
         requires within { place < length room.old.labels }
         requires room { cost (length self.now.bits) ≤ room.old.spare }
@@ -93,14 +92,14 @@ impl<'a> LabelLine<'a> {
         }
     }
 
-    // The hex digits of the bits, none where there is no bit.
+    // The hex digits of the bits; empty where there is no bit.
     fn digits(&self) -> &'a [u8]
         ensures { hex_digits self.now.bits ≡ result.now }
     {
         if self.len == 0 { b"" } else { self.hex }
     }
 
-    // What `read` answers, for a text of labels that was read before: its digits are not tested.
+    // Like `read`, for text read before: the digits are not tested.
     pub(crate) fn read_again(text: &'a [u8]) -> Option<(LabelLine<'a>, &'a [u8])>
         requires { SaysLabels text.now }
         ensures fits { IfSome result (λ read. FitsLabel read.0) }
@@ -112,8 +111,7 @@ impl<'a> LabelLine<'a> {
     }
 }
 
-// The words of a line `label ID LEN HEX` at the front of a text, the last of them as it stands but
-// for its length, and what follows the line feed; `None` where no such line stands there.
+// Splits a line `label ID LEN HEX`, testing only the length of the last word.
 fn label_words<'a>(text: &'a [u8]) -> Option<(u32, usize, &'a [u8], &'a [u8])>
     ensures id { IfSome result (λ words. words.0 < 2 ^ 32) }
     ensures short { IfSome result (λ words. words.1 ≤ MAX_BITS) }
@@ -131,7 +129,7 @@ fn label_words<'a>(text: &'a [u8]) -> Option<(u32, usize, &'a [u8], &'a [u8])>
     Some((id, len, hex, rest))
 }
 
-// How many bytes the word for `len` bits has.
+// In bytes, for a label of `len` bits.
 fn word_length_of(len: usize) -> usize
     requires { len ≤ MAX_BITS }
     ensures { result ≡ word_length len }
@@ -139,7 +137,7 @@ fn word_length_of(len: usize) -> usize
     if len == 0 { 1 } else { 2 * len.div_ceil(8) }
 }
 
-// Whether a word is that for some list of `len` bits. It looks at each digit once.
+// Whether `word` spells `len` bits; looks at each digit once.
 fn is_hex_word(len: usize, word: &[u8]) -> bool
     ensures { IsTrue result ↔ IsHexWord len word.now }
 {

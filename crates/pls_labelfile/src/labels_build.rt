@@ -54,7 +54,6 @@ impl<'a> LabelsText<'a> {
         }
     }
 
-    // A reader of the lines behind the heading.
     fn behind_heading(&self) -> Lines<'a>
         ensures said { SaysLabels result.rest }
         ensures remains { (said : Labelling) → TellsLabels self.now.text said
@@ -63,7 +62,7 @@ impl<'a> LabelsText<'a> {
         self.part.behind_heading()
     }
 
-    // The number of the line of the label at a place, or of the `end` behind the labels.
+    // The line of the label at `place`, or of the `end` after the last.
     fn number_of(&self, place: usize) -> u64
         requires { place ≤ MAX_NODES }
         ensures { result ≡ self.now.number + 1 + place }
@@ -72,8 +71,7 @@ impl<'a> LabelsText<'a> {
     }
 }
 
-// Puts the labels whose lines stand next into the store, node by node, up to the first that does
-// not fit, and answers the place of that; `None` where all fit. It takes no memory.
+// The place of the first label that does not fit; `None` where all fit.
 fn fill(net: &Network, lines: &mut Lines<'_>, room: &mut LabelRoom) -> Option<usize>
     requires said { SaysLabels lines.old.rest }
     requires blank { room.old.labels ≡ replicate (length net.now) [] }
@@ -101,8 +99,7 @@ fn fill(net: &Network, lines: &mut Lines<'_>, room: &mut LabelRoom) -> Option<us
     }
 }
 
-// The label whose line stands next, which the reader passes; `None` at the `end`. The text was
-// scanned before, so the digits are not looked at.
+// `None` at the `end`; the digits were scanned before and are not tested.
 fn next_label<'a>(lines: &mut Lines<'a>) -> Option<LabelLine<'a>>
     requires { SaysLabels lines.old.rest }
     ensures next { IfSome result (λ label. (labels : List NamedLabel)

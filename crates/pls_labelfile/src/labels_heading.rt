@@ -52,7 +52,7 @@ impl<'a> LineKind<'a> for LabelsHeading {
     }
 }
 
-// The heading line of labels under a code, with its line feed.
+// Includes the line feed.
 pub(crate) fn heading_line(code: CodeName) -> &'static [u8]
     ensures { result.now ≡ labels_heading code ++ 10 ∷ [] }
 {

@@ -49,7 +49,6 @@ fn of_32_bits(net: &Network)
     }
 }
 
-// A number of 32 bits is below 2^32.
 fn is_small(number: u32)
     ensures { number < 2 ^ 32 }
 {}
@@ -82,7 +81,6 @@ pub fn stream_labels<K: Sink>(
     gathered.flush(sink)
 }
 
-// Writes the lines of the part.
 fn put_lines<K: Sink>(
     net: &Network,
     labels: &LabelStore,
@@ -102,7 +100,6 @@ fn put_lines<K: Sink>(
     gathered.put(sink, b"end\n")
 }
 
-// Writes the line of one label.
 fn put_label<K: Sink>(
     sink: &mut K,
     gathered: &mut Gathered,
@@ -120,7 +117,6 @@ fn put_label<K: Sink>(
     gathered.put(sink, b"\n")
 }
 
-// Writes the word for the bits of a label.
 fn put_word<K: Sink>(sink: &mut K, gathered: &mut Gathered, bits: &Bits<'_>) -> Result<(), Fault>
     ensures { Writes gathered.old gathered.new (K.taken sink.old) (K.taken sink.new)
         (K.faults sink.old) (K.faults sink.new) (K.IsSureOf sink.old) (K.IsSureOf sink.new)
@@ -132,7 +128,6 @@ fn put_word<K: Sink>(sink: &mut K, gathered: &mut Gathered, bits: &Bits<'_>) -> 
     put_digits(sink, gathered, bits)
 }
 
-// Writes the hex digits of some bits.
 fn put_digits<K: Sink>(sink: &mut K, gathered: &mut Gathered, bits: &Bits<'_>) -> Result<(), Fault>
     ensures { Writes gathered.old gathered.new (K.taken sink.old) (K.taken sink.new)
         (K.faults sink.old) (K.faults sink.new) (K.IsSureOf sink.old) (K.IsSureOf sink.new)

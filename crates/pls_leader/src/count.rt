@@ -164,7 +164,7 @@ impl<C: NumCode> Rules for CountRules<C> {
     }
 }
 
-// Whether the neighbour names the own root and the own total.
+// Whether the neighbour has the same root and total.
 fn agrees_with(own: &CountLabel, weight: u32, label: &CountLabel) -> bool
     ensures { result ≡ names_root_and_total own.now (port_with weight label.now) }
 {
@@ -178,7 +178,6 @@ fn is_parent_above(own: &CountLabel, weight: u32, label: &CountLabel) -> bool
     label.own == own.parent && is_one_more(own.depth, label.depth)
 }
 
-// Whether the neighbour's parent is the node that the own label names.
 fn is_own_child(own: &CountLabel, weight: u32, label: &CountLabel) -> bool
     ensures { result ≡ is_own_child own.now.own (port_with weight label.now) }
 {

@@ -76,7 +76,6 @@ fn are_counted(net: &Network) -> bool
     true
 }
 
-// The labels of these levels, parents and sizes.
 fn labels_of_parts(
     alloc: Global,
     net: &Network,
@@ -96,7 +95,6 @@ fn labels_of_parts(
     Ok(labels)
 }
 
-// The label of the node at a place.
 fn label_at(
     net: &Network,
     levels: &[u32],

@@ -67,7 +67,6 @@ impl<C: NumCode> Marker for LeaderRules<C> {
     ghost fits_law = { λ _. leader_fits C.code C.grows_law C.short_law };
 }
 
-// The labels of this root and these levels.
 fn labels_of_levels(alloc: Global, root: u32, levels: &[u32]) -> Result<Vec<LeaderLabel>, NoMemory>
     ensures { IfOk result (λ labels. labels.items ≡ map (leader_at root) levels.now) }
 {

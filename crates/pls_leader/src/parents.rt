@@ -8,8 +8,8 @@ use pls_base::NoMemory;
 use pls_graph::Network;
 use std::alloc::Global;
 
-// For each node, in their order, the place of its neighbour of smallest identity among those one
-// level nearer to the first node, or `None` where there is none.
+// For each node its neighbour of smallest identity one level nearer to the first; `None` without
+// one.
 pub(crate) fn nearest_above(
     alloc: Global,
     net: &Network,
@@ -25,7 +25,7 @@ pub(crate) fn nearest_above(
     Ok(parents)
 }
 
-// The first of the places beside one that are one level nearer.
+// The smallest neighbouring place one level nearer; `None` where there is none.
 fn nearest_at(net: &Network, levels: &[u32], place: usize) -> Option<usize>
     requires each { length levels.now ≡ length net.now }
     requires within { place < length net.now }
@@ -41,7 +41,7 @@ fn nearest_at(net: &Network, levels: &[u32], place: usize) -> Option<usize>
     nearest
 }
 
-// Whether a place is one level nearer than another.
+// Whether `other` is exactly one level nearer than `place`.
 fn is_above(levels: &[u32], place: usize, other: usize) -> bool
     requires within { place < length levels.now }
     requires inside { other < length levels.now }
@@ -50,7 +50,6 @@ fn is_above(levels: &[u32], place: usize, other: usize) -> bool
     u64::from(levels[place]) == u64::from(levels[other]) + 1
 }
 
-// The lesser of a place and of what was found.
 fn lesser(found: Option<usize>, other: usize) -> usize
     ensures { result ≡ lesser found other }
 {

@@ -10,14 +10,12 @@ use pls_graph::Network;
 use pls_search::levels;
 use std::alloc::Global;
 
-// Whether the depth is 0 exactly where the identity is the root.
 pub(crate) fn is_0_at_root_alone(id: u32, root: u64, depth: u64) -> bool
     ensures { result ≡ is_0_at_root_alone id root depth }
 {
     (depth == 0) == (u64::from(id) == root)
 }
 
-// For each node of a connected network, in their order, the fewest edges from the node at a place.
 pub(crate) fn levels_from(alloc: Global, net: &Network, place: usize) -> Result<Vec<u32>, NoMemory>
     requires joined { IsConnected net.now }
     requires within { place < length net.now }
@@ -28,7 +26,7 @@ pub(crate) fn levels_from(alloc: Global, net: &Network, place: usize) -> Result<
     Ok(levels)
 }
 
-// The levels, of which each is found. A node without one gets level 0.
+// All levels must be found; a missing one becomes 0.
 fn known(alloc: Global, found: &[Option<u32>]) -> Result<Vec<u32>, NoMemory>
     ensures { IfOk result (λ levels. levels.items ≡ map (λ level. unwrap_or level 0) found.now) }
 {

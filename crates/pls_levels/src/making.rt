@@ -34,7 +34,6 @@ pub fn make_labels<K: LevelKind>(
     Ok(labels)
 }
 
-// The label of the node at a place, under this root, at this depth, with these levels.
 fn label_at<S: Drop>(net: &Network, place: usize, root: u32, depth: u32, levels: S) -> LevelLabel<S>
     requires { place < length net.now }
     ensures { (row : NodeRow) → slice_get net.now place ≡ Some row
@@ -50,7 +49,7 @@ fn label_at<S: Drop>(net: &Network, place: usize, root: u32, depth: u32, levels:
     }
 }
 
-// The node that the node at a place points at, and else the node itself.
+// The node itself where it points at none.
 fn parent_at(net: &Network, place: usize) -> u32
     requires { place < length net.now }
     ensures { (row : NodeRow) → slice_get net.now place ≡ Some row → result ≡ parent_or_own row }

@@ -40,7 +40,7 @@ pub fn is_root(id: u32, own: &LevelHead) -> bool
     own.depth == 0 && (own.root == u64::from(id) && own.parent == own.own)
 }
 
-// Whether a node is one deeper than the one above, which is its parent, or there is none above.
+// One deeper than its parent `above`; `true` where there is none.
 #[inline(always)]
 fn follows(own: &LevelHead, above: Option<&LevelHead>) -> bool
     ensures { result ≡ option_map_or (λ above. own.now.depth == above.depth + 1

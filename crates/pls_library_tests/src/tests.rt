@@ -20,7 +20,6 @@ use pls_netfile::read_network;
 use std::alloc::Global;
 use std::test::Fail;
 
-// The network of a text.
 fn network(alloc: Global, text: &str) -> Result<Network, Fail> {
     match read_network(alloc, text.as_bytes()) {
         Ok(net) => Ok(net),
@@ -28,7 +27,7 @@ fn network(alloc: Global, text: &str) -> Result<Network, Fail> {
     }
 }
 
-// The line where a text is not of its form, and 0 where that is not what is wrong with it.
+// 0 unless the text is refused for its form.
 fn line_of<T>(read: &Result<T, TextError>) -> u64 {
     match read {
         Err(TextError::Form(line)) => *line,

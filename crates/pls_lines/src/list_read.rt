@@ -38,7 +38,7 @@ pub fn keep_list<'a, T: Keep<'a>>(
     Some(kept)
 }
 
-// The same, where the reader need not stay.
+// As `keep_list`, but the reader may move on `None`.
 fn keep_ahead<'a, T: Keep<'a>>(
     alloc: Global,
     lines: &mut Lines<'a>,
@@ -68,9 +68,8 @@ fn keep_ahead<'a, T: Keep<'a>>(
     Some((text, list))
 }
 
-// Passes the items that stand next and may follow each other, and answers what is counted and kept
-// of them; `None` where one may not follow, where there are too many, and for want of memory. Room
-// that is not used costs no memory.
+// `None` where an item may not follow, where there are too many, or for want of memory. Unused room
+// costs no memory.
 fn keep_items<'a, T: Keep<'a>>(alloc: Global, lines: &mut Lines<'a>) -> Option<(T, Vec<T::Line>)>
     ensures { IfSome result (λ kept. KeepsItems T.Item.written T.Are T.tally T.line
         lines.old lines.new kept.0 kept.1.items) }
@@ -107,7 +106,7 @@ impl<'a, T: Keep<'a>> ListText<'a, T> {
     }
 }
 
-// What the items say whose lines stand before an `end`. The one refusal is want of memory.
+// The items before the next `end`; the one error is want of memory.
 fn lines_of<'a, T: Keep<'a>>(alloc: Global, mut lines: Lines<'a>) -> Result<Vec<T::Line>, NoMemory>
     ensures { (items : List T.Item) → Remains T.Item.Fits T.Item.written lines.entry.rest items
         → IfOk result (λ list. list.items ≡ map T.line items) }

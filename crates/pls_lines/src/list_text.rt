@@ -42,8 +42,7 @@ impl<'a, T: ListTally<'a>> Part<'a> for ListText<'a, T> {
     }
 }
 
-// Passes the part with a list of items that stands next, or stops somewhere in it and names its
-// first faulty line.
+// On an error, the reader stops inside the part, and the error names the first faulty line.
 fn pass_list<'a, T: ListTally<'a>>(lines: &mut Lines<'a>) -> Result<ListText<'a, T>, TextError>
     ensures ok { IfOk result (λ part. PassesList T.Heading.Fits T.Heading.written T.Item.written
         T.Are T.tally lines.old lines.new part.heading part.lines part.kept) }
@@ -96,8 +95,7 @@ pub fn read_list<'a, T: ListTally<'a>>(text: &'a [u8]) -> Result<ListText<'a, T>
     Ok(part)
 }
 
-// Passes the items that stand next and may follow each other, as many as there are, and answers
-// what is counted of them.
+// Stops before the first line that is no item or may not follow.
 fn pass_items<'a, T: ListTally<'a>>(lines: &mut Lines<'a>) -> T
     ensures passed { PassesItems T.Item.written T.Are T.tally lines.old lines.new result }
     ensures none { (items : List T.Item) → Begun T.Are items → result ≡ T.tally items
@@ -109,7 +107,7 @@ fn pass_items<'a, T: ListTally<'a>>(lines: &mut Lines<'a>) -> T
     kept
 }
 
-// Passes the item that stands next, and counts it, if it may follow; else both stay.
+// False, with both unchanged, where no item stands next or it may not follow.
 fn pass_item<'a, T: ListTally<'a>>(lines: &mut Lines<'a>, kept: &mut T) -> bool
     ensures passed { OnTrue result (PassesItem T.Item.Fits T.Item.written T.Are T.tally
         lines.old lines.new kept.old kept.new) }

@@ -36,8 +36,7 @@ pub fn u32_before(text: &[u8], end: u8) -> Option<(u32, &[u8])>
     Some((number as u32, rest))
 }
 
-// The number that the digits at the front of a text spell, and what follows all of them; `None`
-// where there are none, where a zero leads others, and where the number is above `most`.
+// Takes all digits; `None` if there are none, if a zero leads others, or above `most`.
 #[inline]
 fn leading_number(text: &[u8], most: u64) -> Option<(u64, &[u8])>
     requires few { most ≤ 2 ^ 63 }
@@ -62,7 +61,6 @@ fn leading_number(text: &[u8], most: u64) -> Option<(u64, &[u8])>
     }
 }
 
-// What a digit at the front of a text stands for, and what follows it.
 #[inline(always)]
 fn leading_digit(text: &[u8]) -> Option<(u64, &[u8])>
     ensures stands { IfSome result (λ parts. text.now ≡ (48 + parts.0) ∷ parts.1.now) }

@@ -51,7 +51,6 @@ pub fn bytes_before(text: &[u8], count: usize, end: u8) -> Option<(&[u8], &[u8])
     Some((word, rest))
 }
 
-// What follows a front of a text and the byte behind it.
 #[inline(always)]
 fn after_both<'a>(text: &'a [u8], front: &[u8], byte: u8) -> Option<&'a [u8]>
     ensures stands { IfSome result (λ rest. text.now ≡ front.now ++ byte ∷ rest.now) }
@@ -60,7 +59,6 @@ fn after_both<'a>(text: &'a [u8], front: &[u8], byte: u8) -> Option<&'a [u8]>
     after_byte(after_front(text, front)?, byte)
 }
 
-// What follows a front of a text.
 #[inline(always)]
 fn after_front<'a>(text: &'a [u8], front: &[u8]) -> Option<&'a [u8]>
     ensures { MatchOption result ((rest : List ℕ) → text.now ≢ front.now ++ rest)

@@ -24,7 +24,6 @@ const TWO_RINGS_AT_A_NODE: &[(u32, u32)] = &[(1, 2), (2, 3), (1, 3), (3, 4), (4,
 
 const ALL_OF_FOUR: &[(u32, u32)] = &[(1, 2), (1, 3), (1, 4), (2, 3), (2, 4), (3, 4)];
 
-// The network of so many nodes with these edges.
 fn network(alloc: Global, nodes: u32, edges: &[(u32, u32)]) -> Result<Network, Fail> {
     let mut text = String::from_str(alloc, "network\n")?;
     for id in 0..nodes {
@@ -46,7 +45,6 @@ fn network(alloc: Global, nodes: u32, edges: &[(u32, u32)]) -> Result<Network, F
     }
 }
 
-// Whether a network has no bridge.
 fn is_bridgeless(alloc: Global, net: &Network) -> Result<bool, Fail> {
     match connected(alloc, net)? {
         None => Ok(Bridgeless::new().decide(alloc, net)?),

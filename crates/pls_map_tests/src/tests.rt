@@ -52,14 +52,13 @@ impl Tested for Counted {
     ghost test_law = { λ s rows _ _. diameter_tested s.property.most rows };
 }
 
-// The universal scheme of a diameter.
+// The universal scheme of the property that the diameter is at most `most`.
 fn scheme(most: u32) -> MapOf<Counted, Gamma> {
     let property = Diameter::new(most);
     let asked = Cell::new(0);
     MapOf::new(Counted { property, asked })
 }
 
-// A network of this text.
 fn network(alloc: Global, text: &str) -> Result<Network, Fail> {
     match read_network(alloc, text.as_bytes()) {
         Ok(net) => Ok(net),
@@ -67,7 +66,7 @@ fn network(alloc: Global, text: &str) -> Result<Network, Fail> {
     }
 }
 
-// A ring of ten nodes with this mark.
+// A ring of ten nodes, all with this mark.
 fn ring(alloc: Global, mark: u32) -> Result<Network, Fail> {
     let mut text = String::from_str(alloc, "network\n")?;
     for id in 1..11u32 {
@@ -80,8 +79,7 @@ fn ring(alloc: Global, mark: u32) -> Result<Network, Fail> {
     network(alloc, text.as_str())
 }
 
-// The label of a number: those of the first store are numbered from 0, and those of each other behind
-// these, as many as `each`. A greater number is that of an empty label.
+// Counts `each` labels a store, from 0; the label is empty where no store has the number.
 fn numbered(
     alloc: Global,
     stores: &[LabelStore],
@@ -97,7 +95,6 @@ fn numbered(
     Ok(label)
 }
 
-// Labels of some stores, by their numbers.
 fn chosen(
     alloc: Global,
     stores: &[LabelStore],
@@ -114,7 +111,6 @@ fn chosen(
     Ok(labels)
 }
 
-// The labels of rings of ten nodes with the marks from 0 to 4.
 fn rings(alloc: Global) -> Result<Vec<LabelStore>, Fail> {
     let mut stores = Vec::new(alloc);
     for mark in 0..5u32 {
@@ -124,7 +120,7 @@ fn rings(alloc: Global) -> Result<Vec<LabelStore>, Fail> {
     Ok(stores)
 }
 
-// The number of the rule by which each node rejects, and 0 where it accepts.
+// The rule by which each node rejects, 0 where it accepts.
 fn rules(
     alloc: Global,
     scheme: &MapOf<Counted, Gamma>,
@@ -141,7 +137,7 @@ fn rules(
     Ok(rules)
 }
 
-// The number of the rule by which a verdict rejects, and 0 where it accepts.
+// 0 where the verdict accepts.
 fn rule_of(verdict: Verdict) -> u8 {
     match verdict {
         Verdict::Accept => 0,
@@ -149,7 +145,7 @@ fn rule_of(verdict: Verdict) -> u8 {
     }
 }
 
-// The labels of the row, and those of another network behind them.
+// The labels of `ROW`, then those of the network in `text`.
 fn both(alloc: Global, text: &str) -> Result<Vec<LabelStore>, Fail> {
     let mut stores = Vec::new(alloc);
     stores.push(map_labels::<Gamma>(alloc, &network(alloc, ROW)?)?)?;
@@ -208,7 +204,7 @@ fn a_map_is_decided_once(rt: HostRuntime) -> Result<(), Fail> {
     Ok(())
 }
 
-// The number of the rule by which each node rejects, view by view.
+// As `rules`, but view by view instead of in a round.
 fn rules_singly(
     alloc: Global,
     scheme: &MapOf<Counted, Gamma>,

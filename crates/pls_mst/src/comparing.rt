@@ -42,8 +42,7 @@ pub struct Compared {
     pub(crate) chosen: bool,
 }
 
-// What the levels of two labels that were looked at say together, as far as there are both: the
-// first of them as they are kept, those behind as they lie in the bits.
+// Compares the kept levels first, then those in the bits, up to the end of the shorter label.
 pub(crate) fn compare_levels<C: NumCode>(
     mine: &Looked<'_, MstGlance>,
     theirs: &Looked<'_, MstGlance>,
@@ -69,7 +68,6 @@ pub(crate) fn compare_levels<C: NumCode>(
     compare_behind(found, &mut here, &mut there, left, between, head.own)
 }
 
-// What the first levels of a node and of a neighbour say together, so many of them.
 #[inline(always)]
 fn compare_fronts(
     mine: &[KeptLevel; FRONT],
@@ -95,9 +93,8 @@ fn compare_fronts(
     found
 }
 
-// What is known of the levels so far and of so many behind them, as far as there are both. Behind
-// the first fragment that both are in, right labels are the same: there the rests are compared as
-// bits, once.
+// Adds up to `count` levels to `before`. Right labels agree behind the first shared fragment, so
+// the rests are compared once, as bits.
 fn compare_behind<C: NumCode>(
     before: Compared,
     mine: &mut Numbers<'_, C>,
@@ -129,7 +126,6 @@ fn compare_behind<C: NumCode>(
     found
 }
 
-// What is known of the levels so far and of one more.
 #[inline(always)]
 fn with_level(
     found: Compared,
@@ -156,7 +152,6 @@ fn with_level(
     }
 }
 
-// Whether a fragment has the node's name, or the neighbour is in it too.
 #[inline(always)]
 fn is_named_or_shared(own: u64, mine: &Level, theirs: &Level) -> bool
     ensures { result ≡ is_named_or_shared own mine.now theirs.now }
@@ -164,8 +159,7 @@ fn is_named_or_shared(own: u64, mine: &Level, theirs: &Level) -> bool
     mine.fragment == own || mine.fragment == theirs.fragment
 }
 
-// Whether two nodes of one fragment name one chosen edge, or the chosen edge does not come behind
-// the edge between the two.
+// In one fragment both chose the same edge; else the own choice comes no later than `between`.
 #[inline(always)]
 fn chose_least(between: &Between, mine: &Level, theirs: &Level) -> bool
     ensures { result ≡ chose_least (edge_between between.now) between.now.outside mine.now
@@ -178,7 +172,6 @@ fn chose_least(between: &Between, mine: &Level, theirs: &Level) -> bool
     }
 }
 
-// Whether two levels name one chosen edge.
 #[inline(always)]
 fn chose_same(mine: &Level, theirs: &Level) -> bool
     ensures { result ≡ is_same_edge (chosen_edge mine.now) (chosen_edge theirs.now) }
@@ -186,7 +179,7 @@ fn chose_same(mine: &Level, theirs: &Level) -> bool
     mine.a == theirs.a && (mine.b == theirs.b && mine.weight == theirs.weight)
 }
 
-// Whether the chosen edge does not come behind the edge between two fragments.
+// The order is by weight, then tree edges first, then by the ends.
 #[inline(always)]
 fn comes_no_later(mine: &Level, between: &Between) -> bool
     ensures { result ≡ is_at_most (edge_key (chosen_edge mine.now) 0)
@@ -197,7 +190,7 @@ fn comes_no_later(mine: &Level, between: &Between) -> bool
     is_less_or(mine.weight, between.weight, tie)
 }
 
-// Whether one number is less than another, or the same and what follows holds.
+// One step of a lexicographic comparison.
 #[inline(always)]
 fn is_less_or(one: u64, other: u64, follows: bool) -> bool
     ensures { result ≡ (nat_lt one other || (one == other && follows)) }
@@ -205,7 +198,6 @@ fn is_less_or(one: u64, other: u64, follows: bool) -> bool
     one < other || (one == other && follows)
 }
 
-// Whether two nodes are in two fragments, one of which chose the edge between them.
 #[inline(always)]
 fn is_chosen_between(between: &Between, mine: &Level, theirs: &Level) -> bool
     ensures { result ≡ is_chosen_between (edge_between between.now) mine.now theirs.now }
@@ -213,7 +205,6 @@ fn is_chosen_between(between: &Between, mine: &Level, theirs: &Level) -> bool
     mine.fragment != theirs.fragment && (is_edge(mine, between) || is_edge(theirs, between))
 }
 
-// Whether the chosen edge of a level is the edge between two nodes.
 #[inline(always)]
 fn is_edge(level: &Level, between: &Between) -> bool
     ensures { result ≡ is_same_edge (chosen_edge level.now) (edge_between between.now) }

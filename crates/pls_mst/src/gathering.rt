@@ -46,7 +46,7 @@ impl Gathered {
         }
     }
 
-    // With one more port, which the pointer is or not.
+    // Adds a port; `pointer` tells whether the node points along it.
     #[inline(always)]
     pub(crate) fn with(
         self,
@@ -78,8 +78,7 @@ impl Gathered {
         }
     }
 
-    // Which rules hold, of a node with this identity, state and label that has gathered all its
-    // ports.
+    // Asked once all ports are gathered.
     pub(crate) fn rules<C: NumCode>(
         &self,
         id: u32,
@@ -105,8 +104,6 @@ impl Gathered {
     }
 }
 
-// What is gathered with one more port, the one at this place, whose neighbour's label was looked at
-// too.
 pub(crate) fn with_port<C: NumCode>(
     up: Option<u32>,
     own: &Looked<'_, MstGlance>,
@@ -130,7 +127,7 @@ pub(crate) fn with_port<C: NumCode>(
     before.with(pointer, &own.glance.head, &label.glance.head, both)
 }
 
-// The edge between a node and a neighbour, which it points at or not.
+// `pointer` tells whether the node points at the neighbour.
 #[inline(always)]
 pub(crate) fn edge_to(pointer: bool, weight: u32, mine: &LevelHead, theirs: &LevelHead) -> Between
     ensures { result ≡ between pointer weight mine.now theirs.now }
@@ -144,7 +141,6 @@ pub(crate) fn edge_to(pointer: bool, weight: u32, mine: &LevelHead, theirs: &Lev
     }
 }
 
-// The one or the other.
 #[inline(always)]
 fn one_of(first: bool, one: bool, other: bool) -> bool
     ensures { result ≡ (if first then one else other) }

@@ -51,7 +51,7 @@ const NO_LEVEL: KeptLevel = KeptLevel {
     b: 0,
 };
 
-// What is kept of a label, where the bits are one, read to the last bit.
+// `None` where the bits are no label, read to the last bit.
 pub(crate) fn glance_at<C: NumCode>(bits: &Bits<'_>) -> Option<MstGlance>
     ensures { result ≡ option_map glance_of (said_by mst_shape C.takes bits.now) }
 {
@@ -69,8 +69,8 @@ pub(crate) fn glance_at<C: NumCode>(bits: &Bits<'_>) -> Option<MstGlance>
     }
 }
 
-// The first of so many levels that are kept, or `None` where one that is read is missing. Behind
-// those that are read, the ones that are kept and one that does not fit, the others are left.
+// Reads up to `FRONT` levels, stopping after one that does not fit 32 bits; `None` where one is
+// missing.
 fn read_front<C: NumCode>(numbers: &mut Numbers<'_, C>, count: u64) -> Option<Front>
     ensures found { IfSome result
         (λ front. IsFront front.kept front.levels (items_off level_off count numbers.old.numbers)) }
@@ -99,7 +99,6 @@ fn read_front<C: NumCode>(numbers: &mut Numbers<'_, C>, count: u64) -> Option<Fr
     })
 }
 
-// How many of so many levels have room.
 #[inline(always)]
 pub(crate) fn in_front(count: u64) -> usize
     ensures { result ≡ min count FRONT }
@@ -107,7 +106,6 @@ pub(crate) fn in_front(count: u64) -> usize
     count.min(FRONT as u64) as usize
 }
 
-// The numbers behind the first levels of a label, so many of them.
 pub(crate) fn behind_front<'a, C: NumCode>(bits: &Bits<'a>, first: usize) -> Numbers<'a, C>
     ensures { (label : MstLabel) → said_by mst_shape C.takes bits.now ≡ Some label
         → first ≤ length label.levels
@@ -119,7 +117,7 @@ pub(crate) fn behind_front<'a, C: NumCode>(bits: &Bits<'a>, first: usize) -> Num
     numbers
 }
 
-// Whether each level of a label that was looked at has the node's name as its fragment.
+// Whether the fragment of each level has the node's own name.
 pub(crate) fn names_all<C: NumCode>(label: &Looked<'_, MstGlance>) -> bool
     ensures { (own : MstLabel) → said_by mst_shape C.takes label.now.bits.now ≡ Some own
         → glance_of own ≡ label.now.glance.now → result ≡ names_all_fragments own }
@@ -137,7 +135,6 @@ pub(crate) fn names_all<C: NumCode>(label: &Looked<'_, MstGlance>) -> bool
     all_have(&mut numbers, head.count - past, head.own)
 }
 
-// Whether the first levels that are kept, so many, have this fragment.
 #[inline(always)]
 fn front_has(front: &[KeptLevel; FRONT], count: usize, fragment: u64) -> bool
     requires { count ≤ FRONT }

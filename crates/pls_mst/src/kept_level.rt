@@ -15,7 +15,7 @@ pub struct KeptLevel {
 }
 
 impl KeptLevel {
-    // A level in 32 bits a number, or `None` where one of its numbers has more.
+    // `None` where a number has more than 32 bits.
     #[inline(always)]
     pub(crate) fn of(level: &Level) -> Option<KeptLevel>
         ensures fits { IfSome result (λ _. fits level.now ≡ true) }
@@ -36,7 +36,6 @@ impl KeptLevel {
         }
     }
 
-    // The level with room for every number of a label.
     #[inline(always)]
     pub(crate) fn whole(&self) -> Level
         ensures { result ≡ whole self.now }

@@ -110,7 +110,6 @@ impl<C: NumCode> JudgesInPlace for MstRules<C> {
     }
 }
 
-// What stands in front of the levels in the label above, where there is one.
 #[inline(always)]
 fn head_above(above: Option<&MstGlance>) -> Option<&LevelHead>
     ensures { option_copied result

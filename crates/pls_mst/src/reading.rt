@@ -9,7 +9,7 @@ use pls_bits::NumCode;
 use pls_boruvka::Level;
 use pls_numbers::Numbers;
 
-// The level that comes next, with its edge in order, or `None` where there is none.
+// `None` where no level follows whose edge has its smaller end first.
 #[inline(always)]
 pub(crate) fn read_level<C: NumCode>(numbers: &mut Numbers<'_, C>) -> Option<Level>
     ensures found { IfSome result (λ level. IsTaken level_off level numbers.old numbers.new) }
@@ -31,7 +31,7 @@ pub(crate) fn read_level<C: NumCode>(numbers: &mut Numbers<'_, C>) -> Option<Lev
     }
 }
 
-// Whether each of so many levels has the fragment of this name. It stops at the first that has not.
+// Stops at the first of `count` levels with another fragment.
 pub(crate) fn all_have<C: NumCode>(numbers: &mut Numbers<'_, C>, count: u64, own: u64) -> bool
     ensures { result ≡ list_all (λ level. level.fragment == own)
         (items_off level_off count numbers.old.numbers) }

@@ -14,7 +14,7 @@ pub fn name_front(text: &[u8]) -> Option<(SchemeName, &[u8])>
     first_name(&all_names(), text)
 }
 
-// The first of some names at the front of a text, and what follows it.
+// Where several match, the first of `names` wins.
 fn first_name<'a>(names: &[SchemeName], text: &'a [u8]) -> Option<(SchemeName, &'a [u8])>
     ensures { option_map found_front result ≡ first_name names.now text.now }
 {

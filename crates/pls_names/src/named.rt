@@ -157,7 +157,6 @@ impl<C: NumCode> Scheme for Named<C> {
     ghost one_marking_law = { λ s. (laws_of s.name).once C.code };
 }
 
-// Whether bits are of the layout of a scheme.
 fn is_label<C: NumCode>(alloc: Global, name: SchemeName, bits: &Bits<'_>) -> Result<bool, NoMemory>
     ensures { IfOk result (λ yes. IsTrue yes ↔ IsNamedLabel C.code name bits.now) }
 {
@@ -165,7 +164,6 @@ fn is_label<C: NumCode>(alloc: Global, name: SchemeName, bits: &Bits<'_>) -> Res
     Ok(by_name!(name, C, scheme => scheme.read_label(alloc, bits)?.is_some()))
 }
 
-// Whether a connected network has the property of a name.
 fn decided<C: NumCode>(alloc: Global, name: SchemeName, net: &Network) -> Result<bool, NoMemory>
     requires { IsConnected net.now }
     ensures { IsDecided (HasNamed name) net.now result }
@@ -173,7 +171,6 @@ fn decided<C: NumCode>(alloc: Global, name: SchemeName, net: &Network) -> Result
     by_name!(name, C, scheme => decided_by(alloc, &scheme, net))
 }
 
-// Whether a connected network has a property.
 fn decided_by<P: Property>(alloc: Global, property: &P, net: &Network) -> Result<bool, NoMemory>
     requires { IsConnected net.now }
     ensures { IsDecided (P.holds property.now) net.now result }
@@ -181,7 +178,7 @@ fn decided_by<P: Property>(alloc: Global, property: &P, net: &Network) -> Result
     property.decide(alloc, net)
 }
 
-// The labels that prove the property of a name, or `None` exactly where it fails.
+// `None` exactly where the property fails.
 fn marked<C: NumCode>(
     alloc: Global,
     name: SchemeName,
@@ -199,7 +196,7 @@ fn marked<C: NumCode>(
     by_name!(name, C, scheme => marked_by(alloc, &scheme, net))
 }
 
-// The labels that prove a property, or `None` exactly where it fails.
+// `None` exactly where the property fails.
 fn marked_by<S: Scheme>(
     alloc: Global,
     scheme: &S,

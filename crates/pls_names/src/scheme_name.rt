@@ -54,7 +54,6 @@ pub fn name_of(name: SchemeName) -> &'static str
     }
 }
 
-// All names.
 pub(crate) fn all_names() -> [SchemeName; 9]
     ensures { result ≡ all_names }
 {

@@ -57,7 +57,7 @@ impl Format for Fields {
     ghost numbers_law = { λ s. lists_law s.kinds.items };
 }
 
-// The number of each field, where the bits are these and nothing more.
+// `None` where the bits are not exactly these fields.
 fn read_fields<C: NumCode>(
     alloc: Global,
     kinds: &[FieldKind],
@@ -96,7 +96,6 @@ pub fn read_field<C: NumCode>(cursor: &mut Cursor<'_>, kind: FieldKind) -> Optio
     }
 }
 
-// Appends the number of each field.
 fn append_fields<C: NumCode>(
     bits: &mut BitBuf,
     kinds: &[FieldKind],
@@ -112,7 +111,6 @@ fn append_fields<C: NumCode>(
     Ok(())
 }
 
-// Appends the number of a field.
 fn append_field<C: NumCode>(bits: &mut BitBuf, kind: FieldKind, number: u64) -> Result<(), NoMemory>
     requires { number ≤ most_of kind }
     ensures { OnOk result (bits.new ≡ bits.old ++ field_code C.code kind number) }

@@ -29,8 +29,7 @@ pub fn joined_bits<C: NumCode>(
     Ok(bits)
 }
 
-// Puts the label of a conjunction whose parts are these in the place of the bits. The one error is
-// that of `joined_bits`.
+// Overwrites `bits`; the one error is that of `joined_bits`.
 fn put_joined<C: NumCode>(
     bits: &mut BitBuf,
     front: Bits<'_>,
@@ -111,7 +110,7 @@ pub fn tagged_bits(alloc: Global, tag: bool, rest: Bits<'_>) -> Result<BitBuf, N
     Ok(bits)
 }
 
-// Puts a label behind a tag in the place of the bits. The one error is want of memory.
+// Overwrites `bits`; the one error is want of memory.
 fn put_tagged(bits: &mut BitBuf, tag: bool, rest: Bits<'_>) -> Result<(), NoMemory>
     ensures bits { OnOk result (bits.new ≡ tag ∷ rest.entry) }
     ensures fits { OnOk result (FitsWord (length bits.new)) }

@@ -44,7 +44,8 @@ pub fn both_verdicts<C: NumCode>(
     Ok(verdicts)
 }
 
-// The verdict of a conjunction, by whether the own label and those at the ports have their parts.
+// `own` and `ports` tell whether the labels have two parts; `leaves` counts the leaves of the first
+// part.
 fn both_verdict(own: bool, ports: bool, leaves: u8, first: Verdict, second: Verdict) -> Verdict
     requires { LeafWithin (255 - leaves) second }
     ensures { result ≡ both_verdict own ports leaves first second }
@@ -95,8 +96,8 @@ pub fn one_of_verdicts(
     Ok(verdicts)
 }
 
-// The verdict of a disjunction, by whether the own label has a tag, those at the ports have tags,
-// and these are the own one, and by the verdict on the part that the own tag names.
+// `own` and `ports` tell whether the labels have tags, `same` whether those at the ports equal the
+// own one.
 fn one_of_verdict(own: bool, ports: bool, same: bool, named: Verdict) -> Verdict
     ensures { result ≡ one_of_verdict own ports same named }
 {
@@ -112,7 +113,7 @@ fn one_of_verdict(own: bool, ports: bool, same: bool, named: Verdict) -> Verdict
     named
 }
 
-// The verdict at a place on the part that a tag names.
+// `second` is the tag; the leaves of the second part follow the `leaves` of the first.
 fn named_verdict(
     second: bool,
     leaves: u8,
@@ -139,7 +140,6 @@ fn named_verdict(
     }
 }
 
-// Whether the label at each of these places has the tag of the second part, or of the first.
 fn all_tagged(second: bool, tags: &Tags, places: &[u32]) -> bool
     ensures { result ≡ all_true (if second then tags.now.second.items else tags.now.first.items)
         places.now }
@@ -151,14 +151,13 @@ fn all_tagged(second: bool, tags: &Tags, places: &[u32]) -> bool
     }
 }
 
-// Whether what stands at each of these places is true.
 fn all_at(marks: &[bool], places: &[u32]) -> bool
     ensures { result ≡ all_true marks.now places.now }
 {
     places.iter().all(|place| is_true_at(marks, *place))
 }
 
-// Whether what stands at this place is true.
+// False where the place is out of range.
 #[inline(always)]
 fn is_true_at(marks: &[bool], place: u32) -> bool
     ensures { result ≡ unwrap_or (slice_get marks.now place) false }

@@ -15,8 +15,7 @@ use pls_levels::pass_levels;
 use pls_numbers::Numbers;
 use pls_scheme::is_one_more;
 
-// Notes at each flag whether the neighbour's level leads on from the own one, beside what is noted:
-// the flags are those of the levels behind the first so many.
+// Sets flag `k` where level `first + k` leads on; flags that are set stay so.
 pub(crate) fn note_ways<C: NumCode>(
     mine: &mut Numbers<'_, C>,
     theirs: &mut Numbers<'_, C>,
@@ -38,7 +37,7 @@ pub(crate) fn note_ways<C: NumCode>(
     note_ways_on(mine, theirs, weight, flags);
 }
 
-// Notes at each flag whether the neighbour's level leads on from the own one, beside what is noted.
+// As `note_ways`, from the next level on.
 fn note_ways_on<C: NumCode>(
     mine: &mut Numbers<'_, C>,
     theirs: &mut Numbers<'_, C>,
@@ -61,8 +60,7 @@ fn note_ways_on<C: NumCode>(
     }
 }
 
-// Whether a flag is set, or a neighbour's level leads on from the own one along an edge of this
-// weight.
+// Leads on: same centroid, one hop nearer, and no weight above the own greatest one.
 #[inline(always)]
 fn is_led_on(flag: bool, mine: &CentroidLevel, weight: u64, theirs: &CentroidLevel) -> bool
     ensures { result ≡ (flag || leads_on mine.now weight theirs.now) }
@@ -72,7 +70,7 @@ fn is_led_on(flag: bool, mine: &CentroidLevel, weight: u64, theirs: &CentroidLev
     flag || nearer
 }
 
-// Whether the two nodes meet lightly on their first levels, where both have one.
+// False where one of them has no level.
 #[inline(always)]
 pub(crate) fn meet_at_first(
     weight: u64,
@@ -87,7 +85,7 @@ pub(crate) fn meet_at_first(
     }
 }
 
-// Whether the two nodes meet lightly on one of so many levels, as far as there are both.
+// Stops where one of the two has no further level.
 pub(crate) fn meet_somewhere<C: NumCode>(
     mine: &mut Numbers<'_, C>,
     theirs: &mut Numbers<'_, C>,
@@ -112,7 +110,7 @@ pub(crate) fn meet_somewhere<C: NumCode>(
     false
 }
 
-// Whether two nodes have one centroid, and neither greatest weight is above this one.
+// Whether the centroids are the same and neither greatest weight is above `weight`.
 #[inline(always)]
 pub(crate) fn meet_lightly(weight: u64, mine: &CentroidLevel, theirs: &CentroidLevel) -> bool
     ensures { result ≡ meet_lightly weight mine.now theirs.now }

@@ -52,8 +52,7 @@ impl Gathered {
     }
 }
 
-// What is gathered with one more port, the one at this place, where rule 5 is asked of the levels
-// from the one of this number on.
+// Rule 5 is asked of the levels from `first` on.
 pub(crate) fn with_port<C: NumCode>(
     first: u64,
     up: Option<u32>,
@@ -93,7 +92,7 @@ pub(crate) fn with_port<C: NumCode>(
     }
 }
 
-// On which levels some port leads on, with one neighbour more whose port is in the tree.
+// Adds a port in the tree to `before`, whose flags start at level `first`.
 fn led_on_with<C: NumCode>(
     first: u64,
     own: &Looked<'_, PathMaxGlance>,
@@ -114,7 +113,6 @@ fn led_on_with<C: NumCode>(
     flags
 }
 
-// Whether so it was, and the neighbour names the own root.
 #[inline(always)]
 fn agrees_too(before: bool, own: &LevelHead, theirs: &LevelHead) -> bool
     ensures { result ≡ (before && theirs.now.root == own.now.root) }
@@ -122,7 +120,6 @@ fn agrees_too(before: bool, own: &LevelHead, theirs: &LevelHead) -> bool
     before && theirs.root == own.root
 }
 
-// Whether so it was, and the node and a neighbour meet lightly on some level that both have.
 fn is_heavy_too<C: NumCode>(
     before: bool,
     own: &Looked<'_, PathMaxGlance>,
@@ -148,8 +145,7 @@ fn is_heavy_too<C: NumCode>(
     meet_somewhere(&mut mine, &mut theirs, own.glance.head.count, weight)
 }
 
-// Whether rule 5 holds on the levels from the one of this number on, as many as there are flags,
-// where these say on which some port leads on.
+// Whether rule 5 holds on `WINDOW` levels from `first` on.
 pub(crate) fn has_ways<C: NumCode>(
     first: u64,
     own: &Looked<'_, PathMaxGlance>,
@@ -168,8 +164,7 @@ pub(crate) fn has_ways<C: NumCode>(
     have_ways(&mut numbers, own.glance.head.own, led_on)
 }
 
-// Whether on each of the levels that come next, as many as there are flags, the node of this name
-// is the centroid, or the flag says that some port leads on.
+// Whether on each next level, one a flag, the node `own` is the centroid or a port leads on.
 pub(crate) fn have_ways<C: NumCode>(numbers: &mut Numbers<'_, C>, own: u64, led_on: &[bool]) -> bool
     ensures hold { result ≡ true → (levels : List CentroidLevel) → AreLeft numbers.old levels
         → (k : ℕ) (level : CentroidLevel) → k < length led_on.now → slice_get levels k ≡ Some level
@@ -190,7 +185,6 @@ pub(crate) fn have_ways<C: NumCode>(numbers: &mut Numbers<'_, C>, own: u64, led_
     true
 }
 
-// Whether the node of this name is the centroid of the level, without a hop, or some port leads on.
 #[inline(always)]
 fn has_way(own: u64, level: &CentroidLevel, led_on: bool) -> bool
     ensures { result ≡ (is_own_level own level.now || led_on) }

@@ -21,7 +21,7 @@ pub struct PathMaxGlance {
     pub first: Option<CentroidLevel>,
 }
 
-// What the bits say at a glance, or `None` where they are no label, read to their last bit.
+// `None` where the bits are no label, read to the last bit.
 pub(crate) fn glance_in<C: NumCode>(bits: &Bits<'_>) -> Option<PathMaxGlance>
     ensures { result ≡ option_map glance_said (said_by pathmax_shape C.takes bits.now) }
 {
@@ -30,7 +30,6 @@ pub(crate) fn glance_in<C: NumCode>(bits: &Bits<'_>) -> Option<PathMaxGlance>
     Some(PathMaxGlance { head, first })
 }
 
-// The first level of a label, if it has one.
 fn first_level<C: NumCode>(bits: &Bits<'_>) -> Option<CentroidLevel>
     ensures { (label : PathMaxLabel) → said_by pathmax_shape C.takes bits.now ≡ Some label
         → result ≡ slice_get label.levels 0 }
@@ -39,7 +38,6 @@ fn first_level<C: NumCode>(bits: &Bits<'_>) -> Option<CentroidLevel>
     read_level(&mut numbers)
 }
 
-// What stands in front of the levels of the label above, if there is one.
 #[inline(always)]
 pub(crate) fn head_above(above: Option<&PathMaxGlance>) -> Option<&LevelHead>
     ensures { option_copied result ≡ option_map head_seen (option_copied above.entry) }

@@ -23,8 +23,7 @@ use pls_model::Verdict;
 use pls_view::{Labels, View};
 use std::alloc::Global;
 
-// The verdict of the node at a place by all rules, where this is that of the first pass. The one
-// error is want of memory.
+// `verdict` is that of the first pass; the one error is want of memory.
 pub(crate) fn verdict_of_node<C: NumCode, L: Labels>(
     alloc: Global,
     net: &Network,
@@ -45,8 +44,7 @@ pub(crate) fn verdict_of_node<C: NumCode, L: Labels>(
     Ok(found)
 }
 
-// The verdict on a view by all rules, where this is that of the first pass. The one error is want
-// of memory.
+// `verdict` is that of the first pass; the one error is want of memory.
 fn verdict_of_view<C: NumCode>(
     alloc: Global,
     view: &View<'_>,
@@ -76,8 +74,7 @@ fn verdict_of_view<C: NumCode>(
     Ok(Verdict::Reject { leaf: 1, rule: 5 })
 }
 
-// Notes at each flag whether some port in the tree of the node of this name leads on from its level
-// of this number.
+// Sets flag `k` where some port in the tree leads on from level `k`.
 fn note_ports<C: NumCode>(view: &View<'_>, own: u64, flags: &mut [bool])
     requires { (k : ℕ) → k < length flags.old → slice_index_or flags.old k false ≡ false }
     ensures { (mine : PathMaxLabel) (ports : List (ReadPort PathMaxLabel))
@@ -99,7 +96,7 @@ fn note_ports<C: NumCode>(view: &View<'_>, own: u64, flags: &mut [bool])
     }
 }
 
-// Notes at each flag whether this port is in the tree and leads on, beside what is noted.
+// Does nothing where the port is not in the tree; flags that are set stay so.
 fn note_port<C: NumCode>(
     bits: &Bits<'_>,
     own: u64,

@@ -88,14 +88,13 @@ impl Model for CentroidLists {
 }
 
 impl CentroidLists {
-    // The lists of a vector, in its order. It takes no memory.
+    // Takes no memory.
     pub(crate) fn from_vec(lists: Vec<CentroidList>) -> CentroidLists
         ensures { result ≡ lists.items }
     {
         CentroidLists { lists }
     }
 
-    // The levels of the node at a place, lent.
     fn at(&self, place: usize) -> &[CentroidLevel]
         requires { place < length self.now }
         ensures { slice_get self.now place ≡ Some result.now }
@@ -104,7 +103,6 @@ impl CentroidLists {
     }
 }
 
-// These levels, in memory of their own.
 fn copy_of(alloc: Global, levels: &[CentroidLevel]) -> Result<CentroidList, NoMemory>
     ensures { IfOk result (λ list. list ≡ levels.now) }
 {

@@ -19,7 +19,7 @@ use pls_graph::Network;
 use pls_levels::is_in_tree;
 use pls_model::{Port, State};
 
-// Whether rule 6 holds at every node where the labels say this, in the order of the nodes.
+// Whether rule 6 holds at every node.
 pub(crate) fn other_edges_are_heavy(net: &Network, labels: &[PathMaxLabel]) -> bool
     requires { length labels.now ≡ length net.now }
     ensures { (say : ℕ → PathMaxLabel) → AreSaidBy say net.now labels.now → IsTrue result
@@ -34,7 +34,6 @@ pub(crate) fn other_edges_are_heavy(net: &Network, labels: &[PathMaxLabel]) -> b
     true
 }
 
-// Whether rule 6 holds at the node at a place.
 fn are_heavy_at(net: &Network, labels: &[PathMaxLabel], i: usize) -> bool
     requires each { length labels.now ≡ length net.now }
     requires within { i < length net.now }
@@ -46,7 +45,6 @@ fn are_heavy_at(net: &Network, labels: &[PathMaxLabel], i: usize) -> bool
     are_heavy(net, labels, state, &labels[i], net.ports(i), net.places(i))
 }
 
-// Whether rule 6 holds at a node of this state and label, whose neighbours stand at these places.
 fn are_heavy(
     net: &Network,
     labels: &[PathMaxLabel],
@@ -69,8 +67,7 @@ fn are_heavy(
     true
 }
 
-// Whether the edge at the port of this number is in the tree, or the nodes at its ends meet lightly
-// on some level.
+// Also true where the edge is in the tree.
 fn is_heavy(
     up: Option<u32>,
     own: &PathMaxLabel,
@@ -90,7 +87,6 @@ fn is_heavy(
         )
 }
 
-// Whether two nodes of these levels meet lightly on some of them.
 fn meet_on_some(mine: &[CentroidLevel], theirs: &[CentroidLevel], weight: u64) -> bool
     ensures { result ≡ list_any (λ both. meet_lightly weight both.0 both.1)
         (zip mine.now theirs.now) }

@@ -22,7 +22,7 @@ pub(crate) struct PathMaxPass<C> {
 }
 
 impl<C> PathMaxPass<C> {
-    // The pass in which rule 5 is asked of the levels from the one of this number on.
+    // Asks rule 5 of the levels from `first` on.
     pub(crate) fn from_level(first: u64) -> Self
         ensures { result.first ≡ first }
     {

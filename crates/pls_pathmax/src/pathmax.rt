@@ -53,7 +53,6 @@ impl<C: NumCode> Judgement for PathMaxRules<C> {
     }
 }
 
-// The judge that asks rule 5 of the levels from the one of this number on.
 pub(crate) fn pass_from<C>(first: u64) -> Basic<PathMaxPass<C>>
     ensures { result.rules.first ≡ first }
 {
@@ -62,7 +61,7 @@ pub(crate) fn pass_from<C>(first: u64) -> Basic<PathMaxPass<C>>
     }
 }
 
-// The verdict on a view by all rules.
+// Asks all rules, in as many passes as the levels need.
 pub(crate) fn judged<C: NumCode>(view: &View<'_>) -> Verdict
     ensures { result ≡ verdict_by pathmax_shape pathmax_rules C.takes view.now }
 {
@@ -77,8 +76,7 @@ pub(crate) fn judged<C: NumCode>(view: &View<'_>) -> Verdict
     Verdict::Reject { leaf: 1, rule: 5 }
 }
 
-// Whether rule 5 holds on the levels behind those of the first pass, of so many, in as many further
-// passes as it takes.
+// Asks rule 5 of the levels behind the first pass, of `count` in all.
 fn have_further_ways<C: NumCode>(view: &View<'_>, count: u64) -> bool
     ensures { (own : PathMaxLabel) (ports : List (ReadPort PathMaxLabel))
         → IsReadThrough (said_by pathmax_shape C.takes) view.now own ports
@@ -96,7 +94,7 @@ fn have_further_ways<C: NumCode>(view: &View<'_>, count: u64) -> bool
     true
 }
 
-// How many levels a label states, and 0 where the bits are none.
+// The number of levels that a label states, 0 where the bits are none.
 fn count_of<C: NumCode>(bits: &Bits<'_>) -> u64
     ensures { (label : PathMaxLabel) → said_by pathmax_shape C.takes bits.now ≡ Some label
         → result ≡ length label.levels }
@@ -107,7 +105,6 @@ fn count_of<C: NumCode>(bits: &Bits<'_>) -> u64
     }
 }
 
-// What stands in front of the levels of a label.
 pub(crate) fn head_of<C: NumCode>(bits: &Bits<'_>) -> Option<LevelHead>
     ensures { (label : PathMaxLabel) → said_by pathmax_shape C.takes bits.now ≡ Some label
         → result ≡ Some (head_said label) }
@@ -126,7 +123,6 @@ pub(crate) fn is_settled(verdict: &Verdict) -> bool
     }
 }
 
-// Whether a verdict is that rule 5 fails.
 fn is_by_rule_5(verdict: &Verdict) -> bool
     ensures { result ≡ is_by_rule_5 verdict.now }
 {

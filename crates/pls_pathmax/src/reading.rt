@@ -8,7 +8,6 @@ use pls_bits::NumCode;
 use pls_centroid::CentroidLevel;
 use pls_numbers::Numbers;
 
-// The level that comes next, or `None` where there is none.
 #[inline(always)]
 pub(crate) fn read_level<C: NumCode>(numbers: &mut Numbers<'_, C>) -> Option<CentroidLevel>
     ensures found { IfSome result (λ level. IsTaken level_off level numbers.old numbers.new) }

@@ -48,7 +48,6 @@ impl<C: NumCode> Marker for ForestRules<C> {
     ghost fits_law = { λ _. forest_fits C.code C.grows_law C.short_law };
 }
 
-// The labels of these depths.
 fn labels_of_depths(alloc: Global, depths: &[u32]) -> Result<Vec<DepthLabel>, NoMemory>
     ensures { IfOk result (λ labels. labels.items ≡ map depth_says depths.now) }
 {

@@ -53,7 +53,6 @@ impl<C: NumCode> Marker for TreeRules<C> {
     ghost fits_law = { λ _. tree_fits C.code C.grows_law C.short_law };
 }
 
-// The labels of this root and these depths.
 fn labels_of_depths(alloc: Global, root: u32, depths: &[u32]) -> Result<Vec<TreeLabel>, NoMemory>
     ensures { IfOk result (λ labels. labels.items ≡ map (root_says root) depths.now) }
 {

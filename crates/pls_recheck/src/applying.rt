@@ -55,7 +55,6 @@ impl Watched {
         }
     }
 
-    // Gives a node the state.
     fn set_state(&mut self, id: u32, state: State) -> Result<(), EditError>
         requires { state.num ≤ MAX_NUM }
         ensures ok { OnOk result (self.new ≡ watch_after (StateEdit id state) self.old) }
@@ -72,7 +71,6 @@ impl Watched {
         Ok(())
     }
 
-    // Gives an edge the weight.
     fn set_weight(&mut self, a: u32, b: u32, weight: u32) -> Result<(), EditError>
         ensures ok { OnOk result (self.new ≡ watch_after (Weight a b weight) self.old) }
         ensures allowed { OnOk result (weight_refusal self.old.network a b ≡ None) }
@@ -88,7 +86,6 @@ impl Watched {
         Ok(())
     }
 
-    // Puts an edge in.
     fn link(&mut self, a: u32, b: u32, weight: u32) -> Result<(), EditError>
         ensures ok { OnOk result (self.new ≡ watch_after (Link a b weight) self.old) }
         ensures allowed { OnOk result (link_refusal self.old.network a b ≡ None) }
@@ -104,7 +101,6 @@ impl Watched {
         Ok(())
     }
 
-    // Takes an edge away.
     fn unlink(&mut self, a: u32, b: u32) -> Result<(), EditError>
         ensures ok { OnOk result (self.new ≡ watch_after (Unlink a b) self.old) }
         ensures allowed { OnOk result (unlink_refusal self.old.network a b ≡ None) }
@@ -121,7 +117,6 @@ impl Watched {
     }
 }
 
-// Touches both ends of an edge.
 fn touch_ends(net: &Network, a: u32, b: u32, flags: &mut Vec<bool>)
     requires { length flags.old.items ≡ length net.now }
     ensures valid { IsNetwork net.now }
@@ -132,7 +127,6 @@ fn touch_ends(net: &Network, a: u32, b: u32, flags: &mut Vec<bool>)
     touch(net, b, flags);
 }
 
-// Touches a node.
 pub(crate) fn touch(net: &Network, id: u32, flags: &mut Vec<bool>)
     requires { length flags.old.items ≡ length net.now }
     ensures valid { IsNetwork net.now }
@@ -145,7 +139,7 @@ pub(crate) fn touch(net: &Network, id: u32, flags: &mut Vec<bool>)
     }
 }
 
-// Touches both ends of an edge whose neighbours changed.
+// As `unsettle`, for both ends of an edge put in or taken away.
 fn unsettle_ends(net: &Network, a: u32, b: u32, flags: &mut Vec<bool>, around: &mut Vec<bool>)
     requires a_flag { length flags.old.items ≡ length net.now }
     requires a_note { length around.old.items ≡ length net.now }
@@ -159,7 +153,7 @@ fn unsettle_ends(net: &Network, a: u32, b: u32, flags: &mut Vec<bool>, around: &
     unsettle(net, b, flags, around);
 }
 
-// Touches a node whose neighbours changed.
+// Also clears the note in `around`, as the neighbours changed.
 fn unsettle(net: &Network, id: u32, flags: &mut Vec<bool>, around: &mut Vec<bool>)
     requires a_flag { length flags.old.items ≡ length net.now }
     requires a_note { length around.old.items ≡ length net.now }

@@ -21,7 +21,7 @@ use pls_model::Verdict;
 use pls_view::LabelStore;
 
 impl Watched {
-    // Puts a node in, without ports and pointer and with an empty label, and gives its place.
+    // The node has no ports, no pointer and an empty label; gives its place.
     pub(crate) fn join(&mut self, id: u32, mark: u32, num: u64) -> Result<usize, EditError>
         requires { num ≤ MAX_NUM }
         ensures ok { OnOk result (self.new ≡ watch_after (Join id mark num) self.old) }
@@ -44,7 +44,7 @@ impl Watched {
         Ok(i)
     }
 
-    // Takes a node without ports away, with its label, and gives the place where it stood.
+    // Refused where the node has ports; gives the place where it stood.
     pub(crate) fn leave(&mut self, id: u32) -> Result<usize, EditError>
         ensures ok { OnOk result (self.new ≡ watch_after (Leave id) self.old) }
         ensures place { IfOk result (λ place. place ≡ place_in self.old.network id) }
@@ -70,7 +70,7 @@ impl Watched {
     }
 }
 
-// Puts a node into the network and an empty label into the labels, or neither, and gives its place.
+// Puts in both the node and its empty label, or neither; gives its place.
 fn join_with_label(
     net: &mut Network,
     labels: &mut LabelStore,
@@ -101,7 +101,7 @@ fn join_with_label(
     Ok(i)
 }
 
-// Takes a node away that has just joined.
+// Undoes a join just made, which cannot fail.
 fn take_back(net: &mut Network, id: u32)
     requires { leave_refusal net.old id ≡ None }
     ensures { net.new ≡ left net.old id }
@@ -110,7 +110,6 @@ fn take_back(net: &mut Network, id: u32)
     prove!(gone.is_ok());
 }
 
-// Puts a flag in at place i.
 fn put_flag(flags: &mut Vec<bool>, i: usize, flag: bool)
     requires within { i ≤ length flags.old.items }
     requires room { length flags.old.items < vec_capacity flags.old }
@@ -120,7 +119,7 @@ fn put_flag(flags: &mut Vec<bool>, i: usize, flag: bool)
     prove!(put.is_ok());
 }
 
-// Puts a verdict in at place i that nothing is said of.
+// Puts in a placeholder, as the node is not judged yet.
 fn put_verdict(kept: &mut Vec<(u32, Verdict)>, i: usize)
     requires within { i ≤ length kept.old.items }
     requires room { length kept.old.items < vec_capacity kept.old }

@@ -24,7 +24,7 @@ use pls_view::LabelStore;
 const MOST_BITS: u64 = 268_435_456;
 
 impl Watched {
-    // Gives a node the label, and gives its place.
+    // Gives the node's place.
     pub(crate) fn set_label(&mut self, id: u32, bits: &BitBuf) -> Result<usize, EditError>
         ensures ok { OnOk result (self.new ≡ watch_after (Label id bits.now) self.old) }
         ensures place { IfOk result (λ place. place ≡ place_in self.old.network id) }
@@ -52,7 +52,7 @@ impl Watched {
     }
 }
 
-// Whether all labels together are too long with this one in its place.
+// Whether all labels would exceed `MOST_BITS` with `bits` at place `i`.
 fn is_full(labels: &LabelStore, i: usize, bits: &BitBuf) -> bool
     requires { i < length labels.now }
     ensures { result ≡ nat_lt MAX_BITS (bits_together (slice_set labels.now i bits.now)) }
@@ -60,7 +60,7 @@ fn is_full(labels: &LabelStore, i: usize, bits: &BitBuf) -> bool
     bits_with(labels, i, bits) > MOST_BITS
 }
 
-// How many bits all labels have together with this one in its place, or 2^64-1 if more.
+// The total with `bits` at place `i`, at most 2^64-1.
 fn bits_with(labels: &LabelStore, i: usize, bits: &BitBuf) -> u64
     requires { i < length labels.now }
     ensures { result ≡ min (bits_together (slice_set labels.now i bits.now)) (2 ^ 64 - 1) }
@@ -69,7 +69,7 @@ fn bits_with(labels: &LabelStore, i: usize, bits: &BitBuf) -> u64
     others.saturating_add(bits.len() as u64)
 }
 
-// Touches the node at place i and its neighbours, if they need not all be touched already.
+// Does nothing where `around` says that the node and its neighbours are all touched.
 fn touch_around(net: &Network, i: usize, flags: &mut Vec<bool>, around: &mut Vec<bool>)
     requires within { i < length net.now }
     requires a_flag { length flags.old.items ≡ length net.now }
@@ -88,7 +88,6 @@ fn touch_around(net: &Network, i: usize, flags: &mut Vec<bool>, around: &mut Vec
     around[i] = true;
 }
 
-// Sets the flags at these places.
 fn set_all(places: &[u32], flags: &mut Vec<bool>)
     requires { All (λ place. place < length flags.old.items) places.now }
     ensures { SetsAt places.now flags.old.items flags.new.items }

@@ -134,7 +134,6 @@ impl<K: Remembers> Monitor<K> {
     }
 }
 
-// What the checker remembers of each label.
 fn remember_all<K: Remembers>(
     alloc: Global,
     checker: &K,

@@ -37,7 +37,7 @@ impl<K: Remembers> Monitor<K> {
         }
     }
 
-    // Makes an edit that leaves the labels as they are.
+    // Only for edits that leave the labels as they are.
     fn apply_alike(&mut self, edit: &Edit) -> Result<(), EditError>
         requires fits { FitsNum edit.now }
         requires alike { (rows : List NodeRow) (labels : List (List Bool))
@@ -53,7 +53,6 @@ impl<K: Remembers> Monitor<K> {
         Ok(())
     }
 
-    // Puts a node in, and remembers its empty label.
     fn join(&mut self, alloc: Global, id: u32, mark: u32, num: u64) -> Result<(), EditError>
         requires { num ≤ MAX_NUM }
         ensures ok { OnOk result (self.new ≡ edited_with (Join id mark num) self.old) }
@@ -71,7 +70,7 @@ impl<K: Remembers> Monitor<K> {
         Ok(())
     }
 
-    // Takes a node away, and forgets its label.
+    // Removes a node, and forgets its label.
     fn leave(&mut self, id: u32) -> Result<(), EditError>
         ensures ok { OnOk result (self.new ≡ edited_with (Leave id) self.old) }
         ensures allowed { OnOk result (leave_refusal self.old.network id ≡ None) }
@@ -84,7 +83,7 @@ impl<K: Remembers> Monitor<K> {
         Ok(())
     }
 
-    // Gives a node the label, and remembers this one.
+    // Sets the label of a node, and remembers it.
     fn set_label(&mut self, alloc: Global, id: u32, bits: &BitBuf) -> Result<(), EditError>
         ensures ok { OnOk result (self.new ≡ edited_with (Label id bits.now) self.old) }
         ensures allowed { OnOk result
@@ -102,7 +101,6 @@ impl<K: Remembers> Monitor<K> {
     }
 }
 
-// Puts a memory in at place i.
 fn put_memory<M: Drop>(memories: &mut Vec<M>, i: usize, memory: M)
     requires within { i ≤ length memories.old.items }
     requires room { length memories.old.items < vec_capacity memories.old }

@@ -46,7 +46,7 @@ impl Watched {
         self.round_by(alloc, &ByView, judge, steps)
     }
 
-    // Asks once for each touched node and for no other, as `round` does.
+    // As `round`: asks once for each touched node, and for no other.
     pub(crate) fn round_by<C, A: Asks<C>>(
         &mut self,
         alloc: Global,
@@ -100,7 +100,8 @@ impl Watched {
     }
 }
 
-// Forgets where all neighbours are touched: a round takes flags back, also one that ends early.
+// Forgets which nodes have all neighbours touched: a round takes flags back, even one that ends
+// early.
 fn forget_all(around: &mut Vec<bool>)
     ensures { around.new.items ≡ cleared (length around.old.items) around.old.items }
 {
@@ -109,7 +110,7 @@ fn forget_all(around: &mut Vec<bool>)
     }
 }
 
-// Asks about the nodes that are flagged, and takes their flags back.
+// Asks about the flagged nodes, and takes their flags back.
 fn judge_flagged<'a, C, A: Asks<C>>(
     alloc: Global,
     net: &Network,
@@ -154,7 +155,7 @@ fn judge_flagged<'a, C, A: Asks<C>>(
     Ok(checked)
 }
 
-// Keeps what the node at place i answered, and takes its flag back.
+// Keeps the verdict of the node at place `i`, and takes its flag back.
 fn answered(flags: &mut Vec<bool>, kept: &mut Vec<(u32, Verdict)>, i: usize, found: (u32, Verdict))
     requires flag { i < length flags.old.items }
     requires verdict { i < length kept.old.items }
@@ -165,8 +166,7 @@ fn answered(flags: &mut Vec<bool>, kept: &mut Vec<(u32, Verdict)>, i: usize, fou
     kept[i] = found;
 }
 
-// Turns the view to the node at place i, and asks about it: its identity, and its verdict. Where
-// there is an answer, the count and the steps rise by one, and where not, by one at most.
+// The identity and verdict of node `i`; raises count and steps by one, on an error by at most one.
 #[inline(always)]
 fn judge_at<'a, C, A: Asks<C>>(
     alloc: Global,

@@ -62,7 +62,7 @@ impl Watched {
         Watched::begin(alloc, net, labels)
     }
 
-    // The same, of a network as it is.
+    // As `start`, but without noting the places of the network first.
     fn begin(alloc: Global, net: Network, labels: LabelStore) -> Result<Watched, NoMemory>
         requires { length labels ≡ length net }
         ensures network { IfOk result (λ watched. watched.network ≡ net) }
@@ -109,14 +109,12 @@ impl Watched {
     }
 }
 
-// So many flags, all alike.
 fn flags_of(alloc: Global, flag: bool, count: usize) -> Result<Vec<bool>, NoMemory>
     ensures { IfOk result (λ flags. flags.items ≡ replicate count flag) }
 {
     Ok(vec![in alloc; flag; count]?)
 }
 
-// How many flags are set.
 fn count_set(flags: &[bool]) -> usize
     ensures { result ≡ set_among (length flags.now) flags.now }
 {

@@ -42,7 +42,6 @@ pub fn all_verdicts_accept(rows: &[(u32, Verdict)]) -> bool
     rows.iter().all(|row| is_accept(row.1))
 }
 
-// Whether a verdict accepts.
 fn is_accept(verdict: Verdict) -> bool
     ensures { result ≡ is_accepting (Decided verdict) }
 {
@@ -69,7 +68,6 @@ pub(crate) fn rejects(outcome: &Outcome) -> bool
     }
 }
 
-// Whether a verdict rejects.
 fn is_reject(verdict: Verdict) -> bool
     ensures { result ≡ is_rejecting (Decided verdict) }
 {

@@ -40,7 +40,7 @@ pub(crate) fn line_in(into: &mut [u8], id: u32, verdict: Verdict) -> usize
     tail_at(into, named, verdict)
 }
 
-// Writes what the line says behind the identity.
+// Writes the part of the line behind the identity, and returns where it ends.
 fn tail_at(into: &mut [u8], at: usize, verdict: Verdict) -> usize
     requires { at + 50 ≤ length into.old }
     ensures length { length into.new ≡ length into.old }
@@ -72,7 +72,7 @@ pub(crate) fn number_at(into: &mut [u8], at: usize, number: u64) -> usize
     at + put_decimal(number, &mut into[at..])
 }
 
-// Writes a number to the front of some bytes, and answers how many digits there are.
+// Writes the digits at the front of `into`, and returns how many there are.
 fn put_decimal(number: u64, into: &mut [u8]) -> usize
     requires { 20 ≤ length into.old }
     ensures length { length into.new ≡ length into.old }
@@ -85,7 +85,7 @@ fn put_decimal(number: u64, into: &mut [u8]) -> usize
     }
 }
 
-// Copies bytes to a place, and answers where they end.
+// Copies `bytes` to place `at`, and returns where they end.
 fn bytes_at(into: &mut [u8], at: usize, bytes: &[u8]) -> usize
     requires { at + length bytes.now ≤ length into.old }
     ensures length { length into.new ≡ length into.old }

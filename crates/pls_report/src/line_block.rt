@@ -143,7 +143,7 @@ impl LineBlock {
     }
 }
 
-// How long lines are together.
+// The total length of the lines.
 fn bytes_of(marks: &[LineMark]) -> usize
     requires { bytes_in marks.now < 2 ^ 63 }
     ensures { result ≡ bytes_in marks.now }

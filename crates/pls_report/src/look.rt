@@ -34,7 +34,6 @@ pub fn write_look<K: Sink>(number: u32, look: &LookRows, sink: &mut K) -> Result
     gathered.flush(sink)
 }
 
-// Writes the lines of a look.
 fn write_rows<K: Sink>(
     number: u32,
     look: &LookRows,

@@ -30,8 +30,7 @@ pub(crate) fn add_line(
     added
 }
 
-// Adds the pieces of the line of a node. The one error is want of memory: some of them may then have
-// been added.
+// Fails only for want of memory; some pieces may then have been added.
 fn add_pieces(text: &mut Vec<u8>, id: u32, outcome: &Outcome, stale: &[u32]) -> Result<(), NoMemory>
     ensures line { OnOk result
         (text.new.items ≡ text.old.items ++ (look_line (id, outcome.now, stale.now) ++ 10 ∷ [])) }
@@ -43,7 +42,6 @@ fn add_pieces(text: &mut Vec<u8>, id: u32, outcome: &Outcome, stale: &[u32]) -> 
     Ok(())
 }
 
-// Adds the identity of a node, and what the line says of its outcome.
 fn add_outcome(text: &mut Vec<u8>, id: u32, outcome: &Outcome) -> Result<(), NoMemory>
     ensures text { OnOk result (text.new.items
         ≡ text.old.items ++ ((codes "node " ++ decimal id) ++ outcome_tail outcome.now)) }
@@ -59,8 +57,7 @@ fn add_outcome(text: &mut Vec<u8>, id: u32, outcome: &Outcome) -> Result<(), NoM
     }
 }
 
-// The same of a node that has decided. Its pieces are put together first, since it costs less to add
-// one than many.
+// Puts the pieces together first: adding one costs less than adding many.
 fn add_decided(text: &mut Vec<u8>, id: u32, verdict: Verdict) -> Result<(), NoMemory>
     ensures text { OnOk result (text.new.items ≡ text.old.items
         ++ ((codes "node " ++ decimal id) ++ outcome_tail (Outcome.Decided verdict))) }
@@ -72,7 +69,6 @@ fn add_decided(text: &mut Vec<u8>, id: u32, verdict: Verdict) -> Result<(), NoMe
     Ok(())
 }
 
-// Adds which ports are stale, where there is one.
 fn add_stale(text: &mut Vec<u8>, ports: &[u32]) -> Result<(), NoMemory>
     ensures text { OnOk result (text.new.items ≡ text.old.items ++ stale_tail ports.now) }
     ensures begins { BeginsWith text.old.items text.new.items }
@@ -83,7 +79,7 @@ fn add_stale(text: &mut Vec<u8>, ports: &[u32]) -> Result<(), NoMemory>
     add_listed(text, b" stale", ports)
 }
 
-// Adds a word and numbers, each behind a space.
+// Adds `word`, then each number behind a space.
 fn add_listed(text: &mut Vec<u8>, word: &[u8], numbers: &[u32]) -> Result<(), NoMemory>
     ensures text { OnOk result (text.new.items ≡ text.old.items ++ (word.now ++ spaced numbers.now)) }
     ensures begins { BeginsWith text.old.items text.new.items }
@@ -95,7 +91,6 @@ fn add_listed(text: &mut Vec<u8>, word: &[u8], numbers: &[u32]) -> Result<(), No
     Ok(())
 }
 
-// Adds a space and a number, as one piece.
 fn add_spaced(text: &mut Vec<u8>, number: u32) -> Result<(), NoMemory>
     ensures text { OnOk result (text.new.items ≡ text.old.items ++ (codes " " ++ decimal number)) }
     ensures begins { BeginsWith text.old.items text.new.items }

@@ -26,7 +26,6 @@ pub(crate) fn write_parts<K: Sink>(
     write_each(parts, simulated, sink, gathered)
 }
 
-// Writes a line for each component.
 fn write_each<K: Sink>(
     parts: &[PartRow],
     simulated: bool,
@@ -43,7 +42,6 @@ fn write_each<K: Sink>(
     Ok(())
 }
 
-// Writes the line of a component.
 fn write_part<K: Sink>(
     part: PartRow,
     simulated: bool,

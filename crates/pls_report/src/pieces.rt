@@ -21,7 +21,7 @@ pub(crate) fn put_listed<K: Sink>(
     put_spaced(sink, gathered, numbers)
 }
 
-// Writes numbers, each behind a space.
+// Writes each number behind a space.
 fn put_spaced<K: Sink>(sink: &mut K, gathered: &mut Gathered, numbers: &[u32]) -> Result<(), Fault>
     ensures { Writes gathered.old gathered.new (K.taken sink.old) (K.taken sink.new)
         (K.faults sink.old) (K.faults sink.new) (K.IsSureOf sink.old) (K.IsSureOf sink.new)

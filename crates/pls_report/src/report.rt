@@ -47,7 +47,6 @@ pub fn write_report<K: Sink>(
     gathered.flush(sink)
 }
 
-// Writes the lines of a report.
 fn write_lines<K: Sink>(
     rows: &[(u32, Outcome)],
     simulated: bool,
@@ -65,7 +64,7 @@ fn write_lines<K: Sink>(
     write_last(rows, simulated, parts, sink, gathered)
 }
 
-// Writes what stands behind the lines of the nodes.
+// Writes the lines that follow those of the nodes.
 fn write_last<K: Sink>(
     rows: &[(u32, Outcome)],
     simulated: bool,
@@ -82,7 +81,6 @@ fn write_last<K: Sink>(
     write_closing(rows, simulated, sink, gathered)
 }
 
-// Writes the line of a node.
 fn write_node<K: Sink>(
     sink: &mut K,
     gathered: &mut Gathered,
@@ -99,7 +97,6 @@ fn write_node<K: Sink>(
     }
 }
 
-// Writes the line of a node that waits.
 fn write_waiting_node<K: Sink>(
     sink: &mut K,
     gathered: &mut Gathered,
@@ -115,7 +112,6 @@ fn write_waiting_node<K: Sink>(
     gathered.put(sink, b"\n")
 }
 
-// Writes the line that closes a report.
 fn write_closing<K: Sink>(
     rows: &[(u32, Outcome)],
     simulated: bool,

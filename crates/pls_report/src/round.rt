@@ -42,7 +42,6 @@ pub fn write_round<K: Sink>(
     gathered.flush(sink)
 }
 
-// Writes the lines of a round's report.
 fn write_decided<K: Sink>(
     rows: &[(u32, Verdict)],
     number: u32,
@@ -62,7 +61,6 @@ fn write_decided<K: Sink>(
     write_numbers(number, checked, connected, rejecting as u64, sink, gathered)
 }
 
-// Writes the line of the round.
 fn write_numbers<K: Sink>(
     number: u32,
     checked: u32,
@@ -82,7 +80,7 @@ fn write_numbers<K: Sink>(
     gathered.put(sink, b"\n")
 }
 
-// What the line says of the edges.
+// The words of the round's line that say whether the network is connected.
 fn connected_words(connected: bool) -> &'static [u8]
     ensures { result.now ≡ connected_tail connected }
 {

@@ -22,7 +22,7 @@ use pls_view::{LabelStore, View};
 use std::alloc::{AllocError, Global};
 use std::test::Fail;
 
-// Numbers that fields with these names hold.
+// Fields of kind `num` with these names.
 fn number_fields(alloc: Global, names: &[&str]) -> Result<Vec<Field>, Fail> {
     let mut fields = Vec::new(alloc);
     for name in names {
@@ -33,7 +33,7 @@ fn number_fields(alloc: Global, names: &[&str]) -> Result<Vec<Field>, Fail> {
     Ok(fields)
 }
 
-// Writes a piece so many times, and what follows.
+// Appends `piece` `count` times, then `rest`.
 fn repeat(text: &mut String, piece: &str, count: u32, rest: &str) -> Result<(), AllocError> {
     for _ in 0..count {
         text.push_str(piece)?;
@@ -41,7 +41,6 @@ fn repeat(text: &mut String, piece: &str, count: u32, rest: &str) -> Result<(), 
     text.push_str(rest)
 }
 
-// The rule set of a text.
 fn read_set(alloc: Global, text: &str) -> Result<RuleSet, Fail>
     ensures { IfOk result (λ set. AreRules (set_of set)) }
 {
@@ -51,7 +50,6 @@ fn read_set(alloc: Global, text: &str) -> Result<RuleSet, Fail>
     }
 }
 
-// The verdict of a node on its view of these labels.
 fn verdict_at<S: Checker>(
     alloc: Global,
     checker: &S,

@@ -15,7 +15,7 @@ use pls_rules::{Field, NumExpr};
 // The greatest number of letters in a name.
 const MOST_LETTERS: usize = 16;
 
-// The term without parts at the front of a text, and what follows it.
+// A term without subterms at the front of a text, and the rest.
 #[tactic(auto, unfolding(crate::specs::inner::Atoms::atom_front))]
 pub(crate) fn atom_front<'a>(fields: &[Field], text: &'a [u8]) -> Option<(NumExpr, &'a [u8])>
     requires few { length fields.now ≤ 8 }
@@ -40,7 +40,7 @@ pub(crate) fn atom_front<'a>(fields: &[Field], text: &'a [u8]) -> Option<(NumExp
     }
 }
 
-// The term at the front of a text that has a name, and what follows it.
+// A term `my.`, `up.` or `nb.` with its name, and the rest.
 fn named_atom<'a>(fields: &[Field], text: &'a [u8]) -> Option<(NumExpr, &'a [u8])>
     requires few { length fields.now ≤ 8 }
     ensures { option_map found_term result
@@ -58,7 +58,7 @@ fn named_atom<'a>(fields: &[Field], text: &'a [u8]) -> Option<(NumExpr, &'a [u8]
     Some((beside_named(fields, name), rest))
 }
 
-// What is said by a name behind `up.`.
+// The term of a name behind `up.`.
 fn above_named(fields: &[Field], name: &[u8]) -> NumExpr
     requires few { length fields.now ≤ 8 }
     ensures { term_of result ≡ term_with (place_of_name (names_of fields.now)) (above_named name.now) }
@@ -70,7 +70,7 @@ fn above_named(fields: &[Field], name: &[u8]) -> NumExpr
     }
 }
 
-// What is said by a name behind `nb.`.
+// The term of a name behind `nb.`.
 fn beside_named(fields: &[Field], name: &[u8]) -> NumExpr
     requires few { length fields.now ≤ 8 }
     ensures { term_of result ≡ term_with (place_of_name (names_of fields.now)) (beside_named name.now) }
@@ -84,7 +84,7 @@ fn beside_named(fields: &[Field], name: &[u8]) -> NumExpr
     }
 }
 
-// The name that all letters at the front of a text are, and what follows it.
+// All letters at the front of a text, and the rest.
 fn name_front(text: &[u8]) -> Option<(&[u8], &[u8])>
     ensures { option_map (λ found. followed found.0.now found.1.now) result ≡ name_front text.now }
 {
@@ -96,7 +96,7 @@ fn name_front(text: &[u8]) -> Option<(&[u8], &[u8])>
     }
 }
 
-// The place of the first field with this name, or the number of fields where none has it.
+// The first field with this name, or the number of fields if there is none.
 fn place_of(fields: &[Field], name: &[u8]) -> u8
     requires few { length fields.now ≤ 8 }
     ensures place { result ≡ place_of_name (names_of fields.now) name.now }

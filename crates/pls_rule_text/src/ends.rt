@@ -8,7 +8,7 @@ use crate::atoms::atom_front;
 use crate::openings::{comparison_front, junction_front, modifier_front};
 use pls_fronts::after;
 
-// What follows the formula at the front of a text, with at most so many levels.
+// The text behind a formula of at most `below` levels.
 #[cycle(ends)]
 #[tactic(auto, unfolding(crate::specs::inner::Fronts::formula_front))]
 pub(crate) fn formula_end(text: &[u8], below: u8) -> Option<&[u8]>
@@ -32,7 +32,7 @@ pub(crate) fn formula_end(text: &[u8], below: u8) -> Option<&[u8]>
     after(formula_end(rest, below - 1)?, b")")
 }
 
-// What follows the term at the front of a text, with at most so many levels.
+// The text behind a term of at most `below` levels.
 #[cycle(ends)]
 #[tactic(auto, unfolding(crate::specs::inner::Fronts::term_front))]
 fn term_end(text: &[u8], below: u8) -> Option<&[u8]>

@@ -39,7 +39,7 @@ pub(crate) enum Modifier {
     Any,
 }
 
-// What opens a formula of two terms at the front of a text, and what follows it.
+// The opening of a formula of two terms, and the rest.
 pub(crate) fn comparison_front(text: &[u8]) -> Option<(Comparison, &[u8])>
     ensures { option_map found_front result ≡ comparison_front text.now }
 {
@@ -54,7 +54,7 @@ pub(crate) fn comparison_front(text: &[u8]) -> Option<(Comparison, &[u8])>
     }
 }
 
-// What opens a formula of two formulas at the front of a text, and what follows it.
+// The opening of a formula of two formulas, and the rest.
 pub(crate) fn junction_front(text: &[u8]) -> Option<(Junction, &[u8])>
     ensures { option_map found_front result ≡ junction_front text.now }
 {
@@ -69,7 +69,7 @@ pub(crate) fn junction_front(text: &[u8]) -> Option<(Junction, &[u8])>
     }
 }
 
-// What opens a formula of one at the front of a text, and what follows it.
+// The opening of a formula of one formula, and the rest.
 pub(crate) fn modifier_front(text: &[u8]) -> Option<(Modifier, &[u8])>
     ensures { option_map found_front result ≡ modifier_front text.now }
 {

@@ -30,7 +30,6 @@ pub fn print_rule(text: &mut String, fields: &[Field], rule: &BoolExpr) -> Resul
     }
 }
 
-// Puts a word and two terms behind a text.
 #[cycle(print)]
 fn print_terms(
     text: &mut String,
@@ -51,7 +50,6 @@ fn print_terms(
     Ok(())
 }
 
-// Puts a word and two formulas behind a text.
 #[cycle(print)]
 fn print_rules(
     text: &mut String,
@@ -72,7 +70,6 @@ fn print_rules(
     Ok(())
 }
 
-// Puts a word and a formula behind a text.
 #[cycle(print)]
 fn print_one(
     text: &mut String,
@@ -89,7 +86,6 @@ fn print_one(
     Ok(())
 }
 
-// Puts the text of a term behind a text.
 #[cycle(print)]
 fn print_term(text: &mut String, fields: &[Field], term: &NumExpr) -> Result<(), NoMemory>
     ensures { OnOk result (string_bytes text.new ≡ string_bytes text.old
@@ -120,7 +116,6 @@ fn print_term(text: &mut String, fields: &[Field], term: &NumExpr) -> Result<(),
     Ok(())
 }
 
-// Puts a word and the name of a field behind a text.
 fn print_named(text: &mut String, fields: &[Field], word: &str, field: u8) -> Result<(), NoMemory>
     ensures { OnOk result (string_bytes text.new ≡ string_bytes text.old
         ++ (word.now ++ name_at (names_of fields.now) field)) }

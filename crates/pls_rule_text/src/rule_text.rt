@@ -39,7 +39,6 @@ pub fn is_rule_text(text: &[u8]) -> bool
     is_rule(text)
 }
 
-// The same, by a test.
 fn is_rule(text: &[u8]) -> bool
     ensures { result ≡ is_rule text.now }
 {
@@ -52,7 +51,6 @@ fn is_rule(text: &[u8]) -> bool
     }
 }
 
-// Whether all characters are those of rules.
 fn are_characters(text: &[u8]) -> bool
     ensures { result ≡ list_all is_character text.now }
 {
@@ -64,14 +62,14 @@ fn are_characters(text: &[u8]) -> bool
     true
 }
 
-// Whether a character is one of those of rules.
+// Whether the character may occur in a rule.
 fn is_character(character: u8) -> bool
     ensures { result ≡ is_character character }
 {
     matches!(character, b'a'..=b'z' | b'0'..=b'9' | b'.' | b',' | b'(' | b')')
 }
 
-// Whether the whole of a text is a formula, with at most 31 levels.
+// Whether the whole text is a formula of at most 31 levels.
 fn is_formula(text: &[u8]) -> bool
     ensures { result ≡ is_some (formula_in text.now) }
 {
@@ -107,7 +105,7 @@ pub fn read_rule(alloc: Global, fields: &[Field], text: &[u8]) -> Result<BoolExp
     }
 }
 
-// The rule that is the whole of a text.
+// Reads the whole text, which must be a rule.
 fn tree_in(alloc: Global, fields: &[Field], text: &[u8]) -> Result<BoolExpr, NoMemory>
     requires rule { is_some (formula_in text.now) ≡ true }
     requires few { length fields.now ≤ 8 }
@@ -120,7 +118,7 @@ fn tree_in(alloc: Global, fields: &[Field], text: &[u8]) -> Result<BoolExpr, NoM
     }
 }
 
-// The number by which a rule over so many fields is refused.
+// The number that refuses a rule over `count` fields, `None` if it is not refused.
 fn refusal_of(rule: &BoolExpr, count: u8) -> Option<u8>
     ensures { result ≡ placed_refusal count (formula_of rule.now) }
 {

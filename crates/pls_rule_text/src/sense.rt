@@ -7,7 +7,7 @@ ghost use Rattle.pls_rule_text.specs.inner.Places.{is_placed, is_term_placed};
 
 use pls_rules::{BoolExpr, NumExpr};
 
-// How many quantifiers stand inside one another, counted up to 255.
+// The depth of nested quantifiers, counted up to 255.
 #[cycle(nesting)]
 pub(crate) fn nesting_of(formula: &BoolExpr) -> u8
     ensures { result ≡ min (formula_nesting (formula_of formula.now)) 255 }
@@ -25,7 +25,6 @@ pub(crate) fn nesting_of(formula: &BoolExpr) -> u8
     }
 }
 
-// The same of a term.
 #[cycle(nesting)]
 fn term_nesting(term: &NumExpr) -> u8
     ensures { result ≡ min (term_nesting (term_of term.now)) 255 }
@@ -41,8 +40,8 @@ fn term_nesting(term: &NumExpr) -> u8
     }
 }
 
-// Whether each field is one of so many, and a neighbour is asked only inside a quantifier, or where
-// the whole stands inside of one.
+// Whether each field is below `count`, and neighbours stand only in a quantifier or where `inside`
+// is set.
 #[cycle(placed)]
 pub(crate) fn is_placed(formula: &BoolExpr, count: u8, inside: bool) -> bool
     ensures { result ≡ is_placed count inside (formula_of formula.now) }
@@ -66,7 +65,6 @@ pub(crate) fn is_placed(formula: &BoolExpr, count: u8, inside: bool) -> bool
     }
 }
 
-// The same of two terms.
 #[cycle(placed)]
 fn are_placed(first: &NumExpr, second: &NumExpr, count: u8, inside: bool) -> bool
     ensures { result ≡ (is_term_placed count inside (term_of first.now)
@@ -75,7 +73,6 @@ fn are_placed(first: &NumExpr, second: &NumExpr, count: u8, inside: bool) -> boo
     is_term_placed(first, count, inside) && is_term_placed(second, count, inside)
 }
 
-// The same of a term.
 #[cycle(placed)]
 fn is_term_placed(term: &NumExpr, count: u8, inside: bool) -> bool
     ensures { result ≡ is_term_placed count inside (term_of term.now) }

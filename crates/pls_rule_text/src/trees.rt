@@ -18,7 +18,7 @@ use pls_fronts::after;
 use pls_rules::{BoolExpr, Field, NumExpr};
 use std::alloc::Global;
 
-// The formula at the front of a text, with at most so many levels, and what follows it.
+// A formula of at most `below` levels at the front, and the rest; `None` where there is none.
 #[cycle(trees)]
 #[tactic(auto, unfolding(crate::specs::inner::Fronts::formula_front))]
 pub(crate) fn formula_front<'a>(
@@ -46,7 +46,6 @@ pub(crate) fn formula_front<'a>(
     }
 }
 
-// What stands behind the opening of a formula of two terms.
 #[cycle(trees)]
 fn behind_comparison<'a>(
     alloc: Global,
@@ -75,7 +74,6 @@ fn behind_comparison<'a>(
     }
 }
 
-// What stands behind the opening of a formula of two formulas.
 #[cycle(trees)]
 fn behind_junction<'a>(
     alloc: Global,
@@ -104,7 +102,6 @@ fn behind_junction<'a>(
     }
 }
 
-// What stands behind the opening of a formula of one.
 #[cycle(trees)]
 fn behind_modifier<'a>(
     alloc: Global,
@@ -127,7 +124,7 @@ fn behind_modifier<'a>(
     }
 }
 
-// The term at the front of a text, with at most so many levels, and what follows it.
+// A term of at most `below` levels at the front, and the rest; `None` where there is none.
 #[cycle(trees)]
 #[tactic(auto, unfolding(crate::specs::inner::Fronts::term_front))]
 fn term_front<'a>(
@@ -155,7 +152,7 @@ fn term_front<'a>(
     }
 }
 
-// What stands behind the opening of a sum of two terms.
+// Reads on behind `add(`.
 #[cycle(trees)]
 fn behind_sum<'a>(
     alloc: Global,
@@ -184,7 +181,7 @@ fn behind_sum<'a>(
     Ok(Some((sum, rest)))
 }
 
-// What stands behind the opening of a sum over ports.
+// Reads on behind `sum(`.
 #[cycle(trees)]
 fn behind_port_sum<'a>(
     alloc: Global,
@@ -213,7 +210,6 @@ fn behind_port_sum<'a>(
     Ok(Some((sum, rest)))
 }
 
-// The formula of two terms.
 fn comparison_of(
     alloc: Global,
     comparison: Comparison,
@@ -232,7 +228,6 @@ fn comparison_of(
     })
 }
 
-// The formula of two formulas.
 fn junction_of(
     alloc: Global,
     junction: Junction,
@@ -251,7 +246,6 @@ fn junction_of(
     })
 }
 
-// The formula of one.
 fn modifier_of(alloc: Global, modifier: Modifier, inner: BoolExpr) -> Result<BoolExpr, NoMemory>
     ensures { IfOk result (λ tree. formula_of tree ≡ modifier_of modifier (formula_of inner)) }
 {

@@ -34,8 +34,7 @@ pub(crate) fn field_words(text: &[u8]) -> Option<(&[u8], FieldKind, &[u8])>
     Some((name, kind, rest))
 }
 
-// The kind that the last word of a line says, at the front of a text, and what follows the line
-// feed.
+// The kind that ends a line, and the text behind the line feed.
 fn kind_front(text: &[u8]) -> Option<(FieldKind, &[u8])>
     ensures stands { IfSome result (λ read. text.now ≡ kind_word read.0 ++ 10 ∷ read.1.now) }
     ensures none { IfNone result ((kind : FieldKind) (rest : List ℕ)
@@ -48,7 +47,7 @@ fn kind_front(text: &[u8]) -> Option<(FieldKind, &[u8])>
     Some((FieldKind::Bit, rest))
 }
 
-// Whether a word can be the name of a field. What is told of ports has words of its own.
+// Excludes `weight` and `up`, the words for ports.
 fn is_field_name(word: &[u8]) -> bool
     ensures { IsTrue result ↔ IsFieldName word.now }
 {
@@ -61,7 +60,7 @@ fn is_field_name(word: &[u8]) -> bool
     is_name(word)
 }
 
-// Whether a word has as many letters as a name may have, and nothing else.
+// Whether a word is letters only, and of a permitted length.
 fn is_name(word: &[u8]) -> bool
     ensures { result ≡ (nat_lt 0 (length word.now)
         && (nat_le (length word.now) 16 && list_all is_letter word.now)) }
@@ -69,7 +68,7 @@ fn is_name(word: &[u8]) -> bool
     word.len() > 0 && word.len() <= MOST_LETTERS && are_letters(word)
 }
 
-// Whether all bytes are small letters.
+// Small letters only.
 fn are_letters(word: &[u8]) -> bool
     ensures { result ≡ list_all is_letter word.now }
 {

@@ -43,7 +43,6 @@ pub(crate) fn add_field(
     Ok(())
 }
 
-// Whether one of the fields has this name.
 fn has_name(fields: &[Field], name: &[u8]) -> bool
     ensures { result ≡ is_among (names_of fields.now) name.now }
 {
@@ -55,7 +54,7 @@ fn has_name(fields: &[Field], name: &[u8]) -> bool
     }
 }
 
-// The name with these letters. The one refusal is want of memory.
+// Fails only for want of memory.
 fn name_of_letters(alloc: Global, letters: &[u8]) -> Result<Name, NoMemory>
     requires { IsFieldName letters.now }
     ensures { IfOk result (λ name. name ≡ letters.now) }

@@ -66,7 +66,6 @@ impl<'a> LineKind<'a> for RuleWords<'a> {
 }
 
 impl<'a> RuleWords<'a> {
-    // Whether the line tells a field.
     pub(crate) fn is_field(&self) -> bool
         ensures { result ≡ is_field self.now }
     {
@@ -75,8 +74,7 @@ impl<'a> RuleWords<'a> {
 }
 
 impl<'a> RuleWords<'a> {
-    // Adds what the line says to the set of the lines before it; this line has this number. `Sense`
-    // with the number by which the line is refused; `NoMemory` for want of memory.
+    // `place` is the number of the line; `Sense` carries the number that refuses it.
     pub(crate) fn add_to(
         &self,
         alloc: Global,
@@ -104,8 +102,7 @@ impl<'a> RuleWords<'a> {
     }
 }
 
-// The text of a rule in a line `rule EXPR` at the front of a text, and what follows its line feed;
-// `None` where no such line stands there.
+// The rule of a line `rule EXPR` at the front, and the text behind its line feed.
 fn rule_words(text: &[u8]) -> Option<(&[u8], &[u8])>
     ensures rule { IfSome result (λ read. IsRuleText read.0.now) }
     ensures stands { IfSome result (λ read.

@@ -25,7 +25,6 @@ pub fn print_rules(alloc: Global, set: &RuleSet) -> Result<Vec<u8>, NoMemory>
     Ok(text.into_bytes())
 }
 
-// Puts the lines of fields behind a text.
 fn print_fields(text: &mut String, fields: &[Field]) -> Result<(), NoMemory>
     ensures { OnOk result (string_bytes text.new
         ≡ string_bytes text.old ++ text_of (map printed_field fields.now)) }
@@ -36,7 +35,6 @@ fn print_fields(text: &mut String, fields: &[Field]) -> Result<(), NoMemory>
     Ok(())
 }
 
-// Puts the line of a field behind a text.
 fn print_field(text: &mut String, field: &Field) -> Result<(), NoMemory>
     ensures { OnOk result (string_bytes text.new
         ≡ string_bytes text.old ++ text_of (printed_field field.now ∷ [])) }
@@ -50,7 +48,6 @@ fn print_field(text: &mut String, field: &Field) -> Result<(), NoMemory>
     Ok(())
 }
 
-// Puts the lines of rules over these fields behind a text.
 fn print_formulas(text: &mut String, fields: &[Field], rules: &[BoolExpr]) -> Result<(), NoMemory>
     ensures { OnOk result (string_bytes text.new ≡ string_bytes text.old
         ++ text_of (map (printed_rule (names_of fields.now)) rules.now)) }
@@ -61,7 +58,6 @@ fn print_formulas(text: &mut String, fields: &[Field], rules: &[BoolExpr]) -> Re
     Ok(())
 }
 
-// Puts the line of a rule behind a text.
 fn print_formula(text: &mut String, fields: &[Field], rule: &BoolExpr) -> Result<(), NoMemory>
     ensures { OnOk result (string_bytes text.new ≡ string_bytes text.old
         ++ text_of (printed_rule (names_of fields.now) rule.now ∷ [])) }

@@ -81,7 +81,7 @@ impl<'a> ListTally<'a> for RulesTally {
 }
 
 impl RulesTally {
-    // Counts a field more, if one may follow: no field stands behind a rule.
+    // False where a rule came before, or the fields are eight already.
     fn take_field(&mut self) -> bool
         ensures first { OnTrue result (self.old.rules ≡ 0) }
         ensures room { OnTrue result (self.old.fields < 8) }
@@ -100,7 +100,7 @@ impl RulesTally {
         true
     }
 
-    // Counts a rule more, if one may follow: there are fields in front of it.
+    // False where no field came before, or the rules are 32 already.
     fn take_rule(&mut self) -> bool
         ensures some { OnTrue result (1 ≤ self.old.fields) }
         ensures room { OnTrue result (self.old.rules < 32) }

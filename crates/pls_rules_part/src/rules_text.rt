@@ -85,7 +85,6 @@ impl<'a> RulesText<'a> {
         set_of_lines(alloc, self.behind_heading())
     }
 
-    // A reader of the lines behind the heading.
     fn behind_heading(&self) -> Lines<'a>
         ensures some { (said : RulesSaid) × StandsBehind said result.rest }
         ensures number { (said : RulesSaid) → TellsRules self.now.text said

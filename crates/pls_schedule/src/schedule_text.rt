@@ -107,7 +107,7 @@ impl<'a> ScheduleText<'a> {
         Ok(self.part.list(alloc)?)
     }
 
-    // Refuses more events than a limit.
+    // Refuses more events than the limit.
     pub(crate) fn check(&self) -> Result<(), TextError>
         ensures few { OnOk result ((events : List Event) → TellsSchedule self.now.text events
             → length events ≤ MAX_LINES) }

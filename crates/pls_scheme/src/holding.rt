@@ -36,7 +36,6 @@ pub fn hold_everywhere<R: Rules>(
     true
 }
 
-// The verdict of the node at a place, where the labels say this.
 fn verdict_at<R: Rules>(
     rules: &R,
     net: &Network,
@@ -61,7 +60,7 @@ fn verdict_at<R: Rules>(
     rules.verdict(id, state, own, above, tally)
 }
 
-// The tally of all ports of a node, whose neighbours stand at these places.
+// `places` are those of the neighbours, in the order of the ports.
 fn tally_at<R: Rules>(
     rules: &R,
     net: &Network,

@@ -17,8 +17,7 @@ use pls_model::Verdict;
 use pls_view::Labels;
 use std::alloc::Global;
 
-// The verdict of each node on its view, in the order of the nodes. It adds at most one step a node.
-// The one error is want of memory.
+// In the order of the nodes, at most one step each; fails only for want of memory.
 pub(crate) fn verdicts_of<R: JudgesInPlace, L: Labels>(
     alloc: Global,
     rules: &R,
@@ -41,7 +40,7 @@ pub(crate) fn verdicts_of<R: JudgesInPlace, L: Labels>(
     Ok(verdicts)
 }
 
-// What each label says at a glance, or `None` where it cannot be read.
+// A glance at each label, `None` where it cannot be read.
 fn look_at_all<R: JudgesInPlace, L: Labels>(
     alloc: Global,
     rules: &R,
@@ -58,7 +57,7 @@ fn look_at_all<R: JudgesInPlace, L: Labels>(
     Ok(looked)
 }
 
-// The verdict of the node at a place, by what is kept of each label.
+// The verdict of node `i`, from the kept glances.
 pub(crate) fn verdict_at<R: JudgesInPlace, L: Labels, E: Kept<R::Glance>>(
     rules: &R,
     net: &Network,
@@ -80,7 +79,7 @@ pub(crate) fn verdict_at<R: JudgesInPlace, L: Labels, E: Kept<R::Glance>>(
     }
 }
 
-// The same, by what is kept of the label at each of its ports.
+// Completes `verdict_at` where `settled_at` leaves it open, by the labels at its ports.
 fn verdict_by_all<R: JudgesInPlace, L: Labels, E: Kept<R::Glance>>(
     rules: &R,
     net: &Network,
@@ -124,7 +123,7 @@ fn verdict_by_all<R: JudgesInPlace, L: Labels, E: Kept<R::Glance>>(
     rules.close(id, state, &own, above, tally)
 }
 
-// What is kept of the label at the place of the neighbour at this port, if the pointer names one.
+// The kept glance at the label that the pointer leads to, if there is one.
 #[inline(always)]
 pub(crate) fn glance_above<'a, G, E: Kept<G>>(
     looked: &'a [E],

@@ -13,8 +13,7 @@ use pls_graph::Network;
 use pls_model::Verdict;
 use pls_view::Labels;
 
-// The verdict of the node at a place, where all labels at its ports can be read and the rules are
-// settled by its own label and the one above. `None` says nothing.
+// `None` where the node's label and the one above do not settle its verdict.
 #[inline(always)]
 pub(crate) fn settled_at<R: JudgesInPlace, L: Labels, E: Kept<R::Glance>>(
     rules: &R,
@@ -50,7 +49,6 @@ pub(crate) fn settled_at<R: JudgesInPlace, L: Labels, E: Kept<R::Glance>>(
     }
 }
 
-// Whether each label at these places can be read.
 #[inline(always)]
 fn are_read<G, E: Kept<G>>(looked: &[E], places: &[u32]) -> bool
     requires { All (λ place. place < length looked.now) places.now }

@@ -8,7 +8,7 @@ use crate::in_place::{JudgesInPlace, Looked};
 use pls_model::Verdict;
 use pls_view::View;
 
-// The verdict on a view, in one pass over its ports. Each label is looked at once.
+// The verdict in one pass over the ports, with one look at each label.
 pub(crate) fn judged<R: JudgesInPlace>(rules: &R, view: &View<'_>) -> Verdict
     ensures { result ≡ verdict_by (R.Format.shape (R.format rules.now)) (R.rules rules.now)
         R.Code.takes view.now }
@@ -38,7 +38,6 @@ pub(crate) fn judged<R: JudgesInPlace>(rules: &R, view: &View<'_>) -> Verdict
     rules.close(view.id, view.state, &own, above.as_ref(), tally)
 }
 
-// Whether a pointer is the port at this place.
 fn is_pointer(up: Option<u32>, place: usize) -> bool
     ensures { result ≡ is_pointer up place }
 {

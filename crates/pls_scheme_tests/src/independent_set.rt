@@ -155,7 +155,6 @@ impl<C: NumCode> Marker for IndependentRules<C> {
     ghost fits_law = { λ _. independent_fits C.code C.grows_law C.short_law };
 }
 
-// The label of each node, in their order.
 fn marks_of(alloc: Global, net: &Network) -> Result<Vec<MarkLabel>, NoMemory>
     ensures { IfOk result (λ labels. labels.items ≡ map mark_of net.now) }
 {

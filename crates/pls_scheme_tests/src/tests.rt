@@ -41,7 +41,6 @@ const TRIANGLE: &str = "network\nnode 1 - 0 0\nport 2 7\nport 3 7\nnode 2 0 0 0\
 const HEAVY: &str = "network\nnode 1 - 0 0\nport 2 2\nport 3 1\nnode 2 0 0 0\nport 1 2\nport 3 2\n\
                      node 3 1 0 0\nport 1 1\nport 2 2\nend\n";
 
-// The network of a text.
 fn network(alloc: Global, text: &str) -> Result<Network, Fail> {
     match read_network(alloc, text.as_bytes()) {
         Ok(net) => Ok(net),
@@ -49,7 +48,6 @@ fn network(alloc: Global, text: &str) -> Result<Network, Fail> {
     }
 }
 
-// The connected network of a text.
 fn joined(alloc: Global, text: &str) -> Result<Network, Fail>
     ensures { IfOk result (λ net. IsConnected net) }
 {

@@ -11,8 +11,7 @@ use pls_expressions::ExpressionTree;
 use pls_fronts::after;
 use std::alloc::Global;
 
-// How many names stand in the expression at the front of a text, inside of `map` or not, with at most
-// so many levels below it, counted up to 255; and what follows it. It takes no memory.
+// Counts the names, up to 255, of an expression of at most `below` levels, without memory.
 pub(crate) fn names_front(text: &[u8], inside: bool, below: u8) -> Option<(u8, &[u8])>
     ensures { option_map found_front result
         ≡ option_map count_front (expression_front inside below text.now) }
@@ -36,8 +35,7 @@ pub(crate) fn names_front(text: &[u8], inside: bool, below: u8) -> Option<(u8, &
     Some((names, rest))
 }
 
-// The expression at the front of a text, inside of `map` or not, with at most so many levels below
-// it, and what follows it.
+// An expression of at most `below` levels; `inside` says it stands in `map`.
 pub(crate) fn tree_front(
     alloc: Global,
     text: &[u8],
@@ -80,7 +78,6 @@ pub(crate) fn tree_front(
     Ok(Some((ExpressionTree::Map(Box::new(alloc, property)?), rest)))
 }
 
-// Two expressions, joined.
 fn joined(
     alloc: Global,
     join: Join,

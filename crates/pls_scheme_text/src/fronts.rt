@@ -21,7 +21,7 @@ pub(crate) enum Join {
     Either,
 }
 
-// What opens an expression of two at the front of a text, and what follows it.
+// The opening of an expression of two, and the rest.
 pub(crate) fn join_front(text: &[u8]) -> Option<(Join, &[u8])>
     ensures { option_map found_front result ≡ join_front text.now }
 {
@@ -34,15 +34,14 @@ pub(crate) fn join_front(text: &[u8]) -> Option<(Join, &[u8])>
     }
 }
 
-// What follows `map(` at the front of a text. Inside of `map` there is no other.
+// The text behind `map(`, which may not stand inside another `map`.
 pub(crate) fn map_front(text: &[u8], inside: bool) -> Option<&[u8]>
     ensures { option_map (λ rest. rest.now) result ≡ map_front inside text.now }
 {
     if inside { None } else { after(text, b"map(") }
 }
 
-// The name at the front of a text, or inside of `map` a property that has no scheme, and what
-// follows it.
+// A name, or inside of `map` also a property without a scheme, and the rest.
 #[tactic(auto, unfolding(crate::specs::inner::Fronts::leaf_front))]
 pub(crate) fn leaf_front(text: &[u8], inside: bool) -> Option<(ExpressionTree, &[u8])>
     ensures value { option_map found_tree result ≡ leaf_front inside text.now }
@@ -57,7 +56,7 @@ pub(crate) fn leaf_front(text: &[u8], inside: bool) -> Option<(ExpressionTree, &
     }
 }
 
-// The property at the front of a text that has no scheme, and what follows it.
+// A property that has no scheme, and the rest.
 fn property_front(text: &[u8]) -> Option<(ExpressionTree, &[u8])>
     ensures value { option_map found_tree result ≡ property_front text.now }
     ensures one { IfSome result (λ found. names_of (expression_of found.0) ≡ 1) }
@@ -69,7 +68,7 @@ fn property_front(text: &[u8]) -> Option<(ExpressionTree, &[u8])>
     Some((ExpressionTree::Diameter(most), rest))
 }
 
-// The number of edges of the diameter at the front of a text, and what follows it.
+// The number behind `diameter:`, and the rest.
 fn edges_front(text: &[u8]) -> Option<(u32, &[u8])>
     ensures { option_map found_front result ≡ edges_front text.now }
 {

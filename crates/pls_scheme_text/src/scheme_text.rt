@@ -44,7 +44,7 @@ pub fn read_expression(alloc: Global, text: &str) -> Result<ExpressionTree, Sche
     }
 }
 
-// Why a text is refused. It takes no memory.
+// `None` where the text is accepted; takes no memory.
 fn refusal_of(text: &[u8]) -> Option<SchemeError>
     ensures { result ≡ scheme_refusal_of text.now }
 {
@@ -58,8 +58,7 @@ fn refusal_of(text: &[u8]) -> Option<SchemeError>
     }
 }
 
-// How many names the expression has that is the whole of a text, counted up to 255. It takes no
-// memory.
+// The number of names, up to 255, `None` where the text is no expression; takes no memory.
 fn names_in(text: &[u8]) -> Option<u8>
     ensures { result ≡ names_in text.now }
 {
@@ -67,7 +66,6 @@ fn names_in(text: &[u8]) -> Option<u8>
     if rest.is_empty() { Some(names) } else { None }
 }
 
-// The expression of a text.
 fn tree_in(alloc: Global, text: &[u8]) -> Result<ExpressionTree, NoMemory>
     requires { is_some (expression_in text.now) ≡ true }
     ensures { IfOk result (λ tree. expression_in text.now ≡ Some (expression_of tree)) }
@@ -88,7 +86,6 @@ pub fn print_expression(alloc: Global, tree: &ExpressionTree) -> Result<String, 
     Ok(text)
 }
 
-// Puts the text of an expression behind a text.
 fn print_tree(text: &mut String, tree: &ExpressionTree) -> Result<(), NoMemory>
     ensures { OnOk result (string_bytes text.new
         ≡ string_bytes text.old ++ expression_text (expression_of tree.now)) }

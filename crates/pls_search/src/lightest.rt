@@ -32,8 +32,7 @@ pub fn distances(alloc: Global, net: &Network, root: usize) -> Result<Vec<Option
     Ok(found)
 }
 
-// Adds the neighbours of the node at a place, which a walk of this weight reaches, with the weights
-// of the walks that go on to them.
+// Adds each neighbour with the weight of the walk that goes on to it.
 fn look_beside(
     net: &Network,
     place: usize,

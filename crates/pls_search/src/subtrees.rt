@@ -26,7 +26,7 @@ pub fn subtree_sizes(alloc: Global, parents: &[Option<usize>]) -> Result<Vec<u32
     Ok(sizes)
 }
 
-// For each place one visit, and how many children it has.
+// For each place, one visit and one for each child.
 fn visits_and_children(alloc: Global, parents: &[Option<usize>]) -> Result<Vec<u32>, NoMemory>
     requires few { length parents.now ≤ 32768 }
     requires within { AreParentsWithin parents.now }
@@ -41,7 +41,7 @@ fn visits_and_children(alloc: Global, parents: &[Option<usize>]) -> Result<Vec<u
     Ok(waits)
 }
 
-// Visits a place, and hands sizes on from there as far as places wait for no more.
+// Visits `start`, and hands sizes to parents while places wait for no more.
 fn hand_on(parents: &[Option<usize>], waits: &mut [u32], sizes: &mut [u32], start: usize)
     requires few { length parents.now ≤ 32768 }
     requires within { AreParentsWithin parents.now }
@@ -63,7 +63,6 @@ fn hand_on(parents: &[Option<usize>], waits: &mut [u32], sizes: &mut [u32], star
     }
 }
 
-// The number 1, so many times.
 fn one_each(alloc: Global, count: usize) -> Result<Vec<u32>, NoMemory>
     ensures { IfOk result (λ ones. ones.items ≡ replicate count 1) }
 {

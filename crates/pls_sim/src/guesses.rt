@@ -51,7 +51,7 @@ impl Guesses {
         Ok(guesses)
     }
 
-    // Puts a port behind those that lead to the node at a place, if there is room.
+    // Adds a port that leads to node `to`, if there is room.
     #[inline(always)]
     fn put(&mut self, to: usize, way: Owned) {
         if to < self.ends.len() {
@@ -87,7 +87,7 @@ impl Guesses {
     }
 }
 
-// A number in 16 bits; 0 where it is too great, which no place and no port's number is.
+// 0 where the number is too large: no place and no port has that number.
 #[inline(always)]
 fn narrow(number: usize) -> u16 {
     u16::try_from(number).unwrap_or(0)

@@ -15,7 +15,6 @@ use pls_netfile::read_network;
 use std::alloc::Global;
 use std::test::Fail;
 
-// The network of a text.
 fn network(alloc: Global, text: &str) -> Result<Network, Fail> {
     match read_network(alloc, text.as_bytes()) {
         Ok(net) => Ok(net),
@@ -23,7 +22,6 @@ fn network(alloc: Global, text: &str) -> Result<Network, Fail> {
     }
 }
 
-// The connected network of a text.
 fn joined(alloc: Global, text: &str) -> Result<Network, Fail>
     ensures { IfOk result (λ net. IsConnected net) }
 {

@@ -100,7 +100,7 @@ fn cross_port(ends: Ends, own: u32, port: Port) -> Port
     }
 }
 
-// Whom a node names at a port that named a neighbour before.
+// The neighbour of `own` after crossing, at the port that led to `nbr` before.
 fn named_after(ends: Ends, own: u32, nbr: u32) -> u32
     ensures { result ≡ named_after ends own nbr }
 {

@@ -48,7 +48,6 @@ fn label_at(labels: &LabelStore, place: usize) -> Bits<'_>
     labels.bits(place)
 }
 
-// The weight of the edge from one node to another.
 fn weight_between(net: &Network, i: usize, j: usize) -> u32
     requires one { i < length net.now }
     requires other { j < length net.now }
@@ -66,8 +65,7 @@ fn weight_to(ports: &[Port], nbr: u32) -> Option<u32>
         .map(|port| port.weight)
 }
 
-// Puts bits behind a word, which stands behind the others once it is full. The answer is the word
-// that has the bits since then, behind a one.
+// Full words go to `key`; the answer is the last, unfilled word, its bits behind a one.
 fn push_bits(key: &mut Vec<u64>, word: u64, bits: &Bits<'_>) -> Result<u64, NoMemory>
     ensures last { IfOk result (λ last. last ≡ last_word word bits.now) }
     ensures words { OnOk result (key.new.items ≡ key.old.items ++ full_words word bits.now) }

@@ -58,7 +58,6 @@ pub fn find(
     Ok(found)
 }
 
-// The keys of all edges, in their order.
 fn edge_keys(
     alloc: Global,
     ring: &Ring,
@@ -78,8 +77,8 @@ fn edge_keys(
     Ok(keys)
 }
 
-// The first pair, where edge `i` comes before those that were looked at, and `j` is the first edge
-// far enough behind it that is alike. If that is too far, a later one is too.
+// `found` is the first pair behind edge `i`, and `j` the nearest equal edge far enough behind `i`.
+// If `j` is too far, so is each later one.
 fn with_edge(found: Option<Pair>, i: usize, j: Option<u32>, count: usize) -> Option<Pair>
     requires within { i + 3 ≤ count }
     requires small { count < 2 ^ 32 }

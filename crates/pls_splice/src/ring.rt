@@ -54,7 +54,7 @@ impl Ring {
         self.places[i] as usize
     }
 
-    // The place of its head.
+    // The place of the head of edge `i`.
     pub(crate) fn head(&self, i: usize) -> usize
         requires { i < length self.now }
         ensures { result ≡ head_of self.now i }
@@ -88,7 +88,7 @@ fn first_without_two(net: &Network) -> Option<u32>
     None
 }
 
-// The nodes from the first one on, each the neighbour of the one before from which it was not come.
+// Places in ring order from the first node on, which is left by its port 0.
 fn go_round(alloc: Global, net: &Network) -> Result<Vec<u32>, NoMemory>
     requires { IsRing net.now }
     ensures { IfOk result (λ places. places.items ≡ places_round net.now) }
@@ -107,7 +107,6 @@ fn go_round(alloc: Global, net: &Network) -> Result<Vec<u32>, NoMemory>
     Ok(places)
 }
 
-// The neighbour of a node with two ports that is not the given one.
 fn other_neighbour(net: &Network, here: usize, before: u32) -> u32
     requires ring { IsRing net.now }
     requires within { here < length net.now }

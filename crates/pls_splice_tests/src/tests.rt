@@ -15,7 +15,6 @@ use pls_view::LabelStore;
 use std::alloc::{AllocError, Global};
 use std::test::Fail;
 
-// The network of a text.
 fn network(alloc: Global, text: &str) -> Result<Network, Fail> {
     match read_network(alloc, text.as_bytes()) {
         Ok(net) => Ok(net),
@@ -23,15 +22,14 @@ fn network(alloc: Global, text: &str) -> Result<Network, Fail> {
     }
 }
 
-// A ring of so many nodes, numbered from 1, each with the node before it at port 0 but the first,
-// which is marked and has the second there; each weight is 1.
+// Nodes 1 to `count`, the first one marked. Port 0 leads to the node before, but to node 2 from
+// node 1; weights are 1.
 fn plain_ring(alloc: Global, count: u32) -> Result<Network, Fail> {
     let mut text = String::new(alloc);
     write_plain_ring(&mut text, count)?;
     network(alloc, text.as_str())
 }
 
-// Writes the text of it.
 fn write_plain_ring(text: &mut String, count: u32) -> Result<(), AllocError> {
     write!(text, "network\nnode 1 - 1 0\nport 2 1\nport {count} 1\n")?;
     for id in 2..count {
@@ -43,14 +41,13 @@ fn write_plain_ring(text: &mut String, count: u32) -> Result<(), AllocError> {
     write!(text, "node {count} - 0 0\nport {before} 1\nport 1 1\nend\n")
 }
 
-// So many labels of `width` bits each: label `i` has the bits of word `i`, the lowest first.
+// Label `i` has the lowest `width` bits of word `i`, the lowest first.
 fn labels_of(alloc: Global, words: &[u32], width: u32) -> Result<LabelStore, Fail> {
     let mut labels = LabelStore::blank(alloc, words.len())?;
     put_words(alloc, &mut labels, words, width)?;
     Ok(labels)
 }
 
-// Puts them in place of others.
 fn put_words(
     alloc: Global,
     labels: &mut LabelStore,
@@ -65,7 +62,7 @@ fn put_words(
     Ok(())
 }
 
-// The label of a word.
+// The lowest `width` bits, the lowest first.
 fn bits_of(alloc: Global, word: u32, width: u32) -> Result<BitBuf, Fail> {
     let mut bits = BitBuf::new(alloc);
     let mut rest = word;
@@ -76,7 +73,7 @@ fn bits_of(alloc: Global, word: u32, width: u32) -> Result<BitBuf, Fail> {
     Ok(bits)
 }
 
-// The first two edges of a ring that may be crossed, and what crossing them makes, if there are two.
+// The first two edges that may be crossed, with the crossed network; `None` where there are none.
 fn first_crossing(
     alloc: Global,
     ring: &Ring,
@@ -97,7 +94,6 @@ fn first_crossing(
     Ok(Some((pair, cross(alloc, ring, net, labels, pair)?)))
 }
 
-// The same of a network that is a ring.
 fn crossing_in(
     alloc: Global,
     net: &Network,
@@ -109,7 +105,6 @@ fn crossing_in(
     }
 }
 
-// The same of a ring of so many nodes, with labels of `width` bits each.
 fn plain_crossing(
     alloc: Global,
     count: u32,

@@ -37,7 +37,7 @@ pub fn trial_network(alloc: Global, nodes: u32, seed: u32) -> Result<Network, No
     Ok(net)
 }
 
-// The nodes from 1 on, without ports.
+// Nodes 1 to `nodes`, without ports.
 fn nodes_alone(alloc: Global, nodes: u32) -> Result<Network, NoMemory>
     requires { (1 ≤ nodes) × (nodes ≤ 32768) }
     ensures { IfOk result (λ net. net ≡ nodes_alone nodes) }
@@ -77,7 +77,7 @@ fn put_tree(net: &mut Network, draws: &mut Draws, nodes: u32) -> Result<(), NoMe
     Ok(())
 }
 
-// Puts as many other links as there are nodes.
+// Draws `nodes` more links, and skips those that exist or join a node to itself.
 fn put_others(net: &mut Network, draws: &mut Draws, nodes: u32) -> Result<(), NoMemory>
     requires nodes { 1 ≤ nodes }
     requires ready { AreReady net.old nodes (2 * nodes) }
@@ -92,7 +92,7 @@ fn put_others(net: &mut Network, draws: &mut Draws, nodes: u32) -> Result<(), No
     Ok(())
 }
 
-// Links two nodes, where they differ and are not linked.
+// Does nothing where the nodes are equal or already linked.
 fn put_link(net: &mut Network, a: u32, b: u32, weight: u32) -> Result<(), NoMemory>
     requires a { Contains (ids_of net.old) a }
     requires b { Contains (ids_of net.old) b }
@@ -111,7 +111,7 @@ fn put_link(net: &mut Network, a: u32, b: u32, weight: u32) -> Result<(), NoMemo
     }
 }
 
-// Lets each node but the first point at its port 0.
+// Each node but the first points at its port 0.
 fn point(net: &mut Network, nodes: u32)
     requires nodes { 1 ≤ nodes }
     requires ids { ids_of net.old ≡ range_with_len 1 nodes }

@@ -30,7 +30,7 @@ pub fn map_bound<C: NumCode>(size: &Size) -> u64
     with_times(heads, size.ports, codes_length::<C>(&port))
 }
 
-// So many bits in front, and so many times those of each.
+// `front + count * each`, capped at the greatest `u64`.
 fn with_times(front: u64, count: u64, each: u64) -> u64
     ensures { (a b : ℕ) → front ≡ capped a → each ≡ capped b
         → result ≡ capped (a + count * b) }

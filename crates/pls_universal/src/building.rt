@@ -12,8 +12,7 @@ use pls_graph::{BuildError, Network, NodePorts, NodeRow, Port, State, connected}
 use pls_model::{MAX_NODES, MAX_NUM, MAX_PORTS, MAX_WORD};
 use std::alloc::Global;
 
-// The connected network that the records of a map state, or `None` where they state none. The one
-// error is want of memory.
+// The connected network that the records state, or `None` where they state none.
 pub(crate) fn network_of(alloc: Global, rows: &[MapRow]) -> Result<Option<Network>, NoMemory>
     ensures { IfOk result (IsNetworkOf rows.now) }
 {
@@ -30,7 +29,6 @@ pub(crate) fn network_of(alloc: Global, rows: &[MapRow]) -> Result<Option<Networ
     }
 }
 
-// The network, if it is connected.
 fn if_connected(alloc: Global, net: Network) -> Result<Option<Network>, NoMemory>
     ensures { IfOk result (λ found. found ≡ (if is_joined net then Some net else None)) }
 {
@@ -41,14 +39,12 @@ fn if_connected(alloc: Global, net: Network) -> Result<Option<Network>, NoMemory
     }
 }
 
-// Whether a map is within the limits of networks.
 fn are_within_limits(rows: &[MapRow]) -> bool
     ensures { result ≡ is_within_limits rows.now }
 {
     !rows.is_empty() && rows.len() <= MAX_NODES && have_few_ports(rows) && are_small(rows)
 }
 
-// Whether records state no more ports together than a network may have.
 fn have_few_ports(rows: &[MapRow]) -> bool
     ensures { result ≡ nat_le (ports_stated rows.now) MAX_PORTS }
 {
@@ -63,21 +59,19 @@ fn have_few_ports(rows: &[MapRow]) -> bool
     true
 }
 
-// Whether the numbers of records are those of networks.
 fn are_small(rows: &[MapRow]) -> bool
     ensures { result ≡ list_all is_small rows.now }
 {
     rows.iter().all(|row| is_small(row))
 }
 
-// Whether the pointers of records are no greater than those of networks.
 fn have_small_pointers(rows: &[MapRow]) -> bool
     ensures { result ≡ list_all is_pointer_small rows.now }
 {
     rows.iter().all(|row| row.up <= MAX_PORTS as u64)
 }
 
-// Whether the numbers of a record are those of networks.
+// The pointer is not checked here.
 fn is_small(row: &MapRow) -> bool
     ensures { result ≡ is_small row.now }
 {
@@ -87,7 +81,6 @@ fn is_small(row: &MapRow) -> bool
         && are_ports_small(row.ports.as_slice())
 }
 
-// Whether the numbers of ports are those of networks.
 fn are_ports_small(ports: &[(u64, u64)]) -> bool
     ensures { result ≡ list_all is_port_small ports.now }
 {
@@ -96,7 +89,6 @@ fn are_ports_small(ports: &[(u64, u64)]) -> bool
         .all(|port| port.0 <= MAX_WORD && port.1 <= MAX_WORD)
 }
 
-// The nodes that records state. The one error is want of memory.
 fn nodes_of(alloc: Global, rows: &[MapRow]) -> Result<Vec<NodeRow>, NoMemory>
     requires small { list_all is_small rows.now ≡ true }
     requires pointers { list_all is_pointer_small rows.now ≡ true }
@@ -109,7 +101,6 @@ fn nodes_of(alloc: Global, rows: &[MapRow]) -> Result<Vec<NodeRow>, NoMemory>
     Ok(nodes)
 }
 
-// The node that a record states. The one error is want of memory.
 fn node_of(alloc: Global, row: &MapRow) -> Result<NodeRow, NoMemory>
     requires small { is_small row.now ≡ true }
     requires pointer { is_pointer_small row.now ≡ true }
@@ -128,7 +119,7 @@ fn node_of(alloc: Global, row: &MapRow) -> Result<NodeRow, NoMemory>
     })
 }
 
-// The pointer that a record states by this number.
+// 0 states no pointer, any other number the port plus one.
 fn up_of(up: u64) -> Option<u32>
     requires { up ≤ MAX_PORTS }
     ensures { result ≡ up_of up }
@@ -139,7 +130,6 @@ fn up_of(up: u64) -> Option<u32>
     }
 }
 
-// The ports that a record states. The one error is want of memory.
 fn ports_of(alloc: Global, ports: &[(u64, u64)]) -> Result<NodePorts, NoMemory>
     requires { list_all is_port_small ports.now ≡ true }
     ensures { IfOk result (λ made. made ≡ map port_of ports.now) }

@@ -39,7 +39,6 @@ pub struct DecidedMaps {
 }
 
 impl DecidedMaps {
-    // No map.
     pub(crate) fn new(alloc: Global) -> DecidedMaps
         ensures { (takes : List Bool → Option (ℕ × List Bool)) (test : List NodeRow → Bool)
             (labels : List (List Bool)) → AreDecided takes test labels result }
@@ -50,7 +49,7 @@ impl DecidedMaps {
         }
     }
 
-    // Puts a map behind the others, which has these words. The one error is want of memory.
+    // The answer is the number of the new map.
     fn put(&mut self, words: Vec<u64>, map: DecidedMap) -> Result<usize, NoMemory>
         ensures number { IfOk result (λ number. number ≡ length self.old.maps.items) }
         ensures maps { OnOk result (self.new.maps.items ≡ self.old.maps.items ++ map ∷ []) }
@@ -61,8 +60,7 @@ impl DecidedMaps {
         Ok(number)
     }
 
-    // The number of an equal map. That of the map that came last is looked at first, so that where
-    // all labels have one map, nothing is looked up. The one error is want of memory.
+    // Looks at the last map first, so that nothing is looked up where all labels have one map.
     fn seek<C: NumCode, L: Labels>(
         &self,
         alloc: Global,
@@ -86,7 +84,7 @@ impl DecidedMaps {
         Ok(None)
     }
 
-    // Whether the map with this number is there and equal to this one.
+    // False where no map has this number.
     fn is_number<C: NumCode, L: Labels>(&self, labels: &L, number: usize, map: &Bits<'_>) -> bool
         requires { All (λ map. map.place < length (L.listed labels.now)) self.now.maps.items }
         ensures { OnTrue result
@@ -98,8 +96,7 @@ impl DecidedMaps {
         }
     }
 
-    // The number of the map of the label, which stands at place `i`, or `None` where the label
-    // cannot be read. A map that is new is read and decided. The one error is want of memory.
+    // `label` stands at place `i`. `None` where it cannot be read; a new map is read and decided.
     fn number_of<P: Tested, C: NumCode, L: Labels>(
         &mut self,
         alloc: Global,
@@ -133,8 +130,7 @@ impl DecidedMaps {
     }
 }
 
-// How many bits a map has, and the bits in words, the last filled up with zeros. So maps that are
-// equal have the same words.
+// The length comes first and the last word is zero-filled, so equal maps have equal words.
 fn words_of(alloc: Global, map: &Bits<'_>) -> Result<Vec<u64>, NoMemory> {
     let mut words = Vec::new(alloc);
     words.push(map.len() as u64)?;
@@ -148,7 +144,7 @@ fn words_of(alloc: Global, map: &Bits<'_>) -> Result<Vec<u64>, NoMemory> {
     Ok(words)
 }
 
-// Whether the map of a label is this one, bit by bit.
+// Compares bit by bit; false where the label cannot be read.
 pub(crate) fn has_map<C: NumCode>(label: &Bits<'_>, map: &Bits<'_>) -> bool
     ensures { result ≡ true → (own : ℕ) × (C.takes label.now ≡ Some (own, map.now)) }
 {
@@ -158,8 +154,7 @@ pub(crate) fn has_map<C: NumCode>(label: &Bits<'_>, map: &Bits<'_>) -> bool
     }
 }
 
-// The verdict on the view of the node at place `i`, whose map is decided now unless it was before.
-// The one error is want of memory.
+// Decides the map of the node at place `i` unless that was done before.
 pub(crate) fn verdict_at<P: Tested, C: NumCode, L: Labels>(
     alloc: Global,
     property: &P,

@@ -32,7 +32,7 @@ pub fn map_labels<C: NumCode>(alloc: Global, net: &Network) -> Result<LabelStore
     Ok(labels)
 }
 
-// Puts the label of an identity and a map in the place of the bits.
+// Replaces the bits by the label.
 fn put_label<C: NumCode>(bits: &mut BitBuf, id: u32, map: Bits<'_>) -> Result<(), NoMemory>
     ensures { OnOk result ((rows : List MapRow) → IsSpelled rows_shape C.code map.entry rows
         → IsSpelled map_shape C.code bits.new (map_label_with id rows)) }

@@ -10,7 +10,7 @@ use pls_bits::NumCode;
 use pls_numbers::Numbers;
 use std::alloc::Global;
 
-// So many records, or `None` where what comes next is fewer. The one error is want of memory.
+// `None` where fewer than `count` records can be read.
 pub(crate) fn read_rows<C: NumCode>(
     alloc: Global,
     numbers: &mut Numbers<'_, C>,
@@ -33,7 +33,6 @@ pub(crate) fn read_rows<C: NumCode>(
     Ok(Some(rows))
 }
 
-// The record that comes next, or `None` where there is none. The one error is want of memory.
 fn read_row<C: NumCode>(
     alloc: Global,
     numbers: &mut Numbers<'_, C>,
@@ -71,7 +70,6 @@ fn read_row<C: NumCode>(
     }))
 }
 
-// So many ports, or `None` where what comes next is fewer. The one error is want of memory.
 fn read_ports<C: NumCode>(
     alloc: Global,
     numbers: &mut Numbers<'_, C>,
@@ -94,7 +92,6 @@ fn read_ports<C: NumCode>(
     Ok(Some(ports))
 }
 
-// The port that comes next, or `None` where there is none.
 fn read_port<C: NumCode>(numbers: &mut Numbers<'_, C>) -> Option<(u64, u64)>
     ensures found { IfSome result
         (λ port. port_off numbers.old.numbers ≡ Some (port, numbers.new.numbers)) }

@@ -38,7 +38,7 @@ pub fn recode_beside<C: NumCode, D: NumCode>(
     }
 }
 
-// The code of a number, and behind it a map.
+// The code of `own`, followed by the map.
 fn joined<D: NumCode>(alloc: Global, own: u64, map: Bits<'_>) -> Result<BitBuf, NoMemory>
     requires { own ≤ MAX_CODED }
     ensures { IfOk result (λ bits. bits ≡ D.code own ++ map.entry) }

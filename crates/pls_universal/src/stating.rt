@@ -17,8 +17,7 @@ pub struct Stated {
     pub(crate) has: bool,
 }
 
-// The connected network that the records of a map state, with the answer of the property, or `None`
-// where they state none. The property is decided once at most. The one error is want of memory.
+// `None` where the records state no connected network; the property is decided once at most.
 pub(crate) fn stated_by<P: Tested>(
     alloc: Global,
     property: &P,

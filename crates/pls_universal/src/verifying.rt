@@ -22,8 +22,7 @@ use pls_scheme::judged_from;
 use pls_view::{PortView, View};
 use std::alloc::Global;
 
-// The verdict on a view, by what was found out of the map of its own label. The one error is want
-// of memory.
+// `stated` is what the map in the node's own label states.
 pub(crate) fn verdict_on<C: NumCode>(
     alloc: Global,
     stated: &Option<Stated>,
@@ -49,8 +48,7 @@ pub(crate) fn verdict_on<C: NumCode>(
     })
 }
 
-// The number in front of a label, and the bits of the map behind it, or `None` where the label
-// begins with no number. It takes no memory.
+// The number in front and the map behind it; `None` where no number comes first.
 pub(crate) fn parts<'a, C: NumCode>(label: &Bits<'a>) -> Option<(u64, Bits<'a>)>
     ensures { result ≡ C.takes label.now }
 {
@@ -59,8 +57,7 @@ pub(crate) fn parts<'a, C: NumCode>(label: &Bits<'a>) -> Option<(u64, Bits<'a>)>
     Some((own, cursor.rest()))
 }
 
-// Whether each port's label has the map that these bits are, or `None` where one cannot be read.
-// The one error is want of memory.
+// Whether each port's label has this map; `None` where one cannot be read.
 fn agreement<C: NumCode>(
     alloc: Global,
     map: &Bits<'_>,
@@ -80,8 +77,7 @@ fn agreement<C: NumCode>(
     Ok(Some(agrees))
 }
 
-// Whether a label has the map that these bits are, or `None` where it cannot be read. A map of
-// equal bits is not read again. The one error is want of memory.
+// `None` where the label cannot be read; a map of equal bits is not read again.
 fn same_map<C: NumCode>(
     alloc: Global,
     map: &Bits<'_>,
@@ -103,7 +99,7 @@ fn same_map<C: NumCode>(
     Ok(Some(false))
 }
 
-// Whether the network has the node of a view, with its state and its ports.
+// Compares identity, state and ports.
 fn has_node<C: NumCode>(net: &Network, view: &View<'_>) -> bool
     ensures { result ≡ has_node C.takes net.now view.now }
 {
@@ -114,14 +110,13 @@ fn has_node<C: NumCode>(net: &Network, view: &View<'_>) -> bool
     same_state(state, view.state) && same_ports::<C>(net.ports(place), &view.ports)
 }
 
-// Whether two states are the same.
 fn same_state(one: State, other: State) -> bool
     ensures { result ≡ same_state one other }
 {
     one.up == other.up && one.mark == other.mark && one.num == other.num
 }
 
-// Whether ports have the weights, and name what the labels say, one by one.
+// Compares weights, and neighbours with the numbers in front of the labels, in order.
 fn same_ports<C: NumCode>(ports: &[Port], seen: &[PortView<'_>]) -> bool
     ensures { result ≡ matched (is_port_seen C.takes) ports.now (ports_shown seen.now) }
 {
@@ -136,7 +131,7 @@ fn same_ports<C: NumCode>(ports: &[Port], seen: &[PortView<'_>]) -> bool
     true
 }
 
-// Whether the number in front of a label is this one.
+// Whether the number in front of the label is `id`.
 fn is_called<C: NumCode>(id: u32, label: &Bits<'_>) -> bool
     ensures { result ≡ is_called C.takes id label.now }
 {

@@ -57,7 +57,6 @@ pub fn write_map<C: NumCode>(alloc: Global, net: &Network) -> Result<BitBuf, NoM
     Ok(bits)
 }
 
-// Appends the record of the node at a place.
 fn write_row<C: NumCode>(bits: &mut BitBuf, net: &Network, i: usize) -> Result<(), NoMemory>
     requires within { i < length net.now }
     requires coded { (row : NodeRow) → slice_get net.now i ≡ Some row
@@ -73,7 +72,7 @@ fn write_row<C: NumCode>(bits: &mut BitBuf, net: &Network, i: usize) -> Result<(
     Ok(())
 }
 
-// The pointer as a record states it.
+// 0 for no pointer, else the port plus one.
 fn up_stated(up: Option<u32>) -> u64
     ensures { result ≡ up_stated up }
 {
@@ -83,7 +82,6 @@ fn up_stated(up: Option<u32>) -> u64
     }
 }
 
-// Appends the codes of the numbers of records.
 pub(crate) fn append_rows<C: NumCode>(bits: &mut BitBuf, rows: &[MapRow]) -> Result<(), NoMemory>
     requires { AreCoded [] (flat_map numbers_of_row rows.now) }
     ensures { OnOk result
@@ -95,7 +93,6 @@ pub(crate) fn append_rows<C: NumCode>(bits: &mut BitBuf, rows: &[MapRow]) -> Res
     Ok(())
 }
 
-// Appends the codes of a record's numbers.
 fn append_row<C: NumCode>(bits: &mut BitBuf, row: &MapRow) -> Result<(), NoMemory>
     requires { AreCoded [] (numbers_of_row row.now) }
     ensures { OnOk result (bits.new ≡ bits.old ++ codes_of C.code [] (numbers_of_row row.now)) }
@@ -106,7 +103,7 @@ fn append_row<C: NumCode>(bits: &mut BitBuf, row: &MapRow) -> Result<(), NoMemor
     Ok(())
 }
 
-// Appends the codes of the numbers in front of the ports, and of those of the ports.
+// `head` has the numbers in front of the ports.
 fn append_record<C: NumCode, P: StatedPort>(
     bits: &mut BitBuf,
     head: &[u64; 5],
@@ -121,7 +118,6 @@ fn append_record<C: NumCode, P: StatedPort>(
     Ok(())
 }
 
-// Appends the codes of the numbers of ports.
 fn append_ports<C: NumCode, P: StatedPort>(bits: &mut BitBuf, ports: &[P]) -> Result<(), NoMemory>
     requires { AreCoded [] (numbers_of_ports P.pair ports.now) }
     ensures { OnOk result
@@ -133,7 +129,6 @@ fn append_ports<C: NumCode, P: StatedPort>(bits: &mut BitBuf, ports: &[P]) -> Re
     Ok(())
 }
 
-// Appends the codes of the numbers of a port.
 fn append_port<C: NumCode>(bits: &mut BitBuf, port: (u64, u64)) -> Result<(), NoMemory>
     requires { AreCoded [] (numbers_of_port port) }
     ensures { OnOk result (bits.new ≡ bits.old ++ codes_of C.code [] (numbers_of_port port)) }

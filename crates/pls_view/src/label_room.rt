@@ -204,7 +204,7 @@ impl LabelRoom {
     }
 }
 
-// Puts a slot in the place of another, and gives how many bits all have together then.
+// The answer is the new number of bits of all slots together; `total` is the old one.
 fn replaced(slots: &mut Vec<Slot>, total: u64, i: usize, slot: Slot) -> u64
     requires within { i < length slots.old.items }
     requires sum { total ≡ bits_of_slots slots.old.items }
@@ -217,8 +217,7 @@ fn replaced(slots: &mut Vec<Slot>, total: u64, i: usize, slot: Slot) -> u64
     others + slot.len as u64
 }
 
-// The labels once more in words without garbage, with room for `need` more words, and for `room`
-// words if that is more.
+// Copies the labels without garbage, with room for `need` more words, or for `room` if more.
 fn compacted(
     alloc: Global,
     words: &[u64],

@@ -27,7 +27,6 @@ impl<'a> View<'a> {
     }
 }
 
-// The ports, each with the part of its label.
 fn narrowed_ports<'a, N: Narrow>(
     alloc: Global,
     narrow: &N,

@@ -52,14 +52,13 @@ pub(crate) fn note(
     }
 }
 
-// Whether an event gives a label.
 fn is_relabel(event: &WatchEvent) -> bool
     ensures { result ≡ is_relabel event.now }
 {
     matches!(event, WatchEvent::Relabel { .. })
 }
 
-// Notes that the node at a place got a label.
+// Notes the neighbours too, which are beside the new label.
 fn note_label(net: &Network, changes: &mut Vec<Change>, place: usize)
     requires each { length changes.old.items ≡ length net.now }
     requires labels { AreLabelsNoted net.now changes.old.items }
@@ -77,7 +76,6 @@ fn note_label(net: &Network, changes: &mut Vec<Change>, place: usize)
     }
 }
 
-// Notes that the nodes at some places are beside a new label.
 fn note_beside(changes: &mut Vec<Change>, places: &[u32])
     requires { All (λ place. place < length changes.old.items) places.now }
     ensures more { IsMoreNoted changes.old.items changes.new.items }
@@ -92,7 +90,7 @@ fn note_beside(changes: &mut Vec<Change>, places: &[u32])
     }
 }
 
-// What of a node changed, where a neighbour got a label.
+// Any other change counts more than a label beside.
 fn with_beside(before: Change) -> Change
     ensures { result ≡ with_beside before }
 {
@@ -102,7 +100,7 @@ fn with_beside(before: Change) -> Change
     }
 }
 
-// Notes that the node at a place holds something else.
+// Notes that the node holds another label of a neighbour.
 fn note_held(changes: &mut Vec<Change>, place: usize)
     requires { place < length changes.old.items }
     ensures { changes.new.items ≡ slice_set changes.old.items place
@@ -111,7 +109,7 @@ fn note_held(changes: &mut Vec<Change>, place: usize)
     changes[place] = with_held(changes[place]);
 }
 
-// What of a node changed, where it holds something else.
+// A new label of its own counts more.
 fn with_held(before: Change) -> Change
     ensures { result ≡ with_held before }
 {

@@ -26,7 +26,7 @@ impl<'n> Versions<'n> {
         }
     }
 
-    // The place of the node that holds something else after the event, if one does.
+    // The place of the node that holds something else after the event, if any.
     fn holder_at(&self, event: Event) -> Option<usize>
         ensures holds { (i : ℕ) (row : NodeRow) (neighbour : ℕ)
             → slice_get self.now.network i ≡ Some row → result ≢ Some i
@@ -41,8 +41,7 @@ impl<'n> Versions<'n> {
         }
     }
 
-    // The place of the node that holds something else once the emit of this number arrives, if one
-    // does: what is no newer than what is held changes nothing.
+    // The place where the emit arrives, or `None` where it is no newer than what is held.
     fn gets_newer(&self, number: u32) -> Option<usize>
         ensures others { (i : ℕ) (row : NodeRow) (neighbour : ℕ)
             → slice_get self.now.network i ≡ Some row → result ≢ Some i

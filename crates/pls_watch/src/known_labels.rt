@@ -28,7 +28,6 @@ impl<'a> Model for KnownLabels<'a> {
 }
 
 impl<'a> KnownLabels<'a> {
-    // The labels of these numbers.
     pub(crate) fn of(labels: &'a LabelRoom, numbers: &'a [u32]) -> Self
         requires { All (λ number. number < length labels.now.labels) numbers.now }
         ensures { result ≡ known_labels labels.now.labels numbers.now }

@@ -117,7 +117,7 @@ impl<'n> Watch<'n> {
         Ok(LookRow::new(self.net.node(i).0, outcome, stale))
     }
 
-    // The outcome of the node at place i, which has not heard at these ports.
+    // The node has not heard at the ports `silent`.
     fn outcome_by<K: Checker>(
         &self,
         alloc: Global,
@@ -145,9 +145,8 @@ impl<'n> Watch<'n> {
         Ok(Outcome::Decided(verdict))
     }
 
-    // Writes into a table the number of the own newest label of the node at place i, and at the
-    // places of its neighbours those of the labels that it holds. Answers at which ports it has not
-    // heard, and which are stale.
+    // Writes the numbers of the node's newest label and of those it holds into `table`, at their
+    // nodes' places. Returns the unheard and the stale ports.
     fn know(
         &self,
         alloc: Global,
@@ -178,8 +177,7 @@ impl<'n> Watch<'n> {
         Ok((PortNumbers::from_vec(unheard), PortNumbers::from_vec(stale)))
     }
 
-    // Writes the number of the label that the node at place i holds at a port, if it holds one, at
-    // the place of the neighbour, and answers what the node has heard there.
+    // Writes the label number, if one is held at the port, into `table` at the neighbour's place.
     fn know_port(&self, i: usize, port: usize, table: &mut Vec<u32>) -> PortState
         requires place { i < length self.now.network }
         requires port { IfSome (slice_get self.now.network i) (λ row. port < length row.ports) }
@@ -201,7 +199,7 @@ impl<'n> Watch<'n> {
         PortState::of(version, self.versions.newest_beside(i, port))
     }
 
-    // The verdict on what the node at place i knows, where it has heard at all ports.
+    // Only for a node that has heard at all ports.
     fn verdict<K: Checker>(
         &self,
         alloc: Global,

@@ -50,7 +50,7 @@ impl<'n> Watch<'n> {
         Ok(())
     }
 
-    // Renews the next row as far as something of its node changed.
+    // Renews the next row only as far as its node changed.
     #[inline(always)]
     fn renew<K: Checker>(
         &self,

@@ -9,7 +9,7 @@ use std::alloc::Global;
 // The greatest number of bits for which room is asked, 2^61.
 const MOST: u64 = 2_305_843_009_213_693_952;
 
-// A copy of these labels, behind them so many empty ones, and room for so many bits of these.
+// A copy of the labels with `more` empty ones behind, and room for `bits` bits in these.
 pub(crate) fn stock_of(
     alloc: Global,
     labels: &LabelStore,

@@ -111,7 +111,6 @@ impl<'n> Versions<'n> {
         }
     }
 
-    // Takes an emit.
     fn emit(&mut self, node: u32, port: u32) -> Result<(), EventError>
         requires { length self.old.turns < self.old.most }
         ensures taken { OnOk result
@@ -132,7 +131,6 @@ impl<'n> Versions<'n> {
         Ok(())
     }
 
-    // Takes an arrive.
     fn arrive(&mut self, number: u32) -> Result<(), EventError>
         requires { length self.old.turns < self.old.most }
         ensures taken { OnOk result
@@ -156,7 +154,7 @@ impl<'n> Versions<'n> {
         Ok(())
     }
 
-    // Takes a restart: what is held counts no more, since nothing was heard. No port is walked.
+    // What is held no longer counts, since nothing was heard; no port is walked.
     fn restart(&mut self, node: u32) -> Result<(), EventError>
         requires { length self.old.turns < self.old.most }
         ensures taken { OnOk result
@@ -172,7 +170,6 @@ impl<'n> Versions<'n> {
         Ok(())
     }
 
-    // Takes a relabel.
     fn relabel(&mut self, node: u32) -> Result<(), EventError>
         requires { length self.old.turns < self.old.most }
         ensures taken { OnOk result (self.new ≡ turning (Turn.Relabel node) self.old) }
@@ -308,7 +305,7 @@ impl<'n> Versions<'n> {
     }
 }
 
-// The later of two versions, or the second where nothing was heard, each with its label.
+// Each pair is a version and its label; `came` wins a tie and where nothing was heard.
 fn later(heard: bool, old: (u32, u32), came: (u32, u32)) -> (u32, u32)
     ensures version { result.0 ≡ cond heard (max old.0 came.0) came.0 }
     ensures label { IsOneOf heard old.0 old.1 came.0 came.1 result.0 result.1 }
@@ -316,14 +313,13 @@ fn later(heard: bool, old: (u32, u32), came: (u32, u32)) -> (u32, u32)
     if heard && old.0 > came.0 { old } else { came }
 }
 
-// That many noughts.
 pub(crate) fn noughts(alloc: Global, count: usize) -> Result<Vec<u32>, NoMemory>
     ensures { IfOk result (λ list. list.items ≡ replicate count 0) }
 {
     Ok(vec![in alloc; 0; count]?)
 }
 
-// The places of the nodes from and to which an emit goes.
+// The places of the sender and the receiver.
 fn ends_of(net: &Network, node: u32, port: u32) -> (usize, u32)
     requires node { names_no_node net.now (Event.Emit node port) ≡ false }
     requires port { names_no_port net.now (Event.Emit node port) ≡ false }

@@ -132,7 +132,6 @@ impl<'n> Watch<'n> {
         self.versions.changes_at(Turn::of(event))
     }
 
-    // Takes an event that gives no label.
     fn play(&mut self, event: Event) -> Result<(), EventError>
         ensures taken { OnOk result (self.new ≡ watching (watch_event event) self.old) }
         ensures applies { OnOk result (watch_refusal self.old (watch_event event) ≡ None) }
@@ -144,7 +143,7 @@ impl<'n> Watch<'n> {
         Ok(())
     }
 
-    // Takes a relabel. A refused one writes no bits.
+    // A refused relabel writes no bits.
     fn relabel(&mut self, node: u32, label: &BitBuf) -> Result<(), EventError>
         ensures taken { OnOk result
             (self.new ≡ watching (WatchEvent.Relabel node label.now) self.old) }
@@ -166,7 +165,6 @@ impl<'n> Watch<'n> {
         Ok(())
     }
 
-    // Whether there is no room for one more label of so many bits.
     fn lacks_room(&self, len: u64) -> bool
         ensures { (node : ℕ) (label : List Bool) → length label ≡ len
             → result ≡ lacks_room self.now (WatchEvent.Relabel node label) }

@@ -108,7 +108,7 @@ impl<'a> WatchText<'a> {
         Ok(self.part.list(alloc)?)
     }
 
-    // Refuses more lines than a limit.
+    // Refuses a text with more lines than a limit allows.
     pub(crate) fn check(&self) -> Result<(), TextError>
         ensures few { OnOk result ((lines : List WatchLine) → TellsWatch self.now.text lines
             → AreFew (length lines) (length (looks_of lines))) }

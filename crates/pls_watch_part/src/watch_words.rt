@@ -136,8 +136,8 @@ impl<'a> OwnLine<'a> for WatchWords<'a> {
     }
 }
 
-// The label of a line `relabel ID LEN HEX` at the front of a text, and what follows its line feed;
-// `None` where no such line stands there. Behind `re` it is the line of a label.
+// Reads `relabel ID LEN HEX` up to its line feed and returns the rest; behind `re` it is a label
+// line.
 fn relabel_line<'a>(text: &'a [u8]) -> Option<(LabelLine<'a>, &'a [u8])>
     ensures fits { IfSome result (λ read. FitsLabel read.0) }
     ensures stands { IfSome result (λ read.

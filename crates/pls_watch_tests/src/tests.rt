@@ -18,7 +18,6 @@ use pls_watch::Lookout;
 use std::alloc::Global;
 use std::test::Fail;
 
-// The network of a text.
 fn network(alloc: Global, text: &str) -> Result<Network, Fail> {
     match read_network(alloc, text.as_bytes()) {
         Ok(net) => Ok(net),
@@ -26,7 +25,6 @@ fn network(alloc: Global, text: &str) -> Result<Network, Fail> {
     }
 }
 
-// The labels of a text, one for each node of a network.
 fn labels(alloc: Global, net: &Network, text: &str) -> Result<LabelStore, Fail>
     ensures { IfOk result (λ labels. length labels ≡ length net.now) }
 {
@@ -36,7 +34,6 @@ fn labels(alloc: Global, net: &Network, text: &str) -> Result<LabelStore, Fail>
     }
 }
 
-// Each of these ports as a bit of a number.
 fn bits_of(ports: &[u32]) -> u32 {
     let mut bits = 0_u32;
     for port in ports {
@@ -49,7 +46,6 @@ fn bits_of(ports: &[u32]) -> u32 {
 // waits, the ports for which it waits, and its stale ports.
 type Shown = (u32, u32, u32, u32);
 
-// What a look shows of all nodes.
 fn look<K: Checker>(alloc: Global, lookout: &mut Lookout<'_, '_, K>) -> Result<Vec<Shown>, Fail> {
     lookout.look(alloc, &mut Steps::new())?;
     let mut shown = Vec::new(alloc);
@@ -64,7 +60,7 @@ fn look<K: Checker>(alloc: Global, lookout: &mut Lookout<'_, '_, K>) -> Result<V
     Ok(shown)
 }
 
-// The line where a text is not of its form, and 0 where that is not what is wrong with it.
+// The line of a form error, 0 for any other result.
 fn line_of<T>(read: &Result<T, TextError>) -> u64 {
     match read {
         Err(TextError::Form(line)) => *line,

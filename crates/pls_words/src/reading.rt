@@ -29,21 +29,19 @@ pub fn read_words<'w>(alloc: Global, words: &'w [&'w str]) -> Result<Option<Give
     Ok(Some(given_in(alloc, words)?))
 }
 
-// Whether words say something.
 fn is_formed(words: &[&str]) -> bool
     ensures { IsTrue result ↔ IsFormed (words_in words.now) }
 {
     words.len() <= MOST && is_one_or_two(count_beside(words))
 }
 
-// Whether a count is 1 or 2.
 fn is_one_or_two(count: Option<usize>) -> bool
     ensures { IsTrue result ↔ ((count ≡ Some 1) ⊎ (count ≡ Some 2)) }
 {
     matches!(count, Some(1 | 2))
 }
 
-// How many words stand beside the flag, where none of them begins with `-`.
+// The words apart from the flag; `None` where one of them begins with `-`.
 fn count_beside(words: &[&str]) -> Option<usize>
     ensures count { result ≡ count_beside (words_in words.now) }
     ensures few { IfSome result (λ count. count ≤ length words.now) }
@@ -66,7 +64,7 @@ fn count_beside(words: &[&str]) -> Option<usize>
     Some(count + 1)
 }
 
-// How many words there are, where none of them begins with `-`.
+// `None` where a word begins with `-`.
 fn plain_count(words: &[&str]) -> Option<usize>
     ensures count { result ≡ plain_count (words_in words.now) }
     ensures few { IfSome result (λ count. count ≤ length words.now) }
@@ -78,7 +76,6 @@ fn plain_count(words: &[&str]) -> Option<usize>
     }
 }
 
-// Whether one of the words begins with `-`.
 fn has_dashed(words: &[&str]) -> bool
     ensures { result ≡ list_any is_dashed (words_in words.now) }
 {
@@ -88,28 +85,24 @@ fn has_dashed(words: &[&str]) -> bool
     }
 }
 
-// Whether a word is `--json`.
 fn is_json(word: &str) -> bool
     ensures { result ≡ is_json word.now }
 {
     word == "--json"
 }
 
-// Whether a word is `--code`.
 fn is_code(word: &str) -> bool
     ensures { result ≡ is_code word.now }
 {
     word == "--code"
 }
 
-// Whether a word begins with `-`.
 fn is_dashed(word: &str) -> bool
     ensures { result ≡ is_dashed word.now }
 {
     word.as_bytes().first() == Some(&b'-')
 }
 
-// The number code that a word names.
 fn code_named(word: &str) -> Option<CodeName>
     ensures { result ≡ code_named word.now }
 {
@@ -120,7 +113,6 @@ fn code_named(word: &str) -> Option<CodeName>
     }
 }
 
-// What words say of which `clap` is asked.
 fn given_in<'w>(alloc: Global, words: &'w [&'w str]) -> Result<Given<'w>, NoMemory>
     requires { IsFormed (words_in words.now) }
     ensures { IfOk result (λ given. (said : Said)
@@ -143,7 +135,6 @@ fn given_in<'w>(alloc: Global, words: &'w [&'w str]) -> Result<Given<'w>, NoMemo
     })
 }
 
-// The flag that `clap` finds.
 fn flag_in(matches: &ArgMatches<'_>) -> Flag
     ensures { (said : Said) → HasWords said matches.now → result ≡ said.flag }
 {
@@ -157,7 +148,7 @@ fn flag_in(matches: &ArgMatches<'_>) -> Flag
     }
 }
 
-// What `clap` finds in words that say something. It fails for want of memory alone.
+// Fails only for want of memory, since the words are well-formed.
 fn matches_of<'w>(alloc: Global, words: &'w [&'w str]) -> Result<ArgMatches<'w>, Error>
     requires { IsFormed (words_in words.now) }
     ensures found { IfOk result (λ matches. (said : Said)
@@ -167,7 +158,7 @@ fn matches_of<'w>(alloc: Global, words: &'w [&'w str]) -> Result<ArgMatches<'w>,
     parser(alloc)?.try_get_matches_from(words)
 }
 
-// The one command of the program, whose words begin behind the program's name.
+// The words do not begin with the program's name.
 fn parser<'a>(alloc: Global) -> Result<Command<'a>, AllocError>
     ensures { IfOk result (λ command. app_of command ≡ parser) }
 {

@@ -9,17 +9,16 @@ use std::io::{self, ErrorKind, Read};
 use std::process::Abort;
 use std::test::Fail;
 
-// All that is left of a source, if it is no more than so many bytes.
+// Fails where more than `most` bytes are left.
 fn read<S: Source>(alloc: Global, source: &mut S, most: u32) -> Result<Vec<u8>, ReadError> {
     read_all(alloc, source, u64::from(most))
 }
 
-// Writes the bytes to a sink.
 fn write<K: Sink>(sink: &mut K, bytes: &[u8]) -> Result<(), Fault> {
     write_all(sink, bytes)
 }
 
-// Asserts what is read of a source of four bytes whose third call fails.
+// `source` must hold four bytes and fail at its third call.
 fn assert_reads<S: Source>(rt: &impl Abort, alloc: Global, source: &mut S) -> Result<(), Fail> {
     assert!(rt; read(alloc, source, 9) == Err(ReadError::Fault), "a fault");
     assert!(rt;
@@ -66,7 +65,6 @@ const DECIMALS: &[(&str, u64, Option<u64>)] = &[
     ("18446744073709551616", u64::MAX, None),
 ];
 
-// Whether a number is written as this text.
 fn is_written(number: u64, text: &str) -> bool {
     let mut digits = [0; 20];
     let count = write_decimal(number, &mut digits);

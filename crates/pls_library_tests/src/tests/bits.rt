@@ -6,7 +6,7 @@ use std::alloc::Global;
 use std::process::Abort;
 use std::test::Fail;
 
-// The bits that a text of `0` and `1` shows.
+// `text` is made of `0` and `1`.
 pub(super) fn bits_of(alloc: Global, text: &str) -> Result<BitBuf, NoMemory> {
     let mut buf = BitBuf::new(alloc);
     for byte in text.as_bytes() {
@@ -15,7 +15,7 @@ pub(super) fn bits_of(alloc: Global, text: &str) -> Result<BitBuf, NoMemory> {
     Ok(buf)
 }
 
-// Whether these digits are the text of the bits, and are read as them.
+// Tests both writing and reading.
 fn is_text(alloc: Global, bits: &str, digits: &str) -> Result<bool, NoMemory> {
     let buf = bits_of(alloc, bits)?;
     let written = buf.bits().to_hex(alloc)?;
@@ -51,7 +51,7 @@ fn known_texts_both_ways(rt: HostRuntime) -> Result<(), Fail> {
     Ok(())
 }
 
-// Why digits are refused as the text of so many bits, which they do not spell.
+// `None` where `digits` spell `len` bits.
 fn refusal(alloc: Global, len: usize, digits: &str) -> Option<HexError> {
     if spells_bits(len, digits.as_bytes()) {
         return None;
@@ -80,20 +80,18 @@ fn refused_digits(rt: HostRuntime) {
     }
 }
 
-// The bits of two texts, the second behind the first.
 pub(super) fn bits_of_both(alloc: Global, front: &str, back: &str) -> Result<BitBuf, NoMemory> {
     let mut buf = bits_of(alloc, front)?;
     append(alloc, &mut buf, back)?;
     Ok(buf)
 }
 
-// Puts the bits of a text behind others.
 fn append(alloc: Global, buf: &mut BitBuf, text: &str) -> Result<(), NoMemory> {
     let bits = bits_of(alloc, text)?;
     buf.append(bits.bits())
 }
 
-// Asserts what a cursor gives of four bits, `0` and then `front` and `1`.
+// The cursor must hold four bits: `0`, the two of `front`, `1`.
 fn assert_cursor(rt: &impl Abort, cursor: &mut Cursor<'_>, front: Bits<'_>) -> Result<(), Fail> {
     assert!(rt; cursor.bit() == Some(false), "the first bit");
     assert!(rt; cursor.take(4).is_none(), "only three bits are left");
@@ -114,7 +112,6 @@ fn a_cursor_stays_where_too_little_is_left(rt: HostRuntime) -> Result<(), Fail> 
     assert_cursor(&rt, &mut buf.bits().cut(1, 5).cursor(), front.bits())
 }
 
-// So many zeros and then so many ones.
 pub(super) fn zeros_and_ones(alloc: Global, zeros: usize, ones: usize) -> Result<BitBuf, NoMemory> {
     let mut buf = BitBuf::new(alloc);
     for place in 0..zeros.saturating_add(ones) {

@@ -6,14 +6,13 @@ use pls_bits::{BitBuf, Delta, Gamma, MAX_CODED, NumCode};
 use std::alloc::Global;
 use std::test::Fail;
 
-// The code of a number behind these bits.
 fn code_behind<C: NumCode>(alloc: Global, front: &str, number: u64) -> Result<BitBuf, NoMemory> {
     let mut buf = bits_of(alloc, front)?;
     C::write(&mut buf, number.min(MAX_CODED))?;
     Ok(buf)
 }
 
-// Whether the code of a number is these bits, also behind others, and is read as it.
+// Whether `number` is written as `code` behind `front` and read back.
 fn is_code<C: NumCode>(
     alloc: Global,
     front: &str,
@@ -93,7 +92,7 @@ fn known_codes_both_ways(rt: HostRuntime) -> Result<(), Fail> {
     Ok(())
 }
 
-// The number that is read in front of these bits, if the others are left.
+// The number read from `text`; the outer `None` where other bits than `left` remain.
 fn read_before<C: NumCode>(
     alloc: Global,
     text: &str,

@@ -29,7 +29,6 @@ const TRIANGLE: &str =
     "network\nnode 2 - 0 0\nport 5 1\nport 8 1\nnode 5 - 0 0\nport 2 1\nport 8 1\n\
                         node 8 - 0 0\nport 2 1\nport 5 1\nend\n";
 
-// Whether component `k` has its nodes at these places.
 fn has_places(parts: &Components, k: usize, places: &[u32]) -> bool {
     k < parts.len() && parts.members(k) == places
 }
@@ -41,7 +40,6 @@ const PLACES: &[(&str, &[&[u32]])] = &[
     (TRIANGLE, &[&[0, 1, 2]]),
 ];
 
-// Asserts at which places the components have their nodes.
 fn assert_places(rt: &impl Abort, parts: &Components, due: &[&[u32]]) {
     assert!(rt; parts.len() == due.len(), "{} components", due.len());
     for (k, places) in due.iter().enumerate() {
@@ -74,7 +72,6 @@ fn a_node_is_in_its_component(rt: HostRuntime) -> Result<(), Fail> {
     Ok(())
 }
 
-// The second of the three components of a network, by itself.
 fn second_part(alloc: Global, net: &Network) -> Result<Network, Fail> {
     let three = components(alloc, net)?;
     if three.len() != 3 {
@@ -94,14 +91,12 @@ fn a_component_is_a_connected_network(rt: HostRuntime) -> Result<(), Fail> {
     Ok(())
 }
 
-// A colouring of the components of the network of a text, each by itself.
 fn colouring(alloc: Global, text: &str) -> Result<Marked, Fail> {
     let net = network(alloc, text)?;
     let parts = components(alloc, &net)?;
     Ok(mark_parts(alloc, &Bipartite::<Gamma>::new(), &net, &parts)?)
 }
 
-// Asserts which labels there are.
 fn assert_labels(
     rt: &impl Abort,
     alloc: Global,
@@ -127,7 +122,7 @@ fn each_component_is_marked_by_itself(rt: HostRuntime) -> Result<(), Fail> {
     }
 }
 
-// The smallest identities of the components of the network of a text that have no colouring.
+// The smallest identity of each component without a colouring.
 fn not_coloured(alloc: Global, text: &str) -> Result<IdList, Fail> {
     match colouring(alloc, text)? {
         Marked::Labels(_) => Err(Fail::from("marked")),
@@ -142,19 +137,19 @@ fn all_components_that_lack_the_property_are_named(rt: HostRuntime) -> Result<()
     Ok(())
 }
 
-// The greatest number of bits of a label of a network, whose components are marked each by itself.
+// The greatest number of bits of one label, with each component marked by itself.
 fn bound<S: Scheme>(alloc: Global, scheme: &S, net: &Network) -> Result<u64, NoMemory> {
     let parts = components(alloc, net)?;
     bound_parts(alloc, scheme, net, &parts)
 }
 
-// The greatest number of bits of all its labels together.
+// The greatest number of bits of all labels together.
 fn room<S: Scheme>(alloc: Global, scheme: &S, net: &Network) -> Result<u64, NoMemory> {
     let parts = components(alloc, net)?;
     room_parts(alloc, scheme, net, &parts)
 }
 
-// Both numbers of the network of a text.
+// `bound` and `room` of the network in `text`.
 fn bounds<S: Scheme>(alloc: Global, scheme: &S, text: &str) -> Result<(u64, u64), Fail> {
     let net = network(alloc, text)?;
     Ok((bound(alloc, scheme, &net)?, room(alloc, scheme, &net)?))

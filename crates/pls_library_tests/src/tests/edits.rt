@@ -9,7 +9,6 @@ use pls_graph_edits::{EditError, join, leave, link, set_state, set_weight, unlin
 use std::alloc::Global;
 use std::test::Fail;
 
-// Makes the edit of a network.
 fn make(net: &mut Network, edit: Edit) -> Option<EditError> {
     let answer = match edit {
         Edit::State(id, up) => set_state(
@@ -30,7 +29,7 @@ fn make(net: &mut Network, edit: Edit) -> Option<EditError> {
     answer.err()
 }
 
-// Whether the pointers of nodes that are not there are none.
+// Each network is tried once: the pointers of absent nodes must be none.
 fn is_one_name(nodes: u32, pointers: u32) -> bool {
     match nodes {
         1 => pointers & 60 == 60,
@@ -42,7 +41,7 @@ fn is_one_name(nodes: u32, pointers: u32) -> bool {
 // How many edits are tried first.
 const EDITS: u32 = 78;
 
-// The first edit that is tried of this number, of nodes that are there and of others.
+// The edit `number`, from 0; some edits name absent nodes.
 fn first_edit(number: u32) -> Edit {
     let (i, j) = (number.wrapping_shr(2) & 3, number.wrapping_shr(4) & 3);
     if number >= 71 {
@@ -59,7 +58,7 @@ fn first_edit(number: u32) -> Edit {
     }
 }
 
-// An end of an edge that is edited.
+// The identity of an edge's end; no network starts with a node 2.
 fn end(number: u32) -> u32 {
     match number {
         0 => 1,
@@ -84,14 +83,13 @@ const MORE: &[Edit] = &[
     Edit::State(3, Some(0)),
 ];
 
-// Whether an edit of a network, and then each of the others, ends as in the plain program.
+// Whether `first`, and then each edit of `MORE`, ends as in the plain program.
 fn ends_alike(alloc: Global, plain: &Plain, text: &str, first: Edit) -> Result<bool, Fail> {
     let mut net = network(alloc, text)?;
     let mut plain = plain.again(alloc)?;
     end_alike(&mut net, &mut plain, first)
 }
 
-// The same of a network and the plain one that are edited.
 fn end_alike(net: &mut Network, plain: &mut Plain, first: Edit) -> Result<bool, Fail> {
     let mut alike = agree(net, plain, first)?;
     for next in MORE {
@@ -100,7 +98,7 @@ fn end_alike(net: &mut Network, plain: &mut Plain, first: Edit) -> Result<bool, 
     Ok(alike)
 }
 
-// How many edits of a network, with those behind them, end otherwise than in the plain program.
+// How many first edits, each followed by `MORE`, end otherwise than in the plain program.
 fn differences(alloc: Global, plain: &Plain) -> Result<u32, Fail> {
     let text = plain.text(alloc)?;
     let mut wrong = 0_u32;
@@ -111,7 +109,6 @@ fn differences(alloc: Global, plain: &Plain) -> Result<u32, Fail> {
     Ok(wrong)
 }
 
-// Whether an edit ends as in the plain program: with the same refusal and the same network.
 fn agree(net: &mut Network, plain: &mut Plain, edit: Edit) -> Result<bool, Fail> {
     let refusal = plain.refusal(edit);
     if refusal.is_none() {
@@ -120,7 +117,6 @@ fn agree(net: &mut Network, plain: &mut Plain, edit: Edit) -> Result<bool, Fail>
     Ok(make(net, edit) == refusal && is_same(net, plain))
 }
 
-// Whether a network has the nodes and ports of the plain one.
 fn is_same(net: &Network, plain: &Plain) -> bool {
     if net.len() != plain.nodes.len() {
         return false;
@@ -135,7 +131,7 @@ fn is_same(net: &Network, plain: &Plain) -> bool {
     true
 }
 
-// Whether the ports at a place are those of a node, and lead to the places of its neighbours.
+// Whether the ports at place `i` are those of `id` and lead to its neighbours' places.
 fn are_same(net: &Network, i: usize, plain: &Plain, id: u32) -> bool
     requires { i < length net.now }
 {
@@ -155,8 +151,7 @@ fn are_same(net: &Network, i: usize, plain: &Plain, id: u32) -> bool
     ports.next().is_none()
 }
 
-// How many networks of so many nodes with these edges were tried, all of whose edits end as they
-// should.
+// How many choices of pointers pass, on the networks with these `edges`, one bit a pair.
 fn tried(alloc: Global, nodes: u32, edges: u32) -> Result<u32, Fail> {
     let mut tried = 0_u32;
     for pointers in 0..64 {

@@ -14,13 +14,13 @@ use std::test::Fail;
 // The nodes 1, 20 and 21, without edges.
 const THREE: &str = "network\nnode 1 - 0 0\nnode 20 - 0 0\nnode 21 - 0 0\nend\n";
 
-// The text of the labels that a text is read as.
+// Reads labels from `text` and writes them out again.
 fn written(alloc: Global, net: &Network, text: &[u8]) -> Result<Vec<u8>, Fail> {
     let (code, labels) = read_labels(alloc, text, net)?;
     Ok(write_labels(alloc, net, &labels, code)?)
 }
 
-// How many labels are read of the text of those that a text is read as, and their bits together.
+// How many labels are read back from the written text, and their bits together.
 fn read_again(alloc: Global, net: &Network, text: &[u8]) -> Result<(usize, u64), Fail> {
     let (code, labels) = read_labels(alloc, text, net)?;
     if labels.total() > MAX_BITS {
@@ -36,7 +36,7 @@ const TEXTS: &[&str] = &[
     "labels delta\nlabel 1 17 318d80\nlabel 20 0 -\nlabel 21 1 00\nend\n",
 ];
 
-// Asserts that the labels of a text are written as this text, which is read again.
+// Asserts that `text` is written back unchanged, with 3 labels of 18 bits together.
 fn assert_written(rt: &impl Abort, alloc: Global, net: &Network, text: &str) -> Result<(), Fail> {
     let bytes = text.as_bytes();
     assert!(rt;
@@ -59,7 +59,7 @@ fn the_text_that_was_read_is_written(rt: HostRuntime) -> Result<(), Fail> {
     Ok(())
 }
 
-// The text of labels of the three nodes, the first of 20,000 bits.
+// Labels of the three nodes, the first of 20,000 bits.
 fn long_text(alloc: Global) -> Result<String, Fail> {
     let mut text = String::new(alloc);
     text.push_str("labels\nlabel 1 20000 ")?;
@@ -70,7 +70,7 @@ fn long_text(alloc: Global) -> Result<String, Fail> {
     Ok(text)
 }
 
-// How a sink takes the labels of a text.
+// Reads labels from `text` and streams them; the inner result is the sink's.
 fn stream<K: Sink>(
     alloc: Global,
     net: &Network,
@@ -81,8 +81,8 @@ fn stream<K: Sink>(
     Ok(stream_labels(net, &labels, code, sink))
 }
 
-// How a sink of which these writes fail takes the labels of a text, and how many bytes it has then,
-// if they are a front of the text.
+// `fails` numbers the failing writes from 1; the length written is `None` if it is no front of
+// `text`.
 fn streamed(
     alloc: Global,
     net: &Network,
@@ -95,7 +95,7 @@ fn streamed(
     Ok((end, text.starts_with(bytes).then_some(bytes.len())))
 }
 
-// Asserts how a text is written to a sink, and to one whose second write fails.
+// Asserts that `text` is streamed whole, or cut where the second write fails.
 fn assert_pieces(rt: &impl Abort, alloc: Global, net: &Network, text: &[u8]) -> Result<(), Fail> {
     let (whole, length) = streamed(alloc, net, text, Vec::new(alloc))?;
     assert!(rt; whole.is_ok(), "all is taken");

@@ -45,7 +45,7 @@ const LINES: &[(&str, Option<u64>)] = &[
     ("emit 3\nrest", None),
 ];
 
-// What is read of a line, if `rest` is left.
+// `None` unless `rest` is left; two numbers are read as one of two digits.
 fn read_line(line: &[u8]) -> Option<u64> {
     let (number, rest) = match one_number(line, b"arrive", 9) {
         Some(read) => read,
@@ -107,7 +107,7 @@ const THREE_PARTS: &[(&str, u64)] = &[
     ("", 7),
 ];
 
-// The first faulty line of a schedule behind a network and labels.
+// Numbers the lines of the whole text, in which a network and labels stand before `schedule`.
 fn fault_of(alloc: Global, schedule: &str) -> Result<u64, Fail> {
     let text = format!(in alloc;
         "network\nnode 1 - 0 0\nend\nlabels\nlabel 1 0 -\nend\n{schedule}"

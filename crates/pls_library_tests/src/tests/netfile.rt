@@ -64,22 +64,20 @@ fn a_part_is_scanned_and_the_rest_left(rt: HostRuntime) -> Result<(), Fail> {
     Ok(())
 }
 
-// The text of the network that a text is read as.
+// Reads a network from `text` and writes it out again.
 fn written(alloc: Global, text: &str) -> Result<Vec<u8>, Fail> {
     Ok(write_network(alloc, &network(alloc, text)?)?)
 }
 
-// The same in one call.
+// As `written`, in one call of the library.
 fn written_at_once(alloc: Global, text: &str) -> Result<Vec<u8>, Fail> {
     Ok(write_read(alloc, text.as_bytes())?)
 }
 
-// How many nodes are read of the text of a network.
 fn read_again(alloc: Global, net: &Network) -> Result<usize, Fail> {
     Ok(read_written(alloc, net)?.len())
 }
 
-// Asserts that a network is the pair, and is read again of its text.
 fn assert_pair(rt: &impl Abort, alloc: Global, net: &Network) -> Result<(), Fail> {
     assert!(rt; net.place_of(20) == Some(1), "the second node");
     assert!(rt; read_again(alloc, net)? == 2, "two nodes");
@@ -109,7 +107,7 @@ const REFUSED: &[(&str, u8, u64)] = &[
     ("node 1 0 0 0\n", 16, 1),
 ];
 
-// Why a network of these lines is refused.
+// `None` if the network of these lines, without heading and `end`, is accepted.
 fn refusal(alloc: Global, lines: &str) -> Result<Option<TextError>, Fail> {
     let text = format!(in alloc; "network\n{lines}end\n")?;
     Ok(read_network(alloc, text.as_bytes()).err())

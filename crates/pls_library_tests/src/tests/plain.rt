@@ -52,7 +52,7 @@ impl Plain {
         count
     }
 
-    // The number of the port of a node to another.
+    // The number, from 0, of the port of `owner` to `nbr`.
     fn number(&self, owner: u32, nbr: u32) -> Option<u32> {
         let mut number = 0_u32;
         for port in &self.ports {
@@ -84,7 +84,6 @@ impl Plain {
         }
     }
 
-    // Gives a node the pointer.
     fn point(&mut self, id: u32, up: Option<u32>) {
         for node in self.nodes.iter_mut() {
             if node.id == id {
@@ -93,7 +92,7 @@ impl Plain {
         }
     }
 
-    // Takes the port of a node to another away, and mends the pointer.
+    // Removes the port, and renumbers or clears the pointer of `owner`.
     fn cut(&mut self, owner: u32, nbr: u32) {
         let number = self.number(owner, nbr);
         for node in self.nodes.iter_mut() {
@@ -143,8 +142,8 @@ impl Plain {
         Ok(())
     }
 
-    // Makes these edges, and nodes with these pointers, of what was empty. False where a pointer
-    // names no port.
+    // Fills an empty network, by one bit an edge and two a pointer; false where a pointer names no
+    // port.
     fn grow(&mut self, nodes: u32, edges: u32, pointers: u32) -> Result<bool, AllocError> {
         for (bit, a, b) in [(1, 1, 3), (2, 3, 5), (4, 1, 5)] {
             if edges & bit != 0 {
@@ -171,7 +170,6 @@ impl Plain {
         Ok(text)
     }
 
-    // Writes the text of the network behind another.
     fn write(&self, alloc: Global, text: &mut String) -> Result<(), AllocError> {
         text.push_str("network\n")?;
         for node in &self.nodes {
@@ -194,7 +192,6 @@ impl Plain {
     }
 }
 
-// Writes the line of a node.
 fn write_node(alloc: Global, text: &mut String, node: PlainNode) -> Result<(), AllocError> {
     let id = node.id;
     let line = match node.up {
@@ -204,7 +201,6 @@ fn write_node(alloc: Global, text: &mut String, node: PlainNode) -> Result<(), A
     text.push_str(line.as_str())
 }
 
-// Writes the line of a port.
 fn write_port(alloc: Global, text: &mut String, port: PlainPort) -> Result<(), AllocError> {
     let (nbr, weight) = (port.nbr, port.weight);
     let line = format!(in alloc; "port {nbr} {weight}\n")?;

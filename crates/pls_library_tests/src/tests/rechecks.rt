@@ -18,14 +18,13 @@ const PAIR: &str = "network\nnode 1 - 0 0\nport 2 3\nnode 2 0 0 0\nport 1 3\nend
 // A colouring of them.
 const COLOURS: &str = "labels\nlabel 1 1 00\nlabel 2 1 80\nend\n";
 
-// Whether the network and its labels are as at first.
 fn is_as_at_first<J: Judge>(alloc: Global, recheck: &Recheck<J>) -> Result<bool, Fail> {
     let labels = write_labels(alloc, recheck.network(), recheck.labels(), CodeName::Gamma)?;
     let net = write_network(alloc, recheck.network())?;
     Ok(net.as_slice() == PAIR.as_bytes() && labels.as_slice() == COLOURS.as_bytes())
 }
 
-// How many nodes are touched, and how many there are, if some verdict is not ready.
+// How many nodes are touched and how many there are; `None` if all verdicts are ready.
 fn waiting<J: Judge>(recheck: &Recheck<J>) -> Option<(u32, usize)> {
     match recheck.verdicts() {
         None => Some((recheck.touched(), recheck.network().len())),
@@ -47,7 +46,7 @@ fn leave<J: Judge>(recheck: &mut Recheck<J>) -> Result<(), EditError> {
     recheck.apply(&Edit::Leave { id: 9 })
 }
 
-// Whether all is as at first, with so many nodes touched, after node 9 joined and left again.
+// Whether node 9 joins and leaves without a trace, with `touched` nodes touched before and after.
 fn joins_and_leaves<J: Judge>(
     alloc: Global,
     recheck: &mut Recheck<J>,
@@ -65,7 +64,7 @@ fn joins_and_leaves<J: Judge>(
     )
 }
 
-// How many verdicts there are after a round that judges so many nodes.
+// How many nodes a round judges, and how many verdicts there are then.
 fn verdicts<J: Judge>(alloc: Global, recheck: &mut Recheck<J>) -> Result<(u32, usize), Fail> {
     let judged = recheck.round(alloc, &mut Steps::new())?;
     match recheck.verdicts() {
@@ -74,14 +73,14 @@ fn verdicts<J: Judge>(alloc: Global, recheck: &mut Recheck<J>) -> Result<(u32, u
     }
 }
 
-// The pair with its colouring, which this judge rechecks.
 fn start<J: Judge + Drop>(alloc: Global, judge: J) -> Result<Recheck<J>, Fail> {
     let net = network(alloc, PAIR)?;
     let (_, labels) = read_labels(alloc, COLOURS.as_bytes(), &net)?;
     Ok(Recheck::start(alloc, net, labels, judge)?)
 }
 
-// Asserts what is touched, and what two rounds ask, while node 9 joins and leaves.
+// Asserts that the first round judges two nodes and the second none, though node 9 joins and
+// leaves.
 fn assert_rounds<J: Judge>(
     rt: &impl Abort,
     alloc: Global,

@@ -17,7 +17,7 @@ const STAR: &str = "network\nnode 0 - 0 0\nport 1 10\nport 2 20\nport 3 30\nport
                     node 5 0 0 0\nport 0 50\nnode 6 0 0 0\nport 0 60\nnode 7 0 0 0\nport 0 70\n\
                     node 8 0 0 0\nport 0 80\nnode 9 0 0 0\nport 0 90\nend\n";
 
-// Asserts that a room for three labels takes two of a word each in the room that is reserved.
+// Asserts that two labels of 64 bits fit into the 128 bits reserved.
 fn assert_two_words(
     rt: &impl Abort,
     room: &mut LabelRoom,
@@ -43,7 +43,6 @@ fn two_words_are_placed_without_memory(rt: HostRuntime) -> Result<(), Fail> {
     assert_two_words(&rt, &mut room, &ones, &half)
 }
 
-// Replaces the label at a place, and tells whether it stands there then.
 fn stands_at(store: &mut LabelStore, place: usize, label: &BitBuf) -> Result<bool, NoMemory> {
     if place >= store.len() {
         return Ok(false);
@@ -52,7 +51,7 @@ fn stands_at(store: &mut LabelStore, place: usize, label: &BitBuf) -> Result<boo
     Ok(store.bits(place).equal(label.bits()))
 }
 
-// Asserts that a label of so many zeros and a one stands at a place where it is put.
+// Puts a label of `zeros` zeros and a one at `place`.
 fn assert_stands(
     rt: &impl Abort,
     alloc: Global,
@@ -95,14 +94,12 @@ fn one_label_is_replaced_often(rt: HostRuntime) -> Result<(), Fail> {
     Ok(())
 }
 
-// Whether a port, the one of this number from 1, has the weight ten times the number, and a label
-// of as many zeros and a one.
+// Port `number`, from 1, has weight 10 * `number` and a label of `number` zeros and a one.
 fn is_port(alloc: Global, port: &PortView<'_>, number: usize) -> Result<bool, NoMemory> {
     let label = zeros_and_ones(alloc, number, 1)?;
     Ok(port.weight as usize == number.saturating_mul(10) && port.label.equal(label.bits()))
 }
 
-// Whether a view shows nine ports, each as it should be.
 fn has_nine(alloc: Global, view: &View<'_>) -> Result<bool, NoMemory> {
     let mut number: usize = 0;
     for port in view.ports.iter() {
@@ -114,8 +111,7 @@ fn has_nine(alloc: Global, view: &View<'_>) -> Result<bool, NoMemory> {
     Ok(number == 9 && view.degree() == 9)
 }
 
-// Whether the view of the first node shows nine ports: the one of number k, from 1, has the weight
-// ten times k, and a label of k zeros and a one.
+// Whether the first node's view has nine ports, each as `is_port` asks.
 fn shows_nine(alloc: Global, net: &Network, labels: &LabelStore) -> Result<bool, NoMemory> {
     if net.len() == 0 || labels.len() != net.len() {
         return Ok(false);
@@ -124,8 +120,7 @@ fn shows_nine(alloc: Global, net: &Network, labels: &LabelStore) -> Result<bool,
     has_nine(alloc, &view)
 }
 
-// Asserts that the view of the first node shows nine ports, once each of the ten nodes has a label
-// of as many zeros as its place says, and a one.
+// First gives each of ten nodes a label of as many zeros as its place, and a one.
 fn assert_nine(
     rt: &impl Abort,
     alloc: Global,
@@ -146,7 +141,7 @@ fn a_view_of_nine_ports(rt: HostRuntime) -> Result<(), Fail> {
     assert_nine(&rt, rt.alloc(), &net, &mut labels)
 }
 
-// Asserts that a room for two labels takes digits of 69 bits in the room that is reserved.
+// Asserts that a label of 69 bits, as hex digits, fits into the 128 bits reserved.
 fn assert_hex(
     rt: &impl Abort,
     room: &mut LabelRoom,

@@ -10,7 +10,7 @@ const TRIANGLE: &str = "network\nnode 1 - 0 0\nport 3 1\nport 2 1\n\
                         node 2 - 0 0\nport 1 1\nport 3 1\nport 5 1\n\
                         node 3 - 0 0\nport 2 1\nport 1 1\nnode 5 - 0 0\nport 2 1\nend\n";
 
-// Asserts which port leads back from each.
+// `due` holds, of each port, the number of the port that leads back.
 fn assert_back(rt: &impl Abort, ways: &Ways, due: &[u32]) {
     assert!(rt; ways.len() == due.len(), "as many ports");
     for (number, due) in due.iter().enumerate() {

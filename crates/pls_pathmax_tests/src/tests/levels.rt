@@ -123,7 +123,6 @@ const LEVELS: &[(&str, &str)] = &[
     ),
 ];
 
-// The levels of the nodes of a tree.
 fn levels_of(alloc: Global, text: &str) -> Result<Vec<CentroidList>, Fail> {
     let net = joined(alloc, text)?;
     let tree = Tree::<Gamma>::new();
@@ -133,7 +132,7 @@ fn levels_of(alloc: Global, text: &str) -> Result<Vec<CentroidList>, Fail> {
     Ok(centroid_levels(alloc, &net)?)
 }
 
-// Of each node its levels, a line each: centroid, hops and greatest weight, and a bar behind each.
+// One line a node; each level is centroid, hops and greatest weight, then a bar.
 fn text_of(alloc: Global, lists: &[CentroidList]) -> Result<String, Fail> {
     let mut text = String::new(alloc);
     for list in lists {
@@ -159,7 +158,7 @@ fn levels_of_small_trees(rt: HostRuntime) -> Result<(), Fail> {
 // How many nodes the largest networks have.
 const MANY: u32 = 32768;
 
-// A path of so many nodes, each of which points at the one before it.
+// Each node points at the one before it.
 fn path(alloc: Global, count: u32) -> Result<String, Fail> {
     let mut text = String::from_str(alloc, "network\nnode 1 - 0 0\nport 2 1\n")?;
     for before in 1..count.saturating_sub(1) {
@@ -176,7 +175,7 @@ fn path(alloc: Global, count: u32) -> Result<String, Fail> {
     Ok(text)
 }
 
-// A star of so many nodes, all of which point at the last.
+// All nodes point at the last.
 fn star(alloc: Global, count: u32) -> Result<String, Fail> {
     let mut text = String::from_str(alloc, "network\n")?;
     for id in 1..count {

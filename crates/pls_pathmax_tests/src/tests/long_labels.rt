@@ -14,7 +14,7 @@ use std::test::Fail;
 // Two nodes, the second of which points at the first.
 const PAIR: &str = "network\nnode 1 - 0 0\nport 2 1\nnode 2 0 0 0\nport 1 1\nend\n";
 
-// The label of the first node: 150 times its own level.
+// The first node's own level, 150 times.
 fn first_label(alloc: Global) -> Result<BitBuf, Fail> {
     let mut bits = BitBuf::new(alloc);
     append_numbers::<Gamma>(&mut bits, &[1, 1, 1, 0, 150])?;
@@ -24,8 +24,8 @@ fn first_label(alloc: Global) -> Result<BitBuf, Fail> {
     Ok(bits)
 }
 
-// The label of the second: 150 times that the first is its centroid, behind an edge of weight 1; at
-// one level it lies that it is two hops away.
+// On 150 levels the first node is the centroid, one hop away over weight 1; level `lie` says two
+// hops.
 fn second_label(alloc: Global, lie: Option<u32>) -> Result<BitBuf, Fail> {
     let mut bits = BitBuf::new(alloc);
     append_numbers::<Gamma>(&mut bits, &[1, 2, 1, 1, 150])?;
@@ -39,7 +39,7 @@ fn second_label(alloc: Global, lie: Option<u32>) -> Result<BitBuf, Fail> {
     Ok(bits)
 }
 
-// The verdict of the node at a place, on its view.
+// Judges a view, not a round; `None` where there is no such node.
 fn verdict_at(
     alloc: Global,
     net: &Network,
@@ -54,8 +54,7 @@ fn verdict_at(
     Ok(Some(scheme.verify(alloc, &view, &mut Steps::new())?))
 }
 
-// Whether the first node accepts labels with this lie and the second gives this verdict, by a round
-// and by a view each.
+// Whether the first node accepts and the second gives this verdict, in a round and by views.
 fn are_given(alloc: Global, lie: Option<u32>, second: Verdict) -> Result<bool, Fail> {
     let net = joined(alloc, PAIR)?;
     let mut labels = LabelStore::blank(alloc, net.len())?;

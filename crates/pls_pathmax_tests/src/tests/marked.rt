@@ -25,7 +25,7 @@ const HEAVY: &str = "network\nnode 1 - 0 0\nport 2 2\nport 3 1\nnode 2 0 0 0\npo
 // Two nodes without an edge of the tree between them.
 const ROOTS: &str = "network\nnode 1 - 0 0\nport 2 1\nnode 2 - 0 0\nport 1 1\nend\n";
 
-// The marked labels as text, bits and digits, and a bar behind each label.
+// The length and hex digits of each label, then a bar.
 fn text_of(alloc: Global, labels: &LabelStore) -> Result<String, NoMemory> {
     let mut text = String::new(alloc);
     for i in 0..labels.len() {
@@ -37,8 +37,7 @@ fn text_of(alloc: Global, labels: &LabelStore) -> Result<String, NoMemory> {
     Ok(text)
 }
 
-// The marked labels of a connected network, if all its nodes accept them, and `no` where it is not
-// marked.
+// `no` where the network is not marked; fails where a node rejects its label.
 fn marked(alloc: Global, text: &str) -> Result<String, Fail> {
     let scheme = PathMax::<Gamma>::new();
     let net = joined(alloc, text)?;
@@ -70,7 +69,6 @@ fn marked_labels_are_those_of_small_networks(rt: HostRuntime) -> Result<(), Fail
     Ok(())
 }
 
-// The label of these digits.
 fn label(alloc: Global, len: usize, digits: &str) -> Result<BitBuf, Fail> {
     match from_hex(alloc, len, digits.as_bytes()) {
         Ok(bits) => Ok(bits),
@@ -78,8 +76,7 @@ fn label(alloc: Global, len: usize, digits: &str) -> Result<BitBuf, Fail> {
     }
 }
 
-// The verdicts of the nodes of a network under labels, as text: `-` for a node that accepts, else
-// the number of the rule.
+// `-` for a node that accepts, else the number of the rule.
 fn judged(alloc: Global, net: &Network, digits: &[(usize, &str)]) -> Result<String, Fail> {
     let mut labels = LabelStore::blank(alloc, net.len())?;
     for (i, (len, text)) in digits.iter().enumerate() {

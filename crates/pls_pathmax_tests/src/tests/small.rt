@@ -24,7 +24,7 @@ struct Small {
     pointers: u32,
 }
 
-// The number of a pair of nodes.
+// The bit of an edge in a set, from 0 to 5.
 fn pair(a: u32, b: u32) -> u32 {
     match (a.min(b), a.max(b)) {
         (0, 1) => 0,
@@ -36,12 +36,11 @@ fn pair(a: u32, b: u32) -> u32 {
     }
 }
 
-// Whether a set has the edge of two nodes.
 fn joins(set: u32, a: u32, b: u32) -> bool {
     a != b && set.wrapping_shr(pair(a, b)) & 1 == 1
 }
 
-// The node that a node points at, or `None` where it points at none or has no such port.
+// `None` where the node points at none or has no such port.
 fn target(small: Small, node: u32) -> Option<u32> {
     let mut left = small.pointers.wrapping_shr(node.saturating_mul(2)) & 3;
     for nbr in 0..4 {
@@ -55,7 +54,7 @@ fn target(small: Small, node: u32) -> Option<u32> {
     None
 }
 
-// The node where a chain of three pointers or fewer ends.
+// The node where a chain of at most three pointers ends.
 fn end(small: Small, start: u32) -> u32 {
     let mut node = start;
     for _ in 0..3 {
@@ -66,8 +65,7 @@ fn end(small: Small, start: u32) -> u32 {
     node
 }
 
-// Whether the pointers of four nodes make a tree: the chain of each leads to one that points at
-// none.
+// Whether, of four nodes, each chain of pointers ends at one that points at none.
 fn is_tree(small: Small) -> bool {
     let root = end(small, 0);
     target(small, root).is_none() && (0..4).all(|node| end(small, node) == root)
@@ -81,7 +79,6 @@ fn is_proper(small: Small) -> bool {
     })
 }
 
-// The text of the network.
 fn text_of(alloc: Global, small: Small) -> Result<String, AllocError> {
     let mut text = String::from_str(alloc, "network\n")?;
     for node in 0..small.nodes.min(4) {
@@ -101,7 +98,6 @@ fn text_of(alloc: Global, small: Small) -> Result<String, AllocError> {
     Ok(text)
 }
 
-// Whether `pathmax` decides and marks a connected network as `mst` decides.
 fn is_as_mst(alloc: Global, net: &Network) -> Result<bool, Fail>
     requires { IsConnected net.now }
 {
@@ -116,7 +112,7 @@ fn is_as_mst(alloc: Global, net: &Network) -> Result<bool, Fail>
     }
 }
 
-// Whether a network is connected; it is then as it should be.
+// False where the network is not connected; fails where the check does.
 fn tried(alloc: Global, small: Small) -> Result<bool, Fail> {
     let text = text_of(alloc, small)?;
     let net = network(alloc, text.as_str())?;
@@ -130,7 +126,7 @@ fn tried(alloc: Global, small: Small) -> Result<bool, Fail> {
     }
 }
 
-// How many connected networks of so many nodes there are with these edges.
+// How many connected networks there are with these `edges`, one bit a pair.
 fn tried_edges(alloc: Global, nodes: u32, edges: u32) -> Result<u32, Fail> {
     let mut count = 0_u32;
     for heavy in 0..64 {

@@ -65,17 +65,15 @@ const SETS: &[(&str, &str)] = &[
 // Names of no set.
 const OTHERS: &[&str] = &["mst", "map", "Leader", "leaders", ""];
 
-// Whether a name is that of a set.
 fn has_set(alloc: Global, name: &str) -> Result<bool, Fail> {
     Ok(builtin(alloc, name)?.is_some())
 }
 
-// Whether a set is printed as a text.
 fn is_printed(alloc: Global, set: &RuleSet, text: &str) -> Result<bool, Fail> {
     Ok(print_rules(alloc, set)?.as_slice() == text.as_bytes())
 }
 
-// Whether the set of a name is.
+// Whether the built-in set `name` is printed as `text`.
 fn is_text_of(alloc: Global, name: &str, text: &str) -> Result<bool, Fail> {
     match builtin(alloc, name)? {
         Some(set) => is_printed(alloc, &set, text),
@@ -83,7 +81,7 @@ fn is_text_of(alloc: Global, name: &str, text: &str) -> Result<bool, Fail> {
     }
 }
 
-// Whether the set that is read from a text is.
+// Whether the set read from `text` is printed as `text` again.
 fn is_read(alloc: Global, text: &str) -> Result<bool, Fail> {
     is_printed(alloc, &read_set(alloc, text)?, text)
 }

@@ -19,12 +19,11 @@ const INDEPENDENT: &str = "rules\nfield chosen bit\n\
                            rule all(either(eq(my.chosen,0),eq(nb.chosen,0)))\n\
                            rule either(eq(my.chosen,1),any(eq(nb.chosen,1)))\nend\n";
 
-// What the label of a node is, two bits a node: the bit 0, the bit 1, no bit, or two bits 0.
+// Two bits a node: 0 for the bit 0, 1 for the bit 1, 2 for no bit, 3 for two bits 0.
 fn kind_of(choice: u32, node: u32) -> u32 {
     choice.wrapping_shr(node.wrapping_mul(2)) & 3
 }
 
-// The label of a kind.
 fn label_of(alloc: Global, kind: u32) -> Result<BitBuf, Fail> {
     let mut label = BitBuf::new(alloc);
     let count = if kind < 2 {
@@ -40,14 +39,12 @@ fn label_of(alloc: Global, kind: u32) -> Result<BitBuf, Fail> {
     Ok(label)
 }
 
-// The labels that a choice says.
 fn labels_of(alloc: Global, nodes: usize, choice: u32) -> Result<LabelStore, Fail> {
     let mut labels = LabelStore::blank(alloc, nodes)?;
     put_choice(alloc, &mut labels, choice)?;
     Ok(labels)
 }
 
-// Puts them in place of others.
 fn put_choice(alloc: Global, labels: &mut LabelStore, choice: u32) -> Result<(), Fail> {
     for node in 0..4_u32 {
         let i = node as usize;
@@ -58,8 +55,8 @@ fn put_choice(alloc: Global, labels: &mut LabelStore, choice: u32) -> Result<(),
     Ok(())
 }
 
-// The rule by which a node rejects, 0 for none: its own label is one bit, and each neighbour's; no
-// neighbour is chosen if it is; and some neighbour is if it is not.
+// The rejecting rule, 0 for none: own label (1), a neighbour's (2), two neighbours chosen (3), none
+// chosen (4).
 fn due_rule(net: &Network, choice: u32, node: usize) -> u8 {
     if node >= net.len() {
         return 0;
@@ -76,7 +73,7 @@ fn due_rule(net: &Network, choice: u32, node: usize) -> u8 {
     }
 }
 
-// The verdict that names a rule.
+// Rule 0 is acceptance.
 fn verdict_of(rule: u8) -> Verdict {
     match rule {
         0 => Verdict::Accept,
@@ -84,8 +81,7 @@ fn verdict_of(rule: u8) -> Verdict {
     }
 }
 
-// How many nodes accept the labels of a choice, where all are judged as they should be, in the round
-// and view by view.
+// How many nodes accept; fails unless round and single views give the due verdicts.
 fn accepting<S: Checker>(
     alloc: Global,
     checker: &S,
@@ -100,7 +96,6 @@ fn accepting<S: Checker>(
     accepting_as(alloc, checker, net, choice, labels, verdicts.as_slice())
 }
 
-// The same, where these are the verdicts of the round.
 fn accepting_as<S: Checker>(
     alloc: Global,
     checker: &S,
@@ -123,7 +118,7 @@ fn accepting_as<S: Checker>(
     Ok(count)
 }
 
-// How many choices on these networks all nodes accept.
+// How many choices of labels all nodes accept, over all of `nets`.
 fn count_whole<S: Checker>(alloc: Global, checker: &S, nets: &[Network]) -> Result<u32, Fail> {
     let mut whole = 0_u32;
     for net in nets {
@@ -137,12 +132,10 @@ fn count_whole<S: Checker>(alloc: Global, checker: &S, nets: &[Network]) -> Resu
     Ok(whole)
 }
 
-// The same of all networks.
 fn count_on_networks<S: Checker>(alloc: Global, checker: &S) -> Result<u32, Fail> {
     count_whole(alloc, checker, networks(alloc)?.as_slice())
 }
 
-// The same of the set of a text.
 fn count_by_set(alloc: Global, text: &str) -> Result<u32, Fail> {
     let checker = RuleChecker::new(alloc, read_set(alloc, text)?)?;
     count_on_networks(alloc, &checker)

@@ -36,7 +36,7 @@ const LISTED: &[(&str, &str)] = &[
     ),
 ];
 
-// Whether the code of a set is listed so.
+// Whether the compiled set has the listing `due`.
 fn is_listed(alloc: Global, set: &RuleSet, due: &str) -> Result<bool, NoMemory>
     requires { AreRules (set_of set.now) }
 {
@@ -44,7 +44,6 @@ fn is_listed(alloc: Global, set: &RuleSet, due: &str) -> Result<bool, NoMemory>
     Ok(listing(alloc, &code)?.as_slice() == due.as_bytes())
 }
 
-// Whether the code of the set of a name is.
 fn is_code_of(alloc: Global, name: &str, due: &str) -> Result<bool, Fail> {
     match builtin(alloc, name)? {
         Some(set) => Ok(is_listed(alloc, &set, due)?),

@@ -16,12 +16,12 @@ struct Plan {
     marks: u32,
 }
 
-// The bits of a number from a place on.
+// The bits from `place` on.
 fn above(bits: u32, place: u32) -> u32 {
     bits.wrapping_shr(place)
 }
 
-// The weight of the edge between two nodes, or `None` where there is none.
+// `None` where there is no edge between the two nodes.
 fn weight(edges: u32, a: u32, b: u32) -> Option<u32> {
     let pair = match (a.min(b), a.max(b)) {
         (0, 1) => 0,
@@ -40,12 +40,11 @@ fn weight(edges: u32, a: u32, b: u32) -> Option<u32> {
 }
 
 impl Plan {
-    // The pointer of a node.
     fn pointer(self, node: u32) -> u32 {
         above(self.pointers, node.saturating_mul(2)) & 3
     }
 
-    // Whether each pointer is a port's.
+    // Whether each pointer is a port of its node.
     fn is_proper(self) -> bool {
         let nodes = self.nodes.min(4);
         (0..nodes).all(|node| {
@@ -57,7 +56,6 @@ impl Plan {
         })
     }
 
-    // Writes the line of a node behind a text.
     fn write_node(self, text: &mut String, node: u32) -> Result<(), AllocError> {
         let mark = above(self.marks, node) & 1;
         let number = if mark == 1 { self.nodes } else { 0 };
@@ -67,7 +65,6 @@ impl Plan {
         }
     }
 
-    // Writes the text of the network behind another.
     fn write(self, text: &mut String) -> Result<(), AllocError> {
         text.push_str("network\n")?;
         for node in 0..self.nodes.min(4) {
@@ -81,7 +78,7 @@ impl Plan {
         text.push_str("end\n")
     }
 
-    // The network, where each pointer is a port's.
+    // Needs a proper plan: each pointer is a port.
     fn network(self, alloc: Global) -> Result<Network, Fail> {
         let mut text = String::new(alloc);
         self.write(&mut text)?;
@@ -100,15 +97,13 @@ const CHOICES: &[(u32, u32, u32, u32)] = &[
     (4, 64, 256, 16),
 ];
 
-// The networks of up to four nodes with all edges, pointers and marks; of those of four nodes each
-// set of edges and each choice of pointers has one choice of marks, and one in seven is taken.
+// All networks of up to three nodes; of four nodes every seventh, with one choice of marks.
 pub(super) fn networks(alloc: Global) -> Result<Vec<Network>, Fail> {
     let mut nets = Vec::new(alloc);
     put_networks(alloc, &mut nets)?;
     Ok(nets)
 }
 
-// Puts them behind others.
 fn put_networks(alloc: Global, nets: &mut Vec<Network>) -> Result<(), Fail> {
     for (nodes, sets, choices, most) in CHOICES {
         let (nodes, step) = (*nodes, if *nodes == 4 { 7 } else { 1 });

@@ -88,7 +88,7 @@ const OTHERS: &[&str] = &[
     "xor(eq(id,0),eq(id,0))",
 ];
 
-// 0 where a rule over these fields is printed as this text.
+// 0 where the rule is printed as `text`; fails otherwise.
 fn number_if_printed(
     alloc: Global,
     fields: &[Field],
@@ -104,8 +104,7 @@ fn number_if_printed(
     }
 }
 
-// The number by which a rule over these fields is refused, 0 for none, where what is read is printed
-// as it was.
+// The number that refuses the rule, 0 for none; fails if it is printed otherwise than it was read.
 fn number_over(alloc: Global, fields: &[Field], text: &str) -> Result<u8, Fail> {
     if fields.len() > 8 || !is_rule_text(text.as_bytes()) {
         return Err(Fail::from("no rule"));
@@ -117,12 +116,12 @@ fn number_over(alloc: Global, fields: &[Field], text: &str) -> Result<u8, Fail> 
     }
 }
 
-// The same over the fields of these tests.
+// As `number_over`, with the fields of these tests.
 fn number_of(alloc: Global, text: &str) -> Result<u8, Fail> {
     number_over(alloc, number_fields(alloc, NAMES)?.as_slice(), text)
 }
 
-// The number by which a rule is refused, 0 for none, and `None` where the text is no rule.
+// The number that refuses the rule, 0 for none, `None` where the text is no rule.
 fn number_if_rule(alloc: Global, text: &str) -> Result<Option<u8>, Fail> {
     if is_rule_text(text.as_bytes()) {
         Ok(Some(number_of(alloc, text)?))
@@ -173,7 +172,7 @@ const DEEP: &[(&str, &str, u32, &str, Option<u8>)] = &[
     ("", "()", 2048, "", None),
 ];
 
-// The number by which the rule of a text in parts is refused, 0 for none, and `None` where it is none.
+// As `number_if_rule`, for `front`, `count` times `piece`, and `rest`.
 fn deep_number(
     alloc: Global,
     front: &str,
@@ -199,7 +198,7 @@ fn depth_is_counted_from_the_front(rt: HostRuntime) -> Result<(), Fail> {
 // is refused.
 const DENIED: &[(u32, u8)] = &[(0, 0), (29, 0), (30, 0), (31, 51), (32, 51)];
 
-// The number by which a rule that is denied so often is refused, 0 for none.
+// The number that refuses a rule negated `count` times, 0 for none.
 fn denied_number(alloc: Global, count: u32) -> Result<u8, Fail> {
     let mut text = String::new(alloc);
     repeat(&mut text, "not(", count, "eq(id,0)")?;
@@ -216,7 +215,7 @@ fn rules_stand_at_most_31_deep(rt: HostRuntime) -> Result<(), Fail> {
     Ok(())
 }
 
-// A rule that is doubled so often: 113 characters after three times, and 3,833 after eight.
+// A rule doubled `turns` times: 113 characters after three turns, 3,833 after eight.
 fn doubled_rule(alloc: Global, turns: u32) -> Result<String, Fail> {
     let mut rule = String::from_str(alloc, "eq(id,0)")?;
     for _ in 0..turns {
@@ -225,7 +224,7 @@ fn doubled_rule(alloc: Global, turns: u32) -> Result<String, Fail> {
     Ok(rule)
 }
 
-// A rule that is 4,087 characters and as many as the last number has.
+// A rule of 4,087 characters plus those of `number`, its last number.
 fn long_rule(alloc: Global, number: &str) -> Result<String, Fail> {
     let short = doubled_rule(alloc, 3)?;
     let long = doubled_rule(alloc, 8)?;
@@ -233,8 +232,7 @@ fn long_rule(alloc: Global, number: &str) -> Result<String, Fail> {
     Ok(rule)
 }
 
-// How many characters it has, and the number by which it is refused, 0 for none, and `None` where it
-// is no rule.
+// The length of the long rule, and the number that refuses it: 0 for none, `None` for no rule.
 fn long_number(alloc: Global, number: &str) -> Result<(usize, Option<u8>), Fail> {
     let rule = long_rule(alloc, number)?;
     Ok((rule.len(), number_if_rule(alloc, rule.as_str())?))

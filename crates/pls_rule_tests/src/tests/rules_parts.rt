@@ -104,7 +104,7 @@ const REFUSED: &[(&str, u8, u64)] = &[
     ),
 ];
 
-// What refused a rules part, if something did: a number, 0 for the form, and a line.
+// The number and line of the refusal, number 0 for the form; `None` where it is read.
 fn fault_in(read: &Result<RuleSet, TextError>) -> Result<Option<(u8, u64)>, Fail> {
     match read {
         Ok(_) => Ok(None),
@@ -114,7 +114,6 @@ fn fault_in(read: &Result<RuleSet, TextError>) -> Result<Option<(u8, u64)>, Fail
     }
 }
 
-// What refuses a text.
 fn fault_of(alloc: Global, text: &str) -> Result<Option<(u8, u64)>, Fail> {
     fault_in(&read_rules(alloc, text.as_bytes()))
 }
@@ -143,7 +142,7 @@ const COUNTS: &[(u32, u32, u64)] = &[
     (8, 33, 42),
 ];
 
-// Writes a part with so many fields and rules.
+// Appends a part with `fields` fields and `rules` rules.
 fn write_part(text: &mut String, fields: u32, rules: u32) -> Result<(), AllocError> {
     text.push_str("rules\n")?;
     for field in 0..fields {
@@ -153,7 +152,6 @@ fn write_part(text: &mut String, fields: u32, rules: u32) -> Result<(), AllocErr
     repeat(text, "rule eq(my.b,1)\n", rules, "end\n")
 }
 
-// What refuses it.
 fn fault_of_part(alloc: Global, fields: u32, rules: u32) -> Result<Option<(u8, u64)>, Fail> {
     let mut text = String::new(alloc);
     write_part(&mut text, fields, rules)?;
@@ -174,7 +172,7 @@ fn there_are_up_to_8_fields_and_32_rules(rt: HostRuntime) -> Result<(), Fail> {
 const PARTS: &str = "rules\nfield id num\nrule eq(my.id,0)\nend\n\
                      rules\nfield abcdefghijklmnop bit\nfield num num\nrule eq(my.id,0)\nend\nend\n";
 
-// What refuses the next part, which is of the form.
+// The refusal of the next part; fails if the part is not of the form.
 fn next_fault(alloc: Global, lines: &mut Lines<'_>) -> Result<Option<(u8, u64)>, Fail> {
     match scan_rules(lines) {
         Ok(part) => fault_in(&part.build(alloc)),

@@ -20,7 +20,7 @@ use pls_view::{LabelStore, PortView, View};
 use std::alloc::Global;
 use std::test::Fail;
 
-// The verdict that a machine comes to on a view, and in how many steps.
+// The verdict of the machine and its steps, `None` where 99 steps are not enough.
 fn stepped(code: &Code, kinds: &[FieldKind], view: &View<'_>) -> Option<(Verdict, u32)>
     requires compiled { (set : Rules) × AreRules set
         × (kinds.now ≡ kinds_of set.fields) × (code.now ≡ code_of_rules set.rules) }
@@ -36,7 +36,6 @@ fn stepped(code: &Code, kinds: &[FieldKind], view: &View<'_>) -> Option<(Verdict
     None
 }
 
-// Whether the labels at these ports are labels of a format.
 fn are_labels(alloc: Global, format: &Fields, ports: &[PortView<'_>]) -> Result<bool, NoMemory>
     ensures { IfOk result (λ yes.
         yes ≡ list_all (λ port. is_read format.now.kinds.items port.label) ports.now) }
@@ -52,7 +51,7 @@ fn are_labels(alloc: Global, format: &Fields, ports: &[PortView<'_>]) -> Result<
     }
 }
 
-// The same, and `None` where a label is not of the format.
+// As `stepped`, and `None` where a label is not of the format.
 fn stepped_if_read(
     alloc: Global,
     code: &Code,
@@ -70,7 +69,6 @@ fn stepped_if_read(
     }
 }
 
-// The same of the code of a set.
 fn steps_of(
     alloc: Global,
     set: RuleSet,
@@ -87,7 +85,7 @@ fn steps_of(
 const ROW: &str = "network\nnode 1 - 0 0\nport 2 1\nnode 2 - 0 0\nport 1 1\nport 3 1\n\
                    node 3 - 0 0\nport 2 1\nend\n";
 
-// Puts these colours in place of labels.
+// Replaces each label by the bit of its colour.
 fn put_colours(alloc: Global, labels: &mut LabelStore, colours: &[bool]) -> Result<(), NoMemory> {
     for (i, colour) in colours.iter().enumerate() {
         let mut label = BitBuf::new(alloc);
@@ -99,7 +97,7 @@ fn put_colours(alloc: Global, labels: &mut LabelStore, colours: &[bool]) -> Resu
     Ok(())
 }
 
-// The steps of `bipartite` on a view.
+// The verdict and steps of `bipartite` on a view.
 fn steps_on(alloc: Global, view: &View<'_>) -> Result<Option<(Verdict, u32)>, Fail> {
     match builtin(alloc, "bipartite")? {
         Some(set) => Ok(steps_of(alloc, set, view)?),
@@ -107,7 +105,6 @@ fn steps_on(alloc: Global, view: &View<'_>) -> Result<Option<(Verdict, u32)>, Fa
     }
 }
 
-// The same at a place of a network with these labels.
 fn steps_at(
     alloc: Global,
     net: &Network,
@@ -120,7 +117,6 @@ fn steps_at(
     steps_on(alloc, &View::of(alloc, net, labels, place)?)
 }
 
-// The same where the labels are these colours.
 fn steps_among(
     alloc: Global,
     net: &Network,

@@ -29,7 +29,7 @@ const NAMES: &[(&str, u32)] = &[
     ("count", 8),
 ];
 
-// The bit of the rule by which a verdict rejects, and bit 0 where it accepts.
+// The bit of the rejecting rule, bit 0 for acceptance.
 fn bit_of(verdict: Verdict) -> Result<u32, Fail> {
     match verdict {
         Verdict::Accept => Ok(1),
@@ -38,8 +38,8 @@ fn bit_of(verdict: Verdict) -> Result<u32, Fail> {
     }
 }
 
-// The bits of the rules by which nodes reject these labels, where a set judges as a scheme, in the
-// round and view by view.
+// The rejecting rules as bits; fails unless set and scheme judge alike, in the round and view by
+// view.
 fn judged<R: Checker, S: Checker>(
     alloc: Global,
     checker: &R,
@@ -54,7 +54,7 @@ fn judged<R: Checker, S: Checker>(
     judged_as(alloc, checker, net, labels, due.as_slice())
 }
 
-// The bits of the rules by which nodes reject these labels, where a set judges so in the round.
+// The bits of the rules that reject; fails unless the round gives `due`.
 fn judged_as<S: Checker>(
     alloc: Global,
     checker: &S,
@@ -72,7 +72,7 @@ fn judged_as<S: Checker>(
     }
 }
 
-// The same, where it judges so view by view.
+// As `judged_as`, view by view.
 fn bits_of<S: Checker>(
     alloc: Global,
     checker: &S,
@@ -93,7 +93,7 @@ fn bits_of<S: Checker>(
     Ok(bits)
 }
 
-// A copy of a label with the bit at a place turned, and without change where there is none.
+// A copy with the bit at `place` flipped, unchanged where there is none.
 fn turned(alloc: Global, label: &Bits<'_>, place: usize) -> Result<BitBuf, Fail> {
     let mut bits = BitBuf::new(alloc);
     for i in 0..label.len() {
@@ -102,7 +102,7 @@ fn turned(alloc: Global, label: &Bits<'_>, place: usize) -> Result<BitBuf, Fail>
     Ok(bits)
 }
 
-// The labels, each at the place before its own, and the first at the last.
+// The labels moved one place down, the first to the end.
 fn moved(alloc: Global, labels: &LabelStore) -> Result<LabelStore, Fail> {
     let mut others = LabelStore::blank(alloc, labels.len())?;
     for i in 0..labels.len() {
@@ -112,8 +112,8 @@ fn moved(alloc: Global, labels: &LabelStore) -> Result<LabelStore, Fail> {
     Ok(others)
 }
 
-// The bits of the rules by which nodes reject these labels: as they are, each at another node, with
-// each of their bits turned, and with each of them empty; then they are as they were.
+// As `judged`, over the labels as they are, moved, with each bit flipped, and emptied; restores
+// them.
 fn judged_when_changed<R: Checker, S: Checker>(
     alloc: Global,
     checker: &R,
@@ -130,7 +130,7 @@ fn judged_when_changed<R: Checker, S: Checker>(
     Ok(bits)
 }
 
-// The same where the label at a place has each of its bits turned, and is empty.
+// As `judged_when_changed`, for the label at place `i`: each bit flipped, then emptied.
 fn judged_when_turned<R: Checker, S: Checker>(
     alloc: Global,
     checker: &R,
@@ -151,7 +151,6 @@ fn judged_when_turned<R: Checker, S: Checker>(
     Ok(bits)
 }
 
-// A copy of the label at a place.
 fn label_at(alloc: Global, labels: &LabelStore, i: usize) -> Result<BitBuf, Fail> {
     if i >= labels.len() {
         return Err(Fail::from("no label"));
@@ -159,7 +158,6 @@ fn label_at(alloc: Global, labels: &LabelStore, i: usize) -> Result<BitBuf, Fail
     turned(alloc, &labels.bits(i), usize::MAX)
 }
 
-// Puts a label at a place.
 fn put(labels: &mut LabelStore, i: usize, label: &BitBuf) -> Result<(), Fail> {
     if i >= labels.len() {
         return Err(Fail::from("no label"));
@@ -168,8 +166,7 @@ fn put(labels: &mut LabelStore, i: usize, label: &BitBuf) -> Result<(), Fail> {
     Ok(())
 }
 
-// Labels that a scheme marks a connected network with, in place of these. One that it does not mark
-// gets these, or empty ones where these are not as many.
+// Marks `net` anew; unmarked, it keeps its labels, or gets empty ones if their number differs.
 fn relabel<S: Scheme>(
     alloc: Global,
     scheme: &S,
@@ -186,8 +183,7 @@ fn relabel<S: Scheme>(
     Ok(())
 }
 
-// The bits of the rules by which nodes of the networks reject what a scheme marks them with. One
-// that it does not mark gets the labels of the network before.
+// The bits of the rules that reject; an unmarked network gets the labels of the one before.
 fn judged_all<R: Checker, S: Scheme>(
     alloc: Global,
     checker: &R,
@@ -198,7 +194,7 @@ fn judged_all<R: Checker, S: Scheme>(
     judged_from(alloc, checker, scheme, nets, &mut labels)
 }
 
-// The same, where these labels are those of the network before the first.
+// As `judged_all`; `labels` are those before the first network.
 fn judged_from<R: Checker, S: Scheme>(
     alloc: Global,
     checker: &R,
@@ -216,7 +212,6 @@ fn judged_from<R: Checker, S: Scheme>(
     Ok(bits)
 }
 
-// The verifier by the set of a name.
 fn checker_of(alloc: Global, name: &str) -> Result<RuleChecker, Fail> {
     match builtin(alloc, name)? {
         Some(set) => Ok(RuleChecker::new(alloc, set)?),
@@ -224,7 +219,6 @@ fn checker_of(alloc: Global, name: &str) -> Result<RuleChecker, Fail> {
     }
 }
 
-// The scheme of a name.
 fn scheme_of(alloc: Global, name: &str) -> Result<AnyScheme<Gamma>, Fail> {
     match read_expression(alloc, name) {
         Ok(tree) => Ok(AnyScheme::new(tree)),
@@ -232,7 +226,6 @@ fn scheme_of(alloc: Global, name: &str) -> Result<AnyScheme<Gamma>, Fail> {
     }
 }
 
-// The same of the set and the scheme of a name.
 fn judged_by_name(alloc: Global, name: &str, nets: &[Network]) -> Result<u32, Fail> {
     let scheme = scheme_of(alloc, name)?;
     judged_all(alloc, &checker_of(alloc, name)?, &scheme, nets)

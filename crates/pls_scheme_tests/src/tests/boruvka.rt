@@ -10,7 +10,7 @@ use pls_search::pointer_depths;
 use std::alloc::Global;
 use std::test::Fail;
 
-// Puts levels behind a text: fragment, weight and ends, and a bar behind each level.
+// Appends fragment, weight and ends of each level, with a bar behind it.
 fn put_levels(alloc: Global, text: &mut String, list: &LevelList) -> Result<(), Fail> {
     for i in 0..list.len() {
         let level = list.at(i);
@@ -23,7 +23,7 @@ fn put_levels(alloc: Global, text: &mut String, list: &LevelList) -> Result<(), 
     Ok(text.push_str("\n")?)
 }
 
-// Of each node its levels, a line each.
+// The levels of each node, one line a node.
 fn text_of(alloc: Global, lists: &LevelLists) -> Result<String, Fail> {
     let mut text = String::new(alloc);
     for place in 0..lists.len() {
@@ -32,7 +32,7 @@ fn text_of(alloc: Global, lists: &LevelLists) -> Result<String, Fail> {
     Ok(text)
 }
 
-// The levels of a tree, as text, or that some spanning tree is lighter.
+// The levels as text, or `lighter` where some spanning tree is lighter.
 fn levels_of(alloc: Global, net: &Network) -> Result<String, Fail> {
     let tree = Tree::<Gamma>::new();
     if connected(alloc, net)?.is_some() || !tree.decide(alloc, net)? {
@@ -44,7 +44,7 @@ fn levels_of(alloc: Global, net: &Network) -> Result<String, Fail> {
     }
 }
 
-// The names of the fragments of a network whose pointers do not return.
+// The fragments' names; fails on a circle of pointers.
 fn names_of(alloc: Global, net: &Network, joined: &[bool]) -> Result<Vec<u32>, Fail> {
     if pointer_depths(alloc, net)?.is_none() || joined.len() != net.len() {
         return Err(Fail::from("a circle, or other nodes"));
@@ -52,7 +52,6 @@ fn names_of(alloc: Global, net: &Network, joined: &[bool]) -> Result<Vec<u32>, F
     Ok(fragments(alloc, net, joined)?)
 }
 
-// Whether these are those names.
 fn are_names(alloc: Global, net: &Network, joined: &[bool], due: &[u32]) -> Result<bool, Fail> {
     Ok(names_of(alloc, net, joined)?.as_slice() == due)
 }

@@ -26,7 +26,7 @@ const PAIR: &str = "network\nnode 1 - 0 0\nport 2 1\nnode 2 - 0 0\nport 1 1\nend
 const TRIANGLE: &str = "network\nnode 1 - 0 0\nport 2 7\nport 3 7\nnode 2 - 0 0\nport 1 7\n\
                         port 3 7\nnode 3 - 0 0\nport 1 7\nport 2 7\nend\n";
 
-// The labels of a scheme on two nodes, in hex, its bound there, and whether all accept them.
+// Checks the labels on two nodes in hex, the bound there, and that all accept.
 fn marks_as<S: Scheme>(
     alloc: Global,
     scheme: &S,
@@ -37,7 +37,7 @@ fn marks_as<S: Scheme>(
     Ok(scheme.bound(&net.size()) == bound && marks(alloc, scheme, &net, texts)?)
 }
 
-// The same of the labels on a network, which must have two nodes.
+// As `marks_as`, without the bound; the network must have two nodes.
 fn marks<S: Scheme>(
     alloc: Global,
     scheme: &S,
@@ -52,7 +52,7 @@ fn marks<S: Scheme>(
     }
 }
 
-// Whether all accept the labels of two nodes, which are these in hex.
+// Whether both nodes accept the labels, and these are `texts` in hex.
 fn are_accepted_as<K: Checker>(
     alloc: Global,
     checker: &K,
@@ -73,12 +73,11 @@ fn are_accepted_as<K: Checker>(
     )
 }
 
-// Whether these are the digits of the bits.
 fn is_hex(alloc: Global, bits: Bits<'_>, digits: &str) -> Result<bool, NoMemory> {
     Ok(bits.to_hex(alloc)?.as_str() == digits)
 }
 
-// The same of the conjunction of two schemes.
+// As `marks_as`, for the conjunction of two schemes.
 fn both_mark_as<A: Scheme + Drop, B: Scheme + Drop>(
     alloc: Global,
     first: A,
@@ -96,7 +95,7 @@ fn both_mark_as<A: Scheme + Drop, B: Scheme + Drop>(
     )
 }
 
-// The same of the disjunction of that conjunction and a third scheme.
+// As `marks_as`, for the disjunction of that conjunction and a third scheme.
 fn one_of_both_marks_as<A: Scheme + Drop, B: Scheme + Drop, C: Scheme + Drop>(
     alloc: Global,
     first: A,
@@ -132,7 +131,6 @@ fn a_disjunction_of_a_conjunction_is_marked(rt: HostRuntime) -> Result<(), Fail>
     Ok(())
 }
 
-// The scheme of a text.
 fn scheme_of(alloc: Global, text: &str) -> Result<AnyScheme<Gamma>, Fail> {
     match read_expression(alloc, text) {
         Ok(tree) => Ok(AnyScheme::new(tree)),
@@ -140,7 +138,6 @@ fn scheme_of(alloc: Global, text: &str) -> Result<AnyScheme<Gamma>, Fail> {
     }
 }
 
-// Whether the expression marks two nodes with these labels, within this bound.
 fn text_marks_as(alloc: Global, text: &str, texts: [&str; 2], bound: u64) -> Result<bool, Fail> {
     marks_as(alloc, &scheme_of(alloc, text)?, texts, bound)
 }
@@ -166,12 +163,11 @@ fn expressions_mark_as_what_they_say(rt: HostRuntime) -> Result<(), Fail> {
     Ok(())
 }
 
-// Whether an expression is printed as this text.
 fn is_printed_as(alloc: Global, tree: &ExpressionTree, text: &str) -> Result<bool, NoMemory> {
     Ok(print_expression(alloc, tree)?.as_str() == text)
 }
 
-// The refusal of a text, or `None` where it is read and printed as it was.
+// `None` where the text is read, and printed as it was.
 fn refusal(alloc: Global, text: &str) -> Result<Option<SchemeError>, Fail> {
     match read_expression(alloc, text) {
         Ok(tree) => match is_printed_as(alloc, &tree, text)? {
@@ -236,7 +232,7 @@ fn texts_are_read_and_printed_or_refused(rt: HostRuntime) -> Result<(), Fail> {
     Ok(())
 }
 
-// The labels of three nodes, each its length and its digits.
+// Each label as its length and its digits.
 fn labels_of(alloc: Global, net: &Network, labels: [&str; 3]) -> Result<LabelStore, Fail>
     ensures { IfOk result (λ store. length store ≡ length net.now) }
 {
@@ -250,7 +246,7 @@ fn labels_of(alloc: Global, net: &Network, labels: [&str; 3]) -> Result<LabelSto
     }
 }
 
-// The verdict of the first node in a round.
+// The verdict of the first node, `None` where there is no node.
 fn verdict_in_round<K: Checker>(
     alloc: Global,
     checker: &K,
@@ -263,7 +259,6 @@ fn verdict_in_round<K: Checker>(
     Ok(verdicts.first().copied())
 }
 
-// The verdict of the first node on its view alone.
 fn verdict_alone<K: Checker>(
     alloc: Global,
     checker: &K,
@@ -277,7 +272,7 @@ fn verdict_alone<K: Checker>(
     checker.verify(alloc, &view, &mut Steps::new())
 }
 
-// The verdict of the first node in a round, which is that on its view alone.
+// The verdict of the first node; fails unless the round and its view alone agree.
 fn verdict<K: Checker>(
     alloc: Global,
     checker: &K,
@@ -297,7 +292,7 @@ fn verdict<K: Checker>(
     }
 }
 
-// That verdict on the first of three nodes under these labels.
+// As `verdict`, on the first of three nodes with these labels.
 fn first_verdict<K: Checker>(
     alloc: Global,
     checker: &K,
@@ -308,7 +303,6 @@ fn first_verdict<K: Checker>(
     verdict(alloc, checker, &net, &store)
 }
 
-// The same by the scheme of a text.
 fn verdict_of_text(alloc: Global, text: &str, labels: [&str; 3]) -> Result<Verdict, Fail> {
     first_verdict(alloc, &scheme_of(alloc, text)?, labels)
 }

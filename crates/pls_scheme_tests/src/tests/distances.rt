@@ -10,7 +10,7 @@ use pls_view::LabelStore;
 use std::alloc::Global;
 use std::test::Fail;
 
-// The least weights of walks from the first node.
+// The least weights of walks from the first node, `None` where none leads.
 fn least(alloc: Global, text: &str) -> Result<Vec<Option<u64>>, Fail> {
     Ok(distances(alloc, &network(alloc, text)?, 0)?)
 }
@@ -31,7 +31,6 @@ fn least_weights_of_walks(rt: HostRuntime) -> Result<(), Fail> {
     Ok(())
 }
 
-// The labels of a connected network, if it is marked.
 fn marked(alloc: Global, text: &str) -> Result<Option<LabelStore>, Fail> {
     Ok(Spt::<Gamma>::new().mark(alloc, &joined(alloc, text)?)?)
 }
@@ -45,7 +44,7 @@ fn chains_that_are_no_lightest_walks_are_not_marked(rt: HostRuntime) -> Result<(
     Ok(())
 }
 
-// Whether the label at a place says the root 1, this depth and this distance.
+// Whether the label says root 1, this depth and this distance.
 fn says(
     alloc: Global,
     labels: &LabelStore,
@@ -61,7 +60,6 @@ fn says(
     Ok(label == Some(SptLabel { root, depth, dist }))
 }
 
-// The same of the label of the chain.
 fn chain_says(alloc: Global, place: usize, depth: u64, dist: u64) -> Result<bool, Fail> {
     match marked(alloc, CHAIN)? {
         Some(labels) => Ok(says(alloc, &labels, place, depth, dist)?),
@@ -69,7 +67,6 @@ fn chain_says(alloc: Global, place: usize, depth: u64, dist: u64) -> Result<bool
     }
 }
 
-// The bound of the labels of a network.
 fn bound(alloc: Global, text: &str) -> Result<u64, Fail> {
     let net = network(alloc, text)?;
     Ok(Spt::<Gamma>::new().bound(&net.size()))

@@ -5,7 +5,7 @@ use pls_search::pointer_depths;
 use std::alloc::Global;
 use std::test::Fail;
 
-// The lengths of the chains of three nodes in a row, which point by these words, and a node apart.
+// Pointer depths of three nodes in a row with pointers `ups`, and of one apart.
 fn depths(alloc: Global, ups: [&str; 3]) -> Result<Option<Vec<u32>>, Fail> {
     let [first, second, third] = ups;
     let text = format!(in alloc;
@@ -26,7 +26,6 @@ const DEPTHS: &[([&str; 3], Option<[u32; 4]>)] = &[
     (["0", "1", "0"], None),
 ];
 
-// Whether these depths were found, or none.
 fn are_found(found: &Option<Vec<u32>>, due: &Option<[u32; 4]>) -> bool {
     match (found, due) {
         (Some(found), Some(due)) => found.as_slice() == due.as_slice(),

@@ -64,7 +64,7 @@ impl<A: Checker, B: Checker> Checker for Pair<A, B> {
     ghost lends_law = { λ _ never. absurd (cc) };
 }
 
-// A network of three nodes in a row, with these marks and the pointers of a tree.
+// Three nodes in a row with these marks, and the pointers of a tree.
 fn row(alloc: Global, marks: [u32; 3]) -> Result<Network, Fail>
     ensures { IfOk result (λ net. IsConnected net) }
 {
@@ -76,7 +76,7 @@ fn row(alloc: Global, marks: [u32; 3]) -> Result<Network, Fail>
     joined(alloc, &text)
 }
 
-// Whether all nodes accept the labels, and how many steps were counted.
+// Whether all nodes accept, and the steps taken.
 fn accepts<V: Checker>(
     alloc: Global,
     checker: &V,
@@ -90,7 +90,6 @@ fn accepts<V: Checker>(
     Ok((accepted, steps.number()))
 }
 
-// The same of the labels of a tree.
 fn accepts_tree<V: Checker>(alloc: Global, checker: &V, net: &Network) -> Result<(bool, u64), Fail>
     requires { IsConnected net.now }
 {
@@ -100,12 +99,11 @@ fn accepts_tree<V: Checker>(alloc: Global, checker: &V, net: &Network) -> Result
     }
 }
 
-// The same of three nodes in a row.
 fn accepts_row<V: Checker>(alloc: Global, checker: &V) -> Result<(bool, u64), Fail> {
     accepts_tree(alloc, checker, &row(alloc, [0, 0, 0])?)
 }
 
-// The same by a pair of a pair and a third checker.
+// As `accepts_row`, for a pair of a pair and a third checker.
 fn pairs_accept<A: Checker + Drop, B: Checker + Drop, C: Checker + Drop>(
     alloc: Global,
     first: A,
@@ -149,7 +147,7 @@ const MARKS: &[([u32; 3], Option<u64>)] = &[
     ([0, 0, 0], None),
 ];
 
-// The bits of all labels of three nodes with these marks, where they are marked.
+// The bits of all labels together, `None` where the network is not marked.
 fn marked_bits(alloc: Global, marks: [u32; 3]) -> Result<Option<u64>, Fail> {
     let net = row(alloc, marks)?;
     let marked = IndependentSet::<Gamma>::new().mark(alloc, &net)?;

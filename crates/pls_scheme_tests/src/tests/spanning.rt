@@ -13,13 +13,12 @@ use pls_view::LabelStore;
 use std::alloc::Global;
 use std::test::Fail;
 
-// A label as text: its bits and digits, and a bar.
+// Number of bits, digits, and a bar.
 fn label_text(alloc: Global, bits: Bits<'_>) -> Result<String, NoMemory> {
     let digits = bits.to_hex(alloc)?;
     Ok(format!(in alloc; "{} {}|", bits.len(), digits.as_str())?)
 }
 
-// Puts each label behind a text.
 fn put_labels(alloc: Global, text: &mut String, labels: &LabelStore) -> Result<(), NoMemory> {
     for i in 0..labels.len() {
         text.push_str(label_text(alloc, labels.bits(i))?.as_str())?;
@@ -27,14 +26,13 @@ fn put_labels(alloc: Global, text: &mut String, labels: &LabelStore) -> Result<(
     Ok(())
 }
 
-// The labels as text.
 fn text_of(alloc: Global, labels: &LabelStore) -> Result<String, NoMemory> {
     let mut text = String::new(alloc);
     put_labels(alloc, &mut text, labels)?;
     Ok(text)
 }
 
-// The labels as text, if all nodes accept them.
+// The labels as text; fails unless all nodes accept them.
 fn certified(alloc: Global, net: &Network, labels: &LabelStore) -> Result<String, Fail>
     requires connected { IsConnected net.now }
     requires each { length labels.now ≡ length net.now }
@@ -47,7 +45,7 @@ fn certified(alloc: Global, net: &Network, labels: &LabelStore) -> Result<String
     }
 }
 
-// The marked labels as text, if all nodes accept them, and `no` where the network is not marked.
+// The marked labels as text, or `no`; fails unless all nodes accept them.
 fn marked_on(alloc: Global, net: &Network) -> Result<String, Fail>
     requires { IsConnected net.now }
 {
@@ -57,7 +55,6 @@ fn marked_on(alloc: Global, net: &Network) -> Result<String, Fail>
     }
 }
 
-// The same of the connected network of a text.
 fn marked(alloc: Global, text: &str) -> Result<String, Fail> {
     marked_on(alloc, &joined(alloc, text)?)
 }
@@ -84,7 +81,7 @@ fn marked_labels_are_those_of_small_networks(rt: HostRuntime) -> Result<(), Fail
     Ok(())
 }
 
-// Whether bits are a label, which is then written as it was.
+// Whether the bits are a label; fails if it is written otherwise than it was read.
 fn is_label(alloc: Global, bits: &BitBuf) -> Result<bool, Fail> {
     let scheme = Mst::<Gamma>::new();
     let Some(label) = scheme.read_label(alloc, bits.bits())? else {
@@ -97,7 +94,7 @@ fn is_label(alloc: Global, bits: &BitBuf) -> Result<bool, Fail> {
     }
 }
 
-// The same of so many bits with these digits.
+// As `is_label`, for `len` bits with these digits.
 fn are_label(alloc: Global, len: usize, digits: &str) -> Result<bool, Fail> {
     match from_hex(alloc, len, digits.as_bytes()) {
         Ok(bits) => is_label(alloc, &bits),

@@ -34,13 +34,12 @@ const SCHEMES: &[&str] = &[
     "mst",
 ];
 
-// How many of these nodes are below this one.
+// How many members are below `node`.
 fn rank(members: u32, node: u32) -> u32 {
     (members & 1_u32.wrapping_shl(node).wrapping_sub(1)).count_ones()
 }
 
-// A component by itself, with its nodes numbered anew in their order. A port keeps its number, since
-// it leads to a node of the component.
+// Nodes are renumbered in order; each port keeps its number, since it leads to a member.
 fn part_of(net: Small, members: u32) -> Small {
     let mut part = Small {
         nodes: members.count_ones(),
@@ -61,7 +60,7 @@ fn part_of(net: Small, members: u32) -> Small {
     part
 }
 
-// The node at which the chain of a node ends, and how long it is, up to four pointers.
+// The last node and the length of a pointer chain, after at most four pointers.
 fn chain(net: Small, start: u32) -> (u32, u32) {
     let (mut node, mut length) = (start, 0_u32);
     for _ in 0..4 {
@@ -73,7 +72,7 @@ fn chain(net: Small, start: u32) -> (u32, u32) {
     (node, length)
 }
 
-// The chain of each node is no longer than any way to its end.
+// No chain of pointers is longer than a shortest walk to its end.
 fn is_nearest(net: Small) -> bool {
     (0..4).all(|node| {
         let (end, length) = chain(net, node);
@@ -81,8 +80,7 @@ fn is_nearest(net: Small) -> bool {
     })
 }
 
-// Whether a component has the property of each scheme, where the first node alone is marked and each
-// node has the number 2. All weights are 1, so that every spanning tree is a lightest one.
+// In the order of `SCHEMES`; only the network's first node is marked, numbers are 2, weights 1.
 fn held(part: Small, has_first: bool) -> [bool; 8] {
     let tree = is_tree(part);
     [
@@ -97,7 +95,7 @@ fn held(part: Small, has_first: bool) -> [bool; 8] {
     ]
 }
 
-// The component of a node by itself, where it is named by this node.
+// `None` unless `node` is the lowest of its component, which is named by it.
 fn named_part(net: Small, node: u32) -> Option<Small> {
     let members = reached(net.edges, node, 3);
     if node < net.nodes && rank(members, node) == 0 {
@@ -107,8 +105,7 @@ fn named_part(net: Small, node: u32) -> Option<Small> {
     }
 }
 
-// For each scheme and for each expression the nodes that name the components without its property,
-// one bit a node.
+// Per scheme and per expression, the names of components without its property, one bit a node.
 fn lacking(net: Small) -> ([u32; 8], [u32; 9]) {
     let (mut schemes, mut expressions) = ([0; 8], [0; 9]);
     for node in 0..4 {
@@ -124,7 +121,6 @@ fn lacking(net: Small) -> ([u32; 8], [u32; 9]) {
     (schemes, expressions)
 }
 
-// Whether all nodes accept these labels.
 fn all_accept<S: Checker>(
     alloc: Global,
     scheme: &S,
@@ -141,12 +137,11 @@ fn all_accept<S: Checker>(
     )
 }
 
-// These nodes, one bit a node.
 fn bits_of(ids: &[u32]) -> u32 {
     ids.iter().fold(0, |all, id| with(all, *id))
 }
 
-// Whether just these components are named, or all nodes accept the labels where there are none.
+// `due` has one bit per component to be named; with 0, all nodes must accept.
 fn are_parts_marked<S: Scheme>(
     alloc: Global,
     scheme: &S,
@@ -163,7 +158,6 @@ fn are_parts_marked<S: Scheme>(
     }
 }
 
-// The same where the components are not known.
 fn is_marked_by<S: Scheme>(
     alloc: Global,
     scheme: &S,
@@ -174,7 +168,6 @@ fn is_marked_by<S: Scheme>(
     are_parts_marked(alloc, scheme, net, &parts, due)
 }
 
-// The same of the scheme of a text.
 fn is_marked(alloc: Global, text: &str, net: &Network, due: u32) -> Result<bool, Fail> {
     match read_expression(alloc, text) {
         Ok(tree) => Ok(is_marked_by(alloc, &AnyScheme::<Gamma>::new(tree), net, due)?),
@@ -182,7 +175,6 @@ fn is_marked(alloc: Global, text: &str, net: &Network, due: u32) -> Result<bool,
     }
 }
 
-// Whether all these schemes mark a network so.
 fn are_all_marked(
     alloc: Global,
     texts: &[&str],
@@ -197,7 +189,6 @@ fn are_all_marked(
     Ok(true)
 }
 
-// Whether all schemes and expressions mark a network so.
 fn are_marked(alloc: Global, net: Small) -> Result<bool, Fail> {
     let read = network(alloc, text_with(alloc, net, 1, 2)?.as_str())?;
     let (schemes, expressions) = lacking(net);

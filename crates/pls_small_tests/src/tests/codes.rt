@@ -33,7 +33,7 @@ const EXPRESSIONS: &[(&str, u32)] = &[
     ("or(tree,and(acyclic,count))", 1058),
 ];
 
-// Whether these labels of a scheme are the others once they are converted to another code.
+// Whether `labels`, converted to code `D`, equal `others`.
 fn are_converted<C: NumCode, D: NumCode>(
     alloc: Global,
     scheme: &AnyScheme<C>,
@@ -51,7 +51,7 @@ fn are_converted<C: NumCode, D: NumCode>(
     Ok(labels.len() == others.len())
 }
 
-// True where these labels of a connected network in the two codes are alike.
+// Never false: labels that differ between the codes are an error.
 fn are_alike(
     alloc: Global,
     gamma: &AnyScheme<Gamma>,
@@ -73,8 +73,7 @@ fn are_alike(
     }
 }
 
-// Whether a connected network is marked, with labels that are alike to these in the first code, or
-// in neither code.
+// With no `labels`, the second code must not mark either, and the answer is false.
 fn is_marked_like(
     alloc: Global,
     gamma: &AnyScheme<Gamma>,
@@ -91,7 +90,7 @@ fn is_marked_like(
     }
 }
 
-// Whether a connected network is marked in both codes alike, or in neither.
+// An error where only one code marks it, or the labels differ.
 fn is_marked(
     alloc: Global,
     gamma: &AnyScheme<Gamma>,
@@ -104,7 +103,6 @@ fn is_marked(
     is_marked_like(alloc, gamma, delta, net, labels.as_ref())
 }
 
-// The same of a small network that is read.
 fn is_small_marked(
     alloc: Global,
     gamma: &AnyScheme<Gamma>,
@@ -115,7 +113,6 @@ fn is_small_marked(
     is_marked(alloc, gamma, delta, &read)
 }
 
-// The expression of a text, in a number code.
 fn scheme_of<C: NumCode>(alloc: Global, text: &str) -> Result<AnyScheme<C>, Fail> {
     match read_expression(alloc, text) {
         Ok(tree) => Ok(AnyScheme::new(tree)),
@@ -123,7 +120,7 @@ fn scheme_of<C: NumCode>(alloc: Global, text: &str) -> Result<AnyScheme<C>, Fail
     }
 }
 
-// How many networks of so many nodes with these edges and all pointers an expression marks.
+// Counts over all pointers on these edges.
 fn count_marked(alloc: Global, text: &str, nodes: u32, edges: u32) -> Result<u32, Fail> {
     let gamma = scheme_of::<Gamma>(alloc, text)?;
     count_alike(
@@ -135,7 +132,6 @@ fn count_marked(alloc: Global, text: &str, nodes: u32, edges: u32) -> Result<u32
     )
 }
 
-// The same of an expression in both codes.
 fn count_alike(
     alloc: Global,
     gamma: &AnyScheme<Gamma>,

@@ -14,12 +14,11 @@ use pls_scheme_text::read_expression;
 use std::alloc::Global;
 use std::test::Fail;
 
-// Whether the edges join the nodes without any one of them too.
 fn is_bridgeless(net: Small) -> bool {
     (0..6).all(|edge| !has(net.edges, edge) || are_joined(net.edges & !with(0, edge), net.nodes))
 }
 
-// Whether from each node all nodes are reached along at most so many edges.
+// Whether all nodes are within `most` edges of each other.
 fn is_within(net: Small, most: u32) -> bool {
     (0..4).all(|node| node >= net.nodes || reached(net.edges, node, most).count_ones() == net.nodes)
 }
@@ -37,7 +36,7 @@ pub(super) const EXPRESSIONS: &[&str] = &[
     "map(and(tree,bridgeless))",
 ];
 
-// Whether a network has the property of each of them, by plain programs, in their order.
+// Decided by plain programs, in the order of `EXPRESSIONS`.
 pub(super) fn expected(net: Small) -> [bool; 9] {
     let tree = is_tree(net);
     let bipartite = is_bipartite(net);
@@ -56,7 +55,7 @@ pub(super) fn expected(net: Small) -> [bool; 9] {
     ]
 }
 
-// Whether an expression marks a connected network, and all nodes accept its labels.
+// Fails where a node rejects the labels.
 fn text_marks(alloc: Global, text: &str, net: &Network) -> Result<bool, Fail>
     requires { IsConnected net.now }
 {
@@ -66,7 +65,6 @@ fn text_marks(alloc: Global, text: &str, net: &Network) -> Result<bool, Fail>
     }
 }
 
-// Whether each expression marks a network where it should.
 fn mark_where_due(alloc: Global, read: &Network, due: &[bool]) -> Result<bool, Fail>
     requires { IsConnected read.now }
 {
@@ -78,14 +76,12 @@ fn mark_where_due(alloc: Global, read: &Network, due: &[bool]) -> Result<bool, F
     Ok(true)
 }
 
-// The same of a network that is read.
 fn are_marked(alloc: Global, net: Small) -> Result<bool, Fail> {
     let read = joined_small(alloc, net)?;
     mark_where_due(alloc, &read, &expected(net))
 }
 
-// How many networks of so many nodes with these edges and all pointers are marked as they should be;
-// all are to be.
+// How many choices of pointers were tried; fails at the first that is marked wrongly.
 fn tried(alloc: Global, nodes: u32, edges: u32) -> Result<u32, Fail> {
     let mut tried = 0_u32;
     for pointers in 0..256 {

@@ -29,7 +29,6 @@ const TWO: &str = "network\nnode 1 - 0 2\nport 2 1\nnode 2 - 0 2\nport 1 1\nend\
 
 const NONE: &str = "network\nnode 1 - 0 0\nport 2 1\nnode 2 - 0 0\nport 1 1\nend\n";
 
-// Whether the text of labels is this.
 fn are_written(
     alloc: Global,
     net: &Network,
@@ -42,7 +41,7 @@ fn are_written(
     Ok(text.as_slice() == due.as_bytes())
 }
 
-// Whether a scheme marks a network with the labels of a text, or with none where it is `no`.
+// `due` is the text of the labels, or `no` where none are due.
 fn is_marked<S: Scheme>(
     alloc: Global,
     scheme: &S,
@@ -57,7 +56,6 @@ fn is_marked<S: Scheme>(
     }
 }
 
-// The same of the connected network of a text.
 fn marks_as<S: Scheme>(alloc: Global, scheme: &S, text: &str, due: &str) -> Result<bool, Fail> {
     let net = joined(alloc, text)?;
     Ok(is_marked(alloc, scheme, &net, due)?)
@@ -87,13 +85,12 @@ fn leaders_and_numbers_are_marked(rt: HostRuntime) -> Result<(), Fail> {
     Ok(())
 }
 
-// The rules by which the nodes of a network reject these labels, a digit a node, 0 where it accepts.
+// The number of the rejecting rule, a digit a node, 0 where it accepts.
 fn judged<V: Checker>(alloc: Global, checker: &V, text: &str, labels: &str) -> Result<u32, Fail> {
     let net = network(alloc, text)?;
     judged_in(alloc, checker, &net, labels)
 }
 
-// The same of a network that is read.
 fn judged_in<V: Checker>(
     alloc: Global,
     checker: &V,
@@ -108,7 +105,6 @@ fn judged_in<V: Checker>(
     ))
 }
 
-// The rules of verdicts, a digit each.
 fn digits(verdicts: &[Verdict]) -> u32 {
     let mut rules = 0_u32;
     for verdict in verdicts {
@@ -117,7 +113,7 @@ fn digits(verdicts: &[Verdict]) -> u32 {
     rules
 }
 
-// The rule by which a verdict rejects, and 0 where it accepts.
+// 0 where the verdict accepts.
 fn rule_of(verdict: Verdict) -> u32 {
     match verdict {
         Verdict::Accept => 0,
@@ -145,8 +141,7 @@ fn roots_and_numbers_are_judged(rt: HostRuntime) -> Result<(), Fail> {
     Ok(())
 }
 
-// Writes a network, where the bits of the pointers tell which nodes are marked, and which know how
-// many nodes there are.
+// Here the bits of `pointers` are marks, and each marked node has the number of nodes.
 fn write_marked(text: &mut String, net: Small) -> Result<(), AllocError> {
     text.push_str("network\n")?;
     for node in 0..net.nodes.min(4) {
@@ -158,7 +153,7 @@ fn write_marked(text: &mut String, net: Small) -> Result<(), AllocError> {
     text.push_str("end\n")
 }
 
-// Whether the schemes mark a network as the plain count of its marked nodes says.
+// Compares the schemes with the plain count of marked nodes.
 fn is_counted(alloc: Global, read: &Network, net: Small) -> Result<bool, Fail>
     requires { IsConnected read.now }
 {
@@ -168,7 +163,6 @@ fn is_counted(alloc: Global, read: &Network, net: Small) -> Result<bool, Fail>
     Ok(led == (marked == 1) && counted == (marked == net.nodes))
 }
 
-// The same of a network that is read.
 fn is_as_counted(alloc: Global, net: Small) -> Result<bool, Fail> {
     let mut text = String::new(alloc);
     write_marked(&mut text, net)?;
@@ -176,7 +170,7 @@ fn is_as_counted(alloc: Global, net: Small) -> Result<bool, Fail> {
     is_counted(alloc, &read, net)
 }
 
-// How many networks of so many nodes with these edges are not as they should be.
+// How many choices of marks on these edges are decided wrongly.
 fn wrong(alloc: Global, nodes: u32, edges: u32) -> Result<u32, Fail> {
     let mut wrong = 0_u32;
     for pointers in 0..1_u32.wrapping_shl(nodes) {

@@ -25,17 +25,15 @@ pub(super) struct Small {
     pub(super) pointers: u32,
 }
 
-// Whether a number has this bit.
 pub(super) fn has(bits: u32, place: u32) -> bool {
     bits.wrapping_shr(place) & 1 == 1
 }
 
-// A number with this bit too.
 pub(super) fn with(bits: u32, place: u32) -> u32 {
     bits | 1_u32.wrapping_shl(place)
 }
 
-// The number of a pair of nodes.
+// The bit of an edge in a set, by its ends.
 pub(super) fn pair(a: u32, b: u32) -> u32 {
     match (a.min(b), a.max(b)) {
         (0, 1) => 0,
@@ -48,17 +46,16 @@ pub(super) fn pair(a: u32, b: u32) -> u32 {
 }
 
 impl Small {
-    // Whether two nodes are adjacent, along these edges.
     pub(super) fn joins(edges: u32, a: u32, b: u32) -> bool {
         a != b && has(edges, pair(a, b))
     }
 
-    // The pointer of a node: 0 for none, else the number of the port and one.
+    // 0 for none, else the number of the port plus one.
     pub(super) fn pointer(self, node: u32) -> u32 {
         self.pointers.wrapping_shr(node.saturating_mul(2)) & 3
     }
 
-    // The neighbour at the pointed port of a node: the ports are in the order of the neighbours.
+    // Ports are in the order of the neighbours.
     pub(super) fn target(self, node: u32) -> Option<u32> {
         let mut left = self.pointer(node);
         for nbr in 0..4 {
@@ -72,14 +69,14 @@ impl Small {
         None
     }
 
-    // Whether each pointer is 0 or a port's, and there is none of a node that is not there.
+    // Whether each pointer is 0 or names a port; nodes beyond `nodes` have none.
     pub(super) fn is_proper(self) -> bool {
         (0..4).all(|node| self.pointer(node) == 0
             || node < self.nodes && self.target(node).is_some())
     }
 }
 
-// The nodes that a walk of at most so many edges reaches from a node, one bit a node.
+// The nodes within `most` edges of `start`, one bit a node.
 pub(super) fn reached(edges: u32, start: u32, most: u32) -> u32 {
     let mut reached = with(0, start);
     for _ in 0..most {
@@ -95,13 +92,11 @@ pub(super) fn reached(edges: u32, start: u32, most: u32) -> u32 {
     reached
 }
 
-// Whether these edges join the nodes up to a number of them.
 pub(super) fn are_joined(edges: u32, nodes: u32) -> bool {
     let reached = reached(edges, 0, 3);
     (0..4).all(|node| node >= nodes || has(reached, node))
 }
 
-// The edges along which the nodes point.
 pub(super) fn pointed(net: Small) -> u32 {
     let mut edges = 0_u32;
     for node in 0..4 {
@@ -112,15 +107,13 @@ pub(super) fn pointed(net: Small) -> u32 {
     edges
 }
 
-// How many nodes have no pointer.
 fn roots(net: Small) -> usize {
     (0..4)
         .filter(|node| *node < net.nodes && net.target(*node).is_none())
         .count()
 }
 
-// Exactly one node has no pointer, and the pointed edges are one fewer than the nodes and join
-// them.
+// One node has no pointer, and the pointed edges, one fewer than the nodes, join them.
 pub(super) fn is_tree(net: Small) -> bool {
     let edges = pointed(net);
     roots(net) == 1
@@ -133,7 +126,6 @@ pub(super) fn is_forest(net: Small) -> bool {
     (0..4).all(|start| !returns(net, start))
 }
 
-// Whether a chain of pointers from a node returns to it.
 fn returns(net: Small, start: u32) -> bool {
     let mut node = start;
     for _ in 0..4 {
@@ -153,12 +145,11 @@ pub(super) fn is_bipartite(net: Small) -> bool {
     (0..16_u32).any(|colours| differs(net.edges, colours))
 }
 
-// Whether the colours, one bit a node, differ across each edge.
+// `colours` has one bit a node.
 fn differs(edges: u32, colours: u32) -> bool {
     (0..4).all(|a| (0..4).all(|b| !Small::joins(edges, a, b) || has(colours, a) != has(colours, b)))
 }
 
-// No ring goes through three or four different nodes.
 pub(super) fn is_acyclic(net: Small) -> bool {
     for a in 0..4 {
         for b in 0..4 {
@@ -173,12 +164,11 @@ pub(super) fn is_acyclic(net: Small) -> bool {
     true
 }
 
-// Whether a fourth node closes a path of three.
+// Whether a fourth node closes the path `a`, `b`, `c` to a cycle.
 fn closes(edges: u32, a: u32, b: u32, c: u32) -> bool {
     (0..4).any(|d| d != b && Small::joins(edges, c, d) && Small::joins(edges, d, a))
 }
 
-// Writes the line of a node.
 pub(super) fn write_node(
     text: &mut String,
     net: Small,
@@ -192,7 +182,7 @@ pub(super) fn write_node(
     }
 }
 
-// Writes the lines of the ports of a node, of weight 1.
+// Each port has weight 1.
 pub(super) fn write_ports(text: &mut String, net: Small, node: u32) -> Result<(), AllocError> {
     for nbr in 0..net.nodes.min(4) {
         if Small::joins(net.edges, node, nbr) {
@@ -202,7 +192,6 @@ pub(super) fn write_ports(text: &mut String, net: Small, node: u32) -> Result<()
     Ok(())
 }
 
-// Writes a network in which the first node has this mark, and each node this number.
 fn write_with(text: &mut String, net: Small, mark: u32, number: u32) -> Result<(), AllocError> {
     text.push_str("network\n")?;
     for node in 0..net.nodes.min(4) {
@@ -213,7 +202,7 @@ fn write_with(text: &mut String, net: Small, mark: u32, number: u32) -> Result<(
     text.push_str("end\n")
 }
 
-// The text of a network in which the first node has this mark, and each node this number.
+// Only the first node has `mark`, and each node has `number`.
 pub(super) fn text_with(
     alloc: Global,
     net: Small,
@@ -225,7 +214,7 @@ pub(super) fn text_with(
     Ok(text)
 }
 
-// A connected network without marks and numbers.
+// Fails where the network is not connected; marks and numbers are 0.
 pub(super) fn joined_small(alloc: Global, net: Small) -> Result<Network, Fail>
     ensures { IfOk result (λ net. IsConnected net) }
 {
@@ -233,8 +222,7 @@ pub(super) fn joined_small(alloc: Global, net: Small) -> Result<Network, Fail>
     joined(alloc, text.as_str())
 }
 
-// Whether a scheme marks a connected network; what it decides is to be the same, and all nodes are
-// to accept its labels.
+// Fails where deciding and marking differ, or a node rejects the labels.
 pub(super) fn marks<S: Scheme>(alloc: Global, scheme: &S, net: &Network) -> Result<bool, Fail>
     requires { IsConnected net.now }
 {
@@ -246,7 +234,7 @@ pub(super) fn marks<S: Scheme>(alloc: Global, scheme: &S, net: &Network) -> Resu
     }
 }
 
-// Whether a scheme marks a connected network; all nodes are to accept its labels.
+// Fails where a node rejects the labels.
 fn is_certified<S: Scheme>(alloc: Global, scheme: &S, net: &Network) -> Result<bool, Fail>
     requires { IsConnected net.now }
 {
@@ -256,7 +244,7 @@ fn is_certified<S: Scheme>(alloc: Global, scheme: &S, net: &Network) -> Result<b
     }
 }
 
-// True where all nodes accept these labels.
+// Never false: a node that rejects is an error.
 fn are_accepted<S: Scheme>(
     alloc: Global,
     scheme: &S,
@@ -273,7 +261,7 @@ fn are_accepted<S: Scheme>(
     }
 }
 
-// Whether the schemes mark a network as the plain programs decide of it.
+// Compares the schemes with the plain programs.
 fn is_marked(alloc: Global, read: &Network, net: Small) -> Result<bool, Fail>
     requires { IsConnected read.now }
 {
@@ -289,14 +277,12 @@ fn is_marked(alloc: Global, read: &Network, net: Small) -> Result<bool, Fail>
     )
 }
 
-// The same of a network that is read.
 fn is_as_decided(alloc: Global, net: Small) -> Result<bool, Fail> {
     let read = joined_small(alloc, net)?;
     is_marked(alloc, &read, net)
 }
 
-// How many networks of so many nodes with these edges and all pointers are as they should be; all
-// are to be.
+// How many choices of pointers were tried; fails at the first that is decided wrongly.
 fn tried(alloc: Global, nodes: u32, edges: u32) -> Result<u32, Fail> {
     let mut tried = 0_u32;
     for pointers in 0..256 {

@@ -22,7 +22,6 @@ struct Weighed {
 }
 
 impl Weighed {
-    // The weight of the edge of two nodes.
     fn weight(self, a: u32, b: u32) -> u32 {
         if has(self.second, pair(a, b)) {
             self.weights.1
@@ -31,7 +30,7 @@ impl Weighed {
         }
     }
 
-    // What the chain of a node weighs, and the node where it ends, after four pointers at most.
+    // The weight of a pointer chain and its last node, after at most four pointers.
     fn chain(self, start: u32) -> (u32, u32) {
         let mut node = start;
         let mut weight = 0_u32;
@@ -44,7 +43,7 @@ impl Weighed {
         (weight, node)
     }
 
-    // Whether some walk of three edges or fewer weighs less than this from one node to another.
+    // Whether a walk of at most three edges weighs less than `weight`.
     fn is_lighter(self, from: u32, to: u32, weight: u32) -> bool {
         let walk = |a: u32, b: u32| -> u32 {
             if a == b {
@@ -61,7 +60,7 @@ impl Weighed {
             < weight))
     }
 
-    // What a set of edges weighs.
+    // The total weight of a set of edges.
     fn sum(self, edges: u32) -> u32 {
         let heavy = (edges & self.second).count_ones();
         let light = (edges & !self.second).count_ones();
@@ -70,7 +69,6 @@ impl Weighed {
             .saturating_add(light.saturating_mul(self.weights.0))
     }
 
-    // Whether some spanning tree weighs less than this.
     fn is_tree_lighter(self, weight: u32) -> bool {
         (0..64).any(|tree: u32| tree & !self.net.edges == 0
             && tree.count_ones().saturating_add(1) == self.net.nodes
@@ -78,12 +76,11 @@ impl Weighed {
             && are_joined(tree, self.net.nodes))
     }
 
-    // The pointers make a tree, and no spanning tree weighs less than their edges.
     fn is_lightest(self) -> bool {
         is_tree(self.net) && !self.is_tree_lighter(self.sum(pointed(self.net)))
     }
 
-    // The pointers make a tree, and no walk from the root to a node weighs less than its chain.
+    // The pointers make a tree, and no walk from the root is lighter than a node's chain.
     fn is_shortest(self) -> bool {
         is_tree(self.net)
             && (0..4).all(|node| {
@@ -92,7 +89,6 @@ impl Weighed {
             })
     }
 
-    // Writes the network.
     fn write(self, text: &mut String) -> Result<(), AllocError> {
         text.push_str("network\n")?;
         for node in 0..self.net.nodes.min(4) {
@@ -108,7 +104,7 @@ impl Weighed {
     }
 }
 
-// Whether the schemes mark a network as the plain programs decide of it.
+// Compares the schemes with the plain programs.
 fn is_marked(alloc: Global, read: &Network, weighed: Weighed) -> Result<bool, Fail>
     requires { IsConnected read.now }
 {
@@ -117,7 +113,6 @@ fn is_marked(alloc: Global, read: &Network, weighed: Weighed) -> Result<bool, Fa
     Ok(shortest == weighed.is_shortest() && lightest == weighed.is_lightest())
 }
 
-// The same of a network that is read.
 fn is_as_decided(alloc: Global, weighed: Weighed) -> Result<bool, Fail> {
     let mut text = String::new(alloc);
     weighed.write(&mut text)?;
@@ -125,8 +120,7 @@ fn is_as_decided(alloc: Global, weighed: Weighed) -> Result<bool, Fail> {
     is_marked(alloc, &read, weighed)
 }
 
-// How many choices of weights a network has, with each of which it is as it should be; with all it
-// is to be.
+// How many choices of weights were tried; fails at the first that is decided wrongly.
 fn tried_weights(alloc: Global, net: Small) -> Result<u32, Fail> {
     let mut tried = 0_u32;
     for second in 0..64 {
@@ -147,8 +141,7 @@ fn tried_weights(alloc: Global, net: Small) -> Result<u32, Fail> {
     Ok(tried)
 }
 
-// How many networks of so many nodes with these edges, choices of weights and pointers are as they
-// should be.
+// How many choices of pointers and weights were tried on these edges.
 fn tried(alloc: Global, nodes: u32, edges: u32) -> Result<u32, Fail> {
     let mut tried = 0_u32;
     for pointers in 0..256 {

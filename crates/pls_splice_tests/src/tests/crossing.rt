@@ -5,7 +5,7 @@ use pls_graph::Network;
 use pls_splice::Pair;
 use std::test::Fail;
 
-// Whether the node at place `i` has ports to these two and no other, of weight 1.
+// Whether the node has just these two neighbours in this order, with weight 1.
 fn has_ports(net: &Network, i: usize, first: u32, second: u32) -> bool {
     if i >= net.len() {
         return false;

@@ -4,7 +4,7 @@ use super::plain_crossing;
 use std::alloc::Global;
 use std::test::Fail;
 
-// So many words.
+// `count` words of 16 bits that look random.
 fn words_of(alloc: Global, count: usize) -> Result<Vec<u32>, Fail> {
     let mut words = Vec::new(alloc);
     let mut word = 12_345u32;

@@ -6,7 +6,7 @@ use pls_splice::{Ring, RingError};
 use std::alloc::Global;
 use std::test::Fail;
 
-// The node that shows that a network is no ring, and 0 where none does.
+// The node that shows that it is no ring, or 0 where it is one.
 fn not_ring(alloc: Global, text: &str) -> Result<u32, Fail> {
     match Ring::read(alloc, &network(alloc, text)?) {
         Ok(_) => Ok(0),
@@ -53,7 +53,6 @@ fn two_triangles_are_no_ring(rt: HostRuntime) -> Result<(), Fail> {
     Ok(())
 }
 
-// Whether the nodes of a ring come in this order.
 fn has_order(alloc: Global, net: &Network, order: &[u32]) -> Result<bool, Fail> {
     match Ring::read(alloc, net) {
         Ok(ring) => Ok(ring.order() == order),

@@ -10,7 +10,7 @@ use pls_view::LabelStore;
 use std::alloc::{AllocError, Global};
 use std::test::Fail;
 
-// The identity of a node by its number in the order.
+// The identity of the node at position `number` on the ring.
 fn id_of(count: u32, number: u32) -> u32 {
     if count == 7 {
         return number.wrapping_add(1);
@@ -22,12 +22,12 @@ fn id_of(count: u32, number: u32) -> u32 {
         .wrapping_add(1)
 }
 
-// The weight of an edge, where there are so many different ones.
+// The edges have `weights` different weights in turn.
 fn weight_of(edge: u32, weights: u32) -> u32 {
     edge.checked_rem(weights).unwrap_or(0).wrapping_add(1)
 }
 
-// Writes the node and its ports, the one behind it first where its number is even.
+// The port to the node behind comes first where `number` is even.
 fn write_node(text: &mut String, count: u32, number: u32, weights: u32) -> Result<(), AllocError> {
     let id = id_of(count, number);
     let last = count.wrapping_sub(1);
@@ -58,7 +58,6 @@ fn write_node(text: &mut String, count: u32, number: u32, weights: u32) -> Resul
     }
 }
 
-// Writes the text of a ring of so many nodes.
 fn write_ring(text: &mut String, count: u32, weights: u32) -> Result<(), AllocError> {
     text.push_str("network\n")?;
     for place in 0..count {
@@ -71,19 +70,17 @@ fn write_ring(text: &mut String, count: u32, weights: u32) -> Result<(), AllocEr
     text.push_str("end\n")
 }
 
-// A ring of so many nodes.
 fn ring_of(alloc: Global, count: u32, weights: u32) -> Result<Network, Fail> {
     let mut text = String::new(alloc);
     write_ring(&mut text, count, weights)?;
     network(alloc, text.as_str())
 }
 
-// Bit `number` of a word.
 fn bit(word: u32, number: u32) -> u32 {
     word.checked_shr(number).unwrap_or(0) % 2
 }
 
-// The first pair, by trying all.
+// The plain program: tries all pairs in order.
 fn first_pair(count: u32, weights: u32, word: u32) -> Option<Pair> {
     for first in 0..count {
         for second in first..count {
@@ -103,7 +100,7 @@ fn first_pair(count: u32, weights: u32, word: u32) -> Option<Pair> {
     None
 }
 
-// The labels of one bit: that of the node with a number is the bit of that number.
+// One bit each: bit `number` of `word` for the node at that position on the ring.
 fn labels(alloc: Global, count: u32, word: u32) -> Result<LabelStore, Fail> {
     let mut words = Vec::new(alloc);
     for place in 0..count {
@@ -116,7 +113,7 @@ fn labels(alloc: Global, count: u32, word: u32) -> Result<LabelStore, Fail> {
     labels_of(alloc, words.as_slice(), 1)
 }
 
-// Whether a network of so many nodes has two components, the second of so many.
+// Whether there are two components, the second of `second` nodes, of `count` in all.
 fn is_in_two(alloc: Global, net: &Network, count: usize, second: usize) -> Result<bool, Fail> {
     let parts = components(alloc, net)?;
     Ok(
@@ -126,8 +123,7 @@ fn is_in_two(alloc: Global, net: &Network, count: usize, second: usize) -> Resul
     )
 }
 
-// Whether the first pair of a ring with these labels is the due one, and crossing leaves components
-// of so many nodes.
+// Whether the first pair is `due`, and crossing it leaves components of the due sizes.
 fn agrees(
     alloc: Global,
     net: &Network,
@@ -147,7 +143,7 @@ fn agrees(
     is_in_two(alloc, &other, net.len(), apart)
 }
 
-// The first labels at which a ring does not agree with the plain program, if there are any.
+// The first label word where the ring and the plain program differ.
 fn first_other(
     alloc: Global,
     net: &Network,
@@ -167,7 +163,6 @@ fn first_other(
     Ok(None)
 }
 
-// The same of a ring of so many nodes.
 fn first_other_of(alloc: Global, count: u32, weights: u32) -> Result<Option<u32>, Fail> {
     let net = ring_of(alloc, count, weights)?;
     match Ring::read(alloc, &net) {

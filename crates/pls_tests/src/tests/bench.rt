@@ -50,8 +50,7 @@ impl Bench for Refusing {
     }
 }
 
-// Asserts how the rounds of the star end, where the bench answers the question of this number with
-// want of memory.
+// `refuses` is the number of the question that the bench answers with want of memory.
 fn assert_star_end(rt: &impl Abort, alloc: Global, refuses: u64, due: &str) {
     let mut source = SureSource::new(input_of(rt, alloc, EDITS).into_bytes());
     let mut sink = MemSink::new(alloc, ROOM, ROOM, Vec::new(alloc)).expect(rt, "memory");

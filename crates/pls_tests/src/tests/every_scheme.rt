@@ -100,7 +100,7 @@ const RING_SCHEMES: &str = "tree forest bipartite leader count spt mst pathmax \
 
 const ASKED_OF_RING: &str = "1 splice NAME < round | as mark NAME --code CODE > none";
 
-// Runs these rows about each of these schemes, with labels in this code.
+// `NAME` and `CODE` in the rows of `asked` stand for scheme and code.
 fn assert_about(rt: &impl Abort, alloc: Global, code: &str, schemes: &str, asked: &str) {
     let rows = asked.replace(alloc, "CODE", code).expect(rt, "memory");
     for name in schemes.split(' ') {

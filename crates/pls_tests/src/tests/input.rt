@@ -20,7 +20,7 @@ pub(super) fn input_of(rt: &impl Abort, alloc: Global, notation: &str) -> String
     input
 }
 
-// What a part is where its name stands, or else the part.
+// The text that a name stands for; any other part stays as it is.
 fn unnamed(part: &str) -> &str {
     for line in NAMED.split('\n') {
         if let Some((name, named)) = line.split_once(" = ") {
@@ -32,7 +32,6 @@ fn unnamed(part: &str) -> &str {
     part
 }
 
-// Writes a part behind those in front of it.
 fn write_part(rt: &impl Abort, alloc: Global, input: &mut String, part: &str) {
     let (kind, rest) = part.split_once(' ').unwrap_or((part, ""));
     match kind {
@@ -43,22 +42,21 @@ fn write_part(rt: &impl Abort, alloc: Global, input: &mut String, part: &str) {
     }
 }
 
-// Writes the text of a run on what is written. Where it does not end well, the number of its status
-// is written too, so that no run reads it.
+// Appends what a run on the input so far writes; a failing status is kept, so that no run reads it.
 fn write_end(rt: &impl Abort, alloc: Global, input: &mut String, words: &str) {
     let end = end_of(rt, alloc, words, input.as_str());
     let text = end.as_str().strip_prefix("0\n").unwrap_or(end.as_str());
     input.push_str(text).expect(rt, "memory");
 }
 
-// Writes lines, and what stands behind the last one.
+// `; ` separates the lines, and `last` is put behind the last one.
 fn write_lines(rt: &impl Abort, alloc: Global, input: &mut String, [lines, last]: [&str; 2]) {
     let text = lines.replace(alloc, "; ", "\n").expect(rt, "memory");
     write_pieces(input, text.as_str()).expect(rt, "memory");
     input.push_str(last).expect(rt, "memory");
 }
 
-// Writes a text, in which braces stand around what is repeated.
+// Text in braces is repeated.
 fn write_pieces(input: &mut String, text: &str) -> Result<(), AllocError> {
     for (i, piece) in text.split(['{', '}']).enumerate() {
         if i % 2 == 0 {
@@ -70,7 +68,7 @@ fn write_pieces(input: &mut String, text: &str) -> Result<(), AllocError> {
     Ok(())
 }
 
-// Writes what is repeated, as often as the number in front of it says.
+// `piece` is a number, ` of ` and what is repeated as often.
 fn write_times(input: &mut String, piece: &str) -> Result<(), AllocError> {
     let (count, repeated) = piece.split_once(" of ").unwrap_or((piece, ""));
     for number in 0..count.parse().unwrap_or(0) {
@@ -79,7 +77,7 @@ fn write_times(input: &mut String, piece: &str) -> Result<(), AllocError> {
     Ok(())
 }
 
-// Writes what is repeated, in which the numbers between two marks are counted on from.
+// Numbers between two `#` are raised by `number`.
 fn write_counted(input: &mut String, repeated: &str, number: u32) -> Result<(), AllocError> {
     for (i, piece) in repeated.split('#').enumerate() {
         if i % 2 == 0 {

@@ -60,14 +60,14 @@ pub(super) fn end_with(rt: &impl Abort, alloc: Global, status: Status, bytes: &[
     format!(in alloc; "{}\n{text}", status.code()).expect(rt, "memory")
 }
 
-// Whether a run that ends so ends as a row says.
+// Whether `end` has this status and this text, where ` / ` separates lines.
 fn is_end(rt: &impl Abort, alloc: Global, end: &str, status: &str, text: &str) -> bool {
     let lines = text.replace(alloc, " / ", "\n").expect(rt, "memory");
     let due = format!(in alloc; "{status}\n{lines}\n").expect(rt, "memory");
     is_of_form(end, due.as_str())
 }
 
-// Whether a text is of a form, in which dots stand for any text.
+// `...` in `form` stands for any text.
 fn is_of_form(text: &str, form: &str) -> bool {
     match form.split_once("...") {
         Some((front, rest)) => text.starts_with(front) && text.ends_with(rest),

@@ -53,8 +53,7 @@ const OTHERS: &[((&[&str], &str), [u64; 2], (Status, &str))] = &[
     ),
 ];
 
-// Asserts that a run ends in this status, and wrote this text, where the read and the write of
-// these numbers fail.
+// `read` and `write` are the numbers of the calls that fail.
 fn assert_end(
     rt: &impl Abort,
     alloc: Global,
@@ -105,7 +104,7 @@ fn an_input_cut_off_is_refused_at_its_last_line(rt: HostRuntime) {
     }
 }
 
-// Asserts that the front of an input is refused at this line.
+// The input ends behind `front`, and is refused at `line`.
 fn assert_cut_off(rt: &impl Abort, alloc: Global, front: &str, line: u64) {
     let row = format!(in alloc; "3 verify bipartite < + {front} > refused form at {line}");
     assert_row(rt, alloc, row.expect(rt, "memory").as_str());

@@ -24,12 +24,11 @@ fn pair(a: u32, b: u32) -> u32 {
     }
 }
 
-// Whether two nodes are linked.
 fn joins(edges: u32, a: u32, b: u32) -> bool {
     a != b && edges.wrapping_shr(pair(a, b)) & 1 == 1
 }
 
-// Something of a list, 0 where it has no such place.
+// 0 where the list has no such place.
 fn at(list: &[u32], place: u32) -> u32 {
     match list.get(place as usize) {
         Some(value) => *value,
@@ -37,7 +36,7 @@ fn at(list: &[u32], place: u32) -> u32 {
     }
 }
 
-// Puts something into a list, where it has such a place.
+// Does nothing where the list has no such place.
 fn put(list: &mut [u32], place: u32, value: u32) {
     if let Some(slot) = list.get_mut(place as usize) {
         *slot = value;
@@ -75,7 +74,7 @@ impl Plain {
         }
     }
 
-    // The node at a port.
+    // Ports are in the order of the neighbours; `None` where there is no such port.
     fn beside(&self, node: u32, port: u32) -> Option<u32> {
         let mut left = port;
         for other in 0..self.nodes.min(4) {
@@ -89,7 +88,7 @@ impl Plain {
         None
     }
 
-    // Takes an event.
+    // `Some` says why the event is refused.
     fn take(&mut self, event: Chosen) -> Result<Option<EventError>, AllocError> {
         let (kind, one, two) = event;
         if kind != 1 && one >= self.nodes {
@@ -113,7 +112,6 @@ impl Plain {
         }
     }
 
-    // Takes an emit.
     fn emit(&mut self, node: u32, port: u32) -> Result<Option<EventError>, AllocError> {
         let Some(other) = self.beside(node, port) else {
             return Ok(Some(EventError::NoPort));
@@ -123,7 +121,6 @@ impl Plain {
         Ok(None)
     }
 
-    // Takes an arrival.
     fn arrive(&mut self, number: u32) -> Option<EventError> {
         if number == 0 {
             return Some(EventError::NoEmit);
@@ -139,7 +136,6 @@ impl Plain {
         None
     }
 
-    // What a look shows of a node.
     fn shown(&self, node: u32) -> Shown {
         let (mut kind, mut waits, mut stale, mut port) = (0, 0_u32, 0_u32, 0_u32);
         for other in 0..self.nodes.min(4) {
@@ -166,7 +162,7 @@ impl Plain {
     }
 }
 
-// The text of a network, and that of labels of one colour.
+// The texts of a network and of labels of one colour.
 fn texts(alloc: Global, nodes: u32, edges: u32) -> Result<(String, String), AllocError> {
     let mut text = String::from_str(alloc, "network\n")?;
     let mut colours = String::from_str(alloc, "labels\n")?;
@@ -184,14 +180,14 @@ fn texts(alloc: Global, nodes: u32, edges: u32) -> Result<(String, String), Allo
     Ok((text, colours))
 }
 
-// The next number of a row that looks random (Marsaglia 2003, "Xorshift RNGs").
+// One xorshift step, so that the events look random.
 fn next(number: u32) -> u32 {
     let first = number ^ number.wrapping_shl(13);
     let second = first ^ first.wrapping_shr(17);
     second ^ second.wrapping_shl(5)
 }
 
-// The event of a number, where so many emits were taken. Some name no node, port or emit.
+// May name a node, port or emit that does not exist; `emits` were taken before.
 fn chosen(number: u32, emits: u32) -> Chosen {
     let (one, two) = (number.wrapping_shr(8) & 255, number.wrapping_shr(16) & 255);
     match number & 7 {
@@ -202,7 +198,6 @@ fn chosen(number: u32, emits: u32) -> Chosen {
     }
 }
 
-// The event as a watch takes it.
 fn event_of(alloc: Global, event: Chosen) -> Result<WatchEvent, Fail> {
     let (kind, one, two) = event;
     let node = one.wrapping_add(1);
@@ -218,7 +213,6 @@ fn event_of(alloc: Global, event: Chosen) -> Result<WatchEvent, Fail> {
     })
 }
 
-// What a look of the plain program shows.
 fn plain_look(alloc: Global, plain: &Plain) -> Result<Vec<Shown>, Fail> {
     let mut shown = Vec::new(alloc);
     for node in 0..plain.nodes.min(4) {
@@ -227,7 +221,7 @@ fn plain_look(alloc: Global, plain: &Plain) -> Result<Vec<Shown>, Fail> {
     Ok(shown)
 }
 
-// How many events are taken of random ones on a network.
+// How many of the random events from `seed` on are taken.
 fn taken<K: Checker>(
     alloc: Global,
     net: &Network,
@@ -242,8 +236,7 @@ fn taken<K: Checker>(
     play(alloc, &mut lookout, plain, seed)
 }
 
-// The same of a watch. Each event is to be refused as the plain program refuses it, and a look
-// behind each fourth event or so is to show the same.
+// Fails where the plain program refuses otherwise, or a look after about each fourth event differs.
 fn play<K: Checker>(
     alloc: Global,
     lookout: &mut Lookout<'_, '_, K>,
@@ -268,7 +261,6 @@ fn play<K: Checker>(
     Ok(taken)
 }
 
-// A look is to show what one of the plain program does.
 fn compare<K: Checker>(
     alloc: Global,
     lookout: &mut Lookout<'_, '_, K>,

@@ -38,7 +38,6 @@ const ROWS: &[(&str, &[Shown])] = &[
     ),
 ];
 
-// The lines of a part.
 fn lines_of(alloc: Global, lines: &str) -> Result<Vec<WatchLine>, Fail> {
     let text = format!(in alloc; "watch\n{lines}end\n")?;
     let Ok(part) = scan_watch(&mut Lines::new(text.as_bytes())) else {
@@ -50,7 +49,6 @@ fn lines_of(alloc: Global, lines: &str) -> Result<Vec<WatchLine>, Fail> {
     }
 }
 
-// What the last look of a part shows.
 fn last_look<K: Checker>(alloc: Global, checker: &K, lines: &str) -> Result<Vec<Shown>, Fail> {
     let net = network(alloc, PAIR)?;
     let colours = labels(alloc, &net, COLOURS)?;
@@ -60,7 +58,7 @@ fn last_look<K: Checker>(alloc: Global, checker: &K, lines: &str) -> Result<Vec<
     play(alloc, &mut lookout, list.as_slice())
 }
 
-// What the last look shows, once the events of these lines have come.
+// The answer is what the last look shows.
 fn play<K: Checker>(
     alloc: Global,
     lookout: &mut Lookout<'_, '_, K>,
@@ -109,8 +107,7 @@ const REFUSED: &[(&str, EventError)] = &[
     ),
 ];
 
-// Why an event of a part is refused, and whether the look behind it shows what the one before it
-// does.
+// Fails where a refused event changes what a look shows.
 fn refusal<K: Checker>(
     alloc: Global,
     checker: &K,
@@ -124,7 +121,6 @@ fn refusal<K: Checker>(
     first_refusal(alloc, &mut lookout, list.as_slice())
 }
 
-// The same of a watch.
 fn first_refusal<K: Checker>(
     alloc: Global,
     lookout: &mut Lookout<'_, '_, K>,

@@ -40,7 +40,7 @@ fn texts_name_the_first_faulty_line(rt: HostRuntime) {
     }
 }
 
-// What a line says, in short: a letter, and a number.
+// A letter for the kind of line, and a number.
 fn short(line: &WatchLine) -> (u8, u64) {
     match line {
         WatchLine::Event(WatchEvent::Emit { node, port }) => {
@@ -65,7 +65,7 @@ fn short(line: &WatchLine) -> (u8, u64) {
     }
 }
 
-// What the lines of a text say in short, and what is counted of it.
+// The lines in short, and the counts of the part.
 fn read(alloc: Global, text: &str) -> Result<(Vec<(u8, u64)>, [u64; 3]), Fail> {
     let Ok(part) = scan_watch(&mut Lines::new(text.as_bytes())) else {
         return Err(Fail::from("refused"));
@@ -99,7 +99,7 @@ fn lines_are_read_and_counted(rt: HostRuntime) -> Result<(), Fail> {
     Ok(())
 }
 
-// Whether a part with so many looks has too many.
+// Whether `looks` looks are too many for one part.
 fn refused(alloc: Global, looks: u32) -> Result<bool, Fail> {
     let mut text = String::from_str(alloc, "watch\n")?;
     for _ in 0..looks {
