@@ -10,7 +10,7 @@ ghost use Rattle.pls.specs.inner.Limits.{is_within_limits};
 
 use pls_base::NoMemory;
 use pls_facts::is_valid;
-use pls_graph::{BuildError, Network, NodePorts, NodeRow, Port, State, connected};
+use pls_graph::{BuildError, Network, NodePorts, NodeRow, Port, State, node_apart};
 use pls_model::{MAX_NODES, MAX_NUM, MAX_PORTS};
 use std::alloc::{AllocError, AllocFailed, Global};
 use thiserror::Error;
@@ -130,7 +130,7 @@ pub fn is_connected(alloc: Global, net: &Network) -> Result<bool, NoMemory>
     ensures { IfOk result (λ yes. IsTrue yes ↔ IsConnected net.now) }
 {
     is_valid(net);
-    match connected(alloc, net)? {
+    match node_apart(alloc, net)? {
         None => Ok(true),
         Some(_) => Ok(false),
     }

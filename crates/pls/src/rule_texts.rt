@@ -6,7 +6,7 @@ ghost use Rattle.pls_names.specs.Named.{judge_named};
 ghost use Rattle.pls.specs.RuleNumbers.{NamesRuleUpTo, last_map_rule, last_rule};
 
 use pls_bits::NumCode;
-use pls_names::{Named, SchemeName};
+use pls_names::{SchemeByName, SchemeName};
 use pls_view::View;
 
 /// What a rule of the scheme of a name asks of a node, or `None` where the scheme has no rule of
@@ -22,7 +22,7 @@ pub fn rule_text(name: SchemeName, rule: u8) -> Option<&'static str>
 
 /// Whatever a node sees, a rejection by the scheme of a name is by a rule that has a text. A proof
 /// that needs it calls this; it takes neither time nor memory.
-pub fn rejections_have_texts<C: NumCode>(scheme: &Named<C>, view: &View<'_>)
+pub fn rejections_have_texts<C: NumCode>(scheme: &SchemeByName<C>, view: &View<'_>)
     ensures { NamesRuleUpTo (last_rule scheme.now.name)
         (judge_named C.takes scheme.now.name view.now) }
 {}

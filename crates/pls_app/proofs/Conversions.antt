@@ -5,7 +5,7 @@ use Rattle.std.proofs.lemmas.List.{length-map}
 use Rattle.std.proofs.lemmas.List.Elements.{All-cons, All-nil}
 use Rattle.std.proofs.lemmas.List.Sums.{sum_by-cons}
 use Rattle.std.proofs.lemmas.Option.{slice_get-get_or}
-use Rattle.pls_base.specs.declared.refusal_number.TheConstants.{UNREAD}
+use Rattle.pls_base.specs.declared.refusal_number.TheConstants.{UNREADABLE}
 use Rattle.pls_base.specs.declared.text_error.TextError.{TextError}
 use Rattle.pls_base.specs.declared.text_error.TextError.TheVariants.{Sense}
 use Rattle.pls_base.specs.declared.text_error.Quantity.TheVariants.{Bits}
@@ -28,7 +28,7 @@ use Rattle.pls_names.specs.laws.Recoding.{Changes, IsCode, changed}
 use Rattle.pls_sim.specs.declared.outcome.Outcome.{Outcome}
 use Rattle.pls_sim.specs.declared.outcome.Outcome.TheVariants.{Decided}
 use Rattle.pls_expressions.specs.Expression.{Expression}
-use Rattle.pls_combine.specs.Converted.{all_converted, converted, first_unread}
+use Rattle.pls_combine.specs.Converted.{all_converted, converted, first_unreadable}
 use Rattle.pls_combine.specs.Expression.{judge_of}
 use Rattle.pls_combine.specs.laws.ConvertedLaws.{expression_alike}
 use Rattle.pls_combine.specs.laws.ConvertedRounds.{rounds_alike}
@@ -64,11 +64,11 @@ raised_none (Some p) none = absurd (cc)
 
 module _ (to : List Bool → Option (List Bool)) where
   -- the first that cannot be read is one of the labels
-  unread_within : (labels : List (List Bool)) (place : ℕ) → first_unread to labels ≡ Some place
+  unread_within : (labels : List (List Bool)) (place : ℕ) → first_unreadable to labels ≡ Some place
       → place < length labels
   unread_within [] place found = absurd (cc)
   unread_within (bits ∷ labels) place found =
-      by (is_some (to bits)) (first_unread to labels) (λ p is. unread_within labels p is) found
+      by (is_some (to bits)) (first_unreadable to labels) (λ p is. unread_within labels p is) found
     where
       by : (some : Bool) (later : Option ℕ)
           → ((p : ℕ) → later ≡ Some p → p < length labels)
@@ -82,13 +82,13 @@ module _ (to : List Bool → Option (List Bool)) where
 
   -- so where no node is named, all can be read
   none_named : (ids : List ℕ) (labels : List (List Bool)) → length labels ≡ length ids
-      → option_map (λ id. Sense UNREAD id)
-      (option_and_then (slice_get ids) (first_unread to labels)) ≡ None
-      → first_unread to labels ≡ None
-  none_named ids labels long none = by (first_unread to labels) refl none
+      → option_map (λ id. Sense UNREADABLE id)
+      (option_and_then (slice_get ids) (first_unreadable to labels)) ≡ None
+      → first_unreadable to labels ≡ None
+  none_named ids labels long none = by (first_unreadable to labels) refl none
     where
-      by : (found : Option ℕ) → first_unread to labels ≡ found
-          → option_map (λ id. Sense UNREAD id) (option_and_then (slice_get ids) found) ≡ None
+      by : (found : Option ℕ) → first_unreadable to labels ≡ found
+          → option_map (λ id. Sense UNREADABLE id) (option_and_then (slice_get ids) found) ≡ None
           → found ≡ None
       by None is none = refl
       by (Some place) is none =
@@ -97,16 +97,16 @@ module _ (to : List Bool → Option (List Bool)) where
           absurd (let other = rw at at none in cc)
 
   -- each is changed to bits that are not too long
-  each_changes : (labels : List (List Bool)) → first_unread to labels ≡ None
+  each_changes : (labels : List (List Bool)) → first_unreadable to labels ≡ None
       → bits_together (all_converted to labels) ≤ MAX_BITS → All (Changes to) labels
   each_changes [] none few = All-nil (Changes to)
   each_changes (bits ∷ labels) none few =
       by (to bits) refl (λ later short. each_changes labels later short) none
     where
       by : (found : Option (List Bool)) → to bits ≡ found
-          → (first_unread to labels ≡ None
+          → (first_unreadable to labels ≡ None
           → bits_together (all_converted to labels) ≤ MAX_BITS → All (Changes to) labels)
-          → (if is_some found then option_map (λ p. p + 1) (first_unread to labels) else Some 0)
+          → (if is_some found then option_map (λ p. p + 1) (first_unreadable to labels) else Some 0)
           ≡ None → All (Changes to) (bits ∷ labels)
       by None is others none = absurd (cc)
       by (Some new) is others none =
@@ -114,7 +114,7 @@ module _ (to : List Bool → Option (List Bool)) where
           let here : changed to bits ≡ new = rw is refl in
           All-cons (Changes to) bits labels
           (record { new = new; is = is; short = omega (arith, few, sum, ap length here) })
-          (others (raised_none (first_unread to labels) none) (omega (arith, few, sum)))
+          (others (raised_none (first_unreadable to labels) none) (omega (arith, few, sum)))
 
 -- both codes are codes
 gamma_is : IsCode gamma_code gamma_takes
@@ -160,8 +160,8 @@ module _ (scheme : Expression) (bytes : List ℕ) (input : Input)
   all_change : All (Changes to) (labels_in input)
   all_change =
       let ids = ids_of (rows_in input) in
-      let none : first_unread to (labels_in input) ≡ None =
-      ap (λ (to : List Bool → Option (List Bool)). first_unread to (labels_in input)) (sym to_is)
+      let none : first_unreadable to (labels_in input) ≡ None =
+      ap (λ (to : List Bool → Option (List Bool)). first_unreadable to (labels_in input)) (sym to_is)
       ∙ none_named (converted_in (code_in input) scheme) ids (labels_in input)
       (long ∙ sym (length-map (rows_in input) (λ (row : NodeRow). row.id)))
       (both_none _ _ accepted).0 in

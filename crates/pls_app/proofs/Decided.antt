@@ -4,8 +4,8 @@ use Rattle.std.proofs.lemmas.Bool.Decides.{nat_tests}
 use Rattle.std.proofs.lemmas.Option.{same_Some}
 use Rattle.std.proofs.lemmas.Slice.Eq.{bytes_eq-Decides}
 use Rattle.pls_words.specs.Words.{Said, said_by_words}
-use Rattle.pls_words.specs.declared.given.Flag.{Flag}
-use Rattle.pls_words.specs.declared.given.Flag.TheVariants.{Bare, Coded, Json}
+use Rattle.pls_words.specs.declared.command_words.Flag.{Flag}
+use Rattle.pls_words.specs.declared.command_words.Flag.TheVariants.{Bare, Coded, Json}
 use Rattle.pls_scheme_text.specs.declared.scheme_error.SchemeError.{SchemeError}
 use Rattle.pls_expressions.specs.Expression.{Expression, IsSmall}
 use Rattle.pls_scheme_text.specs.ExpressionText.{IsNoScheme, expression_text}

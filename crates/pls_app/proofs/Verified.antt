@@ -5,7 +5,7 @@ use Rattle.std.proofs.lemmas.List.{length-map}
 use Rattle.std.proofs.lemmas.List.Folds.{list_all-map}
 use Rattle.std.proofs.lemmas.List.Sums.{list_all-from_AllPass}
 use Rattle.pls_words.specs.Words.{Said, flag_cut, said_beside, said_by_words, said_with}
-use Rattle.pls_words.specs.declared.given.Flag.TheVariants.{Bare}
+use Rattle.pls_words.specs.declared.command_words.Flag.TheVariants.{Bare}
 use Rattle.pls_model.specs.declared.row.NodeRow.{NodeRow}
 use Rattle.pls_model.specs.declared.status.Status.TheVariants.{Done, No}
 use Rattle.pls_model.specs.declared.verdict.Verdict.{Verdict}

@@ -5,7 +5,7 @@ ghost use Rattle.std.specs.Io.{WritesAtMost};
 ghost use Rattle.std.specs.Io.KnownBytes.{WriteAppends};
 ghost use Rattle.pls_base.specs.Streams.{HasCause, StaysSure};
 
-use pls_base::{Failed, Sink, Steps};
+use pls_base::{StreamFailure, Sink, Steps};
 use std::alloc::Global;
 use std::marker::Model;
 
@@ -50,10 +50,10 @@ impl Sink for GrowingText {
 
     ghost IsSureOf = { IsNeverSure };
 
-    fn write(&mut self, piece: &[u8]) -> Result<usize, Failed> {
+    fn write(&mut self, piece: &[u8]) -> Result<usize, StreamFailure> {
         if self.bytes.extend_from_slice(piece).is_err() {
             self.faults.tick();
-            return Err(Failed);
+            return Err(StreamFailure);
         }
         Ok(piece.len())
     }

@@ -15,7 +15,7 @@ use crate::command::{Command, Task};
 use pls_base::{NoMemory, Quantity, Status, TextError};
 use pls_bits::{CodeName, NumCode};
 use pls_combine::AnyScheme;
-use pls_components::{Components, Marked, mark_parts, room_parts};
+use pls_components::{Components, MarkResult, mark_parts, room_parts};
 use pls_graph::Network;
 use pls_model::MAX_BITS;
 use std::alloc::Global;
@@ -69,10 +69,10 @@ fn mark_within<C: NumCode>(
         → ShowsIn code scheme.now net answer.text) }
 {
     match mark_parts(alloc, scheme, &net, parts)? {
-        Marked::Labels(labels) => Ok(Answer {
+        MarkResult::Labels(labels) => Ok(Answer {
             status: Status::Done,
             content: Content::Labels { code, net, labels },
         }),
-        Marked::Lacking(ids) => no(alloc, parts, ids.as_slice()),
+        MarkResult::Lacking(ids) => no(alloc, parts, ids.as_slice()),
     }
 }

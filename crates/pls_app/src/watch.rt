@@ -88,7 +88,7 @@ fn play<K: Checker>(
     shown: &mut LooksSoFar,
 ) -> Result<Option<usize>, NoMemory>
     requires start { lookout.old.watched.events ≡ [] }
-    requires room { HasRoomForEvents lookout.old.watched (events_of lines.now) }
+    requires room { HasRoomForEvents lookout.old.with_watch (events_of lines.now) }
     requires few { length lines.now ≤ MAX_LINES }
     requires none { AreShown shown.old [] }
     ensures place { IfOk result (λ found. (number : ℕ)
@@ -114,7 +114,7 @@ fn take_line<K: Checker>(
     line: &WatchLine,
     shown: &mut LooksSoFar,
 ) -> Result<bool, NoMemory>
-    requires room { HasRoomForEvents lookout.old.watched (event_of line.now) }
+    requires room { HasRoomForEvents lookout.old.with_watch (event_of line.now) }
     requires few { shown.old.looks < 2 ^ 31 }
     ensures checker { lookout.new.checker ≡ lookout.old.checker }
     ensures refused { IfOk result (λ applies. applies ≡ not (line_does_not_apply

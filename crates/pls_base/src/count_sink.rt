@@ -5,7 +5,7 @@ ghost use Rattle.std.specs.Io.{WritesAtMost};
 ghost use Rattle.std.specs.Io.KnownBytes.{WriteAppends};
 ghost use Rattle.pls_base.specs.Streams.{HasCause, StaysSure};
 
-use crate::streams::{Failed, Sink};
+use crate::streams::{StreamFailure, Sink};
 
 /// Takes every piece whole and never fails. It tells no bytes.
 #[derive(Clone, Copy, Debug)]
@@ -27,7 +27,7 @@ impl Sink for CountSink {
 
     ghost IsSureOf = { λ _ _. ⊤ };
 
-    fn write(&mut self, piece: &[u8]) -> Result<usize, Failed>
+    fn write(&mut self, piece: &[u8]) -> Result<usize, StreamFailure>
         ensures bound { WritesAtMost result piece.now }
         ensures some { IfOk result (λ n. 0 < length piece.now → 0 < n) }
         ensures bytes { WriteAppends None None result piece.now }

@@ -11,7 +11,7 @@ ghost use Rattle.pls_base.specs.Streams.{HasCause, StaysSure};
 use crate::counter::Steps;
 use crate::memory::NoMemory;
 use crate::pieces::is_due;
-use crate::streams::{Failed, Sink};
+use crate::streams::{StreamFailure, Sink};
 use std::alloc::Global;
 use std::marker::Model;
 
@@ -89,7 +89,7 @@ impl Sink for MemSink {
 
     ghost IsSureOf = { HasRoomFor };
 
-    fn write(&mut self, piece: &[u8]) -> Result<usize, Failed>
+    fn write(&mut self, piece: &[u8]) -> Result<usize, StreamFailure>
         ensures bound { WritesAtMost result piece.now }
         ensures some { IfOk result (λ n. 0 < length piece.now → 0 < n) }
         ensures bytes { WriteAppends (Some self.old.taken) (Some self.new.taken) result piece.now }
@@ -114,7 +114,7 @@ impl Sink for MemSink {
         self.calls.tick();
         if due || (free == 0 && !piece.is_empty()) {
             self.faults.tick();
-            return Err(Failed);
+            return Err(StreamFailure);
         }
         let count = piece.len().min(self.step).min(free);
         self.bytes.extend_from_slice(&piece[..count]).unwrap();

@@ -10,7 +10,7 @@ ghost use Rattle.pls_base.specs.Streams.{HasCause};
 
 use crate::counter::Steps;
 use crate::pieces::is_due;
-use crate::streams::{Failed, Source};
+use crate::streams::{StreamFailure, Source};
 use crate::sure_source::SureSource;
 use std::marker::Model;
 
@@ -62,7 +62,7 @@ impl Source for MemSource {
 
     ghost faults = { λ s. s.faults };
 
-    fn read(&mut self, into: &mut [u8]) -> Result<usize, Failed>
+    fn read(&mut self, into: &mut [u8]) -> Result<usize, StreamFailure>
         ensures bound { ReadsAtMost result into.new }
         ensures bytes { ReadConsumes (Some self.old.left) (Some self.new.left) result into.new }
         ensures cause { HasCause self.old.faults self.new.faults result }
@@ -80,7 +80,7 @@ impl Source for MemSource {
         self.calls.tick();
         if due {
             self.faults.tick();
-            return Err(Failed);
+            return Err(StreamFailure);
         }
         Ok(self.rest.give(into, self.step))
     }

@@ -5,7 +5,7 @@ ghost use Rattle.std.specs.Io.KnownBytes.{Consumes, IsAtEnd, Keeps};
 ghost use Rattle.pls_base.specs.Streams.{HasCause, LosesAtMost, LosesFirst, Rose};
 ghost use Rattle.pls_base.specs.declared.reading.ReadError.TheVariants.{Fault as ReadFault, NoMemory as OutOfMemory};
 
-use crate::streams::{Failed, Source};
+use crate::streams::{StreamFailure, Source};
 use std::alloc::{AllocError, AllocFailed, Global};
 use thiserror::Error;
 
@@ -23,10 +23,10 @@ pub enum ReadError {
     NoMemory,
 }
 
-impl From<Failed> for ReadError {
+impl From<StreamFailure> for ReadError {
     ghost from_gives = { λ _ error. error ≡ ReadFault };
 
-    fn from(_: Failed) -> Self {
+    fn from(_: StreamFailure) -> Self {
         ReadError::Fault
     }
 }
@@ -92,7 +92,7 @@ fn read_piece<'a, S: Source>(
     source: &mut S,
     buffer: &'a mut [u8],
     most: usize,
-) -> Result<&'a [u8], Failed>
+) -> Result<&'a [u8], StreamFailure>
     ensures short { IfOk result (λ piece. length piece.now ≤ most) }
     ensures bytes { IfOk result (λ piece.
         Consumes (S.left source.old) (S.left source.new) piece.now) }

@@ -30,7 +30,7 @@ pub const EDIT: u8 = 30;
 /// An event names no node, no port of its node, or no emit before it.
 pub const EVENT: u8 = 40;
 
-/// The same, of an event of a round in which labels change.
+/// An event of a watch names no node, no port of its node, or no emit before it.
 pub const WATCH_EVENT: u8 = 41;
 
 /// A rule set names a field twice, names one that it does not have, or asks of a neighbour outside
@@ -40,8 +40,8 @@ pub const FIELD: u8 = 50;
 /// A rule is nested too deep.
 pub const DEPTH: u8 = 51;
 
-/// A label cannot be read, so that it has no other form.
-pub const UNREAD: u8 = 60;
+/// A label cannot be read, so that it is not converted.
+pub const UNREADABLE: u8 = 60;
 
 /// A network is no ring.
 pub const NO_RING: u8 = 70;

@@ -7,7 +7,7 @@ ghost use Rattle.pls_base.specs.Steps.{up_by};
 ghost use Rattle.pls_base.specs.Streams.{HasCause, StaysSure};
 
 use crate::counter::Steps;
-use crate::streams::{Failed, Sink, Source};
+use crate::streams::{StreamFailure, Sink, Source};
 use std::io::{Read, Write};
 use std::marker::Model;
 
@@ -46,7 +46,7 @@ impl<R: Read> Source for StdSource<R> {
 
     ghost faults = { λ s. s.faults };
 
-    fn read(&mut self, into: &mut [u8]) -> Result<usize, Failed>
+    fn read(&mut self, into: &mut [u8]) -> Result<usize, StreamFailure>
         ensures bound { ReadsAtMost result into.new }
         ensures bytes { ReadConsumes (R.remaining self.old.over) (R.remaining self.new.over) result
             into.new }
@@ -58,7 +58,7 @@ impl<R: Read> Source for StdSource<R> {
             Ok(count) => Ok(count),
             Err(_) => {
                 self.faults.tick();
-                Err(Failed)
+                Err(StreamFailure)
             }
         }
     }
@@ -109,7 +109,7 @@ impl<W: Write> Sink for StdSink<W> {
     // No std writer promises that a call succeeds.
     ghost IsSureOf = { λ _ _. ⊥ };
 
-    fn write(&mut self, piece: &[u8]) -> Result<usize, Failed>
+    fn write(&mut self, piece: &[u8]) -> Result<usize, StreamFailure>
         ensures bound { WritesAtMost result piece.now }
         ensures some { IfOk result (λ n. 0 < length piece.now → 0 < n) }
         ensures bytes { WriteAppends (W.contents self.old.over) (W.contents self.new.over) result
@@ -124,7 +124,7 @@ impl<W: Write> Sink for StdSink<W> {
             Ok(count) if count > 0 || piece.is_empty() => Ok(count),
             _ => {
                 self.faults.tick();
-                Err(Failed)
+                Err(StreamFailure)
             }
         }
     }

@@ -10,7 +10,7 @@ use thiserror::Error;
 /// One call on a source or a sink failed, and no byte was moved.
 #[derive(Clone, Copy, Debug, PartialEq, Eq, Error)]
 #[error("a read or a write failed")]
-pub struct Failed;
+pub struct StreamFailure;
 
 /// Gives bytes.
 pub trait Source {
@@ -21,9 +21,9 @@ pub trait Source {
     ghost faults: { Self → ℕ };
 
     /// Puts the next bytes into the front of `into` and answers how many: at most its length, and 0
-    /// for room that is not empty only at the end. `Failed` comes only where the count of faults
+    /// for room that is not empty only at the end. `StreamFailure` comes only where the count of faults
     /// rose in this call.
-    fn read(&mut self, into: &mut [u8]) -> Result<usize, Failed>
+    fn read(&mut self, into: &mut [u8]) -> Result<usize, StreamFailure>
         ensures bound { ReadsAtMost result into.new }
         ensures bytes { ReadConsumes (left self.old) (left self.new) result into.new }
         ensures cause { HasCause (faults self.old) (faults self.new) result };
@@ -41,9 +41,9 @@ pub trait Sink {
     ghost IsSureOf: { Self → ℕ → Type 0 };
 
     /// Takes the first bytes of `piece` and answers how many: at least one of a piece that is not
-    /// empty. `Failed` comes only where the count of faults rose in this call, and never for a
+    /// empty. `StreamFailure` comes only where the count of faults rose in this call, and never for a
     /// piece that the sink is sure of.
-    fn write(&mut self, piece: &[u8]) -> Result<usize, Failed>
+    fn write(&mut self, piece: &[u8]) -> Result<usize, StreamFailure>
         ensures bound { WritesAtMost result piece.now }
         ensures some { IfOk result (λ n. 0 < length piece.now → 0 < n) }
         ensures bytes { WriteAppends (taken self.old) (taken self.new) result piece.now }

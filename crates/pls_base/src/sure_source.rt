@@ -6,7 +6,7 @@ ghost use Rattle.std.specs.Io.KnownBytes.{ReadConsumes};
 ghost use Rattle.pls_base.specs.Streams.{HasCause};
 
 use crate::pieces::copy_front;
-use crate::streams::{Failed, Source};
+use crate::streams::{StreamFailure, Source};
 use std::marker::Model;
 
 /// Gives the bytes of a vector, as many in a call as there is room for, and never fails. It is
@@ -52,7 +52,7 @@ impl Source for SureSource {
 
     ghost faults = { λ _. 0 };
 
-    fn read(&mut self, into: &mut [u8]) -> Result<usize, Failed>
+    fn read(&mut self, into: &mut [u8]) -> Result<usize, StreamFailure>
         ensures bound { ReadsAtMost result into.new }
         ensures bytes { ReadConsumes (Some self.old) (Some self.new) result into.new }
         ensures cause { HasCause 0 0 result }

@@ -4,7 +4,7 @@ ghost use Rattle.std.specs.Prelude.{◌≤◌, ◌-◌, ℕ, length, OnErr, OnOk
 ghost use Rattle.std.specs.Io.KnownBytes.{Appends};
 ghost use Rattle.pls_base.specs.Streams.{AppendsPart, Rose, StaysSure};
 
-use crate::streams::{Failed, Sink};
+use crate::streams::{StreamFailure, Sink};
 use thiserror::Error;
 
 /// A run of writing met a write that failed.
@@ -29,7 +29,7 @@ pub fn write_all<K: Sink>(sink: &mut K, bytes: &[u8]) -> Result<(), Fault>
     while sent < bytes.len() {
         match sink.write(&bytes[sent..]) {
             Ok(count) => sent += count,
-            Err(Failed) => return Err(Fault),
+            Err(StreamFailure) => return Err(Fault),
         }
     }
     Ok(())

@@ -18,7 +18,7 @@ use Rattle.pls_facts.proofs.Pointed.{id_of_row}
 use Rattle.pls_facts.proofs.PortEdges.{IsGraph-network}
 use Rattle.pls_facts.proofs.Trees.{NoneReturns-IsTree}
 use Rattle.pls_boruvka.specs.declared.choice.Choice.{Choice}
-use Rattle.pls_boruvka.specs.declared.joining.Chosen.{Chosen}
+use Rattle.pls_boruvka.specs.declared.joining.ChosenEnd.{ChosenEnd}
 use Rattle.pls_boruvka.specs.declared.level.Level.{Level}
 use Rattle.pls_boruvka.specs.Boruvka.{AreChainLengths, AreLevelLists, AreBoruvkaLevels, AreBoruvkaLevelsFrom, chosen_edge, chosen_edges}
 use Rattle.pls_boruvka.specs.Fragments.{JoinedChainEnds}
@@ -199,7 +199,7 @@ module _ (rows : List NodeRow) (net : IsNetwork rows) where
     lighter_begun = lighter_where rows net is_tree begun.depth falls tops each within choices are
         some
 
-    module _ (all : List Chosen) (chosen : AreChosen rows tops choices all) where
+    module _ (all : List ChosenEnd) (chosen : AreChosen rows tops choices all) where
       pub children_begun : AreChildrenWithin (length flags) all
       children_begun = subst (λ (size : ℕ). AreChildrenWithin size all) (sym begun.sized)
           (children_within rows net is_tree begun.depth falls tops each within choices are some all

@@ -2,12 +2,12 @@
 use Rattle.std.proofs.Common.{◌≡◌, ◌∙◌, ℕ, ◌<◌, List, Vec, Global, Some, map, length, get_or, slice_get, option_map, refl, ap, arith}
 use Rattle.std.proofs.lemmas.List.{length-map}
 use Rattle.std.proofs.lemmas.Option.{slice_get_read, slice_get-map}
-use Rattle.pls_boruvka.specs.declared.joining.Chosen.{Chosen}
+use Rattle.pls_boruvka.specs.declared.joining.ChosenEnd.{ChosenEnd}
 use Rattle.pls_boruvka.specs.declared.level.Level.{Level}
 use Rattle.pls_boruvka.specs.inner.Chosen.{no_chosen, said_at}
 
 -- the level of a number is what the round of that number says
-pub said_at-round : (rounds : List (Vec Chosen Global)) (place number : ℕ) (all : Vec Chosen Global)
+pub said_at-round : (rounds : List (Vec ChosenEnd Global)) (place number : ℕ) (all : Vec ChosenEnd Global)
     → number < length (said_at (map (λ all. all.items) rounds) place)
     → all ≡ get_or rounds number all
     → slice_get (said_at (map (λ all. all.items) rounds) place) number
@@ -17,10 +17,10 @@ said_at-round rounds place number all within is =
     (slice_get-map items rounds number ∙ ap (option_map items)
     (slice_get_read rounds (length rounds) number all refl here is))
   where
-    items : Vec Chosen Global → List Chosen
+    items : Vec ChosenEnd Global → List ChosenEnd
     items all = all.items
 
-    say : List Chosen → Level
+    say : List ChosenEnd → Level
     say all = (get_or all place no_chosen).level
 
     here : number < length rounds

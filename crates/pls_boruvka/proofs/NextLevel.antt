@@ -21,7 +21,7 @@ use Rattle.pls_facts.proofs.NamedPlaces.{place_named}
 use Rattle.pls_facts.proofs.Pointed.{id_of_row}
 use Rattle.pls_facts.proofs.PortEdges.{IsGraph-network}
 use Rattle.pls_boruvka.specs.declared.choice.Choice.{Choice}
-use Rattle.pls_boruvka.specs.declared.joining.Chosen.{Chosen}
+use Rattle.pls_boruvka.specs.declared.joining.ChosenEnd.{ChosenEnd}
 use Rattle.pls_boruvka.specs.declared.level.Level.{Level}
 use Rattle.pls_boruvka.specs.Boruvka.{IsLevelOf, chosen_edge, chosen_edges}
 use Rattle.pls_boruvka.specs.Fragments.{JoinedChainEnds}
@@ -88,8 +88,8 @@ module _ (rows : List NodeRow) (net : IsNetwork rows) (is_tree : IsTree rows) (d
           subst (IsChildOf rows (edge_of first))
           (ap (λ (choice : Choice). choice.child) (sym same) ∙ none) child
 
-  module _ (all : List Chosen) (chosen : AreChosen rows tops choices all) where
-    abbrev blank : Chosen
+  module _ (all : List ChosenEnd) (chosen : AreChosen rows tops choices all) where
+    abbrev blank : ChosenEnd
     blank = record {
       level = record { fragment = 0; weight = 0; a = 0; b = 0 };
       child = 0;
@@ -160,7 +160,7 @@ module _ (rows : List NodeRow) (net : IsNetwork rows) (is_tree : IsTree rows) (d
         let (child, there, points) : (child : NodeRow)
         × (slice_get rows (child_of row.id) ≡ Some child)
         × (pointed_edge child ≡ Some (chosen_edge (level_of row.id))) = (right row.id in').child in
-        let same = ap (λ (one : Chosen). one.child) is in
+        let same = ap (λ (one : ChosenEnd). one.child) is in
         omega (arith, same, slice_get_within rows (child_of row.id) child there)
 
     module _ (flags : List Bool) (joined : List Edge) (marked : AreFlags rows flags joined)
@@ -204,7 +204,7 @@ module _ (rows : List NodeRow) (net : IsNetwork rows) (is_tree : IsTree rows) (d
           let (place', stands') : (place : ℕ) × (slice_get rows place ≡ Some row) =
           place_from_Contains rows row row_in in
           let spot : child_of from.id ≡ place' =
-          ap (λ (one : Chosen). one.child) same ∙ is ∙ place_named rows net place' row stands' in
+          ap (λ (one : ChosenEnd). one.child) same ∙ is ∙ place_named rows net place' row stands' in
           let one_row : child ≡ row =
           same_Some child row (sym there ∙ ap (slice_get rows) spot ∙ stands') in
           let edge_is : chosen_edge (level_of from.id) ≡ edge =

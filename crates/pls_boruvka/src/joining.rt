@@ -12,7 +12,7 @@ use std::alloc::Global;
 // What a level says of a node, and the place of the end of its chosen edge that points at the
 // other.
 #[derive(Drop)]
-pub(crate) struct Chosen {
+pub(crate) struct ChosenEnd {
     pub(crate) level: ShortLevel,
     pub(crate) child: u32,
 }
@@ -23,7 +23,7 @@ pub(crate) fn chosen_of(
     net: &Network,
     tops: &[u32],
     choices: &[Option<Choice>],
-) -> Result<Option<Vec<Chosen>>, NoMemory>
+) -> Result<Option<Vec<ChosenEnd>>, NoMemory>
     requires each { length tops.now ≡ length net.now }
     requires choices { length choices.now ≡ length net.now }
     requires within { All (λ top. top < length net.now) tops.now }
@@ -42,7 +42,7 @@ pub(crate) fn chosen_of(
     Ok(Some(all))
 }
 
-fn chosen_at(net: &Network, top: usize, choice: Option<Choice>) -> Option<Chosen>
+fn chosen_at(net: &Network, top: usize, choice: Option<Choice>) -> Option<ChosenEnd>
     requires within { top < length net.now }
     ensures chosen { IfSome result (λ chosen. IsChosen net.now top choice chosen) }
     ensures unpointed { IfNone result (IsUnpointed choice) }
@@ -50,10 +50,10 @@ fn chosen_at(net: &Network, top: usize, choice: Option<Choice>) -> Option<Chosen
     let choice = choice?;
     let child = choice.child?;
     let level = ShortLevel::of(net.node(top).0, choice.weight, choice.a, choice.b);
-    Some(Chosen { level, child })
+    Some(ChosenEnd { level, child })
 }
 
-pub(crate) fn join(joined: &mut [bool], all: &[Chosen])
+pub(crate) fn join(joined: &mut [bool], all: &[ChosenEnd])
     requires within { AreChildrenWithin (length joined.old) all.now }
     ensures { JoinChildren all.now (length all.now) joined.old joined.new }
 {

@@ -1,6 +1,7 @@
 //! What a node has on a level.
 
-/// What a node has on one level: its fragment, and the edge that the fragment chose.
+/// What a node has on one level of a run of Borůvka: its fragment, which is a connected part of the
+/// tree so far, and the lightest edge out of the fragment, by which it joins another.
 #[derive(Clone, Copy, Debug, PartialEq, Eq)]
 pub struct Level {
     /// The fragment, by the identity of its node of least depth.

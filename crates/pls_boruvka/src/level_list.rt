@@ -3,7 +3,7 @@
 ghost use Rattle.std.specs.Prelude.{◌≡◌, ◌<◌, length, map, slice_get, slice_index_or, Some};
 ghost use Rattle.pls_boruvka.specs.inner.Chosen.{no_chosen, said_at};
 
-use crate::joining::Chosen;
+use crate::joining::ChosenEnd;
 use crate::level::Level;
 use std::marker::Model;
 use std::rc::Rc;
@@ -19,7 +19,7 @@ pub struct LevelList {
 #[derive(Drop)]
 pub(crate) enum KeptLevels {
     Own(Vec<Level>),
-    Shared(Rc<Vec<Vec<Chosen>>>, usize),
+    Shared(Rc<Vec<Vec<ChosenEnd>>>, usize),
 }
 
 impl Model for LevelList {
@@ -42,7 +42,7 @@ impl LevelList {
         }
     }
 
-    pub(crate) fn of_rounds(rounds: Rc<Vec<Vec<Chosen>>>, place: usize) -> LevelList
+    pub(crate) fn of_rounds(rounds: Rc<Vec<Vec<ChosenEnd>>>, place: usize) -> LevelList
         ensures { result ≡ said_at (map (λ all. all.items) rounds.value.items) place }
     {
         LevelList {
@@ -73,7 +73,7 @@ impl LevelList {
 }
 
 // All zeros where the round says nothing of the place.
-fn said_of(all: &[Chosen], place: usize) -> Level
+fn said_of(all: &[ChosenEnd], place: usize) -> Level
     ensures { result ≡ (slice_index_or all.now place no_chosen).level }
 {
     match all.get(place) {

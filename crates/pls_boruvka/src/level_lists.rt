@@ -3,7 +3,7 @@
 ghost use Rattle.std.specs.Prelude.{◌≡◌, ◌<◌, length, map, slice_get, IfOk, Some};
 ghost use Rattle.pls_boruvka.specs.inner.Chosen.{levels_said};
 
-use crate::joining::Chosen;
+use crate::joining::ChosenEnd;
 use crate::level_list::LevelList;
 use pls_base::NoMemory;
 use std::alloc::Global;
@@ -14,7 +14,7 @@ use std::rc::Rc;
 #[derive(Drop)]
 pub struct LevelLists {
     // What each round said of every node.
-    rounds: Rc<Vec<Vec<Chosen>>>,
+    rounds: Rc<Vec<Vec<ChosenEnd>>>,
     // How many nodes there are.
     count: usize,
 }
@@ -33,7 +33,7 @@ impl LevelLists {
     // `count` is the number of nodes.
     pub(crate) fn of_rounds(
         alloc: Global,
-        rounds: Vec<Vec<Chosen>>,
+        rounds: Vec<Vec<ChosenEnd>>,
         count: usize,
     ) -> Result<LevelLists, NoMemory>
         ensures { IfOk result (λ lists.

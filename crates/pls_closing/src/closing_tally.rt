@@ -2,7 +2,7 @@
 
 use crate::closing_line::{ClosingLine, OwnLine};
 use pls_base::NoMemory;
-use pls_lines::{Headed, HeadingWord, Keep, ListTally};
+use pls_lines::{BareHeading, HeadingWord, Keep, ListTally};
 use std::alloc::Global;
 use std::marker::PhantomData;
 
@@ -30,7 +30,7 @@ impl<'a, W: HeadingWord, K: ClosingLine<'a>> ListTally<'a> for ClosingTally<W, K
     ghost use Rattle.pls_closing.specs.Closing.{AreClosed, closing_of, is_closed};
     ghost use Rattle.pls_closing.specs.laws.ClosedLists.{closed_list};
 
-    type Heading = Headed<W>;
+    type Heading = BareHeading<W>;
 
     type Item = K;
 

@@ -6,7 +6,7 @@ ghost use Rattle.pls_scheme.specs.Reading.{port_with};
 
 use pls_bits::NumCode;
 use pls_model::State;
-use pls_scheme::{Fixed, Judgement, OfNumbers, Ruled, Rules, Verdict, is_one_more, judged_from};
+use pls_scheme::{NumbersFormat, Judgement, OfNumbers, RuleScheme, Rules, Verdict, is_one_more, judged_from};
 use std::marker::PhantomData;
 
 /// What a label says.
@@ -39,19 +39,19 @@ impl OfNumbers<1> for CycleLabel {
 }
 
 /// The scheme of networks without cycle, whose labels are written in the number code `C`.
-pub type Acyclic<C> = Ruled<AcyclicRules<C>>;
+pub type Acyclic<C> = RuleScheme<AcyclicRules<C>>;
 
 /// The rules of networks without cycle.
 #[derive(Clone, Copy, Debug, PartialEq, Eq)]
 pub struct AcyclicRules<C> {
-    format: Fixed<CycleLabel, 1>,
+    format: NumbersFormat<CycleLabel, 1>,
     code: PhantomData<C>,
 }
 
 impl<C> Default for AcyclicRules<C> {
     fn default() -> Self {
         AcyclicRules {
-            format: Fixed::default(),
+            format: NumbersFormat::default(),
             code: PhantomData,
         }
     }
@@ -62,13 +62,13 @@ impl<C: NumCode> Judgement for AcyclicRules<C> {
 
     type Code = C;
 
-    type Format = Fixed<CycleLabel, 1>;
+    type Format = NumbersFormat<CycleLabel, 1>;
 
     ghost format = { λ s. s.format };
 
     ghost rules = { λ _. acyclic_rules };
 
-    fn format(&self) -> &Fixed<CycleLabel, 1> {
+    fn format(&self) -> &NumbersFormat<CycleLabel, 1> {
         &self.format
     }
 }

@@ -6,12 +6,12 @@ ghost use Rattle.pls_facts.specs.Bipartite.{differ};
 use crate::colour_format::{ColourFormat, ColourLabel};
 use pls_bits::{Gamma, NumCode};
 use pls_model::State;
-use pls_scheme::{Judgement, Ruled, Rules, Verdict, judged_from};
+use pls_scheme::{Judgement, RuleScheme, Rules, Verdict, judged_from};
 use std::marker::PhantomData;
 
 /// The scheme of two-colourings. A label is one bit, the node's colour, in whatever number code `C`
 /// the labels of other schemes are.
-pub type Bipartite<C = Gamma> = Ruled<BipartiteRules<C>>;
+pub type Bipartite<C = Gamma> = RuleScheme<BipartiteRules<C>>;
 
 /// The rules of two-colourings.
 #[derive(Clone, Copy, Debug, PartialEq, Eq)]

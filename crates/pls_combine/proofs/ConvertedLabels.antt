@@ -3,7 +3,7 @@ use Rattle.std.proofs.Common.{◌≡◌, ◌∙◌, ℕ, zero, suc, ◌+◌, ◌
 use Rattle.std.specs.Option.{unwrap_or}
 use Rattle.std.proofs.lemmas.List.{get_or-take, map-append, take-append-drop, take_all, take_more, take_more_set}
 use Rattle.std.proofs.lemmas.Option.{get_or_from_slice_get, same_Some, slice_get-get_or, slice_get-map, slice_get_read, slice_get_within}
-use Rattle.pls_combine.specs.Converted.{all_converted, first_unread}
+use Rattle.pls_combine.specs.Converted.{all_converted, first_unreadable}
 
 -- a front with one item more
 next_front : {X : Type 0} (xs : List X) (i : ℕ) (x : X) → i < length xs → slice_get xs i ≡ Some x
@@ -24,32 +24,32 @@ raised_once_more (Some p) n m same = ap (λ (k : ℕ). Some k) (omega arith)
 
 module _ (to : List Bool → Option (List Bool)) where
   -- behind labels that can be read, the others decide
-  unread_behind : (front back : List (List Bool)) → first_unread to front ≡ None
-      → first_unread to (front ++ back)
-      ≡ option_map (λ place. place + length front) (first_unread to back)
-  unread_behind [] back none = raised_by_none (first_unread to back)
+  unread_behind : (front back : List (List Bool)) → first_unreadable to front ≡ None
+      → first_unreadable to (front ++ back)
+      ≡ option_map (λ place. place + length front) (first_unreadable to back)
+  unread_behind [] back none = raised_by_none (first_unreadable to back)
   unread_behind (bits ∷ front) back none =
-      by (is_some (to bits)) (first_unread to front) (λ later. unread_behind front back later) none
+      by (is_some (to bits)) (first_unreadable to front) (λ later. unread_behind front back later) none
     where
       by : (some : Bool) (found : Option ℕ)
-          → (found ≡ None → first_unread to (front ++ back)
-          ≡ option_map (λ place. place + length front) (first_unread to back))
+          → (found ≡ None → first_unreadable to (front ++ back)
+          ≡ option_map (λ place. place + length front) (first_unreadable to back))
           → (if some then option_map (λ place. place + 1) found else Some 0) ≡ None
-          → (if some then option_map (λ place. place + 1) (first_unread to (front ++ back))
+          → (if some then option_map (λ place. place + 1) (first_unreadable to (front ++ back))
           else Some 0)
-          ≡ option_map (λ place. place + length (bits ∷ front)) (first_unread to back)
+          ≡ option_map (λ place. place + length (bits ∷ front)) (first_unreadable to back)
       by true None later none =
           ap (option_map (λ place. place + 1)) (later refl)
-          ∙ raised_once_more (first_unread to back) (length front) (length (bits ∷ front))
+          ∙ raised_once_more (first_unreadable to back) (length front) (length (bits ∷ front))
           (omega arith)
       by true (Some place) later none = absurd (cc)
       by false found later none = absurd (cc)
 
   module _ (labels : List (List Bool)) (place : ℕ) (bits : List Bool)
       (within : place < length labels) (at : slice_get labels place ≡ Some bits)
-      (front : first_unread to (take place labels) ≡ None) where
+      (front : first_unreadable to (take place labels) ≡ None) where
     -- a label that cannot be read, behind others that can
-    pub unread_here : to bits ≡ None → Some place ≡ first_unread to labels
+    pub unread_here : to bits ≡ None → Some place ≡ first_unreadable to labels
     unread_here none =
         let rest : List (List Bool) = drop (place + 1) labels in
         let cut : labels ≡ take place labels ++ bits ∷ rest =
@@ -58,18 +58,18 @@ module _ (to : List Bool → Option (List Bool)) where
         ∙ append_assoc (take place labels) (bits ∷ []) rest in
         let many : 0 + length (take place labels) ≡ place =
         omega (arith, length-take place labels, within) in
-        let here : first_unread to (bits ∷ rest) ≡ Some 0 = rw none refl in
-        sym (ap (first_unread to) cut
+        let here : first_unreadable to (bits ∷ rest) ≡ Some 0 = rw none refl in
+        sym (ap (first_unreadable to) cut
         ∙ unread_behind (take place labels) (bits ∷ rest) front
         ∙ ap (option_map (λ p. p + length (take place labels))) here
         ∙ ap (λ (n : ℕ). Some n) many)
 
     module _ (new : List Bool) (is : to bits ≡ Some new) where
       -- one label more that can be read
-      pub one_read_more : first_unread to (take (place + 1) labels) ≡ None
+      pub one_read_more : first_unreadable to (take (place + 1) labels) ≡ None
       one_read_more =
-          let here : first_unread to (bits ∷ []) ≡ None = rw is refl in
-          ap (first_unread to) (next_front labels place bits within at)
+          let here : first_unreadable to (bits ∷ []) ≡ None = rw is refl in
+          ap (first_unreadable to) (next_front labels place bits within at)
           ∙ unread_behind (take place labels) (bits ∷ []) front
           ∙ ap (option_map (λ p. p + length (take place labels))) here
 
@@ -89,9 +89,9 @@ module _ (to : List Bool → Option (List Bool)) where
 
   -- where all can be read, all were put
   pub none_unread : (labels : List (List Bool)) (count : ℕ) → length labels ≡ count
-      → first_unread to (take count labels) ≡ None → None ≡ first_unread to labels
+      → first_unreadable to (take count labels) ≡ None → None ≡ first_unreadable to labels
   none_unread labels count all none =
-      sym (ap (first_unread to) (sym (take_all count labels (omega (arith, all)))) ∙ none)
+      sym (ap (first_unreadable to) (sym (take_all count labels (omega (arith, all)))) ∙ none)
 
   pub all_made : (labels store : List (List Bool)) (count : ℕ) → length labels ≡ count
       → length store ≡ count → take count store ≡ all_converted to (take count labels)
@@ -113,11 +113,11 @@ item_of_front {X} xs count i x below at =
 module _ (to : List Bool → Option (List Bool)) where
   -- where all labels can be read, each can
   each_read : (labels : List (List Bool)) (place : ℕ) (bits : List Bool)
-      → first_unread to labels ≡ None → slice_get labels place ≡ Some bits
+      → first_unreadable to labels ≡ None → slice_get labels place ≡ Some bits
       → is_some (to bits) ≡ true
   each_read [] place bits none at = absurd (cc)
   each_read (label ∷ labels) place bits none at =
-      by (is_some (to label)) (first_unread to labels) refl
+      by (is_some (to label)) (first_unreadable to labels) refl
       (λ later place at. each_read labels place bits later at) place none at
     where
       by : (some : Bool) (found : Option ℕ) → is_some (to label) ≡ some
@@ -133,7 +133,7 @@ module _ (to : List Bool → Option (List Bool)) where
 
   -- what a label became that stands before a place up to which all were converted
   pub made_before : (labels store : List (List Bool)) (place before : ℕ) (old new : List Bool)
-      → before < place → first_unread to (take place labels) ≡ None
+      → before < place → first_unreadable to (take place labels) ≡ None
       → take place store ≡ all_converted to (take place labels)
       → slice_get labels before ≡ Some old → slice_get store before ≡ Some new
       → to old ≡ Some new

@@ -44,7 +44,7 @@ abbrev pub all_converted : (List Bool → Option (List Bool)) → List (List Boo
 all_converted to labels = map (λ bits. unwrap_or (to bits) []) labels
 
 -- the place of the first label that becomes nothing
-abbrev pub first_unread : (List Bool → Option (List Bool)) → List (List Bool) → Option ℕ
-first_unread to [] = None
-first_unread to (bits ∷ labels) =
-    if is_some (to bits) then option_map (λ place. place + 1) (first_unread to labels) else Some 0
+abbrev pub first_unreadable : (List Bool → Option (List Bool)) → List (List Bool) → Option ℕ
+first_unreadable to [] = None
+first_unreadable to (bits ∷ labels) =
+    if is_some (to bits) then option_map (λ place. place + 1) (first_unreadable to labels) else Some 0

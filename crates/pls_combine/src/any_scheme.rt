@@ -13,7 +13,7 @@ use pls_bits::{BitBuf, Bits, NumCode};
 use pls_expressions::{ExpressionTree, decide_tree};
 use pls_graph::{Network, Size};
 use pls_model::Verdict;
-use pls_names::{Named, SchemeName};
+use pls_names::{SchemeByName, SchemeName};
 use pls_scheme::{Checker, Property, Scheme};
 use pls_view::{LabelStore, Labels, View};
 use std::alloc::Global;
@@ -126,7 +126,7 @@ impl<C: NumCode> Checker for AnyScheme<C> {
         steps: &mut Steps,
     ) -> Result<Vec<Verdict>, NoMemory> {
         match self.tree() {
-            ExpressionTree::Of(name) => Named::<C>::new(*name).round(alloc, net, labels, steps),
+            ExpressionTree::Of(name) => SchemeByName::<C>::new(*name).round(alloc, net, labels, steps),
             ExpressionTree::And(_, _) | ExpressionTree::Or(_, _) => {
                 round_of::<C, L>(alloc, self.tree(), net, labels, steps)
             }

@@ -4,13 +4,13 @@ ghost use Rattle.std.specs.Prelude.{◌≡◌, ◌<◌, ℕ, Bool, true, List, O
 ghost use Rattle.pls_numbers.specs.Shape.{recoded};
 ghost use Rattle.pls_universal.specs.Reading.{map_shape};
 ghost use Rattle.pls_expressions.specs.Held.{expression_of};
-ghost use Rattle.pls_combine.specs.Converted.{all_converted, converted, first_unread};
+ghost use Rattle.pls_combine.specs.Converted.{all_converted, converted, first_unreadable};
 
 use crate::any_scheme::AnyScheme;
 use pls_base::NoMemory;
 use pls_bits::{BitBuf, Bits, NumCode};
 use pls_expressions::ExpressionTree;
-use pls_names::Named;
+use pls_names::SchemeByName;
 use pls_numbers::recode;
 use pls_parts::{joined_bits, parts, tagged_bits};
 use pls_universal::{MapFormat, recode_beside};
@@ -42,7 +42,7 @@ impl<C: NumCode> AnyScheme<C> {
     ) -> Result<Option<usize>, NoMemory>
         requires { length into.old ≡ length labels.now }
         ensures place { IfOk result (λ place.
-            place ≡ first_unread (converted C.takes D.code self.now) labels.now) }
+            place ≡ first_unreadable (converted C.takes D.code self.now) labels.now) }
         ensures within { IfOk result (λ place. IfSome place (λ place. place < length labels.now)) }
         ensures all { IfOk result (λ place. place ≡ None
             → into.new ≡ all_converted (converted C.takes D.code self.now) labels.now) }
@@ -66,7 +66,7 @@ impl<C: NumCode> AnyScheme<C> {
     ) -> Result<Option<BitBuf>, NoMemory>
         requires within { place < length labels.now }
         requires each { length into.now ≡ length labels.now }
-        requires read { first_unread (converted C.takes D.code self.now) (take place labels.now)
+        requires read { first_unreadable (converted C.takes D.code self.now) (take place labels.now)
             ≡ None }
         requires made { take place into.now
             ≡ all_converted (converted C.takes D.code self.now) (take place labels.now) }
@@ -101,7 +101,7 @@ fn convert_tree<C: NumCode, D: NumCode>(
         (λ found. found ≡ converted C.takes D.code (expression_of tree.now) bits.now) }
 {
     match tree {
-        ExpressionTree::Of(name) => Named::<C>::new(*name).convert_label::<D>(alloc, bits),
+        ExpressionTree::Of(name) => SchemeByName::<C>::new(*name).convert_label::<D>(alloc, bits),
         ExpressionTree::And(first, second) => {
             let Some((front, back)) = parts::<C>(bits) else {
                 return Ok(None);

@@ -13,7 +13,7 @@ use pls_bits::NumCode;
 use pls_expressions::ExpressionTree;
 use pls_graph::Network;
 use pls_model::Verdict;
-use pls_names::Named;
+use pls_names::SchemeByName;
 use pls_parts::{both_verdicts, lend_all, one_of_verdicts, part_all, rests_of, some_true, tags_of};
 use pls_scheme::Checker;
 use pls_view::{Labels, LentLabels};
@@ -66,7 +66,7 @@ fn round_tree<C: NumCode>(
     }
     let verdicts = match tree {
         ExpressionTree::Of(name) => {
-            Named::<C>::new(*name).round(alloc, net, labels, &mut Steps::new())?
+            SchemeByName::<C>::new(*name).round(alloc, net, labels, &mut Steps::new())?
         }
         ExpressionTree::And(first, second) => {
             let parted = part_all::<C>(alloc, labels)?;

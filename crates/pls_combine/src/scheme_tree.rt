@@ -15,7 +15,7 @@ use pls_expressions::{ExpressionTree, LentProperty};
 use pls_facts::is_valid;
 use pls_graph::{Network, Size};
 use pls_model::Verdict;
-use pls_names::Named;
+use pls_names::SchemeByName;
 use pls_parts::{
     FirstPart, Rest, SecondPart, joined_bound, joined_labels, lacks_parts, own_tag, raised,
     tagged_bound, tagged_labels,
@@ -70,7 +70,7 @@ pub(crate) fn verify_tree<C: NumCode>(
         → IsOk result }
 {
     match tree {
-        ExpressionTree::Of(name) => Named::<C>::new(*name).verify(alloc, view, &mut Steps::new()),
+        ExpressionTree::Of(name) => SchemeByName::<C>::new(*name).verify(alloc, view, &mut Steps::new()),
         ExpressionTree::And(first, second) => {
             if let Some(verdict) = lacks_parts::<C>(view) {
                 return Ok(verdict);
@@ -107,7 +107,7 @@ pub(crate) fn bound_of<C: NumCode>(tree: &ExpressionTree, size: &Size) -> u64
     ensures { result ≡ capped (longest_of C.code (expression_of tree.now) size.now) }
 {
     match tree {
-        ExpressionTree::Of(name) => Named::<C>::new(*name).bound(size),
+        ExpressionTree::Of(name) => SchemeByName::<C>::new(*name).bound(size),
         ExpressionTree::And(first, second) => {
             joined_bound::<C>(bound_of::<C>(first, size), bound_of::<C>(second, size))
         }
@@ -139,7 +139,7 @@ pub(crate) fn mark_tree<C: NumCode>(
         ≤ capped (longest_of C.code (expression_of tree.now) (size_of net.now))) labels)) }
 {
     match tree {
-        ExpressionTree::Of(name) => Named::<C>::new(*name).mark(alloc, net),
+        ExpressionTree::Of(name) => SchemeByName::<C>::new(*name).mark(alloc, net),
         ExpressionTree::And(first, second) => {
             let Some(fronts) = mark_tree::<C>(alloc, first, net)? else {
                 return Ok(None);

@@ -13,7 +13,8 @@ items_at items places = filter_map (slice_get items) places
 abbrev pub NumbersRise : List ℕ → Type 0
 NumbersRise numbers = AllPairs (λ number later. number < later) numbers
 
--- there are nodes at the places i and j, and a walk from the one to the other
+-- nodes stand at the places i and j of the rows, and a walk along edges leads from the one to the
+-- other
 pub record AreJoinedAt (rows : List NodeRow) (i j : ℕ) : Type 0 where
   pub one : NodeRow
   pub other : NodeRow
@@ -21,11 +22,11 @@ pub record AreJoinedAt (rows : List NodeRow) (i j : ℕ) : Type 0 where
   pub here : slice_get rows j ≡ Some other
   pub walk : AreJoined (edges_of rows) one.id other.id
 
--- these are the places of one component, rising: those of all nodes that a walk joins to one of them,
--- and of no other
+-- the places, rising, of one connected component: with some node of it exactly the nodes that a walk
+-- joins to that one
 pub record IsComponent (rows : List NodeRow) (places : List ℕ) : Type 0 where
   pub rising : NumbersRise places
-  -- one of the places
+  -- the place of that node
   pub node : ℕ
   pub own : Contains places node
   pub members : (place : ℕ) → Contains places place ↔ AreJoinedAt rows node place

@@ -9,8 +9,8 @@ use Rattle.pls_graph.specs.Size.{greatest, size_of}
 use Rattle.pls_view.specs.Seen.{Seen, views}
 use Rattle.pls_scheme.specs.Judging.{AllAccept}
 use Rattle.pls_components.specs.Components.{FitsInEach, HasInEach, IsComponent, NumbersRise, items_at, least_id}
-use Rattle.pls_components.specs.declared.marked.Marked.{Marked}
-use Rattle.pls_components.specs.declared.marked.Marked.TheVariants.{Labels, Lacking}
+use Rattle.pls_components.specs.declared.mark_result.MarkResult.{MarkResult}
+use Rattle.pls_components.specs.declared.mark_result.MarkResult.TheVariants.{Labels, Lacking}
 
 -- the nodes at these places accept what they see in the whole network
 abbrev pub AcceptAt : (Seen → Verdict) → List NodeRow → List (List Bool) → List ℕ → Type 0
@@ -50,12 +50,12 @@ pub record AreShown (holds : List NodeRow → Type 0)
   pub short : FitsInEach (AreWithinBound longest) rows labels
 
 -- what is said of the labels, where the marking came to labels
-abbrev pub IfLabels : (List (List Bool) → Type 0) → Marked → Type 0
+abbrev pub IfLabels : (List (List Bool) → Type 0) → MarkResult → Type 0
 IfLabels shown (Labels labels) = shown labels
 IfLabels shown (Lacking ids) = ⊤
 
 -- what is said of the identities, where some components lack the property
-abbrev pub IfLacking : (List ℕ → Type 0) → Marked → Type 0
+abbrev pub IfLacking : (List ℕ → Type 0) → MarkResult → Type 0
 IfLacking lacking (Labels labels) = ⊤
 IfLacking lacking (Lacking ids) = lacking ids
 

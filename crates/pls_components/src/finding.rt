@@ -8,7 +8,7 @@ use crate::buckets::buckets_of;
 use crate::component_list::{Components, Span};
 use crate::flood::{all_numbers, number_all};
 use pls_base::NoMemory;
-use pls_graph::{Network, connected};
+use pls_graph::{Network, node_apart};
 use std::alloc::Global;
 
 /// The components of a network, in the order of their smallest identities. It takes time in nodes
@@ -17,7 +17,7 @@ use std::alloc::Global;
 pub fn components(alloc: Global, net: &Network) -> Result<Components, NoMemory>
     ensures { IfOk result (λ parts. AreComponents net.now parts) }
 {
-    match connected(alloc, net)? {
+    match node_apart(alloc, net)? {
         None => one_component(alloc, net),
         Some(_) => several_components(alloc, net),
     }

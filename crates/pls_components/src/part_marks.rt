@@ -7,7 +7,7 @@ ghost use Rattle.pls_components.specs.inner.Marking.{ArePutAt, IsPartMarked, roo
 
 use crate::component_list::Components;
 use crate::id_list::IdList;
-use crate::marked::Marked;
+use crate::mark_result::MarkResult;
 use pls_base::NoMemory;
 use pls_graph::Network;
 use pls_scheme::Scheme;
@@ -26,7 +26,7 @@ pub fn mark_parts<S: Scheme>(
     scheme: &S,
     net: &Network,
     parts: &Components,
-) -> Result<Marked, NoMemory>
+) -> Result<MarkResult, NoMemory>
     requires { AreComponents net.now parts.now }
     ensures labels { IfOk result (IfLabels (AreShown (S.holds scheme.now) (S.marked scheme.now)
         (S.judge scheme.now) (S.longest scheme.now) net.now)) }
@@ -46,9 +46,9 @@ pub fn mark_parts<S: Scheme>(
         }
     }
     if ids.is_empty() {
-        return Ok(Marked::Labels(labels));
+        return Ok(MarkResult::Labels(labels));
     }
-    Ok(Marked::Lacking(IdList { ids }))
+    Ok(MarkResult::Lacking(IdList { ids }))
 }
 
 fn mark_whole<S: Scheme>(
@@ -56,7 +56,7 @@ fn mark_whole<S: Scheme>(
     scheme: &S,
     net: &Network,
     parts: &Components,
-) -> Result<Marked, NoMemory>
+) -> Result<MarkResult, NoMemory>
     requires made { AreComponents net.now parts.now }
     requires one { length parts.now ≡ 1 }
     ensures labels { IfOk result (IfLabels (AreShown (S.holds scheme.now) (S.marked scheme.now)
@@ -66,8 +66,8 @@ fn mark_whole<S: Scheme>(
     // A network is valid.
     net.len();
     match scheme.mark(alloc, net)? {
-        Some(labels) => Ok(Marked::Labels(labels)),
-        None => Ok(Marked::Lacking(one_id(alloc, net.node(0).0)?)),
+        Some(labels) => Ok(MarkResult::Labels(labels)),
+        None => Ok(MarkResult::Lacking(one_id(alloc, net.node(0).0)?)),
     }
 }
 

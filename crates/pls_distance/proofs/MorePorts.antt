@@ -11,7 +11,7 @@ use Rattle.pls_pointer.specs.declared.tree.TreeLabel.{TreeLabel}
 use Rattle.pls_scheme.specs.Reading.{has_number}
 use Rattle.pls_pointer.specs.declared.tree.TreeLabel.{TreeLabel}
 use Rattle.pls_distance.specs.declared.spt.SptLabel.{SptLabel}
-use Rattle.pls_distance.specs.declared.gathering.Gathered.{Gathered}
+use Rattle.pls_distance.specs.declared.gathering.PortTally.{PortTally}
 use Rattle.pls_distance.specs.Spt.{agrees_on_its_root, is_beyond_target, is_nearest, is_reached_by, tree_port}
 use Rattle.pls_distance.specs.inner.Gathering.{spt_tally}
 
@@ -70,7 +70,7 @@ module _ (id : ℕ) (state : State) (own : SptLabel) (ports : List (ReadPort Spt
       by false = sym (follows_both ports)
 
   -- what is gathered with one more port
-  pub is_gathered : (before_it after_it : Gathered) → before_it ≡ spt_tally before
+  pub is_gathered : (before_it after_it : PortTally) → before_it ≡ spt_tally before
       → after_it.own ≡ before_it.own
       → after_it.agrees ≡ (before_it.agrees && (port.label.root == before_it.own.root))
       → after_it.follows ≡ (if is_pointer state.up (length ports)
@@ -81,16 +81,16 @@ module _ (id : ℕ) (state : State) (own : SptLabel) (ports : List (ReadPort Spt
       → after_it ≡ spt_tally after
   is_gathered before_it after_it is own_is agrees_is follows_is nearest_is =
       four after_it (spt_tally after)
-      (own_is ∙ ap (λ (it : Gathered). it.own) is)
-      (agrees_is ∙ ap (λ (it : Gathered). it.agrees && (port.label.root == it.own.root)) is
+      (own_is ∙ ap (λ (it : PortTally). it.own) is)
+      (agrees_is ∙ ap (λ (it : PortTally). it.agrees && (port.label.root == it.own.root)) is
       ∙ sym agrees_more)
-      (follows_is ∙ ap (λ (it : Gathered). if is_pointer state.up (length ports)
+      (follows_is ∙ ap (λ (it : PortTally). if is_pointer state.up (length ports)
       then (it.own.depth == port.label.depth + 1
       && it.own.dist == port.label.dist + port.weight) else it.follows) is ∙ sym follows_more)
-      (nearest_is ∙ ap (λ (it : Gathered).
+      (nearest_is ∙ ap (λ (it : PortTally).
       it.nearest && nat_le it.own.dist (port.label.dist + port.weight)) is ∙ sym nearest_more)
     where
-      four : (one other : Gathered) → one.own ≡ other.own → one.agrees ≡ other.agrees
+      four : (one other : PortTally) → one.own ≡ other.own → one.agrees ≡ other.agrees
           → one.follows ≡ other.follows → one.nearest ≡ other.nearest → one ≡ other
       four one other own agrees follows nearest =
           ap (λ (own : SptLabel). record {

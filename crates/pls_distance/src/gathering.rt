@@ -14,7 +14,7 @@ use pls_scheme::is_one_more;
 
 /// What the own label says, and which rules on the ports hold at those so far.
 #[derive(Clone, Copy, Debug, PartialEq, Eq)]
-pub struct Gathered {
+pub struct PortTally {
     pub(crate) own: SptLabel,
     // Each of the neighbours has the own root.
     pub(crate) agrees: bool,
@@ -24,12 +24,12 @@ pub struct Gathered {
     pub(crate) nearest: bool,
 }
 
-impl Gathered {
+impl PortTally {
     // Before the first port.
-    pub(crate) fn before(own: SptLabel) -> Gathered
+    pub(crate) fn before(own: SptLabel) -> PortTally
         ensures { (id : ℕ) (state : State) → result ≡ spt_tally (reading id state own []) }
     {
-        Gathered {
+        PortTally {
             own,
             agrees: true,
             follows: true,
@@ -44,18 +44,18 @@ impl Gathered {
         place: usize,
         weight: u32,
         label: SptLabel,
-    ) -> Gathered
+    ) -> PortTally
         ensures { (id : ℕ) (state : State) (own : SptLabel) (ports : List (ReadPort SptLabel))
             → state.up ≡ up → length ports ≡ place → self ≡ spt_tally (reading id state own ports)
             → result ≡ spt_tally (reading id state own (ports ++ port_with weight label ∷ [])) }
     {
-        let Gathered {
+        let PortTally {
             own,
             agrees,
             follows,
             nearest,
         } = self;
-        Gathered {
+        PortTally {
             own,
             agrees: both(agrees, label.root == own.root),
             follows: follows_so_far(&own, is_pointer(up, place), weight, &label, follows),

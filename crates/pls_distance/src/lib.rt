@@ -15,5 +15,5 @@ mod gathering;
 mod spt;
 mod spt_scheme;
 
-pub use gathering::Gathered;
+pub use gathering::PortTally;
 pub use spt::{Spt, SptLabel, SptRules};

@@ -1,11 +1,11 @@
 //! The rules of the scheme `spt`: the label is the root's identity, the node's depth, and its
 //! distance from the root.
 
-use crate::gathering::Gathered;
+use crate::gathering::PortTally;
 use pls_bits::{Bits, NumCode};
 use pls_model::{State, Verdict};
 use pls_scheme::{
-    Basic, Fixed, Judgement, JudgesInPlace, Looked, OfNumbers, ReadsInPlace, judged_from,
+    Basic, NumbersFormat, Judgement, JudgesInPlace, LabelGlance, OfNumbers, ReadsInPlace, judged_from,
 };
 use std::marker::PhantomData;
 
@@ -48,14 +48,14 @@ pub type Spt<C> = Basic<SptRules<C>>;
 /// The rules of shortest-path trees.
 #[derive(Clone, Copy, Debug, PartialEq, Eq)]
 pub struct SptRules<C> {
-    format: Fixed<SptLabel, 3>,
+    format: NumbersFormat<SptLabel, 3>,
     code: PhantomData<C>,
 }
 
 impl<C> Default for SptRules<C> {
     fn default() -> Self {
         SptRules {
-            format: Fixed::default(),
+            format: NumbersFormat::default(),
             code: PhantomData,
         }
     }
@@ -66,13 +66,13 @@ impl<C: NumCode> Judgement for SptRules<C> {
 
     type Code = C;
 
-    type Format = Fixed<SptLabel, 3>;
+    type Format = NumbersFormat<SptLabel, 3>;
 
     ghost format = { λ s. s.format };
 
     ghost rules = { λ _. spt_rules };
 
-    fn format(&self) -> &Fixed<SptLabel, 3> {
+    fn format(&self) -> &NumbersFormat<SptLabel, 3> {
         &self.format
     }
 }
@@ -86,7 +86,7 @@ impl<C: NumCode> JudgesInPlace for SptRules<C> {
 
     type Memory = Option<SptLabel>;
 
-    type Tally = Gathered;
+    type Tally = PortTally;
 
     ghost glance = { λ _ label. label };
 
@@ -96,19 +96,19 @@ impl<C: NumCode> JudgesInPlace for SptRules<C> {
         self.format.read_in_place::<C>(bits)
     }
 
-    fn open(&self, own: &SptLabel) -> Gathered {
-        Gathered::before(*own)
+    fn open(&self, own: &SptLabel) -> PortTally {
+        PortTally::before(*own)
     }
 
     fn pass(
         &self,
         up: Option<u32>,
-        _own: &Looked<'_, SptLabel>,
-        tally: Gathered,
+        _own: &LabelGlance<'_, SptLabel>,
+        tally: PortTally,
         place: usize,
         weight: u32,
-        label: &Looked<'_, SptLabel>,
-    ) -> Gathered {
+        label: &LabelGlance<'_, SptLabel>,
+    ) -> PortTally {
         tally.with(up, place, weight, *label.glance)
     }
 
@@ -116,9 +116,9 @@ impl<C: NumCode> JudgesInPlace for SptRules<C> {
         &self,
         id: u32,
         state: State,
-        _own: &Looked<'_, SptLabel>,
+        _own: &LabelGlance<'_, SptLabel>,
         _above: Option<&SptLabel>,
-        tally: Gathered,
+        tally: PortTally,
     ) -> Verdict {
         judged_from(3, &tally.rules(id, state))
     }

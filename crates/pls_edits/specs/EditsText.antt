@@ -7,7 +7,7 @@ use Rattle.pls_lines.specs.LineKind.{Always, Says, alone}
 use Rattle.pls_lines.specs.Lines.{Left, Passes}
 use Rattle.pls_lines.specs.ListPart.{IsListPart, list_lines, list_text}
 use Rattle.pls_lines.specs.Worded.{worded}
-use Rattle.pls_lines.specs.declared.counted.Headed.{Headed}
+use Rattle.pls_lines.specs.declared.counted.BareHeading.{BareHeading}
 use Rattle.pls_closing.specs.Closing.{AreClosed, AreFew as AreFewLines, IsLinesRefusal, closing_of}
 use Rattle.pls_netfile.specs.NetworkLine.{FitsNode}
 use Rattle.pls_netfile.specs.NetworkText.{state_words}
@@ -84,7 +84,7 @@ edits_lines lines = list_lines (codes "edits") edit_line lines
 
 -- the line is the heading, which is one word and says nothing more
 abbrev pub IsEditsHeading : List ℕ → Type 0
-IsEditsHeading line = Says {X = Headed EditsWord} Always (alone (codes "edits")) line
+IsEditsHeading line = Says {X = BareHeading EditsWord} Always (alone (codes "edits")) line
 
 -- the lines are those of an edits part
 abbrev pub IsEditsPart : List (List ℕ) → Type 0

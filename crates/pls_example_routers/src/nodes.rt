@@ -6,7 +6,7 @@ ghost use Rattle.pls_example_routers.specs.SmallRow.{IsSmallRow};
 
 use pls_base::NoMemory;
 use pls_bits::Gamma;
-use pls_graph::{Network, NodePorts, NodeRow, Port, State, connected};
+use pls_graph::{Network, NodePorts, NodeRow, Port, State, node_apart};
 use pls_pointer::{Tree, TreeLabel};
 use pls_scheme::Scheme;
 use pls_view::LabelStore;
@@ -37,7 +37,7 @@ pub(crate) fn network_of(alloc: Global, nodes: &[Node]) -> Result<Option<Network
     let Ok(net) = Network::build(alloc, rows) else {
         return Ok(None);
     };
-    if connected(alloc, &net)?.is_some() {
+    if node_apart(alloc, &net)?.is_some() {
         return Ok(None);
     }
     Ok(Some(net))

@@ -7,11 +7,11 @@ use crate::format::WeightsFormat;
 use crate::weights::Weights;
 use pls_bits::NumCode;
 use pls_model::State;
-use pls_scheme::{Judgement, Ruled, Rules, Verdict, judged_from};
+use pls_scheme::{Judgement, RuleScheme, Rules, Verdict, judged_from};
 use std::marker::PhantomData;
 
 /// The scheme of same weights, whose labels are written in the number code `C`.
-pub type SameWeights<C> = Ruled<SameWeightsRules<C>>;
+pub type SameWeights<C> = RuleScheme<SameWeightsRules<C>>;
 
 /// The rules of same weights.
 #[derive(Clone, Copy, Debug, PartialEq, Eq)]

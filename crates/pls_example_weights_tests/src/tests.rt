@@ -5,7 +5,7 @@ ghost use Rattle.pls_model.specs.Walk.{IsConnected};
 
 use pls_bits::{BitBuf, Gamma};
 use pls_example_weights::SameWeights;
-use pls_graph::{Network, connected};
+use pls_graph::{Network, node_apart};
 use pls_netfile::read_network;
 use pls_scheme::Scheme;
 use std::alloc::Global;
@@ -53,13 +53,13 @@ const LABELS: &[(&str, &str, Option<usize>)] = &[
 ];
 
 // Fails where the network is not connected.
-fn joined(alloc: Global, text: &str) -> Result<Network, Fail>
+fn connected_network(alloc: Global, text: &str) -> Result<Network, Fail>
     ensures { IfOk result (λ net. IsConnected net) }
 {
     let Ok(net) = read_network(alloc, text.as_bytes()) else {
         return Err(Fail::from("refused"));
     };
-    if connected(alloc, &net)?.is_some() {
+    if node_apart(alloc, &net)?.is_some() {
         return Err(Fail::from("in parts"));
     }
     Ok(net)
@@ -67,7 +67,7 @@ fn joined(alloc: Global, text: &str) -> Result<Network, Fail>
 
 // The total length of the labels in bits; `None` where the network is not marked.
 fn marked_bits(alloc: Global, text: &str) -> Result<Option<u64>, Fail> {
-    let net = joined(alloc, text)?;
+    let net = connected_network(alloc, text)?;
     let marked = SameWeights::<Gamma>::new().mark(alloc, &net)?;
     Ok(marked.map(|labels| labels.total()))
 }

@@ -10,7 +10,7 @@ use pls_base::NoMemory;
 use pls_bits::Gamma;
 use pls_diameter_bridges::{Bridgeless, Diameter};
 use pls_graph::Network;
-use pls_names::Named;
+use pls_names::SchemeByName;
 use pls_scheme::Property;
 use std::alloc::Global;
 
@@ -22,7 +22,7 @@ pub fn decide_tree(alloc: Global, tree: &ExpressionTree, net: &Network) -> Resul
     ensures { IfOk result (λ yes. IsTrue yes ↔ HasProperty (expression_of tree.now) net.now) }
 {
     match tree {
-        ExpressionTree::Of(name) => Named::<Gamma>::new(*name).decide(alloc, net),
+        ExpressionTree::Of(name) => SchemeByName::<Gamma>::new(*name).decide(alloc, net),
         ExpressionTree::Diameter(most) => Diameter::new(*most).decide(alloc, net),
         ExpressionTree::Bridgeless => Bridgeless::new().decide(alloc, net),
         ExpressionTree::Map(property) => decide_tree(alloc, property, net),

@@ -5,7 +5,7 @@ use crate::expression_tree::ExpressionTree;
 use pls_base::NoMemory;
 use pls_graph::Network;
 use pls_scheme::Property;
-use pls_universal::Tested;
+use pls_universal::PropertyTest;
 use std::alloc::Global;
 
 /// An expression that is lent, as a property.
@@ -26,7 +26,7 @@ impl<'a> Property for LentProperty<'a> {
     }
 }
 
-impl<'a> Tested for LentProperty<'a> {
+impl<'a> PropertyTest for LentProperty<'a> {
     ghost use Rattle.pls_expressions.specs.Held.{expression_of};
     ghost use Rattle.pls_expressions.specs.Expression.{test_of};
     ghost use Rattle.pls_expressions.specs.laws.TestLaws.{test_tells};

@@ -6,7 +6,7 @@
 //! for `pls_graph_edits` alone, which changes a network in place.
 //!
 //! [`Network::size`] tells how large a network is, [`levels`] the fewest edges from a node to each,
-//! and [`connected`], by the levels from the first node, whether the edges join all nodes.
+//! and [`node_apart`], by the levels from the first node, whether the edges join all nodes.
 //!
 //! Proofs above may cite `proofs/Placed` (rows and ports are found by their identities, and each
 //! port has a port back), `proofs/Beside` (neighbours by their places), `proofs/Valid` (one fact for
@@ -36,7 +36,7 @@ pub use builder::NetworkBuilder;
 pub use hints::Hints;
 pub use network::Network;
 pub use pls_model::{BuildError, NodePorts, NodeRow, Port, State};
-pub use reach::{connected, first_apart};
+pub use reach::{node_apart, first_apart};
 pub use size::Size;
 #[doc(hidden)]
 pub use table::{Node, Table};

@@ -12,15 +12,15 @@ pub enum EditError {
     /// A node is not there, or two are not linked.
     #[error("no such node or edge")]
     Absent,
+    /// The two ends are one node.
+    #[error("a node is not linked to itself")]
+    SelfLink,
     /// The node or the edge is there already.
     #[error("it is there already")]
     Present,
     /// The state points at no port of the node.
     #[error("the pointer names no port")]
     Pointer,
-    /// The two ends are one node.
-    #[error("a node is not linked to itself")]
-    SelfLink,
     /// The node has a port.
     #[error("the node has ports")]
     HasPorts,

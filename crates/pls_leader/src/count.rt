@@ -8,7 +8,7 @@ ghost use Rattle.pls_scheme.specs.Reading.{port_with};
 use crate::rooted::is_0_at_root_alone;
 use pls_bits::NumCode;
 use pls_model::State;
-use pls_scheme::{Fixed, Judgement, OfNumbers, Ruled, Rules, Verdict, is_one_more, judged_from};
+use pls_scheme::{NumbersFormat, Judgement, OfNumbers, RuleScheme, Rules, Verdict, is_one_more, judged_from};
 use std::marker::PhantomData;
 
 /// What a label says.
@@ -63,19 +63,19 @@ impl OfNumbers<6> for CountLabel {
 }
 
 /// The scheme of the number of nodes, whose labels are written in the number code `C`.
-pub type Count<C> = Ruled<CountRules<C>>;
+pub type Count<C> = RuleScheme<CountRules<C>>;
 
 /// The rules of the number of nodes.
 #[derive(Clone, Copy, Debug, PartialEq, Eq)]
 pub struct CountRules<C> {
-    format: Fixed<CountLabel, 6>,
+    format: NumbersFormat<CountLabel, 6>,
     code: PhantomData<C>,
 }
 
 impl<C> Default for CountRules<C> {
     fn default() -> Self {
         CountRules {
-            format: Fixed::default(),
+            format: NumbersFormat::default(),
             code: PhantomData,
         }
     }
@@ -86,13 +86,13 @@ impl<C: NumCode> Judgement for CountRules<C> {
 
     type Code = C;
 
-    type Format = Fixed<CountLabel, 6>;
+    type Format = NumbersFormat<CountLabel, 6>;
 
     ghost format = { λ s. s.format };
 
     ghost rules = { λ _. count_rules };
 
-    fn format(&self) -> &Fixed<CountLabel, 6> {
+    fn format(&self) -> &NumbersFormat<CountLabel, 6> {
         &self.format
     }
 }

@@ -6,7 +6,7 @@ ghost use Rattle.std.specs.Bool.{beq};
 use crate::rooted::is_0_at_root_alone;
 use pls_bits::NumCode;
 use pls_model::State;
-use pls_scheme::{Fixed, Judgement, OfNumbers, Ruled, Rules, Verdict, is_one_more, judged_from};
+use pls_scheme::{NumbersFormat, Judgement, OfNumbers, RuleScheme, Rules, Verdict, is_one_more, judged_from};
 use std::marker::PhantomData;
 
 /// What a label says.
@@ -41,19 +41,19 @@ impl OfNumbers<2> for LeaderLabel {
 }
 
 /// The scheme of one leader, whose labels are written in the number code `C`.
-pub type Leader<C> = Ruled<LeaderRules<C>>;
+pub type Leader<C> = RuleScheme<LeaderRules<C>>;
 
 /// The rules of one leader.
 #[derive(Clone, Copy, Debug, PartialEq, Eq)]
 pub struct LeaderRules<C> {
-    format: Fixed<LeaderLabel, 2>,
+    format: NumbersFormat<LeaderLabel, 2>,
     code: PhantomData<C>,
 }
 
 impl<C> Default for LeaderRules<C> {
     fn default() -> Self {
         LeaderRules {
-            format: Fixed::default(),
+            format: NumbersFormat::default(),
             code: PhantomData,
         }
     }
@@ -64,13 +64,13 @@ impl<C: NumCode> Judgement for LeaderRules<C> {
 
     type Code = C;
 
-    type Format = Fixed<LeaderLabel, 2>;
+    type Format = NumbersFormat<LeaderLabel, 2>;
 
     ghost format = { λ s. s.format };
 
     ghost rules = { λ _. leader_rules };
 
-    fn format(&self) -> &Fixed<LeaderLabel, 2> {
+    fn format(&self) -> &NumbersFormat<LeaderLabel, 2> {
         &self.format
     }
 }

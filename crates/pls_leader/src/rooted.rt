@@ -22,12 +22,12 @@ pub(crate) fn levels_from(alloc: Global, net: &Network, place: usize) -> Result<
     ensures { IfOk result (λ levels. AreLevelsFrom net.now place levels.items) }
 {
     let found = levels(alloc, net, place)?;
-    let levels = known(alloc, &found)?;
+    let levels = levels_or_zero(alloc, &found)?;
     Ok(levels)
 }
 
 // All levels must be found; a missing one becomes 0.
-fn known(alloc: Global, found: &[Option<u32>]) -> Result<Vec<u32>, NoMemory>
+fn levels_or_zero(alloc: Global, found: &[Option<u32>]) -> Result<Vec<u32>, NoMemory>
     ensures { IfOk result (λ levels. levels.items ≡ map (λ level. unwrap_or level 0) found.now) }
 {
     let levels = found.iter().map(|level| level.unwrap_or(0)).collect(alloc)?;

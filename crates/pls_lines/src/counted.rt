@@ -25,11 +25,11 @@ pub trait HeadingWord: Drop {
 
 /// What a heading says that is one word alone: nothing but that its part begins.
 #[derive(Drop)]
-pub struct Headed<W> {
+pub struct BareHeading<W> {
     of: PhantomData<W>,
 }
 
-impl<'a, W: HeadingWord> LineKind<'a> for Headed<W> {
+impl<'a, W: HeadingWord> LineKind<'a> for BareHeading<W> {
     ghost use Rattle.pls_lines.specs.LineKind.{Always, alone};
     ghost use Rattle.pls_lines.specs.laws.CountedLaws.{heading_kind};
 
@@ -41,7 +41,7 @@ impl<'a, W: HeadingWord> LineKind<'a> for Headed<W> {
 
     fn read(text: &'a [u8]) -> Option<(Self, &'a [u8])> {
         let rest = after_line(text, W::word())?;
-        Some((Headed { of: PhantomData }, rest))
+        Some((BareHeading { of: PhantomData }, rest))
     }
 }
 
@@ -58,7 +58,7 @@ impl<'a, W: HeadingWord, K: LineKind<'a>> ListTally<'a> for Count<W, K> {
     ghost use Rattle.std.specs.Prelude.{All};
     ghost use Rattle.pls_lines.specs.laws.CountedLaws.{counted_list};
 
-    type Heading = Headed<W>;
+    type Heading = BareHeading<W>;
 
     type Item = K;
 

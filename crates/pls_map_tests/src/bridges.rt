@@ -1,7 +1,7 @@
 //! Whether networks have bridges, at worked examples.
 
 use pls_diameter_bridges::Bridgeless;
-use pls_graph::{Network, connected};
+use pls_graph::{Network, node_apart};
 use pls_netfile::read_network;
 use pls_scheme::Property;
 use std::alloc::Global;
@@ -46,7 +46,7 @@ fn network(alloc: Global, nodes: u32, edges: &[(u32, u32)]) -> Result<Network, F
 }
 
 fn is_bridgeless(alloc: Global, net: &Network) -> Result<bool, Fail> {
-    match connected(alloc, net)? {
+    match node_apart(alloc, net)? {
         None => Ok(Bridgeless::new().decide(alloc, net)?),
         Some(_) => Err(Fail::from("not connected")),
     }

@@ -6,7 +6,7 @@ use pls_diameter_bridges::Diameter;
 use pls_graph::Network;
 use pls_netfile::read_network;
 use pls_scheme::{Checker, Property, Verdict};
-use pls_universal::{MapOf, Tested, map_labels};
+use pls_universal::{MapOf, PropertyTest, map_labels};
 use pls_view::{LabelStore, View};
 use std::alloc::Global;
 use std::cell::Cell;
@@ -27,12 +27,12 @@ const PARTS: &str = "network\nnode 1 - 0 0\nport 2 1\nnode 2 - 0 0\nport 1 1\n\
 
 // A diameter, and how often it was asked for.
 #[derive(Drop)]
-struct Counted {
+struct CountedDiameter {
     property: Diameter,
     asked: Cell<u32>,
 }
 
-impl Property for Counted {
+impl Property for CountedDiameter {
     ghost use Rattle.pls_diameter_bridges.specs.Diameter.{HasDiameter};
 
     ghost holds = { λ s. HasDiameter s.property.most };
@@ -43,7 +43,7 @@ impl Property for Counted {
     }
 }
 
-impl Tested for Counted {
+impl PropertyTest for CountedDiameter {
     ghost use Rattle.pls_diameter_bridges.specs.Tests.{diameter_test};
     ghost use Rattle.pls_diameter_bridges.specs.laws.TestLaws.{diameter_tested};
 
@@ -53,10 +53,10 @@ impl Tested for Counted {
 }
 
 // The universal scheme of the property that the diameter is at most `most`.
-fn scheme(most: u32) -> MapOf<Counted, Gamma> {
+fn scheme(most: u32) -> MapOf<CountedDiameter, Gamma> {
     let property = Diameter::new(most);
     let asked = Cell::new(0);
-    MapOf::new(Counted { property, asked })
+    MapOf::new(CountedDiameter { property, asked })
 }
 
 fn network(alloc: Global, text: &str) -> Result<Network, Fail> {
@@ -80,7 +80,7 @@ fn ring(alloc: Global, mark: u32) -> Result<Network, Fail> {
 }
 
 // Counts `each` labels a store, from 0; the label is empty where no store has the number.
-fn numbered(
+fn label_of_number(
     alloc: Global,
     stores: &[LabelStore],
     each: usize,
@@ -95,7 +95,7 @@ fn numbered(
     Ok(label)
 }
 
-fn chosen(
+fn labels_of_numbers(
     alloc: Global,
     stores: &[LabelStore],
     each: usize,
@@ -103,7 +103,7 @@ fn chosen(
 ) -> Result<LabelStore, Fail> {
     let mut labels = LabelStore::blank(alloc, numbers.len())?;
     for (i, number) in numbers.iter().enumerate() {
-        let label = numbered(alloc, stores, each, *number)?;
+        let label = label_of_number(alloc, stores, each, *number)?;
         if i < labels.len() {
             labels.replace(i, &label)?;
         }
@@ -123,7 +123,7 @@ fn rings(alloc: Global) -> Result<Vec<LabelStore>, Fail> {
 // The rule by which each node rejects, 0 where it accepts.
 fn rules(
     alloc: Global,
-    scheme: &MapOf<Counted, Gamma>,
+    scheme: &MapOf<CountedDiameter, Gamma>,
     net: &Network,
     labels: &LabelStore,
 ) -> Result<Vec<u8>, Fail> {
@@ -172,7 +172,7 @@ fn each_rule_is_named(rt: HostRuntime) -> Result<(), Fail> {
     let net = network(rt.alloc(), ROW)?;
     for (text, most, numbers, due) in NAMED {
         let stores = both(rt.alloc(), text)?;
-        let labels = chosen(rt.alloc(), &stores, 4, numbers)?;
+        let labels = labels_of_numbers(rt.alloc(), &stores, 4, numbers)?;
         let found = rules(rt.alloc(), &scheme(*most), &net, &labels)?;
         assert!(rt;
             found.as_slice() == due.as_slice(),
@@ -195,7 +195,7 @@ fn a_map_is_decided_once(rt: HostRuntime) -> Result<(), Fail> {
     let net = ring(rt.alloc(), 0)?;
     let stores = rings(rt.alloc())?;
     for (numbers, rule, asked) in DECIDED {
-        let labels = chosen(rt.alloc(), &stores, 10, numbers)?;
+        let labels = labels_of_numbers(rt.alloc(), &stores, 10, numbers)?;
         let scheme = scheme(5);
         let found = rules(rt.alloc(), &scheme, &net, &labels)?;
         assert!(rt; found.as_slice() == [*rule; 10].as_slice(), "{asked} maps");
@@ -207,7 +207,7 @@ fn a_map_is_decided_once(rt: HostRuntime) -> Result<(), Fail> {
 // As `rules`, but view by view instead of in a round.
 fn rules_singly(
     alloc: Global,
-    scheme: &MapOf<Counted, Gamma>,
+    scheme: &MapOf<CountedDiameter, Gamma>,
     net: &Network,
     labels: &LabelStore,
 ) -> Result<Vec<u8>, Fail> {
@@ -226,7 +226,7 @@ fn rules_singly(
 fn a_view_is_judged_as_in_the_round(rt: HostRuntime) -> Result<(), Fail> {
     let net = ring(rt.alloc(), 0)?;
     let stores = rings(rt.alloc())?;
-    let labels = chosen(rt.alloc(), &stores, 10, &[0, 1, 12, 3, 4, 6, 5, 7, 99, 9])?;
+    let labels = labels_of_numbers(rt.alloc(), &stores, 10, &[0, 1, 12, 3, 4, 6, 5, 7, 99, 9])?;
     let scheme = scheme(5);
     let found = rules(rt.alloc(), &scheme, &net, &labels)?;
     let singly = rules_singly(rt.alloc(), &scheme, &net, &labels)?;

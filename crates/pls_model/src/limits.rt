@@ -22,9 +22,9 @@ pub const MAX_NUM: u64 = 4_611_686_018_427_387_904;
 /// The greatest number of bits of one label, and of all labels together, 2^28.
 pub const MAX_BITS: u64 = 268_435_456;
 
-/// The greatest number of lines between the heading and the end of a list of events or of edits,
-/// 2^20.
+/// The greatest number of lines between the heading and the end of a schedule, of edits or of a
+/// watch, 2^20.
 pub const MAX_LINES: usize = 1_048_576;
 
-/// The greatest number of rounds that edits may ask for.
+/// The greatest number of `round` lines of edits, and of `look` lines of a watch.
 pub const MAX_ROUNDS: usize = 128;

@@ -9,8 +9,9 @@ pub enum Verdict {
     Accept,
     /// A rule fails.
     Reject {
-        /// Which part of a scheme expression rejects, counted from 1; 0 where the expression itself
-        /// does.
+        /// Which scheme name of an expression rejects, counted from 1 from the left, where a `map`
+        /// counts as one; 0 where a rule of an `and` or an `or` fails, on labels without two parts
+        /// or without one tag.
         leaf: u8,
         /// The number of the first rule that fails, from 1.
         rule: u8,

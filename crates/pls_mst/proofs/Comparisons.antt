@@ -11,7 +11,7 @@ use Rattle.pls_numbers.specs.laws.TakingLaws.{items_off-next, items_off-none}
 use Rattle.pls_boruvka.specs.Boruvka.{chosen_edge}
 use Rattle.pls_boruvka.specs.declared.level.Level.{Level}
 use Rattle.pls_mst.specs.declared.comparing.Between.{Between}
-use Rattle.pls_mst.specs.declared.comparing.Compared.{Compared}
+use Rattle.pls_mst.specs.declared.comparing.LevelComparison.{LevelComparison}
 use Rattle.pls_mst.specs.Labels.{level_off}
 use Rattle.pls_mst.specs.Rules.{chose_least, is_chosen_between, is_named_or_shared}
 use Rattle.pls_mst.specs.inner.Comparing.{both_compared, compared, edge_between}
@@ -19,11 +19,11 @@ use Rattle.pls_mst.specs.inner.Glance.{all_whole, front_of, kept_in}
 use Rattle.pls_mst.proofs.Fronts.{front_of-take, kept_in-few}
 
 -- of these three
-abbrev three : Bool → Bool → Bool → Compared
+abbrev three : Bool → Bool → Bool → LevelComparison
 three shares least chosen = record { shares = shares; least = least; chosen = chosen }
 
 -- what is the same in each of the three is the same
-same_Compared : (one other : Compared) → one.shares ≡ other.shares → one.least ≡ other.least
+same_Compared : (one other : LevelComparison) → one.shares ≡ other.shares → one.least ≡ other.least
     → one.chosen ≡ other.chosen → one ≡ other
 same_Compared one other shares least chosen =
     ap (λ (b : Bool). three b one.least one.chosen) shares
@@ -47,7 +47,7 @@ or_assoc true b c = refl
 or_assoc false b c = refl
 
 -- where there is no more, all was said
-all_said : (found : Compared) → found ≡ both_compared found (three true true false)
+all_said : (found : LevelComparison) → found ≡ both_compared found (three true true false)
 all_said found = same_Compared found (both_compared found (three true true false))
     (and_true found.shares) (and_true found.least) (or_false found.chosen)
 
@@ -68,7 +68,7 @@ zip-take {X} {Y} (suc count) (x ∷ xs) (y ∷ ys) is =
     ap (λ (rest : List (X × Y)). one ∷ rest) (zip-take count xs ys (omega (arith, is)))
 
 -- what levels say that stand side by side
-abbrev beside_said : Between → ℕ → List (Level × Level) → Compared
+abbrev beside_said : Between → ℕ → List (Level × Level) → LevelComparison
 beside_said between own beside = record {
   shares = list_all (λ (both : Level × Level). is_named_or_shared own both.0 both.1) beside;
   least = list_all (λ (both : Level × Level).
@@ -79,7 +79,7 @@ beside_said between own beside = record {
 
 module _ (between : Between) (own : ℕ) where
   -- one level more
-  compared-more : (found with_it : Compared) (here there : Level) (mine theirs : List Level)
+  compared-more : (found with_it : LevelComparison) (here there : Level) (mine theirs : List Level)
       → with_it.shares ≡ (found.shares && is_named_or_shared own here there)
       → with_it.least ≡ (found.least
       && chose_least (edge_between between) between.outside here there)
@@ -87,7 +87,7 @@ module _ (between : Between) (own : ℕ) where
       → both_compared found (compared between own (here ∷ mine) (there ∷ theirs))
       ≡ both_compared with_it (compared between own mine theirs)
   compared-more found with_it here there mine theirs shares least chosen =
-      let rest : Compared = compared between own mine theirs in
+      let rest : LevelComparison = compared between own mine theirs in
       same_Compared (both_compared found (compared between own (here ∷ mine) (there ∷ theirs)))
       (both_compared with_it rest)
       (and_assoc found.shares (is_named_or_shared own here there) rest.shares
@@ -107,8 +107,8 @@ module _ (between : Between) (own : ℕ) where
   compared-append [] (there ∷ theirs) mine_behind theirs_behind many = absurd (omega (arith, many))
   compared-append (here ∷ mine) [] mine_behind theirs_behind many = absurd (omega (arith, many))
   compared-append (here ∷ mine) (there ∷ theirs) mine_behind theirs_behind many =
-      let first : Compared = compared between own mine theirs in
-      let rest : Compared = compared between own mine_behind theirs_behind in
+      let first : LevelComparison = compared between own mine theirs in
+      let rest : LevelComparison = compared between own mine_behind theirs_behind in
       let all = compared-append mine theirs mine_behind theirs_behind (omega (arith, many)) in
       let shares : Bool = is_named_or_shared own here there in
       let least : Bool = chose_least (edge_between between) between.outside here there in
@@ -116,16 +116,16 @@ module _ (between : Between) (own : ℕ) where
       same_Compared
       (compared between own (here ∷ mine ++ mine_behind) (there ∷ theirs ++ theirs_behind))
       (both_compared (compared between own (here ∷ mine) (there ∷ theirs)) rest)
-      (ap (λ (said : Compared). shares && said.shares) all
+      (ap (λ (said : LevelComparison). shares && said.shares) all
       ∙ and_assoc shares first.shares rest.shares)
-      (ap (λ (said : Compared). least && said.least) all
+      (ap (λ (said : LevelComparison). least && said.least) all
       ∙ and_assoc least first.least rest.least)
-      (ap (λ (said : Compared). chosen || said.chosen) all
+      (ap (λ (said : LevelComparison). chosen || said.chosen) all
       ∙ or_assoc chosen first.chosen rest.chosen)
 
   -- one level more at the end
   pub compared-last : (place : ℕ) (mine theirs : List Level) (d here there : Level)
-      (found with_it : Compared) → place < length mine → place < length theirs
+      (found with_it : LevelComparison) → place < length mine → place < length theirs
       → here ≡ get_or mine place d → there ≡ get_or theirs place d
       → found ≡ compared between own (take place mine) (take place theirs)
       → with_it.shares ≡ (found.shares && is_named_or_shared own here there)
@@ -151,7 +151,7 @@ module _ (between : Between) (own : ℕ) where
       (and_true (chose_least (edge_between between) between.outside here there)))
       (chosen ∙ ap (λ (b : Bool). found.chosen || b)
       (or_false (is_chosen_between (edge_between between) here there)))
-      ∙ ap (λ (found : Compared).
+      ∙ ap (λ (found : LevelComparison).
       both_compared found (compared between own (here ∷ []) (there ∷ []))) is
       ∙ sym (compared-append (take place mine) (take place theirs) (here ∷ []) (there ∷ []) many)
       ∙ ap (λ (mine : List Level). compared between own mine (take place theirs ++ there ∷ []))
@@ -204,7 +204,7 @@ module _ (between : Between) (own : ℕ) where
         let many : length (take first mine) ≡ length (take first theirs) =
         length-take-le first mine (omega (arith, is, within))
         ∙ sym (length-take-le first theirs (omega (arith, is, within))) in
-        ap (λ (found : Compared). both_compared found
+        ap (λ (found : LevelComparison). both_compared found
         (compared between own (take (count - first) (drop first mine))
         (take (count - first) (drop first theirs)))) front_said
         ∙ ap (both_compared (compared between own (take first mine) (take first theirs)))
@@ -226,11 +226,11 @@ module _ (between : Between) (own : ℕ) where
       (sym (rw (one_number level.fragment) refl)) ∙ compared-same levels
 
   -- what those that are left say
-  abbrev pub left_say : ℕ → NumbersLeft → NumbersLeft → Compared
+  abbrev pub left_say : ℕ → NumbersLeft → NumbersLeft → LevelComparison
   left_say count mine theirs = compared between own (items_off level_off count mine.numbers)
       (items_off level_off count theirs.numbers)
 
-  module _ (found : Compared) (left : ℕ) (mine theirs : NumbersLeft) where
+  module _ (found : LevelComparison) (left : ℕ) (mine theirs : NumbersLeft) where
     -- where what is left is the same, all was said
     pub same_left : mine ≡ theirs → found ≡ both_compared found (left_say left mine theirs)
     same_left same = all_said found
@@ -257,7 +257,7 @@ module _ (between : Between) (own : ℕ) where
         by (level ∷ levels) = all_said found
 
     -- both have one
-    pub both_there : (with_it : Compared) (here there : Level) (mine_left theirs_left : NumbersLeft)
+    pub both_there : (with_it : LevelComparison) (here there : Level) (mine_left theirs_left : NumbersLeft)
         → IsTaken level_off here mine mine_left → IsTaken level_off there theirs theirs_left
         → with_it.shares ≡ (found.shares && is_named_or_shared own here there)
         → with_it.least ≡ (found.least

@@ -10,7 +10,7 @@ use Rattle.pls_numbers.specs.Taking.{IsTaken, items_in, items_off}
 use Rattle.pls_numbers.specs.laws.TakingLaws.{items_off-next, items_off-take}
 use Rattle.pls_boruvka.specs.declared.level.Level.{Level}
 use Rattle.pls_mst.specs.declared.comparing.Between.{Between}
-use Rattle.pls_mst.specs.declared.comparing.Compared.{Compared}
+use Rattle.pls_mst.specs.declared.comparing.LevelComparison.{LevelComparison}
 use Rattle.pls_mst.specs.declared.glance.MstGlance.{MstGlance}
 use Rattle.pls_mst.specs.declared.kept_level.KeptLevel.{KeptLevel}
 use Rattle.pls_levels.specs.Labels.{AreFewer, AreLevelsLeft, ArePassed}
@@ -24,7 +24,7 @@ use Rattle.pls_mst.proofs.Fronts.{front_of-take, kept_in-few, list_all-split}
 
 -- what the levels of two labels say together, by what is kept of them
 module _ (between : Between) (own other : MstLabel) (mine theirs : MstGlance) (shared first : ℕ)
-    (found : Compared) (own_is : glance_of own ≡ mine) (other_is : glance_of other ≡ theirs)
+    (found : LevelComparison) (own_is : glance_of own ≡ mine) (other_is : glance_of other ≡ theirs)
     (shared_is : shared ≡ min mine.head.count theirs.head.count)
     (mine_kept : first ≤ mine.kept) (theirs_kept : first ≤ theirs.kept)
     (found_is : found ≡ compared between mine.head.own (take first (all_whole mine.front))
@@ -66,7 +66,7 @@ module _ (between : Between) (own other : MstLabel) (mine theirs : MstGlance) (s
       other_kept few
 
   -- where others are read behind them
-  pub looked_behind : (here there : List ℕ) (all : Compared)
+  pub looked_behind : (here there : List ℕ) (all : LevelComparison)
       → (first ≤ length own.levels
       → items_in level_off (length own.levels - first) here ≡ Some (drop first own.levels))
       → (first ≤ length other.levels
@@ -83,12 +83,12 @@ module _ (between : Between) (own other : MstLabel) (mine theirs : MstGlance) (s
       items_off-take level_off left (length other.levels - first) there (drop first other.levels)
       (there_is (omega (arith, other_kept, kept_in-few other.levels)))
       (omega (arith, both_have)) in
-      let front : Compared =
+      let front : LevelComparison =
       compared between own.own (kept_first own.levels) (kept_first other.levels) in
       all_is
       ∙ ap (λ (glance : MstGlance). both_compared found (compared between glance.head.own
       (items_off level_off left here) (items_off level_off left there))) (sym own_is)
-      ∙ ap (λ (found : Compared). both_compared found (compared between own.own
+      ∙ ap (λ (found : LevelComparison). both_compared found (compared between own.own
       (items_off level_off left here) (items_off level_off left there))) in_front
       ∙ ap (λ (behind : List Level). both_compared front
       (compared between own.own behind (items_off level_off left there))) mine_off

@@ -6,8 +6,8 @@ use Rattle.pls_model.specs.declared.row.State.{State}
 use Rattle.pls_scheme.specs.Reading.{Read, ReadPort, is_pointer, label_above, port_with, reading}
 use Rattle.pls_scheme.proofs.MorePorts.{all_more, at_pointer_more, numbered_from_0}
 use Rattle.pls_mst.specs.declared.comparing.Between.{Between}
-use Rattle.pls_mst.specs.declared.comparing.Compared.{Compared}
-use Rattle.pls_mst.specs.declared.gathering.Gathered.{Gathered}
+use Rattle.pls_mst.specs.declared.comparing.LevelComparison.{LevelComparison}
+use Rattle.pls_mst.specs.declared.gathering.PortTally.{PortTally}
 use Rattle.pls_mst.specs.declared.glance.MstGlance.{MstGlance}
 use Rattle.pls_levels.specs.declared.label.LevelHead.{LevelHead}
 use Rattle.pls_levels.specs.Labels.{head_of}
@@ -75,8 +75,8 @@ module _ (id : ℕ) (state : State) (own : MstLabel) (ports : List (ReadPort Mst
       rw (follows, agrees, shares, leasts, chosen) refl
 
   -- what is gathered of the port, by what stands in front of the two labels
-  pub is_gathered : (pointer : Bool) (mine head : LevelHead) (to : Between) (both : Compared)
-      (was is : Gathered) → pointer ≡ here → head_said own ≡ mine → head_said theirs ≡ head
+  pub is_gathered : (pointer : Bool) (mine head : LevelHead) (to : Between) (both : LevelComparison)
+      (was is : PortTally) → pointer ≡ here → head_said own ≡ mine → head_said theirs ≡ head
       → was ≡ mst_tally before → to ≡ between pointer weight mine head
       → both ≡ compared to own.own own.levels theirs.levels
       → is ≡ mst_tally_with pointer mine head both was → is ≡ mst_tally after

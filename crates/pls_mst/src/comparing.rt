@@ -17,7 +17,7 @@ use crate::reading::read_level;
 use pls_bits::NumCode;
 use pls_boruvka::Level;
 use pls_numbers::Numbers;
-use pls_scheme::Looked;
+use pls_scheme::LabelGlance;
 
 /// The edge between a node and a neighbour.
 #[derive(Clone, Copy, Debug, PartialEq, Eq)]
@@ -33,7 +33,7 @@ pub struct Between {
 
 /// What the levels of a node and of a neighbour say together.
 #[derive(Clone, Copy, Debug, PartialEq, Eq)]
-pub struct Compared {
+pub struct LevelComparison {
     // Each fragment has the node's name, or the neighbour is in it too.
     pub(crate) shares: bool,
     // The chosen edges agree inside of fragments, and do not come behind the edge between two.
@@ -44,10 +44,10 @@ pub struct Compared {
 
 // Compares the kept levels first, then those in the bits, up to the end of the shorter label.
 pub(crate) fn compare_levels<C: NumCode>(
-    mine: &Looked<'_, MstGlance>,
-    theirs: &Looked<'_, MstGlance>,
+    mine: &LabelGlance<'_, MstGlance>,
+    theirs: &LabelGlance<'_, MstGlance>,
     between: &Between,
-) -> Compared
+) -> LevelComparison
     ensures { (own other : MstLabel) → said_by mst_shape C.takes mine.now.bits.now ≡ Some own
         → glance_of own ≡ mine.now.glance.now
         → said_by mst_shape C.takes theirs.now.bits.now ≡ Some other
@@ -75,12 +75,12 @@ fn compare_fronts(
     count: usize,
     between: &Between,
     own: u64,
-) -> Compared
+) -> LevelComparison
     requires { count ≤ FRONT }
     ensures { result ≡ compared between.now own (take count (all_whole mine.now))
         (take count (all_whole theirs.now)) }
 {
-    let mut found = Compared {
+    let mut found = LevelComparison {
         shares: true,
         least: true,
         chosen: false,
@@ -96,13 +96,13 @@ fn compare_fronts(
 // Adds up to `count` levels to `before`. Right labels agree behind the first shared fragment, so
 // the rests are compared once, as bits.
 fn compare_behind<C: NumCode>(
-    before: Compared,
+    before: LevelComparison,
     mine: &mut Numbers<'_, C>,
     theirs: &mut Numbers<'_, C>,
     count: u64,
     between: &Between,
     own: u64,
-) -> Compared
+) -> LevelComparison
     ensures { result ≡ both_compared before (compared between.now own
         (items_off level_off count mine.old.numbers)
         (items_off level_off count theirs.old.numbers)) }
@@ -128,24 +128,24 @@ fn compare_behind<C: NumCode>(
 
 #[inline(always)]
 fn with_level(
-    found: Compared,
+    found: LevelComparison,
     between: &Between,
     own: u64,
     mine: &Level,
     theirs: &Level,
-) -> Compared
+) -> LevelComparison
     ensures shares { result.shares ≡ (found.shares && is_named_or_shared own mine.now theirs.now) }
     ensures least { result.least ≡ (found.least
         && chose_least (edge_between between.now) between.now.outside mine.now theirs.now) }
     ensures chosen { result.chosen ≡ (found.chosen
         || is_chosen_between (edge_between between.now) mine.now theirs.now) }
 {
-    let Compared {
+    let LevelComparison {
         shares,
         least,
         chosen,
     } = found;
-    Compared {
+    LevelComparison {
         shares: shares && is_named_or_shared(own, mine, theirs),
         least: least && chose_least(between, mine, theirs),
         chosen: chosen || is_chosen_between(between, mine, theirs),

@@ -9,16 +9,16 @@ ghost use Rattle.pls_mst.specs.Rules.{mst_rules};
 ghost use Rattle.pls_mst.specs.inner.Gathering.{between, mst_tally, mst_tally_with};
 ghost use Rattle.pls_mst.specs.inner.Glance.{glance_of};
 
-use crate::comparing::{Between, Compared, compare_levels};
+use crate::comparing::{Between, LevelComparison, compare_levels};
 use crate::glance::{MstGlance, names_all};
 use pls_bits::NumCode;
 use pls_levels::{LevelHead, follows_above, is_pointer, is_root};
 use pls_model::State;
-use pls_scheme::Looked;
+use pls_scheme::LabelGlance;
 
 /// Which rules on the ports hold at those so far.
 #[derive(Clone, Copy, Debug, PartialEq, Eq)]
-pub struct Gathered {
+pub struct PortTally {
     // The node is one deeper than the one that it points at, which is its parent.
     pub(crate) follows: bool,
     // The neighbours name the own root and have as many levels.
@@ -31,13 +31,13 @@ pub struct Gathered {
     pub(crate) chosen: bool,
 }
 
-impl Gathered {
+impl PortTally {
     // Before the first port.
-    pub(crate) fn before() -> Gathered
+    pub(crate) fn before() -> PortTally
         ensures { (id : ℕ) (state : State) (label : MstLabel)
             → result ≡ mst_tally (reading id state label []) }
     {
-        Gathered {
+        PortTally {
             follows: true,
             agrees: true,
             shares: true,
@@ -53,23 +53,23 @@ impl Gathered {
         pointer: bool,
         own: &LevelHead,
         theirs: &LevelHead,
-        both: Compared,
-    ) -> Gathered
+        both: LevelComparison,
+    ) -> PortTally
         ensures { result ≡ mst_tally_with pointer own.now theirs.now both self }
     {
-        let Gathered {
+        let PortTally {
             follows,
             agrees,
             shares,
             least,
             chosen,
         } = self;
-        let Compared {
+        let LevelComparison {
             shares: shared,
             least: chose_least,
             chosen: was_chosen,
         } = both;
-        Gathered {
+        PortTally {
             follows: one_of(pointer, follows_above(own, theirs), follows),
             agrees: agrees && (theirs.root == own.root && theirs.count == own.count),
             shares: one_of(pointer, shared, shares),
@@ -83,7 +83,7 @@ impl Gathered {
         &self,
         id: u32,
         state: State,
-        own: &Looked<'_, MstGlance>,
+        own: &LabelGlance<'_, MstGlance>,
     ) -> [bool; 5]
         ensures { (mine : MstLabel) (ports : List (ReadPort MstLabel))
             → said_by mst_shape C.takes own.now.bits.now ≡ Some mine
@@ -106,12 +106,12 @@ impl Gathered {
 
 pub(crate) fn with_port<C: NumCode>(
     up: Option<u32>,
-    own: &Looked<'_, MstGlance>,
-    before: Gathered,
+    own: &LabelGlance<'_, MstGlance>,
+    before: PortTally,
     place: usize,
     weight: u32,
-    label: &Looked<'_, MstGlance>,
-) -> Gathered
+    label: &LabelGlance<'_, MstGlance>,
+) -> PortTally
     ensures { (id : ℕ) (state : State) (mine theirs : MstLabel) (ports : List (ReadPort MstLabel))
         → state.up ≡ up → length ports ≡ place
         → said_by mst_shape C.takes own.now.bits.now ≡ Some mine

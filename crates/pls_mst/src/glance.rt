@@ -14,7 +14,7 @@ use crate::reading::{all_have, read_level};
 use pls_bits::{Bits, NumCode};
 use pls_levels::{LevelHead, are_levels, levels_of, pass_levels, read_head};
 use pls_numbers::Numbers;
-use pls_scheme::Looked;
+use pls_scheme::LabelGlance;
 
 /// How many levels are kept at most. A right label has no more than the logarithm to the base 2 of
 /// the number of nodes, so these are all of it wherever there are fewer than 512 nodes, and in most
@@ -118,7 +118,7 @@ pub(crate) fn behind_front<'a, C: NumCode>(bits: &Bits<'a>, first: usize) -> Num
 }
 
 // Whether the fragment of each level has the node's own name.
-pub(crate) fn names_all<C: NumCode>(label: &Looked<'_, MstGlance>) -> bool
+pub(crate) fn names_all<C: NumCode>(label: &LabelGlance<'_, MstGlance>) -> bool
     ensures { (own : MstLabel) → said_by mst_shape C.takes label.now.bits.now ≡ Some own
         → glance_of own ≡ label.now.glance.now → result ≡ names_all_fragments own }
 {

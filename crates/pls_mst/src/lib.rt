@@ -23,8 +23,8 @@ mod mst;
 mod mst_scheme;
 mod reading;
 
-pub use comparing::{Between, Compared};
-pub use gathering::Gathered;
+pub use comparing::{Between, LevelComparison};
+pub use gathering::PortTally;
 pub use glance::{FRONT, MstGlance};
 pub use kept_level::KeptLevel;
 pub use levels::{MstFormat, MstLabel, MstLevels};

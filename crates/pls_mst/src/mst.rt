@@ -6,13 +6,13 @@ ghost use Rattle.std.specs.Prelude.{◌≡◌, option_map};
 ghost use Rattle.std.specs.Option.{option_copied};
 ghost use Rattle.pls_mst.specs.declared.glance.MstGlance.{MstGlance};
 
-use crate::gathering::{Gathered, with_port};
+use crate::gathering::{PortTally, with_port};
 use crate::glance::{MstGlance, glance_at};
 use crate::levels::{MstFormat, MstLevels};
 use pls_bits::{Bits, NumCode};
 use pls_levels::{LevelHead, is_placed};
 use pls_model::{State, Verdict};
-use pls_scheme::{Basic, Boxed, Judgement, JudgesInPlace, Looked, judged_from};
+use pls_scheme::{Basic, BoxedGlance, Judgement, JudgesInPlace, LabelGlance, judged_from};
 use std::marker::PhantomData;
 
 /// The scheme of spanning trees of least weight, whose labels are written in the number code `C`.
@@ -56,9 +56,9 @@ impl<C: NumCode> JudgesInPlace for MstRules<C> {
 
     type Glance = MstGlance;
 
-    type Memory = Boxed<MstGlance>;
+    type Memory = BoxedGlance<MstGlance>;
 
-    type Tally = Gathered;
+    type Tally = PortTally;
 
     ghost glance = { λ _ label. glance_of label };
 
@@ -68,27 +68,27 @@ impl<C: NumCode> JudgesInPlace for MstRules<C> {
         glance_at::<C>(bits)
     }
 
-    fn open(&self, _own: &MstGlance) -> Gathered {
-        Gathered::before()
+    fn open(&self, _own: &MstGlance) -> PortTally {
+        PortTally::before()
     }
 
     fn pass(
         &self,
         up: Option<u32>,
-        own: &Looked<'_, MstGlance>,
-        tally: Gathered,
+        own: &LabelGlance<'_, MstGlance>,
+        tally: PortTally,
         place: usize,
         weight: u32,
-        label: &Looked<'_, MstGlance>,
-    ) -> Gathered {
+        label: &LabelGlance<'_, MstGlance>,
+    ) -> PortTally {
         with_port::<C>(up, own, tally, place, weight, label)
     }
 
-    fn settled(
+    fn early_verdict(
         &self,
         id: u32,
         state: State,
-        own: &Looked<'_, MstGlance>,
+        own: &LabelGlance<'_, MstGlance>,
         above: Option<&MstGlance>,
     ) -> Option<Verdict> {
         if is_placed::<MstLevels>(id, state, &own.glance.head, head_above(above)) {
@@ -102,9 +102,9 @@ impl<C: NumCode> JudgesInPlace for MstRules<C> {
         &self,
         id: u32,
         state: State,
-        own: &Looked<'_, MstGlance>,
+        own: &LabelGlance<'_, MstGlance>,
         _above: Option<&MstGlance>,
-        tally: Gathered,
+        tally: PortTally,
     ) -> Verdict {
         judged_from(3, &tally.rules::<C>(id, state, own))
     }

@@ -1,10 +1,10 @@
 //! The basic schemes by their names.
 //!
 //! [`SchemeName`] is a name and [`name_of`] the word for it; [`name_front`] reads one off the front
-//! of a text. What a name means stands in `specs/Named`, a table with one row for each: its word,
+//! of a text. What a name means stands in `specs/SchemeByName`, a table with one row for each: its word,
 //! its property, the property as a test, the verdict, the labels and their length.
 //!
-//! [`Named`] is the scheme of a name: its calls are those of the scheme that it names. [`by_name`]
+//! [`SchemeByName`] is the scheme of a name: its calls are those of the scheme that it names. [`by_name`]
 //! does anything with that scheme itself, so that nobody else lists the names. Proofs may cite
 //! `specs/laws/NamedLaws`, a table with one row for each name too.
 #![tactic(auto)]
@@ -15,6 +15,6 @@ pub mod scheme_name;
 mod with_checker;
 
 pub use front::name_front;
-pub use named::Named;
+pub use named::SchemeByName;
 pub use scheme_name::{SchemeName, name_of};
 pub use with_checker::WithChecker;

@@ -20,18 +20,18 @@ use std::marker::PhantomData;
 
 /// A basic scheme by its name, whose labels are written in the number code `C`.
 #[derive(Clone, Copy, Debug, PartialEq, Eq)]
-pub struct Named<C> {
+pub struct SchemeByName<C> {
     /// The name.
     pub name: SchemeName,
     code: PhantomData<C>,
 }
 
-impl<C: NumCode> Named<C> {
+impl<C: NumCode> SchemeByName<C> {
     /// The scheme of a name. It takes no memory.
     pub fn new(name: SchemeName) -> Self
         ensures { result.name ≡ name }
     {
-        Named {
+        SchemeByName {
             name,
             code: PhantomData,
         }
@@ -51,7 +51,7 @@ impl<C: NumCode> Named<C> {
     }
 }
 
-impl<C: NumCode> Checker for Named<C> {
+impl<C: NumCode> Checker for SchemeByName<C> {
     ghost use Rattle.std.specs.Prelude.{true, false, refl};
     ghost use Rattle.pls_names.specs.Named.{judge_named};
     ghost use Rattle.pls_names.specs.laws.NamedLaws.{laws_of};
@@ -98,18 +98,18 @@ impl<C: NumCode> Checker for Named<C> {
     ghost lends_law = { λ _ _. refl };
 }
 
-impl<C: NumCode> Property for Named<C> {
+impl<C: NumCode> Property for SchemeByName<C> {
     ghost use Rattle.pls_names.specs.Named.{HasNamed};
 
     ghost holds = { λ s. HasNamed s.name };
 
     fn decide(&self, alloc: Global, net: &Network) -> Result<bool, NoMemory> {
-        decided::<C>(alloc, self.name, net)
+        decide_named::<C>(alloc, self.name, net)
     }
 }
 
 /// A label is its bits, which are of the layout of the scheme that is named.
-impl<C: NumCode> Scheme for Named<C> {
+impl<C: NumCode> Scheme for SchemeByName<C> {
     ghost use Rattle.pls_names.specs.Named.{IsNamedLabel, IsNamedMarked, IsNamedSpelling, longest_named};
     ghost use Rattle.pls_names.specs.laws.NamedLaws.{has_spellings, have_one_spelling, are_one_label, laws_of};
 
@@ -143,7 +143,7 @@ impl<C: NumCode> Scheme for Named<C> {
     }
 
     fn mark(&self, alloc: Global, net: &Network) -> Result<Option<LabelStore>, NoMemory> {
-        marked::<C>(alloc, self.name, net)
+        mark_named::<C>(alloc, self.name, net)
     }
 
     ghost reads_back_law = { λ s. has_spellings C.code s.name };
@@ -164,14 +164,14 @@ fn is_label<C: NumCode>(alloc: Global, name: SchemeName, bits: &Bits<'_>) -> Res
     Ok(by_name!(name, C, scheme => scheme.read_label(alloc, bits)?.is_some()))
 }
 
-fn decided<C: NumCode>(alloc: Global, name: SchemeName, net: &Network) -> Result<bool, NoMemory>
+fn decide_named<C: NumCode>(alloc: Global, name: SchemeName, net: &Network) -> Result<bool, NoMemory>
     requires { IsConnected net.now }
     ensures { IsDecided (HasNamed name) net.now result }
 {
-    by_name!(name, C, scheme => decided_by(alloc, &scheme, net))
+    by_name!(name, C, scheme => decide_by(alloc, &scheme, net))
 }
 
-fn decided_by<P: Property>(alloc: Global, property: &P, net: &Network) -> Result<bool, NoMemory>
+fn decide_by<P: Property>(alloc: Global, property: &P, net: &Network) -> Result<bool, NoMemory>
     requires { IsConnected net.now }
     ensures { IsDecided (P.holds property.now) net.now result }
 {
@@ -179,7 +179,7 @@ fn decided_by<P: Property>(alloc: Global, property: &P, net: &Network) -> Result
 }
 
 // `None` exactly where the property fails.
-fn marked<C: NumCode>(
+fn mark_named<C: NumCode>(
     alloc: Global,
     name: SchemeName,
     net: &Network,
@@ -193,11 +193,11 @@ fn marked<C: NumCode>(
     ensures short { IfOk result (λ found. IfSome found (λ labels. All (λ label. length label
         ≤ capped (longest_named C.code name (size_of net.now))) labels)) }
 {
-    by_name!(name, C, scheme => marked_by(alloc, &scheme, net))
+    by_name!(name, C, scheme => mark_by(alloc, &scheme, net))
 }
 
 // `None` exactly where the property fails.
-fn marked_by<S: Scheme>(
+fn mark_by<S: Scheme>(
     alloc: Global,
     scheme: &S,
     net: &Network,

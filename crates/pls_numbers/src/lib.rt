@@ -3,7 +3,7 @@
 #![tactic(auto)]
 
 mod fields;
-mod fixed;
+mod numbers_format;
 mod format;
 mod kind;
 mod numbers;
@@ -11,7 +11,7 @@ mod recoding;
 mod writing;
 
 pub use fields::{FieldValues, Fields, read_field};
-pub use fixed::{Fixed, OfNumbers, read_numbers};
+pub use numbers_format::{NumbersFormat, OfNumbers, read_numbers};
 pub use format::{Format, ReadsInPlace};
 pub use kind::FieldKind;
 pub use numbers::Numbers;

@@ -14,7 +14,7 @@ mod joined;
 mod narrowing;
 mod part_rules;
 mod part_verdicts;
-mod parted;
+mod label_parts;
 mod raising;
 
 pub use joined::{
@@ -23,5 +23,5 @@ pub use joined::{
 pub use narrowing::{FirstPart, Rest, SecondPart, parts, tag_of};
 pub use part_rules::{lacks_parts, own_tag};
 pub use part_verdicts::{both_verdicts, one_of_verdicts, some_true};
-pub use parted::{Parted, Tags, lend_all, part_all, rests_of, tags_of};
+pub use label_parts::{LabelParts, Tags, lend_all, part_all, rests_of, tags_of};
 pub use raising::raised;

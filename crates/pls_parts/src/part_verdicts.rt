@@ -7,7 +7,7 @@ ghost use Rattle.pls_parts.specs.Combined.{judge_both, judge_one_of, raised};
 ghost use Rattle.pls_parts.specs.Parts.{first_part, has_parts, second_part};
 ghost use Rattle.pls_parts.specs.inner.Rounds.{all_true, AreTags, both_verdict, one_of_verdict, SomeTrue};
 
-use crate::parted::Tags;
+use crate::label_parts::Tags;
 use crate::raising::raised;
 use pls_base::NoMemory;
 use pls_bits::NumCode;

@@ -9,7 +9,7 @@ use Rattle.pls_model.specs.declared.row.State.{State}
 use Rattle.pls_scheme.specs.Reading.{Read, ReadPort, port_with, reading}
 use Rattle.pls_scheme.proofs.MorePorts.{all_more, numbered_from_0}
 use Rattle.pls_centroid.specs.declared.level.CentroidLevel.{CentroidLevel}
-use Rattle.pls_pathmax.specs.declared.gathering.Gathered.{Gathered}
+use Rattle.pls_pathmax.specs.declared.gathering.PortTally.{PortTally}
 use Rattle.pls_pathmax.specs.declared.gathering.TheConstants.{WINDOW}
 use Rattle.pls_pathmax.specs.Labels.{PathMaxLabel}
 use Rattle.pls_levels.specs.Rules.{is_in_tree}
@@ -17,7 +17,7 @@ use Rattle.pls_pathmax.specs.Rules.{agrees_on_root, is_heavy_outside, leads_on, 
 use Rattle.pls_pathmax.specs.inner.OnePass.{gathered_from, is_led_on, leads_from, led_on_from, with_leads}
 
 -- the parts of what is gathered
-abbrev pub gathered_of : Bool → Bool → List Bool → Gathered
+abbrev pub gathered_of : Bool → Bool → List Bool → PortTally
 gathered_of agrees heavy led_on = record { agrees = agrees; heavy = heavy; led_on = led_on }
 
 -- flags by what each is
@@ -141,7 +141,7 @@ module _ (first id : ℕ) (state : State) (own : PathMaxLabel)
           ∙ ap (λ (more : Bool). inside && more)
           (last_leads level (slice_get theirs.levels number)))
 
-  module _ (was : Gathered) (is : was ≡ gathered_from first before) where
+  module _ (was : PortTally) (is : was ≡ gathered_from first before) where
     -- a port in the tree
     pub gathered_inside : inside ≡ true → (agrees : Bool) (led_on : List Bool)
         → agrees ≡ (was.agrees && theirs.root == own.root)
@@ -149,10 +149,10 @@ module _ (first id : ℕ) (state : State) (own : PathMaxLabel)
         → gathered_of agrees was.heavy led_on ≡ gathered_from first after
     gathered_inside here agrees led_on agrees_is led_is =
         rw (
-          agrees_is ∙ ap (λ (was : Gathered). was.agrees && theirs.root == own.root) is
+          agrees_is ∙ ap (λ (was : PortTally). was.agrees && theirs.root == own.root) is
               ∙ sym agrees_more,
-          ap (λ (was : Gathered). was.heavy) is ∙ heavy_here,
-          led_is ∙ ap (λ (was : Gathered). with_leads first weight own.levels theirs.levels
+          ap (λ (was : PortTally). was.heavy) is ∙ heavy_here,
+          led_is ∙ ap (λ (was : PortTally). with_leads first weight own.levels theirs.levels
               was.led_on)
               is ∙ led_here,
         ) refl
@@ -188,12 +188,12 @@ module _ (first id : ℕ) (state : State) (own : PathMaxLabel)
         → gathered_of agrees heavy was.led_on ≡ gathered_from first after
     gathered_outside out agrees heavy agrees_is heavy_is =
         rw (
-          agrees_is ∙ ap (λ (was : Gathered). was.agrees && theirs.root == own.root) is
+          agrees_is ∙ ap (λ (was : PortTally). was.agrees && theirs.root == own.root) is
               ∙ sym agrees_more,
-          heavy_is ∙ ap (λ (was : Gathered). was.heavy && meets) is
+          heavy_is ∙ ap (λ (was : PortTally). was.heavy && meets) is
               ∙ ap (λ (here : Bool). other_edges_are_heavy before && (here || meets)) (sym out)
               ∙ sym heavy_more,
-          ap (λ (was : Gathered). was.led_on) is ∙ led_out,
+          ap (λ (was : PortTally). was.led_on) is ∙ led_out,
         ) refl
       where
         or_false : (flag : Bool) → flag ≡ (flag || false)

@@ -21,7 +21,7 @@ use pls_bits::NumCode;
 use pls_centroid::CentroidLevel;
 use pls_levels::{LevelHead, is_in_tree, levels_of, pass_levels};
 use pls_numbers::Numbers;
-use pls_scheme::Looked;
+use pls_scheme::LabelGlance;
 
 // On how many levels rule 5 is asked in one pass over the ports. A right label has one level more
 // than the logarithm to the base 2 of the number of nodes says, so one pass is enough for it.
@@ -29,7 +29,7 @@ pub(crate) const WINDOW: usize = 64;
 
 // What is known of the ports so far.
 #[derive(Clone, Copy, Debug, PartialEq, Eq)]
-pub(crate) struct Gathered {
+pub(crate) struct PortTally {
     // The neighbours name the own root.
     pub(crate) agrees: bool,
     // On some level the node meets each neighbour lightly that is not beside it in the tree.
@@ -38,13 +38,13 @@ pub(crate) struct Gathered {
     pub(crate) led_on: [bool; WINDOW],
 }
 
-impl Gathered {
+impl PortTally {
     // Before the first port.
-    pub(crate) fn before() -> Gathered
+    pub(crate) fn before() -> PortTally
         ensures { (first id : ℕ) (state : State) (label : PathMaxLabel)
             → result ≡ gathered_from first (reading id state label []) }
     {
-        Gathered {
+        PortTally {
             agrees: true,
             heavy: true,
             led_on: [false; WINDOW],
@@ -56,12 +56,12 @@ impl Gathered {
 pub(crate) fn with_port<C: NumCode>(
     first: u64,
     up: Option<u32>,
-    own: &Looked<'_, PathMaxGlance>,
-    before: Gathered,
+    own: &LabelGlance<'_, PathMaxGlance>,
+    before: PortTally,
     place: usize,
     weight: u32,
-    label: &Looked<'_, PathMaxGlance>,
-) -> Gathered
+    label: &LabelGlance<'_, PathMaxGlance>,
+) -> PortTally
     ensures { (id : ℕ) (state : State) (mine theirs : PathMaxLabel)
         (ports : List (ReadPort PathMaxLabel)) → state.up ≡ up → length ports ≡ place
         → said_by pathmax_shape C.takes own.now.bits.now ≡ Some mine
@@ -77,14 +77,14 @@ pub(crate) fn with_port<C: NumCode>(
     let led_on = before.led_on;
     if is_in_tree(up, place, own.glance.head.own, label.glance.head.parent) {
         let led_on = led_on_with::<C>(first, own, weight, label, led_on);
-        Gathered {
+        PortTally {
             agrees,
             heavy: before.heavy,
             led_on,
         }
     } else {
         let heavy = is_heavy_too::<C>(before.heavy, own, weight, label);
-        Gathered {
+        PortTally {
             agrees,
             heavy,
             led_on,
@@ -95,9 +95,9 @@ pub(crate) fn with_port<C: NumCode>(
 // Adds a port in the tree to `before`, whose flags start at level `first`.
 fn led_on_with<C: NumCode>(
     first: u64,
-    own: &Looked<'_, PathMaxGlance>,
+    own: &LabelGlance<'_, PathMaxGlance>,
     weight: u64,
-    label: &Looked<'_, PathMaxGlance>,
+    label: &LabelGlance<'_, PathMaxGlance>,
     before: [bool; WINDOW],
 ) -> [bool; WINDOW]
     ensures { (mine theirs : PathMaxLabel)
@@ -122,9 +122,9 @@ fn agrees_too(before: bool, own: &LevelHead, theirs: &LevelHead) -> bool
 
 fn is_heavy_too<C: NumCode>(
     before: bool,
-    own: &Looked<'_, PathMaxGlance>,
+    own: &LabelGlance<'_, PathMaxGlance>,
     weight: u64,
-    label: &Looked<'_, PathMaxGlance>,
+    label: &LabelGlance<'_, PathMaxGlance>,
 ) -> bool
     ensures { (mine theirs : PathMaxLabel)
         → said_by pathmax_shape C.takes own.now.bits.now ≡ Some mine
@@ -148,7 +148,7 @@ fn is_heavy_too<C: NumCode>(
 // Whether rule 5 holds on `WINDOW` levels from `first` on.
 pub(crate) fn has_ways<C: NumCode>(
     first: u64,
-    own: &Looked<'_, PathMaxGlance>,
+    own: &LabelGlance<'_, PathMaxGlance>,
     led_on: &[bool; WINDOW],
 ) -> bool
     ensures { (id : ℕ) (state : State) (mine : PathMaxLabel) (ports : List (ReadPort PathMaxLabel))

@@ -2,13 +2,13 @@
 
 ghost use Rattle.std.specs.Prelude.{◌≡◌};
 
-use crate::gathering::{Gathered, has_ways, with_port};
+use crate::gathering::{PortTally, has_ways, with_port};
 use crate::glance::{PathMaxGlance, glance_in, head_above};
 use crate::levels::{PathMaxFormat, PathMaxLevels};
 use pls_bits::{Bits, NumCode};
 use pls_levels::is_placed;
 use pls_model::{State, Verdict};
-use pls_scheme::{Judgement, JudgesInPlace, Looked, judged_from};
+use pls_scheme::{Judgement, JudgesInPlace, LabelGlance, judged_from};
 use std::marker::PhantomData;
 
 // The rules of spanning trees of least weight by centroids, of which rule 5 is asked of up to 64
@@ -58,7 +58,7 @@ impl<C: NumCode> JudgesInPlace for PathMaxPass<C> {
 
     type Memory = Option<PathMaxGlance>;
 
-    type Tally = Gathered;
+    type Tally = PortTally;
 
     ghost glance = { λ _ label. glance_said label };
 
@@ -68,27 +68,27 @@ impl<C: NumCode> JudgesInPlace for PathMaxPass<C> {
         glance_in::<C>(bits)
     }
 
-    fn open(&self, _own: &PathMaxGlance) -> Gathered {
-        Gathered::before()
+    fn open(&self, _own: &PathMaxGlance) -> PortTally {
+        PortTally::before()
     }
 
     fn pass(
         &self,
         up: Option<u32>,
-        own: &Looked<'_, PathMaxGlance>,
-        tally: Gathered,
+        own: &LabelGlance<'_, PathMaxGlance>,
+        tally: PortTally,
         place: usize,
         weight: u32,
-        label: &Looked<'_, PathMaxGlance>,
-    ) -> Gathered {
+        label: &LabelGlance<'_, PathMaxGlance>,
+    ) -> PortTally {
         with_port::<C>(self.first, up, own, tally, place, weight, label)
     }
 
-    fn settled(
+    fn early_verdict(
         &self,
         id: u32,
         state: State,
-        own: &Looked<'_, PathMaxGlance>,
+        own: &LabelGlance<'_, PathMaxGlance>,
         above: Option<&PathMaxGlance>,
     ) -> Option<Verdict> {
         if is_placed::<PathMaxLevels>(id, state, &own.glance.head, head_above(above)) {
@@ -102,9 +102,9 @@ impl<C: NumCode> JudgesInPlace for PathMaxPass<C> {
         &self,
         id: u32,
         state: State,
-        own: &Looked<'_, PathMaxGlance>,
+        own: &LabelGlance<'_, PathMaxGlance>,
         above: Option<&PathMaxGlance>,
-        tally: Gathered,
+        tally: PortTally,
     ) -> Verdict {
         let placed = is_placed::<PathMaxLevels>(id, state, &own.glance.head, head_above(above));
         let ways = has_ways::<C>(self.first, own, &tally.led_on);

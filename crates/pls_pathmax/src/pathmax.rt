@@ -62,7 +62,7 @@ pub(crate) fn pass_from<C>(first: u64) -> Basic<PathMaxPass<C>>
 }
 
 // Asks all rules, in as many passes as the levels need.
-pub(crate) fn judged<C: NumCode>(view: &View<'_>) -> Verdict
+pub(crate) fn judge_view<C: NumCode>(view: &View<'_>) -> Verdict
     ensures { result ≡ verdict_by pathmax_shape pathmax_rules C.takes view.now }
 {
     let verdict = pass_from::<C>(0).judge(view);

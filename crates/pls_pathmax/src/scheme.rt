@@ -9,7 +9,7 @@ ghost use Rattle.pls_pathmax.specs.Rules.{pathmax_rules};
 use crate::glance::{PathMaxGlance, glance_in};
 use crate::in_memory::verdict_of_node;
 use crate::levels::{PathMaxFormat, PathMaxLabel};
-use crate::pathmax::{PathMaxRules, judged, pass_from};
+use crate::pathmax::{PathMaxRules, judge_view, pass_from};
 use pls_base::{NoMemory, Steps};
 use pls_bits::{BitBuf, Bits, NumCode};
 use pls_facts::is_valid;
@@ -43,7 +43,7 @@ impl<C: NumCode> PathMax<C> {
     pub fn judge(&self, view: &View<'_>) -> Verdict
         ensures { result ≡ verdict_by pathmax_shape pathmax_rules C.takes view.now }
     {
-        judged::<C>(view)
+        judge_view::<C>(view)
     }
 
     /// The label that the bits are, written in the number code `D`, or `None` where they are no

@@ -6,7 +6,7 @@ ghost use Rattle.std.specs.Option.{is_some};
 use crate::deeper::is_one_deeper;
 use pls_bits::NumCode;
 use pls_model::State;
-use pls_scheme::{Fixed, Judgement, OfNumbers, Ruled, Rules, Verdict, judged_from};
+use pls_scheme::{NumbersFormat, Judgement, OfNumbers, RuleScheme, Rules, Verdict, judged_from};
 use std::marker::PhantomData;
 
 /// What a label says.
@@ -39,19 +39,19 @@ impl OfNumbers<1> for DepthLabel {
 }
 
 /// The scheme of forests of pointers, whose labels are written in the number code `C`.
-pub type Forest<C> = Ruled<ForestRules<C>>;
+pub type Forest<C> = RuleScheme<ForestRules<C>>;
 
 /// The rules of forests of pointers.
 #[derive(Clone, Copy, Debug, PartialEq, Eq)]
 pub struct ForestRules<C> {
-    format: Fixed<DepthLabel, 1>,
+    format: NumbersFormat<DepthLabel, 1>,
     code: PhantomData<C>,
 }
 
 impl<C> Default for ForestRules<C> {
     fn default() -> Self {
         ForestRules {
-            format: Fixed::default(),
+            format: NumbersFormat::default(),
             code: PhantomData,
         }
     }
@@ -62,13 +62,13 @@ impl<C: NumCode> Judgement for ForestRules<C> {
 
     type Code = C;
 
-    type Format = Fixed<DepthLabel, 1>;
+    type Format = NumbersFormat<DepthLabel, 1>;
 
     ghost format = { λ s. s.format };
 
     ghost rules = { λ _. forest_rules };
 
-    fn format(&self) -> &Fixed<DepthLabel, 1> {
+    fn format(&self) -> &NumbersFormat<DepthLabel, 1> {
         &self.format
     }
 }

@@ -6,7 +6,7 @@ ghost use Rattle.std.specs.Option.{is_some};
 use crate::deeper::is_one_deeper;
 use pls_bits::NumCode;
 use pls_model::State;
-use pls_scheme::{Fixed, Judgement, OfNumbers, Ruled, Rules, Verdict, judged_from};
+use pls_scheme::{NumbersFormat, Judgement, OfNumbers, RuleScheme, Rules, Verdict, judged_from};
 use std::marker::PhantomData;
 
 /// What a label says.
@@ -41,19 +41,19 @@ impl OfNumbers<2> for TreeLabel {
 }
 
 /// The scheme of trees of pointers, whose labels are written in the number code `C`.
-pub type Tree<C> = Ruled<TreeRules<C>>;
+pub type Tree<C> = RuleScheme<TreeRules<C>>;
 
 /// The rules of trees of pointers.
 #[derive(Clone, Copy, Debug, PartialEq, Eq)]
 pub struct TreeRules<C> {
-    format: Fixed<TreeLabel, 2>,
+    format: NumbersFormat<TreeLabel, 2>,
     code: PhantomData<C>,
 }
 
 impl<C> Default for TreeRules<C> {
     fn default() -> Self {
         TreeRules {
-            format: Fixed::default(),
+            format: NumbersFormat::default(),
             code: PhantomData,
         }
     }
@@ -64,13 +64,13 @@ impl<C: NumCode> Judgement for TreeRules<C> {
 
     type Code = C;
 
-    type Format = Fixed<TreeLabel, 2>;
+    type Format = NumbersFormat<TreeLabel, 2>;
 
     ghost format = { λ s. s.format };
 
     ghost rules = { λ _. tree_rules };
 
-    fn format(&self) -> &Fixed<TreeLabel, 2> {
+    fn format(&self) -> &NumbersFormat<TreeLabel, 2> {
         &self.format
     }
 }

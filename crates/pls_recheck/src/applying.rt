@@ -13,13 +13,13 @@ ghost use Rattle.pls_recheck.specs.After.{watch_after};
 ghost use Rattle.pls_recheck.specs.Watch.{IsCurrent};
 ghost use Rattle.pls_recheck.specs.inner.Flags.{ClearsSome, MarksMore};
 
-use crate::watched::Watched;
+use crate::edited_network::EditedNetwork;
 use pls_edits::{Edit, EditError};
 use pls_graph::Network;
 use pls_graph_edits::{link, set_state, set_weight, unlink};
 use pls_model::State;
 
-impl Watched {
+impl EditedNetwork {
     /// Makes an edit, and touches the nodes whose view it may change. An edit that is refused
     /// changes and touches nothing; its error is the network's. Only a link, a join and a label may
     /// find no memory. It costs what the network's edit costs; a label goes over its node's

@@ -4,7 +4,7 @@ ghost use Rattle.std.specs.Prelude.{◌≡◌};
 
 use crate::asks::Asks;
 use crate::bench::Bench;
-use crate::placed::{OfOne, Placed};
+use crate::checker_at_place::{OfOne, CheckerAtPlace};
 use pls_base::{NoMemory, Steps};
 use pls_graph::Network;
 use pls_model::Verdict;
@@ -42,7 +42,7 @@ impl<'a, K: Remembers, B: Bench> Asks<B> for ByMemory<'a, K> {
         steps: &mut Steps,
     ) -> Result<Verdict, NoMemory> {
         let placed = OfOne {
-            one: Placed {
+            one: CheckerAtPlace {
                 checker: self.checker,
                 net,
                 labels,

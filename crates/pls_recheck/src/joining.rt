@@ -13,14 +13,14 @@ ghost use Rattle.pls_edits.specs.declared.edit.Edit.TheVariants.{Join, Leave};
 ghost use Rattle.pls_recheck.specs.After.{watch_after};
 ghost use Rattle.pls_recheck.specs.Watch.{IsCurrent};
 
-use crate::watched::Watched;
+use crate::edited_network::EditedNetwork;
 use pls_edits::EditError;
 use pls_graph::Network;
 use pls_graph_edits::{join, leave};
 use pls_model::Verdict;
 use pls_view::LabelStore;
 
-impl Watched {
+impl EditedNetwork {
     // The node has no ports, no pointer and an empty label; gives its place.
     pub(crate) fn join(&mut self, id: u32, mark: u32, num: u64) -> Result<usize, EditError>
         requires { num ≤ MAX_NUM }

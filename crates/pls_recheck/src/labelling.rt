@@ -14,7 +14,7 @@ ghost use Rattle.pls_recheck.specs.After.{watch_after};
 ghost use Rattle.pls_recheck.specs.Watch.{IsCurrent};
 ghost use Rattle.pls_recheck.specs.inner.Flags.{AreAround, MarksMore, SetsAt, beside_itself};
 
-use crate::watched::Watched;
+use crate::edited_network::EditedNetwork;
 use pls_bits::BitBuf;
 use pls_edits::EditError;
 use pls_graph::Network;
@@ -23,7 +23,7 @@ use pls_view::LabelStore;
 // The greatest number of bits of all labels together, 2^28.
 const MOST_BITS: u64 = 268_435_456;
 
-impl Watched {
+impl EditedNetwork {
     // Gives the node's place.
     pub(crate) fn set_label(&mut self, id: u32, bits: &BitBuf) -> Result<usize, EditError>
         ensures ok { OnOk result (self.new ≡ watch_after (Label id bits.now) self.old) }

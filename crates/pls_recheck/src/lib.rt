@@ -1,11 +1,11 @@
 //! Edits of a network while it is watched with its labels, and rounds in which only the nodes that
 //! an edit touched are judged again.
 //!
-//! A [`Watched`] holds a network, its labels and the verdicts of the last rounds, and is seen as
-//! the record `Snapshot`. [`Watched::apply`] makes an [`Edit`] and touches the nodes whose view it
-//! may change; [`Watched::round`] asks a [`Judge`] once for each touched node and for no other.
-//! Where no node is touched, [`Watched::verdicts`] are those of a full round. A [`Judge`] is lent
-//! to each round: [`Counted`] judges as a checker does by asking a [`Bench`], which counts the
+//! A [`EditedNetwork`] holds a network, its labels and the verdicts of the last rounds, and is seen as
+//! the record `Snapshot`. [`EditedNetwork::apply`] makes an [`Edit`] and touches the nodes whose view it
+//! may change; [`EditedNetwork::round`] asks a [`Judge`] once for each touched node and for no other.
+//! Where no node is touched, [`EditedNetwork::verdicts`] are those of a full round. A [`Judge`] is lent
+//! to each round: [`BenchJudge`] judges as a checker does by asking a [`Bench`], which counts the
 //! questions. A [`Recheck`] keeps its judge, and its verdicts are those of that judge. A [`Monitor`]
 //! keeps a checker that remembers what each label says, and lends a bench to each round.
 //!
@@ -20,23 +20,23 @@ mod applying;
 mod asks;
 mod bench;
 mod by_memory;
-mod counted;
+mod bench_judge;
 mod joining;
 mod judge;
 mod labelling;
 mod monitor;
-mod placed;
+mod checker_at_place;
 mod recheck;
 mod remembering;
 mod rounds;
 mod tally;
-mod watched;
+mod edited_network;
 
 pub use bench::Bench;
-pub use counted::Counted;
+pub use bench_judge::BenchJudge;
 pub use judge::Judge;
 pub use monitor::Monitor;
 pub use pls_edits::{Edit, EditError, EditLine, EditsText, scan_edits};
 pub use recheck::Recheck;
 pub use tally::Tally;
-pub use watched::Watched;
+pub use edited_network::EditedNetwork;

@@ -8,7 +8,7 @@ ghost use Rattle.pls_recheck.specs.Watch.{EndsEarly};
 
 use crate::bench::Bench;
 use crate::by_memory::ByMemory;
-use crate::watched::Watched;
+use crate::edited_network::EditedNetwork;
 use pls_base::{NoMemory, Steps};
 use pls_edits::{Edit, EditError};
 use pls_graph::Network;
@@ -18,13 +18,13 @@ use pls_view::LabelStore;
 use std::alloc::Global;
 use std::marker::Model;
 
-/// A [`Watched`] with the checker of all its rounds, and what this remembers of each label, so that
+/// A [`EditedNetwork`] with the checker of all its rounds, and what this remembers of each label, so that
 /// a label is read once and not in each round. Seen as the record `Rechecked`, the checker being the
 /// judge.
 #[derive(Drop)]
 pub struct Monitor<K: Remembers> {
     pub(crate) checker: K,
-    pub(crate) core: Watched,
+    pub(crate) core: EditedNetwork,
     // For each node what is remembered of its label.
     pub(crate) memories: Vec<K::Memory>,
 }
@@ -63,7 +63,7 @@ impl<K: Remembers + Drop> Monitor<K> {
         ensures all { IfOk result (λ monitor. monitor.touched ≡ ids_of net) }
     {
         let memories = remember_all(alloc, &checker, &labels)?;
-        let core = Watched::start(alloc, net, labels)?;
+        let core = EditedNetwork::start(alloc, net, labels)?;
         Ok(Monitor {
             checker,
             core,
@@ -127,10 +127,10 @@ impl<K: Remembers> Monitor<K> {
     }
 
     /// How many nodes are touched.
-    pub fn touched(&self) -> u32
+    pub fn touched_count(&self) -> u32
         ensures { result ≡ length self.now.touched }
     {
-        self.core.touched()
+        self.core.touched_count()
     }
 }
 

@@ -9,7 +9,7 @@ ghost use Rattle.pls_recheck.specs.After.{touched_after};
 ghost use Rattle.pls_recheck.specs.Watch.{EndsEarly};
 
 use crate::judge::Judge;
-use crate::watched::Watched;
+use crate::edited_network::EditedNetwork;
 use pls_base::{NoMemory, Steps};
 use pls_edits::{Edit, EditError};
 use pls_graph::Network;
@@ -18,14 +18,14 @@ use pls_view::LabelStore;
 use std::alloc::Global;
 use std::marker::Model;
 
-// What is known of a value that a judge borrows, as of the bench of a `Counted`, is lost where the
+// What is known of a value that a judge borrows, as of the bench of a `BenchJudge`, is lost where the
 // judge is moved in here and out again. Who has to count a bench's questions lends the judge to
-// each `Watched::round` instead.
-/// A [`Watched`] with the judge of all its rounds, seen as the record `Rechecked`.
+// each `EditedNetwork::round` instead.
+/// A [`EditedNetwork`] with the judge of all its rounds, seen as the record `Rechecked`.
 #[derive(Drop)]
 pub struct Recheck<J: Judge> {
     judge: J,
-    core: Watched,
+    core: EditedNetwork,
 }
 
 impl<J: Judge> Model for Recheck<J> {
@@ -59,13 +59,13 @@ impl<J: Judge + Drop> Recheck<J> {
         ensures judge { IfOk result (λ recheck. recheck.judge ≡ judge) }
         ensures all { IfOk result (λ recheck. recheck.touched ≡ ids_of net) }
     {
-        let core = Watched::start(alloc, net, labels)?;
+        let core = EditedNetwork::start(alloc, net, labels)?;
         Ok(Recheck { judge, core })
     }
 }
 
 impl<J: Judge> Recheck<J> {
-    /// Makes an edit, and touches the nodes whose view it may change, as [`Watched::apply`] does.
+    /// Makes an edit, and touches the nodes whose view it may change, as [`EditedNetwork::apply`] does.
     pub fn apply(&mut self, edit: &Edit) -> Result<(), EditError>
         requires { FitsNum edit.now }
         ensures network { OnOk result
@@ -131,10 +131,10 @@ impl<J: Judge> Recheck<J> {
     }
 
     /// How many nodes are touched.
-    pub fn touched(&self) -> u32
+    pub fn touched_count(&self) -> u32
         ensures { result ≡ length self.now.touched }
     {
-        self.core.touched()
+        self.core.touched_count()
     }
 
     /// The judge as it stands. It takes no memory.

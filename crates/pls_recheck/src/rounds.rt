@@ -11,14 +11,14 @@ ghost use Rattle.pls_recheck.specs.inner.Flags.{AreCurrent, cleared, marked};
 
 use crate::asks::{Asks, ByView};
 use crate::judge::Judge;
-use crate::watched::Watched;
+use crate::edited_network::EditedNetwork;
 use pls_base::{NoMemory, Steps};
 use pls_graph::Network;
 use pls_model::Verdict;
 use pls_view::{LabelStore, View};
 use std::alloc::Global;
 
-impl Watched {
+impl EditedNetwork {
     /// Asks the judge once for each touched node and for no other, in the order of the nodes, and
     /// gives their number. None is touched afterwards. The verdicts that are kept must be those of
     /// this judge, which they are from the start on, whatever the edits. The one error is want of
@@ -93,7 +93,7 @@ impl Watched {
         ensures all { IfSome result (λ found. (judge : Seen → Verdict) → IsCurrent judge self.now
             → found.now ≡ round_by judge self.now.network self.now.labels) }
     {
-        if self.touched() > 0 {
+        if self.touched_count() > 0 {
             return None;
         }
         Some(self.kept.as_slice())
@@ -148,7 +148,7 @@ fn judge_flagged<'a, C, A: Asks<C>>(
     for i in 0..net.len() {
         if flags[i] {
             let found = judge_at(alloc, &mut view, net, labels, i, asks, counter, steps)?;
-            answered(flags, kept, i, found);
+            keep_answer(flags, kept, i, found);
             checked += 1;
         }
     }
@@ -156,7 +156,7 @@ fn judge_flagged<'a, C, A: Asks<C>>(
 }
 
 // Keeps the verdict of the node at place `i`, and takes its flag back.
-fn answered(flags: &mut Vec<bool>, kept: &mut Vec<(u32, Verdict)>, i: usize, found: (u32, Verdict))
+fn keep_answer(flags: &mut Vec<bool>, kept: &mut Vec<(u32, Verdict)>, i: usize, found: (u32, Verdict))
     requires flag { i < length flags.old.items }
     requires verdict { i < length kept.old.items }
     ensures flag { flags.new.items ≡ slice_set flags.old.items i false }

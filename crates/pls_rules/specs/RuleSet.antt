@@ -5,7 +5,8 @@ use Rattle.pls_numbers.specs.declared.kind.FieldKind.{FieldKind}
 use Rattle.pls_rules.specs.declared.field.Field.{Field}
 use Rattle.pls_rules.specs.Formula.{Formula, Term, Eq, Lt, Le, Same, Both, Either, Not, All as Each, Any, Number, Id, Mark, Num, Degree, Pointed, My, Up, UpWeight, Nb, NbWeight, NbUp, Add, Sum, formula_height, formula_nesting}
 
--- a rule set
+-- a rule set: the fields of each label in their order, and the formulas that each node asks, of
+-- which the first is rule 3; 1 and 2 ask that labels can be read
 pub record Rules : Type 0 where
   pub fields : List Field
   pub rules : List (Formula ℕ)

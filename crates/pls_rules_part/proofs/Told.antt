@@ -5,7 +5,7 @@ use Rattle.pls_lines.specs.LineKind.{Always, alone}
 use Rattle.pls_lines.specs.Lines.{Left, Passes}
 use Rattle.pls_lines.specs.ListPart.{PassesList, TellsItems, list_lines}
 use Rattle.pls_lines.specs.Text.{text_of}
-use Rattle.pls_lines.specs.declared.counted.Headed.{Headed}
+use Rattle.pls_lines.specs.declared.counted.BareHeading.{BareHeading}
 use Rattle.pls_rules_part.specs.RulesScan.{AreRuleLines, HasRules, LineWords, PassesRules, TellsRules, words_line, words_of, written_rules}
 use Rattle.pls_rules_part.specs.RulesText.{OfField, OfRule, RuleLine, RulesSaid, rule_line, rule_lines, rules_lines}
 use Rattle.pls_rules_part.specs.declared.rules_tally.RulesTally.{RulesTally}
@@ -28,7 +28,7 @@ part_written items said is =
     ∙ ap (part_lines (codes "rules")) (words_written (rule_lines said))
 
 -- what a text says as a list, it says as fields and rules
-pub tells_rules : (text : List ℕ) (heading : Headed RulesWord) (items : List LineWords)
+pub tells_rules : (text : List ℕ) (heading : BareHeading RulesWord) (items : List LineWords)
     → (tells : TellsItems Always (alone (codes "rules")) words_line AreRuleLines text heading items)
     → TellsRules text tells.are.said
 tells_rules text heading items tells = record {
@@ -36,7 +36,7 @@ tells_rules text heading items tells = record {
   is = tells.is ∙ ap text_of (part_written items tells.are.said tells.are.is);
 }
 
-module _ (old new : Left) (heading : Headed RulesWord) (at : Left) (kept : RulesTally)
+module _ (old new : Left) (heading : BareHeading RulesWord) (at : Left) (kept : RulesTally)
     (passed : PassesList Always (alone (codes "rules")) words_line AreRuleLines rules_tally old new
     heading at kept) where
   pub has_rules : HasRules (written_rules at.rest at.number)

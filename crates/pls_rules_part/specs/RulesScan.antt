@@ -3,7 +3,7 @@ use Rattle.std.specs.Prelude.{◌≡◌, ℕ, List, [], ◌∷◌, map, codes}
 use Rattle.pls_lines.specs.LineKind.{Always, Says, alone}
 use Rattle.pls_lines.specs.Lines.{Left, Passes}
 use Rattle.pls_lines.specs.ListPart.{IsListPart}
-use Rattle.pls_lines.specs.declared.counted.Headed.{Headed}
+use Rattle.pls_lines.specs.declared.counted.BareHeading.{BareHeading}
 use Rattle.pls_lines.specs.Worded.{worded}
 use Rattle.pls_rules.specs.declared.field.Field.{Field}
 use Rattle.pls_rule_text.specs.FormulaText.{IsFieldName}
@@ -48,7 +48,7 @@ pub record AreRuleLines (lines : List LineWords) : Type 0 where
 
 -- the line is the heading, which is one word and says nothing more
 abbrev pub IsRulesHeading : List ℕ → Type 0
-IsRulesHeading line = Says {X = Headed RulesWord} Always (alone (codes "rules")) line
+IsRulesHeading line = Says {X = BareHeading RulesWord} Always (alone (codes "rules")) line
 
 -- the lines are those of a rules part
 abbrev pub IsRulesPart : List (List ℕ) → Type 0

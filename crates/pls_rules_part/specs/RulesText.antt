@@ -78,11 +78,11 @@ refusals_from line [] = []
 refusals_from line (refusal ∷ others) =
     option_map (λ number. Sense number line) refusal ∷ refusals_from (line + 1) others
 
--- by which line a part is refused whose heading is in this one
+-- the first refusal of a rules part whose heading stands in the line of this number
 abbrev pub rules_refusal : ℕ → RulesSaid → Option TextError
 rules_refusal heading said = first_of (refusals_from (heading + 1) (line_refusals said))
 
--- the formula of a rule that is no deeper than it may be
+-- the formulas of the rules that are no deeper than they may be, in their order
 abbrev pub formulas_in : List RuleSaid → List (Formula (List ℕ))
 formulas_in [] = []
 formulas_in (Shallow formula ∷ rules) = formula ∷ formulas_in rules

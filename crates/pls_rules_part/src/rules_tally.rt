@@ -7,7 +7,7 @@ ghost use Rattle.pls_rules_part.specs.RulesScan.{AreRuleLines, LineWords};
 ghost use Rattle.pls_rules_part.specs.inner.Tally.{rules_tally};
 
 use crate::rule_words::RuleWords;
-use pls_lines::{Headed, HeadingWord, ListTally};
+use pls_lines::{BareHeading, HeadingWord, ListTally};
 
 // The greatest number of fields, and of rules.
 const MOST_FIELDS: u8 = 8;
@@ -43,7 +43,7 @@ impl<'a> ListTally<'a> for RulesTally {
     ghost use Rattle.pls_rules_part.specs.inner.Tally.{rules_tally};
     ghost use Rattle.pls_rules_part.specs.laws.LineLaws.{rules_list};
 
-    type Heading = Headed<RulesWord>;
+    type Heading = BareHeading<RulesWord>;
 
     type Item = RuleWords<'a>;
 

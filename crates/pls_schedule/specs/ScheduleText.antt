@@ -9,7 +9,7 @@ use Rattle.pls_lines.specs.LineKind.{Always, Says, alone}
 use Rattle.pls_lines.specs.Lines.{Left, Passes}
 use Rattle.pls_lines.specs.ListPart.{IsListPart, list_lines, list_text}
 use Rattle.pls_lines.specs.Worded.{numbered}
-use Rattle.pls_lines.specs.declared.counted.Headed.{Headed}
+use Rattle.pls_lines.specs.declared.counted.BareHeading.{BareHeading}
 use Rattle.pls_schedule.specs.declared.event.Event.{Event}
 use Rattle.pls_schedule.specs.declared.event.Event.TheVariants.{Emit, Arrive, Restart}
 use Rattle.pls_model.specs.declared.limits.TheConstants.{MAX_LINES}
@@ -51,7 +51,7 @@ AreEvents events = All FitsEvent events
 
 -- the line is the heading, which is one word and says nothing more
 abbrev pub IsScheduleHeading : List ℕ → Type 0
-IsScheduleHeading line = Says {X = Headed ScheduleWord} Always (alone (codes "schedule")) line
+IsScheduleHeading line = Says {X = BareHeading ScheduleWord} Always (alone (codes "schedule")) line
 
 -- the lines are those of a schedule part
 abbrev pub IsSchedulePart : List (List ℕ) → Type 0

@@ -59,7 +59,7 @@ judged_read rules view (Some own) (Some ports) =
 abbrev pub judge_by : {L : Type 0} → (List Bool → Option L) → (Read L → List Bool) → Seen → Verdict
 judge_by read rules view = judged_read rules view (read view.own) (read_ports read view.ports)
 
--- the pointer is the port of this number
+-- a node with this pointer points at the port of this number, from 0
 abbrev pub is_pointer : Option ℕ → ℕ → Bool
 is_pointer None place = false
 is_pointer (Some number) place = number == place
@@ -72,8 +72,8 @@ port_with weight label = record { weight = weight; label = label }
 abbrev pub label_above : {L : Type 0} → List (ReadPort L) → Option ℕ → Option L
 label_above ports up = option_map (λ port. port.label) (option_and_then (slice_get ports) up)
 
--- what a node of this identity and state reads, whose label says this, at all its ports or at the
--- first of them
+-- what a node reads that has this identity, state and label, and reads this at its ports; the ports
+-- may be a front of its list, where the others are still to come
 abbrev pub reading : {L : Type 0} → ℕ → State → L → List (ReadPort L) → Read L
 reading id state own ports = record { id = id; state = state; own = own; ports = ports }
 

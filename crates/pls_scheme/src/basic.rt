@@ -13,7 +13,7 @@ use crate::once::Once;
 use crate::property::Property;
 use crate::round::verdicts_of;
 use crate::scheme::Scheme;
-use crate::view_judged::judged;
+use crate::view_judged::judge_view;
 use pls_base::{NoMemory, Steps};
 use pls_bits::{BitBuf, Bits, NumCode};
 use pls_facts::is_valid;
@@ -32,7 +32,7 @@ pub struct Basic<R> {
 }
 
 /// A basic scheme by rules that read each label of a view once.
-pub type Ruled<R> = Basic<Once<R>>;
+pub type RuleScheme<R> = Basic<Once<R>>;
 
 impl<R: Default> Basic<R> {
     /// The scheme whose rules are the usual ones. It takes no memory.
@@ -65,7 +65,7 @@ impl<R: JudgesInPlace> Basic<R> {
         ensures { result ≡ verdict_by (R.Format.shape (R.format self.now.rules))
             (R.rules self.now.rules) R.Code.takes view.now }
     {
-        judged(&self.rules, view)
+        judge_view(&self.rules, view)
     }
 }
 

@@ -8,13 +8,13 @@ ghost use Rattle.pls_scheme.specs.Judging.{judged_from};
 ghost use Rattle.pls_scheme.specs.Reading.{Read, ReadPort, label_above, port_with, reading};
 
 use crate::judgement::Judgement;
-use crate::memory::Kept;
+use crate::memory::GlanceMemory;
 use pls_bits::Bits;
 use pls_model::{State, Verdict};
 
 /// A label that was looked at: its bits, and what they say at a glance.
 #[derive(Drop)]
-pub struct Looked<'a, G> {
+pub struct LabelGlance<'a, G> {
     /// The bits of the label, lent.
     pub bits: &'a Bits<'a>,
     /// What they say at a glance.
@@ -28,7 +28,7 @@ pub trait JudgesInPlace: Judgement {
     type Glance: Drop;
 
     /// How a glance is kept from round to round.
-    type Memory: Kept<Self::Glance> + Drop;
+    type Memory: GlanceMemory<Self::Glance> + Drop;
 
     /// What is gathered in a pass over the ports.
     type Tally: Drop;
@@ -54,11 +54,11 @@ pub trait JudgesInPlace: Judgement {
     fn pass(
         &self,
         up: Option<u32>,
-        own: &Looked<'_, Self::Glance>,
+        own: &LabelGlance<'_, Self::Glance>,
         tally: Self::Tally,
         place: usize,
         weight: u32,
-        label: &Looked<'_, Self::Glance>,
+        label: &LabelGlance<'_, Self::Glance>,
     ) -> Self::Tally
         ensures { (id : ℕ) (state : State) (mine theirs : Self.Format.Label)
             (ports : List (ReadPort Self.Format.Label))
@@ -77,11 +77,11 @@ pub trait JudgesInPlace: Judgement {
     /// that the node points at, whatever the other neighbours say: then no other label has to be
     /// looked into. `None` says nothing.
     #[inline(always)]
-    fn settled(
+    fn early_verdict(
         &self,
         _id: u32,
         _state: State,
-        _own: &Looked<'_, Self::Glance>,
+        _own: &LabelGlance<'_, Self::Glance>,
         _above: Option<&Self::Glance>,
     ) -> Option<Verdict>
         ensures { (label : Self.Format.Label) (ports : List (ReadPort Self.Format.Label))
@@ -102,7 +102,7 @@ pub trait JudgesInPlace: Judgement {
         &self,
         id: u32,
         state: State,
-        own: &Looked<'_, Self::Glance>,
+        own: &LabelGlance<'_, Self::Glance>,
         above: Option<&Self::Glance>,
         tally: Self::Tally,
     ) -> Verdict

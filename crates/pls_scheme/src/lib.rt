@@ -8,12 +8,12 @@
 //! alone.
 //!
 //! A basic scheme states only what is its own: how its labels are lists of numbers ([`Format`];
-//! [`Fixed`] for a fixed count of them), its rules ([`Rules`] over labels that are read, each once,
+//! [`NumbersFormat`] for a fixed count of them), its rules ([`Rules`] over labels that are read, each once,
 //! or [`JudgesInPlace`] over labels that are kept at a glance), its property and what labels are
 //! right ([`Marker`]).
-//! [`Basic`] makes the scheme of it, [`Ruled`] of [`Rules`]. Other schemes implement [`Checker`],
+//! [`Basic`] makes the scheme of it, [`RuleScheme`] of [`Rules`]. Other schemes implement [`Checker`],
 //! [`Property`] and [`Scheme`] themselves. A checker that [`Remembers`] judges a node by a memory
-//! of each label, as [`Basic`] does by what is [`Kept`] of it, in place or [`Boxed`].
+//! of each label, as [`Basic`] does by what is [`GlanceMemory`] of it, in place or [`BoxedGlance`].
 //!
 //! Definitions stand in `specs/`: `Judging` has verdicts and rounds, `Reading` what a node reads,
 //! `Basic` what a basic scheme means, `Theorem` what makes rules and a marker a scheme, `Marked`
@@ -44,20 +44,20 @@ mod scheme;
 mod settling;
 mod view_judged;
 
-pub use basic::{Basic, Ruled};
+pub use basic::{Basic, RuleScheme};
 pub use certify::{are_accepted, certifies, is_scheme, some_node_rejects};
 pub use checker::Checker;
 pub use holding::hold_everywhere;
-pub use in_place::{JudgesInPlace, Looked};
+pub use in_place::{JudgesInPlace, LabelGlance};
 pub use judgement::Judgement;
 pub use judging::{is_one_more, judged_from};
 pub use labels::labels_of;
 pub use length::{code_length, codes_length};
 pub use marker::Marker;
-pub use memory::{Boxed, Kept};
+pub use memory::{BoxedGlance, GlanceMemory};
 pub use once::Once;
 pub use pls_model::Verdict;
-pub use pls_numbers::{Fixed, Format, OfNumbers, ReadsInPlace};
+pub use pls_numbers::{NumbersFormat, Format, OfNumbers, ReadsInPlace};
 pub use property::Property;
 pub use remembers::Remembers;
 pub use rules::Rules;

@@ -8,8 +8,8 @@ use std::alloc::Global;
 use std::marker::Model;
 
 /// What is kept of a label: what it says at a glance, or that it cannot be read. An `Option` keeps
-/// a small glance where it stands, and [`Boxed`] a large one elsewhere.
-pub trait Kept<G> {
+/// a small glance where it stands, and [`BoxedGlance`] a large one elsewhere.
+pub trait GlanceMemory<G> {
     // What it says, or `None` where it cannot be read.
     ghost glance_in_memory: { Self → Option G };
 
@@ -28,7 +28,7 @@ pub trait Kept<G> {
     ghost memory_law: { (glance : Option G) → glance_in_memory (keeping glance) ≡ glance };
 }
 
-impl<G: Drop> Kept<G> for Option<G> {
+impl<G: Drop> GlanceMemory<G> for Option<G> {
     ghost use Rattle.std.specs.Prelude.{refl};
 
     ghost glance_in_memory = { λ glance. glance };
@@ -53,11 +53,11 @@ impl<G: Drop> Kept<G> for Option<G> {
 /// What a label says at a glance, or `None` where it cannot be read, in a place of its own: to move
 /// it is to move a pointer. Seen as what the label says.
 #[derive(Drop)]
-pub struct Boxed<G> {
+pub struct BoxedGlance<G> {
     glance: Option<Box<G>>,
 }
 
-impl<G> Model for Boxed<G> {
+impl<G> Model for BoxedGlance<G> {
     ghost use Rattle.std.specs.Prelude.{Option, option_map};
 
     ghost Value = { Option G };
@@ -65,7 +65,7 @@ impl<G> Model for Boxed<G> {
     ghost view = { λ memory. option_map (λ glance. glance.value) memory.glance };
 }
 
-impl<G: Drop> Kept<G> for Boxed<G> {
+impl<G: Drop> GlanceMemory<G> for BoxedGlance<G> {
     ghost use Rattle.std.specs.Prelude.{refl};
 
     ghost glance_in_memory = { λ memory. memory };
@@ -79,7 +79,7 @@ impl<G: Drop> Kept<G> for Boxed<G> {
             Some(glance) => Some(Box::new(alloc, glance)?),
             None => None,
         };
-        Ok(Boxed { glance })
+        Ok(BoxedGlance { glance })
     }
 
     #[inline(always)]

@@ -1,6 +1,6 @@
 //! Rules on labels that are read, as rules that are tried in place.
 
-use crate::in_place::{JudgesInPlace, Looked};
+use crate::in_place::{JudgesInPlace, LabelGlance};
 use crate::judgement::Judgement;
 use crate::rules::Rules;
 use pls_bits::Bits;
@@ -58,11 +58,11 @@ impl<R: Rules> JudgesInPlace for Once<R> {
     fn pass(
         &self,
         _up: Option<u32>,
-        own: &Looked<'_, Self::Glance>,
+        own: &LabelGlance<'_, Self::Glance>,
         tally: Self::Tally,
         _place: usize,
         weight: u32,
-        label: &Looked<'_, Self::Glance>,
+        label: &LabelGlance<'_, Self::Glance>,
     ) -> Self::Tally {
         self.rules.add(own.glance, tally, weight, label.glance)
     }
@@ -71,7 +71,7 @@ impl<R: Rules> JudgesInPlace for Once<R> {
         &self,
         id: u32,
         state: State,
-        own: &Looked<'_, Self::Glance>,
+        own: &LabelGlance<'_, Self::Glance>,
         above: Option<&Self::Glance>,
         tally: Self::Tally,
     ) -> Verdict {

@@ -6,7 +6,7 @@ ghost use Rattle.pls_view.specs.Seen.{Seen, views};
 use crate::basic::Basic;
 use crate::checker::Checker;
 use crate::in_place::JudgesInPlace;
-use crate::memory::Kept;
+use crate::memory::GlanceMemory;
 use crate::round::verdict_at;
 use pls_base::NoMemory;
 use pls_bits::Bits;

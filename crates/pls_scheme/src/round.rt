@@ -8,9 +8,9 @@ ghost use Rattle.pls_scheme.specs.Basic.{verdict_by};
 ghost use Rattle.pls_scheme.specs.Judging.{RoseByAtMost, verdicts_by};
 ghost use Rattle.pls_scheme.specs.inner.Looks.{AreLooked};
 
-use crate::in_place::{JudgesInPlace, Looked};
-use crate::memory::Kept;
-use crate::settling::settled_at;
+use crate::in_place::{JudgesInPlace, LabelGlance};
+use crate::memory::GlanceMemory;
+use crate::settling::early_verdict_at;
 use pls_base::{NoMemory, Steps};
 use pls_graph::Network;
 use pls_model::Verdict;
@@ -58,7 +58,7 @@ fn look_at_all<R: JudgesInPlace, L: Labels>(
 }
 
 // The verdict of node `i`, from the kept glances.
-pub(crate) fn verdict_at<R: JudgesInPlace, L: Labels, E: Kept<R::Glance>>(
+pub(crate) fn verdict_at<R: JudgesInPlace, L: Labels, E: GlanceMemory<R::Glance>>(
     rules: &R,
     net: &Network,
     labels: &L,
@@ -73,14 +73,14 @@ pub(crate) fn verdict_at<R: JudgesInPlace, L: Labels, E: Kept<R::Glance>>(
         → result ≡ verdict_by (R.Format.shape (R.format rules.now)) (R.rules rules.now)
         R.Code.takes view }
 {
-    match settled_at(rules, net, labels, looked, i) {
+    match early_verdict_at(rules, net, labels, looked, i) {
         Some(verdict) => verdict,
         None => verdict_by_all(rules, net, labels, looked, i),
     }
 }
 
-// Completes `verdict_at` where `settled_at` leaves it open, by the labels at its ports.
-fn verdict_by_all<R: JudgesInPlace, L: Labels, E: Kept<R::Glance>>(
+// Completes `verdict_at` where `early_verdict_at` leaves it open, by the labels at its ports.
+fn verdict_by_all<R: JudgesInPlace, L: Labels, E: GlanceMemory<R::Glance>>(
     rules: &R,
     net: &Network,
     labels: &L,
@@ -102,7 +102,7 @@ fn verdict_by_all<R: JudgesInPlace, L: Labels, E: Kept<R::Glance>>(
     let Some(glance) = looked[i].glance() else {
         return Verdict::Reject { leaf: 1, rule: 1 };
     };
-    let own = Looked {
+    let own = LabelGlance {
         bits: &bits,
         glance,
     };
@@ -113,7 +113,7 @@ fn verdict_by_all<R: JudgesInPlace, L: Labels, E: Kept<R::Glance>>(
         let Some(glance) = looked[place].glance() else {
             return Verdict::Reject { leaf: 1, rule: 2 };
         };
-        let label = Looked {
+        let label = LabelGlance {
             bits: &bits,
             glance,
         };
@@ -125,7 +125,7 @@ fn verdict_by_all<R: JudgesInPlace, L: Labels, E: Kept<R::Glance>>(
 
 // The kept glance at the label that the pointer leads to, if there is one.
 #[inline(always)]
-pub(crate) fn glance_above<'a, G, E: Kept<G>>(
+pub(crate) fn glance_above<'a, G, E: GlanceMemory<G>>(
     looked: &'a [E],
     places: &[u32],
     up: Option<u32>,

@@ -6,8 +6,8 @@ ghost use Rattle.pls_numbers.specs.Shape.{said_by};
 ghost use Rattle.pls_scheme.specs.Basic.{verdict_by};
 ghost use Rattle.pls_scheme.specs.inner.Looks.{AreLooked, kept_at_port};
 
-use crate::in_place::{JudgesInPlace, Looked};
-use crate::memory::Kept;
+use crate::in_place::{JudgesInPlace, LabelGlance};
+use crate::memory::GlanceMemory;
 use crate::round::glance_above;
 use pls_graph::Network;
 use pls_model::Verdict;
@@ -15,7 +15,7 @@ use pls_view::Labels;
 
 // `None` where the node's label and the one above do not settle its verdict.
 #[inline(always)]
-pub(crate) fn settled_at<R: JudgesInPlace, L: Labels, E: Kept<R::Glance>>(
+pub(crate) fn early_verdict_at<R: JudgesInPlace, L: Labels, E: GlanceMemory<R::Glance>>(
     rules: &R,
     net: &Network,
     labels: &L,
@@ -36,12 +36,12 @@ pub(crate) fn settled_at<R: JudgesInPlace, L: Labels, E: Kept<R::Glance>>(
     let places = net.places(i);
     let bits = labels.bits(i);
     let glance = looked[i].glance()?;
-    let own = Looked {
+    let own = LabelGlance {
         bits: &bits,
         glance,
     };
     let above = glance_above(looked, places, state.up);
-    let verdict = rules.settled(id, state, &own, above)?;
+    let verdict = rules.early_verdict(id, state, &own, above)?;
     if are_read(looked, places) {
         Some(verdict)
     } else {
@@ -50,7 +50,7 @@ pub(crate) fn settled_at<R: JudgesInPlace, L: Labels, E: Kept<R::Glance>>(
 }
 
 #[inline(always)]
-fn are_read<G, E: Kept<G>>(looked: &[E], places: &[u32]) -> bool
+fn are_read<G, E: GlanceMemory<G>>(looked: &[E], places: &[u32]) -> bool
     requires { All (λ place. place < length looked.now) places.now }
     ensures read { IsTrue result → (p : ℕ) → p < length places.now
         → is_some (kept_at_port E.glance_in_memory looked.now places.now p) ≡ true }

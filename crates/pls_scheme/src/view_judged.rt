@@ -4,19 +4,19 @@ ghost use Rattle.std.specs.Prelude.{◌≡◌};
 ghost use Rattle.pls_scheme.specs.Basic.{verdict_by};
 ghost use Rattle.pls_scheme.specs.Reading.{is_pointer};
 
-use crate::in_place::{JudgesInPlace, Looked};
+use crate::in_place::{JudgesInPlace, LabelGlance};
 use pls_model::Verdict;
 use pls_view::View;
 
 // The verdict in one pass over the ports, with one look at each label.
-pub(crate) fn judged<R: JudgesInPlace>(rules: &R, view: &View<'_>) -> Verdict
+pub(crate) fn judge_view<R: JudgesInPlace>(rules: &R, view: &View<'_>) -> Verdict
     ensures { result ≡ verdict_by (R.Format.shape (R.format rules.now)) (R.rules rules.now)
         R.Code.takes view.now }
 {
     let Some(glance) = rules.look(&view.own) else {
         return Verdict::Reject { leaf: 1, rule: 1 };
     };
-    let own = Looked {
+    let own = LabelGlance {
         bits: &view.own,
         glance: &glance,
     };
@@ -26,7 +26,7 @@ pub(crate) fn judged<R: JudgesInPlace>(rules: &R, view: &View<'_>) -> Verdict
         let Some(seen) = rules.look(&port.label) else {
             return Verdict::Reject { leaf: 1, rule: 2 };
         };
-        let label = Looked {
+        let label = LabelGlance {
             bits: &port.label,
             glance: &seen,
         };

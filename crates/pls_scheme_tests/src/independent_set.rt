@@ -11,7 +11,7 @@ use pls_facts::is_valid;
 use pls_graph::{Network, Size};
 use pls_model::State;
 use pls_scheme::{
-    Fixed, Judgement, Marker, OfNumbers, Ruled, Rules, Verdict, codes_length, hold_everywhere,
+    NumbersFormat, Judgement, Marker, OfNumbers, RuleScheme, Rules, Verdict, codes_length, hold_everywhere,
     judged_from,
 };
 use std::alloc::Global;
@@ -47,19 +47,19 @@ impl OfNumbers<1> for MarkLabel {
 }
 
 /// The scheme of maximal independent sets, whose labels are written in the number code `C`.
-pub type IndependentSet<C> = Ruled<IndependentRules<C>>;
+pub type IndependentSet<C> = RuleScheme<IndependentRules<C>>;
 
 /// The rules of maximal independent sets.
 #[derive(Clone, Copy, Debug, PartialEq, Eq)]
 pub struct IndependentRules<C> {
-    format: Fixed<MarkLabel, 1>,
+    format: NumbersFormat<MarkLabel, 1>,
     code: PhantomData<C>,
 }
 
 impl<C> Default for IndependentRules<C> {
     fn default() -> Self {
         IndependentRules {
-            format: Fixed::default(),
+            format: NumbersFormat::default(),
             code: PhantomData,
         }
     }
@@ -70,13 +70,13 @@ impl<C: NumCode> Judgement for IndependentRules<C> {
 
     type Code = C;
 
-    type Format = Fixed<MarkLabel, 1>;
+    type Format = NumbersFormat<MarkLabel, 1>;
 
     ghost format = { λ s. s.format };
 
     ghost rules = { λ _. independent_rules };
 
-    fn format(&self) -> &Fixed<MarkLabel, 1> {
+    fn format(&self) -> &NumbersFormat<MarkLabel, 1> {
         &self.format
     }
 }

@@ -10,7 +10,7 @@ mod pointers;
 mod schemes;
 mod spanning;
 
-use pls_graph::{Network, connected};
+use pls_graph::{Network, node_apart};
 use pls_netfile::read_network;
 use std::alloc::Global;
 use std::test::Fail;
@@ -48,11 +48,11 @@ fn network(alloc: Global, text: &str) -> Result<Network, Fail> {
     }
 }
 
-fn joined(alloc: Global, text: &str) -> Result<Network, Fail>
+fn connected_network(alloc: Global, text: &str) -> Result<Network, Fail>
     ensures { IfOk result (λ net. IsConnected net) }
 {
     let net = network(alloc, text)?;
-    if connected(alloc, &net)?.is_some() {
+    if node_apart(alloc, &net)?.is_some() {
         return Err(Fail::from("in parts"));
     }
     Ok(net)

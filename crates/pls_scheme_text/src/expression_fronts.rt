@@ -64,7 +64,7 @@ pub(crate) fn tree_front(
         let Some(rest) = after(rest, b")") else {
             return Ok(None);
         };
-        return Ok(Some((joined(alloc, join, first, second)?, rest)));
+        return Ok(Some((join_trees(alloc, join, first, second)?, rest)));
     }
     let Some(rest) = map_front(text, inside) else {
         return Ok(None);
@@ -78,7 +78,7 @@ pub(crate) fn tree_front(
     Ok(Some((ExpressionTree::Map(Box::new(alloc, property)?), rest)))
 }
 
-fn joined(
+fn join_trees(
     alloc: Global,
     join: Join,
     first: ExpressionTree,

@@ -6,7 +6,7 @@ use std::alloc::{AllocError, Global};
 
 // A port, by the place of its owner and its number there.
 #[derive(Clone, Copy)]
-struct Owned {
+struct PortPlace {
     owner: u16,
     port: u16,
 }
@@ -18,7 +18,7 @@ struct Owned {
 #[derive(Drop)]
 pub(crate) struct Guesses {
     ends: Vec<u32>,
-    ways: Vec<Owned>,
+    ways: Vec<PortPlace>,
     noted: Vec<u16>,
 }
 
@@ -31,7 +31,7 @@ impl Guesses {
         firsts: &[u32],
         ports: usize,
     ) -> Result<Guesses, AllocError> {
-        let none = Owned { owner: 0, port: 0 };
+        let none = PortPlace { owner: 0, port: 0 };
         let mut guesses = Guesses {
             ends: Vec::from_slice(alloc, firsts)?,
             ways: vec![in alloc; none; ports]?,
@@ -41,7 +41,7 @@ impl Guesses {
             for (p, to) in net.places(i).iter().enumerate() {
                 guesses.put(
                     *to as usize,
-                    Owned {
+                    PortPlace {
                         owner: narrow(i),
                         port: narrow(p),
                     },
@@ -53,7 +53,7 @@ impl Guesses {
 
     // Adds a port that leads to node `to`, if there is room.
     #[inline(always)]
-    fn put(&mut self, to: usize, way: Owned) {
+    fn put(&mut self, to: usize, way: PortPlace) {
         if to < self.ends.len() {
             let end = self.ends[to];
             if (end as usize) < self.ways.len() {
@@ -70,7 +70,7 @@ impl Guesses {
             None => 0,
         };
         for at in first..end.min(self.ways.len()) {
-            let Owned { owner, port } = self.ways[at];
+            let PortPlace { owner, port } = self.ways[at];
             if (owner as usize) < self.noted.len() {
                 self.noted[owner as usize] = port;
             }

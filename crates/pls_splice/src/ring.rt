@@ -6,7 +6,7 @@ ghost use Rattle.pls_splice.specs.inner.Round.{onward, places_round};
 
 use crate::ring_error::RingError;
 use pls_base::NoMemory;
-use pls_graph::{Network, connected};
+use pls_graph::{Network, node_apart};
 use std::alloc::Global;
 use std::marker::Model;
 
@@ -39,7 +39,7 @@ impl Ring {
         if let Some(id) = first_without_two(net) {
             return Err(RingError::NotRing(id));
         }
-        if let Some(id) = connected(alloc, net)? {
+        if let Some(id) = node_apart(alloc, net)? {
             return Err(RingError::NotRing(id));
         }
         let places = go_round(alloc, net)?;

@@ -17,7 +17,7 @@ use Rattle.pls_scheme.specs.Judging.{judged_from}
 use Rattle.pls_scheme.specs.Reading.{ReadPort, judge_by, port_with, read_ports, reading}
 use Rattle.pls_scheme.specs.laws.Readings.{judged_by_rules, rejected_by_2, split_read}
 use Rattle.pls_universal.specs.declared.map.MapLabel.{MapLabel}
-use Rattle.pls_universal.specs.declared.stating.Stated.{Stated}
+use Rattle.pls_universal.specs.declared.stating.StatedNetwork.{StatedNetwork}
 use Rattle.pls_universal.specs.Reading.{map_shape}
 use Rattle.pls_universal.specs.Rules.{has_map, is_in_map, is_network, is_node_right, is_port_right, map_rules, matched, nodes_of, same_state}
 use Rattle.pls_universal.specs.laws.LabelLaws.{behind_number, label-none}
@@ -112,7 +112,7 @@ module _ (code : ℕ → List Bool) (takes : List Bool → Option (ℕ × List B
         by (Some ports) read is = absurd (cc)
 
     -- the verdict where the map states a network
-    pub verdict-stated : (test : List NodeRow → Bool) (agrees : Bool) (stated : Stated)
+    pub verdict-stated : (test : List NodeRow → Bool) (agrees : Bool) (stated : StatedNetwork)
         → Some agrees ≡ agreement takes own.rows view.ports → IsStated test own.rows (Some stated)
         → judged_from 3 ((own.own == view.id) ∷ agrees ∷ true ∷ has_node takes stated.net view
         ∷ stated.has ∷ [])

@@ -8,7 +8,7 @@ ghost use Rattle.pls_universal.specs.inner.Stating.{IsNetworkOf, is_pointer_smal
 
 use crate::map::MapRow;
 use pls_base::NoMemory;
-use pls_graph::{BuildError, Network, NodePorts, NodeRow, Port, State, connected};
+use pls_graph::{BuildError, Network, NodePorts, NodeRow, Port, State, node_apart};
 use pls_model::{MAX_NODES, MAX_NUM, MAX_PORTS, MAX_WORD};
 use std::alloc::Global;
 
@@ -33,7 +33,7 @@ fn if_connected(alloc: Global, net: Network) -> Result<Option<Network>, NoMemory
     ensures { IfOk result (λ found. found ≡ (if is_joined net then Some net else None)) }
 {
     net.len();
-    match connected(alloc, &net)? {
+    match node_apart(alloc, &net)? {
         Some(_) => Ok(None),
         None => Ok(Some(net)),
     }

@@ -10,8 +10,8 @@ ghost use Rattle.pls_universal.specs.Rules.{map_rules};
 ghost use Rattle.pls_universal.specs.inner.Deciding.{AreDecided, IsNumberOf, IsNumberOfMap};
 
 use crate::format::MapFormat;
-use crate::stating::{Stated, stated_by};
-use crate::tested::Tested;
+use crate::stating::{StatedNetwork, stated_by};
+use crate::property_test::PropertyTest;
 use crate::verifying::{parts, verdict_on};
 use pls_base::NoMemory;
 use pls_bits::{Bits, NumCode};
@@ -25,7 +25,7 @@ use std::collections::BTreeMap;
 #[derive(Drop)]
 pub struct DecidedMap {
     pub(crate) place: usize,
-    pub(crate) stated: Option<Stated>,
+    pub(crate) stated: Option<StatedNetwork>,
 }
 
 /// The maps that were decided so far.
@@ -97,7 +97,7 @@ impl DecidedMaps {
     }
 
     // `label` stands at place `i`. `None` where it cannot be read; a new map is read and decided.
-    fn number_of<P: Tested, C: NumCode, L: Labels>(
+    fn number_of<P: PropertyTest, C: NumCode, L: Labels>(
         &mut self,
         alloc: Global,
         property: &P,
@@ -155,7 +155,7 @@ pub(crate) fn has_map<C: NumCode>(label: &Bits<'_>, map: &Bits<'_>) -> bool
 }
 
 // Decides the map of the node at place `i` unless that was done before.
-pub(crate) fn verdict_at<P: Tested, C: NumCode, L: Labels>(
+pub(crate) fn verdict_at<P: PropertyTest, C: NumCode, L: Labels>(
     alloc: Global,
     property: &P,
     labels: &L,

@@ -1,5 +1,5 @@
 //! The universal scheme (Korman, Kutten and Peleg 2010): each label holds its node's identity and a
-//! map of the whole network. [`MapOf`] is the scheme of any property that a test tells ([`Tested`]).
+//! map of the whole network. [`MapOf`] is the scheme of any property that a test tells ([`PropertyTest`]).
 //! Its round reads and decides each map once, for all nodes that have it.
 //!
 //! `specs/Map` says of which numbers a map is (`numbers_of_map`, `map_of`), and `specs/Reading`
@@ -11,9 +11,9 @@
 //! where another label with the same one was written before.
 //!
 //! `specs/Rules` says what a node asks of the maps in its view (`map_rules`), by the test of the
-//! property. [`Tested::maps_are_right`] is the theorem: where the rules hold at all
+//! property. [`PropertyTest::maps_are_right`] is the theorem: where the rules hold at all
 //! nodes of a connected network, each map states that network, and the network has the property;
-//! [`Tested::right_maps_pass`] is its other half. Proofs above may cite `specs/laws/MapLaws`
+//! [`PropertyTest::right_maps_pass`] is its other half. Proofs above may cite `specs/laws/MapLaws`
 //! (`map_numbers`), `specs/laws/MapShow` (`map_show`, `each_map`) and `specs/laws/MapMet`
 //! (`map_met`, `map_one_right`); [`maps_are_short`] says that labels with maps are within the bound.
 #![tactic(auto)]
@@ -28,7 +28,7 @@ mod marking;
 mod reading;
 mod recoding;
 mod stating;
-mod tested;
+mod property_test;
 mod verifying;
 mod writing;
 
@@ -38,5 +38,5 @@ pub use map::{MapLabel, MapRow, PortList, RowList};
 pub use map_of::MapOf;
 pub use marking::map_labels;
 pub use recoding::recode_beside;
-pub use tested::Tested;
+pub use property_test::PropertyTest;
 pub use writing::write_map;

@@ -15,7 +15,7 @@ use crate::format::MapFormat;
 use crate::map::MapLabel;
 use crate::marking::map_labels;
 use crate::stating::stated_by;
-use crate::tested::Tested;
+use crate::property_test::PropertyTest;
 use crate::verifying::verdict_on;
 use pls_base::{NoMemory, Steps};
 use pls_bits::{BitBuf, Bits, NumCode};
@@ -50,7 +50,7 @@ impl<P, C> MapOf<P, C> {
     }
 }
 
-impl<P: Tested, C: NumCode> MapOf<P, C> {
+impl<P: PropertyTest, C: NumCode> MapOf<P, C> {
     /// Where all nodes of a connected network accept some labels, each label has its node's identity
     /// and the map of the network itself: the labels are those that are marked.
     pub fn accepted_are_marked(&self, net: &Network, labels: &LabelStore)
@@ -69,7 +69,7 @@ impl<P: Tested, C: NumCode> MapOf<P, C> {
     }
 }
 
-impl<P: Tested, C: NumCode> Checker for MapOf<P, C> {
+impl<P: PropertyTest, C: NumCode> Checker for MapOf<P, C> {
     ghost use Rattle.std.specs.Prelude.{true, false};
     ghost use Rattle.pls_numbers.specs.Shape.{said_by};
     ghost use Rattle.pls_scheme.specs.Reading.{judge_by};
@@ -143,7 +143,7 @@ impl<P: Tested, C: NumCode> Checker for MapOf<P, C> {
     ghost lends_law = { λ _ taken. absurd (cc) };
 }
 
-impl<P: Tested, C: NumCode> Property for MapOf<P, C> {
+impl<P: PropertyTest, C: NumCode> Property for MapOf<P, C> {
     ghost holds = { λ s rows. P.holds s.property rows };
 
     fn decide(&self, alloc: Global, net: &Network) -> Result<bool, NoMemory> {
@@ -151,7 +151,7 @@ impl<P: Tested, C: NumCode> Property for MapOf<P, C> {
     }
 }
 
-impl<P: Tested, C: NumCode> Scheme for MapOf<P, C> {
+impl<P: PropertyTest, C: NumCode> Scheme for MapOf<P, C> {
     ghost use Rattle.pls_numbers.specs.Shape.{IsSpelled, IsWritable, said_by};
     ghost use Rattle.pls_numbers.specs.laws.FormatLaws.{has_spelling, one_spelling, said_spells};
     ghost use Rattle.pls_scheme.specs.Marked.{IsMarkedBy};

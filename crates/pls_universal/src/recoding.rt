@@ -33,13 +33,13 @@ pub fn recode_beside<C: NumCode, D: NumCode>(
         return recode::<MapFormat, C, D>(&MapFormat, alloc, bits);
     }
     match parts::<D>(new) {
-        Some((_, map)) => Ok(Some(joined::<D>(alloc, own, map)?)),
+        Some((_, map)) => Ok(Some(number_before_map::<D>(alloc, own, map)?)),
         None => recode::<MapFormat, C, D>(&MapFormat, alloc, bits),
     }
 }
 
 // The code of `own`, followed by the map.
-fn joined<D: NumCode>(alloc: Global, own: u64, map: Bits<'_>) -> Result<BitBuf, NoMemory>
+fn number_before_map<D: NumCode>(alloc: Global, own: u64, map: Bits<'_>) -> Result<BitBuf, NoMemory>
     requires { own ≤ MAX_CODED }
     ensures { IfOk result (λ bits. bits ≡ D.code own ++ map.entry) }
 {

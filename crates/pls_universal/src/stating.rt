@@ -5,29 +5,29 @@ ghost use Rattle.pls_universal.specs.inner.Stating.{IsStated};
 
 use crate::building::network_of;
 use crate::map::MapRow;
-use crate::tested::Tested;
+use crate::property_test::PropertyTest;
 use pls_base::NoMemory;
 use pls_graph::Network;
 use std::alloc::Global;
 
 /// The connected network that a map states, and whether it has the property.
 #[derive(Drop)]
-pub struct Stated {
+pub struct StatedNetwork {
     pub(crate) net: Network,
     pub(crate) has: bool,
 }
 
 // `None` where the records state no connected network; the property is decided once at most.
-pub(crate) fn stated_by<P: Tested>(
+pub(crate) fn stated_by<P: PropertyTest>(
     alloc: Global,
     property: &P,
     rows: &[MapRow],
-) -> Result<Option<Stated>, NoMemory>
+) -> Result<Option<StatedNetwork>, NoMemory>
     ensures { IfOk result (IsStated (P.test property.now) rows.now) }
 {
     let Some(net) = network_of(alloc, rows)? else {
         return Ok(None);
     };
     let has = property.decide(alloc, &net)?;
-    Ok(Some(Stated { net, has }))
+    Ok(Some(StatedNetwork { net, has }))
 }

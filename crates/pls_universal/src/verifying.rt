@@ -12,7 +12,7 @@ ghost use Rattle.pls_universal.specs.inner.Stating.{IsStated};
 ghost use Rattle.pls_universal.specs.inner.Verifying.{agreement, has_node, is_called, is_port_seen, ports_shown, same_map};
 
 use crate::format::MapFormat;
-use crate::stating::Stated;
+use crate::stating::StatedNetwork;
 use pls_base::NoMemory;
 use pls_bits::{Bits, NumCode};
 use pls_graph::{Network, Port, State};
@@ -25,7 +25,7 @@ use std::alloc::Global;
 // `stated` is what the map in the node's own label states.
 pub(crate) fn verdict_on<C: NumCode>(
     alloc: Global,
-    stated: &Option<Stated>,
+    stated: &Option<StatedNetwork>,
     view: &View<'_>,
 ) -> Result<Verdict, NoMemory>
     ensures { IfOk result (λ verdict. (test : List NodeRow → Bool) (own : MapLabel)

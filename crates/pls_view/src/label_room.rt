@@ -127,7 +127,7 @@ impl LabelRoom {
         }
         let live = ((self.total / 64) as usize).saturating_add(self.slots.len());
         let room = live.saturating_mul(2).saturating_add(need);
-        let (words, slots) = compacted(
+        let (words, slots) = compact(
             self.alloc,
             self.words.as_slice(),
             self.slots.as_slice(),
@@ -156,7 +156,7 @@ impl LabelRoom {
             Err(_) => unreachable!(),
         }
         self.free -= slot.len.div_ceil(64);
-        self.total = replaced(&mut self.slots, self.total, i, slot);
+        self.total = replace_slot(&mut self.slots, self.total, i, slot);
     }
 
     /// Puts the label of `len` bits whose hex text `digits` is at place `i`; the other labels stay.
@@ -178,7 +178,7 @@ impl LabelRoom {
             Err(_) => unreachable!(),
         }
         self.free -= len.div_ceil(64);
-        self.total = replaced(&mut self.slots, self.total, i, slot);
+        self.total = replace_slot(&mut self.slots, self.total, i, slot);
     }
 
     /// Puts an empty label at place `i`, before the label that is there. For want of memory nothing
@@ -205,7 +205,7 @@ impl LabelRoom {
 }
 
 // The answer is the new number of bits of all slots together; `total` is the old one.
-fn replaced(slots: &mut Vec<Slot>, total: u64, i: usize, slot: Slot) -> u64
+fn replace_slot(slots: &mut Vec<Slot>, total: u64, i: usize, slot: Slot) -> u64
     requires within { i < length slots.old.items }
     requires sum { total ≡ bits_of_slots slots.old.items }
     requires small { total + slot.len < 2 ^ 64 }
@@ -218,7 +218,7 @@ fn replaced(slots: &mut Vec<Slot>, total: u64, i: usize, slot: Slot) -> u64
 }
 
 // Copies the labels without garbage, with room for `need` more words, or for `room` if more.
-fn compacted(
+fn compact(
     alloc: Global,
     words: &[u64],
     slots: &[Slot],

@@ -8,7 +8,7 @@ use Rattle.pls_model.specs.declared.row.NodeRow.{NodeRow}
 use Rattle.pls_model.specs.declared.verdict.Verdict.{Verdict}
 use Rattle.pls_view.specs.Seen.{Seen, SeenPort, seen, seen_port}
 use Rattle.pls_sim.specs.declared.outcome.Outcome.TheVariants.{Decided}
-use Rattle.pls_sim.specs.Schedule.{brings, emits_of, has_heard, outcome_after, sent_by, unheard, unheard_from}
+use Rattle.pls_sim.specs.Schedule.{brings, emits_of, has_heard, outcome_after, sent_by, unheard, failing_from}
 use Rattle.pls_sim.specs.inner.Kept.{NamesEmit}
 use Rattle.pls_watch.specs.declared.turn.Turn.{Turn}
 use Rattle.pls_watch.specs.declared.turn.Turn.TheVariants.{Plain, Relabel}
@@ -81,8 +81,8 @@ module _ (rows : List NodeRow) (turns : List Turn) (label : ℕ → ℕ → List
           (sym (heard_held rows turns node other) ∙ heard) fresh)
 
   fresh_ports : (number : ℕ) (ports : List Port)
-      → unheard_from (has_heard rows (plain_of turns) node) number ports ≡ []
-      → unheard_from (is_fresh rows turns node) number ports ≡ []
+      → failing_from (has_heard rows (plain_of turns) node) number ports ≡ []
+      → failing_from (is_fresh rows turns node) number ports ≡ []
       → map (seen_port believed) ports ≡ map (seen_port latest) ports
   fresh_ports number [] heard fresh = refl
   fresh_ports number (port ∷ ports) heard fresh =
@@ -92,13 +92,13 @@ module _ (rows : List NodeRow) (turns : List Turn) (label : ℕ → ℕ → List
     where
       by : (h : Bool) → has_heard rows (plain_of turns) node port.nbr ≡ h
           → (f : Bool) → is_fresh rows turns node port.nbr ≡ f
-          → (unheard_from (has_heard rows (plain_of turns) node) (number + 1) ports ≡ []
-          → unheard_from (is_fresh rows turns node) (number + 1) ports ≡ []
+          → (failing_from (has_heard rows (plain_of turns) node) (number + 1) ports ≡ []
+          → failing_from (is_fresh rows turns node) (number + 1) ports ≡ []
           → map (seen_port believed) ports ≡ map (seen_port latest) ports)
-          → cond h (unheard_from (has_heard rows (plain_of turns) node) (number + 1) ports)
-          (number ∷ unheard_from (has_heard rows (plain_of turns) node) (number + 1) ports) ≡ []
-          → cond f (unheard_from (is_fresh rows turns node) (number + 1) ports)
-          (number ∷ unheard_from (is_fresh rows turns node) (number + 1) ports) ≡ []
+          → cond h (failing_from (has_heard rows (plain_of turns) node) (number + 1) ports)
+          (number ∷ failing_from (has_heard rows (plain_of turns) node) (number + 1) ports) ≡ []
+          → cond f (failing_from (is_fresh rows turns node) (number + 1) ports)
+          (number ∷ failing_from (is_fresh rows turns node) (number + 1) ports) ≡ []
           → map (seen_port believed) (port ∷ ports) ≡ map (seen_port latest) (port ∷ ports)
       by false is_h f is_f later none_h none_f = absurd (cc)
       by true is_h false is_f later none_h none_f = absurd (cc)

@@ -13,7 +13,7 @@ use Rattle.pls_graph.proofs.Placed.{names_another, place_of_row}
 use Rattle.pls_view.specs.Seen.{Seen, label_of, seen, seen_port}
 use Rattle.pls_view.proofs.Views.{label_at as label_placed}
 use Rattle.pls_sim.specs.declared.outcome.Outcome.TheVariants.{Decided, Waiting}
-use Rattle.pls_sim.specs.Schedule.{has_heard, outcome_after, unheard, unheard_from}
+use Rattle.pls_sim.specs.Schedule.{has_heard, outcome_after, unheard, failing_from}
 use Rattle.pls_scheme.specs.Judging.{RoseByAtMost}
 use Rattle.pls_sim.specs.Rising.{IsRising}
 use Rattle.pls_sim.proofs.Refusing.{place_within}
@@ -28,17 +28,17 @@ use Rattle.pls_watch.proofs.More.{heard_held}
 
 -- where no port is unheard, each is heard
 all_heard : (heard : ℕ → Bool) (number : ℕ) (ports : List Port)
-    → unheard_from heard number ports ≡ [] → (p : ℕ) (at : Port) → slice_get ports p ≡ Some at
+    → failing_from heard number ports ≡ [] → (p : ℕ) (at : Port) → slice_get ports p ≡ Some at
     → heard at.nbr ≡ true
 all_heard heard number [] none p at has = absurd (cc)
 all_heard heard number (port ∷ ports) none p at has =
     by (heard port.nbr) refl none p has (all_heard heard (number + 1) ports)
   where
     by : (b : Bool) → heard port.nbr ≡ b
-        → cond b (unheard_from heard (number + 1) ports)
-        (number ∷ unheard_from heard (number + 1) ports) ≡ []
+        → cond b (failing_from heard (number + 1) ports)
+        (number ∷ failing_from heard (number + 1) ports) ≡ []
         → (p : ℕ) → slice_get (port ∷ ports) p ≡ Some at
-        → (unheard_from heard (number + 1) ports ≡ [] → (p : ℕ) (at : Port)
+        → (failing_from heard (number + 1) ports ≡ [] → (p : ℕ) (at : Port)
         → slice_get ports p ≡ Some at → heard at.nbr ≡ true)
         → heard at.nbr ≡ true
     by false is none p has others = absurd (cc)

@@ -8,7 +8,7 @@ use Rattle.pls_model.specs.declared.row.Port.{Port}
 use Rattle.pls_model.specs.declared.row.NodeRow.{NodeRow}
 use Rattle.pls_model.specs.declared.verdict.Verdict.{Verdict}
 use Rattle.pls_view.specs.Seen.{Seen, label_of, seen}
-use Rattle.pls_sim.specs.Schedule.{has_heard, outcome_after, unheard, unheard_from}
+use Rattle.pls_sim.specs.Schedule.{has_heard, outcome_after, unheard, failing_from}
 use Rattle.pls_watch_part.specs.declared.watch_event.WatchEvent.{WatchEvent}
 use Rattle.pls_watch.specs.declared.turn.Turn.{Turn}
 use Rattle.pls_watch.specs.Labelled.{given_to, later_labels, turn_of, turns_of}
@@ -22,7 +22,7 @@ use Rattle.pls_watch.proofs.More.{heard_held, newest_more}
 -- the same ports pass a test that says the same of their neighbours
 same_ports : (test other : ℕ → Bool) (number : ℕ) (ports : List Port)
     → ((p : ℕ) (at : Port) → slice_get ports p ≡ Some at → test at.nbr ≡ other at.nbr)
-    → unheard_from test number ports ≡ unheard_from other number ports
+    → failing_from test number ports ≡ failing_from other number ports
 same_ports test other number [] same = refl
 same_ports test other number (port ∷ ports) same =
     let first = same 0 port refl in

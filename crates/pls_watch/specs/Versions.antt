@@ -9,7 +9,7 @@ use Rattle.pls_view.specs.Seen.{Seen, seen}
 use Rattle.pls_schedule.specs.declared.event.Event.{Event}
 use Rattle.pls_schedule.specs.declared.event.Event.TheVariants.{Emit, Arrive, Restart}
 use Rattle.pls_sim.specs.declared.outcome.Outcome.{Outcome}
-use Rattle.pls_sim.specs.Schedule.{Sent, brings, emits_of, outcome_after, sent_by, since_restart, unheard, unheard_from}
+use Rattle.pls_sim.specs.Schedule.{Sent, brings, emits_of, outcome_after, sent_by, since_restart, unheard, failing_from}
 use Rattle.pls_watch.specs.declared.turn.Turn.{Turn}
 use Rattle.pls_watch.specs.declared.turn.Turn.TheVariants.{Plain, Relabel}
 
@@ -84,7 +84,7 @@ is_fresh rows turns node neighbour =
 
 -- the numbers of all ports of a node whose held version is not the newest, in rising order
 abbrev pub stale : List NodeRow → List Turn → NodeRow → List ℕ
-stale rows turns row = unheard_from (is_fresh rows turns row.id) 0 row.ports
+stale rows turns row = failing_from (is_fresh rows turns row.id) 0 row.ports
 
 -- what a node takes for the version of a label: of its own the newest, of others what it holds
 abbrev pub known : List NodeRow → List Turn → ℕ → ℕ → ℕ

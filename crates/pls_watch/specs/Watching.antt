@@ -14,8 +14,8 @@ use Rattle.pls_watch.specs.Labelled.{bits_given, label_at, labels_given, turn_of
 use Rattle.pls_watch.specs.Turning.{Turned, turn_refusal}
 use Rattle.pls_watch.specs.Versions.{stale, watched_outcome}
 
--- the network, the labels at the start in the order of the nodes, how many events, how many
--- relabels and how many bits of theirs are taken in all, and the events that were taken
+-- a network under watch: its labels at the start in the order of the nodes, the events that were
+-- taken, and the room that was asked for: for how many events, relabels, and bits of their labels
 pub record Watched : Type 0 where
   pub network : List NodeRow
   pub start : List (List Bool)

@@ -192,7 +192,7 @@ impl<'n> Watch<'n> {
             → slice_get row.ports port ≡ Some at
             → IsPortState self.now.network (turns_of self.now.events) row.id at.nbr result }
     {
-        let Some((version, number)) = self.versions.held(i, port) else {
+        let Some((version, number)) = self.versions.held_version(i, port) else {
             return PortState::Unheard;
         };
         table[self.net.places(i)[port] as usize] = number;

@@ -87,7 +87,7 @@ impl<'n> Versions<'n> {
             newest: VersionList::first(alloc, net.len())?,
             carried: VersionList::with_room(alloc, most)?,
             ends: Vec::with_capacity(alloc, most)?,
-            held,
+            held_version,
             earlier: Vec::with_capacity(alloc, most)?,
         })
     }
@@ -201,7 +201,7 @@ impl<'n> Versions<'n> {
     }
 
     /// The numbers of emits that arrived are those of emits.
-    pub(crate) fn numbered(&self)
+    pub(crate) fn names_emits(&self)
         ensures { AllByRecursion (NamesEmit (length (emits_of (plain_of self.now.turns))))
             (plain_of self.now.turns) }
     {
@@ -210,7 +210,7 @@ impl<'n> Versions<'n> {
 
     /// What the node at place `i` holds at its port of this number: the version of the neighbour's
     /// label, and the number of that label; `None` where it has not heard there.
-    pub(crate) fn held(&self, i: usize, port: usize) -> Option<(u32, u32)>
+    pub(crate) fn held_version(&self, i: usize, port: usize) -> Option<(u32, u32)>
         requires place { i < length self.now.network }
         requires port { IfSome (slice_get self.now.network i) (λ row. port < length row.ports) }
         ensures version { (row : NodeRow) (at : Port) → slice_get self.now.network i ≡ Some row
@@ -238,7 +238,7 @@ impl<'n> Versions<'n> {
             → result ≡ is_fresh self.now.network self.now.turns row.id at.nbr }
     {
         let newest = self.newest_beside(i, port);
-        match self.held(i, port) {
+        match self.held_version(i, port) {
             Some((version, _)) => version == newest,
             None => true,
         }

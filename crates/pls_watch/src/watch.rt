@@ -200,14 +200,14 @@ impl<'n> Watch<'n> {
     /// The version of the neighbour's label that the node at place `i` holds at its port of this
     /// number: the greatest that arrived there since the node's last restart. `None` where nothing
     /// did.
-    pub fn held(&self, i: usize, port: usize) -> Option<u64>
+    pub fn held_version(&self, i: usize, port: usize) -> Option<u64>
         requires place { i < length self.now.network }
         requires port { IfSome (slice_get self.now.network i) (λ row. port < length row.ports) }
         ensures { (row : NodeRow) (at : Port) → slice_get self.now.network i ≡ Some row
             → slice_get row.ports port ≡ Some at
             → result ≡ held self.now.network (turns_of self.now.events) row.id at.nbr }
     {
-        match self.versions.held(i, port) {
+        match self.versions.held_version(i, port) {
             Some((version, _)) => Some(version as u64),
             None => None,
         }
@@ -226,6 +226,6 @@ impl<'n> Watch<'n> {
             → IsNotBack (held self.now.network (turns_of self.now.events) row.id at.nbr)
             (held self.now.network (turns_of (watching event.now self.now).events) row.id at.nbr) }
     {
-        self.versions.numbered();
+        self.versions.names_emits();
     }
 }

@@ -7,7 +7,7 @@ use Rattle.pls_lines.specs.LineKind.{Always, Says, alone}
 use Rattle.pls_lines.specs.Lines.{Left, Passes}
 use Rattle.pls_lines.specs.ListPart.{IsListPart, list_lines, list_text}
 use Rattle.pls_lines.specs.Worded.{worded}
-use Rattle.pls_lines.specs.declared.counted.Headed.{Headed}
+use Rattle.pls_lines.specs.declared.counted.BareHeading.{BareHeading}
 use Rattle.pls_closing.specs.Closing.{AreClosed, IsLinesRefusal, closing_of}
 use Rattle.pls_labelfile.specs.LabelsText.{FitsLabel, hex_word}
 use Rattle.pls_schedule.specs.declared.event.Event.{Event as Played}
@@ -88,7 +88,7 @@ watch_part_lines lines = list_lines (codes "watch") watch_line lines
 
 -- the line is the heading, which is one word and says nothing more
 abbrev pub IsWatchHeading : List ℕ → Type 0
-IsWatchHeading line = Says {X = Headed WatchWord} Always (alone (codes "watch")) line
+IsWatchHeading line = Says {X = BareHeading WatchWord} Always (alone (codes "watch")) line
 
 -- the lines are those of a watch part
 abbrev pub IsWatchPart : List (List ℕ) → Type 0

@@ -44,9 +44,9 @@ fn bits_of(ports: &[u32]) -> u32 {
 
 // What a look shows of a node: its identity, 0 where it accepts, 1 where it rejects, and 2 where it
 // waits, the ports for which it waits, and its stale ports.
-type Shown = (u32, u32, u32, u32);
+type NodeLook = (u32, u32, u32, u32);
 
-fn look<K: Checker>(alloc: Global, lookout: &mut Lookout<'_, '_, K>) -> Result<Vec<Shown>, Fail> {
+fn look<K: Checker>(alloc: Global, lookout: &mut Lookout<'_, '_, K>) -> Result<Vec<NodeLook>, Fail> {
     lookout.look(alloc, &mut Steps::new())?;
     let mut shown = Vec::new(alloc);
     for row in lookout.rows() {

@@ -7,8 +7,8 @@ use Rattle.std.proofs.lemmas.List.{append-nil}
 use Rattle.clap.specs.Words.{Text, first_of, one_of, matches_of, takes}
 use Rattle.pls_bits.specs.declared.code_name.CodeName.{CodeName}
 use Rattle.pls_bits.specs.declared.code_name.CodeName.TheVariants.{Gamma, Delta}
-use Rattle.pls_words.specs.declared.given.Flag.{Flag}
-use Rattle.pls_words.specs.declared.given.Flag.TheVariants.{Bare, Json, Coded}
+use Rattle.pls_words.specs.declared.command_words.Flag.{Flag}
+use Rattle.pls_words.specs.declared.command_words.Flag.TheVariants.{Bare, Json, Coded}
 use Rattle.pls_words.specs.Words.{Said, code_cut, code_named, flag_cut, is_code, is_dashed, is_json, said_beside, said_by_words, said_with}
 use Rattle.pls_words.specs.inner.Parser.{code_word, name_of_code, parser, switch_of}
 use Rattle.pls_words.proofs.Turns.{coded, json}

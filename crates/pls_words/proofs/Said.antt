@@ -3,8 +3,8 @@ use Rattle.std.proofs.Common.{◌≡◌, ◌∙◌, ◌⊎◌, ◌↔◌, ◌≤
 use Rattle.std.specs.List.{list_any}
 use Rattle.std.proofs.lemmas.Option.{same_Some}
 use Rattle.std.proofs.lemmas.List.{length-append}
-use Rattle.pls_words.specs.declared.given.Flag.{Flag}
-use Rattle.pls_words.specs.declared.given.Flag.TheVariants.{Bare, Json, Coded}
+use Rattle.pls_words.specs.declared.command_words.Flag.{Flag}
+use Rattle.pls_words.specs.declared.command_words.Flag.TheVariants.{Bare, Json, Coded}
 use Rattle.pls_words.specs.Words.{Said, flag_cut, is_code, is_dashed, is_json, said_beside, said_by_words, said_with}
 use Rattle.pls_words.specs.inner.Formed.{IsFormed, count_beside, plain_count}
 use Rattle.pls_words.proofs.Forms.{Cut, flag_words, stands}

@@ -5,8 +5,8 @@
 //! layer above. No other crate reads `clap`.
 #![tactic(auto)]
 
-mod given;
+mod command_words;
 mod reading;
 
-pub use given::{Flag, Given};
+pub use command_words::{Flag, CommandWords};
 pub use reading::read_words;

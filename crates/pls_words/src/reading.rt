@@ -7,7 +7,7 @@ ghost use Rattle.pls_words.specs.Words.{Said, code_named, is_code, is_dashed, is
 ghost use Rattle.pls_words.specs.inner.Formed.{IsFormed, count_beside, plain_count};
 ghost use Rattle.pls_words.specs.inner.Parser.{HasWords, parser};
 
-use crate::given::{Flag, Given};
+use crate::command_words::{Flag, CommandWords};
 use clap::error::ErrorKind;
 use clap::{Arg, ArgAction, ArgMatches, Command, Error};
 use pls_base::NoMemory;
@@ -20,7 +20,7 @@ const MOST: usize = 4;
 /// What words say, or `None` where they are not of the form: one or two words, none of which begins
 /// with `-`, and at most one flag, at any place: `--json`, or `--code` with `gamma` or `delta` behind
 /// it. The one error is want of memory.
-pub fn read_words<'w>(alloc: Global, words: &'w [&'w str]) -> Result<Option<Given<'w>>, NoMemory>
+pub fn read_words<'w>(alloc: Global, words: &'w [&'w str]) -> Result<Option<CommandWords<'w>>, NoMemory>
     ensures { IfOk result (λ given. given ≡ said_by_words (words_in words.entry.now)) }
 {
     if !is_formed(words) {
@@ -113,7 +113,7 @@ fn code_named(word: &str) -> Option<CodeName>
     }
 }
 
-fn given_in<'w>(alloc: Global, words: &'w [&'w str]) -> Result<Given<'w>, NoMemory>
+fn given_in<'w>(alloc: Global, words: &'w [&'w str]) -> Result<CommandWords<'w>, NoMemory>
     requires { IsFormed (words_in words.now) }
     ensures { IfOk result (λ given. (said : Said)
         → said_by_words (words_in words.entry.now) ≡ Some said → given ≡ said) }
@@ -128,7 +128,7 @@ fn given_in<'w>(alloc: Global, words: &'w [&'w str]) -> Result<Given<'w>, NoMemo
     let Some(command) = matches.get_str("command") else {
         unreachable!()
     };
-    Ok(Given {
+    Ok(CommandWords {
         command,
         argument: matches.get_str("argument"),
         flag: flag_in(&matches),

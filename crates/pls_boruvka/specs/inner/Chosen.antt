@@ -3,14 +3,14 @@ use Rattle.std.specs.Prelude.{◌≡◌, ◌≢◌, ℕ, ◌<◌, ◌⊎◌, ◌
 use Rattle.std.specs.List.{range_with_len}
 use Rattle.pls_model.specs.declared.row.NodeRow.{NodeRow}
 use Rattle.pls_boruvka.specs.declared.choice.Choice.{Choice}
-use Rattle.pls_boruvka.specs.declared.joining.Chosen.{Chosen}
+use Rattle.pls_boruvka.specs.declared.joining.ChosenEnd.{ChosenEnd}
 use Rattle.pls_boruvka.specs.declared.level.Level.{Level}
 use Rattle.pls_boruvka.specs.Boruvka.{chosen_edge}
 use Rattle.pls_boruvka.specs.inner.Choices.{edge_of, top_at}
 use Rattle.pls_boruvka.specs.inner.Tops.{Each}
 
 -- what the level says of the nodes of a fragment, by its top and by the edge that was found for it
-pub record IsChosen (rows : List NodeRow) (top : ℕ) (choice : Option Choice) (chosen : Chosen)
+pub record IsChosen (rows : List NodeRow) (top : ℕ) (choice : Option Choice) (chosen : ChosenEnd)
     : Type 0 where
   pub first : Choice
   pub is : choice ≡ Some first
@@ -29,7 +29,7 @@ choice_of_place tops choices place = slice_index_or choices (top_at tops place) 
 
 -- what the level says of each node
 pub record AreChosen (rows : List NodeRow) (tops : List ℕ) (choices : List (Option Choice))
-    (all : List Chosen) : Type 0 where
+    (all : List ChosenEnd) : Type 0 where
   pub each : length all ≡ length rows
   pub chosen : Each (λ place. IsChosen rows (top_at tops place) (choice_of_place tops choices place)) all
 
@@ -39,30 +39,30 @@ SomeUnpointed tops choices =
     (place : ℕ) × (place < length tops) × IsUnpointed (choice_of_place tops choices place)
 
 -- the children of chosen edges are places
-abbrev pub AreChildrenWithin : ℕ → List Chosen → Type 0
+abbrev pub AreChildrenWithin : ℕ → List ChosenEnd → Type 0
 AreChildrenWithin size all = Each (λ place one. one.child < size) all
 
 -- a place is the child of one of the first edges that were chosen
-abbrev pub IsChild : List Chosen → ℕ → ℕ → Type 0
-IsChild all count child = (place : ℕ) × (one : Chosen) × (place < count)
+abbrev pub IsChild : List ChosenEnd → ℕ → ℕ → Type 0
+IsChild all count child = (place : ℕ) × (one : ChosenEnd) × (place < count)
     × (slice_get all place ≡ Some one) × (one.child ≡ child)
 
 -- those places are joined that were before, and the children of the first edges that were chosen
-pub record JoinChildren (all : List Chosen) (count : ℕ) (old new : List Bool) : Type 0 where
+pub record JoinChildren (all : List ChosenEnd) (count : ℕ) (old new : List Bool) : Type 0 where
   pub each : length new ≡ length old
   pub joined : (place : ℕ) → (slice_index_or new place false ≡ true)
       ↔ ((slice_index_or old place false ≡ true) ⊎ IsChild all count place)
 
 -- what stands behind the last place
-abbrev pub no_chosen : Chosen
+abbrev pub no_chosen : ChosenEnd
 no_chosen = record { level = record { fragment = 0; weight = 0; a = 0; b = 0 }; child = 0 }
 
 -- the levels of the node at a place
-abbrev pub said_at : List (List Chosen) → ℕ → List Level
+abbrev pub said_at : List (List ChosenEnd) → ℕ → List Level
 said_at rounds place = map (λ all. (slice_index_or all place no_chosen).level) rounds
 
 -- the levels of each node, of so many
-abbrev pub levels_said : List (List Chosen) → ℕ → List (List Level)
+abbrev pub levels_said : List (List ChosenEnd) → ℕ → List (List Level)
 levels_said rounds count = map (said_at rounds) (range_with_len 0 count)
 
 -- all tops are the same

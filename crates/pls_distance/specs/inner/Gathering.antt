@@ -1,11 +1,11 @@
 -- What a node gathers of its ports.
 use Rattle.pls_scheme.specs.Reading.{Read}
 use Rattle.pls_distance.specs.declared.spt.SptLabel.{SptLabel}
-use Rattle.pls_distance.specs.declared.gathering.Gathered.{Gathered}
+use Rattle.pls_distance.specs.declared.gathering.PortTally.{PortTally}
 use Rattle.pls_distance.specs.Spt.{agrees_on_its_root, is_beyond_target, is_nearest}
 
 -- the own label, and which rules on the ports hold
-abbrev pub spt_tally : Read SptLabel → Gathered
+abbrev pub spt_tally : Read SptLabel → PortTally
 spt_tally view = record {
   own = view.own;
   agrees = agrees_on_its_root view;

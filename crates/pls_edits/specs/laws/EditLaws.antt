@@ -10,7 +10,7 @@ use Rattle.pls_lines.specs.LineKind.{Always, IsLineKind, alone}
 use Rattle.pls_lines.specs.ListPart.{IsListKind}
 use Rattle.pls_lines.specs.Part.{IsSomePart}
 use Rattle.pls_lines.specs.Worded.{IsWord, IsWorded}
-use Rattle.pls_lines.specs.declared.counted.Headed.{Headed}
+use Rattle.pls_lines.specs.declared.counted.BareHeading.{BareHeading}
 use Rattle.pls_lines.specs.laws.CountedLaws.{heading_kind}
 use Rattle.pls_lines.specs.laws.Cuts.{lacks_here}
 use Rattle.pls_lines.specs.laws.ListLaws.{list_is_some_part}
@@ -205,7 +205,7 @@ edits_word = record {
     not_end e = omega (arith, same_head 100 110 _ _ e)
 
 -- the heading is a kind of line
-pub edits_headings : IsLineKind {X = Headed EditsWord} Always (alone (codes "edits"))
+pub edits_headings : IsLineKind {X = BareHeading EditsWord} Always (alone (codes "edits"))
 edits_headings = heading_kind (codes "edits") edits_word (λ a b. refl)
 
 -- a round closes
@@ -213,7 +213,7 @@ pub some_round : HasClosing FitsEdit is_round
 some_round = record { item = Round; fits = tt; ends = refl }
 
 -- lists of a part have lines that fit
-pub edits_list : IsListKind {H = Headed EditsWord} Always FitsEdit AreEdits
+pub edits_list : IsListKind {H = BareHeading EditsWord} Always FitsEdit AreEdits
 edits_list = closed_list (record { of = record {} }) FitsEdit is_round true some_round
 
 -- so there is an edits part, and it tells where it ends

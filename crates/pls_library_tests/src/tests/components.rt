@@ -5,9 +5,9 @@ use pls_base::NoMemory;
 use pls_bits::Gamma;
 use pls_colour::{Acyclic, Bipartite};
 use pls_components::{
-    Components, IdList, Marked, bound_parts, components, in_a_component, mark_parts, room_parts,
+    Components, IdList, MarkResult, bound_parts, components, in_a_component, mark_parts, room_parts,
 };
-use pls_graph::{Network, connected};
+use pls_graph::{Network, node_apart};
 use pls_scheme::Scheme;
 use pls_view::LabelStore;
 use std::alloc::Global;
@@ -87,11 +87,11 @@ fn a_component_is_a_connected_network(rt: HostRuntime) -> Result<(), Fail> {
         part.len() == 3 && part.place_of(8) == Some(2),
         "2, 5 and 8"
     );
-    assert!(rt; connected(rt.alloc(), &part) == Ok(None), "it is connected");
+    assert!(rt; node_apart(rt.alloc(), &part) == Ok(None), "it is connected");
     Ok(())
 }
 
-fn colouring(alloc: Global, text: &str) -> Result<Marked, Fail> {
+fn colouring(alloc: Global, text: &str) -> Result<MarkResult, Fail> {
     let net = network(alloc, text)?;
     let parts = components(alloc, &net)?;
     Ok(mark_parts(alloc, &Bipartite::<Gamma>::new(), &net, &parts)?)
@@ -117,16 +117,16 @@ fn assert_labels(
 #[test]
 fn each_component_is_marked_by_itself(rt: HostRuntime) -> Result<(), Fail> {
     match colouring(rt.alloc(), PAIR_AND_ONE)? {
-        Marked::Labels(labels) => assert_labels(&rt, rt.alloc(), &labels, &["00", "80", "00"]),
-        Marked::Lacking(_) => Err(Fail::from("not marked")),
+        MarkResult::Labels(labels) => assert_labels(&rt, rt.alloc(), &labels, &["00", "80", "00"]),
+        MarkResult::Lacking(_) => Err(Fail::from("not marked")),
     }
 }
 
 // The smallest identity of each component without a colouring.
 fn not_coloured(alloc: Global, text: &str) -> Result<IdList, Fail> {
     match colouring(alloc, text)? {
-        Marked::Labels(_) => Err(Fail::from("marked")),
-        Marked::Lacking(ids) => Ok(ids),
+        MarkResult::Labels(_) => Err(Fail::from("marked")),
+        MarkResult::Lacking(ids) => Ok(ids),
     }
 }
 

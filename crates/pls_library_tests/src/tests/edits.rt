@@ -152,7 +152,7 @@ fn are_same(net: &Network, i: usize, plain: &Plain, id: u32) -> bool
 }
 
 // How many choices of pointers pass, on the networks with these `edges`, one bit a pair.
-fn tried(alloc: Global, nodes: u32, edges: u32) -> Result<u32, Fail> {
+fn count_of_tried(alloc: Global, nodes: u32, edges: u32) -> Result<u32, Fail> {
     let mut tried = 0_u32;
     for pointers in 0..64 {
         if is_one_name(nodes, pointers)
@@ -184,7 +184,7 @@ const NETWORKS: &[(u32, u32, u32)] = &[
 #[test]
 fn all_edits_of_all_small_networks(rt: HostRuntime) -> Result<(), Fail> {
     for (nodes, edges, networks) in NETWORKS {
-        let tried = tried(rt.alloc(), *nodes, *edges)?;
+        let tried = count_of_tried(rt.alloc(), *nodes, *edges)?;
         assert!(rt; tried == *networks, "{nodes} nodes, edges {edges}: {tried}");
     }
     Ok(())

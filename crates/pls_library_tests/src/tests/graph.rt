@@ -1,7 +1,7 @@
 //! Networks that are asked, with memory enough.
 
 use super::network;
-use pls_graph::{connected, levels};
+use pls_graph::{node_apart, levels};
 use std::test::Fail;
 
 // Two pairs of nodes.
@@ -18,7 +18,7 @@ fn two_pairs_are_a_network_in_two_parts(rt: HostRuntime) -> Result<(), Fail> {
     assert!(rt; net.place_of(9) == Some(3), "the last place");
     assert!(rt; net.size().max_weight == 7, "the greatest weight");
     assert!(rt;
-        connected(rt.alloc(), &net) == Ok(Some(6)),
+        node_apart(rt.alloc(), &net) == Ok(Some(6)),
         "6 is not joined to the first node"
     );
     Ok(())

@@ -15,7 +15,7 @@ use std::test::Fail;
 const THREE: &str = "network\nnode 1 - 0 0\nnode 20 - 0 0\nnode 21 - 0 0\nend\n";
 
 // Reads labels from `text` and writes them out again.
-fn written(alloc: Global, net: &Network, text: &[u8]) -> Result<Vec<u8>, Fail> {
+fn labels_text(alloc: Global, net: &Network, text: &[u8]) -> Result<Vec<u8>, Fail> {
     let (code, labels) = read_labels(alloc, text, net)?;
     Ok(write_labels(alloc, net, &labels, code)?)
 }
@@ -40,7 +40,7 @@ const TEXTS: &[&str] = &[
 fn assert_written(rt: &impl Abort, alloc: Global, net: &Network, text: &str) -> Result<(), Fail> {
     let bytes = text.as_bytes();
     assert!(rt;
-        written(alloc, net, bytes)?.as_slice() == bytes,
+        labels_text(alloc, net, bytes)?.as_slice() == bytes,
         "the text {text}"
     );
     assert!(rt;
@@ -83,7 +83,7 @@ fn stream<K: Sink>(
 
 // `fails` numbers the failing writes from 1; the length written is `None` if it is no front of
 // `text`.
-fn streamed(
+fn stream_with_faults(
     alloc: Global,
     net: &Network,
     text: &[u8],
@@ -97,10 +97,10 @@ fn streamed(
 
 // Asserts that `text` is streamed whole, or cut where the second write fails.
 fn assert_pieces(rt: &impl Abort, alloc: Global, net: &Network, text: &[u8]) -> Result<(), Fail> {
-    let (whole, length) = streamed(alloc, net, text, Vec::new(alloc))?;
+    let (whole, length) = stream_with_faults(alloc, net, text, Vec::new(alloc))?;
     assert!(rt; whole.is_ok(), "all is taken");
     assert!(rt; length == Some(text.len()), "the text");
-    let (torn, length) = streamed(alloc, net, text, vec![in alloc; 2]?)?;
+    let (torn, length) = stream_with_faults(alloc, net, text, vec![in alloc; 2]?)?;
     assert!(rt; torn == Err(Fault), "the second write fails");
     assert!(rt;
         length == Some(4085),

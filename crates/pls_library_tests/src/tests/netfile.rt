@@ -65,12 +65,12 @@ fn a_part_is_scanned_and_the_rest_left(rt: HostRuntime) -> Result<(), Fail> {
 }
 
 // Reads a network from `text` and writes it out again.
-fn written(alloc: Global, text: &str) -> Result<Vec<u8>, Fail> {
+fn network_text(alloc: Global, text: &str) -> Result<Vec<u8>, Fail> {
     Ok(write_network(alloc, &network(alloc, text)?)?)
 }
 
-// As `written`, in one call of the library.
-fn written_at_once(alloc: Global, text: &str) -> Result<Vec<u8>, Fail> {
+// As `network_text`, in one call of the library.
+fn network_text_at_once(alloc: Global, text: &str) -> Result<Vec<u8>, Fail> {
     Ok(write_read(alloc, text.as_bytes())?)
 }
 
@@ -88,9 +88,9 @@ fn assert_pair(rt: &impl Abort, alloc: Global, net: &Network) -> Result<(), Fail
 fn what_is_read_is_written_again(rt: HostRuntime) -> Result<(), Fail> {
     let pair = PAIR.as_bytes();
     assert_pair(&rt, rt.alloc(), &network(rt.alloc(), PAIR)?)?;
-    assert!(rt; written(rt.alloc(), PAIR)?.as_slice() == pair, "the text");
+    assert!(rt; network_text(rt.alloc(), PAIR)?.as_slice() == pair, "the text");
     assert!(rt;
-        written_at_once(rt.alloc(), PAIR)?.as_slice() == pair,
+        network_text_at_once(rt.alloc(), PAIR)?.as_slice() == pair,
         "in one call"
     );
     Ok(())

@@ -7,7 +7,7 @@ use pls_colour::Bipartite;
 use pls_graph_edits::EditError;
 use pls_labelfile::{read_labels, write_labels};
 use pls_netfile::write_network;
-use pls_recheck::{Counted, Edit, Judge, Recheck, Tally};
+use pls_recheck::{BenchJudge, Edit, Judge, Recheck, Tally};
 use std::alloc::Global;
 use std::process::Abort;
 use std::test::Fail;
@@ -27,7 +27,7 @@ fn is_as_at_first<J: Judge>(alloc: Global, recheck: &Recheck<J>) -> Result<bool,
 // How many nodes are touched and how many there are; `None` if all verdicts are ready.
 fn waiting<J: Judge>(recheck: &Recheck<J>) -> Option<(u32, usize)> {
     match recheck.verdicts() {
-        None => Some((recheck.touched(), recheck.network().len())),
+        None => Some((recheck.touched_count(), recheck.network().len())),
         Some(_) => None,
     }
 }
@@ -46,20 +46,20 @@ fn leave<J: Judge>(recheck: &mut Recheck<J>) -> Result<(), EditError> {
     recheck.apply(&Edit::Leave { id: 9 })
 }
 
-// Whether node 9 joins and leaves without a trace, with `touched` nodes touched before and after.
+// Whether node 9 joins and leaves without a trace, with `touched_count` nodes touched before and after.
 fn joins_and_leaves<J: Judge>(
     alloc: Global,
     recheck: &mut Recheck<J>,
     touched: u32,
 ) -> Result<bool, Fail> {
-    let before = recheck.touched();
+    let before = recheck.touched_count();
     join(recheck)?;
     let between = waiting(recheck);
     leave(recheck)?;
     Ok(
         before == touched
             && between == Some((touched.saturating_add(1), 3))
-            && recheck.touched() == touched
+            && recheck.touched_count() == touched
             && is_as_at_first(alloc, recheck)?,
     )
 }
@@ -99,7 +99,7 @@ fn assert_rounds<J: Judge>(
 #[test]
 fn a_node_joins_and_leaves(rt: HostRuntime) -> Result<(), Fail> {
     let mut tally = Tally::new();
-    let judge = Counted::new(Bipartite::<Gamma>::new(), &mut tally);
+    let judge = BenchJudge::new(Bipartite::<Gamma>::new(), &mut tally);
     let mut recheck = start(rt.alloc(), judge)?;
     assert_rounds(&rt, rt.alloc(), &mut recheck)?;
     recheck.finish();

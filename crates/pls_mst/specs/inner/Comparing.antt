@@ -3,7 +3,7 @@ use Rattle.std.specs.Prelude.{ℕ, ◌&&◌, ◌||◌, List}
 use Rattle.pls_model.specs.Walk.{Edge}
 use Rattle.pls_boruvka.specs.declared.level.Level.{Level}
 use Rattle.pls_mst.specs.declared.comparing.Between.{Between}
-use Rattle.pls_mst.specs.declared.comparing.Compared.{Compared}
+use Rattle.pls_mst.specs.declared.comparing.LevelComparison.{LevelComparison}
 use Rattle.pls_mst.specs.Rules.{chose_least, is_chosen_between, is_named_or_shared, on_each_level, on_some_level}
 
 -- the edge between two nodes
@@ -11,7 +11,7 @@ abbrev pub edge_between : Between → Edge
 edge_between between = record { a = between.a; b = between.b; weight = between.weight }
 
 -- what the levels of the node of this name and those of a neighbour say together
-abbrev pub compared : Between → ℕ → List Level → List Level → Compared
+abbrev pub compared : Between → ℕ → List Level → List Level → LevelComparison
 compared between own mine theirs = record {
   shares = on_each_level (is_named_or_shared own) mine theirs;
   least = on_each_level (chose_least (edge_between between) between.outside) mine theirs;
@@ -19,7 +19,7 @@ compared between own mine theirs = record {
 }
 
 -- what some levels say and those behind them
-abbrev pub both_compared : Compared → Compared → Compared
+abbrev pub both_compared : LevelComparison → LevelComparison → LevelComparison
 both_compared front behind = record {
   shares = front.shares && behind.shares;
   least = front.least && behind.least;

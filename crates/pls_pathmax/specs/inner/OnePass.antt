@@ -9,7 +9,7 @@ use Rattle.pls_view.specs.Seen.{Seen}
 use Rattle.pls_scheme.specs.Reading.{Read, ReadPort, read_ports, reading}
 use Rattle.pls_centroid.specs.declared.level.CentroidLevel.{CentroidLevel}
 use Rattle.pls_levels.specs.Rules.{is_placed_in_tree}
-use Rattle.pls_pathmax.specs.declared.gathering.Gathered.{Gathered}
+use Rattle.pls_pathmax.specs.declared.gathering.PortTally.{PortTally}
 use Rattle.pls_pathmax.specs.declared.gathering.TheConstants.{WINDOW}
 use Rattle.pls_pathmax.specs.Labels.{PathMaxLabel}
 use Rattle.pls_pathmax.specs.Rules.{agrees_on_root, has_way, has_ways_to_centroids, leads_on, leads_on_at, meet_lightly, other_edges_are_heavy}
@@ -63,7 +63,7 @@ abbrev pub is_own_level : ℕ → CentroidLevel → Bool
 is_own_level own level = level.hops == 0 && level.centroid == own
 
 -- what is gathered of the ports
-abbrev pub gathered_from : ℕ → Read PathMaxLabel → Gathered
+abbrev pub gathered_from : ℕ → Read PathMaxLabel → PortTally
 gathered_from first view = record {
   agrees = agrees_on_root view;
   heavy = other_edges_are_heavy view;

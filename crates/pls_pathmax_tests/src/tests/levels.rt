@@ -1,6 +1,6 @@
 //! Centroid levels of small trees, worked out by a plain program, and those of large ones.
 
-use super::joined;
+use super::connected_network;
 use pls_bits::Gamma;
 use pls_centroid::{CentroidList, centroid_levels};
 use pls_pointer::Tree;
@@ -124,7 +124,7 @@ const LEVELS: &[(&str, &str)] = &[
 ];
 
 fn levels_of(alloc: Global, text: &str) -> Result<Vec<CentroidList>, Fail> {
-    let net = joined(alloc, text)?;
+    let net = connected_network(alloc, text)?;
     let tree = Tree::<Gamma>::new();
     if !tree.decide(alloc, &net)? {
         return Err(Fail::from("no tree"));

@@ -1,6 +1,6 @@
 //! Labels with more levels than one pass over the ports asks for.
 
-use super::joined;
+use super::connected_network;
 use pls_base::Steps;
 use pls_bits::{BitBuf, Gamma};
 use pls_graph::Network;
@@ -56,7 +56,7 @@ fn verdict_at(
 
 // Whether the first node accepts and the second gives this verdict, in a round and by views.
 fn are_given(alloc: Global, lie: Option<u32>, second: Verdict) -> Result<bool, Fail> {
-    let net = joined(alloc, PAIR)?;
+    let net = connected_network(alloc, PAIR)?;
     let mut labels = LabelStore::blank(alloc, net.len())?;
     if net.len() != 2 {
         return Err(Fail::from("other nodes"));

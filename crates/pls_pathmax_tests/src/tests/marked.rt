@@ -1,6 +1,6 @@
 //! Labels of the scheme `pathmax` of small networks, worked out by hand, and labels that lie.
 
-use super::joined;
+use super::connected_network;
 use pls_base::{NoMemory, Steps};
 use pls_bits::{BitBuf, Gamma, from_hex};
 use pls_graph::Network;
@@ -38,9 +38,9 @@ fn text_of(alloc: Global, labels: &LabelStore) -> Result<String, NoMemory> {
 }
 
 // `no` where the network is not marked; fails where a node rejects its label.
-fn marked(alloc: Global, text: &str) -> Result<String, Fail> {
+fn marked_labels(alloc: Global, text: &str) -> Result<String, Fail> {
     let scheme = PathMax::<Gamma>::new();
-    let net = joined(alloc, text)?;
+    let net = connected_network(alloc, text)?;
     let Some(labels) = scheme.mark(alloc, &net)? else {
         return Ok(format!(in alloc; "no")?);
     };
@@ -62,7 +62,7 @@ const MARKED: &[(&str, &str)] = &[
 fn marked_labels_are_those_of_small_networks(rt: HostRuntime) -> Result<(), Fail> {
     for (text, due) in MARKED {
         assert!(rt;
-            marked(rt.alloc(), text)?.as_str() == *due,
+            marked_labels(rt.alloc(), text)?.as_str() == *due,
             "labels of {text}"
         );
     }
@@ -77,7 +77,7 @@ fn label(alloc: Global, len: usize, digits: &str) -> Result<BitBuf, Fail> {
 }
 
 // `-` for a node that accepts, else the number of the rule.
-fn judged(alloc: Global, net: &Network, digits: &[(usize, &str)]) -> Result<String, Fail> {
+fn verdicts_text(alloc: Global, net: &Network, digits: &[(usize, &str)]) -> Result<String, Fail> {
     let mut labels = LabelStore::blank(alloc, net.len())?;
     for (i, (len, text)) in digits.iter().enumerate() {
         if i < labels.len() {
@@ -122,8 +122,8 @@ const JUDGED: &[(&str, &[(usize, &str)], &str)] = &[
 #[test]
 fn labels_that_lie_are_rejected(rt: HostRuntime) -> Result<(), Fail> {
     for (text, labels, due) in JUDGED {
-        let net = joined(rt.alloc(), text)?;
-        let found = judged(rt.alloc(), &net, labels)?;
+        let net = connected_network(rt.alloc(), text)?;
+        let found = verdicts_text(rt.alloc(), &net, labels)?;
         assert!(rt; found.as_str() == *due, "verdicts on {text}: {found}");
     }
     Ok(())

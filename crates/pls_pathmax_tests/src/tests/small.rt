@@ -7,7 +7,7 @@ ghost use Rattle.pls_model.specs.Walk.{IsConnected};
 use super::network;
 use pls_base::Steps;
 use pls_bits::Gamma;
-use pls_graph::{Network, connected};
+use pls_graph::{Network, node_apart};
 use pls_mst::Mst;
 use pls_pathmax::PathMax;
 use pls_scheme::{Property, Scheme, certifies};
@@ -113,10 +113,10 @@ fn is_as_mst(alloc: Global, net: &Network) -> Result<bool, Fail>
 }
 
 // False where the network is not connected; fails where the check does.
-fn tried(alloc: Global, small: Small) -> Result<bool, Fail> {
+fn is_right_where_connected(alloc: Global, small: Small) -> Result<bool, Fail> {
     let text = text_of(alloc, small)?;
     let net = network(alloc, text.as_str())?;
-    if connected(alloc, &net)?.is_some() {
+    if node_apart(alloc, &net)?.is_some() {
         return Ok(false);
     }
     if is_as_mst(alloc, &net)? {
@@ -127,7 +127,7 @@ fn tried(alloc: Global, small: Small) -> Result<bool, Fail> {
 }
 
 // How many connected networks there are with these `edges`, one bit a pair.
-fn tried_edges(alloc: Global, nodes: u32, edges: u32) -> Result<u32, Fail> {
+fn count_of_connected(alloc: Global, nodes: u32, edges: u32) -> Result<u32, Fail> {
     let mut count = 0_u32;
     for heavy in 0..64 {
         // Pairs without edge have no weight, so each network is tried once.
@@ -141,7 +141,7 @@ fn tried_edges(alloc: Global, nodes: u32, edges: u32) -> Result<u32, Fail> {
                 };
                 // Of four nodes no weights make a tree of pointers that are none.
                 let is_asked = is_proper(small) && (nodes < 4 || is_tree(small));
-                if is_asked && tried(alloc, small)? {
+                if is_asked && is_right_where_connected(alloc, small)? {
                     count = count.saturating_add(1);
                 }
             }
@@ -158,7 +158,7 @@ fn pathmax_is_as_mst(rt: HostRuntime) -> Result<(), Fail> {
     for (nodes, sets, due) in SETS {
         let mut count = 0_u32;
         for edges in 0..*sets {
-            count = count.saturating_add(tried_edges(rt.alloc(), *nodes, edges)?);
+            count = count.saturating_add(count_of_connected(rt.alloc(), *nodes, edges)?);
         }
         assert!(rt; count == *due, "{count} networks of {nodes}");
     }

@@ -21,7 +21,7 @@ use std::alloc::Global;
 use std::test::Fail;
 
 // The verdict of the machine and its steps, `None` where 99 steps are not enough.
-fn stepped(code: &Code, kinds: &[FieldKind], view: &View<'_>) -> Option<(Verdict, u32)>
+fn verdict_and_steps(code: &Code, kinds: &[FieldKind], view: &View<'_>) -> Option<(Verdict, u32)>
     requires compiled { (set : Rules) × AreRules set
         × (kinds.now ≡ kinds_of set.fields) × (code.now ≡ code_of_rules set.rules) }
     requires own { is_read kinds.now view.now.own ≡ true }
@@ -51,8 +51,8 @@ fn are_labels(alloc: Global, format: &Fields, ports: &[PortView<'_>]) -> Result<
     }
 }
 
-// As `stepped`, and `None` where a label is not of the format.
-fn stepped_if_read(
+// As `verdict_and_steps`, and `None` where a label is not of the format.
+fn verdict_and_steps_if_read(
     alloc: Global,
     code: &Code,
     format: &Fields,
@@ -63,7 +63,7 @@ fn stepped_if_read(
 {
     let own = format.read::<Gamma>(alloc, &view.own)?.is_some();
     if own && are_labels(alloc, format, view.ports.as_slice())? {
-        Ok(stepped(code, format.kinds.as_slice(), view))
+        Ok(verdict_and_steps(code, format.kinds.as_slice(), view))
     } else {
         Ok(None)
     }
@@ -78,7 +78,7 @@ fn steps_of(
 {
     let code = compile(alloc, &set)?;
     let checker = RuleChecker::new(alloc, set)?;
-    stepped_if_read(alloc, &code, checker.format(), view)
+    verdict_and_steps_if_read(alloc, &code, checker.format(), view)
 }
 
 // Three nodes in a row.

@@ -11,7 +11,7 @@ use pls_bits::{BitBuf, Bits, Gamma};
 use pls_builtin::builtin;
 use pls_combine::AnyScheme;
 use pls_compile::RuleChecker;
-use pls_graph::{Network, connected};
+use pls_graph::{Network, node_apart};
 use pls_scheme::{Checker, Scheme, Verdict};
 use pls_scheme_text::read_expression;
 use pls_view::LabelStore;
@@ -40,7 +40,7 @@ fn bit_of(verdict: Verdict) -> Result<u32, Fail> {
 
 // The rejecting rules as bits; fails unless set and scheme judge alike, in the round and view by
 // view.
-fn judged<R: Checker, S: Checker>(
+fn rejecting_rules<R: Checker, S: Checker>(
     alloc: Global,
     checker: &R,
     scheme: &S,
@@ -51,11 +51,11 @@ fn judged<R: Checker, S: Checker>(
         return Err(Fail::from("not one label a node"));
     }
     let due = scheme.round(alloc, net, labels, &mut Steps::new())?;
-    judged_as(alloc, checker, net, labels, due.as_slice())
+    rejecting_rules_as(alloc, checker, net, labels, due.as_slice())
 }
 
 // The bits of the rules that reject; fails unless the round gives `due`.
-fn judged_as<S: Checker>(
+fn rejecting_rules_as<S: Checker>(
     alloc: Global,
     checker: &S,
     net: &Network,
@@ -72,7 +72,7 @@ fn judged_as<S: Checker>(
     }
 }
 
-// As `judged_as`, view by view.
+// As `rejecting_rules_as`, view by view.
 fn bits_of<S: Checker>(
     alloc: Global,
     checker: &S,
@@ -94,7 +94,7 @@ fn bits_of<S: Checker>(
 }
 
 // A copy with the bit at `place` flipped, unchanged where there is none.
-fn turned(alloc: Global, label: &Bits<'_>, place: usize) -> Result<BitBuf, Fail> {
+fn with_bit_turned(alloc: Global, label: &Bits<'_>, place: usize) -> Result<BitBuf, Fail> {
     let mut bits = BitBuf::new(alloc);
     for i in 0..label.len() {
         bits.push(label.bit(i) != (i == place))?;
@@ -103,7 +103,7 @@ fn turned(alloc: Global, label: &Bits<'_>, place: usize) -> Result<BitBuf, Fail>
 }
 
 // The labels moved one place down, the first to the end.
-fn moved(alloc: Global, labels: &LabelStore) -> Result<LabelStore, Fail> {
+fn rotated_labels(alloc: Global, labels: &LabelStore) -> Result<LabelStore, Fail> {
     let mut others = LabelStore::blank(alloc, labels.len())?;
     for i in 0..labels.len() {
         let place = if i == 0 { labels.len() - 1 } else { i - 1 };
@@ -112,26 +112,26 @@ fn moved(alloc: Global, labels: &LabelStore) -> Result<LabelStore, Fail> {
     Ok(others)
 }
 
-// As `judged`, over the labels as they are, moved, with each bit flipped, and emptied; restores
+// As `rejecting_rules`, over the labels as they are, moved, with each bit flipped, and emptied; restores
 // them.
-fn judged_when_changed<R: Checker, S: Checker>(
+fn rejecting_rules_when_changed<R: Checker, S: Checker>(
     alloc: Global,
     checker: &R,
     scheme: &S,
     net: &Network,
     labels: &mut LabelStore,
 ) -> Result<u32, Fail> {
-    let mut bits = judged(alloc, checker, scheme, net, labels)?;
-    bits |= judged(alloc, checker, scheme, net, &moved(alloc, labels)?)?;
+    let mut bits = rejecting_rules(alloc, checker, scheme, net, labels)?;
+    bits |= rejecting_rules(alloc, checker, scheme, net, &rotated_labels(alloc, labels)?)?;
     for i in 0..labels.len() {
         let label = label_at(alloc, labels, i)?;
-        bits |= judged_when_turned(alloc, checker, scheme, net, labels, i, &label)?;
+        bits |= rejecting_rules_when_turned(alloc, checker, scheme, net, labels, i, &label)?;
     }
     Ok(bits)
 }
 
-// As `judged_when_changed`, for the label at place `i`: each bit flipped, then emptied.
-fn judged_when_turned<R: Checker, S: Checker>(
+// As `rejecting_rules_when_changed`, for the label at place `i`: each bit flipped, then emptied.
+fn rejecting_rules_when_turned<R: Checker, S: Checker>(
     alloc: Global,
     checker: &R,
     scheme: &S,
@@ -142,11 +142,11 @@ fn judged_when_turned<R: Checker, S: Checker>(
 ) -> Result<u32, Fail> {
     let mut bits = 0_u32;
     for place in 0..label.len() {
-        put(labels, i, &turned(alloc, &label.bits(), place)?)?;
-        bits |= judged(alloc, checker, scheme, net, labels)?;
+        put(labels, i, &with_bit_turned(alloc, &label.bits(), place)?)?;
+        bits |= rejecting_rules(alloc, checker, scheme, net, labels)?;
     }
     put(labels, i, &BitBuf::new(alloc))?;
-    bits |= judged(alloc, checker, scheme, net, labels)?;
+    bits |= rejecting_rules(alloc, checker, scheme, net, labels)?;
     put(labels, i, label)?;
     Ok(bits)
 }
@@ -155,7 +155,7 @@ fn label_at(alloc: Global, labels: &LabelStore, i: usize) -> Result<BitBuf, Fail
     if i >= labels.len() {
         return Err(Fail::from("no label"));
     }
-    turned(alloc, &labels.bits(i), usize::MAX)
+    with_bit_turned(alloc, &labels.bits(i), usize::MAX)
 }
 
 fn put(labels: &mut LabelStore, i: usize, label: &BitBuf) -> Result<(), Fail> {
@@ -184,18 +184,18 @@ fn relabel<S: Scheme>(
 }
 
 // The bits of the rules that reject; an unmarked network gets the labels of the one before.
-fn judged_all<R: Checker, S: Scheme>(
+fn rejecting_rules_of_all<R: Checker, S: Scheme>(
     alloc: Global,
     checker: &R,
     scheme: &S,
     nets: &[Network],
 ) -> Result<u32, Fail> {
     let mut labels = LabelStore::blank(alloc, 1)?;
-    judged_from(alloc, checker, scheme, nets, &mut labels)
+    rejecting_rules_from(alloc, checker, scheme, nets, &mut labels)
 }
 
-// As `judged_all`; `labels` are those before the first network.
-fn judged_from<R: Checker, S: Scheme>(
+// As `rejecting_rules_of_all`; `labels` are those before the first network.
+fn rejecting_rules_from<R: Checker, S: Scheme>(
     alloc: Global,
     checker: &R,
     scheme: &S,
@@ -204,9 +204,9 @@ fn judged_from<R: Checker, S: Scheme>(
 ) -> Result<u32, Fail> {
     let mut bits = 0_u32;
     for net in nets {
-        if connected(alloc, net)?.is_none() {
+        if node_apart(alloc, net)?.is_none() {
             relabel(alloc, scheme, net, labels)?;
-            bits |= judged_when_changed(alloc, checker, scheme, net, labels)?;
+            bits |= rejecting_rules_when_changed(alloc, checker, scheme, net, labels)?;
         }
     }
     Ok(bits)
@@ -226,16 +226,16 @@ fn scheme_of(alloc: Global, name: &str) -> Result<AnyScheme<Gamma>, Fail> {
     }
 }
 
-fn judged_by_name(alloc: Global, name: &str, nets: &[Network]) -> Result<u32, Fail> {
+fn rejecting_rules_of_name(alloc: Global, name: &str, nets: &[Network]) -> Result<u32, Fail> {
     let scheme = scheme_of(alloc, name)?;
-    judged_all(alloc, &checker_of(alloc, name)?, &scheme, nets)
+    rejecting_rules_of_all(alloc, &checker_of(alloc, name)?, &scheme, nets)
 }
 
 #[test]
 fn sets_judge_as_schemes_of_their_names(rt: HostRuntime) -> Result<(), Fail> {
     let nets = networks(rt.alloc())?;
     for (name, rules) in NAMES {
-        let bits = judged_by_name(rt.alloc(), name, nets.as_slice())?;
+        let bits = rejecting_rules_of_name(rt.alloc(), name, nets.as_slice())?;
         // Some node accepts, and by each rule some node rejects.
         let due = 2_u32.wrapping_shl(*rules).wrapping_sub(1);
         assert!(rt; bits == due, "{name}: rules {bits}");

@@ -11,7 +11,7 @@ use Rattle.pls_lines.specs.LineKind.{Always, IsLineKind, alone}
 use Rattle.pls_lines.specs.ListPart.{IsListKind}
 use Rattle.pls_lines.specs.Part.{IsSomePart}
 use Rattle.pls_lines.specs.Worded.{IsWord, IsWorded}
-use Rattle.pls_lines.specs.declared.counted.Headed.{Headed}
+use Rattle.pls_lines.specs.declared.counted.BareHeading.{BareHeading}
 use Rattle.pls_lines.specs.laws.CountedLaws.{heading_kind}
 use Rattle.pls_lines.specs.laws.LineWords.{same_head}
 use Rattle.pls_lines.specs.laws.ListLaws.{list_is_some_part}
@@ -113,7 +113,7 @@ rules_word = record {
 }
 
 -- the heading is a kind of line
-pub rules_headings : IsLineKind {X = Headed RulesWord} Always (alone (codes "rules"))
+pub rules_headings : IsLineKind {X = BareHeading RulesWord} Always (alone (codes "rules"))
 rules_headings = heading_kind (codes "rules") rules_word (λ a b. refl)
 
 -- a set of one field, and no rules
@@ -145,7 +145,7 @@ words_fit (line ∷ lines) fits =
     one (OfRule rule) fits = record { rule = rule; fits = fits; written = refl }
 
 -- lists of a part have lines that fit
-pub rules_list : IsListKind {H = Headed RulesWord} Always FitsWords AreRuleLines
+pub rules_list : IsListKind {H = BareHeading RulesWord} Always FitsWords AreRuleLines
 rules_list = record {
   heading = record { of = record {} };
   headed = tt;

@@ -3,7 +3,7 @@
 use super::{ALONE, HEAVY, RING, TRIANGLE, network};
 use pls_bits::Gamma;
 use pls_boruvka::{LevelList, LevelLists, boruvka_levels, fragments};
-use pls_graph::{Network, connected};
+use pls_graph::{Network, node_apart};
 use pls_pointer::Tree;
 use pls_scheme::Property;
 use pls_search::pointer_depths;
@@ -35,7 +35,7 @@ fn text_of(alloc: Global, lists: &LevelLists) -> Result<String, Fail> {
 // The levels as text, or `lighter` where some spanning tree is lighter.
 fn levels_of(alloc: Global, net: &Network) -> Result<String, Fail> {
     let tree = Tree::<Gamma>::new();
-    if connected(alloc, net)?.is_some() || !tree.decide(alloc, net)? {
+    if node_apart(alloc, net)?.is_some() || !tree.decide(alloc, net)? {
         return Err(Fail::from("no tree"));
     }
     match boruvka_levels(alloc, net)? {

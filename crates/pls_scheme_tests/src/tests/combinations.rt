@@ -3,7 +3,7 @@
 ghost use Rattle.std.specs.Prelude.{◌≡◌, ◌+◌, ◌<◌, ◌≤◌, IfOk, length};
 ghost use Rattle.pls_model.specs.Walk.{IsConnected};
 
-use super::joined;
+use super::connected_network;
 use pls_base::{NoMemory, Steps};
 use pls_bits::{Bits, Gamma};
 use pls_colour::{Acyclic, Bipartite};
@@ -33,7 +33,7 @@ fn marks_as<S: Scheme>(
     texts: [&str; 2],
     bound: u64,
 ) -> Result<bool, Fail> {
-    let net = joined(alloc, PAIR)?;
+    let net = connected_network(alloc, PAIR)?;
     Ok(scheme.bound(&net.size()) == bound && marks(alloc, scheme, &net, texts)?)
 }
 
@@ -298,7 +298,7 @@ fn first_verdict<K: Checker>(
     checker: &K,
     labels: [&str; 3],
 ) -> Result<Verdict, Fail> {
-    let net = joined(alloc, TRIANGLE)?;
+    let net = connected_network(alloc, TRIANGLE)?;
     let store = labels_of(alloc, &net, labels)?;
     verdict(alloc, checker, &net, &store)
 }

@@ -1,6 +1,6 @@
 //! Least weights of walks, and shortest-path trees, by worked examples.
 
-use super::{APART, CHAIN, CIRCLE, RING, joined, network};
+use super::{APART, CHAIN, CIRCLE, RING, connected_network, network};
 use pls_base::NoMemory;
 use pls_bits::Gamma;
 use pls_distance::{Spt, SptLabel};
@@ -31,16 +31,16 @@ fn least_weights_of_walks(rt: HostRuntime) -> Result<(), Fail> {
     Ok(())
 }
 
-fn marked(alloc: Global, text: &str) -> Result<Option<LabelStore>, Fail> {
-    Ok(Spt::<Gamma>::new().mark(alloc, &joined(alloc, text)?)?)
+fn marked_labels(alloc: Global, text: &str) -> Result<Option<LabelStore>, Fail> {
+    Ok(Spt::<Gamma>::new().mark(alloc, &connected_network(alloc, text)?)?)
 }
 
 #[test]
 fn chains_that_are_no_lightest_walks_are_not_marked(rt: HostRuntime) -> Result<(), Fail> {
     // In the ring the edge of nodes 1 and 4 is lighter than the chain; in the circle each of two
     // nodes points at the other, along an edge of weight 0.
-    assert!(rt; marked(rt.alloc(), RING)?.is_none(), "ring");
-    assert!(rt; marked(rt.alloc(), CIRCLE)?.is_none(), "circle");
+    assert!(rt; marked_labels(rt.alloc(), RING)?.is_none(), "ring");
+    assert!(rt; marked_labels(rt.alloc(), CIRCLE)?.is_none(), "circle");
     Ok(())
 }
 
@@ -61,7 +61,7 @@ fn says(
 }
 
 fn chain_says(alloc: Global, place: usize, depth: u64, dist: u64) -> Result<bool, Fail> {
-    match marked(alloc, CHAIN)? {
+    match marked_labels(alloc, CHAIN)? {
         Some(labels) => Ok(says(alloc, &labels, place, depth, dist)?),
         None => Err(Fail::from("not marked")),
     }

@@ -3,7 +3,7 @@
 ghost use Rattle.std.specs.Prelude.{◌≡◌, ◌+◌, ◌≤◌, IfOk, length};
 ghost use Rattle.pls_model.specs.Walk.{IsConnected};
 
-use super::joined;
+use super::connected_network;
 use crate::IndependentSet;
 use pls_base::{NoMemory, Steps};
 use pls_bits::Gamma;
@@ -73,7 +73,7 @@ fn row(alloc: Global, marks: [u32; 3]) -> Result<Network, Fail>
          node 3 0 {} 0\nport 2 2\nend\n",
         marks[0], marks[1], marks[2]
     )?;
-    joined(alloc, &text)
+    connected_network(alloc, &text)
 }
 
 // Whether all nodes accept, and the steps taken.

@@ -3,7 +3,7 @@
 ghost use Rattle.std.specs.Prelude.{◌≡◌, length};
 ghost use Rattle.pls_model.specs.Walk.{IsConnected};
 
-use super::{ALONE, HEAVY, RING, TRIANGLE, joined};
+use super::{ALONE, HEAVY, RING, TRIANGLE, connected_network};
 use pls_base::{NoMemory, Steps};
 use pls_bits::{BitBuf, Bits, Gamma, from_hex};
 use pls_graph::Network;
@@ -33,7 +33,7 @@ fn text_of(alloc: Global, labels: &LabelStore) -> Result<String, NoMemory> {
 }
 
 // The labels as text; fails unless all nodes accept them.
-fn certified(alloc: Global, net: &Network, labels: &LabelStore) -> Result<String, Fail>
+fn accepted_labels(alloc: Global, net: &Network, labels: &LabelStore) -> Result<String, Fail>
     requires connected { IsConnected net.now }
     requires each { length labels.now ≡ length net.now }
 {
@@ -46,17 +46,17 @@ fn certified(alloc: Global, net: &Network, labels: &LabelStore) -> Result<String
 }
 
 // The marked labels as text, or `no`; fails unless all nodes accept them.
-fn marked_on(alloc: Global, net: &Network) -> Result<String, Fail>
+fn marked_labels_of(alloc: Global, net: &Network) -> Result<String, Fail>
     requires { IsConnected net.now }
 {
     match Mst::<Gamma>::new().mark(alloc, net)? {
-        Some(labels) => certified(alloc, net, &labels),
+        Some(labels) => accepted_labels(alloc, net, &labels),
         None => Ok(format!(in alloc; "no")?),
     }
 }
 
-fn marked(alloc: Global, text: &str) -> Result<String, Fail> {
-    marked_on(alloc, &joined(alloc, text)?)
+fn marked_labels(alloc: Global, text: &str) -> Result<String, Fail> {
+    marked_labels_of(alloc, &connected_network(alloc, text)?)
 }
 
 // Networks, and their labels.
@@ -74,7 +74,7 @@ const MARKED: &[(&str, &str)] = &[
 fn marked_labels_are_those_of_small_networks(rt: HostRuntime) -> Result<(), Fail> {
     for (text, due) in MARKED {
         assert!(rt;
-            marked(rt.alloc(), text)?.as_str() == *due,
+            marked_labels(rt.alloc(), text)?.as_str() == *due,
             "labels of {text}"
         );
     }

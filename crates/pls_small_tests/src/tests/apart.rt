@@ -5,15 +5,15 @@
 ghost use Rattle.std.specs.Prelude.{◌≡◌, length};
 ghost use Rattle.pls_components.specs.Components.{AreComponents};
 
-use super::expressions::{EXPRESSIONS, expected};
+use super::expressions::{EXPRESSIONS, properties_of};
 use super::network;
 use super::small::{
-    SETS, Small, has, is_acyclic, is_bipartite, is_forest, is_tree, pair, reached, text_with, with,
+    SETS, Small, has, is_acyclic, is_bipartite, is_forest, is_tree, pair, nodes_within, text_with, with,
 };
 use pls_base::{NoMemory, Steps};
 use pls_bits::Gamma;
 use pls_combine::AnyScheme;
-use pls_components::{Components, Marked, components, mark_parts};
+use pls_components::{Components, MarkResult, components, mark_parts};
 use pls_graph::Network;
 use pls_model::Verdict;
 use pls_scheme::{Checker, Scheme};
@@ -76,12 +76,12 @@ fn chain(net: Small, start: u32) -> (u32, u32) {
 fn is_nearest(net: Small) -> bool {
     (0..4).all(|node| {
         let (end, length) = chain(net, node);
-        node >= net.nodes || length == 0 || !has(reached(net.edges, end, length - 1), node)
+        node >= net.nodes || length == 0 || !has(nodes_within(net.edges, end, length - 1), node)
     })
 }
 
 // In the order of `SCHEMES`; only the network's first node is marked, numbers are 2, weights 1.
-fn held(part: Small, has_first: bool) -> [bool; 8] {
+fn properties(part: Small, has_first: bool) -> [bool; 8] {
     let tree = is_tree(part);
     [
         tree,
@@ -97,7 +97,7 @@ fn held(part: Small, has_first: bool) -> [bool; 8] {
 
 // `None` unless `node` is the lowest of its component, which is named by it.
 fn named_part(net: Small, node: u32) -> Option<Small> {
-    let members = reached(net.edges, node, 3);
+    let members = nodes_within(net.edges, node, 3);
     if node < net.nodes && rank(members, node) == 0 {
         Some(part_of(net, members))
     } else {
@@ -110,10 +110,10 @@ fn lacking(net: Small) -> ([u32; 8], [u32; 9]) {
     let (mut schemes, mut expressions) = ([0; 8], [0; 9]);
     for node in 0..4 {
         if let Some(part) = named_part(net, node) {
-            for (ids, holds) in schemes.iter_mut().zip(held(part, node == 0).iter()) {
+            for (ids, holds) in schemes.iter_mut().zip(properties(part, node == 0).iter()) {
                 *ids = if *holds { *ids } else { with(*ids, node) };
             }
-            for (ids, holds) in expressions.iter_mut().zip(expected(part).iter()) {
+            for (ids, holds) in expressions.iter_mut().zip(properties_of(part).iter()) {
                 *ids = if *holds { *ids } else { with(*ids, node) };
             }
         }
@@ -152,9 +152,9 @@ fn are_parts_marked<S: Scheme>(
     requires { AreComponents net.now parts.now }
 {
     match mark_parts(alloc, scheme, net, parts)? {
-        Marked::Labels(labels) if due == 0 => all_accept(alloc, scheme, net, &labels),
-        Marked::Labels(_) => Ok(false),
-        Marked::Lacking(ids) => Ok(bits_of(ids.as_slice()) == due),
+        MarkResult::Labels(labels) if due == 0 => all_accept(alloc, scheme, net, &labels),
+        MarkResult::Labels(_) => Ok(false),
+        MarkResult::Lacking(ids) => Ok(bits_of(ids.as_slice()) == due),
     }
 }
 

@@ -6,7 +6,7 @@
 ghost use Rattle.std.specs.Prelude.{◌≡◌, length};
 ghost use Rattle.pls_model.specs.Walk.{IsConnected};
 
-use super::joined;
+use super::connected_network;
 use super::small::{SETS, Small, are_joined, text_with};
 use pls_base::Steps;
 use pls_bits::{Delta, Gamma, NumCode};
@@ -109,7 +109,7 @@ fn is_small_marked(
     delta: &AnyScheme<Delta>,
     net: Small,
 ) -> Result<bool, Fail> {
-    let read = joined(alloc, text_with(alloc, net, 1, net.nodes)?.as_str())?;
+    let read = connected_network(alloc, text_with(alloc, net, 1, net.nodes)?.as_str())?;
     is_marked(alloc, gamma, delta, &read)
 }
 

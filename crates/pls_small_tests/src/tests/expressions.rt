@@ -4,8 +4,8 @@
 ghost use Rattle.pls_model.specs.Walk.{IsConnected};
 
 use super::small::{
-    SETS, Small, are_joined, has, is_acyclic, is_bipartite, is_forest, is_tree, joined_small,
-    marks, reached, with,
+    SETS, Small, are_joined, has, is_acyclic, is_bipartite, is_forest, is_tree, connected_small,
+    marks, nodes_within, with,
 };
 use pls_bits::Gamma;
 use pls_combine::AnyScheme;
@@ -20,7 +20,7 @@ fn is_bridgeless(net: Small) -> bool {
 
 // Whether all nodes are within `most` edges of each other.
 fn is_within(net: Small, most: u32) -> bool {
-    (0..4).all(|node| node >= net.nodes || reached(net.edges, node, most).count_ones() == net.nodes)
+    (0..4).all(|node| node >= net.nodes || nodes_within(net.edges, node, most).count_ones() == net.nodes)
 }
 
 // The expressions that are tried.
@@ -37,7 +37,7 @@ pub(super) const EXPRESSIONS: &[&str] = &[
 ];
 
 // Decided by plain programs, in the order of `EXPRESSIONS`.
-pub(super) fn expected(net: Small) -> [bool; 9] {
+pub(super) fn properties_of(net: Small) -> [bool; 9] {
     let tree = is_tree(net);
     let bipartite = is_bipartite(net);
     let acyclic = is_acyclic(net);
@@ -77,12 +77,12 @@ fn mark_where_due(alloc: Global, read: &Network, due: &[bool]) -> Result<bool, F
 }
 
 fn are_marked(alloc: Global, net: Small) -> Result<bool, Fail> {
-    let read = joined_small(alloc, net)?;
-    mark_where_due(alloc, &read, &expected(net))
+    let read = connected_small(alloc, net)?;
+    mark_where_due(alloc, &read, &properties_of(net))
 }
 
 // How many choices of pointers were tried; fails at the first that is marked wrongly.
-fn tried(alloc: Global, nodes: u32, edges: u32) -> Result<u32, Fail> {
+fn count_of_tried(alloc: Global, nodes: u32, edges: u32) -> Result<u32, Fail> {
     let mut tried = 0_u32;
     for pointers in 0..256 {
         let net = Small {
@@ -106,7 +106,7 @@ fn expressions_on_all_small_networks(rt: HostRuntime) -> Result<(), Fail> {
     for (nodes, sets) in SETS {
         for edges in 0..*sets {
             if are_joined(edges, *nodes) {
-                all = all.saturating_add(tried(rt.alloc(), *nodes, edges)?);
+                all = all.saturating_add(count_of_tried(rt.alloc(), *nodes, edges)?);
             }
         }
     }

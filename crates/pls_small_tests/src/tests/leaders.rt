@@ -4,7 +4,7 @@ ghost use Rattle.std.specs.Prelude.{◌≡◌, length};
 ghost use Rattle.pls_model.specs.Walk.{IsConnected};
 
 use super::small::{SETS, Small, are_joined, has, marks, write_ports};
-use super::{joined, network};
+use super::{connected_network, network};
 use pls_base::{NoMemory, Steps};
 use pls_bits::{CodeName, Gamma};
 use pls_graph::Network;
@@ -57,7 +57,7 @@ fn is_marked<S: Scheme>(
 }
 
 fn marks_as<S: Scheme>(alloc: Global, scheme: &S, text: &str, due: &str) -> Result<bool, Fail> {
-    let net = joined(alloc, text)?;
+    let net = connected_network(alloc, text)?;
     Ok(is_marked(alloc, scheme, &net, due)?)
 }
 
@@ -86,12 +86,12 @@ fn leaders_and_numbers_are_marked(rt: HostRuntime) -> Result<(), Fail> {
 }
 
 // The number of the rejecting rule, a digit a node, 0 where it accepts.
-fn judged<V: Checker>(alloc: Global, checker: &V, text: &str, labels: &str) -> Result<u32, Fail> {
+fn rejecting_digits<V: Checker>(alloc: Global, checker: &V, text: &str, labels: &str) -> Result<u32, Fail> {
     let net = network(alloc, text)?;
-    judged_in(alloc, checker, &net, labels)
+    rejecting_digits_in(alloc, checker, &net, labels)
 }
 
-fn judged_in<V: Checker>(
+fn rejecting_digits_in<V: Checker>(
     alloc: Global,
     checker: &V,
     net: &Network,
@@ -127,14 +127,14 @@ fn roots_and_numbers_are_judged(rt: HostRuntime) -> Result<(), Fail> {
     let roots = "labels\nlabel 1 4 50\nlabel 2 6 48\nlabel 3 8 2a\nlabel 4 6 2c\nend\n";
     for (text, labels, rules) in &[(BOTH, roots, 330), (FIRST, LED, 0), (BOTH, LED, 6)] {
         assert!(rt;
-            judged(rt.alloc(), &leader, text, labels)? == *rules,
+            rejecting_digits(rt.alloc(), &leader, text, labels)? == *rules,
             "rules {rules}"
         );
     }
     let count = Count::<Gamma>::new();
     for (text, rules) in &[(TWO, 0), (NONE, 44)] {
         assert!(rt;
-            judged(rt.alloc(), &count, text, COUNTED)? == *rules,
+            rejecting_digits(rt.alloc(), &count, text, COUNTED)? == *rules,
             "rules {rules}"
         );
     }
@@ -166,7 +166,7 @@ fn is_counted(alloc: Global, read: &Network, net: Small) -> Result<bool, Fail>
 fn is_as_counted(alloc: Global, net: Small) -> Result<bool, Fail> {
     let mut text = String::new(alloc);
     write_marked(&mut text, net)?;
-    let read = joined(alloc, text.as_str())?;
+    let read = connected_network(alloc, text.as_str())?;
     is_counted(alloc, &read, net)
 }
 

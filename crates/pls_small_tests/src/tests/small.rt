@@ -5,7 +5,7 @@
 ghost use Rattle.std.specs.Prelude.{◌≡◌, IfOk, length};
 ghost use Rattle.pls_model.specs.Walk.{IsConnected};
 
-use super::joined;
+use super::connected_network;
 use pls_base::Steps;
 use pls_bits::Gamma;
 use pls_colour::{Acyclic, Bipartite};
@@ -77,7 +77,7 @@ impl Small {
 }
 
 // The nodes within `most` edges of `start`, one bit a node.
-pub(super) fn reached(edges: u32, start: u32, most: u32) -> u32 {
+pub(super) fn nodes_within(edges: u32, start: u32, most: u32) -> u32 {
     let mut reached = with(0, start);
     for _ in 0..most {
         let before = reached;
@@ -93,11 +93,11 @@ pub(super) fn reached(edges: u32, start: u32, most: u32) -> u32 {
 }
 
 pub(super) fn are_joined(edges: u32, nodes: u32) -> bool {
-    let reached = reached(edges, 0, 3);
+    let reached = nodes_within(edges, 0, 3);
     (0..4).all(|node| node >= nodes || has(reached, node))
 }
 
-pub(super) fn pointed(net: Small) -> u32 {
+pub(super) fn pointer_edges(net: Small) -> u32 {
     let mut edges = 0_u32;
     for node in 0..4 {
         if let Some(target) = net.target(node) {
@@ -115,7 +115,7 @@ fn roots(net: Small) -> usize {
 
 // One node has no pointer, and the pointed edges, one fewer than the nodes, join them.
 pub(super) fn is_tree(net: Small) -> bool {
-    let edges = pointed(net);
+    let edges = pointer_edges(net);
     roots(net) == 1
         && edges.count_ones().saturating_add(1) == net.nodes
         && are_joined(edges, net.nodes)
@@ -215,11 +215,11 @@ pub(super) fn text_with(
 }
 
 // Fails where the network is not connected; marks and numbers are 0.
-pub(super) fn joined_small(alloc: Global, net: Small) -> Result<Network, Fail>
+pub(super) fn connected_small(alloc: Global, net: Small) -> Result<Network, Fail>
     ensures { IfOk result (λ net. IsConnected net) }
 {
     let text = text_with(alloc, net, 0, 0)?;
-    joined(alloc, text.as_str())
+    connected_network(alloc, text.as_str())
 }
 
 // Fails where deciding and marking differ, or a node rejects the labels.
@@ -278,12 +278,12 @@ fn is_marked(alloc: Global, read: &Network, net: Small) -> Result<bool, Fail>
 }
 
 fn is_as_decided(alloc: Global, net: Small) -> Result<bool, Fail> {
-    let read = joined_small(alloc, net)?;
+    let read = connected_small(alloc, net)?;
     is_marked(alloc, &read, net)
 }
 
 // How many choices of pointers were tried; fails at the first that is decided wrongly.
-fn tried(alloc: Global, nodes: u32, edges: u32) -> Result<u32, Fail> {
+fn count_of_tried(alloc: Global, nodes: u32, edges: u32) -> Result<u32, Fail> {
     let mut tried = 0_u32;
     for pointers in 0..256 {
         let net = Small {
@@ -310,7 +310,7 @@ fn properties_of_all_small_networks(rt: HostRuntime) -> Result<(), Fail> {
     for (nodes, sets) in SETS {
         for edges in 0..*sets {
             if are_joined(edges, *nodes) {
-                all = all.saturating_add(tried(rt.alloc(), *nodes, edges)?);
+                all = all.saturating_add(count_of_tried(rt.alloc(), *nodes, edges)?);
             }
         }
     }

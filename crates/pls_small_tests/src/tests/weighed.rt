@@ -4,8 +4,8 @@
 
 ghost use Rattle.pls_model.specs.Walk.{IsConnected};
 
-use super::joined;
-use super::small::{SETS, Small, are_joined, has, is_tree, marks, pair, pointed, write_node};
+use super::connected_network;
+use super::small::{SETS, Small, are_joined, has, is_tree, marks, pair, pointer_edges, write_node};
 use pls_bits::Gamma;
 use pls_distance::Spt;
 use pls_graph::Network;
@@ -15,13 +15,13 @@ use std::test::Fail;
 
 // A small network whose edges have one of two weights each: those with a bit have the second.
 #[derive(Clone, Copy)]
-struct Weighed {
+struct WeightedNetwork {
     net: Small,
     second: u32,
     weights: (u32, u32),
 }
 
-impl Weighed {
+impl WeightedNetwork {
     fn weight(self, a: u32, b: u32) -> u32 {
         if has(self.second, pair(a, b)) {
             self.weights.1
@@ -77,7 +77,7 @@ impl Weighed {
     }
 
     fn is_lightest(self) -> bool {
-        is_tree(self.net) && !self.is_tree_lighter(self.sum(pointed(self.net)))
+        is_tree(self.net) && !self.is_tree_lighter(self.sum(pointer_edges(self.net)))
     }
 
     // The pointers make a tree, and no walk from the root is lighter than a node's chain.
@@ -105,7 +105,7 @@ impl Weighed {
 }
 
 // Compares the schemes with the plain programs.
-fn is_marked(alloc: Global, read: &Network, weighed: Weighed) -> Result<bool, Fail>
+fn is_marked(alloc: Global, read: &Network, weighed: WeightedNetwork) -> Result<bool, Fail>
     requires { IsConnected read.now }
 {
     let shortest = marks(alloc, &Spt::<Gamma>::new(), read)?;
@@ -113,21 +113,21 @@ fn is_marked(alloc: Global, read: &Network, weighed: Weighed) -> Result<bool, Fa
     Ok(shortest == weighed.is_shortest() && lightest == weighed.is_lightest())
 }
 
-fn is_as_decided(alloc: Global, weighed: Weighed) -> Result<bool, Fail> {
+fn is_as_decided(alloc: Global, weighed: WeightedNetwork) -> Result<bool, Fail> {
     let mut text = String::new(alloc);
     weighed.write(&mut text)?;
-    let read = joined(alloc, text.as_str())?;
+    let read = connected_network(alloc, text.as_str())?;
     is_marked(alloc, &read, weighed)
 }
 
 // How many choices of weights were tried; fails at the first that is decided wrongly.
-fn tried_weights(alloc: Global, net: Small) -> Result<u32, Fail> {
+fn count_of_weights(alloc: Global, net: Small) -> Result<u32, Fail> {
     let mut tried = 0_u32;
     for second in 0..64 {
         // Pairs without edge have no weight, so each network is tried once.
         if second & !net.edges == 0 {
             let weights = (0, 1);
-            let weighed = Weighed {
+            let weighed = WeightedNetwork {
                 net,
                 second,
                 weights,
@@ -142,7 +142,7 @@ fn tried_weights(alloc: Global, net: Small) -> Result<u32, Fail> {
 }
 
 // How many choices of pointers and weights were tried on these edges.
-fn tried(alloc: Global, nodes: u32, edges: u32) -> Result<u32, Fail> {
+fn count_of_tried(alloc: Global, nodes: u32, edges: u32) -> Result<u32, Fail> {
     let mut tried = 0_u32;
     for pointers in 0..256 {
         let net = Small {
@@ -152,7 +152,7 @@ fn tried(alloc: Global, nodes: u32, edges: u32) -> Result<u32, Fail> {
         };
         // Of four nodes those are tried whose pointers make a tree: no weights make one of others.
         if net.is_proper() && (nodes < 4 || is_tree(net)) {
-            tried = tried.saturating_add(tried_weights(alloc, net)?);
+            tried = tried.saturating_add(count_of_weights(alloc, net)?);
         }
     }
     Ok(tried)
@@ -164,7 +164,7 @@ fn trees_of_all_small_weighed_networks(rt: HostRuntime) -> Result<(), Fail> {
     for (nodes, sets) in SETS {
         for edges in 0..*sets {
             if are_joined(edges, *nodes) {
-                all = all.saturating_add(tried(rt.alloc(), *nodes, edges)?);
+                all = all.saturating_add(count_of_tried(rt.alloc(), *nodes, edges)?);
             }
         }
     }

@@ -15,13 +15,13 @@ use std::process::Abort;
 pub(super) fn input_of(rt: &impl Abort, alloc: Global, notation: &str) -> String {
     let mut input = String::new(alloc);
     for part in notation.split(" | ") {
-        write_part(rt, alloc, &mut input, unnamed(part));
+        write_part(rt, alloc, &mut input, part_text(part));
     }
     input
 }
 
 // The text that a name stands for; any other part stays as it is.
-fn unnamed(part: &str) -> &str {
+fn part_text(part: &str) -> &str {
     for line in NAMED.split('\n') {
         if let Some((name, named)) = line.split_once(" = ") {
             if name == part {

@@ -3,7 +3,7 @@ use Rattle.std.specs.Prelude.{◌≡◌, ℕ, nat_le, Bool, true, false, List, l
 use Rattle.pls_model.specs.declared.limits.TheConstants.{MAX_PORTS}
 use Rattle.pls_model.specs.declared.row.NodeRow.{NodeRow}
 use Rattle.pls_universal.specs.declared.map.MapRow.{MapRow}
-use Rattle.pls_universal.specs.declared.stating.Stated.{Stated}
+use Rattle.pls_universal.specs.declared.stating.StatedNetwork.{StatedNetwork}
 use Rattle.pls_universal.specs.Rules.{is_network, nodes_of}
 
 -- how many ports all records state together
@@ -20,7 +20,7 @@ IsNetworkOf rows None = is_network rows ≡ false
 IsNetworkOf rows (Some net) = (is_network rows ≡ true) × (net ≡ nodes_of rows)
 
 -- so is the network here, beside the answer of the test on it
-abbrev pub IsStated : (List NodeRow → Bool) → List MapRow → Option Stated → Type 0
+abbrev pub IsStated : (List NodeRow → Bool) → List MapRow → Option StatedNetwork → Type 0
 IsStated test rows None = is_network rows ≡ false
 IsStated test rows (Some stated) =
     (is_network rows ≡ true) × (stated.net ≡ nodes_of rows) × (stated.has ≡ test (nodes_of rows))

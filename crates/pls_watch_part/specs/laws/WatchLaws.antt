@@ -8,7 +8,7 @@ use Rattle.pls_lines.specs.LineKind.{Always, IsLineKind, alone}
 use Rattle.pls_lines.specs.ListPart.{IsListKind}
 use Rattle.pls_lines.specs.Part.{IsSomePart}
 use Rattle.pls_lines.specs.Worded.{IsWord, IsWorded}
-use Rattle.pls_lines.specs.declared.counted.Headed.{Headed}
+use Rattle.pls_lines.specs.declared.counted.BareHeading.{BareHeading}
 use Rattle.pls_lines.specs.laws.CountedLaws.{heading_kind}
 use Rattle.pls_lines.specs.laws.ListLaws.{list_is_some_part}
 use Rattle.pls_lines.specs.laws.LineWords.{same_head}
@@ -117,7 +117,7 @@ watch_heading = record {
 }
 
 -- the heading is a kind of line
-pub watch_headings : IsLineKind {X = Headed WatchWord} Always (alone (codes "watch"))
+pub watch_headings : IsLineKind {X = BareHeading WatchWord} Always (alone (codes "watch"))
 watch_headings = heading_kind (codes "watch") watch_heading (λ a b. refl)
 
 -- a look closes
@@ -125,7 +125,7 @@ pub some_look : HasClosing FitsWatch is_look
 some_look = record { item = Look; fits = tt; ends = refl }
 
 -- lists of a part have lines that fit
-pub watch_list : IsListKind {H = Headed WatchWord} Always FitsWatch AreWatch
+pub watch_list : IsListKind {H = BareHeading WatchWord} Always FitsWatch AreWatch
 watch_list = closed_list (record { of = record {} }) FitsWatch is_look false some_look
 
 -- so there is a watch part, and it tells where it ends

@@ -1,6 +1,6 @@
 //! Random events on all small networks, against a plain program.
 
-use super::{Shown, labels, look, network};
+use super::{NodeLook, labels, look, network};
 use pls_base::Steps;
 use pls_bits::{BitBuf, Gamma};
 use pls_colour::Bipartite;
@@ -59,7 +59,7 @@ struct Plain {
 
 // An event, by a number for what it is and two more: 0 an emit of a node through a port, 1 the
 // arrival of an emit, 2 a restart of a node, 3 a new colour of a node. Nodes count from 0.
-type Chosen = (u32, u32, u32);
+type EventCode = (u32, u32, u32);
 
 impl Plain {
     fn of(alloc: Global, nodes: u32, edges: u32) -> Plain {
@@ -89,7 +89,7 @@ impl Plain {
     }
 
     // `Some` says why the event is refused.
-    fn take(&mut self, event: Chosen) -> Result<Option<EventError>, AllocError> {
+    fn take(&mut self, event: EventCode) -> Result<Option<EventError>, AllocError> {
         let (kind, one, two) = event;
         if kind != 1 && one >= self.nodes {
             return Ok(Some(EventError::NoNode));
@@ -136,7 +136,7 @@ impl Plain {
         None
     }
 
-    fn shown(&self, node: u32) -> Shown {
+    fn shown_at(&self, node: u32) -> NodeLook {
         let (mut kind, mut waits, mut stale, mut port) = (0, 0_u32, 0_u32, 0_u32);
         for other in 0..self.nodes.min(4) {
             if !joins(self.edges, node, other) {
@@ -188,7 +188,7 @@ fn next(number: u32) -> u32 {
 }
 
 // May name a node, port or emit that does not exist; `emits` were taken before.
-fn chosen(number: u32, emits: u32) -> Chosen {
+fn event_of(number: u32, emits: u32) -> EventCode {
     let (one, two) = (number.wrapping_shr(8) & 255, number.wrapping_shr(16) & 255);
     match number & 7 {
         0..=2 => (0, one % 5, two % 4),
@@ -198,7 +198,7 @@ fn chosen(number: u32, emits: u32) -> Chosen {
     }
 }
 
-fn event_of(alloc: Global, event: Chosen) -> Result<WatchEvent, Fail> {
+fn event_of(alloc: Global, event: EventCode) -> Result<WatchEvent, Fail> {
     let (kind, one, two) = event;
     let node = one.wrapping_add(1);
     Ok(match kind {
@@ -213,16 +213,16 @@ fn event_of(alloc: Global, event: Chosen) -> Result<WatchEvent, Fail> {
     })
 }
 
-fn plain_look(alloc: Global, plain: &Plain) -> Result<Vec<Shown>, Fail> {
+fn plain_look(alloc: Global, plain: &Plain) -> Result<Vec<NodeLook>, Fail> {
     let mut shown = Vec::new(alloc);
     for node in 0..plain.nodes.min(4) {
-        shown.push(plain.shown(node))?;
+        shown.push(plain.shown_at(node))?;
     }
     Ok(shown)
 }
 
 // How many of the random events from `seed` on are taken.
-fn taken<K: Checker>(
+fn count_of_events<K: Checker>(
     alloc: Global,
     net: &Network,
     checker: &K,
@@ -246,7 +246,7 @@ fn play<K: Checker>(
     let (mut number, mut taken) = (seed, 0_u32);
     for _ in 0..60 {
         number = next(number);
-        let event = chosen(number, plain.emits.len().min(250) as u32);
+        let event = event_of(number, plain.emits.len().min(250) as u32);
         let refused = lookout.step(&event_of(alloc, event)?).err();
         if refused != plain.take(event)? {
             return Err(Fail::from("refused otherwise"));
@@ -287,7 +287,7 @@ fn random_events_on_all_small_networks(rt: HostRuntime) -> Result<(), Fail> {
             let net = network(rt.alloc(), text.as_str())?;
             for seed in 1..9 {
                 let mut plain = Plain::of(rt.alloc(), *nodes, edges);
-                let events = taken(
+                let events = count_of_events(
                     rt.alloc(),
                     &net,
                     &checker,

@@ -1,6 +1,6 @@
 //! Worked rows on two nodes.
 
-use super::{Shown, labels, look, network};
+use super::{NodeLook, labels, look, network};
 use pls_base::Steps;
 use pls_bits::Gamma;
 use pls_colour::Bipartite;
@@ -18,7 +18,7 @@ const PAIR: &str = "network\nnode 1 - 0 0\nport 2 1\nnode 2 - 0 0\nport 1 1\nend
 const COLOURS: &str = "labels\nlabel 1 1 00\nlabel 2 1 80\nend\n";
 
 // The lines of a part, and what the last look shows.
-const ROWS: &[(&str, &[Shown])] = &[
+const ROWS: &[(&str, &[NodeLook])] = &[
     ("look\n", &[(1, 2, 1, 0), (2, 2, 1, 0)]),
     (
         "emit 1 0\nemit 2 0\narrive 1\narrive 2\nrelabel 1 1 80\nlook\n",
@@ -49,7 +49,7 @@ fn lines_of(alloc: Global, lines: &str) -> Result<Vec<WatchLine>, Fail> {
     }
 }
 
-fn last_look<K: Checker>(alloc: Global, checker: &K, lines: &str) -> Result<Vec<Shown>, Fail> {
+fn last_look<K: Checker>(alloc: Global, checker: &K, lines: &str) -> Result<Vec<NodeLook>, Fail> {
     let net = network(alloc, PAIR)?;
     let colours = labels(alloc, &net, COLOURS)?;
     let list = lines_of(alloc, lines)?;
@@ -63,7 +63,7 @@ fn play<K: Checker>(
     alloc: Global,
     lookout: &mut Lookout<'_, '_, K>,
     lines: &[WatchLine],
-) -> Result<Vec<Shown>, Fail> {
+) -> Result<Vec<NodeLook>, Fail> {
     let mut shown = Vec::new(alloc);
     for line in lines {
         match line {

@@ -100,7 +100,7 @@ fn lines_are_read_and_counted(rt: HostRuntime) -> Result<(), Fail> {
 }
 
 // Whether `looks` looks are too many for one part.
-fn refused(alloc: Global, looks: u32) -> Result<bool, Fail> {
+fn has_too_many_looks(alloc: Global, looks: u32) -> Result<bool, Fail> {
     let mut text = String::from_str(alloc, "watch\n")?;
     for _ in 0..looks {
         text.push_str("look\n")?;
@@ -118,7 +118,7 @@ fn refused(alloc: Global, looks: u32) -> Result<bool, Fail> {
 
 #[test]
 fn looks_have_a_limit(rt: HostRuntime) -> Result<(), Fail> {
-    assert!(rt; !refused(rt.alloc(), 128)?, "128 looks");
-    assert!(rt; refused(rt.alloc(), 129)?, "129 looks");
+    assert!(rt; !has_too_many_looks(rt.alloc(), 128)?, "128 looks");
+    assert!(rt; has_too_many_looks(rt.alloc(), 129)?, "129 looks");
     Ok(())
 }

@@ -1,7 +1,7 @@
 -- Words of which `clap` is asked.
 use Rattle.std.specs.Prelude.{◌≡◌, ℕ, List, length, Option, Some, None, if◌then◌else◌, option_and_then}
 use Rattle.std.specs.List.{list_any}
-use Rattle.pls_words.specs.declared.given.Flag.{Flag}
+use Rattle.pls_words.specs.declared.command_words.Flag.{Flag}
 use Rattle.pls_words.specs.Words.{Said, flag_cut, is_dashed, said_by_words}
 
 -- the words say something

@@ -5,8 +5,8 @@ use Rattle.clap.specs.declared.builder.ArgAction.TheVariants.{SetTrue}
 use Rattle.clap.specs.declared.parser.matches.ArgMatches.{ArgMatches}
 use Rattle.pls_bits.specs.declared.code_name.CodeName.{CodeName}
 use Rattle.pls_bits.specs.declared.code_name.CodeName.TheVariants.{Gamma, Delta}
-use Rattle.pls_words.specs.declared.given.Flag.{Flag}
-use Rattle.pls_words.specs.declared.given.Flag.TheVariants.{Bare, Json, Coded}
+use Rattle.pls_words.specs.declared.command_words.Flag.{Flag}
+use Rattle.pls_words.specs.declared.command_words.Flag.TheVariants.{Bare, Json, Coded}
 use Rattle.pls_words.specs.Words.{Said}
 
 -- the command, which has to stand

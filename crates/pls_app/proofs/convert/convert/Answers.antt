@@ -1,6 +1,6 @@
 use Rattle.std.proofs.Common.{◌≡◌, ◌∙◌, ℕ, List, Option, Some, None, IfOk, inl, inr, refl, sym}
 use Rattle.std.proofs.lemmas.Result.{IfOk-weaker}
-use Rattle.pls_base.specs.declared.refusal_number.TheConstants.{UNREAD}
+use Rattle.pls_base.specs.declared.refusal_number.TheConstants.{UNREADABLE}
 use Rattle.pls_base.specs.declared.text_error.TextError.{TextError}
 use Rattle.pls_base.specs.declared.text_error.TextError.TheVariants.{Sense}
 use Rattle.pls_base.specs.declared.text_error.Quantity.TheVariants.{Bits}
@@ -26,12 +26,12 @@ returns-in-Some-clause-does g c =
     let net = c.args.net in
     let labels = c.args.labels.now in
     let id : ℕ = c.node.result.0 in
-    IfOk-weaker c.refuse_node.result (λ answer. answer ≡ refusal (Sense UNREAD id))
+    IfOk-weaker c.refuse_node.result (λ answer. answer ≡ refusal (Sense UNREADABLE id))
     (λ answer. (input : Input) → rows_in input ≡ net → labels_in input ≡ labels
     → g.C.NumCode.takes ≡ takes_of (code_in input) → (parts : List (List ℕ))
     → Does (With Convert scheme) input parts answer)
     (λ answer says input rows same takes parts. inl (
-      Sense UNREAD id,
+      Sense UNREADABLE id,
       unread_refused scheme input _ (λ i. converted (takes i) delta_code scheme) labels same net
           c.in-Some.place id rows (sym c.in-Some.is ∙ c.in_ok-place.ensures.place)
           c.node.ensures.id,

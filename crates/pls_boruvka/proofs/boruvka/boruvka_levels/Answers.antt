@@ -2,7 +2,7 @@ use Rattle.std.proofs.Common.{◌≡◌, ◌∙◌, ◌++◌, ◌∷◌, ◌≤�
 use Rattle.std.proofs.lemmas.List.{map-append}
 use Rattle.std.proofs.lemmas.List.Elements.{All-append, All-cons, All-nil}
 use Rattle.pls_model.specs.declared.row.NodeRow.{NodeRow}
-use Rattle.pls_boruvka.specs.declared.joining.Chosen.{Chosen}
+use Rattle.pls_boruvka.specs.declared.joining.ChosenEnd.{ChosenEnd}
 use Rattle.pls_boruvka.specs.declared.level.Level.{Level}
 use Rattle.pls_boruvka.specs.Boruvka.{AreLevelLists}
 use Rattle.pls_boruvka.specs.inner.Chosen.{AreChosen, SomeUnpointed, levels_said}
@@ -14,7 +14,7 @@ use Rattle.pls_boruvka.proofs.Rounds.{AddLevel, said_by-more, said_by-none}
 use Rattle.pls_boruvka.proofs.boruvka.boruvka_levels.Goals as goal
 
 -- what the rounds so far say
-abbrev lists_by : List NodeRow → List (Vec Chosen Global) → List (List Level)
+abbrev lists_by : List NodeRow → List (Vec ChosenEnd Global) → List (List Level)
 lists_by rows rounds = levels_said (map (λ all. all.items) rounds) (length rows)
 
 pub loop-choices-init : goal.loop-choices-init
@@ -55,7 +55,7 @@ returns-then-are_one-clause-levels c =
     let tops = c.as_slice-tops.result.now in
     subst (AreLevelLists rows)
     (sym (c.in_ok-lists.ensures
-    ∙ ap (λ (count : ℕ). levels_said (map (λ (all : Vec Chosen Global). all.items) c.loop-choices.rounds.items) count) c.len-then-are_one.ensures.len))
+    ∙ ap (λ (count : ℕ). levels_said (map (λ (all : Vec ChosenEnd Global). all.items) c.loop-choices.rounds.items) count) c.len-then-are_one.ensures.len))
     (AreLevelLists-begun rows c.len.ensures.valid parents flags tops
     (subst (AreParents rows) (sym c.as_slice-parents.ensures.value) c.in_ok-parents.ensures)
     (subst (AreTops parents flags) (sym c.as_slice-tops.ensures.value) c.in_ok-tops.ensures.tops)
@@ -70,7 +70,7 @@ returns-then-are_one-clause-few c =
     let tops = c.as_slice-tops.result.now in
     subst (λ (lists : List (List Level)). All (λ list. 2 ^ length list ≤ length rows) lists)
     (sym (c.in_ok-lists.ensures
-    ∙ ap (λ (count : ℕ). levels_said (map (λ (all : Vec Chosen Global). all.items) c.loop-choices.rounds.items) count) c.len-then-are_one.ensures.len))
+    ∙ ap (λ (count : ℕ). levels_said (map (λ (all : Vec ChosenEnd Global). all.items) c.loop-choices.rounds.items) count) c.len-then-are_one.ensures.len))
     (few_begun rows c.len.ensures.valid parents flags tops
     (subst (AreParents rows) (sym c.as_slice-parents.ensures.value) c.in_ok-parents.ensures)
     (subst (AreTops parents flags) (sym c.as_slice-tops.ensures.value) c.in_ok-tops.ensures.tops)
@@ -119,7 +119,7 @@ returns-in_default-clause-lighter c =
     (subst (AreTops parents flags) (sym c.as_slice-tops.ensures.value) c.in_ok-tops.ensures.tops)
     (c.if-are_one.ensures.apart refl) choices
     c.choices_of.ensures (lists_by rows c.loop-choices.rounds.items) c.loop-choices.invariant.begun
-    (subst (λ (found : Option (Vec Chosen Global)). IfNone found (SomeUnpointed tops choices))
+    (subst (λ (found : Option (Vec ChosenEnd Global)). IfNone found (SomeUnpointed tops choices))
     c.in_default.is c.in_ok-all.ensures.unpointed)
 
 pub join-requires : goal.join-requires
@@ -132,7 +132,7 @@ join-requires c =
     let all = c.as_slice.result.now in
     let chosen : AreChosen rows tops choices all = subst (AreChosen rows tops choices)
     (sym c.as_slice.ensures.value)
-    (subst (λ (found : Option (Vec Chosen Global)). IfSome found
+    (subst (λ (found : Option (Vec ChosenEnd Global)). IfSome found
     (λ all. AreChosen rows tops choices all.items)) c.in-Some.is c.in_ok-all.ensures.chosen) in
     record {
       within = children_begun rows c.len.ensures.valid c.requires.tree parents flags tops
@@ -152,7 +152,7 @@ loop-choices-smaller c =
     let all = c.as_slice.result.now in
     let chosen : AreChosen rows tops choices all = subst (AreChosen rows tops choices)
     (sym c.as_slice.ensures.value)
-    (subst (λ (found : Option (Vec Chosen Global)). IfSome found
+    (subst (λ (found : Option (Vec ChosenEnd Global)). IfSome found
     (λ all. AreChosen rows tops choices all.items)) c.in-Some.is c.in_ok-all.ensures.chosen) in
     fewer_unjoined rows c.len.ensures.valid c.requires.tree parents flags tops
     (subst (AreParents rows) (sym c.as_slice-parents.ensures.value) c.in_ok-parents.ensures)
@@ -172,20 +172,20 @@ loop-choices-preserved c =
     let all = c.as_slice.result.now in
     let chosen : AreChosen rows tops choices all = subst (AreChosen rows tops choices)
     (sym c.as_slice.ensures.value)
-    (subst (λ (found : Option (Vec Chosen Global)). IfSome found
+    (subst (λ (found : Option (Vec ChosenEnd Global)). IfSome found
     (λ all. AreChosen rows tops choices all.items)) c.in-Some.is c.in_ok-all.ensures.chosen) in
     let rounds = c.loop-choices.rounds.items in
-    let vec_items : Vec Chosen Global → List Chosen = λ all. all.items in
+    let vec_items : Vec ChosenEnd Global → List ChosenEnd = λ all. all.items in
     let each = c.loop-choices.invariant.each in
     let many : length c.in-Some.all.items ≡ length rows =
     sym (ap length c.as_slice.ensures.value) ∙ chosen.each in
     let is : all ≡ c.in-Some.all.items = c.as_slice.ensures.value in
     let added : AddLevel all (lists_by rows rounds) (lists_by rows c.push.new.self.items) =
-    subst (λ (new : List (List Chosen)). AddLevel all (lists_by rows rounds)
+    subst (λ (new : List (List ChosenEnd)). AddLevel all (lists_by rows rounds)
     (levels_said new (length rows)))
     (sym (ap (map vec_items) c.in_ok-push.ensures.items
     ∙ map-append vec_items rounds (c.in-Some.all ∷ [])
-    ∙ ap (λ (last : List Chosen). map vec_items rounds ++ last ∷ []) (sym is)))
+    ∙ ap (λ (last : List ChosenEnd). map vec_items rounds ++ last ∷ []) (sym is)))
     (said_by-more (map vec_items rounds) all (length rows) chosen.each) in
     record {
       each = subst (All (λ all. length all.items ≡ length rows)) (sym c.in_ok-push.ensures.items)

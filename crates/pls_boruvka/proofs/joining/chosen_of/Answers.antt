@@ -2,7 +2,7 @@ use Rattle.std.proofs.Common.{◌∷◌, [], ℕ, length, arith, subst, sym, ap,
 use Rattle.pls_boruvka.specs.inner.Choices.{top_at}
 use Rattle.pls_boruvka.specs.inner.Chosen.{IsChosen, choice_of_place}
 use Rattle.pls_boruvka.specs.inner.Tops.{Each}
-use Rattle.pls_boruvka.specs.declared.joining.Chosen.{Chosen}
+use Rattle.pls_boruvka.specs.declared.joining.ChosenEnd.{ChosenEnd}
 use Rattle.pls_boruvka.proofs.Listed.{Each-push}
 use Rattle.pls_boruvka.proofs.joining.chosen_of.Goals as goal
 
@@ -11,7 +11,7 @@ loop-top-preserved c =
     let before = c.loop-top.all.items in
     let place = c.loop-top.top-index in
     let tops = c.args.tops.now in
-    let Right = λ (place : ℕ) (chosen : Chosen).
+    let Right = λ (place : ℕ) (chosen : ChosenEnd).
     IsChosen c.args.net.now (top_at tops place) (choice_of_place tops c.args.choices.now place) chosen in
     let (many, right) = c.loop-top.invariant in
     let all = c.in_ok-push.ensures.items in

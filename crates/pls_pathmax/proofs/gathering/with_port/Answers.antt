@@ -1,7 +1,7 @@
 use Rattle.std.proofs.Common.{◌≡◌, ◌∙◌, ◌&&◌, true, false, ℕ, length, sym, ap}
 use Rattle.std.specs.List.{list_any, zip}
 use Rattle.pls_scheme.specs.Reading.{port_with, reading}
-use Rattle.pls_pathmax.specs.declared.gathering.Gathered.{Gathered}
+use Rattle.pls_pathmax.specs.declared.gathering.PortTally.{PortTally}
 use Rattle.pls_pathmax.specs.declared.glance.PathMaxGlance.{PathMaxGlance}
 use Rattle.pls_levels.specs.Rules.{is_in_tree}
 use Rattle.pls_pathmax.specs.Rules.{meet_lightly}
@@ -29,7 +29,7 @@ returns-then-is_in_tree g c id state mine theirs ports up many own_read own_is t
       ap (λ (glance : PathMaxGlance). glance.head.root) own_is,
     ) c.agrees_too-agrees.ensures)
     (c.led_on_with-led_on.ensures mine theirs own_read theirs_read
-    (ap (λ (was : Gathered). length was.led_on) before
+    (ap (λ (was : PortTally). length was.led_on) before
     ∙ led_on_many first (reading id state mine ports))
     ∙ ap (λ (weight : ℕ). with_leads first weight mine.levels theirs.levels led_on)
     c.from-weight.ensures)

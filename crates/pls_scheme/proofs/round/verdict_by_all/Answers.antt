@@ -29,7 +29,7 @@ returns-in_default g c view at =
     c.bits-bits.ensures at)
     (unopened said glance (g.R.JudgesInPlace.tally_of c.args.rules.now)
     (shown_from rows labels node.0 node.1 bits c.ports-ports.result.now) rules
-    (ap option_copied (sym c.in_default.is) ∙ c.glance.ensures ∙ kept_there said glance g.E.Kept.glance_in_memory labels c.args.looked.now c.requires.looked
+    (ap option_copied (sym c.in_default.is) ∙ c.glance.ensures ∙ kept_there said glance g.E.GlanceMemory.glance_in_memory labels c.args.looked.now c.requires.looked
     c.args.i bits c.index-looked-i.result c.bits-bits.ensures c.index-looked-i.is))
 
 pub loop-p-init : goal.loop-p-init
@@ -41,7 +41,7 @@ loop-p-init g c =
     pass_opened said glance (g.R.JudgesInPlace.tally_of c.args.rules.now)
     (shown_from c.args.net.now (g.L.Labels.listed c.args.labels.now) node.0 node.1 bits c.ports-ports.result.now)
     c.in-Some.glance.now c.open-tally.result
-    (ap option_copied (sym c.in-Some.is) ∙ c.glance.ensures ∙ kept_there said glance g.E.Kept.glance_in_memory (g.L.Labels.listed c.args.labels.now) c.args.looked.now
+    (ap option_copied (sym c.in-Some.is) ∙ c.glance.ensures ∙ kept_there said glance g.E.GlanceMemory.glance_in_memory (g.L.Labels.listed c.args.labels.now) c.args.looked.now
     c.requires.looked c.args.i bits c.index-looked-i.result c.bits-bits.ensures
     c.index-looked-i.is)
     (λ label same. c.open-tally.ensures node.0 node.1 label same)
@@ -81,7 +81,7 @@ returns-in_default-glance g c view at =
     (port_placed rows c.node-id.ensures.valid c.args.i ports c.ports-ports.ensures
     c.places-places.result.now c.places-places.ensures.places p port port_at)
     c.bits-bits-in-loop-p.ensures)
-    (ap option_copied (sym c.in_default-glance.is) ∙ c.glance-in-loop-p.ensures ∙ kept_there said glance g.E.Kept.glance_in_memory labels c.args.looked.now
+    (ap option_copied (sym c.in_default-glance.is) ∙ c.glance-in-loop-p.ensures ∙ kept_there said glance g.E.GlanceMemory.glance_in_memory labels c.args.looked.now
     c.requires.looked place there c.index-looked-place.result c.bits-bits-in-loop-p.ensures
     c.index-looked-place.is))
 
@@ -108,9 +108,9 @@ loop-p-preserved g c =
     (port_placed rows c.node-id.ensures.valid c.args.i ports c.ports-ports.ensures
     c.places-places.result.now c.places-places.ensures.places p port port_at)
     c.bits-bits-in-loop-p.ensures)
-    (ap option_copied (sym c.in-Some.is) ∙ c.glance.ensures ∙ kept_there said glance g.E.Kept.glance_in_memory labels c.args.looked.now c.requires.looked
+    (ap option_copied (sym c.in-Some.is) ∙ c.glance.ensures ∙ kept_there said glance g.E.GlanceMemory.glance_in_memory labels c.args.looked.now c.requires.looked
     c.args.i bits c.index-looked-i.result c.bits-bits.ensures c.index-looked-i.is)
-    (ap option_copied (sym c.in-Some-glance.is) ∙ c.glance-in-loop-p.ensures ∙ kept_there said glance g.E.Kept.glance_in_memory labels c.args.looked.now
+    (ap option_copied (sym c.in-Some-glance.is) ∙ c.glance-in-loop-p.ensures ∙ kept_there said glance g.E.GlanceMemory.glance_in_memory labels c.args.looked.now
     c.requires.looked place there c.index-looked-place.result c.bits-bits-in-loop-p.ensures
     c.index-looked-place.is)
     (λ mine theirs so_far many own_read own_same port_read port_same is.
@@ -126,7 +126,7 @@ glance_above-above-requires-clause-pointer g c =
 pub glance_above-above-requires-clause-within : goal.glance_above-above-requires-clause-within
 glance_above-above-requires-clause-within g c = λ p none within.
     let many : length c.args.looked.now ≡ length (g.L.Labels.listed c.args.labels.now) =
-    sym (length-map c.args.looked.now g.E.Kept.glance_in_memory)
+    sym (length-map c.args.looked.now g.E.GlanceMemory.glance_in_memory)
     ∙ ap length c.requires.looked
     ∙ length-map (g.L.Labels.listed c.args.labels.now) (seen_in (said_by (g.R.Format.Format.shape (g.R.Judgement.format c.args.rules.now)) g.R.Code.NumCode.takes)
     (g.R.JudgesInPlace.glance c.args.rules.now)) in
@@ -148,7 +148,7 @@ returns g c view at =
     let above : option_copied c.glance_above-above.result ≡ seen_above said glance shown.ports node.1.up =
     c.glance_above-above.ensures
     ∙ above_kept rows c.node-id.ensures.valid c.args.i ports c.ports-ports.ensures places
-    c.places-places.ensures.places said glance g.E.Kept.glance_in_memory labels c.args.looked.now
+    c.places-places.ensures.places said glance g.E.GlanceMemory.glance_in_memory labels c.args.looked.now
     c.requires.looked c.requires.each node.1 c.node-id.ensures.state in
     let over = c.loop-p-test.false in
     subst (λ (view : Seen). c.close.result ≡ judge_by said rules view)
@@ -159,6 +159,6 @@ returns g c view at =
     (passed said glance (g.R.JudgesInPlace.tally_of c.args.rules.now) shown rules c.loop-p.p
     c.loop-p.tally c.in-Some.glance.now (option_copied c.glance_above-above.result) c.close.result
     (rw (length-map ports (seen_port (label_of rows labels))) over) c.loop-p.invariant
-    (ap option_copied (sym c.in-Some.is) ∙ c.glance.ensures ∙ kept_there said glance g.E.Kept.glance_in_memory labels c.args.looked.now c.requires.looked
+    (ap option_copied (sym c.in-Some.is) ∙ c.glance.ensures ∙ kept_there said glance g.E.GlanceMemory.glance_in_memory labels c.args.looked.now c.requires.looked
     c.args.i bits c.index-looked-i.result c.bits-bits.ensures c.index-looked-i.is) above
     (λ own read own_read same above is. c.close.ensures own read own_read same above is))

@@ -8,7 +8,7 @@ use Rattle.pls_universal.proofs.deciding.verdict_at.Goals as goal
 pub returns-clause-verdict : goal.returns-clause-verdict
 returns-clause-verdict g c =
     let takes = g.C.NumCode.takes in
-    let test = g.P.Tested.test c.args.property.now in
+    let test = g.P.PropertyTest.test c.args.property.now in
     let is : IsNumberOf takes test c.number_of.new.self c.args.view.now.own c.in-Some.number =
     rw (← c.view.view_is) (subst (λ found. IfSome found
     (IsNumberOf takes test c.number_of.new.self c.view.inside.own)) c.in-Some.is

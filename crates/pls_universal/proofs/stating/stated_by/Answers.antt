@@ -20,7 +20,7 @@ returns g c =
     subst (IsNetworkOf rows) c.in-Some.is c.in_ok-net.ensures in (
       found.0,
       found.1,
-      told (g.P.Tested.test property) (g.P.Property.holds property)
-          (g.met.P.Tested.test_law property) rows found.0 c.in_ok-has.has
+      told (g.P.PropertyTest.test property) (g.P.Property.holds property)
+          (g.met.P.PropertyTest.test_law property) rows found.0 c.in_ok-has.has
           (rw found.1 at (c.in_ok-has.ensures)),
     )

@@ -16,7 +16,7 @@ returns-in_default-clause-none g c =
 pub seek-requires : goal.seek-requires
 seek-requires g c =
     decided-within g.C.NumCode.code g.C.NumCode.takes g.met.C.NumCode.takes_codes
-    g.met.C.NumCode.takes_only (g.P.Tested.test c.args.property.now)
+    g.met.C.NumCode.takes_only (g.P.PropertyTest.test c.args.property.now)
     (g.L.Labels.listed c.args.labels.now) c.args.self.now c.requires.decided
 
 pub returns-in-Some-2-clause-number : goal.returns-in-Some-2-clause-number
@@ -28,13 +28,13 @@ returns-in-Some-2-clause-number g c =
     subst (λ found. IfSome found (IsNumberOfMap takes labels c.args.self.now map)) c.in-Some-2.is
     c.in_ok-known.ensures in
     known-map g.C.NumCode.code takes g.met.C.NumCode.takes_codes g.met.C.NumCode.takes_only
-    (g.P.Tested.test c.args.property.now) labels c.args.self.now c.requires.decided
+    (g.P.PropertyTest.test c.args.property.now) labels c.args.self.now c.requires.decided
     c.args.label.now c.in-Some.field-0-0 map c.in-Some-2.known (sym c.in-Some.ensures) is
 
 pub returns-clause-decided : goal.returns-clause-decided
 returns-clause-decided g c =
     let takes = g.C.NumCode.takes in
-    let test = g.P.Tested.test c.args.property.now in
+    let test = g.P.PropertyTest.test c.args.property.now in
     let map : DecidedMap = record { place = c.args.i; stated = c.in_ok-stated.stated } in
     let read : said_by map_shape takes c.args.label.now ≡ Some c.in-Some-3.read =
     sym c.in_ok-read.ensures ∙ c.in-Some-3.is in
@@ -51,7 +51,7 @@ returns-clause-decided g c =
 pub returns-clause-number : goal.returns-clause-number
 returns-clause-number g c =
     let takes = g.C.NumCode.takes in
-    let test = g.P.Tested.test c.args.property.now in
+    let test = g.P.PropertyTest.test c.args.property.now in
     let map : DecidedMap = record { place = c.args.i; stated = c.in_ok-stated.stated } in
     let read : said_by map_shape takes c.args.label.now ≡ Some c.in-Some-3.read =
     sym c.in_ok-read.ensures ∙ c.in-Some-3.is in

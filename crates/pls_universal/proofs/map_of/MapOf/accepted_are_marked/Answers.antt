@@ -13,7 +13,7 @@ use Rattle.pls_universal.proofs.map_of.MapOf.accepted_are_marked.Goals as goal
 pub returns-clause-marked : goal.returns-clause-marked
 returns-clause-marked g c =
     accepted_marked g.C.NumCode.code g.C.NumCode.takes g.met.C.NumCode.takes_codes
-    g.met.C.NumCode.takes_only (g.P.Tested.test c.args.self.now.property) c.args.net.now
+    g.met.C.NumCode.takes_only (g.P.PropertyTest.test c.args.self.now.property) c.args.net.now
     c.is_valid.ensures c.requires.connected c.args.labels.now c.requires.each c.requires.accepted
 
 pub returns-clause-alone : goal.returns-clause-alone

@@ -12,7 +12,7 @@ pub loop-i-init : goal.loop-i-init
 loop-i-init g c = record {
   verdicts = c.in_ok-verdicts.ensures.items;
   steps = omega arith;
-  decided = c.new-decided.ensures g.C.NumCode.takes (g.P.Tested.test c.args.self.now.property)
+  decided = c.new-decided.ensures g.C.NumCode.takes (g.P.PropertyTest.test c.args.self.now.property)
       (g.L.Labels.listed c.args.labels.now);
 }
 
@@ -42,7 +42,7 @@ loop-i-preserved g c = record {
   verdicts =
       c.in_ok-push.ensures.items
       ∙ map-take_more (judge_by (said_by map_shape g.C.NumCode.takes)
-      (map_rules (g.P.Tested.test c.args.self.now.property)))
+      (map_rules (g.P.PropertyTest.test c.args.self.now.property)))
       (views c.args.net.now (g.L.Labels.listed c.args.labels.now)) c.loop-i.i _ c.loop-i.verdicts.items
       c.in_ok-verdict.verdict c.loop-i.invariant.verdicts c.in_ok-view.ensures.shows
       c.in_ok-verdict.ensures.verdict;

@@ -13,9 +13,9 @@ abbrev pub invariant-loop-i : goal.invariant-loop-i
 invariant-loop-i g l = record {
   verdicts : l.verdicts.items
       ≡ map (judge_by (said_by map_shape g.C.NumCode.takes)
-      (map_rules (g.P.Tested.test l.self.property)))
+      (map_rules (g.P.PropertyTest.test l.self.property)))
       (take l.i (views l.net (g.L.Labels.listed l.labels)));
   steps : l.steps ≡ up_by l.i l.fn.steps;
-  decided : AreDecided g.C.NumCode.takes (g.P.Tested.test l.self.property)
+  decided : AreDecided g.C.NumCode.takes (g.P.PropertyTest.test l.self.property)
       (g.L.Labels.listed l.labels) l.decided;
 }

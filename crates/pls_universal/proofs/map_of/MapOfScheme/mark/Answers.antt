@@ -31,9 +31,9 @@ returns-clause-accepted g c =
     marked_accepted (λ bits label. IsSpelled map_shape code bits label) (map_says rows) rows
     c.in_ok-labels.labels c.in_ok-labels.ensures c.is_valid.ensures (said_by map_shape takes)
     (λ bits label is. (said_spells map_shape map_numbers code takes g.met.C.NumCode.takes_codes
-    g.met.C.NumCode.takes_only bits label).1 is) (map_rules (g.P.Tested.test property))
-    (map_met (g.P.Tested.test property) (g.P.Property.holds property)
-    (g.met.P.Tested.test_law property) rows c.is_valid.ensures c.requires
+    g.met.C.NumCode.takes_only bits label).1 is) (map_rules (g.P.PropertyTest.test property))
+    (map_met (g.P.PropertyTest.test property) (g.P.Property.holds property)
+    (g.met.P.PropertyTest.test_law property) rows c.is_valid.ensures c.requires
     (c.in_ok-decide.ensures.0 c.if-not-branch.false) words)
 
 pub returns-clause-short : goal.returns-clause-short

@@ -12,7 +12,7 @@ invariant_of-self c =
     let at : c.len.result ≡ length old.words.items = search (rules, c.len.ensures) in
     let len = c.len-2.ensures in
     let count = c.div_ceil.ensures in
-    let slots = c.replaced-self-inside.ensures.slots in
+    let slots = c.replace_slot-self-inside.ensures.slots in
     let labels = ap (λ s. length s.labels) c.self.view_is in
     let each = length-map old.slots.items (label_of_slot old.words.items) in
     let within : c.args.i < length old.slots.items =
@@ -20,8 +20,8 @@ invariant_of-self c =
     let spare = ap (λ s. s.spare) c.self.view_is in (
       rw (slots, at)
           (room_replaced new.items old.words.items old.slots.items c.args.i c.len-2.result old.total
-          c.replaced-self-inside.result put.kept (rw (← len) at put.long) within
-          c.self.invariant.0 (rw (slots, at) at c.replaced-self-inside.ensures.sum)),
+          c.replace_slot-self-inside.result put.kept (rw (← len) at put.long) within
+          c.self.invariant.0 (rw (slots, at) at c.replace_slot-self-inside.ensures.sum)),
       free_used new.items old.words.items _ _ old.free c.div_ceil.result c.self.invariant.1
           (omega (arith, put.long, len, count)) (omega (arith, c.requires.room, spare, count, len))
           put.capacity,
@@ -33,7 +33,7 @@ returns-clause-replaced c =
     let labels : map (label_of_slot old.words.items) old.slots.items ≡ c.args.self.now.labels =
     ap (λ s. s.labels) c.self.view_is in
     let at : c.len.result ≡ length old.words.items = search (rules, c.len.ensures) in
-    rw (← labels, c.replaced-self-inside.ensures.slots, at)
+    rw (← labels, c.replace_slot-self-inside.ensures.slots, at)
     (labels_replaced c.append_to.new.words.items old.words.items old.slots.items c.args.i
     c.len-2.result c.args.label c.in-Ok.ensures.kept c.self.invariant.0.within
     (rw (← c.len-2.ensures) at c.in-Ok.ensures.put))

@@ -11,7 +11,7 @@ invariant_of-self c =
     let put = c.in-Ok.ensures in
     let at : c.len.result ≡ length old.words.items = search (rules, c.len.ensures) in
     let count = c.div_ceil.ensures in
-    let slots = c.replaced-self-inside.ensures.slots in
+    let slots = c.replace_slot-self-inside.ensures.slots in
     let labels = ap (λ s. length s.labels) c.self.view_is in
     let each = length-map old.slots.items (label_of_slot old.words.items) in
     let within : c.args.i < length old.slots.items =
@@ -19,8 +19,8 @@ invariant_of-self c =
     let spare = ap (λ s. s.spare) c.self.view_is in (
       rw (slots, at)
           (room_replaced new.items old.words.items old.slots.items c.args.i c.args.len old.total
-          c.replaced-self-inside.result put.kept put.long within
-          c.self.invariant.0 (rw (slots, at) at c.replaced-self-inside.ensures.sum)),
+          c.replace_slot-self-inside.result put.kept put.long within
+          c.self.invariant.0 (rw (slots, at) at c.replace_slot-self-inside.ensures.sum)),
       free_used new.items old.words.items _ _ old.free c.div_ceil.result c.self.invariant.1
           (omega (arith, put.long, count)) (omega (arith, c.requires.room, spare, count))
           put.capacity,
@@ -32,7 +32,7 @@ returns-clause-replaced c = λ bits long written.
     let labels : map (label_of_slot old.words.items) old.slots.items ≡ c.args.self.now.labels =
     ap (λ s. s.labels) c.self.view_is in
     let at : c.len.result ≡ length old.words.items = search (rules, c.len.ensures) in
-    rw (← labels, c.replaced-self-inside.ensures.slots, at)
+    rw (← labels, c.replace_slot-self-inside.ensures.slots, at)
     (labels_replaced c.append_hex.new.words.items old.words.items old.slots.items c.args.i
     c.args.len bits c.in-Ok.ensures.kept c.self.invariant.0.within
     (c.in-Ok.ensures.put bits long written))

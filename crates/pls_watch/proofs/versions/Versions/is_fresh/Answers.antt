@@ -9,11 +9,11 @@ returns-in-Some c = λ row at stands has.
     ∙ ap (λ (o : Option ℕ). option_map_or (λ version. version == newest c.args.self.now.turns
     at.nbr) o true)
     (ap (option_map (λ (label : ℕ × ℕ). label.0)) (sym c.in-Some.is)
-    ∙ c.held.ensures.version row at stands has)
+    ∙ c.held_version.ensures.version row at stands has)
 
 pub returns-in-None : goal.returns-in-None
 returns-in-None c = λ row at stands has.
     ap (λ (o : Option ℕ). option_map_or (λ version. version == newest c.args.self.now.turns at.nbr)
     o true)
     (ap (option_map (λ (label : ℕ × ℕ). label.0)) (sym c.in-None.is)
-    ∙ c.held.ensures.version row at stands has)
+    ∙ c.held_version.ensures.version row at stands has)

@@ -1,7 +1,7 @@
 use Rattle.std.proofs.Common.{◌∙◌, ◌∷◌, ◌++◌, ◌+◌, [], ℕ, List, length, slice_get, drop, sym, ap, arith, append_assoc}
 use Rattle.pls_model.specs.declared.row.NodeRow.{NodeRow}
 use Rattle.pls_watch.specs.Turning.{Turned}
-use Rattle.pls_sim.specs.Schedule.{unheard_from}
+use Rattle.pls_sim.specs.Schedule.{failing_from}
 use Rattle.pls_watch.specs.Versions.{is_fresh}
 use Rattle.pls_sim.proofs.Unheard.{adds_unheard, all_passed, has_port, on_err, passes_heard, port_small, port_within, some_in}
 use Rattle.pls_sim.proofs.Refusing.{ports_at}
@@ -40,7 +40,7 @@ loop-port-preserved c = λ row stands.
     (ap (λ (turned : Turned). turned.network) c.self.view_is) c.args.i
     c.loop-port.port c.ports-port-end.result.now c.ports-port-end.ensures c.loop-port-test.true
     row stands in
-    let later : List ℕ = unheard_from heard (p + 1) (drop (p + 1) row.ports) in
+    let later : List ℕ = failing_from heard (p + 1) (drop (p + 1) row.ports) in
     adds_unheard heard row.ports c.loop-port.numbers.items p port.0 port.1
     (c.loop-port.invariant row stands)
     (sym (c.is_fresh.ensures row port.0 stands port.1) ∙ c.if-is_fresh.false)
@@ -67,7 +67,7 @@ returns-in_err-push-clause-no_memory c =
     (ap (λ (turned : Turned). turned.network) c.self.view_is) c.args.i
     c.loop-port.port c.ports-port-end.result.now c.ports-port-end.ensures c.loop-port-test.true
     row stands in
-    some_in c.loop-port.numbers.items p (unheard_from fresh (p + 1) (drop (p + 1) row.ports))
+    some_in c.loop-port.numbers.items p (failing_from fresh (p + 1) (drop (p + 1) row.ports))
     (sym (adds_unheard fresh row.ports c.loop-port.numbers.items p port.0 port.1
     (c.loop-port.invariant row stands)
     (sym (c.is_fresh.ensures row port.0 stands port.1) ∙ c.if-is_fresh.false)) ∙ none))

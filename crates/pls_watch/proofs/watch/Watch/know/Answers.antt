@@ -1,6 +1,6 @@
 use Rattle.std.proofs.Common.{◌≡◌, ◌∙◌, ℕ, ◌+◌, List, ◌++◌, length, drop, slice_get, sym, ap, subst, arith}
 use Rattle.pls_model.specs.Configuration.{IsNetwork}
-use Rattle.pls_sim.specs.Schedule.{has_heard, unheard_from}
+use Rattle.pls_sim.specs.Schedule.{has_heard, failing_from}
 use Rattle.pls_sim.proofs.Outcomes.{they_rise}
 use Rattle.pls_sim.proofs.Unheard.{all_passed, has_port, passes_heard, port_small}
 use Rattle.pls_watch.specs.Versions.{is_fresh, plain_of}
@@ -100,7 +100,7 @@ loop-port-preserved c =
           let port = has_port old.net.now now.network network c.args.i p
           c.ports-port-end.result.now c.ports-port-end.ensures c.loop-port-test.true row stands in
           let numbers : List ℕ = c.loop-port.unheard.items in
-          let later : List ℕ = unheard_from heard (p + 1) (drop (p + 1) row.ports) in
+          let later : List ℕ = failing_from heard (p + 1) (drop (p + 1) row.ports) in
           let before = c.loop-port.invariant.unheard row stands in
           let is = (c.know_port.ensures.state row port.0 stands port.1).heard in
           elim c.match-know_port.branch [
@@ -125,7 +125,7 @@ loop-port-preserved c =
           let port = has_port old.net.now now.network network c.args.i p
           c.ports-port-end.result.now c.ports-port-end.ensures c.loop-port-test.true row stands in
           let numbers : List ℕ = c.loop-port.stale.items in
-          let later : List ℕ = unheard_from fresh (p + 1) (drop (p + 1) row.ports) in
+          let later : List ℕ = failing_from fresh (p + 1) (drop (p + 1) row.ports) in
           let before = c.loop-port.invariant.stale row stands in
           let is = (c.know_port.ensures.state row port.0 stands port.1).fresh in
           elim c.match-know_port.branch [

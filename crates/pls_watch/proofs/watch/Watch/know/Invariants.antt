@@ -1,6 +1,6 @@
 use Rattle.std.proofs.Common.{◌≡◌, ◌++◌, Some, slice_get, drop}
 use Rattle.pls_model.specs.declared.row.NodeRow.{NodeRow}
-use Rattle.pls_sim.specs.Schedule.{has_heard, unheard, unheard_from}
+use Rattle.pls_sim.specs.Schedule.{has_heard, unheard, failing_from}
 use Rattle.pls_watch.specs.Labelled.{turns_of}
 use Rattle.pls_watch.specs.Versions.{is_fresh, plain_of}
 use Rattle.pls_watch.specs.Watching.{stale_in}
@@ -15,11 +15,11 @@ invariant-loop-port l = record {
   unheard : (row : NodeRow) → slice_get l.self.network l.i ≡ Some row
       → unheard l.self.network (plain_of (turns_of l.self.events)) row
       ≡ l.unheard.items
-      ++ unheard_from (has_heard l.self.network (plain_of (turns_of l.self.events)) row.id) l.port
+      ++ failing_from (has_heard l.self.network (plain_of (turns_of l.self.events)) row.id) l.port
       (drop l.port row.ports);
   stale : (row : NodeRow) → slice_get l.self.network l.i ≡ Some row
       → stale_in l.self row
       ≡ l.stale.items
-      ++ unheard_from (is_fresh l.self.network (turns_of l.self.events) row.id) l.port
+      ++ failing_from (is_fresh l.self.network (turns_of l.self.events) row.id) l.port
       (drop l.port row.ports);
 }

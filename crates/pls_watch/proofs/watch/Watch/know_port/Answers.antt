@@ -24,7 +24,7 @@ returns-in_default-clause-known c = λ row stands.
     old.given_bits c.self.invariant now c.self.view_is c.args.i row stands in
     let none = sym (held_seen old.versions old.labels old.relabels old.bits old.net.now old.given
     old.given_bits c.self.invariant now c.self.view_is row.id there.1.nbr)
-    ∙ sym (c.held.ensures.version row there.1 here has)
+    ∙ sym (c.held_version.ensures.version row there.1 here has)
     ∙ ap (option_map (λ (label : ℕ × ℕ). label.0)) c.in_default.is in
     known_none now.network (valid_seen old.versions old.labels old.relabels old.bits old.net.now
     old.given old.given_bits c.self.invariant now c.self.view_is) (turns_of now.events)
@@ -75,7 +75,7 @@ returns-clause-known c = λ row stands.
     old.given_bits c.self.invariant now c.self.view_is c.args.i row stands in
     let held_is = sym (held_seen old.versions old.labels old.relabels old.bits old.net.now
     old.given old.given_bits c.self.invariant now c.self.view_is row.id there.1.nbr)
-    ∙ sym (c.held.ensures.version row there.1 here has)
+    ∙ sym (c.held_version.ensures.version row there.1 here has)
     ∙ ap (option_map (λ (label : ℕ × ℕ). label.0)) c.in-Some.is in
     let place : get_or (beside now.network c.args.i) c.args.port 0 ≡ get_or c.places.result.now
     c.args.port 0 =
@@ -103,7 +103,7 @@ returns-in_default-clause-state c = λ row at stands has.
     old.given_bits c.self.invariant now c.self.view_is c.args.i row stands in
     let none = sym (held_seen old.versions old.labels old.relabels old.bits old.net.now old.given
     old.given_bits c.self.invariant now c.self.view_is row.id at.nbr)
-    ∙ sym (c.held.ensures.version row at here has)
+    ∙ sym (c.held_version.ensures.version row at here has)
     ∙ ap (option_map (λ (label : ℕ × ℕ). label.0)) c.in_default.is in
     record {
       heard = heard_held now.network turns row.id at.nbr ∙ ap is_some none;
@@ -121,7 +121,7 @@ returns-clause-state c = λ row at stands has.
     old.given_bits c.self.invariant now c.self.view_is c.args.i row stands in
     let some = sym (held_seen old.versions old.labels old.relabels old.bits old.net.now old.given
     old.given_bits c.self.invariant now c.self.view_is row.id at.nbr)
-    ∙ sym (c.held.ensures.version row at here has)
+    ∙ sym (c.held_version.ensures.version row at here has)
     ∙ ap (option_map (λ (label : ℕ × ℕ). label.0)) c.in-Some.is in
     let latest : c.newest_beside.result ≡ newest turns at.nbr =
     c.newest_beside.ensures row at here has

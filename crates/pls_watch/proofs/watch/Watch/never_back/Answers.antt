@@ -25,4 +25,4 @@ returns c = λ row at stands has.
     map-append turn_of seen.events (c.args.event.now ∷ [])
     ∙ ap (λ (turns : List Turn). turns ++ turn ∷ []) same in
     rw (same, grown)
-    (not_back seen.network old.versions.turns turn row.id at.nbr c.numbered.ensures stays)
+    (not_back seen.network old.versions.turns turn row.id at.nbr c.names_emits.ensures stays)

@@ -1,0 +1,128 @@
+//! A network and its labels while they are edited.
+
+ghost use Rattle.std.specs.Prelude.{◌≡◌, length, replicate, IfOk};
+ghost use Rattle.pls_model.specs.declared.verdict.Verdict.{Verdict};
+ghost use Rattle.pls_model.specs.Configuration.{ids_of};
+ghost use Rattle.pls_view.specs.Seen.{Seen};
+ghost use Rattle.pls_recheck.specs.Watch.{IsCurrent};
+ghost use Rattle.pls_recheck.specs.inner.Flags.{set_among};
+
+use pls_base::NoMemory;
+use pls_graph::Network;
+use pls_graph_edits::note_places;
+use pls_model::Verdict;
+use pls_view::LabelStore;
+use std::alloc::Global;
+use std::marker::Model;
+
+/// A network and its labels while they are edited, with the nodes that are touched and the verdicts
+/// of the last rounds, seen as the record `Snapshot`.
+#[derive(Drop)]
+pub struct EditedNetwork {
+    pub(crate) net: Network,
+    pub(crate) labels: LabelStore,
+    // For each node whether it is touched.
+    pub(crate) flags: Vec<bool>,
+    // For each node whether it and its neighbours are known to be touched.
+    pub(crate) around: Vec<bool>,
+    // For each node what it answered last, with its identity.
+    pub(crate) kept: Vec<(u32, Verdict)>,
+}
+
+impl Model for EditedNetwork {
+    ghost use Rattle.pls_model.specs.Configuration.{ids_of};
+    ghost use Rattle.pls_recheck.specs.Watch.{Snapshot};
+    ghost use Rattle.pls_recheck.specs.inner.Flags.{MatchRows, marked};
+
+    ghost Value = { Snapshot };
+
+    ghost view = { λ watched. record {
+      network = watched.net;
+      labels = watched.labels;
+      touched = marked (ids_of watched.net) watched.flags.items;
+      kept = watched.kept.items;
+    } };
+
+    ghost invariant = { λ watched. MatchRows watched.net watched.labels watched.flags.items
+        watched.around.items watched.kept.items };
+}
+
+impl EditedNetwork {
+    /// The network with these labels, one a node, and all nodes touched. The one error is want of
+    /// memory.
+    pub fn start(alloc: Global, mut net: Network, labels: LabelStore) -> Result<EditedNetwork, NoMemory>
+        requires { length labels ≡ length net }
+        ensures network { IfOk result (λ watched. watched.network ≡ net) }
+        ensures labels { IfOk result (λ watched. watched.labels ≡ labels) }
+        ensures all { IfOk result (λ watched. watched.touched ≡ ids_of net) }
+        ensures current { IfOk result
+            (λ watched. (judge : Seen → Verdict) → IsCurrent judge watched) }
+    {
+        note_places(&mut net);
+        EditedNetwork::begin(alloc, net, labels)
+    }
+
+    // As `start`, but without noting the places of the network first.
+    fn begin(alloc: Global, net: Network, labels: LabelStore) -> Result<EditedNetwork, NoMemory>
+        requires { length labels ≡ length net }
+        ensures network { IfOk result (λ watched. watched.network ≡ net) }
+        ensures labels { IfOk result (λ watched. watched.labels ≡ labels) }
+        ensures all { IfOk result (λ watched. watched.touched ≡ ids_of net) }
+        ensures current { IfOk result
+            (λ watched. (judge : Seen → Verdict) → IsCurrent judge watched) }
+    {
+        let nodes = net.len();
+        let flags = flags_of(alloc, true, nodes)?;
+        let around = flags_of(alloc, false, nodes)?;
+        let kept = vec![in alloc; (0, Verdict::Accept); nodes]?;
+        Ok(EditedNetwork {
+            net,
+            labels,
+            flags,
+            around,
+            kept,
+        })
+    }
+
+    /// The network as it is now.
+    pub fn network(&self) -> &Network
+        ensures { result.now ≡ self.now.network }
+    {
+        &self.net
+    }
+
+    /// The labels as they are now, one a node.
+    pub fn labels(&self) -> &LabelStore
+        ensures labels { result.now ≡ self.now.labels }
+        ensures lengths { length result.now ≡ length self.now.network }
+    {
+        &self.labels
+    }
+
+    /// How many nodes are touched.
+    pub fn touched_count(&self) -> u32
+        ensures { result ≡ length self.now.touched }
+    {
+        // There are few nodes.
+        self.net.len();
+        count_set(self.flags.as_slice()) as u32
+    }
+}
+
+fn flags_of(alloc: Global, flag: bool, count: usize) -> Result<Vec<bool>, NoMemory>
+    ensures { IfOk result (λ flags. flags.items ≡ replicate count flag) }
+{
+    Ok(vec![in alloc; flag; count]?)
+}
+
+fn count_set(flags: &[bool]) -> usize
+    ensures { result ≡ set_among (length flags.now) flags.now }
+{
+    let mut count = 0;
+    for i in 0..flags.len() {
+        if flags[i] {
+            count += 1;
+        }
+    }
+    count
+}
