@@ -27,7 +27,7 @@ mod verdicts;
 pub use networks::{NetworkError, is_connected, network_of, plain_row};
 pub use pls_base::NoMemory;
 pub use pls_graph::{
-    BuildError, Network, NetworkBuilder, NodePorts, NodeRow, Port, Size, State, node_apart, levels,
+    BuildError, Network, NetworkBuilder, NodePorts, NodeRow, Port, Size, State, levels, node_apart,
 };
 pub use pls_model::{MAX_BITS, MAX_DEGREE, MAX_NODES, MAX_NUM, MAX_PORTS};
 
@@ -56,7 +56,7 @@ pub use pls_expressions::{ExpressionTree, LentProperty};
 pub use pls_leader::{CountLabel, LeaderLabel};
 pub use pls_mst::MstLabel;
 pub use pls_names::{SchemeByName, SchemeName, name_of};
-pub use pls_pairs::{Both, OneOf, PairLabel, EitherLabel};
+pub use pls_pairs::{Both, EitherLabel, OneOf, PairLabel};
 pub use pls_pathmax::PathMaxLabel;
 pub use pls_pointer::{DepthLabel, TreeLabel};
 pub use pls_scheme_text::{SchemeError, print_expression, read_expression};
@@ -66,7 +66,7 @@ pub use schemes::{Acyclic, Bipartite, Count, Forest, Leader, MapOf, Mst, PathMax
 // Networks that are edited while they are watched.
 pub use pls_edits::Edit;
 pub use pls_graph_edits::EditError;
-pub use pls_recheck::{Bench, BenchJudge, Judge, Monitor, Recheck, Tally, EditedNetwork};
+pub use pls_recheck::{Bench, BenchJudge, EditedNetwork, Judge, Monitor, Recheck, Tally};
 
 // Rounds of messages.
 pub use pls_schedule::Event;

@@ -5,7 +5,7 @@ ghost use Rattle.std.specs.Io.{WritesAtMost};
 ghost use Rattle.std.specs.Io.KnownBytes.{WriteAppends};
 ghost use Rattle.pls_base.specs.Streams.{HasCause, StaysSure};
 
-use pls_base::{StreamFailure, Sink, Steps};
+use pls_base::{Sink, Steps, StreamFailure};
 use std::alloc::Global;
 use std::marker::Model;
 

@@ -5,7 +5,7 @@ ghost use Rattle.std.specs.Io.{WritesAtMost};
 ghost use Rattle.std.specs.Io.KnownBytes.{WriteAppends};
 ghost use Rattle.pls_base.specs.Streams.{HasCause, StaysSure};
 
-use crate::streams::{StreamFailure, Sink};
+use crate::streams::{Sink, StreamFailure};
 
 /// Takes every piece whole and never fails. It tells no bytes.
 #[derive(Clone, Copy, Debug)]

@@ -37,7 +37,7 @@ pub use memory::NoMemory;
 pub use pls_model::Status;
 pub use reading::{ReadError, read_all};
 pub use std_streams::{StdSink, StdSource};
-pub use streams::{StreamFailure, Sink, Source};
+pub use streams::{Sink, Source, StreamFailure};
 pub use sure_source::SureSource;
 pub use text_error::{Quantity, TextError};
 pub use writing::{Fault, write_all};

@@ -11,7 +11,7 @@ ghost use Rattle.pls_base.specs.Streams.{HasCause, StaysSure};
 use crate::counter::Steps;
 use crate::memory::NoMemory;
 use crate::pieces::is_due;
-use crate::streams::{StreamFailure, Sink};
+use crate::streams::{Sink, StreamFailure};
 use std::alloc::Global;
 use std::marker::Model;
 

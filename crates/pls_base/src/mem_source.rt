@@ -10,7 +10,7 @@ ghost use Rattle.pls_base.specs.Streams.{HasCause};
 
 use crate::counter::Steps;
 use crate::pieces::is_due;
-use crate::streams::{StreamFailure, Source};
+use crate::streams::{Source, StreamFailure};
 use crate::sure_source::SureSource;
 use std::marker::Model;
 

@@ -5,7 +5,7 @@ ghost use Rattle.std.specs.Io.KnownBytes.{Consumes, IsAtEnd, Keeps};
 ghost use Rattle.pls_base.specs.Streams.{HasCause, LosesAtMost, LosesFirst, Rose};
 ghost use Rattle.pls_base.specs.declared.reading.ReadError.TheVariants.{Fault as ReadFault, NoMemory as OutOfMemory};
 
-use crate::streams::{StreamFailure, Source};
+use crate::streams::{Source, StreamFailure};
 use std::alloc::{AllocError, AllocFailed, Global};
 use thiserror::Error;
 

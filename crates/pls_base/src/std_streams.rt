@@ -7,7 +7,7 @@ ghost use Rattle.pls_base.specs.Steps.{up_by};
 ghost use Rattle.pls_base.specs.Streams.{HasCause, StaysSure};
 
 use crate::counter::Steps;
-use crate::streams::{StreamFailure, Sink, Source};
+use crate::streams::{Sink, Source, StreamFailure};
 use std::io::{Read, Write};
 use std::marker::Model;
 

@@ -6,7 +6,7 @@ ghost use Rattle.std.specs.Io.KnownBytes.{ReadConsumes};
 ghost use Rattle.pls_base.specs.Streams.{HasCause};
 
 use crate::pieces::copy_front;
-use crate::streams::{StreamFailure, Source};
+use crate::streams::{Source, StreamFailure};
 use std::marker::Model;
 
 /// Gives the bytes of a vector, as many in a call as there is room for, and never fails. It is

@@ -4,7 +4,7 @@ ghost use Rattle.std.specs.Prelude.{◌≤◌, ◌-◌, ℕ, length, OnErr, OnOk
 ghost use Rattle.std.specs.Io.KnownBytes.{Appends};
 ghost use Rattle.pls_base.specs.Streams.{AppendsPart, Rose, StaysSure};
 
-use crate::streams::{StreamFailure, Sink};
+use crate::streams::{Sink, StreamFailure};
 use thiserror::Error;
 
 /// A run of writing met a write that failed.

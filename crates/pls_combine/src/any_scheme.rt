@@ -126,7 +126,9 @@ impl<C: NumCode> Checker for AnyScheme<C> {
         steps: &mut Steps,
     ) -> Result<Vec<Verdict>, NoMemory> {
         match self.tree() {
-            ExpressionTree::Of(name) => SchemeByName::<C>::new(*name).round(alloc, net, labels, steps),
+            ExpressionTree::Of(name) => SchemeByName::<C>::new(*name).round(
+                alloc, net, labels, steps,
+            ),
             ExpressionTree::And(_, _) | ExpressionTree::Or(_, _) => {
                 round_of::<C, L>(alloc, self.tree(), net, labels, steps)
             }

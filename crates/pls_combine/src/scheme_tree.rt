@@ -70,7 +70,11 @@ pub(crate) fn verify_tree<C: NumCode>(
         → IsOk result }
 {
     match tree {
-        ExpressionTree::Of(name) => SchemeByName::<C>::new(*name).verify(alloc, view, &mut Steps::new()),
+        ExpressionTree::Of(name) => SchemeByName::<C>::new(*name).verify(
+            alloc,
+            view,
+            &mut Steps::new(),
+        ),
         ExpressionTree::And(first, second) => {
             if let Some(verdict) = lacks_parts::<C>(view) {
                 return Ok(verdict);

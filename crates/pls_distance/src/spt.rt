@@ -5,7 +5,8 @@ use crate::gathering::PortTally;
 use pls_bits::{Bits, NumCode};
 use pls_model::{State, Verdict};
 use pls_scheme::{
-    Basic, NumbersFormat, Judgement, JudgesInPlace, LabelGlance, OfNumbers, ReadsInPlace, judged_from,
+    Basic, Judgement, JudgesInPlace, LabelGlance, NumbersFormat, OfNumbers, ReadsInPlace,
+    judged_from,
 };
 use std::marker::PhantomData;
 

@@ -36,7 +36,7 @@ pub use builder::NetworkBuilder;
 pub use hints::Hints;
 pub use network::Network;
 pub use pls_model::{BuildError, NodePorts, NodeRow, Port, State};
-pub use reach::{node_apart, first_apart};
+pub use reach::{first_apart, node_apart};
 pub use size::Size;
 #[doc(hidden)]
 pub use table::{Node, Table};

@@ -43,7 +43,7 @@ mod part;
 mod words;
 
 pub use both::Both;
-pub use counted::{Count, BareHeading, HeadingWord};
+pub use counted::{BareHeading, Count, HeadingWord};
 pub use line_kind::{LineKind, count_of, next_of};
 pub use lines::Lines;
 pub use list_read::keep_list;

@@ -164,7 +164,11 @@ fn is_label<C: NumCode>(alloc: Global, name: SchemeName, bits: &Bits<'_>) -> Res
     Ok(by_name!(name, C, scheme => scheme.read_label(alloc, bits)?.is_some()))
 }
 
-fn decide_named<C: NumCode>(alloc: Global, name: SchemeName, net: &Network) -> Result<bool, NoMemory>
+fn decide_named<C: NumCode>(
+    alloc: Global,
+    name: SchemeName,
+    net: &Network,
+) -> Result<bool, NoMemory>
     requires { IsConnected net.now }
     ensures { IsDecided (HasNamed name) net.now result }
 {

@@ -3,17 +3,17 @@
 #![tactic(auto)]
 
 mod fields;
-mod numbers_format;
 mod format;
 mod kind;
 mod numbers;
+mod numbers_format;
 mod recoding;
 mod writing;
 
 pub use fields::{FieldValues, Fields, read_field};
-pub use numbers_format::{NumbersFormat, OfNumbers, read_numbers};
 pub use format::{Format, ReadsInPlace};
 pub use kind::FieldKind;
 pub use numbers::Numbers;
+pub use numbers_format::{NumbersFormat, OfNumbers, read_numbers};
 pub use recoding::recode;
 pub use writing::append_numbers;

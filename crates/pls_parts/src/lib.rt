@@ -11,17 +11,17 @@
 #![tactic(auto)]
 
 mod joined;
+mod label_parts;
 mod narrowing;
 mod part_rules;
 mod part_verdicts;
-mod label_parts;
 mod raising;
 
 pub use joined::{
     joined_bits, joined_bound, joined_labels, tagged_bits, tagged_bound, tagged_labels,
 };
+pub use label_parts::{LabelParts, Tags, lend_all, part_all, rests_of, tags_of};
 pub use narrowing::{FirstPart, Rest, SecondPart, parts, tag_of};
 pub use part_rules::{lacks_parts, own_tag};
 pub use part_verdicts::{both_verdicts, one_of_verdicts, some_true};
-pub use label_parts::{LabelParts, Tags, lend_all, part_all, rests_of, tags_of};
 pub use raising::raised;

@@ -4,7 +4,7 @@ ghost use Rattle.std.specs.Prelude.{◌≡◌};
 
 use crate::asks::Asks;
 use crate::bench::Bench;
-use crate::checker_at_place::{OfOne, CheckerAtPlace};
+use crate::checker_at_place::{CheckerAtPlace, OfOne};
 use pls_base::{NoMemory, Steps};
 use pls_graph::Network;
 use pls_model::Verdict;

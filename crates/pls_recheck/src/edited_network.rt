@@ -50,7 +50,11 @@ impl Model for EditedNetwork {
 impl EditedNetwork {
     /// The network with these labels, one a node, and all nodes touched. The one error is want of
     /// memory.
-    pub fn start(alloc: Global, mut net: Network, labels: LabelStore) -> Result<EditedNetwork, NoMemory>
+    pub fn start(
+        alloc: Global,
+        mut net: Network,
+        labels: LabelStore,
+    ) -> Result<EditedNetwork, NoMemory>
         requires { length labels ≡ length net }
         ensures network { IfOk result (λ watched. watched.network ≡ net) }
         ensures labels { IfOk result (λ watched. watched.labels ≡ labels) }

@@ -19,24 +19,24 @@
 mod applying;
 mod asks;
 mod bench;
-mod by_memory;
 mod bench_judge;
+mod by_memory;
+mod checker_at_place;
+mod edited_network;
 mod joining;
 mod judge;
 mod labelling;
 mod monitor;
-mod checker_at_place;
 mod recheck;
 mod remembering;
 mod rounds;
 mod tally;
-mod edited_network;
 
 pub use bench::Bench;
 pub use bench_judge::BenchJudge;
+pub use edited_network::EditedNetwork;
 pub use judge::Judge;
 pub use monitor::Monitor;
 pub use pls_edits::{Edit, EditError, EditLine, EditsText, scan_edits};
 pub use recheck::Recheck;
 pub use tally::Tally;
-pub use edited_network::EditedNetwork;

@@ -8,8 +8,8 @@ ghost use Rattle.pls_scheme.specs.Judging.{round_by};
 ghost use Rattle.pls_recheck.specs.After.{touched_after};
 ghost use Rattle.pls_recheck.specs.Watch.{EndsEarly};
 
-use crate::judge::Judge;
 use crate::edited_network::EditedNetwork;
+use crate::judge::Judge;
 use pls_base::{NoMemory, Steps};
 use pls_edits::{Edit, EditError};
 use pls_graph::Network;

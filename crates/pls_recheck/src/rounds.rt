@@ -10,8 +10,8 @@ ghost use Rattle.pls_recheck.specs.Watch.{EndsEarly, IsCurrent};
 ghost use Rattle.pls_recheck.specs.inner.Flags.{AreCurrent, cleared, marked};
 
 use crate::asks::{Asks, ByView};
-use crate::judge::Judge;
 use crate::edited_network::EditedNetwork;
+use crate::judge::Judge;
 use pls_base::{NoMemory, Steps};
 use pls_graph::Network;
 use pls_model::Verdict;
@@ -156,7 +156,12 @@ fn judge_flagged<'a, C, A: Asks<C>>(
 }
 
 // Keeps the verdict of the node at place `i`, and takes its flag back.
-fn keep_answer(flags: &mut Vec<bool>, kept: &mut Vec<(u32, Verdict)>, i: usize, found: (u32, Verdict))
+fn keep_answer(
+    flags: &mut Vec<bool>,
+    kept: &mut Vec<(u32, Verdict)>,
+    i: usize,
+    found: (u32, Verdict),
+)
     requires flag { i < length flags.old.items }
     requires verdict { i < length kept.old.items }
     ensures flag { flags.new.items ≡ slice_set flags.old.items i false }

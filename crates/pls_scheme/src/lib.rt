@@ -57,7 +57,7 @@ pub use marker::Marker;
 pub use memory::{BoxedGlance, GlanceMemory};
 pub use once::Once;
 pub use pls_model::Verdict;
-pub use pls_numbers::{NumbersFormat, Format, OfNumbers, ReadsInPlace};
+pub use pls_numbers::{Format, NumbersFormat, OfNumbers, ReadsInPlace};
 pub use property::Property;
 pub use remembers::Remembers;
 pub use rules::Rules;

@@ -11,8 +11,8 @@ use pls_facts::is_valid;
 use pls_graph::{Network, Size};
 use pls_model::State;
 use pls_scheme::{
-    NumbersFormat, Judgement, Marker, OfNumbers, RuleScheme, Rules, Verdict, codes_length, hold_everywhere,
-    judged_from,
+    Judgement, Marker, NumbersFormat, OfNumbers, RuleScheme, Rules, Verdict, codes_length,
+    hold_everywhere, judged_from,
 };
 use std::alloc::Global;
 use std::marker::PhantomData;

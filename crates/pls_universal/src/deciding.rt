@@ -10,8 +10,8 @@ ghost use Rattle.pls_universal.specs.Rules.{map_rules};
 ghost use Rattle.pls_universal.specs.inner.Deciding.{AreDecided, IsNumberOf, IsNumberOfMap};
 
 use crate::format::MapFormat;
-use crate::stating::{StatedNetwork, stated_by};
 use crate::property_test::PropertyTest;
+use crate::stating::{StatedNetwork, stated_by};
 use crate::verifying::{parts, verdict_on};
 use pls_base::NoMemory;
 use pls_bits::{Bits, NumCode};

@@ -46,7 +46,10 @@ fn bits_of(ports: &[u32]) -> u32 {
 // waits, the ports for which it waits, and its stale ports.
 type NodeLook = (u32, u32, u32, u32);
 
-fn look<K: Checker>(alloc: Global, lookout: &mut Lookout<'_, '_, K>) -> Result<Vec<NodeLook>, Fail> {
+fn look<K: Checker>(
+    alloc: Global,
+    lookout: &mut Lookout<'_, '_, K>,
+) -> Result<Vec<NodeLook>, Fail> {
     lookout.look(alloc, &mut Steps::new())?;
     let mut shown = Vec::new(alloc);
     for row in lookout.rows() {

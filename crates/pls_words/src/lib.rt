@@ -8,5 +8,5 @@
 mod command_words;
 mod reading;
 
-pub use command_words::{Flag, CommandWords};
+pub use command_words::{CommandWords, Flag};
 pub use reading::read_words;

@@ -7,7 +7,7 @@ ghost use Rattle.pls_words.specs.Words.{Said, code_named, is_code, is_dashed, is
 ghost use Rattle.pls_words.specs.inner.Formed.{IsFormed, count_beside, plain_count};
 ghost use Rattle.pls_words.specs.inner.Parser.{HasWords, parser};
 
-use crate::command_words::{Flag, CommandWords};
+use crate::command_words::{CommandWords, Flag};
 use clap::error::ErrorKind;
 use clap::{Arg, ArgAction, ArgMatches, Command, Error};
 use pls_base::NoMemory;
@@ -20,7 +20,10 @@ const MOST: usize = 4;
 /// What words say, or `None` where they are not of the form: one or two words, none of which begins
 /// with `-`, and at most one flag, at any place: `--json`, or `--code` with `gamma` or `delta` behind
 /// it. The one error is want of memory.
-pub fn read_words<'w>(alloc: Global, words: &'w [&'w str]) -> Result<Option<CommandWords<'w>>, NoMemory>
+pub fn read_words<'w>(
+    alloc: Global,
+    words: &'w [&'w str],
+) -> Result<Option<CommandWords<'w>>, NoMemory>
     ensures { IfOk result (λ given. given ≡ said_by_words (words_in words.entry.now)) }
 {
     if !is_formed(words) {

@@ -87,7 +87,10 @@ fn a_component_is_a_connected_network(rt: HostRuntime) -> Result<(), Fail> {
         part.len() == 3 && part.place_of(8) == Some(2),
         "2, 5 and 8"
     );
-    assert!(rt; node_apart(rt.alloc(), &part) == Ok(None), "it is connected");
+    assert!(rt;
+        node_apart(rt.alloc(), &part) == Ok(None),
+        "it is connected"
+    );
     Ok(())
 }
 

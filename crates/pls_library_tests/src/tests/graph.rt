@@ -1,7 +1,7 @@
 //! Networks that are asked, with memory enough.
 
 use super::network;
-use pls_graph::{node_apart, levels};
+use pls_graph::{levels, node_apart};
 use std::test::Fail;
 
 // Two pairs of nodes.

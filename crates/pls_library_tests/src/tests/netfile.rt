@@ -88,7 +88,10 @@ fn assert_pair(rt: &impl Abort, alloc: Global, net: &Network) -> Result<(), Fail
 fn what_is_read_is_written_again(rt: HostRuntime) -> Result<(), Fail> {
     let pair = PAIR.as_bytes();
     assert_pair(&rt, rt.alloc(), &network(rt.alloc(), PAIR)?)?;
-    assert!(rt; network_text(rt.alloc(), PAIR)?.as_slice() == pair, "the text");
+    assert!(rt;
+        network_text(rt.alloc(), PAIR)?.as_slice() == pair,
+        "the text"
+    );
     assert!(rt;
         network_text_at_once(rt.alloc(), PAIR)?.as_slice() == pair,
         "in one call"

@@ -8,7 +8,8 @@ ghost use Rattle.pls_components.specs.Components.{AreComponents};
 use super::expressions::{EXPRESSIONS, properties_of};
 use super::network;
 use super::small::{
-    SETS, Small, has, is_acyclic, is_bipartite, is_forest, is_tree, pair, nodes_within, text_with, with,
+    SETS, Small, has, is_acyclic, is_bipartite, is_forest, is_tree, nodes_within, pair, text_with,
+    with,
 };
 use pls_base::{NoMemory, Steps};
 use pls_bits::Gamma;

@@ -4,7 +4,7 @@
 ghost use Rattle.pls_model.specs.Walk.{IsConnected};
 
 use super::small::{
-    SETS, Small, are_joined, has, is_acyclic, is_bipartite, is_forest, is_tree, connected_small,
+    SETS, Small, are_joined, connected_small, has, is_acyclic, is_bipartite, is_forest, is_tree,
     marks, nodes_within, with,
 };
 use pls_bits::Gamma;
@@ -20,7 +20,8 @@ fn is_bridgeless(net: Small) -> bool {
 
 // Whether all nodes are within `most` edges of each other.
 fn is_within(net: Small, most: u32) -> bool {
-    (0..4).all(|node| node >= net.nodes || nodes_within(net.edges, node, most).count_ones() == net.nodes)
+    (0..4).all(|node| node >= net.nodes
+        || nodes_within(net.edges, node, most).count_ones() == net.nodes)
 }
 
 // The expressions that are tried.

@@ -86,7 +86,12 @@ fn leaders_and_numbers_are_marked(rt: HostRuntime) -> Result<(), Fail> {
 }
 
 // The number of the rejecting rule, a digit a node, 0 where it accepts.
-fn rejecting_digits<V: Checker>(alloc: Global, checker: &V, text: &str, labels: &str) -> Result<u32, Fail> {
+fn rejecting_digits<V: Checker>(
+    alloc: Global,
+    checker: &V,
+    text: &str,
+    labels: &str,
+) -> Result<u32, Fail> {
     let net = network(alloc, text)?;
     rejecting_digits_in(alloc, checker, &net, labels)
 }
