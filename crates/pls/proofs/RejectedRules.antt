@@ -1,8 +1,8 @@
 -- By which rules the schemes that have names reject.
 use Rattle.std.proofs.Common.{◌≤◌, ℕ, ◌+◌, Bool, true, false, List, [], ◌∷◌, length, Option, Some, None, if◌then◌else◌, arith}
-use Rattle.pls_model.specs.declared.verdict.Verdict.TheVariants.{Reject}
+use Rattle.pls_configuration.specs.declared.verdict.Verdict.TheVariants.{Reject}
 use Rattle.pls_numbers.specs.Shape.{said_by}
-use Rattle.pls_view.specs.Seen.{Seen}
+use Rattle.pls_labels.specs.Seen.{Seen}
 use Rattle.pls_scheme.specs.Judging.{judged_from}
 use Rattle.pls_scheme.specs.Reading.{Read, ReadPort, judge_by, judged_read, read_ports}
 use Rattle.pls_pointer.specs.Forest.{forest_rules, forest_shape}

@@ -4,14 +4,14 @@ pub mod Rows
 pub mod RuleNumbers
 pub mod inner
 -- networks
-pub use Rattle.pls_model.specs.Configuration
-pub use Rattle.pls_model.specs.Path
-pub use Rattle.pls_model.specs.Walk
-pub use Rattle.pls_model.specs.declared.limits
-pub use Rattle.pls_model.specs.declared.refusal.BuildError
-pub use Rattle.pls_model.specs.declared.row.NodeRow
-pub use Rattle.pls_model.specs.declared.row.Port
-pub use Rattle.pls_model.specs.declared.row.State
+pub use Rattle.pls_configuration.specs.Configuration
+pub use Rattle.pls_configuration.specs.Path
+pub use Rattle.pls_configuration.specs.Walk
+pub use Rattle.pls_configuration.specs.declared.limits
+pub use Rattle.pls_configuration.specs.declared.refusal.BuildError
+pub use Rattle.pls_configuration.specs.declared.row.NodeRow
+pub use Rattle.pls_configuration.specs.declared.row.Port
+pub use Rattle.pls_configuration.specs.declared.row.State
 pub use Rattle.pls_graph.specs.Build
 pub use Rattle.pls_graph.specs.Connected
 pub use Rattle.pls_graph.specs.Levels
@@ -36,11 +36,11 @@ pub use Rattle.pls_bits.specs.Delta
 pub use Rattle.pls_bits.specs.Gamma
 pub use Rattle.pls_numbers.specs.Numbers
 pub use Rattle.pls_numbers.specs.Shape
-pub use Rattle.pls_view.specs.Labels
-pub use Rattle.pls_view.specs.Seen
+pub use Rattle.pls_labels.specs.Labels
+pub use Rattle.pls_labels.specs.Seen
 -- verdicts and schemes
-pub use Rattle.pls_base.specs.Steps
-pub use Rattle.pls_model.specs.declared.verdict.Verdict
+pub use Rattle.pls_streams.specs.Steps
+pub use Rattle.pls_configuration.specs.declared.verdict.Verdict
 pub use Rattle.pls_names.specs.Named
 pub use Rattle.pls_names.specs.declared.scheme_name.SchemeName
 pub use Rattle.pls_scheme.specs.Judging

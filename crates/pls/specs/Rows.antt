@@ -1,8 +1,8 @@
 -- Rows that are made, and why rows are no network.
 use Rattle.std.specs.Prelude.{ℕ, List, map, Option}
-use Rattle.pls_model.specs.declared.row.NodeRow.{NodeRow}
-use Rattle.pls_model.specs.declared.row.Port.{Port}
-use Rattle.pls_model.specs.Configuration.{AreWithinLimits}
+use Rattle.pls_configuration.specs.declared.row.NodeRow.{NodeRow}
+use Rattle.pls_configuration.specs.declared.row.Port.{Port}
+use Rattle.pls_configuration.specs.Configuration.{AreWithinLimits}
 use Rattle.pls_graph.specs.Build.{IsRefusal}
 use Rattle.pls.specs.declared.networks.NetworkError.{NetworkError}
 use Rattle.pls.specs.declared.networks.NetworkError.TheVariants.{Limits, Refused}

@@ -1,7 +1,7 @@
 -- How many rules schemes have.
 use Rattle.std.specs.Prelude.{ℕ, ◌≤◌}
-use Rattle.pls_model.specs.declared.verdict.Verdict.{Verdict}
-use Rattle.pls_model.specs.declared.verdict.Verdict.TheVariants.{Accept, Reject}
+use Rattle.pls_configuration.specs.declared.verdict.Verdict.{Verdict}
+use Rattle.pls_configuration.specs.declared.verdict.Verdict.TheVariants.{Accept, Reject}
 use Rattle.pls_names.specs.declared.scheme_name.SchemeName.{SchemeName}
 use Rattle.pls_names.specs.declared.scheme_name.SchemeName.TheVariants.{Tree, Forest, Bipartite, Acyclic, Leader, Count, ShortestPathTree, MinimumSpanningTree, PathMax}
 

@@ -1,14 +1,14 @@
 //! Labels as proofs of a property: there are some exactly where a connected network has it.
 
 ghost use Rattle.std.specs.Prelude.{◌≡◌, ◌↔◌, IfOk, IfNone, IfSome, IsTrue};
-ghost use Rattle.pls_model.specs.Walk.{IsConnected};
+ghost use Rattle.pls_configuration.specs.Walk.{IsConnected};
 ghost use Rattle.pls.specs.Certificate.{IsCertificate};
 
 use crate::networks::is_connected;
-use pls_base::{NoMemory, Steps};
 use pls_graph::Network;
+use pls_labels::LabelStore;
 use pls_scheme::{Scheme, certifies};
-use pls_view::LabelStore;
+use pls_streams::{NoMemory, Steps};
 use std::alloc::Global;
 
 /// Labels that prove the property of the scheme, or `None` exactly where the network is not

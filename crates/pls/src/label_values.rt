@@ -3,9 +3,9 @@
 ghost use Rattle.std.specs.Prelude.{All, IfOk};
 ghost use Rattle.pls_scheme.specs.Spelled.{AreSpelled};
 
-use pls_base::NoMemory;
+use pls_labels::LabelStore;
 use pls_scheme::Scheme;
-use pls_view::LabelStore;
+use pls_streams::NoMemory;
 use std::alloc::Global;
 
 /// The labels that say these values, in their order, as the scheme writes them. The one error is

@@ -25,25 +25,25 @@ mod verdicts;
 
 // Networks, and the searches in them.
 pub use networks::{NetworkError, is_connected, network_of, plain_row};
-pub use pls_base::NoMemory;
+pub use pls_configuration::{MAX_BITS, MAX_DEGREE, MAX_NODES, MAX_NUM, MAX_PORTS};
 pub use pls_graph::{
     BuildError, Network, NetworkBuilder, NodePorts, NodeRow, Port, Size, State, levels, node_apart,
 };
-pub use pls_model::{MAX_BITS, MAX_DEGREE, MAX_NODES, MAX_NUM, MAX_PORTS};
+pub use pls_streams::NoMemory;
 
 // Labels, and what a node sees of them.
 pub use label_values::labels_of;
 pub use pls_bits::{BitBuf, Bits, CodeName, Cursor, Delta, Gamma, NumCode, from_hex};
-pub use pls_view::{LabelStore, Labels, LentLabels, PortView, View};
+pub use pls_labels::{LabelStore, Labels, LentLabels, PortView, View};
 pub use smallvec::SmallVec;
 
 // Verdicts, and what follows from them.
 pub use certificates::{labels_prove, proving_labels};
-pub use pls_base::Steps;
-pub use pls_model::Verdict;
+pub use pls_configuration::Verdict;
 pub use pls_scheme::{
     Checker, Property, Remembers, Scheme, are_accepted, certifies, is_scheme, some_node_rejects,
 };
+pub use pls_streams::Steps;
 pub use rule_texts::{map_rules, rejections_have_texts, rule_text, rules_of};
 pub use verdicts::{verdict_at, verdicts_by};
 
@@ -75,7 +75,7 @@ pub use pls_watch::{LookRow, LookRows, Lookout, Turn, Watch};
 pub use pls_watch_part::WatchEvent;
 
 // Rule sets, which judge as a text says.
-pub use pls_base::TextError;
 pub use pls_compile::RuleChecker;
 pub use pls_rules::RuleSet;
 pub use pls_rules_part::{print_rules, read_rules};
+pub use pls_streams::TextError;

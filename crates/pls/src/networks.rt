@@ -2,16 +2,16 @@
 
 ghost use Rattle.std.specs.Prelude.{◌≡◌, ◌↔◌, map, nat_le, IfOk, IfErr, IsTrue, OnOk};
 ghost use Rattle.std.specs.List.{list_all};
-ghost use Rattle.pls_model.specs.declared.limits.TheConstants.{MAX_NUM, MAX_PORTS};
-ghost use Rattle.pls_model.specs.Configuration.{IsNetwork, ports_in};
-ghost use Rattle.pls_model.specs.Walk.{IsConnected};
+ghost use Rattle.pls_configuration.specs.declared.limits.TheConstants.{MAX_NUM, MAX_PORTS};
+ghost use Rattle.pls_configuration.specs.Configuration.{IsNetwork, ports_in};
+ghost use Rattle.pls_configuration.specs.Walk.{IsConnected};
 ghost use Rattle.pls.specs.Rows.{IsNoNetwork, plain_port, plain_row};
 ghost use Rattle.pls.specs.inner.Limits.{is_within_limits};
 
-use pls_base::NoMemory;
+use pls_configuration::{MAX_NODES, MAX_NUM, MAX_PORTS};
 use pls_facts::is_valid;
 use pls_graph::{BuildError, Network, NodePorts, NodeRow, Port, State, node_apart};
-use pls_model::{MAX_NODES, MAX_NUM, MAX_PORTS};
+use pls_streams::NoMemory;
 use std::alloc::{AllocError, AllocFailed, Global};
 use thiserror::Error;
 

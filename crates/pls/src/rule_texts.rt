@@ -6,8 +6,8 @@ ghost use Rattle.pls_names.specs.Named.{judge_named};
 ghost use Rattle.pls.specs.RuleNumbers.{NamesRuleUpTo, last_map_rule, last_rule};
 
 use pls_bits::NumCode;
+use pls_labels::View;
 use pls_names::{SchemeByName, SchemeName};
-use pls_view::View;
 
 /// What a rule of the scheme of a name asks of a node, or `None` where the scheme has no rule of
 /// this number. Rules are counted from 1.

@@ -3,11 +3,11 @@
 ghost use Rattle.std.specs.Prelude.{◌≡◌, ◌<◌, Some, length, slice_get, IfOk};
 ghost use Rattle.pls_scheme.specs.Judging.{verdicts_by};
 
-use pls_base::{NoMemory, Steps};
+use pls_configuration::Verdict;
 use pls_graph::Network;
-use pls_model::Verdict;
+use pls_labels::{Labels, View};
 use pls_scheme::Checker;
-use pls_view::{Labels, View};
+use pls_streams::{NoMemory, Steps};
 use std::alloc::Global;
 
 /// The verdict of each node on what it sees, in the order of the nodes. The one error is want of

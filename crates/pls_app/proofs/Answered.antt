@@ -1,14 +1,14 @@
 -- Which answers belong to which words and bytes.
 use Rattle.std.proofs.Common.{◌≡◌, ◌≢◌, ◌∙◌, ℕ, ◌+◌, ◌<◌, length, Bool, true, false, List, [], Option, Some, None, IfOk, inl, inr, Result, Ok, Err, OnOk, ap, subst, refl, sym, arith, if◌then◌else◌}
 use Rattle.std.specs.Io.KnownBytes.{Appends}
-use Rattle.pls_base.specs.Streams.{LosesFirst}
-use Rattle.pls_base.specs.declared.text_error.TextError.{TextError}
-use Rattle.pls_base.specs.declared.text_error.TextError.TheVariants.{Limit, NoMemory}
-use Rattle.pls_base.specs.declared.text_error.Quantity.TheVariants.{Input as InputBytes}
-use Rattle.pls_model.specs.declared.status.Status.{Status}
-use Rattle.pls_model.specs.declared.status.Status.TheVariants.{Done, No, Refused, Limit as OverLimit}
+use Rattle.pls_streams.specs.Streams.{LosesFirst}
+use Rattle.pls_streams.specs.declared.text_error.TextError.{TextError}
+use Rattle.pls_streams.specs.declared.text_error.TextError.TheVariants.{Limit, NoMemory}
+use Rattle.pls_streams.specs.declared.text_error.Quantity.TheVariants.{Input as InputBytes}
+use Rattle.pls_configuration.specs.declared.status.Status.{Status}
+use Rattle.pls_configuration.specs.declared.status.Status.TheVariants.{Done, No, Refused, Limit as OverLimit}
 use Rattle.pls_report.specs.Report.{all_accept}
-use Rattle.pls_model.specs.declared.limits.TheConstants.{MAX_INPUT}
+use Rattle.pls_configuration.specs.declared.limits.TheConstants.{MAX_INPUT}
 use Rattle.pls_components.proofs.Empty.{empty_parts}
 use Rattle.pls_inputs.specs.Parts.{code_in, Input, nothing, labels_in, rows_in}
 use Rattle.pls_inputs.specs.Order.{IsInput, IsNoInput}

@@ -5,17 +5,17 @@ use Rattle.std.proofs.Math.Nat.{suc-mul}
 use Rattle.std.proofs.lemmas.List.{length-map}
 use Rattle.std.proofs.lemmas.List.Elements.{All-head, All-tail}
 use Rattle.std.proofs.lemmas.List.Sums.{sum_by-cons}
-use Rattle.pls_base.specs.declared.text_error.Quantity.TheVariants.{Nodes, Ports, Bits, Labels}
-use Rattle.pls_model.specs.declared.limits.TheConstants.{MAX_BITS, MAX_NODES, MAX_PORTS}
-use Rattle.pls_model.specs.declared.row.NodeRow.{NodeRow}
-use Rattle.pls_model.specs.declared.status.Status.TheVariants.{Done}
-use Rattle.pls_model.specs.Configuration.{IsNetwork, first_of, ids_of, ports_in}
+use Rattle.pls_streams.specs.declared.text_error.Quantity.TheVariants.{Nodes, Ports, Bits, Labels}
+use Rattle.pls_configuration.specs.declared.limits.TheConstants.{MAX_BITS, MAX_NODES, MAX_PORTS}
+use Rattle.pls_configuration.specs.declared.row.NodeRow.{NodeRow}
+use Rattle.pls_configuration.specs.declared.status.Status.TheVariants.{Done}
+use Rattle.pls_configuration.specs.Configuration.{IsNetwork, first_of, ids_of, ports_in}
 use Rattle.pls_graph.specs.Size.{size_of}
 use Rattle.pls_graph.proofs.Members.{Contains-first, Contains-later}
 use Rattle.pls_lines.specs.Text.{text_of}
 use Rattle.pls_lines.specs.laws.Fronts.{text_of-append}
 use Rattle.pls_netfile.specs.NetworkText.{network_lines, network_text}
-use Rattle.pls_view.specs.Labels.{bits_together}
+use Rattle.pls_labels.specs.Labels.{bits_together}
 use Rattle.pls_labelfile.specs.LabelsText.{labels_lines, named}
 use Rattle.pls_labelfile.specs.LabelsScan.{total_bits}
 use Rattle.pls_labelfile.proofs.LabelsPart.{either_may}

@@ -5,23 +5,23 @@ use Rattle.std.proofs.lemmas.List.{length-map}
 use Rattle.std.proofs.lemmas.List.Elements.{All-cons, All-nil}
 use Rattle.std.proofs.lemmas.List.Sums.{sum_by-cons}
 use Rattle.std.proofs.lemmas.Option.{slice_get-get_or}
-use Rattle.pls_base.specs.declared.refusal_number.TheConstants.{UNREADABLE}
-use Rattle.pls_base.specs.declared.text_error.TextError.{TextError}
-use Rattle.pls_base.specs.declared.text_error.TextError.TheVariants.{Sense}
-use Rattle.pls_base.specs.declared.text_error.Quantity.TheVariants.{Bits}
+use Rattle.pls_streams.specs.declared.refusal_number.TheConstants.{UNREADABLE}
+use Rattle.pls_streams.specs.declared.text_error.TextError.{TextError}
+use Rattle.pls_streams.specs.declared.text_error.TextError.TheVariants.{Sense}
+use Rattle.pls_streams.specs.declared.text_error.Quantity.TheVariants.{Bits}
 use Rattle.pls_bits.specs.Delta.{delta_code, delta_takes}
 use Rattle.pls_bits.specs.Gamma.{gamma_code, gamma_takes}
 use Rattle.pls_bits.specs.declared.code_name.CodeName.{CodeName}
 use Rattle.pls_bits.specs.declared.code_name.CodeName.TheVariants.{Delta, Gamma}
 use Rattle.pls_bits.specs.laws.DeltaLaws.{delta_takes-code, delta_takes-only}
 use Rattle.pls_bits.specs.laws.GammaLaws.{gamma_takes-code, gamma_takes-only}
-use Rattle.pls_model.specs.declared.limits.TheConstants.{MAX_BITS}
-use Rattle.pls_model.specs.declared.row.NodeRow.{NodeRow}
-use Rattle.pls_model.specs.declared.status.Status.TheVariants.{Done}
-use Rattle.pls_model.specs.declared.verdict.Verdict.{Verdict}
-use Rattle.pls_model.specs.Configuration.{first_of, ids_of}
-use Rattle.pls_view.specs.Labels.{bits_together}
-use Rattle.pls_view.specs.Seen.{Seen}
+use Rattle.pls_configuration.specs.declared.limits.TheConstants.{MAX_BITS}
+use Rattle.pls_configuration.specs.declared.row.NodeRow.{NodeRow}
+use Rattle.pls_configuration.specs.declared.status.Status.TheVariants.{Done}
+use Rattle.pls_configuration.specs.declared.verdict.Verdict.{Verdict}
+use Rattle.pls_configuration.specs.Configuration.{first_of, ids_of}
+use Rattle.pls_labels.specs.Labels.{bits_together}
+use Rattle.pls_labels.specs.Seen.{Seen}
 use Rattle.pls_labelfile.specs.LabelsText.{AreLabels, Labelling, MayHead}
 use Rattle.pls_labelfile.proofs.Named.{bare-named}
 use Rattle.pls_names.specs.laws.Recoding.{Changes, IsCode, changed}

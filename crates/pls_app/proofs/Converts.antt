@@ -1,14 +1,14 @@
 -- What an input is refused for where its labels are converted.
 use Rattle.std.proofs.Common.{◌≡◌, ◌∙◌, ℕ, Bool, List, [], ◌∷◌, Option, Some, None, option_map, slice_get, refl, sym, ap}
 use Rattle.std.proofs.lemmas.Option.{slice_get-map}
-use Rattle.pls_base.specs.declared.refusal_number.TheConstants.{UNREADABLE}
-use Rattle.pls_base.specs.declared.text_error.TextError.{TextError}
-use Rattle.pls_base.specs.declared.text_error.TextError.TheVariants.{Sense}
-use Rattle.pls_base.specs.declared.text_error.Quantity.TheVariants.{Bits}
-use Rattle.pls_model.specs.declared.limits.TheConstants.{MAX_BITS}
-use Rattle.pls_model.specs.declared.row.NodeRow.{NodeRow}
-use Rattle.pls_model.specs.Configuration.{first_of, ids_of}
-use Rattle.pls_view.specs.Labels.{bits_together}
+use Rattle.pls_streams.specs.declared.refusal_number.TheConstants.{UNREADABLE}
+use Rattle.pls_streams.specs.declared.text_error.TextError.{TextError}
+use Rattle.pls_streams.specs.declared.text_error.TextError.TheVariants.{Sense}
+use Rattle.pls_streams.specs.declared.text_error.Quantity.TheVariants.{Bits}
+use Rattle.pls_configuration.specs.declared.limits.TheConstants.{MAX_BITS}
+use Rattle.pls_configuration.specs.declared.row.NodeRow.{NodeRow}
+use Rattle.pls_configuration.specs.Configuration.{first_of, ids_of}
+use Rattle.pls_labels.specs.Labels.{bits_together}
 use Rattle.pls_expressions.specs.Expression.{Expression}
 use Rattle.pls_inputs.specs.Order.{over}
 use Rattle.pls_inputs.specs.Parts.{Input, code_in, labels_in, rows_in}

@@ -3,7 +3,7 @@ use Rattle.std.proofs.Common.{◌≡◌, ℕ, ◌<◌, ◌^◌, ◌==◌, ◌&&�
 use Rattle.std.specs.Option.{option_map_or}
 use Rattle.std.proofs.lemmas.List.{length-map}
 use Rattle.std.proofs.lemmas.List.Elements.{All-map}
-use Rattle.pls_model.specs.declared.row.NodeRow.{NodeRow}
+use Rattle.pls_configuration.specs.declared.row.NodeRow.{NodeRow}
 use Rattle.pls_graph_edits.proofs.Changing.{All_here}
 use Rattle.pls_netfile.specs.NetworkText.{AreRows, FitsPort, FitsRow}
 use Rattle.pls_splice.specs.Crossing.{cross_port, cross_row, crossed_rows, ends_of, id_at, named_after}

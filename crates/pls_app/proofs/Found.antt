@@ -1,11 +1,11 @@
 -- What the rounds of an input show of its network.
 use Rattle.std.proofs.Common.{◌≡◌, ◌∙◌, ℕ, ◌+◌, Bool, true, false, if◌then◌else◌, List, [], ◌∷◌, length, Option, Some, None, option_map, refl, sym, ap, subst}
-use Rattle.pls_model.specs.declared.row.NodeRow.{NodeRow}
-use Rattle.pls_model.specs.declared.verdict.Verdict.{Verdict}
-use Rattle.pls_model.specs.declared.status.Status.TheVariants.{Done, No}
-use Rattle.pls_model.specs.Configuration.{IsNetwork}
-use Rattle.pls_base.specs.Steps.{up_by}
-use Rattle.pls_view.specs.Seen.{Seen}
+use Rattle.pls_configuration.specs.declared.row.NodeRow.{NodeRow}
+use Rattle.pls_configuration.specs.declared.verdict.Verdict.{Verdict}
+use Rattle.pls_configuration.specs.declared.status.Status.TheVariants.{Done, No}
+use Rattle.pls_configuration.specs.Configuration.{IsNetwork}
+use Rattle.pls_streams.specs.Steps.{up_by}
+use Rattle.pls_labels.specs.Seen.{Seen}
 use Rattle.pls_expressions.specs.Expression.{Expression}
 use Rattle.pls_edits.specs.declared.edit_line.EditLine.{EditLine}
 use Rattle.pls_edits.specs.declared.edit_line.EditLine.TheVariants.{Round}
@@ -13,9 +13,9 @@ use Rattle.pls_edits.specs.EditsText.{AreEdits, is_round}
 use Rattle.pls_closing.specs.Closing.{is_closed}
 use Rattle.pls_inputs.specs.Parts.{Input, code_in, edits_in, labels_in, rows_in}
 use Rattle.pls_app.specs.Meant.{Holds, judge_in}
-use Rattle.pls_base.specs.declared.text_error.TextError.{TextError}
-use Rattle.pls_base.specs.declared.text_error.TextError.TheVariants.{Sense}
-use Rattle.pls_base.specs.declared.refusal_number.TheConstants.{EDIT}
+use Rattle.pls_streams.specs.declared.text_error.TextError.{TextError}
+use Rattle.pls_streams.specs.declared.text_error.TextError.TheVariants.{Sense}
+use Rattle.pls_streams.specs.declared.refusal_number.TheConstants.{EDIT}
 use Rattle.pls_app.specs.EditsRefusal.{first_refused_edit, edits_refusal}
 use Rattle.pls_app.specs.Said.{Answer}
 use Rattle.pls_app.specs.Answer.{refusal, rounds_answer}

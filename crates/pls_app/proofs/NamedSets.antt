@@ -3,12 +3,12 @@ use Rattle.std.proofs.Common.{◌≡◌, ◌∙◌, ℕ, ◌<◌, Bool, true, Li
 use Rattle.std.proofs.lemmas.List.{get_or-map, length-map}
 use Rattle.std.proofs.lemmas.List.Elements.{All-map}
 use Rattle.std.proofs.lemmas.Option.{slice_get-get_or}
-use Rattle.pls_model.specs.declared.row.NodeRow.{NodeRow}
-use Rattle.pls_model.specs.declared.status.Status.TheVariants.{Done}
-use Rattle.pls_model.specs.declared.verdict.Verdict.TheVariants.{Accept}
-use Rattle.pls_model.specs.Configuration.{IsNetwork}
+use Rattle.pls_configuration.specs.declared.row.NodeRow.{NodeRow}
+use Rattle.pls_configuration.specs.declared.status.Status.TheVariants.{Done}
+use Rattle.pls_configuration.specs.declared.verdict.Verdict.TheVariants.{Accept}
+use Rattle.pls_configuration.specs.Configuration.{IsNetwork}
 use Rattle.pls_graph.proofs.Placed.{pointer_within}
-use Rattle.pls_view.specs.Seen.{Seen, label_of, seen, seen_port, views}
+use Rattle.pls_labels.specs.Seen.{Seen, label_of, seen, seen_port, views}
 use Rattle.pls_scheme.specs.Judging.{AllAccept}
 use Rattle.pls_bits.specs.Gamma.{gamma_takes}
 use Rattle.pls_bits.specs.declared.code_name.CodeName.TheVariants.{Gamma}

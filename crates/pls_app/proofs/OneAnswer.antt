@@ -1,7 +1,7 @@
 -- Words and bytes have one answer.
 use Rattle.std.proofs.Common.{◌≡◌, ◌∙◌, ℕ, Bool, List, [], ◌∷◌, inl, inr, ap, subst, refl, sym}
-use Rattle.pls_model.specs.declared.row.NodeRow.{NodeRow}
-use Rattle.pls_model.specs.Configuration.{IsNetwork}
+use Rattle.pls_configuration.specs.declared.row.NodeRow.{NodeRow}
+use Rattle.pls_configuration.specs.Configuration.{IsNetwork}
 use Rattle.pls_lines.specs.Text.{text_of}
 use Rattle.pls_trial.specs.Generator.{trial_of}
 use Rattle.pls_expressions.specs.Expression.{Expression, HasProperty}

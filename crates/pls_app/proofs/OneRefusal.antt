@@ -1,7 +1,7 @@
 -- A command refuses bytes in one way, or takes the input that they are.
 use Rattle.std.proofs.Common.{◌≡◌, ◌∙◌, ℕ, Bool, true, false, List, [], Some, None, inl, inr, ap, subst, refl, sym}
-use Rattle.pls_base.specs.declared.text_error.TextError.{TextError}
-use Rattle.pls_model.specs.declared.row.NodeRow.{NodeRow}
+use Rattle.pls_streams.specs.declared.text_error.TextError.{TextError}
+use Rattle.pls_configuration.specs.declared.row.NodeRow.{NodeRow}
 use Rattle.pls_expressions.specs.Expression.{Expression}
 use Rattle.pls_components.specs.Components.{AreComponents}
 use Rattle.pls_components.proofs.Apart.{one_list}

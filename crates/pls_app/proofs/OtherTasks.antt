@@ -1,7 +1,7 @@
 -- What is said of `mark` and of `recheck` alone says nothing of the other tasks.
 use Rattle.std.proofs.Common.{◌≡◌, ◌∙◌, ℕ, List, Result, Ok, Err, IfOk, sym}
-use Rattle.pls_model.specs.declared.row.NodeRow.{NodeRow}
-use Rattle.pls_model.specs.declared.status.Status.TheVariants.{Done}
+use Rattle.pls_configuration.specs.declared.row.NodeRow.{NodeRow}
+use Rattle.pls_configuration.specs.declared.status.Status.TheVariants.{Done}
 use Rattle.pls_bits.specs.declared.code_name.CodeName.{CodeName}
 use Rattle.pls_expressions.specs.Expression.{Expression}
 use Rattle.pls_inputs.specs.Parts.{Input}

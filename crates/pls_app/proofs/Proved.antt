@@ -4,15 +4,15 @@ use Rattle.std.proofs.lemmas.List.Folds.{list_all-map}
 use Rattle.std.proofs.lemmas.List.Sums.{AllPass-from_list_all, list_all-from_AllPass}
 use Rattle.std.proofs.lemmas.List.Elements.{All-map}
 use Rattle.pls_graph.proofs.Members.{Contains-first, Contains-later}
-use Rattle.pls_base.specs.declared.text_error.TextError.{TextError}
-use Rattle.pls_base.specs.declared.text_error.TextError.TheVariants.{Form, Limit, Sense, NoMemory}
-use Rattle.pls_model.specs.declared.row.NodeRow.{NodeRow}
-use Rattle.pls_model.specs.declared.status.Status.{Status}
-use Rattle.pls_model.specs.declared.status.Status.TheVariants.{Done, No}
-use Rattle.pls_model.specs.declared.verdict.Verdict.{Verdict}
-use Rattle.pls_model.specs.declared.verdict.Verdict.TheVariants.{Accept, Reject}
-use Rattle.pls_view.specs.Seen.{Seen, label_of, seen, views}
-use Rattle.pls_model.specs.Configuration.{IsNetwork}
+use Rattle.pls_streams.specs.declared.text_error.TextError.{TextError}
+use Rattle.pls_streams.specs.declared.text_error.TextError.TheVariants.{Form, Limit, Sense, NoMemory}
+use Rattle.pls_configuration.specs.declared.row.NodeRow.{NodeRow}
+use Rattle.pls_configuration.specs.declared.status.Status.{Status}
+use Rattle.pls_configuration.specs.declared.status.Status.TheVariants.{Done, No}
+use Rattle.pls_configuration.specs.declared.verdict.Verdict.{Verdict}
+use Rattle.pls_configuration.specs.declared.verdict.Verdict.TheVariants.{Accept, Reject}
+use Rattle.pls_labels.specs.Seen.{Seen, label_of, seen, views}
+use Rattle.pls_configuration.specs.Configuration.{IsNetwork}
 use Rattle.pls_scheme.specs.Judging.{AllAccept, round_by}
 use Rattle.pls_schedule.specs.declared.event.Event.{Event}
 use Rattle.pls_sim.specs.declared.outcome.Outcome.{Outcome}

@@ -4,13 +4,13 @@ use Rattle.std.specs.Prelude.{flat_map, nat_lt}
 use Rattle.std.proofs.lemmas.Bool.Decides.{nat_tests}
 use Rattle.std.proofs.lemmas.Bool.{lt-ltb}
 use Rattle.std.proofs.lemmas.List.Elements.{All-cons, All-contains, All-head, All-map, All-nil, All-tail}
-use Rattle.pls_model.specs.declared.row.Port.{Port}
-use Rattle.pls_model.specs.declared.row.NodeRow.{NodeRow}
-use Rattle.pls_model.specs.Configuration.{IsNetwork, ids_of}
+use Rattle.pls_configuration.specs.declared.row.Port.{Port}
+use Rattle.pls_configuration.specs.declared.row.NodeRow.{NodeRow}
+use Rattle.pls_configuration.specs.Configuration.{IsNetwork, ids_of}
 use Rattle.pls_graph.specs.Size.{greatest, size_of, weights_of}
 use Rattle.pls_graph.proofs.Members.{Contains-first, Contains-from_flat_map, Contains-later}
 use Rattle.pls_netfile.specs.NetworkText.{FitsPort, FitsRow}
-use Rattle.pls_base.specs.Steps.{capped}
+use Rattle.pls_streams.specs.Steps.{capped}
 use Rattle.pls_scheme.specs.Theorem.{AreWords}
 use Rattle.pls_bits.specs.Gamma.{gamma_code}
 use Rattle.pls_bits.specs.NumberCode.{IsShort}
@@ -23,8 +23,8 @@ use Rattle.pls_components.specs.Parts.{bound_of_parts}
 use Rattle.pls_components.proofs.Items.{All-items}
 use Rattle.pls_components.proofs.Part.{part_network}
 use Rattle.pls_app.specs.Trial.{tried_scheme}
-use Rattle.pls_base.specs.declared.text_error.Quantity.{Quantity}
-use Rattle.pls_base.specs.declared.text_error.TextError.TheVariants.{Limit}
+use Rattle.pls_streams.specs.declared.text_error.Quantity.{Quantity}
+use Rattle.pls_streams.specs.declared.text_error.TextError.TheVariants.{Limit}
 use Rattle.pls_inputs.specs.Order.{over}
 use Rattle.pls_inputs.proofs.Facts.{IsReadable}
 

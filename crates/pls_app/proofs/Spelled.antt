@@ -1,7 +1,7 @@
 -- What the bytes of an input begin and end with.
 use Rattle.std.proofs.Common.{◌≡◌, ◌∙◌, ℕ, Bool, true, false, List, [], ◌++◌, Option, Some, None, append-nil, append_assoc, ap, refl, sym}
 use Rattle.std.specs.Option.{unwrap_or}
-use Rattle.pls_model.specs.declared.row.NodeRow.{NodeRow}
+use Rattle.pls_configuration.specs.declared.row.NodeRow.{NodeRow}
 use Rattle.pls_lines.specs.Text.{text_of}
 use Rattle.pls_lines.specs.laws.Fronts.{text_of-append}
 use Rattle.pls_netfile.specs.NetworkText.{AreRows, network_lines, network_text}

@@ -1,8 +1,8 @@
 -- What a call did that wrote a text by itself, as its clauses say it.
 use Rattle.std.proofs.Common.{◌∙◌, ℕ, List, [], Option, Result, Ok, Err, IsOk, OnErr, OnOk, length, append-nil, refl, subst, sym, arith}
 use Rattle.std.specs.Io.KnownBytes.{Appends}
-use Rattle.pls_base.specs.Gathered.{Writes}
-use Rattle.pls_base.specs.Streams.{AppendsPart, Rose}
+use Rattle.pls_streams.specs.Gathered.{Writes}
+use Rattle.pls_streams.specs.Streams.{AppendsPart, Rose}
 
 module _ {T E : Type 0} (a b : Option (List ℕ)) (f g : ℕ) (S U : ℕ → Type 0) (text : List ℕ) where
   pub wrote_all : (result : Result T E) → Writes [] [] a b f g S U result text

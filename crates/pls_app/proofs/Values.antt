@@ -3,9 +3,9 @@ use Rattle.std.proofs.Common.{◌≡◌, ◌∙◌, ℕ, ◌+◌, ◌≤◌, ◌
 use Rattle.std.specs.Option.{option_map_or, unwrap_or}
 use Rattle.std.proofs.lemmas.List.{length-map}
 use Rattle.std.proofs.lemmas.Option.{same_Some}
-use Rattle.pls_model.specs.declared.limits.TheConstants.{MAX_BITS, MAX_INPUT, MAX_LINES}
-use Rattle.pls_model.specs.declared.row.NodeRow.{NodeRow}
-use Rattle.pls_model.specs.Configuration.{ids_of}
+use Rattle.pls_configuration.specs.declared.limits.TheConstants.{MAX_BITS, MAX_INPUT, MAX_LINES}
+use Rattle.pls_configuration.specs.declared.row.NodeRow.{NodeRow}
+use Rattle.pls_configuration.specs.Configuration.{ids_of}
 use Rattle.pls_lines.specs.Text.{text_of}
 use Rattle.pls_netfile.specs.NetworkText.{AreRows, network_lines}
 use Rattle.pls_components.specs.Components.{AreComponents}

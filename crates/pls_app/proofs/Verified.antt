@@ -6,11 +6,11 @@ use Rattle.std.proofs.lemmas.List.Folds.{list_all-map}
 use Rattle.std.proofs.lemmas.List.Sums.{list_all-from_AllPass}
 use Rattle.pls_words.specs.Words.{Said, flag_cut, said_beside, said_by_words, said_with}
 use Rattle.pls_words.specs.declared.command_words.Flag.TheVariants.{Bare}
-use Rattle.pls_model.specs.declared.row.NodeRow.{NodeRow}
-use Rattle.pls_model.specs.declared.status.Status.TheVariants.{Done, No}
-use Rattle.pls_model.specs.declared.verdict.Verdict.{Verdict}
-use Rattle.pls_model.specs.Configuration.{ids_of}
-use Rattle.pls_view.specs.Seen.{Seen, views}
+use Rattle.pls_configuration.specs.declared.row.NodeRow.{NodeRow}
+use Rattle.pls_configuration.specs.declared.status.Status.TheVariants.{Done, No}
+use Rattle.pls_configuration.specs.declared.verdict.Verdict.{Verdict}
+use Rattle.pls_configuration.specs.Configuration.{ids_of}
+use Rattle.pls_labels.specs.Seen.{Seen, views}
 use Rattle.pls_labelfile.proofs.Named.{bare-named}
 use Rattle.pls_scheme.specs.Judging.{AllAccept}
 use Rattle.pls_sim.specs.declared.outcome.Outcome.{Outcome}

@@ -1,14 +1,14 @@
 -- What a run answers: a status and a text, from its words and its input.
 use Rattle.std.specs.Prelude.{◌≡◌, ◌⊎◌, ℕ, ◌+◌, Bool, true, false, List, [], ◌∷◌, codes, decimal, length, map, Option, Some, None, if◌then◌else◌}
-use Rattle.pls_base.specs.declared.text_error.TextError.{TextError}
-use Rattle.pls_base.specs.declared.text_error.TextError.TheVariants.{Form, Limit, Sense, NoMemory}
-use Rattle.pls_base.specs.declared.text_error.Quantity.TheVariants.{Labels}
-use Rattle.pls_base.specs.Quantity.{quantity_text}
-use Rattle.pls_model.specs.declared.status.Status.{Status}
-use Rattle.pls_model.specs.declared.status.Status.TheVariants.{Done, No, Usage, Refused, Limit as OverLimit, NoMemory as OutOfMemory}
-use Rattle.pls_model.specs.declared.row.NodeRow.{NodeRow}
+use Rattle.pls_streams.specs.declared.text_error.TextError.{TextError}
+use Rattle.pls_streams.specs.declared.text_error.TextError.TheVariants.{Form, Limit, Sense, NoMemory}
+use Rattle.pls_streams.specs.declared.text_error.Quantity.TheVariants.{Labels}
+use Rattle.pls_streams.specs.Quantity.{quantity_text}
+use Rattle.pls_configuration.specs.declared.status.Status.{Status}
+use Rattle.pls_configuration.specs.declared.status.Status.TheVariants.{Done, No, Usage, Refused, Limit as OverLimit, NoMemory as OutOfMemory}
+use Rattle.pls_configuration.specs.declared.row.NodeRow.{NodeRow}
 use Rattle.pls_lines.specs.Text.{line_of, text_of}
-use Rattle.pls_model.specs.declared.limits.TheConstants.{MAX_BITS}
+use Rattle.pls_configuration.specs.declared.limits.TheConstants.{MAX_BITS}
 use Rattle.pls_sim.specs.declared.outcome.Outcome.{Outcome}
 use Rattle.pls_sim.specs.Schedule.{played_by}
 use Rattle.pls_report.specs.declared.part_row.PartRow.{PartRow}

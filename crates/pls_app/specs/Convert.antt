@@ -1,12 +1,12 @@
 -- The command `convert`: the labels of an input are written in the delta code.
 use Rattle.std.specs.Prelude.{Bool, List, [], ◌∷◌, Option, slice_get, option_map, option_and_then}
-use Rattle.pls_base.specs.declared.refusal_number.TheConstants.{UNREADABLE}
-use Rattle.pls_base.specs.declared.text_error.TextError.{TextError}
-use Rattle.pls_base.specs.declared.text_error.TextError.TheVariants.{Sense}
-use Rattle.pls_base.specs.declared.text_error.Quantity.TheVariants.{Bits}
-use Rattle.pls_model.specs.declared.limits.TheConstants.{MAX_BITS}
-use Rattle.pls_model.specs.Configuration.{first_of, ids_of}
-use Rattle.pls_view.specs.Labels.{bits_together}
+use Rattle.pls_streams.specs.declared.refusal_number.TheConstants.{UNREADABLE}
+use Rattle.pls_streams.specs.declared.text_error.TextError.{TextError}
+use Rattle.pls_streams.specs.declared.text_error.TextError.TheVariants.{Sense}
+use Rattle.pls_streams.specs.declared.text_error.Quantity.TheVariants.{Bits}
+use Rattle.pls_configuration.specs.declared.limits.TheConstants.{MAX_BITS}
+use Rattle.pls_configuration.specs.Configuration.{first_of, ids_of}
+use Rattle.pls_labels.specs.Labels.{bits_together}
 use Rattle.pls_expressions.specs.Expression.{Expression}
 use Rattle.pls_combine.specs.Converted.{all_converted, first_unreadable}
 use Rattle.pls_inputs.specs.Order.{over}

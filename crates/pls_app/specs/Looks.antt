@@ -1,10 +1,10 @@
 -- The looks at a round in which labels change: one for each line that asks for it.
 use Rattle.std.specs.Prelude.{ℕ, ◌+◌, true, if◌then◌else◌, Bool, List, [], ◌∷◌, ◌++◌}
-use Rattle.pls_model.specs.declared.limits.TheConstants.{MAX_BITS, MAX_LINES}
-use Rattle.pls_model.specs.declared.row.NodeRow.{NodeRow}
-use Rattle.pls_model.specs.declared.status.Status.TheVariants.{Done, No}
-use Rattle.pls_model.specs.declared.verdict.Verdict.{Verdict}
-use Rattle.pls_view.specs.Seen.{Seen}
+use Rattle.pls_configuration.specs.declared.limits.TheConstants.{MAX_BITS, MAX_LINES}
+use Rattle.pls_configuration.specs.declared.row.NodeRow.{NodeRow}
+use Rattle.pls_configuration.specs.declared.status.Status.TheVariants.{Done, No}
+use Rattle.pls_configuration.specs.declared.verdict.Verdict.{Verdict}
+use Rattle.pls_labels.specs.Seen.{Seen}
 use Rattle.pls_sim.specs.declared.outcome.Outcome.{Outcome}
 use Rattle.pls_report.specs.Look.{look_is_well, look_text}
 use Rattle.pls_closing.specs.Closing.{is_closed}

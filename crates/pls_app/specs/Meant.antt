@@ -1,13 +1,13 @@
 -- What a scheme means on a network, under a number code. Here alone this crate cites the property,
 -- the labels, the verdicts and the bound of a scheme.
 use Rattle.std.specs.Prelude.{◌≡◌, ℕ, Bool, List, length, Option}
-use Rattle.pls_model.specs.declared.row.NodeRow.{NodeRow}
-use Rattle.pls_model.specs.declared.verdict.Verdict.{Verdict}
-use Rattle.pls_model.specs.Walk.{IsConnected}
+use Rattle.pls_configuration.specs.declared.row.NodeRow.{NodeRow}
+use Rattle.pls_configuration.specs.declared.verdict.Verdict.{Verdict}
+use Rattle.pls_configuration.specs.Walk.{IsConnected}
 use Rattle.pls_bits.specs.Gamma.{gamma_code, gamma_takes}
 use Rattle.pls_bits.specs.Delta.{delta_code, delta_takes}
 use Rattle.pls_graph.specs.declared.size.Size.{Size}
-use Rattle.pls_view.specs.Seen.{Seen}
+use Rattle.pls_labels.specs.Seen.{Seen}
 use Rattle.pls_scheme.specs.Judging.{AllAccept}
 use Rattle.pls_components.specs.Components.{FitsInEach, HasInEach}
 use Rattle.pls_components.specs.Parts.{AreLacking, AreWithinBound, LacksIn, bound_of_parts, room_of_parts}

@@ -1,6 +1,6 @@
 -- What a report tells of each component of a network.
 use Rattle.std.specs.Prelude.{ℕ, List, length, map}
-use Rattle.pls_model.specs.declared.row.NodeRow.{NodeRow}
+use Rattle.pls_configuration.specs.declared.row.NodeRow.{NodeRow}
 use Rattle.pls_sim.specs.declared.outcome.Outcome.{Outcome}
 use Rattle.pls_report.specs.declared.part_row.PartRow.{PartRow}
 use Rattle.pls_report.specs.Report.{rejecting, waiting}

@@ -1,7 +1,7 @@
 -- What rule sets answer: the code of one, and the text of one that has a name.
 use Rattle.std.specs.Prelude.{[]}
 use Rattle.std.specs.Option.{option_map_or}
-use Rattle.pls_model.specs.declared.status.Status.TheVariants.{Done}
+use Rattle.pls_configuration.specs.declared.status.Status.TheVariants.{Done}
 use Rattle.pls_names.specs.declared.scheme_name.SchemeName.{SchemeName}
 use Rattle.pls_rules.specs.RuleSet.{Rules, rules_of}
 use Rattle.pls_rules_part.specs.RulesText.{rules_text, said_of_set, set_said}

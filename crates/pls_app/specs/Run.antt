@@ -1,22 +1,22 @@
 -- What the public call says of its source and its sink, and of the network.
 use Rattle.std.specs.Prelude.{◌≡◌, ℕ, ◌+◌, ◌≤◌, ◌<◌, List, [], length, drop, ◌++◌, Bool, true, false, Contains, Option, Some, None, ⊤, ◌⊎◌}
 use Rattle.std.specs.Io.KnownBytes.{Appends}
-use Rattle.pls_base.specs.declared.text_error.TextError.{TextError}
-use Rattle.pls_base.specs.Streams.{AppendsPart, LosesAtMost, Rose}
-use Rattle.pls_base.specs.Steps.{up_by}
-use Rattle.pls_model.specs.declared.status.Status.{Status}
-use Rattle.pls_model.specs.declared.status.Status.TheVariants.{Done, No, Usage, Refused, ReadFault, WriteFault, NoMemory, Limit}
+use Rattle.pls_streams.specs.declared.text_error.TextError.{TextError}
+use Rattle.pls_streams.specs.Streams.{AppendsPart, LosesAtMost, Rose}
+use Rattle.pls_streams.specs.Steps.{up_by}
+use Rattle.pls_configuration.specs.declared.status.Status.{Status}
+use Rattle.pls_configuration.specs.declared.status.Status.TheVariants.{Done, No, Usage, Refused, ReadFault, WriteFault, NoMemory, Limit}
 use Rattle.pls_sim.specs.declared.outcome.Outcome.{Outcome}
 use Rattle.pls_report.specs.Report.{is_accepting}
-use Rattle.pls_model.specs.declared.row.NodeRow.{NodeRow}
+use Rattle.pls_configuration.specs.declared.row.NodeRow.{NodeRow}
 use Rattle.pls_facts.specs.Leader.{HasOneLeader}
-use Rattle.pls_view.specs.Seen.{views}
+use Rattle.pls_labels.specs.Seen.{views}
 use Rattle.pls_scheme.specs.Judging.{AllAccept}
 use Rattle.pls_components.specs.Components.{AreComponents, items_at}
 use Rattle.pls_splice.specs.Ring.{IsRing}
 use Rattle.pls_splice.specs.TwoRings.{AreTwoRings, IsLeaderlessIn}
 use Rattle.pls_expressions.specs.Expression.{Expression, Of}
-use Rattle.pls_model.specs.declared.limits.TheConstants.{MAX_INPUT}
+use Rattle.pls_configuration.specs.declared.limits.TheConstants.{MAX_INPUT}
 use Rattle.pls_inputs.specs.Parts.{Input, code_in, parts_with_edits, parts_with_gamma, parts_with_labels, parts_with_rules, labels_in, net_labels_text, rows_in, with_labels}
 use Rattle.pls_inputs.specs.Order.{IsInput}
 use Rattle.pls_bits.specs.declared.code_name.CodeName.{CodeName}
@@ -34,8 +34,8 @@ use Rattle.pls_app.specs.Ruled.{set_in}
 use Rattle.pls_app.specs.Said.{Answer}
 use Rattle.pls_app.specs.Spelled.{BeginsWithNetwork, EndsWithEdits, IsNetworkText}
 use Rattle.pls_edits.specs.declared.edit_line.EditLine.{EditLine}
-use Rattle.pls_model.specs.declared.limits.TheConstants.{MAX_BITS}
-use Rattle.pls_view.specs.Labels.{bits_together}
+use Rattle.pls_configuration.specs.declared.limits.TheConstants.{MAX_BITS}
+use Rattle.pls_labels.specs.Labels.{bits_together}
 use Rattle.pls_app.specs.Answer.{IsAnswer, IsRefused, Reads, no, outcomes_in, refusal, refusal_status}
 
 -- the words are this command, and the source tells these bytes

@@ -1,17 +1,17 @@
 -- The command `splice`: two edges of a ring whose nodes all accept are crossed, and no node sees a
 -- difference.
 use Rattle.std.specs.Prelude.{◌≡◌, ◌⊎◌, ℕ, Bool, List, [], ◌∷◌, ◌++◌, codes, find, slice_get, Option, option_map}
-use Rattle.pls_base.specs.declared.refusal_number.TheConstants.{NO_RING, REJECTS}
-use Rattle.pls_base.specs.declared.text_error.TextError.{TextError}
-use Rattle.pls_base.specs.declared.text_error.TextError.TheVariants.{Sense}
+use Rattle.pls_streams.specs.declared.refusal_number.TheConstants.{NO_RING, REJECTS}
+use Rattle.pls_streams.specs.declared.text_error.TextError.{TextError}
+use Rattle.pls_streams.specs.declared.text_error.TextError.TheVariants.{Sense}
 use Rattle.pls_bits.specs.declared.code_name.CodeName.{CodeName}
-use Rattle.pls_model.specs.declared.row.NodeRow.{NodeRow}
-use Rattle.pls_model.specs.declared.status.Status.TheVariants.{Done, No}
-use Rattle.pls_model.specs.declared.verdict.Verdict.{Verdict}
-use Rattle.pls_model.specs.Configuration.{first_of}
+use Rattle.pls_configuration.specs.declared.row.NodeRow.{NodeRow}
+use Rattle.pls_configuration.specs.declared.status.Status.TheVariants.{Done, No}
+use Rattle.pls_configuration.specs.declared.verdict.Verdict.{Verdict}
+use Rattle.pls_configuration.specs.Configuration.{first_of}
 use Rattle.pls_lines.specs.Text.{text_of}
 use Rattle.pls_netfile.specs.NetworkText.{network_text}
-use Rattle.pls_view.specs.Seen.{Seen}
+use Rattle.pls_labels.specs.Seen.{Seen}
 use Rattle.pls_components.specs.Components.{least_id}
 use Rattle.pls_sim.specs.declared.outcome.Outcome.{Outcome}
 use Rattle.pls_report.specs.Report.{is_rejecting}

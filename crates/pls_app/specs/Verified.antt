@@ -1,9 +1,9 @@
 -- What is read back of labels that `mark` wrote, and what `verify` ends with on them.
 use Rattle.std.specs.Prelude.{◌≡◌, ℕ, Bool, List, [], ◌∷◌, codes, Some, None}
-use Rattle.pls_model.specs.declared.row.NodeRow.{NodeRow}
+use Rattle.pls_configuration.specs.declared.row.NodeRow.{NodeRow}
 use Rattle.pls_bits.specs.declared.code_name.CodeName.{CodeName}
 use Rattle.pls_inputs.specs.Parts.{Input, net_labelling}
-use Rattle.pls_model.specs.declared.status.Status.TheVariants.{Done}
+use Rattle.pls_configuration.specs.declared.status.Status.TheVariants.{Done}
 use Rattle.pls_expressions.specs.Expression.{Expression}
 use Rattle.pls_scheme_text.specs.ExpressionText.{expression_text}
 use Rattle.pls_app.specs.Said.{Answer}

@@ -1,11 +1,11 @@
 -- Which event of a watch is refused.
 use Rattle.std.specs.Prelude.{ℕ, ◌+◌, Bool, false, if◌then◌else◌, List, [], ◌∷◌, ◌++◌, Option, Some, None, flat_map, option_map}
 use Rattle.std.specs.Option.{is_none}
-use Rattle.pls_base.specs.declared.refusal_number.TheConstants.{WATCH_EVENT}
-use Rattle.pls_base.specs.declared.text_error.TextError.{TextError}
-use Rattle.pls_base.specs.declared.text_error.TextError.TheVariants.{Sense}
-use Rattle.pls_model.specs.declared.row.NodeRow.{NodeRow}
-use Rattle.pls_model.specs.Configuration.{row_of}
+use Rattle.pls_streams.specs.declared.refusal_number.TheConstants.{WATCH_EVENT}
+use Rattle.pls_streams.specs.declared.text_error.TextError.{TextError}
+use Rattle.pls_streams.specs.declared.text_error.TextError.TheVariants.{Sense}
+use Rattle.pls_configuration.specs.declared.row.NodeRow.{NodeRow}
+use Rattle.pls_configuration.specs.Configuration.{row_of}
 use Rattle.pls_schedule.specs.declared.event.Event.{Event as Played}
 use Rattle.pls_watch_part.specs.declared.watch_event.WatchEvent.{WatchEvent}
 use Rattle.pls_watch_part.specs.declared.watch_event.WatchLine.{WatchLine}

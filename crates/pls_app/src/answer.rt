@@ -1,7 +1,7 @@
 //! How a run ends, and the text that it writes.
 
 ghost use Rattle.std.specs.Prelude.{◌≡◌, ◌≢◌, ◌++◌, if◌then◌else◌, length, string_bytes, IfOk, OnOk};
-ghost use Rattle.pls_base.specs.declared.text_error.TextError.TheVariants.{Sense};
+ghost use Rattle.pls_streams.specs.declared.text_error.TextError.TheVariants.{Sense};
 ghost use Rattle.pls_components.specs.Components.{AreComponents};
 ghost use Rattle.pls_report.specs.Report.{all_accept};
 ghost use Rattle.pls_report.specs.PartLines.{if_several};
@@ -12,14 +12,14 @@ ghost use Rattle.pls_app.specs.inner.Tasks.{IsWorked};
 
 use crate::part_rows::part_rows;
 use crate::round_report::RoundReport;
-use pls_base::{NoMemory, Status, TextError};
 use pls_bits::CodeName;
 use pls_components::Components;
 use pls_graph::Network;
 use pls_json::json_report;
+use pls_labels::LabelStore;
 use pls_report::{PartRow, all_accept};
 use pls_sim::Outcome;
-use pls_view::LabelStore;
+use pls_streams::{NoMemory, Status, TextError};
 use std::alloc::Global;
 use std::fmt::Write;
 use std::marker::Model;

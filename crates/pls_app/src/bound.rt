@@ -10,11 +10,11 @@ ghost use Rattle.pls_app.specs.Answer.{bound_answer};
 ghost use Rattle.pls_app.specs.inner.Tasks.{IsWorked};
 
 use crate::answer::{Answer, Content};
-use pls_base::{NoMemory, Status};
 use pls_bits::NumCode;
 use pls_combine::AnyScheme;
 use pls_components::{Components, bound_parts};
 use pls_graph::Network;
+use pls_streams::{NoMemory, Status};
 use std::alloc::Global;
 
 // How many bits a marked label has at most.

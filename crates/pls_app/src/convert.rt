@@ -2,11 +2,11 @@
 
 ghost use Rattle.std.specs.Prelude.{◌≡◌, ℕ, List, length, IfOk, None, Some};
 ghost use Rattle.pls_inputs.specs.Parts.{Input, code_in, labels_in, rows_in};
-ghost use Rattle.pls_base.specs.declared.text_error.TextError.{TextError as Error};
-ghost use Rattle.pls_base.specs.declared.text_error.Quantity.TheVariants.{Bits};
+ghost use Rattle.pls_streams.specs.declared.text_error.TextError.{TextError as Error};
+ghost use Rattle.pls_streams.specs.declared.text_error.Quantity.TheVariants.{Bits};
 ghost use Rattle.pls_bits.specs.declared.code_name.CodeName.TheVariants.{Delta as DeltaName};
-ghost use Rattle.pls_model.specs.declared.limits.TheConstants.{MAX_BITS as MOST};
-ghost use Rattle.pls_view.specs.Labels.{bits_together};
+ghost use Rattle.pls_configuration.specs.declared.limits.TheConstants.{MAX_BITS as MOST};
+ghost use Rattle.pls_labels.specs.Labels.{bits_together};
 ghost use Rattle.pls_inputs.specs.Order.{over};
 ghost use Rattle.pls_app.specs.Answer.{labels_answer, refusal};
 ghost use Rattle.pls_app.specs.Meant.{takes_of};
@@ -14,13 +14,13 @@ ghost use Rattle.pls_app.specs.inner.Tasks.{Does, IsWorked};
 
 use crate::answer::{Answer, Content, refuse, refuse_node};
 use crate::command::{Command, Task};
-use pls_base::refusal_number::UNREADABLE;
-use pls_base::{NoMemory, Quantity, Status, TextError};
 use pls_bits::{CodeName, Delta, NumCode};
 use pls_combine::AnyScheme;
+use pls_configuration::MAX_BITS;
 use pls_graph::Network;
-use pls_model::MAX_BITS;
-use pls_view::LabelStore;
+use pls_labels::LabelStore;
+use pls_streams::refusal_number::UNREADABLE;
+use pls_streams::{NoMemory, Quantity, Status, TextError};
 use std::alloc::Global;
 
 // The labels in the delta code; refuses the first unreadable one, or else too many bits together.

@@ -3,9 +3,9 @@
 ghost use Rattle.std.specs.Prelude.{◌≡◌, ◌<◌, ◌≤◌, ◌-◌, ℕ, [], length, Some, IfOk, MatchResult};
 ghost use Rattle.std.specs.Io.{WritesAtMost};
 ghost use Rattle.std.specs.Io.KnownBytes.{WriteAppends};
-ghost use Rattle.pls_base.specs.Streams.{HasCause, StaysSure};
+ghost use Rattle.pls_streams.specs.Streams.{HasCause, StaysSure};
 
-use pls_base::{Sink, Steps, StreamFailure};
+use pls_streams::{Sink, Steps, StreamFailure};
 use std::alloc::Global;
 use std::marker::Model;
 

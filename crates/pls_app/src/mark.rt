@@ -1,9 +1,9 @@
 //! The answer to `mark`.
 
 ghost use Rattle.std.specs.Prelude.{◌≡◌, IfErr, IfOk, OnOk, None, Some};
-ghost use Rattle.pls_base.specs.declared.text_error.Quantity.TheVariants.{Labels};
-ghost use Rattle.pls_model.specs.declared.limits.TheConstants.{MAX_BITS as MOST};
-ghost use Rattle.pls_model.specs.declared.status.Status.TheVariants.{Done};
+ghost use Rattle.pls_streams.specs.declared.text_error.Quantity.TheVariants.{Labels};
+ghost use Rattle.pls_configuration.specs.declared.limits.TheConstants.{MAX_BITS as MOST};
+ghost use Rattle.pls_configuration.specs.declared.status.Status.TheVariants.{Done};
 ghost use Rattle.pls_components.specs.Components.{AreComponents};
 ghost use Rattle.pls_inputs.specs.Order.{over};
 ghost use Rattle.pls_inputs.specs.Parts.{Input, rows_in};
@@ -12,12 +12,12 @@ ghost use Rattle.pls_app.specs.inner.Tasks.{Does, IsNamed, IsWorked, ShowsIn};
 
 use crate::answer::{Answer, Content, no, refuse};
 use crate::command::{Command, Task};
-use pls_base::{NoMemory, Quantity, Status, TextError};
 use pls_bits::{CodeName, NumCode};
 use pls_combine::AnyScheme;
 use pls_components::{Components, MarkResult, mark_parts, room_parts};
+use pls_configuration::MAX_BITS;
 use pls_graph::Network;
-use pls_model::MAX_BITS;
+use pls_streams::{NoMemory, Quantity, Status, TextError};
 use std::alloc::Global;
 
 // Answers `no` where a component lacks the property; refuses labels that can be too long.

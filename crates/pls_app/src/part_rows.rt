@@ -5,12 +5,12 @@ ghost use Rattle.pls_components.specs.Components.{AreComponents, items_at};
 ghost use Rattle.pls_report.specs.Report.{is_rejecting, is_waiting, rejecting, waiting};
 ghost use Rattle.pls_app.specs.PartRows.{part_row, part_rows};
 
-use pls_base::NoMemory;
 use pls_components::Components;
+use pls_configuration::Verdict;
 use pls_graph::Network;
-use pls_model::Verdict;
 use pls_report::PartRow;
 use pls_sim::Outcome;
+use pls_streams::NoMemory;
 use std::alloc::Global;
 
 pub(crate) fn part_rows(

@@ -2,8 +2,8 @@
 
 ghost use Rattle.std.specs.Prelude.{◌≡◌, ◌⊎◌, ◌++◌, [], ℕ, Bool, List, Some, IsOk, OnErr, OnOk, length};
 ghost use Rattle.std.specs.Io.KnownBytes.{Appends};
-ghost use Rattle.pls_base.specs.Gathered.{Writes};
-ghost use Rattle.pls_base.specs.Streams.{AppendsPart, Rose};
+ghost use Rattle.pls_streams.specs.Gathered.{Writes};
+ghost use Rattle.pls_streams.specs.Streams.{AppendsPart, Rose};
 ghost use Rattle.pls_inputs.specs.Parts.{net_labels_text};
 ghost use Rattle.pls_words.specs.Words.{words_in};
 ghost use Rattle.pls_expressions.specs.Expression.{Expression};
@@ -12,20 +12,20 @@ ghost use Rattle.pls_app.specs.Run.{Asks, Certifies, Concerns, Consumes, Convert
 ghost use Rattle.pls_app.specs.inner.Causes.{WritesOrFails};
 ghost use Rattle.pls_app.specs.Answer.{IsRefused};
 ghost use Rattle.pls_app.specs.Reports.{reports_text};
-ghost use Rattle.pls_base.specs.declared.text_error.TextError.{TextError};
+ghost use Rattle.pls_streams.specs.declared.text_error.TextError.{TextError};
 ghost use Rattle.pls_app.specs.inner.Written.{text_in};
 
 use crate::answer::{Answer, Content, usage};
 use crate::command::{Command, RuleTask, Task, read_command};
 use crate::from_source::answer_from;
 use crate::round_report::RoundReport;
-use pls_base::{Fault, NoMemory, Sink, Source, Status, write_all};
 use pls_bits::CodeName;
 use pls_graph::Network;
 use pls_labelfile::stream_labels;
+use pls_labels::LabelStore;
 use pls_recheck::Bench;
 use pls_report::{write_report, write_round};
-use pls_view::LabelStore;
+use pls_streams::{Fault, NoMemory, Sink, Source, Status, write_all};
 use std::alloc::Global;
 
 /// Runs the program: `words` are the words after its name, `source` gives its input, and `sink`

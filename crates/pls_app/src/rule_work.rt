@@ -9,10 +9,10 @@ ghost use Rattle.pls_app.specs.inner.Tasks.{DoesWork, IsWorked};
 use crate::answer::{Answer, refuse};
 use crate::command::{Command, RuleTask};
 use crate::ruled::{judge, list_code, splice_by_rules};
-use pls_base::NoMemory;
 use pls_components::components;
+use pls_configuration::MAX_INPUT;
 use pls_inputs::{Input, read_input};
-use pls_model::MAX_INPUT;
+use pls_streams::NoMemory;
 use std::alloc::Global;
 
 // `bytes` are within the limit.

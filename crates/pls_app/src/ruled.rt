@@ -15,16 +15,16 @@ ghost use Rattle.pls_app.specs.inner.Tasks.{DoesSplice, IsWorked};
 use crate::answer::{Answer, Content};
 use crate::splice::splice;
 use crate::verify::verify;
-use pls_base::{NoMemory, Status};
 use pls_bits::CodeName;
 use pls_builtin::builtin_set;
 use pls_compile::{RuleChecker, compile, listing};
 use pls_components::Components;
 use pls_graph::Network;
+use pls_labels::LabelStore;
 use pls_names::SchemeName;
 use pls_rules::RuleSet;
 use pls_rules_part::print_rules;
-use pls_view::LabelStore;
+use pls_streams::{NoMemory, Status};
 use std::alloc::Global;
 
 pub(crate) fn judge(

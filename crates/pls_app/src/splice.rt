@@ -9,16 +9,16 @@ ghost use Rattle.pls_app.specs.inner.Tasks.{DoesSplice, IsWorked};
 
 use crate::answer::{Answer, Content, refuse_node};
 use crate::verify::decide;
-use pls_base::refusal_number::{NO_RING, REJECTS};
-use pls_base::{NoMemory, Status};
 use pls_bits::CodeName;
+use pls_configuration::Verdict;
 use pls_graph::Network;
-use pls_model::Verdict;
+use pls_labels::LabelStore;
 use pls_netfile::write_network;
 use pls_scheme::Checker;
 use pls_sim::Outcome;
 use pls_splice::{Pair, Ring, RingError, cross, find};
-use pls_view::LabelStore;
+use pls_streams::refusal_number::{NO_RING, REJECTS};
+use pls_streams::{NoMemory, Status};
 use std::alloc::Global;
 
 // Crosses the first two edges that may be; refuses what is no ring, and the first node that

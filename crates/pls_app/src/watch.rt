@@ -1,7 +1,7 @@
 //! The answer to `watch`.
 
 ghost use Rattle.std.specs.Prelude.{◌≡◌, ◌+◌, ◌++◌, ◌<◌, ◌≤◌, ◌^◌, ℕ, List, [], ◌∷◌, not, true, length, option_map, IfOk, IfSome, OnOk, None};
-ghost use Rattle.pls_model.specs.declared.limits.TheConstants.{MAX_BITS, MAX_LINES};
+ghost use Rattle.pls_configuration.specs.declared.limits.TheConstants.{MAX_BITS, MAX_LINES};
 ghost use Rattle.pls_sim.specs.declared.outcome.Outcome.{Outcome};
 ghost use Rattle.pls_watch_part.specs.WatchText.{total_bits};
 ghost use Rattle.pls_watch.specs.Labelled.{bits_given, labels_given};
@@ -15,14 +15,14 @@ ghost use Rattle.pls_app.specs.inner.Watching.{AreShown, HasRoomForEvents, IsWat
 use crate::answer::{Answer, Content, refuse};
 use crate::command::{Command, Task};
 use crate::growing_text::GrowingText;
-use pls_base::refusal_number::WATCH_EVENT;
-use pls_base::{Fault, NoMemory, Status, Steps, TextError};
 use pls_bits::NumCode;
 use pls_combine::AnyScheme;
 use pls_graph::Network;
+use pls_labels::LabelStore;
 use pls_report::{look_is_well, write_look};
 use pls_scheme::Checker;
-use pls_view::LabelStore;
+use pls_streams::refusal_number::WATCH_EVENT;
+use pls_streams::{Fault, NoMemory, Status, Steps, TextError};
 use pls_watch::{LookRows, Lookout, Watch, WatchEvent};
 use pls_watch_part::WatchLine;
 use std::alloc::Global;

@@ -10,7 +10,7 @@ use crate::bit_buf::BitBuf;
 use crate::cursor::Cursor;
 use crate::gamma::{Gamma, log_of_next};
 use crate::num_code::NumCode;
-use pls_base::NoMemory;
+use pls_streams::NoMemory;
 
 /// The delta code of Elias (1975, "Universal codeword sets and representations of the integers").
 /// The code of a number `x` is the gamma code of n = floor(log2(x + 1)) and then the last n binary

@@ -8,7 +8,7 @@ ghost use Rattle.pls_bits.specs.laws.GammaLaws.{gamma_code-grows, gamma_takes-co
 use crate::bit_buf::BitBuf;
 use crate::cursor::Cursor;
 use crate::num_code::{MAX_CODED, NumCode};
-use pls_base::NoMemory;
+use pls_streams::NoMemory;
 
 /// The gamma code of Elias (1975, "Universal codeword sets and representations of the integers").
 /// The code of a number `x` is floor(log2(x + 1)) zeros and then `x + 1` in binary: that of 0 is

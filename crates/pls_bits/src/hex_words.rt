@@ -9,7 +9,7 @@ ghost use Rattle.pls_bits.specs.inner.Word.{bits_of_word};
 
 use crate::hex_bytes::eight_bytes;
 use crate::words::make_room;
-use pls_base::NoMemory;
+use pls_streams::NoMemory;
 
 /// Appends the `len` bits whose hex text `digits` is to some words, from a word of their own on.
 /// The digits are not tested. It takes no memory where there is room, and for want of memory the

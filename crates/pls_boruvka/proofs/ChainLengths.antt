@@ -1,7 +1,7 @@
 -- Where no chain of pointers returns, each chain has a length, which is below the number of nodes.
 use Rattle.std.proofs.Common.{◌≡◌, ℕ, zero, suc, ◌+◌, ◌<◌, ◌⊎◌, inl, inr, List, [], ◌∷◌, length, Contains, Option, Some, None, refl, ap, arith}
-use Rattle.pls_model.specs.declared.row.NodeRow.{NodeRow}
-use Rattle.pls_model.specs.Configuration.{IsNetwork}
+use Rattle.pls_configuration.specs.declared.row.NodeRow.{NodeRow}
+use Rattle.pls_configuration.specs.Configuration.{IsNetwork}
 use Rattle.pls_facts.specs.Pointer.{Chain, Falls, IsChainOf, NoneReturns, SomeReturns, pointed_node}
 use Rattle.pls_facts.proofs.Bounded.{IsChainOf-short, LeadsRound-long, SomeReturns-LeadsRound}
 use Rattle.pls_facts.proofs.ChainDepths.{chains_fall}

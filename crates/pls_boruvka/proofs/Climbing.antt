@@ -5,8 +5,8 @@ use Rattle.std.proofs.lemmas.Bool.{cases_eq, cond-false, cond-true}
 use Rattle.std.proofs.lemmas.List.{length-set, length-replicate}
 use Rattle.std.proofs.lemmas.Option.{get_or_from_slice_get, same_Some, slice_get-get_or, slice_get_within}
 use Rattle.pls_graph.proofs.Finds.{None-replicate}
-use Rattle.pls_model.proofs.Paths.{Path-append}
-use Rattle.pls_model.specs.Path.{Path}
+use Rattle.pls_configuration.proofs.Paths.{Path-append}
+use Rattle.pls_configuration.specs.Path.{Path}
 use Rattle.pls_boruvka.specs.inner.Tops.{AreNotedTops, HasDepths, IsTop, parent_at, joined_parent}
 
 -- how many parents can be followed from a place, but no more than so many

@@ -6,7 +6,7 @@ use Rattle.std.proofs.lemmas.Bool.{cases_eq, cond-false, cond-true, eq-eqb, eqb-
 use Rattle.std.proofs.lemmas.List.{length-map}
 use Rattle.std.proofs.lemmas.List.Elements.{Contains-append_cases, Contains-append_left, Contains-append_right}
 use Rattle.std.proofs.lemmas.List.Kept.{AllPairs-filter}
-use Rattle.pls_model.specs.Walk.{Edge, Joins}
+use Rattle.pls_configuration.specs.Walk.{Edge, Joins}
 use Rattle.pls_graph.proofs.Joined.{AreJoined-adjacent}
 use Rattle.pls_graph.proofs.Members.{Contains-cons_cases, Contains-filter, Contains-from_filter, Contains-from_map, Contains-map}
 use Rattle.pls_facts.specs.SpanningTree.{AreDistinct}

@@ -1,7 +1,7 @@
 -- Where all edges that Borůvka's levels choose are edges of a spanning tree, none is lighter.
 use Rattle.std.proofs.Common.{◌≡◌, ℕ, ◌==◌, ◌⊎◌, inl, inr, Bool, List, [], ◌∷◌, ◌++◌, subst, arith, Contains}
 use Rattle.std.proofs.lemmas.List.Elements.{Contains-append_cases}
-use Rattle.pls_model.specs.Walk.{Edge}
+use Rattle.pls_configuration.specs.Walk.{Edge}
 use Rattle.pls_graph.proofs.Members.{Contains-first, Contains-from_map, Contains-later}
 use Rattle.pls_facts.specs.SpanningTree.{IsSpanningTree}
 use Rattle.pls_facts.specs.Lightest.{IsFirstLeaving, IsLightest}

@@ -1,8 +1,8 @@
 -- There is one answer for the levels of a network: two lists of levels that are right are equal.
 use Rattle.std.proofs.Common.{◌≡◌, ◌∙◌, ℕ, ◌==◌, inl, inr, Bool, List, [], ◌∷◌, ◌++◌, map, Contains, refl, sym, ap, subst, arith}
-use Rattle.pls_model.specs.declared.row.NodeRow.{NodeRow}
-use Rattle.pls_model.specs.Configuration.{IsNetwork, ids_of}
-use Rattle.pls_model.specs.Walk.{Edge, JoinAll, edges_of}
+use Rattle.pls_configuration.specs.declared.row.NodeRow.{NodeRow}
+use Rattle.pls_configuration.specs.Configuration.{IsNetwork, ids_of}
+use Rattle.pls_configuration.specs.Walk.{Edge, JoinAll, edges_of}
 use Rattle.pls_graph.proofs.Members.{Contains-first, Contains-later}
 use Rattle.pls_facts.specs.EdgeOrder.{ComesBefore}
 use Rattle.pls_facts.specs.Lightest.{IsEdgeOrder, IsFirstLeaving}

@@ -1,9 +1,9 @@
 -- The levels of Borůvka's method: on each, the fragments that earlier chosen edges join, and the
 -- edge that each of them chooses (Borůvka 1926, as told by Nešetřil, Milková and Nešetřilová 2001).
 use Rattle.std.specs.Prelude.{◌≡◌, ℕ, ◌==◌, List, [], ◌∷◌, ◌++◌, map, Contains}
-use Rattle.pls_model.specs.declared.row.NodeRow.{NodeRow}
-use Rattle.pls_model.specs.Configuration.{ids_of}
-use Rattle.pls_model.specs.Walk.{Edge, JoinAll, edges_of}
+use Rattle.pls_configuration.specs.declared.row.NodeRow.{NodeRow}
+use Rattle.pls_configuration.specs.Configuration.{ids_of}
+use Rattle.pls_configuration.specs.Walk.{Edge, JoinAll, edges_of}
 use Rattle.pls_facts.specs.EdgeOrder.{ComesBefore}
 use Rattle.pls_facts.specs.Lightest.{IsFirstLeaving}
 use Rattle.pls_facts.specs.Pointer.{IsChainOf}

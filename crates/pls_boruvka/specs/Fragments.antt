@@ -2,10 +2,10 @@
 -- (Borůvka 1926, as told by Nešetřil, Milková and Nešetřilová 2001).
 use Rattle.std.specs.Prelude.{◌≡◌, ℕ, ◌<◌, ◌⊎◌, Bool, false, if◌then◌else◌, List, length, filter, get_or, Contains, Option, Some, None, slice_get}
 use Rattle.std.specs.List.{filter_map}
-use Rattle.pls_model.specs.declared.row.NodeRow.{NodeRow}
-use Rattle.pls_model.specs.Walk.{Edge, AreJoined}
+use Rattle.pls_configuration.specs.declared.row.NodeRow.{NodeRow}
+use Rattle.pls_configuration.specs.Walk.{Edge, AreJoined}
 use Rattle.pls_graph.specs.Places.{place_in}
-use Rattle.pls_model.specs.Path.{Path}
+use Rattle.pls_configuration.specs.Path.{Path}
 use Rattle.pls_facts.specs.Pointer.{pointed_node}
 use Rattle.pls_facts.specs.SpanningTree.{pointed_edge}
 

@@ -1,8 +1,8 @@
 //! Levels upon levels, until one fragment holds all nodes.
 
 ghost use Rattle.std.specs.Prelude.{◌≡◌, ◌<◌, ◌≤◌, ◌^◌, List, replicate, length, All, IfOk, IfSome, IfNone, true, false};
-ghost use Rattle.pls_model.specs.Configuration.{ids_of};
-ghost use Rattle.pls_model.specs.Walk.{Edge, edges_of};
+ghost use Rattle.pls_configuration.specs.Configuration.{ids_of};
+ghost use Rattle.pls_configuration.specs.Walk.{Edge, edges_of};
 ghost use Rattle.pls_facts.specs.Lightest.{IsLightest, weight_of};
 ghost use Rattle.pls_facts.specs.SpanningTree.{IsSpanningTree, IsTree, pointed_edges};
 ghost use Rattle.pls_boruvka.specs.Boruvka.{AreLevelLists};
@@ -12,8 +12,8 @@ use crate::choosing::{choices_of, no_choices};
 use crate::joining::{chosen_of, join};
 use crate::level_lists::LevelLists;
 use crate::tops::{none_noted, parents_of, tops_with};
-use pls_base::NoMemory;
 use pls_graph::Network;
+use pls_streams::NoMemory;
 use std::alloc::Global;
 
 /// The levels of each node, in the order of the nodes, or `None` where some spanning tree is

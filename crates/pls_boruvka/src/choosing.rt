@@ -5,9 +5,9 @@ ghost use Rattle.pls_boruvka.specs.inner.Choices.{AreChoices, ChildOf, IsFirstOf
 ghost use Rattle.pls_boruvka.specs.inner.Tops.{AreParents};
 
 use crate::choice::{Choice, earlier, is_lighter};
-use pls_base::NoMemory;
+use pls_configuration::Port;
 use pls_graph::Network;
-use pls_model::Port;
+use pls_streams::NoMemory;
 use std::alloc::Global;
 
 // Puts at each fragment's top the first edge that leaves it, if any; `choices` is written anew.

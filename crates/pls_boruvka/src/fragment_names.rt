@@ -5,8 +5,8 @@ ghost use Rattle.pls_facts.specs.Pointer.{NoneReturns};
 ghost use Rattle.pls_boruvka.specs.Fragments.{AreFragmentNames};
 
 use crate::tops::{parents_of, tops_of};
-use pls_base::NoMemory;
 use pls_graph::Network;
+use pls_streams::NoMemory;
 use std::alloc::Global;
 
 /// For each node, in their order, the identity at which the chain ends that follows pointers only

@@ -5,8 +5,8 @@ ghost use Rattle.pls_boruvka.specs.inner.Chosen.{AreChildrenWithin, AreChosen, I
 
 use crate::choice::Choice;
 use crate::short_level::ShortLevel;
-use pls_base::NoMemory;
 use pls_graph::Network;
+use pls_streams::NoMemory;
 use std::alloc::Global;
 
 // What a level says of a node, and the place of the end of its chosen edge that points at the

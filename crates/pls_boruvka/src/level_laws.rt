@@ -1,7 +1,7 @@
 //! Laws of fragments and levels.
 
 ghost use Rattle.std.specs.Prelude.{◌≡◌, ℕ, Bool, List, get_or};
-ghost use Rattle.pls_model.specs.Configuration.{ids_of};
+ghost use Rattle.pls_configuration.specs.Configuration.{ids_of};
 ghost use Rattle.pls_graph.specs.Places.{place_in};
 ghost use Rattle.pls_boruvka.specs.declared.level.Level.{Level};
 ghost use Rattle.pls_boruvka.specs.Boruvka.{AreChainLengths, AreLevelLists};

@@ -5,7 +5,7 @@ ghost use Rattle.pls_boruvka.specs.inner.Chosen.{levels_said};
 
 use crate::joining::ChosenEnd;
 use crate::level_list::LevelList;
-use pls_base::NoMemory;
+use pls_streams::NoMemory;
 use std::alloc::Global;
 use std::marker::Model;
 use std::rc::Rc;

@@ -3,11 +3,11 @@
 
 ghost use Rattle.std.specs.Prelude.{◌≡◌, ◌<◌, ◌≤◌, length, IfOk};
 ghost use Rattle.pls_boruvka.specs.inner.Tops.{AreParents, AreTops, AreNotedTops, HasDepths, IsParentPlace, IsTop, joined_parent};
-ghost use Rattle.pls_model.specs.declared.limits.TheConstants.{MAX_NODES};
+ghost use Rattle.pls_configuration.specs.declared.limits.TheConstants.{MAX_NODES};
 
-use pls_base::NoMemory;
 use pls_graph::Network;
 use pls_search::pointed_place;
+use pls_streams::NoMemory;
 use std::alloc::Global;
 
 pub(crate) fn parents_of(alloc: Global, net: &Network) -> Result<Vec<Option<u32>>, NoMemory>

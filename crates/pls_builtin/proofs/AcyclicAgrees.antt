@@ -1,7 +1,7 @@
 -- The rule set `acyclic` judges as the scheme.
 use Rattle.std.proofs.Common.{ℕ, ◌+◌, Bool, length, refl, ap}
 use Rattle.std.specs.Prelude.{nat_le, if◌then◌else◌, ◌||◌, ◌==◌}
-use Rattle.pls_view.specs.Seen.{Seen}
+use Rattle.pls_labels.specs.Seen.{Seen}
 use Rattle.pls_numbers.specs.laws.FixedLaws.{are_numbers}
 use Rattle.pls_scheme.specs.Reading.{ReadPort}
 use Rattle.pls_facts.proofs.Sums.{eqb_turned}

@@ -1,7 +1,7 @@
 -- Rule sets that judge as a scheme does: the fields of a label are the numbers of what it says.
 use Rattle.std.proofs.Common.{◌≡◌, ◌∙◌, ℕ, suc, ◌<◌, Bool, List, [], ◌∷◌, length, map, Option, Some, None, option_map, refl, sym, ap, subst, arith}
 use Rattle.std.specs.Prelude.{IfSome, option_and_then}
-use Rattle.pls_view.specs.Seen.{Seen, SeenPort}
+use Rattle.pls_labels.specs.Seen.{Seen, SeenPort}
 use Rattle.pls_scheme.specs.Judging.{judged_from}
 use Rattle.pls_scheme.specs.Reading.{Read, ReadPort, judge_by, judged_read, read_port, read_ports, reading}
 use Rattle.pls_compile.specs.RuleMeaning.{Sight}

@@ -2,7 +2,7 @@
 use Rattle.std.proofs.Common.{◌≡◌, ℕ, Bool, true, false, List, [], ◌∷◌, length, Option, option_map, refl, arith}
 use Rattle.std.specs.Prelude.{not, ◌==◌}
 use Rattle.pls_bits.specs.Bytes.{weigh}
-use Rattle.pls_view.specs.Seen.{Seen}
+use Rattle.pls_labels.specs.Seen.{Seen}
 use Rattle.pls_colour.specs.Bipartite.{bipartite_rules, colour_of_numbers, colour_shape, differs_from, numbers_of_colour}
 use Rattle.pls_builtin.specs.Builtin.{bipartite_set}
 use Rattle.pls_numbers.specs.declared.kind.FieldKind.TheVariants.{Bit}

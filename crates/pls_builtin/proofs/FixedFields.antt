@@ -6,7 +6,7 @@ use Rattle.pls_numbers.specs.Fixed.{AreNumbers, fields_shape, fixed_shape, label
 use Rattle.pls_numbers.specs.Numbers.{left_in, left_within, with_number}
 use Rattle.pls_numbers.specs.Shape.{if_clean, said_by}
 use Rattle.pls_numbers.specs.laws.FixedLaws.{so_many-only}
-use Rattle.pls_view.specs.Seen.{Seen}
+use Rattle.pls_labels.specs.Seen.{Seen}
 use Rattle.pls_scheme.specs.Basic.{verdict_by}
 use Rattle.pls_scheme.specs.Reading.{Read, ReadPort, reading}
 use Rattle.pls_compile.specs.RuleMeaning.{Sight}

@@ -1,7 +1,7 @@
 -- The rule set `leader` judges as the scheme.
 use Rattle.std.proofs.Common.{◌+◌, Bool, length, refl, ap}
 use Rattle.std.specs.Prelude.{◌||◌, ◌==◌}
-use Rattle.pls_view.specs.Seen.{Seen}
+use Rattle.pls_labels.specs.Seen.{Seen}
 use Rattle.pls_numbers.specs.laws.FixedLaws.{are_numbers}
 use Rattle.pls_scheme.specs.Reading.{has_number}
 use Rattle.pls_facts.proofs.Sums.{eqb_turned}

@@ -1,7 +1,7 @@
 -- The sets by the names of the schemes as which they judge.
 use Rattle.std.proofs.Common.{◌≡◌, ◌∙◌, ℕ, Bool, List, length, Option, Some, sym, ap}
 use Rattle.std.proofs.lemmas.Option.{same_Some}
-use Rattle.pls_view.specs.Seen.{Seen}
+use Rattle.pls_labels.specs.Seen.{Seen}
 use Rattle.pls_names.specs.declared.scheme_name.SchemeName.{SchemeName}
 use Rattle.pls_names.specs.declared.scheme_name.SchemeName.TheVariants.{Acyclic, Bipartite, Count, Forest, Leader, MinimumSpanningTree, PathMax, ShortestPathTree, Tree}
 use Rattle.pls_names.specs.Named.{judge_named}

@@ -2,7 +2,7 @@
 use Rattle.std.proofs.Common.{◌+◌, Bool, length, refl, ap}
 use Rattle.std.specs.Prelude.{◌&&◌, ◌||◌, ◌==◌}
 use Rattle.std.specs.Option.{is_some}
-use Rattle.pls_view.specs.Seen.{Seen}
+use Rattle.pls_labels.specs.Seen.{Seen}
 use Rattle.pls_numbers.specs.laws.FixedLaws.{are_numbers}
 use Rattle.pls_scheme.specs.Reading.{ReadPort, has_number}
 use Rattle.pls_pointer.specs.Forest.{depth_label, forest_rules, forest_shape, numbers_of_depth}

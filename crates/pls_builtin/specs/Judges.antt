@@ -1,7 +1,7 @@
 -- Rule sets that judge as a scheme does.
 use Rattle.std.specs.Prelude.{◌≡◌, ℕ, Bool, List, Option, Some}
 use Rattle.pls_numbers.specs.Shape.{Shape}
-use Rattle.pls_view.specs.Seen.{Seen}
+use Rattle.pls_labels.specs.Seen.{Seen}
 use Rattle.pls_scheme.specs.Basic.{verdict_by}
 use Rattle.pls_scheme.specs.Reading.{Read}
 use Rattle.pls_names.specs.declared.scheme_name.SchemeName.{SchemeName}

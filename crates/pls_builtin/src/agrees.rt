@@ -12,8 +12,8 @@ ghost use Rattle.pls_rules.specs.RuleSet.{AreRules};
 ghost use Rattle.pls_builtin.specs.Builtin.{acyclic_set, bipartite_set, count_set, forest_set, leader_set, set_named, spt_set, tree_set};
 ghost use Rattle.pls_builtin.specs.Judges.{JudgesAs, JudgesAsNamed};
 
+use pls_labels::View;
 use pls_names::SchemeName;
-use pls_view::View;
 
 /// The sets that have names judge a view as the schemes of these names, the number of the rule that
 /// rejects included, in every number code.

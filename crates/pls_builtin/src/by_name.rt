@@ -6,9 +6,9 @@ ghost use Rattle.pls_rules.specs.RuleSet.{AreRules};
 ghost use Rattle.pls_builtin.specs.Builtin.{name_with_set, set_named, set_of_name};
 
 use crate::sets::{acyclic, bipartite, count, forest, leader, spt, tree};
-use pls_base::NoMemory;
 use pls_names::SchemeName;
 use pls_rules::RuleSet;
+use pls_streams::NoMemory;
 use std::alloc::Global;
 
 /// The rule set of a name, which makes sense, and `None` where no set has the name; `Err` where

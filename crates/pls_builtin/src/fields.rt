@@ -3,8 +3,8 @@
 ghost use Rattle.std.specs.Prelude.{◌≡◌, IfOk};
 ghost use Rattle.pls_builtin.specs.Builtin.{field, number};
 
-use pls_base::NoMemory;
 use pls_rules::{Field, FieldKind, Name};
+use pls_streams::NoMemory;
 use std::alloc::Global;
 
 pub(crate) fn field(alloc: Global, name: &str, kind: FieldKind) -> Result<Field, NoMemory>

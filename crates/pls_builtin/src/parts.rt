@@ -5,8 +5,8 @@ ghost use Rattle.pls_rules.specs.Formula.{Add, Either, Eq, My, Nb, Number, Point
 ghost use Rattle.pls_rules.specs.HeldTrees.{formula_of};
 
 use crate::trees::{either, equal, plus};
-use pls_base::NoMemory;
 use pls_rules::{BoolExpr, NumExpr};
+use pls_streams::NoMemory;
 use std::alloc::Global;
 
 // A neighbour has the node's value in the field.

@@ -8,8 +8,8 @@ ghost use Rattle.pls_builtin.specs.Builtin.{acyclic_set, bipartite_set, count_se
 use crate::fields::{field, number};
 use crate::parts::{is_deeper, is_nearer, is_shared, is_zero, points_nowhere_or, points_or};
 use crate::trees::{at_most, both, either, equal, every, less, no, plus, same, some, sum};
-use pls_base::NoMemory;
 use pls_rules::{BoolExpr, FieldKind, NumExpr, RuleSet};
+use pls_streams::NoMemory;
 use std::alloc::Global;
 
 pub(crate) fn leader(alloc: Global) -> Result<RuleSet, NoMemory>

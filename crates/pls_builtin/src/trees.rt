@@ -4,8 +4,8 @@ ghost use Rattle.std.specs.Prelude.{◌≡◌, IfOk};
 ghost use Rattle.pls_rules.specs.Formula.{Add, All, Any, Both, Either, Eq, Le, Lt, Not, Same, Sum};
 ghost use Rattle.pls_rules.specs.HeldTrees.{formula_of, term_of};
 
-use pls_base::NoMemory;
 use pls_rules::{BoolExpr, NumExpr};
+use pls_streams::NoMemory;
 use std::alloc::Global;
 
 pub(crate) fn equal(alloc: Global, first: NumExpr, second: NumExpr) -> Result<BoolExpr, NoMemory>

@@ -2,9 +2,9 @@
 -- that part; the parts of more than half get smaller, so one node leaves none (Jordan 1869).
 use Rattle.std.proofs.Common.{◌≡◌, ◌≢◌, ◌∙◌, ℕ, zero, suc, ◌+◌, ◌*◌, ◌<◌, ◌≤◌, ◌==◌, ◌⊎◌, inl, inr, nat_le, Bool, true, false, ◌||◌, List, [], ◌∷◌, length, slice_get, Contains, Option, Some, None, refl, sym, ap, subst, arith}
 use Rattle.std.proofs.lemmas.Bool.{cases_Bool, cases_eq, eq-eqb, eqb-true, eqb-false, leb-false, ne_eqb, true≢false}
-use Rattle.pls_model.specs.declared.row.NodeRow.{NodeRow}
-use Rattle.pls_model.specs.Configuration.{IsNetwork, ids_of}
-use Rattle.pls_model.specs.Walk.{Edge, Adjacent, AreJoined}
+use Rattle.pls_configuration.specs.declared.row.NodeRow.{NodeRow}
+use Rattle.pls_configuration.specs.Configuration.{IsNetwork, ids_of}
+use Rattle.pls_configuration.specs.Walk.{Edge, Adjacent, AreJoined}
 use Rattle.pls_graph.proofs.Finds.{fails_where_none}
 use Rattle.pls_graph.proofs.Joined.{AreJoined-adjacent, AreJoined-through}
 use Rattle.pls_graph.proofs.Members.{Contains-cons_cases, place_from_Contains}

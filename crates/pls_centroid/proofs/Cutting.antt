@@ -4,13 +4,13 @@ use Rattle.std.proofs.Common.{◌≡◌, ◌∙◌, ℕ, zero, suc, ◌<◌, inl
 use Rattle.std.specs.List.{filter}
 use Rattle.std.specs.Option.{option_and_then}
 use Rattle.std.proofs.lemmas.Option.{get_or_from_slice_get, same_Some, slice_get-get_or, slice_get_within}
-use Rattle.pls_model.specs.declared.row.NodeRow.{NodeRow}
-use Rattle.pls_model.specs.Configuration.{IsNetwork, ids_of}
-use Rattle.pls_model.specs.Walk.{Edge, Adjacent, AreJoined}
+use Rattle.pls_configuration.specs.declared.row.NodeRow.{NodeRow}
+use Rattle.pls_configuration.specs.Configuration.{IsNetwork, ids_of}
+use Rattle.pls_configuration.specs.Walk.{Edge, Adjacent, AreJoined}
 use Rattle.pls_graph.proofs.Finds.{item_at}
 use Rattle.pls_graph.proofs.Joined.{AreJoined-through, AreJoined-turned}
 use Rattle.pls_graph.proofs.Members.{Contains-from_place}
-use Rattle.pls_model.specs.Path.{Path}
+use Rattle.pls_configuration.specs.Path.{Path}
 use Rattle.pls_facts.specs.Parents.{ChainMeets}
 use Rattle.pls_facts.specs.Pointer.{Falls}
 use Rattle.pls_facts.specs.SpanningTree.{IsTree, pointed_edges}

@@ -4,9 +4,9 @@ use Rattle.std.specs.Option.{option_map_or}
 use Rattle.std.proofs.lemmas.Bool.{and_from, and_parts, cases_Bool, le-leb, leb-true, true≢false}
 use Rattle.std.proofs.lemmas.List.{length-set}
 use Rattle.std.proofs.lemmas.Option.{same_Some, slice_get-get_or, slice_get_within}
-use Rattle.pls_model.specs.declared.row.NodeRow.{NodeRow}
-use Rattle.pls_model.specs.Configuration.{ids_of}
-use Rattle.pls_model.specs.Walk.{Edge, Adjacent}
+use Rattle.pls_configuration.specs.declared.row.NodeRow.{NodeRow}
+use Rattle.pls_configuration.specs.Configuration.{ids_of}
+use Rattle.pls_configuration.specs.Walk.{Edge, Adjacent}
 use Rattle.pls_facts.proofs.Neighbours.{adjacent_known}
 use Rattle.pls_facts.proofs.PointedEdges.{pointed_among}
 use Rattle.pls_search.specs.SubtreeSizes.{AreSubtreeSizes, HasParentAt}

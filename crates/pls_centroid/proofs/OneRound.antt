@@ -1,8 +1,8 @@
 -- One round, by what was found on the way to it.
 use Rattle.std.proofs.Common.{ℕ, suc, Bool, List, Option, sym, subst, arith}
 use Rattle.std.proofs.lemmas.Option.{slice_get_within}
-use Rattle.pls_model.specs.declared.row.NodeRow.{NodeRow}
-use Rattle.pls_model.specs.Walk.{Edge}
+use Rattle.pls_configuration.specs.declared.row.NodeRow.{NodeRow}
+use Rattle.pls_configuration.specs.Walk.{Edge}
 use Rattle.pls_centroid.specs.declared.level.CentroidLevel.{CentroidLevel}
 use Rattle.pls_centroid.specs.declared.reaching.Way.{Way}
 use Rattle.pls_centroid.specs.inner.Cut.{id_at}

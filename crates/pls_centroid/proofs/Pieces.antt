@@ -4,7 +4,7 @@ use Rattle.std.proofs.Common.{◌≡◌, ◌≢◌, ◌∙◌, ℕ, ◌==◌, �
 use Rattle.std.specs.List.{filter}
 use Rattle.std.specs.Option.{option_map_or}
 use Rattle.std.proofs.lemmas.Bool.{eq-eqb, eqb-true, leb-true, or_cases, true≢false}
-use Rattle.pls_model.specs.Walk.{Edge, Adjacent, AreJoined, Walk}
+use Rattle.pls_configuration.specs.Walk.{Edge, Adjacent, AreJoined, Walk}
 use Rattle.pls_graph.proofs.Finds.{found_place}
 use Rattle.pls_graph.proofs.Members.{Contains-filter, Contains-first, Contains-from_filter, Contains-from_place, Contains-later}
 use Rattle.pls_facts.specs.Classes.{class_of}

@@ -2,9 +2,9 @@
 -- what the rounds say of a node one after another are its levels.
 use Rattle.std.proofs.Common.{◌≡◌, ◌∙◌, ℕ, zero, suc, inl, inr, true, false, List, [], ◌∷◌, Contains, Option, Some, None, refl, sym, subst}
 use Rattle.std.proofs.lemmas.Bool.{cases_Bool, cases_eq, true≢false}
-use Rattle.pls_model.specs.declared.row.NodeRow.{NodeRow}
-use Rattle.pls_model.specs.Configuration.{IsNetwork, ids_of}
-use Rattle.pls_model.specs.Walk.{Edge, Adjacent, AreJoined}
+use Rattle.pls_configuration.specs.declared.row.NodeRow.{NodeRow}
+use Rattle.pls_configuration.specs.Configuration.{IsNetwork, ids_of}
+use Rattle.pls_configuration.specs.Walk.{Edge, Adjacent, AreJoined}
 use Rattle.pls_facts.specs.SpanningTree.{IsTree, pointed_edges}
 use Rattle.pls_centroid.specs.Centroid.{centroid_of, is_centroid}
 use Rattle.pls_centroid.specs.Levels.{AreLevelsFrom}

@@ -2,9 +2,9 @@
 -- has the centroid.
 use Rattle.std.proofs.Common.{◌≡◌, ◌≢◌, ◌∙◌, ℕ, ◌+◌, ◌<◌, ◌≤◌, ◌==◌, max, inl, inr, false, List, [], ◌∷◌, length, Contains, Option, refl, sym, ap, arith}
 use Rattle.std.proofs.lemmas.Bool.{eq-eqb, ne_eqb, true≢false}
-use Rattle.pls_model.specs.declared.row.NodeRow.{NodeRow}
-use Rattle.pls_model.specs.Configuration.{IsNetwork, ids_of}
-use Rattle.pls_model.specs.Walk.{Edge, Adjacent, AreJoined}
+use Rattle.pls_configuration.specs.declared.row.NodeRow.{NodeRow}
+use Rattle.pls_configuration.specs.Configuration.{IsNetwork, ids_of}
+use Rattle.pls_configuration.specs.Walk.{Edge, Adjacent, AreJoined}
 use Rattle.pls_graph.proofs.Joined.{Adjacent-turned, AreJoined-turned}
 use Rattle.pls_facts.specs.Parents.{ChainMeets}
 use Rattle.pls_facts.specs.Path.{IsPath}

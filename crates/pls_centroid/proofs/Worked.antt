@@ -1,6 +1,6 @@
 -- Centroids and levels at worked examples.
 use Rattle.std.proofs.Common.{◌≡◌, ℕ, List, [], ◌∷◌, Some, true, false, refl}
-use Rattle.pls_model.specs.Walk.{Edge}
+use Rattle.pls_configuration.specs.Walk.{Edge}
 use Rattle.pls_centroid.specs.Centroid.{centroid_of, is_central, next_edges}
 
 abbrev edge : ℕ → ℕ → Edge

@@ -1,9 +1,9 @@
 -- The centroid levels of a tree of pointers: on the first level all nodes are one piece, and the
 -- parts that a piece falls into without its centroid are the pieces of the next level.
 use Rattle.std.specs.Prelude.{◌≡◌, ◌≢◌, ℕ, max, ◌⊎◌, List, [], ◌∷◌, length, slice_get, Some}
-use Rattle.pls_model.specs.declared.row.NodeRow.{NodeRow}
-use Rattle.pls_model.specs.Configuration.{ids_of}
-use Rattle.pls_model.specs.Walk.{Edge}
+use Rattle.pls_configuration.specs.declared.row.NodeRow.{NodeRow}
+use Rattle.pls_configuration.specs.Configuration.{ids_of}
+use Rattle.pls_configuration.specs.Walk.{Edge}
 use Rattle.pls_facts.specs.Path.{IsPath}
 use Rattle.pls_facts.specs.SpanningTree.{pointed_edges}
 use Rattle.pls_facts.specs.Weight.{edge_weight}

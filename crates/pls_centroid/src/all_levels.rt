@@ -14,9 +14,9 @@ use crate::level::CentroidLevel;
 use crate::level_entry::LevelEntry;
 use crate::rooted::{order_of, parents_of, weights_of};
 use crate::round::round_of;
-use pls_base::NoMemory;
 use pls_graph::Network;
 use pls_search::pointer_depths;
+use pls_streams::NoMemory;
 use std::alloc::Global;
 
 /// The centroid levels of each node, in the order of the nodes, of a network whose pointers make a

@@ -2,13 +2,13 @@
 //! all others.
 
 ghost use Rattle.std.specs.Prelude.{◌≡◌, ◌<◌, All, List, length, IfOk};
-ghost use Rattle.pls_model.specs.declared.row.NodeRow.{NodeRow};
-ghost use Rattle.pls_model.specs.Walk.{Edge};
+ghost use Rattle.pls_configuration.specs.declared.row.NodeRow.{NodeRow};
+ghost use Rattle.pls_configuration.specs.Walk.{Edge};
 ghost use Rattle.pls_search.specs.SubtreeSizes.{AreParentsWithin};
 ghost use Rattle.pls_centroid.specs.inner.Reaching.{AreStarted, AreWaysOf, IsNotedDown, IsNotedUp, behind, start_at, way_by};
 ghost use Rattle.pls_centroid.specs.inner.Rooted.{AreBehindParents, AreCentroidsOf, AreWeightsUp, IsStage};
 
-use pls_base::NoMemory;
+use pls_streams::NoMemory;
 use std::alloc::Global;
 
 // The way from a place to the centroid of its piece.

@@ -9,8 +9,8 @@ ghost use Rattle.pls_centroid.specs.inner.Rounds.{AreSaidAt, AreTaken, AreTakenT
 use crate::level_entry::LevelEntry;
 use crate::reaching::{Way, ways_of};
 use crate::splitting::{centroids_of, parents_left, tops_of};
-use pls_base::NoMemory;
 use pls_graph::Network;
+use pls_streams::NoMemory;
 use std::alloc::Global;
 
 // What a level says of each node, and which nodes have been centroids then.

@@ -1,14 +1,14 @@
 //! The pieces of a level, and their centroids.
 
 ghost use Rattle.std.specs.Prelude.{◌≡◌, ◌<◌, ◌≤◌, ◌*◌, ◌&&◌, nat_le, All, ℕ, List, Some, length, slice_get, IfOk};
-ghost use Rattle.pls_model.specs.declared.row.NodeRow.{NodeRow};
-ghost use Rattle.pls_model.specs.Walk.{Edge};
+ghost use Rattle.pls_configuration.specs.declared.row.NodeRow.{NodeRow};
+ghost use Rattle.pls_configuration.specs.Walk.{Edge};
 ghost use Rattle.pls_facts.specs.Parents.{NoParentsReturn};
 ghost use Rattle.pls_search.specs.SubtreeSizes.{AreParentsWithin, HasParentAt};
 ghost use Rattle.pls_centroid.specs.inner.Rooted.{AreBehindParents, AreCentroidsOf, AreGreatestBelow, AreLeft, AreTopsOf, IsStage, first_of, left_of, top_by};
 
-use pls_base::NoMemory;
 use pls_search::subtree_sizes;
+use pls_streams::NoMemory;
 use std::alloc::Global;
 
 // `None` for a taken place, and where its parent is taken.

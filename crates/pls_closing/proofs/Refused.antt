@@ -1,8 +1,8 @@
 -- Why lines are refused, by how many there are.
 use Rattle.std.proofs.Common.{◌≡◌, ℕ, Result, Ok, Err, sym, subst, refl, inl, inr, arith}
 use Rattle.std.specs.Result.{IfErr, IsErrAnd}
-use Rattle.pls_base.specs.declared.text_error.TextError.{TextError}
-use Rattle.pls_base.specs.declared.text_error.TextError.TheVariants.{Form, Limit, NoMemory, Sense}
+use Rattle.pls_streams.specs.declared.text_error.TextError.{TextError}
+use Rattle.pls_streams.specs.declared.text_error.TextError.TheVariants.{Form, Limit, NoMemory, Sense}
 use Rattle.pls_closing.specs.Closing.{AreFew, IsBeyond, IsLinesRefusal}
 
 module _ (lines closing : ℕ) where

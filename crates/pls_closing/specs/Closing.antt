@@ -1,9 +1,9 @@
 -- Lists whose last item closes what stands before it.
 use Rattle.std.specs.Prelude.{◌≡◌, ◌⊎◌, ℕ, ◌<◌, ◌≤◌, Bool, true, List, [], ◌∷◌, All, filter}
-use Rattle.pls_base.specs.declared.text_error.TextError.{TextError}
-use Rattle.pls_base.specs.declared.text_error.TextError.TheVariants.{Limit, NoMemory}
-use Rattle.pls_base.specs.declared.text_error.Quantity.TheVariants.{Events, Rounds}
-use Rattle.pls_model.specs.declared.limits.TheConstants.{MAX_LINES, MAX_ROUNDS}
+use Rattle.pls_streams.specs.declared.text_error.TextError.{TextError}
+use Rattle.pls_streams.specs.declared.text_error.TextError.TheVariants.{Limit, NoMemory}
+use Rattle.pls_streams.specs.declared.text_error.Quantity.TheVariants.{Events, Rounds}
+use Rattle.pls_configuration.specs.declared.limits.TheConstants.{MAX_LINES, MAX_ROUNDS}
 
 -- the last item closes; where there is none, whether there may be none
 abbrev pub is_closed : {X : Type 0} → (X → Bool) → Bool → List X → Bool

@@ -3,8 +3,8 @@
 ghost use Rattle.std.specs.Prelude.{◌≡◌, ℕ, Bool, IfOk};
 ghost use Rattle.pls_closing.specs.Closing.{HasClosing};
 
-use pls_base::NoMemory;
 use pls_lines::LineKind;
+use pls_streams::NoMemory;
 use std::alloc::Global;
 
 /// A kind of line of which some close what stands before them.

@@ -1,8 +1,8 @@
 //! Parts whose last line closes them, and what is counted of their lines.
 
 use crate::closing_line::{ClosingLine, OwnLine};
-use pls_base::NoMemory;
 use pls_lines::{BareHeading, HeadingWord, Keep, ListTally};
+use pls_streams::NoMemory;
 use std::alloc::Global;
 use std::marker::PhantomData;
 
@@ -25,7 +25,7 @@ pub struct ClosingTally<W, K> {
 
 impl<'a, W: HeadingWord, K: ClosingLine<'a>> ListTally<'a> for ClosingTally<W, K> {
     ghost use Rattle.std.specs.Prelude.{length, filter, sum_by};
-    ghost use Rattle.pls_base.specs.Steps.{capped};
+    ghost use Rattle.pls_streams.specs.Steps.{capped};
     ghost use Rattle.pls_lines.specs.Counted.{counted};
     ghost use Rattle.pls_closing.specs.Closing.{AreClosed, closing_of, is_closed};
     ghost use Rattle.pls_closing.specs.laws.ClosedLists.{closed_list};

@@ -15,5 +15,5 @@ mod limits;
 pub use closing_line::{ClosingLine, OwnLine};
 pub use closing_tally::ClosingTally;
 pub use limits::check_limits;
-pub use pls_base::{Quantity, TextError};
-pub use pls_model::{MAX_LINES, MAX_ROUNDS};
+pub use pls_configuration::{MAX_LINES, MAX_ROUNDS};
+pub use pls_streams::{Quantity, TextError};

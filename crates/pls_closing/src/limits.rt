@@ -1,11 +1,11 @@
 //! The limits of a part whose last line closes it.
 
 ghost use Rattle.std.specs.Prelude.{◌≡◌, ℕ, IfErr, OnOk};
-ghost use Rattle.pls_base.specs.Steps.{capped};
+ghost use Rattle.pls_streams.specs.Steps.{capped};
 ghost use Rattle.pls_closing.specs.Closing.{AreFew, IsBeyond};
 
-use pls_base::{Quantity, TextError};
-use pls_model::{MAX_LINES, MAX_ROUNDS};
+use pls_configuration::{MAX_LINES, MAX_ROUNDS};
+use pls_streams::{Quantity, TextError};
 
 /// Whether so many lines, and so many that close, are within their limits. The counts are those of
 /// a [`ClosingTally`](crate::ClosingTally), which stop at `u64::MAX`.

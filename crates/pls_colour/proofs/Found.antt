@@ -1,7 +1,7 @@
 -- What is found of the levels of a connected network.
 use Rattle.std.proofs.Common.{◌≡◌, ◌∙◌, ℕ, List, map, Option, Some, None, unwrap_or, slice_get, sym, refl}
-use Rattle.pls_model.specs.declared.row.NodeRow.{NodeRow}
-use Rattle.pls_model.specs.Walk.{IsConnected}
+use Rattle.pls_configuration.specs.declared.row.NodeRow.{NodeRow}
+use Rattle.pls_configuration.specs.Walk.{IsConnected}
 use Rattle.pls_graph.specs.Levels.{AreLevels}
 use Rattle.pls_scheme.specs.Marked.{AreRight}
 use Rattle.pls_scheme.proofs.Markings.{right_map}

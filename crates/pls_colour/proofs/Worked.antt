@@ -1,8 +1,8 @@
 -- What nodes judge, at worked examples.
 use Rattle.std.proofs.Common.{◌≡◌, ◌==◌, ℕ, map, Bool, List, [], ◌∷◌, None, refl}
 use Rattle.std.specs.Prelude.{codes}
-use Rattle.pls_model.specs.declared.verdict.Verdict.TheVariants.{Accept, Reject}
-use Rattle.pls_view.specs.Seen.{Seen, SeenPort}
+use Rattle.pls_configuration.specs.declared.verdict.Verdict.TheVariants.{Accept, Reject}
+use Rattle.pls_labels.specs.Seen.{Seen, SeenPort}
 use Rattle.pls_bits.specs.Gamma.{gamma_takes}
 use Rattle.pls_numbers.specs.Numbers.{left_in}
 use Rattle.pls_scheme.specs.Basic.{verdict_by}

@@ -2,7 +2,7 @@
 -- labels. The property is that no edges make a cycle through three or more nodes.
 use Rattle.std.specs.Prelude.{ℕ, ◌+◌, ◌==◌, nat_le, Bool, ◌||◌, List, [], ◌∷◌, count_by, get_or}
 use Rattle.std.specs.List.{list_all}
-use Rattle.pls_model.specs.declared.row.NodeRow.{NodeRow}
+use Rattle.pls_configuration.specs.declared.row.NodeRow.{NodeRow}
 use Rattle.pls_graph.specs.declared.size.Size.{Size}
 use Rattle.pls_numbers.specs.Fixed.{fixed_shape}
 use Rattle.pls_numbers.specs.Shape.{Shape}

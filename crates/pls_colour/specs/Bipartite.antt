@@ -2,7 +2,7 @@
 -- property is that the nodes can be given two colours so that the ends of each edge differ.
 use Rattle.std.specs.Prelude.{ℕ, zero, suc, Bool, true, false, List, [], ◌∷◌, Option, Some, None}
 use Rattle.std.specs.List.{list_all}
-use Rattle.pls_model.specs.declared.row.NodeRow.{NodeRow}
+use Rattle.pls_configuration.specs.declared.row.NodeRow.{NodeRow}
 use Rattle.pls_bits.specs.Bytes.{weigh}
 use Rattle.pls_graph.specs.declared.size.Size.{Size}
 use Rattle.pls_numbers.specs.Shape.{Shape}

@@ -1,7 +1,7 @@
 -- Labels that say levels.
 use Rattle.std.specs.Prelude.{◌≡◌, ℕ, List, slice_get, Some}
-use Rattle.pls_model.specs.declared.row.NodeRow.{NodeRow}
-use Rattle.pls_model.specs.Walk.{edges_of}
+use Rattle.pls_configuration.specs.declared.row.NodeRow.{NodeRow}
+use Rattle.pls_configuration.specs.Walk.{edges_of}
 use Rattle.pls_graph.specs.Levels.{IsLevel}
 
 -- the label of a node is the one for its level: its distance in edges from the node whose identity

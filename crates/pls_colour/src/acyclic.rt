@@ -5,7 +5,7 @@ ghost use Rattle.pls_colour.specs.Acyclic.{is_above, is_beside};
 ghost use Rattle.pls_scheme.specs.Reading.{port_with};
 
 use pls_bits::NumCode;
-use pls_model::State;
+use pls_configuration::State;
 use pls_scheme::{
     Judgement, NumbersFormat, OfNumbers, RuleScheme, Rules, Verdict, is_one_more, judged_from,
 };

@@ -2,11 +2,11 @@
 
 use crate::acyclic::{AcyclicRules, CycleLabel};
 use crate::level_labels::{SaysLevels, level_labels};
-use pls_base::NoMemory;
 use pls_bits::NumCode;
 use pls_facts::is_valid;
 use pls_graph::{Network, Size};
 use pls_scheme::{Marker, codes_length, hold_everywhere};
+use pls_streams::NoMemory;
 use std::alloc::Global;
 
 impl<C: NumCode> SaysLevels for AcyclicRules<C> {

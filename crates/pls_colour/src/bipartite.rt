@@ -5,7 +5,7 @@ ghost use Rattle.pls_facts.specs.Bipartite.{differ};
 
 use crate::colour_format::{ColourFormat, ColourLabel};
 use pls_bits::{Gamma, NumCode};
-use pls_model::State;
+use pls_configuration::State;
 use pls_scheme::{Judgement, RuleScheme, Rules, Verdict, judged_from};
 use std::marker::PhantomData;
 

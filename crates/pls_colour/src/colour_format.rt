@@ -1,8 +1,8 @@
 //! Labels that are one colour.
 
-use pls_base::NoMemory;
 use pls_bits::{BitBuf, Bits, NumCode};
 use pls_numbers::{Format, ReadsInPlace};
+use pls_streams::NoMemory;
 use std::alloc::Global;
 
 /// What a label says: one of two colours.

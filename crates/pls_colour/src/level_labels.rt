@@ -1,16 +1,16 @@
 //! Labels that say the levels of a network's nodes.
 
 ghost use Rattle.std.specs.Prelude.{◌≡◌, ℕ, map, unwrap_or, IfOk};
-ghost use Rattle.pls_model.specs.Walk.{IsConnected};
+ghost use Rattle.pls_configuration.specs.Walk.{IsConnected};
 ghost use Rattle.pls_scheme.specs.Marked.{AreRight};
 ghost use Rattle.pls_colour.specs.Levelled.{saying_level};
 
-use pls_base::NoMemory;
 use pls_facts::is_valid;
 use pls_graph::Network;
 use pls_numbers::Format;
 use pls_scheme::Judgement;
 use pls_search::levels;
+use pls_streams::NoMemory;
 use std::alloc::Global;
 
 // Rules on labels that say levels.

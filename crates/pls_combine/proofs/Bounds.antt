@@ -3,9 +3,9 @@ use Rattle.std.proofs.Common.{ℕ, ◌+◌, ◌*◌, ◌^◌, ◌≤◌, Bool, L
 use Rattle.std.proofs.Common.{mul-le-mul}
 use Rattle.pls_bits.specs.NumberCode.{IsShort}
 use Rattle.std.proofs.lemmas.List.Elements.{All-contains}
-use Rattle.pls_model.specs.declared.limits.TheConstants.{MAX_NUM, MAX_PORTS}
-use Rattle.pls_model.specs.declared.row.NodeRow.{NodeRow}
-use Rattle.pls_model.specs.Configuration.{IsNetwork}
+use Rattle.pls_configuration.specs.declared.limits.TheConstants.{MAX_NUM, MAX_PORTS}
+use Rattle.pls_configuration.specs.declared.row.NodeRow.{NodeRow}
+use Rattle.pls_configuration.specs.Configuration.{IsNetwork}
 use Rattle.pls_graph.specs.Size.{size_of}
 use Rattle.pls_facts.proofs.Greatest.{greatest_in_sum, greatest_within}
 use Rattle.pls_universal.specs.Bound.{longest_map}

@@ -2,10 +2,10 @@
 -- long they are. The view of a part is the same view with each label replaced by its part. A
 -- property that has no scheme of its own is judged and marked as its `map` is.
 use Rattle.std.specs.Prelude.{ℕ, ◌+◌, ◌&&◌, true, false, Bool, List, Option}
-use Rattle.pls_model.specs.declared.row.NodeRow.{NodeRow}
-use Rattle.pls_model.specs.declared.verdict.Verdict.{Verdict}
+use Rattle.pls_configuration.specs.declared.row.NodeRow.{NodeRow}
+use Rattle.pls_configuration.specs.declared.verdict.Verdict.{Verdict}
 use Rattle.pls_graph.specs.declared.size.Size.{Size}
-use Rattle.pls_view.specs.Seen.{Seen}
+use Rattle.pls_labels.specs.Seen.{Seen}
 use Rattle.pls_numbers.specs.Shape.{IsSpelled, said_by}
 use Rattle.pls_scheme.specs.Marked.{IsMarkedBy}
 use Rattle.pls_scheme.specs.Reading.{judge_by}

@@ -8,14 +8,14 @@ ghost use Rattle.pls_expressions.specs.Held.{expression_of};
 
 use crate::rounds::round_of;
 use crate::scheme_tree::{bound_of, leaves_of, lends_of, map_of, mark_tree, verify_tree};
-use pls_base::{NoMemory, Steps};
 use pls_bits::{BitBuf, Bits, NumCode};
+use pls_configuration::Verdict;
 use pls_expressions::{ExpressionTree, decide_tree};
 use pls_graph::{Network, Size};
-use pls_model::Verdict;
+use pls_labels::{LabelStore, Labels, View};
 use pls_names::{SchemeByName, SchemeName};
 use pls_scheme::{Checker, Property, Scheme};
-use pls_view::{LabelStore, Labels, View};
+use pls_streams::{NoMemory, Steps};
 use std::alloc::Global;
 use std::marker::{Model, PhantomData};
 

@@ -7,14 +7,14 @@ ghost use Rattle.pls_expressions.specs.Held.{expression_of};
 ghost use Rattle.pls_combine.specs.Converted.{all_converted, converted, first_unreadable};
 
 use crate::any_scheme::AnyScheme;
-use pls_base::NoMemory;
 use pls_bits::{BitBuf, Bits, NumCode};
 use pls_expressions::ExpressionTree;
+use pls_labels::LabelStore;
 use pls_names::SchemeByName;
 use pls_numbers::recode;
 use pls_parts::{joined_bits, parts, tagged_bits};
+use pls_streams::NoMemory;
 use pls_universal::{MapFormat, recode_beside};
-use pls_view::LabelStore;
 use std::alloc::Global;
 
 impl<C: NumCode> AnyScheme<C> {

@@ -2,21 +2,21 @@
 //! judged each in a round of its own, and the verdicts are joined.
 
 ghost use Rattle.std.specs.Prelude.{◌≡◌, ◌≤◌, true, All, length, IfOk};
-ghost use Rattle.pls_base.specs.Steps.{up_by};
+ghost use Rattle.pls_streams.specs.Steps.{up_by};
 ghost use Rattle.pls_scheme.specs.Judging.{LeafWithin, RoseByAtMost, verdicts_by};
 ghost use Rattle.pls_combine.specs.Expression.{judge_map, judge_of, leaves_of};
 ghost use Rattle.pls_expressions.specs.Held.{expression_of};
 
 use crate::scheme_tree::{leaves_of, map_of};
-use pls_base::{NoMemory, Steps};
 use pls_bits::NumCode;
+use pls_configuration::Verdict;
 use pls_expressions::ExpressionTree;
 use pls_graph::Network;
-use pls_model::Verdict;
+use pls_labels::{Labels, LentLabels};
 use pls_names::SchemeByName;
 use pls_parts::{both_verdicts, lend_all, one_of_verdicts, part_all, rests_of, some_true, tags_of};
 use pls_scheme::Checker;
-use pls_view::{Labels, LentLabels};
+use pls_streams::{NoMemory, Steps};
 use std::alloc::Global;
 
 // Adds one step per node.

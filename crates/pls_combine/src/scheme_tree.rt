@@ -2,27 +2,27 @@
 
 ghost use Rattle.std.specs.Prelude.{◌≡◌, true, ◌≤◌, ◌↔◌, length, All, IsOk, IfOk, IsTrue, IfSome, IfNone};
 ghost use Rattle.pls_graph.specs.Size.{size_of};
-ghost use Rattle.pls_model.specs.Walk.{IsConnected};
+ghost use Rattle.pls_configuration.specs.Walk.{IsConnected};
 ghost use Rattle.pls_scheme.specs.Judging.{AllAccept};
-ghost use Rattle.pls_base.specs.Steps.{capped};
+ghost use Rattle.pls_streams.specs.Steps.{capped};
 ghost use Rattle.pls_expressions.specs.Expression.{HasProperty};
 ghost use Rattle.pls_combine.specs.Expression.{IsMarked, judge_of, leaves_of, lends_of, longest_of};
 ghost use Rattle.pls_expressions.specs.Held.{expression_of};
 
-use pls_base::{NoMemory, Steps};
 use pls_bits::NumCode;
+use pls_configuration::Verdict;
 use pls_expressions::{ExpressionTree, LentProperty};
 use pls_facts::is_valid;
 use pls_graph::{Network, Size};
-use pls_model::Verdict;
+use pls_labels::{LabelStore, View};
 use pls_names::SchemeByName;
 use pls_parts::{
     FirstPart, Rest, SecondPart, joined_bound, joined_labels, lacks_parts, own_tag, raised,
     tagged_bound, tagged_labels,
 };
 use pls_scheme::{Checker, Scheme};
+use pls_streams::{NoMemory, Steps};
 use pls_universal::MapOf;
-use pls_view::{LabelStore, View};
 use std::alloc::Global;
 
 pub(crate) fn map_of<C>(tree: &ExpressionTree) -> MapOf<LentProperty<'_>, C>

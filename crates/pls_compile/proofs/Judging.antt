@@ -4,11 +4,11 @@ use Rattle.std.specs.Prelude.{All}
 use Rattle.std.specs.Option.{is_some}
 use Rattle.std.specs.List.{list_all}
 use Rattle.std.proofs.lemmas.List.{length-map}
-use Rattle.pls_model.specs.declared.limits.TheConstants.{MAX_DEGREE}
-use Rattle.pls_model.specs.declared.verdict.Verdict.{Verdict}
-use Rattle.pls_model.specs.declared.verdict.Verdict.TheVariants.{Reject}
-use Rattle.pls_view.specs.Seen.{Seen, SeenPort}
-use Rattle.pls_view.specs.declared.view.PortView.{PortView}
+use Rattle.pls_configuration.specs.declared.limits.TheConstants.{MAX_DEGREE}
+use Rattle.pls_configuration.specs.declared.verdict.Verdict.{Verdict}
+use Rattle.pls_configuration.specs.declared.verdict.Verdict.TheVariants.{Reject}
+use Rattle.pls_labels.specs.Seen.{Seen, SeenPort}
+use Rattle.pls_labels.specs.declared.view.PortView.{PortView}
 use Rattle.pls_bits.specs.Gamma.{gamma_takes}
 use Rattle.pls_numbers.specs.declared.kind.FieldKind.{FieldKind}
 use Rattle.pls_rules.specs.RuleSet.{Rules, kinds_of}

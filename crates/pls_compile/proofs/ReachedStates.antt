@@ -1,6 +1,6 @@
 -- A run that comes to a verdict is never stuck on its way.
 use Rattle.std.proofs.Common.{◌≡◌, ℕ, zero, suc, ◌<◌, ◌≤◌, List, refl, sym, ap, ◌∙◌, subst, arith}
-use Rattle.pls_model.specs.declared.verdict.Verdict.{Verdict}
+use Rattle.pls_configuration.specs.declared.verdict.Verdict.{Verdict}
 use Rattle.pls_compile.specs.declared.instr.Instr.{Instr}
 use Rattle.pls_compile.specs.RuleMeaning.{Sight}
 use Rattle.pls_compile.specs.RuleMachine.{MachineState, Step, Goes, Answers, Stuck, IsAble, after_step, run, step}

@@ -6,9 +6,9 @@ use Rattle.std.specs.List.{list_all}
 use Rattle.std.proofs.lemmas.Bool.{and_parts}
 use Rattle.std.proofs.lemmas.List.{length-map}
 use Rattle.std.proofs.lemmas.List.Elements.{All-cons, All-head, All-nil, All-tail}
-use Rattle.pls_model.specs.declared.limits.TheConstants.{MAX_DEGREE}
-use Rattle.pls_model.specs.declared.verdict.Verdict.TheVariants.{Reject}
-use Rattle.pls_view.specs.Seen.{Seen, SeenPort}
+use Rattle.pls_configuration.specs.declared.limits.TheConstants.{MAX_DEGREE}
+use Rattle.pls_configuration.specs.declared.verdict.Verdict.TheVariants.{Reject}
+use Rattle.pls_labels.specs.Seen.{Seen, SeenPort}
 use Rattle.pls_numbers.specs.declared.kind.FieldKind.{FieldKind}
 use Rattle.pls_scheme.specs.Judging.{judged_from}
 use Rattle.pls_scheme.specs.Reading.{judge_by, judged_read, read_ports}

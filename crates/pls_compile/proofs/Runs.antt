@@ -1,7 +1,7 @@
 -- The run of an expression's code puts its value.
 use Rattle.std.proofs.Common.{◌≡◌, ℕ, suc, ◌+◌, ◌*◌, ◌^◌, ◌<◌, ◌≤◌, Bool, true, List, [], ◌∷◌, ◌++◌, length, refl, ap, arith}
 use Rattle.std.specs.Prelude.{nat_lt, nat_le, ◌==◌, ◌&&◌, ◌||◌, not, if◌then◌else◌}
-use Rattle.pls_model.specs.declared.verdict.Verdict.{Verdict}
+use Rattle.pls_configuration.specs.declared.verdict.Verdict.{Verdict}
 use Rattle.pls_bits.specs.Bytes.{weigh}
 use Rattle.pls_scheme.specs.Reading.{target}
 use Rattle.pls_rules.specs.Formula.{Formula, Term, Eq, Lt, Le, Same, Both, Either, Not, All as Each, Any, Number, Id, Mark, Num, Degree, Pointed, My, Up, UpWeight, Nb, NbWeight, NbUp, Add, Sum, formula_height, formula_nesting, term_height, term_nesting}

@@ -5,8 +5,8 @@ use Rattle.std.specs.List.{list_all}
 use Rattle.std.proofs.lemmas.Option.{slice_get-get_or, slice_get-map}
 use Rattle.std.proofs.lemmas.List.Folds.{list_all-map}
 use Rattle.std.proofs.lemmas.List.Elements.{All-cons, All-head, All-nil, All-tail}
-use Rattle.pls_view.specs.Seen.{SeenPort}
-use Rattle.pls_view.specs.declared.view.PortView.{PortView}
+use Rattle.pls_labels.specs.Seen.{SeenPort}
+use Rattle.pls_labels.specs.declared.view.PortView.{PortView}
 use Rattle.pls_numbers.specs.declared.kind.FieldKind.{FieldKind}
 use Rattle.pls_scheme.specs.Reading.{ReadPort}
 use Rattle.pls_compile.specs.ReadLabels.{is_read, port_values, values_of}

@@ -3,8 +3,8 @@ use Rattle.std.proofs.Common.{◌≡◌, ◌∙◌, ℕ, ◌<◌, ◌≤◌, ◌
 use Rattle.std.specs.Prelude.{All}
 use Rattle.std.specs.List.{list_all}
 use Rattle.std.proofs.lemmas.List.{length-map}
-use Rattle.pls_model.specs.declared.limits.TheConstants.{MAX_DEGREE}
-use Rattle.pls_view.specs.Seen.{Seen, SeenPort}
+use Rattle.pls_configuration.specs.declared.limits.TheConstants.{MAX_DEGREE}
+use Rattle.pls_labels.specs.Seen.{Seen, SeenPort}
 use Rattle.pls_numbers.specs.declared.kind.FieldKind.{FieldKind}
 use Rattle.pls_rules.specs.RuleSet.{AreRules, IsRule, Rules, kinds_of}
 use Rattle.pls_compile.specs.declared.instr.Instr.{Instr}

@@ -11,7 +11,7 @@ use Rattle.pls_rules.specs.Formula.{Formula}
 use Rattle.pls_rules.specs.RuleSet.{IsRule}
 use Rattle.std.specs.Prelude.{All}
 use Rattle.pls_compile.proofs.Steps.{rules_steps}
-use Rattle.pls_model.specs.declared.verdict.Verdict.{Verdict}
+use Rattle.pls_configuration.specs.declared.verdict.Verdict.{Verdict}
 use Rattle.pls_compile.proofs.ReachedStates.{able, answers_same, behind, steps_left, steps_fall, one_more}
 use Rattle.pls_compile.proofs.Ends.{Ends}
 use Rattle.pls_compile.proofs.RulesRun.{set_ends}

@@ -5,17 +5,17 @@ use Rattle.std.specs.Option.{is_some}
 use Rattle.std.specs.List.{list_all}
 use Rattle.std.proofs.lemmas.List.{length-map}
 use Rattle.std.proofs.lemmas.List.Elements.{All-map}
-use Rattle.pls_model.specs.declared.row.State.{State}
-use Rattle.pls_model.specs.declared.row.Port.{Port}
-use Rattle.pls_model.specs.declared.row.NodeRow.{NodeRow}
-use Rattle.pls_model.specs.declared.verdict.Verdict.{Verdict}
-use Rattle.pls_model.specs.declared.verdict.Verdict.TheVariants.{Reject}
-use Rattle.pls_model.specs.Configuration.{IsNetwork}
+use Rattle.pls_configuration.specs.declared.row.State.{State}
+use Rattle.pls_configuration.specs.declared.row.Port.{Port}
+use Rattle.pls_configuration.specs.declared.row.NodeRow.{NodeRow}
+use Rattle.pls_configuration.specs.declared.verdict.Verdict.{Verdict}
+use Rattle.pls_configuration.specs.declared.verdict.Verdict.TheVariants.{Reject}
+use Rattle.pls_configuration.specs.Configuration.{IsNetwork}
 use Rattle.pls_graph.specs.Places.{beside}
 use Rattle.pls_facts.proofs.Lists.{item_at}
-use Rattle.pls_view.specs.Seen.{Seen, SeenPort, label_of, seen_port, views}
-use Rattle.pls_view.proofs.Few.{proper_at}
-use Rattle.pls_view.proofs.Views.{placed}
+use Rattle.pls_labels.specs.Seen.{Seen, SeenPort, label_of, seen_port, views}
+use Rattle.pls_labels.proofs.Few.{proper_at}
+use Rattle.pls_labels.proofs.Views.{placed}
 use Rattle.pls_bits.specs.Gamma.{gamma_takes}
 use Rattle.pls_numbers.specs.declared.kind.FieldKind.{FieldKind}
 use Rattle.pls_rules.specs.RuleSet.{Rules, kinds_of}

@@ -1,8 +1,8 @@
 -- What a node reads in a table of what all labels say.
 use Rattle.std.specs.Prelude.{ℕ, List, [], map, get_or, take, Option, None, unwrap_or, option_map}
 use Rattle.std.specs.List.{zip}
-use Rattle.pls_model.specs.declared.row.State.{State}
-use Rattle.pls_model.specs.declared.row.Port.{Port}
+use Rattle.pls_configuration.specs.declared.row.State.{State}
+use Rattle.pls_configuration.specs.declared.row.Port.{Port}
 use Rattle.pls_scheme.specs.Reading.{ReadPort}
 use Rattle.pls_compile.specs.RuleMeaning.{Sight}
 

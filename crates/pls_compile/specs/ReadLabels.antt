@@ -1,7 +1,7 @@
 -- What a node sees, with its labels read as fields; a label that cannot be read has none.
 use Rattle.std.specs.Prelude.{ℕ, Bool, List, [], map, Option, unwrap_or}
 use Rattle.std.specs.Option.{is_some}
-use Rattle.pls_view.specs.Seen.{Seen, SeenPort}
+use Rattle.pls_labels.specs.Seen.{Seen, SeenPort}
 use Rattle.pls_scheme.specs.Reading.{ReadPort}
 use Rattle.pls_numbers.specs.declared.kind.FieldKind.{FieldKind}
 use Rattle.pls_bits.specs.Gamma.{gamma_takes}

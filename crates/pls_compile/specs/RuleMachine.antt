@@ -1,8 +1,8 @@
 -- The rule machine: what one step does.
 use Rattle.std.specs.Prelude.{◌≡◌, ℕ, zero, suc, ◌+◌, ◌-◌, ◌^◌, ◌==◌, nat_le, nat_lt, ◌&&◌, ◌||◌, if◌then◌else◌, List, [], ◌∷◌, length, slice_get, Option, Some, None}
 use Rattle.std.specs.Option.{is_some}
-use Rattle.pls_model.specs.declared.verdict.Verdict.{Verdict}
-use Rattle.pls_model.specs.declared.verdict.Verdict.TheVariants.{Accept as accepted, Reject}
+use Rattle.pls_configuration.specs.declared.verdict.Verdict.{Verdict}
+use Rattle.pls_configuration.specs.declared.verdict.Verdict.TheVariants.{Accept as accepted, Reject}
 use Rattle.pls_bits.specs.Bytes.{weigh}
 use Rattle.pls_scheme.specs.Reading.{ReadPort, target}
 use Rattle.pls_compile.specs.declared.instr.Instr.{Instr}

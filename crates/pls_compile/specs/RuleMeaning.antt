@@ -1,9 +1,9 @@
 -- What a rule set means on a view. A label that is read is the list of its fields' values.
 use Rattle.std.specs.Prelude.{ℕ, zero, suc, ◌+◌, ◌==◌, nat_le, nat_lt, Bool, true, false, ◌&&◌, ◌||◌, not, if◌then◌else◌, List, [], ◌∷◌, map, length, get_or, slice_get, Option, Some, None}
 use Rattle.std.specs.Option.{is_some}
-use Rattle.pls_model.specs.declared.verdict.Verdict.{Verdict}
+use Rattle.pls_configuration.specs.declared.verdict.Verdict.{Verdict}
 use Rattle.pls_bits.specs.Bytes.{weigh}
-use Rattle.pls_view.specs.Seen.{Seen}
+use Rattle.pls_labels.specs.Seen.{Seen}
 use Rattle.pls_numbers.specs.Fixed.{fields_shape}
 use Rattle.pls_scheme.specs.Basic.{verdict_by}
 use Rattle.pls_scheme.specs.Reading.{Read, ReadPort, is_pointer, target}

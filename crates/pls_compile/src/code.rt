@@ -7,8 +7,8 @@ ghost use Rattle.pls_rules.specs.RuleSet.{AreRules};
 
 use crate::emit::{emit_formula, put};
 use crate::instr::Instr;
-use pls_base::NoMemory;
 use pls_rules::RuleSet;
+use pls_streams::NoMemory;
 use std::alloc::Global;
 use std::marker::Model;
 

@@ -6,8 +6,8 @@ ghost use Rattle.pls_compile.specs.Code.{at_ports_code, formula_code, formulas_c
 ghost use Rattle.pls_compile.specs.declared.instr.Instr.TheVariants.{Begin, More, Next, Push};
 
 use crate::instr::Instr;
-use pls_base::NoMemory;
 use pls_rules::{BoolExpr, NumExpr};
+use pls_streams::NoMemory;
 
 #[cycle(emit)]
 pub(crate) fn emit_formula(code: &mut Vec<Instr>, formula: &BoolExpr) -> Result<(), NoMemory>

@@ -7,9 +7,9 @@ ghost use Rattle.pls_compile.specs.FieldTable.{said_at};
 ghost use Rattle.pls_compile.specs.ReadLabels.{numbers_in};
 
 use crate::fields::read_fields;
-use pls_base::NoMemory;
+use pls_labels::Labels;
 use pls_numbers::FieldKind;
-use pls_view::Labels;
+use pls_streams::NoMemory;
 use std::alloc::Global;
 use std::marker::Model;
 

@@ -8,8 +8,8 @@ ghost use Rattle.pls_numbers.specs.Shape.{said_by};
 ghost use Rattle.pls_compile.specs.ReadLabels.{is_read, values_of};
 
 use pls_bits::{Bits, Gamma};
+use pls_labels::PortView;
 use pls_numbers::{FieldKind, read_field};
-use pls_view::PortView;
 
 // At the front of the array; `None` where the bits are not exactly a label.
 #[inline(always)]

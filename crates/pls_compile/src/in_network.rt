@@ -1,12 +1,12 @@
 //! A node as its network shows it.
 
 ghost use Rattle.std.specs.Prelude.{◌≡◌, ◌<◌, ◌^◌, All, length};
-ghost use Rattle.pls_view.specs.Seen.{IsProper};
+ghost use Rattle.pls_labels.specs.Seen.{IsProper};
 
 use crate::field_table::{FieldTable, number_of};
 use crate::in_view::is_word;
 use crate::sees::Sees;
-use pls_model::{Port, State};
+use pls_configuration::{Port, State};
 
 // A node as its network shows it, where what all labels say stands in a table. Beside each port
 // stands the place of the neighbour.

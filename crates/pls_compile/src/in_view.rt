@@ -1,13 +1,13 @@
 //! A node as its view shows it.
 
 ghost use Rattle.std.specs.Prelude.{◌≤◌, ◌<◌, ◌^◌, All, length};
-ghost use Rattle.pls_model.specs.declared.limits.TheConstants.{MAX_DEGREE};
+ghost use Rattle.pls_configuration.specs.declared.limits.TheConstants.{MAX_DEGREE};
 
 use crate::fields::field_in;
 use crate::sees::Sees;
-use pls_model::State;
+use pls_configuration::State;
+use pls_labels::{PortView, View};
 use pls_numbers::FieldKind;
-use pls_view::{PortView, View};
 
 // A node as its view shows it. A label is read where an instruction asks for a field of it.
 #[derive(Drop)]

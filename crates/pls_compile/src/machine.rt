@@ -5,7 +5,7 @@ ghost use Rattle.pls_compile.specs.RuleMachine.{IsAble, begin, came_to, more, on
 
 use crate::instr::Instr;
 use crate::operators::operator_value;
-use pls_model::Verdict;
+use pls_configuration::Verdict;
 use std::marker::Model;
 
 // How many numbers there is room for, and how many ports.

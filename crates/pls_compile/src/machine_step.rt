@@ -11,9 +11,9 @@ use crate::code::Code;
 use crate::in_view::{InView, view_fits};
 use crate::machine::Machine;
 use crate::step::step_on;
-use pls_model::Verdict;
+use pls_configuration::Verdict;
+use pls_labels::View;
 use pls_numbers::FieldKind;
-use pls_view::View;
 
 impl Machine {
     /// Makes one step: the verdict, where it answers. The code is that of a set with these fields,

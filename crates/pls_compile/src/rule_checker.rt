@@ -2,7 +2,7 @@
 
 ghost use Rattle.std.specs.Prelude.{◌≡◌, ◌<◌, Some, length, map, slice_get, IfOk};
 ghost use Rattle.pls_bits.specs.Gamma.{gamma_takes};
-ghost use Rattle.pls_view.specs.Seen.{Seen, views};
+ghost use Rattle.pls_labels.specs.Seen.{Seen, views};
 ghost use Rattle.pls_rules.specs.HeldTrees.{set_of};
 ghost use Rattle.pls_rules.specs.RuleSet.{AreRules, kinds_of};
 ghost use Rattle.pls_compile.specs.ReadLabels.{numbers_in};
@@ -15,13 +15,13 @@ use crate::in_network::{InNetwork, node_fits};
 use crate::in_view::{InView, view_fits};
 use crate::machine::Machine;
 use crate::run::run_code;
-use pls_base::{NoMemory, Steps};
+use pls_configuration::Verdict;
 use pls_graph::Network;
-use pls_model::Verdict;
+use pls_labels::{Labels, View};
 use pls_numbers::Fields;
 use pls_rules::RuleSet;
 use pls_scheme::Checker;
-use pls_view::{Labels, View};
+use pls_streams::{NoMemory, Steps};
 use std::alloc::Global;
 use std::marker::Model;
 

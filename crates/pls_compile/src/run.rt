@@ -12,7 +12,7 @@ use crate::instr::Instr;
 use crate::machine::Machine;
 use crate::sees::Sees;
 use crate::step::step_on;
-use pls_model::Verdict;
+use pls_configuration::Verdict;
 use pls_rules::RuleSet;
 
 // `machine` may be in any state, as it is restarted first.

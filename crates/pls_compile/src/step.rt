@@ -11,7 +11,7 @@ use crate::instr::Instr;
 use crate::machine::Machine;
 use crate::operators::one_if;
 use crate::sees::Sees;
-use pls_model::Verdict;
+use pls_configuration::Verdict;
 
 // `None` where the machine goes on; it must not be stuck before the step.
 #[inline(always)]

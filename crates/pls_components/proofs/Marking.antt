@@ -5,13 +5,13 @@ use Rattle.std.proofs.lemmas.List.{length-map}
 use Rattle.std.proofs.lemmas.List.Elements.{All-contains, Contains-append_left, Contains-get_or, Contains-push, Contains-push_cases}
 use Rattle.std.proofs.lemmas.List.Quantifiers.{all_pairs_push}
 use Rattle.std.proofs.lemmas.Option.{get_or_from_slice_get, same_Some, slice_get-get_or, slice_get_within}
-use Rattle.pls_model.specs.declared.row.NodeRow.{NodeRow}
-use Rattle.pls_model.specs.declared.verdict.Verdict.{Verdict}
-use Rattle.pls_model.specs.declared.verdict.Verdict.TheVariants.{Accept}
-use Rattle.pls_model.specs.Configuration.{IsNetwork}
+use Rattle.pls_configuration.specs.declared.row.NodeRow.{NodeRow}
+use Rattle.pls_configuration.specs.declared.verdict.Verdict.{Verdict}
+use Rattle.pls_configuration.specs.declared.verdict.Verdict.TheVariants.{Accept}
+use Rattle.pls_configuration.specs.Configuration.{IsNetwork}
 use Rattle.pls_graph.specs.declared.size.Size.{Size}
 use Rattle.pls_graph.proofs.Members.{Contains-from_place, place_from_Contains}
-use Rattle.pls_view.specs.Seen.{Seen, label_of, seen, views}
+use Rattle.pls_labels.specs.Seen.{Seen, label_of, seen, views}
 use Rattle.pls_components.specs.Components.{AreComponents, IsComponent, items_at, least_id}
 use Rattle.pls_components.specs.Parts.{AreLacking, AreShown}
 use Rattle.pls_components.specs.inner.Marking.{AreMarkedBefore, ArePutAt, IsShownBy}

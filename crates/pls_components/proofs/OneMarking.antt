@@ -1,8 +1,8 @@
 -- Components are marked in one way, and those that lack a property are listed in one way.
 use Rattle.std.proofs.Common.{◌≡◌, ◌∙◌, ℕ, Bool, List, length, slice_get, Contains, Some, sym, ap, subst, arith}
 use Rattle.std.proofs.lemmas.Option.{same_Some, slice_get_within}
-use Rattle.pls_model.specs.declared.row.NodeRow.{NodeRow}
-use Rattle.pls_model.specs.Configuration.{IsNetwork}
+use Rattle.pls_configuration.specs.declared.row.NodeRow.{NodeRow}
+use Rattle.pls_configuration.specs.Configuration.{IsNetwork}
 use Rattle.pls_graph.proofs.Members.{place_from_Contains}
 use Rattle.pls_facts.proofs.Lists.{same_at_places}
 use Rattle.pls_scheme.specs.SchemeLaws.{IsMarkedOnce}

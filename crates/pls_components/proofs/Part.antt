@@ -3,11 +3,11 @@ use Rattle.std.proofs.Common.{◌≡◌, ◌∙◌, ℕ, suc, ◌+◌, ◌<◌, 
 use Rattle.std.proofs.lemmas.Bool.{eqb-true}
 use Rattle.std.proofs.lemmas.List.Elements.{All-head, All-tail, Contains-get_or}
 use Rattle.std.proofs.lemmas.Option.{same_Some, slice_get_within}
-use Rattle.pls_model.specs.declared.limits.TheConstants.{MAX_NUM}
-use Rattle.pls_model.specs.declared.row.Port.{Port}
-use Rattle.pls_model.specs.declared.row.NodeRow.{NodeRow}
-use Rattle.pls_model.specs.Configuration.{IsNetwork, has_repeat, ids_of, links_itself, points_nowhere, row_of}
-use Rattle.pls_model.specs.Walk.{Adjacent, AreJoined, Edge, IsConnected, Walk, edges_of}
+use Rattle.pls_configuration.specs.declared.limits.TheConstants.{MAX_NUM}
+use Rattle.pls_configuration.specs.declared.row.Port.{Port}
+use Rattle.pls_configuration.specs.declared.row.NodeRow.{NodeRow}
+use Rattle.pls_configuration.specs.Configuration.{IsNetwork, has_repeat, ids_of, links_itself, points_nowhere, row_of}
+use Rattle.pls_configuration.specs.Walk.{Adjacent, AreJoined, Edge, IsConnected, Walk, edges_of}
 use Rattle.pls_graph.proofs.Adjacent.{Adjacent-port, Names, Names-Adjacent}
 use Rattle.pls_graph.proofs.Finds.{fails_where_none, find-placed, found_place, item_at}
 use Rattle.pls_graph.proofs.Beside.{one_place}

@@ -1,15 +1,15 @@
 -- A node sees in its component by itself what it sees in the whole network.
 use Rattle.std.proofs.Common.{◌≡◌, ◌∙◌, ℕ, ◌<◌, Bool, List, length, map, slice_get, All, Contains, Some, sym, ap, subst, arith}
 use Rattle.std.proofs.lemmas.Option.{slice_get_within}
-use Rattle.pls_model.specs.declared.row.Port.{Port}
-use Rattle.pls_model.specs.declared.row.NodeRow.{NodeRow}
-use Rattle.pls_model.specs.Configuration.{IsNetwork}
+use Rattle.pls_configuration.specs.declared.row.Port.{Port}
+use Rattle.pls_configuration.specs.declared.row.NodeRow.{NodeRow}
+use Rattle.pls_configuration.specs.Configuration.{IsNetwork}
 use Rattle.pls_graph.proofs.Finds.{item_at}
 use Rattle.pls_graph.proofs.Members.{Contains-from_place}
 use Rattle.pls_graph.proofs.Placed.{WayBack, place_of_row, row_place}
 use Rattle.pls_graph.proofs.Ranged.{map_same}
-use Rattle.pls_view.proofs.Views.{label_at}
-use Rattle.pls_view.specs.Seen.{SeenPort, label_of, seen, seen_port, views}
+use Rattle.pls_labels.proofs.Views.{label_at}
+use Rattle.pls_labels.specs.Seen.{SeenPort, label_of, seen, seen_port, views}
 use Rattle.pls_components.specs.Components.{IsComponent, items_at}
 use Rattle.pls_components.proofs.Items.{from-items, items-at, items-map}
 use Rattle.pls_components.proofs.Part.{part_at, part_network, part_way, places_within}

@@ -4,8 +4,8 @@ use Rattle.std.proofs.lemmas.List.{get_or_default, length-set, take_all, take_mo
 use Rattle.std.proofs.lemmas.List.Elements.{Contains-append_left, Contains-push}
 use Rattle.std.proofs.lemmas.List.Sums.{sum_by-drop_more}
 use Rattle.std.proofs.lemmas.Option.{get_or_from_slice_get, slice_get_within}
-use Rattle.pls_view.specs.Labels.{bits_together}
-use Rattle.pls_view.specs.Stored.{cost}
+use Rattle.pls_labels.specs.Labels.{bits_together}
+use Rattle.pls_labels.specs.Stored.{cost}
 use Rattle.pls_components.specs.Components.{NumbersRise, items_at}
 use Rattle.pls_components.specs.inner.Marking.{ArePutAt, room_for}
 use Rattle.pls_components.proofs.Items.{items-more}

@@ -2,15 +2,15 @@
 use Rattle.std.proofs.Common.{◌≡◌, ◌∙◌, ℕ, ◌+◌, ◌*◌, ◌<◌, ◌≤◌, max, ◌⊎◌, Bool, inl, inr, List, [], ◌∷◌, ◌++◌, length, slice_get, All, Contains, Some, refl, sym, ap, subst, arith, length-append}
 use Rattle.std.proofs.lemmas.List.{append_assoc}
 use Rattle.std.proofs.lemmas.List.Elements.{All-head, All-tail, Contains-push_cases}
-use Rattle.pls_model.specs.declared.row.NodeRow.{NodeRow}
-use Rattle.pls_model.specs.declared.verdict.Verdict.{Verdict}
-use Rattle.pls_model.specs.Configuration.{IsNetwork}
-use Rattle.pls_model.specs.Walk.{IsConnected}
+use Rattle.pls_configuration.specs.declared.row.NodeRow.{NodeRow}
+use Rattle.pls_configuration.specs.declared.verdict.Verdict.{Verdict}
+use Rattle.pls_configuration.specs.Configuration.{IsNetwork}
+use Rattle.pls_configuration.specs.Walk.{IsConnected}
 use Rattle.pls_graph.specs.declared.size.Size.{Size}
 use Rattle.pls_graph.specs.Connected.{smallest_id}
 use Rattle.pls_graph.proofs.Members.{Contains-cons_cases, Contains-first}
 use Rattle.pls_graph.proofs.Placed.{smallest_first}
-use Rattle.pls_view.specs.Seen.{Seen}
+use Rattle.pls_labels.specs.Seen.{Seen}
 use Rattle.pls_scheme.specs.Judging.{AllAccept}
 use Rattle.pls_components.specs.Components.{AreComponents, IsComponent, NumbersRise, items_at, least_id}
 use Rattle.pls_components.specs.Parts.{AreLacking, AreShown, AreWithinBound, bound_of_parts, room_of_parts}

@@ -1,7 +1,7 @@
 -- The definitions at a worked example: two nodes with an edge, and one alone.
 use Rattle.std.proofs.Common.{◌≡◌, ℕ, List, [], ◌∷◌, None, refl}
-use Rattle.pls_model.specs.declared.row.Port.{Port}
-use Rattle.pls_model.specs.declared.row.NodeRow.{NodeRow}
+use Rattle.pls_configuration.specs.declared.row.Port.{Port}
+use Rattle.pls_configuration.specs.declared.row.NodeRow.{NodeRow}
 use Rattle.pls_graph.specs.declared.size.Size.{Size}
 use Rattle.pls_components.specs.Components.{items_at, least_id}
 use Rattle.pls_components.specs.Parts.{bound_of_parts, room_of_parts}

@@ -1,7 +1,7 @@
 -- The components of a network: the nodes that walks join to one another (any textbook on graphs).
 use Rattle.std.specs.Prelude.{◌≡◌, ◌↔◌, ℕ, ◌<◌, Bool, List, AllPairs, Contains, Some, filter_map, length, slice_get}
-use Rattle.pls_model.specs.declared.row.NodeRow.{NodeRow}
-use Rattle.pls_model.specs.Walk.{AreJoined, edges_of}
+use Rattle.pls_configuration.specs.declared.row.NodeRow.{NodeRow}
+use Rattle.pls_configuration.specs.Walk.{AreJoined, edges_of}
 use Rattle.pls_graph.specs.Connected.{smallest_id}
 
 -- what stands at these places of a list; of the rows of a network it is the part of the network that

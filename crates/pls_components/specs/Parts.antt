@@ -1,12 +1,12 @@
 -- What a scheme says of a network whose components are marked and judged each by itself.
 use Rattle.std.specs.Prelude.{◌≡◌, ◌≢◌, ◌≤◌, ◌*◌, ℕ, Bool, List, [], All, Contains, length, map, sum_by, ⊤}
-use Rattle.pls_model.specs.declared.row.NodeRow.{NodeRow}
-use Rattle.pls_model.specs.declared.verdict.Verdict.{Verdict}
-use Rattle.pls_model.specs.declared.verdict.Verdict.TheVariants.{Accept}
-use Rattle.pls_base.specs.Steps.{capped}
+use Rattle.pls_configuration.specs.declared.row.NodeRow.{NodeRow}
+use Rattle.pls_configuration.specs.declared.verdict.Verdict.{Verdict}
+use Rattle.pls_configuration.specs.declared.verdict.Verdict.TheVariants.{Accept}
+use Rattle.pls_streams.specs.Steps.{capped}
 use Rattle.pls_graph.specs.declared.size.Size.{Size}
 use Rattle.pls_graph.specs.Size.{greatest, size_of}
-use Rattle.pls_view.specs.Seen.{Seen, views}
+use Rattle.pls_labels.specs.Seen.{Seen, views}
 use Rattle.pls_scheme.specs.Judging.{AllAccept}
 use Rattle.pls_components.specs.Components.{FitsInEach, HasInEach, IsComponent, NumbersRise, items_at, least_id}
 use Rattle.pls_components.specs.declared.mark_result.MarkResult.{MarkResult}

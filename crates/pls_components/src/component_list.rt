@@ -1,12 +1,12 @@
 //! The components of a network, and each of them by itself.
 
 ghost use Rattle.std.specs.Prelude.{◌≡◌, ◌<◌, ◌++◌, ◌∷◌, ℕ, List, [], All, IfOk, OnOk, Some, length, map, slice_get};
-ghost use Rattle.pls_model.specs.declared.row.NodeRow.{NodeRow};
+ghost use Rattle.pls_configuration.specs.declared.row.NodeRow.{NodeRow};
 ghost use Rattle.pls_components.specs.Components.{AreComponents, StandsIn, items_at, least_id};
 
 use crate::part_size::size_at;
-use pls_base::NoMemory;
 use pls_graph::{Network, NetworkBuilder};
+use pls_streams::NoMemory;
 use std::alloc::Global;
 use std::marker::Model;
 

@@ -1,14 +1,14 @@
 //! How the components of a network are found.
 
 ghost use Rattle.std.specs.Prelude.{◌≡◌, IfOk, replicate};
-ghost use Rattle.pls_model.specs.Walk.{IsConnected};
+ghost use Rattle.pls_configuration.specs.Walk.{IsConnected};
 ghost use Rattle.pls_components.specs.Components.{AreComponents};
 
 use crate::buckets::buckets_of;
 use crate::component_list::{Components, Span};
 use crate::flood::{all_numbers, number_all};
-use pls_base::NoMemory;
 use pls_graph::{Network, node_apart};
+use pls_streams::NoMemory;
 use std::alloc::Global;
 
 /// The components of a network, in the order of their smallest identities. It takes time in nodes

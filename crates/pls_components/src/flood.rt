@@ -5,8 +5,8 @@
 ghost use Rattle.std.specs.Prelude.{◌≡◌, ◌+◌, ◌<◌, ℕ, All, IfOk, OnOk, None, Some, [], ◌∷◌, length, map, replicate};
 ghost use Rattle.pls_components.specs.inner.Numbers.{AreClosed, AreNumbered, EntersAll, Fills, HasNumber, number_of_place};
 
-use pls_base::NoMemory;
 use pls_graph::Network;
+use pls_streams::NoMemory;
 use std::alloc::Global;
 
 // A flood fill under way: the numbers given so far, and the places whose neighbours are still to be

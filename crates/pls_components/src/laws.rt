@@ -2,7 +2,7 @@
 //! where all nodes of a component accept, the component has the property.
 
 ghost use Rattle.std.specs.Prelude.{◌≡◌, ◌<◌, ℕ, List, Contains, Some, length, slice_get};
-ghost use Rattle.pls_view.specs.Seen.{views};
+ghost use Rattle.pls_labels.specs.Seen.{views};
 ghost use Rattle.pls_scheme.specs.Judging.{verdicts_by};
 ghost use Rattle.pls_components.specs.Components.{AreComponents, StandsIn, items_at};
 ghost use Rattle.pls_components.specs.Parts.{AcceptAt};
@@ -10,8 +10,8 @@ ghost use Rattle.pls_components.specs.Parts.{AcceptAt};
 use crate::component_list::Components;
 use pls_facts::is_valid;
 use pls_graph::Network;
+use pls_labels::LabelStore;
 use pls_scheme::{Checker, Scheme};
-use pls_view::LabelStore;
 
 /// Each node of the network is in a component, so that [`Components::of`] may be asked for it.
 pub fn in_a_component(net: &Network, parts: &Components, i: usize)

@@ -1,7 +1,7 @@
 //! What the marking of components comes to.
 
 use crate::id_list::IdList;
-use pls_view::LabelStore;
+use pls_labels::LabelStore;
 
 /// What the marking of the components of a network comes to.
 #[derive(Drop)]

@@ -1,15 +1,15 @@
 //! How long the labels of a network are, whose components are marked each by itself.
 
 ghost use Rattle.std.specs.Prelude.{◌≡◌, IfOk, max};
-ghost use Rattle.pls_base.specs.Steps.{capped};
+ghost use Rattle.pls_streams.specs.Steps.{capped};
 ghost use Rattle.pls_components.specs.Components.{AreComponents};
 ghost use Rattle.pls_components.specs.Parts.{bound_of_parts, room_of_parts};
 
 use crate::component_list::Components;
 use crate::part_size::size_at;
-use pls_base::NoMemory;
 use pls_graph::Network;
 use pls_scheme::Scheme;
+use pls_streams::NoMemory;
 use std::alloc::Global;
 
 /// The greatest number of bits of a marked label, where each component is marked by itself: the

@@ -8,10 +8,10 @@ ghost use Rattle.pls_components.specs.inner.Marking.{ArePutAt, IsPartMarked, roo
 use crate::component_list::Components;
 use crate::id_list::IdList;
 use crate::mark_result::MarkResult;
-use pls_base::NoMemory;
 use pls_graph::Network;
+use pls_labels::{LabelRoom, LabelStore};
 use pls_scheme::Scheme;
-use pls_view::{LabelRoom, LabelStore};
+use pls_streams::NoMemory;
 use std::alloc::Global;
 
 // The greatest number of bits of the labels of a component, 2^60. More find no memory.

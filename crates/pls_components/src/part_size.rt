@@ -1,14 +1,14 @@
 //! How large a component is by itself, counted where its nodes stand in the whole network.
 
 ghost use Rattle.std.specs.Prelude.{◌≡◌, ◌<◌, ◌≤◌, ◌^◌, ◌++◌, ◌∷◌, [], List, Some, All, length, map, slice_get};
-ghost use Rattle.pls_model.specs.declared.limits.TheConstants.{MAX_PORTS};
-ghost use Rattle.pls_model.specs.declared.row.NodeRow.{NodeRow};
-ghost use Rattle.pls_model.specs.Configuration.{IsNetwork};
+ghost use Rattle.pls_configuration.specs.declared.limits.TheConstants.{MAX_PORTS};
+ghost use Rattle.pls_configuration.specs.declared.row.NodeRow.{NodeRow};
+ghost use Rattle.pls_configuration.specs.Configuration.{IsNetwork};
 ghost use Rattle.pls_graph.specs.Size.{greatest, size_of};
 ghost use Rattle.pls_components.specs.Components.{items_at};
 
+use pls_configuration::Port;
 use pls_graph::{Network, Size};
-use pls_model::Port;
 
 pub(crate) fn size_at(net: &Network, places: &[u32]) -> Size
     requires within { All (λ place. place < length net.now) places.now }

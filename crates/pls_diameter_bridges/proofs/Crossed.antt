@@ -5,9 +5,9 @@ use Rattle.std.specs.List.{list_all}
 use Rattle.std.proofs.lemmas.Bool.{and_cases, and_from, and_parts, cases_lt, cases_order, eq-eqb, eqb-true, lt-ltb, ltb-false, ltb-true, not-false, not-true, or_cases, or_parts}
 use Rattle.std.proofs.lemmas.List.Elements.{All-contains}
 use Rattle.std.proofs.lemmas.Option.{same_Some, slice_get_within}
-use Rattle.pls_model.specs.declared.row.NodeRow.{NodeRow}
-use Rattle.pls_model.specs.Configuration.{IsNetwork}
-use Rattle.pls_model.specs.Walk.{Adjacent, AreJoined, Edge, IsConnected, Joins, Walk, edges_of}
+use Rattle.pls_configuration.specs.declared.row.NodeRow.{NodeRow}
+use Rattle.pls_configuration.specs.Configuration.{IsNetwork}
+use Rattle.pls_configuration.specs.Walk.{Adjacent, AreJoined, Edge, IsConnected, Joins, Walk, edges_of}
 use Rattle.pls_graph.specs.Levels.{AreLevels, IsLevel}
 use Rattle.pls_graph.specs.Places.{beside}
 use Rattle.pls_graph.proofs.Beside.{Adjacent-beside, beside-Adjacent, beside_within, one_place}

@@ -2,9 +2,9 @@
 use Rattle.std.proofs.Common.{◌≡◌, ◌≢◌, ◌∙◌, ℕ, ◌≤◌, ◌⊎◌, inl, inr, ◌==◌, ◌&&◌, not, true, List, [], ◌∷◌, length, Contains, refl, sym, ap, subst, arith}
 use Rattle.std.proofs.lemmas.Bool.{and_from, and_parts, eq-eqb, eqb-true, false_from_ne_true, not-true, not_from_false}
 use Rattle.std.proofs.lemmas.Option.{same_Some}
-use Rattle.pls_model.specs.declared.row.NodeRow.{NodeRow}
-use Rattle.pls_model.specs.Configuration.{IsNetwork, port_to, row_of}
-use Rattle.pls_model.specs.Walk.{Adjacent, Edge, Joins, Walk, edges_of}
+use Rattle.pls_configuration.specs.declared.row.NodeRow.{NodeRow}
+use Rattle.pls_configuration.specs.Configuration.{IsNetwork, port_to, row_of}
+use Rattle.pls_configuration.specs.Walk.{Adjacent, Edge, Joins, Walk, edges_of}
 use Rattle.pls_graph.proofs.Members.{Contains-filter, Contains-from_filter}
 use Rattle.pls_graph.proofs.Placed.{port_of_place, row_of_place}
 use Rattle.pls_facts.specs.SpanningTree.{edge_at}

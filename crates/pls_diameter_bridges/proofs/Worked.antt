@@ -1,6 +1,6 @@
 -- The two tests at small networks.
 use Rattle.std.proofs.Common.{◌≡◌, ℕ, true, false, List, [], ◌∷◌, map, None, refl}
-use Rattle.pls_model.specs.declared.row.NodeRow.{NodeRow}
+use Rattle.pls_configuration.specs.declared.row.NodeRow.{NodeRow}
 use Rattle.pls_diameter_bridges.specs.Tests.{bridgeless_test, diameter_test, walks_within}
 
 -- a node with ports to these

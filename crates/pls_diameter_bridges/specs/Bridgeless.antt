@@ -2,9 +2,9 @@
 -- without which the nodes fall into two parts is a bridge).
 use Rattle.std.specs.Prelude.{not, List, Contains}
 use Rattle.std.specs.List.{filter}
-use Rattle.pls_model.specs.declared.row.NodeRow.{NodeRow}
-use Rattle.pls_model.specs.Configuration.{ids_of}
-use Rattle.pls_model.specs.Walk.{Edge, JoinAll, edges_of}
+use Rattle.pls_configuration.specs.declared.row.NodeRow.{NodeRow}
+use Rattle.pls_configuration.specs.Configuration.{ids_of}
+use Rattle.pls_configuration.specs.Walk.{Edge, JoinAll, edges_of}
 use Rattle.pls_facts.specs.EdgeOrder.{is_same_edge}
 
 -- the edges but this one

@@ -1,8 +1,8 @@
 -- How far apart the nodes of a network are (any textbook on graphs).
 use Rattle.std.specs.Prelude.{ℕ, ◌≤◌, List, length, Contains}
-use Rattle.pls_model.specs.declared.row.NodeRow.{NodeRow}
-use Rattle.pls_model.specs.Configuration.{ids_of}
-use Rattle.pls_model.specs.Walk.{Edge, Walk, edges_of}
+use Rattle.pls_configuration.specs.declared.row.NodeRow.{NodeRow}
+use Rattle.pls_configuration.specs.Configuration.{ids_of}
+use Rattle.pls_configuration.specs.Walk.{Edge, Walk, edges_of}
 
 -- some walk of at most so many edges begins at u and ends at v
 abbrev pub AreWithin : List Edge → ℕ → ℕ → ℕ → Type 0

@@ -1,9 +1,9 @@
 -- The two properties as functions from rows to a truth value, for judgements that are computed.
 use Rattle.std.specs.Prelude.{ℕ, zero, suc, ◌==◌, Bool, ◌&&◌, ◌||◌, List}
 use Rattle.std.specs.List.{list_all, list_any}
-use Rattle.pls_model.specs.declared.row.NodeRow.{NodeRow}
-use Rattle.pls_model.specs.Configuration.{ids_of}
-use Rattle.pls_model.specs.Walk.{Edge, edges_of}
+use Rattle.pls_configuration.specs.declared.row.NodeRow.{NodeRow}
+use Rattle.pls_configuration.specs.Configuration.{ids_of}
+use Rattle.pls_configuration.specs.Walk.{Edge, edges_of}
 use Rattle.pls_facts.specs.Classes.{joins_all}
 use Rattle.pls_diameter_bridges.specs.Bridgeless.{without}
 

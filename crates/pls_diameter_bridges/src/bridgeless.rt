@@ -8,7 +8,7 @@
 
 ghost use Rattle.std.specs.Prelude.{◌≡◌, ◌<◌, ◌==◌, ◌↔◌, length, Contains, IfOk, IsTrue};
 ghost use Rattle.std.specs.List.{list_any};
-ghost use Rattle.pls_model.specs.Walk.{IsConnected};
+ghost use Rattle.pls_configuration.specs.Walk.{IsConnected};
 ghost use Rattle.pls_graph.specs.Levels.{AreLevels};
 ghost use Rattle.pls_graph.specs.Places.{beside};
 ghost use Rattle.pls_diameter_bridges.specs.Bridgeless.{IsBridgeless};
@@ -17,11 +17,11 @@ ghost use Rattle.pls_diameter_bridges.specs.inner.Crossing.{HasWayRound, HaveWay
 use crate::crossing::is_only_crossing;
 use crate::descent::{Descent, descend, entry_at};
 use crate::orientation::{is_strong, ranks_home};
-use pls_base::NoMemory;
 use pls_facts::is_valid;
 use pls_graph::Network;
 use pls_scheme::Property;
 use pls_search::levels;
+use pls_streams::NoMemory;
 use std::alloc::Global;
 
 /// The property that for each edge the other edges join all nodes, so that no edge is a bridge.

@@ -3,7 +3,7 @@
 ghost use Rattle.std.specs.Prelude.{◌≡◌, ◌<◌, ◌||◌, length};
 ghost use Rattle.std.specs.Bool.{OnFalse, OnTrue};
 ghost use Rattle.std.specs.List.{list_all};
-ghost use Rattle.pls_model.specs.Configuration.{IsNetwork};
+ghost use Rattle.pls_configuration.specs.Configuration.{IsNetwork};
 ghost use Rattle.pls_graph.specs.Places.{beside};
 ghost use Rattle.pls_diameter_bridges.specs.inner.Crossing.{IsCrossedElsewhere, IsOnlyCrossing, is_allowed, is_nearer, level_at};
 

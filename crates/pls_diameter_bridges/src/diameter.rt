@@ -5,10 +5,10 @@ ghost use Rattle.std.specs.List.{list_all};
 ghost use Rattle.pls_diameter_bridges.specs.Diameter.{HasDiameter};
 ghost use Rattle.pls_diameter_bridges.specs.inner.Reaching.{ReachesAll, is_within};
 
-use pls_base::NoMemory;
 use pls_graph::Network;
 use pls_scheme::Property;
 use pls_search::levels;
+use pls_streams::NoMemory;
 use std::alloc::Global;
 
 /// The property that any two nodes are the ends of a walk of at most so many edges.

@@ -11,8 +11,8 @@ ghost use Rattle.pls_graph.specs.Places.{beside};
 ghost use Rattle.pls_diameter_bridges.specs.inner.Orientation.{IsStrong, is_way_home, is_way_in, leads};
 
 use crate::descent::entry_at;
-use pls_base::NoMemory;
 use pls_graph::Network;
+use pls_streams::NoMemory;
 use std::alloc::Global;
 
 // Search from the first place (rank 1) against the directions; 0 where it does not reach.

@@ -4,7 +4,7 @@ use Rattle.std.specs.List.{list_all}
 use Rattle.std.specs.Option.{option_and_then, option_map_or}
 use Rattle.std.proofs.lemmas.List.{map-append}
 use Rattle.std.proofs.lemmas.Option.{slice_get-map}
-use Rattle.pls_model.specs.declared.row.State.{State}
+use Rattle.pls_configuration.specs.declared.row.State.{State}
 use Rattle.pls_scheme.specs.Reading.{Read, ReadPort, is_pointer, reading}
 use Rattle.pls_scheme.proofs.MorePorts.{all_more, at_pointer_more}
 use Rattle.pls_pointer.specs.declared.tree.TreeLabel.{TreeLabel}

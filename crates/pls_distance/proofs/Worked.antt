@@ -2,8 +2,8 @@
 -- first, along an edge of weight 1, and the third at the second, along one of weight 2.
 use Rattle.std.proofs.Common.{◌≡◌, ◌==◌, ℕ, map, Bool, List, [], ◌∷◌, Option, Some, None, refl}
 use Rattle.std.specs.Prelude.{codes}
-use Rattle.pls_model.specs.declared.verdict.Verdict.TheVariants.{Accept, Reject}
-use Rattle.pls_view.specs.Seen.{Seen, SeenPort}
+use Rattle.pls_configuration.specs.declared.verdict.Verdict.TheVariants.{Accept, Reject}
+use Rattle.pls_labels.specs.Seen.{Seen, SeenPort}
 use Rattle.pls_bits.specs.Gamma.{gamma_takes}
 use Rattle.pls_numbers.specs.Numbers.{left_in}
 use Rattle.pls_scheme.specs.Basic.{verdict_by}

@@ -1,7 +1,7 @@
 //! What a node gathers of its ports, one after another.
 
 ghost use Rattle.std.specs.Prelude.{◌≡◌, ℕ, ◌++◌, ◌∷◌, [], List, length, ◌==◌, ◌&&◌, ◌+◌, if◌then◌else◌};
-ghost use Rattle.pls_model.specs.declared.row.State.{State};
+ghost use Rattle.pls_configuration.specs.declared.row.State.{State};
 ghost use Rattle.pls_scheme.specs.Reading.{ReadPort, is_pointer, port_with, reading};
 ghost use Rattle.pls_distance.specs.declared.spt.SptLabel.{SptLabel};
 ghost use Rattle.pls_distance.specs.Spt.{spt_rules};
@@ -9,7 +9,7 @@ ghost use Rattle.pls_distance.specs.inner.Gathering.{spt_tally};
 
 use crate::farther::{is_farther_by, is_reached_by};
 use crate::spt::SptLabel;
-use pls_model::State;
+use pls_configuration::State;
 use pls_scheme::is_one_more;
 
 /// What the own label says, and which rules on the ports hold at those so far.

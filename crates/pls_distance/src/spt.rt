@@ -3,7 +3,7 @@
 
 use crate::gathering::PortTally;
 use pls_bits::{Bits, NumCode};
-use pls_model::{State, Verdict};
+use pls_configuration::{State, Verdict};
 use pls_scheme::{
     Basic, Judgement, JudgesInPlace, LabelGlance, NumbersFormat, OfNumbers, ReadsInPlace,
     judged_from,

@@ -5,12 +5,12 @@ ghost use Rattle.pls_distance.specs.inner.Following.{AreFollowed, AreLabelsSoFar
 
 use crate::farther::is_farther_by;
 use crate::spt::{SptLabel, SptRules};
-use pls_base::NoMemory;
 use pls_bits::NumCode;
 use pls_graph::{Network, Size};
 use pls_pointer::root_and_depths;
 use pls_scheme::{Marker, codes_length};
 use pls_search::distances;
+use pls_streams::NoMemory;
 use std::alloc::Global;
 
 impl<C: NumCode> Marker for SptRules<C> {

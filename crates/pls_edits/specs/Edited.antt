@@ -1,13 +1,13 @@
 -- What an edit makes, which nodes it touches, and why it is refused.
 use Rattle.std.specs.Prelude.{◌≡◌, ℕ, ◌≤◌, ◌==◌, ◌||◌, nat_lt, Bool, false, List, [], ◌∷◌, filter, length, slice_set, insert, remove, Option, Some}
-use Rattle.pls_model.specs.declared.limits.TheConstants.{MAX_NUM, MAX_BITS}
-use Rattle.pls_model.specs.declared.row.NodeRow.{NodeRow}
-use Rattle.pls_model.specs.Configuration.{first_of}
+use Rattle.pls_configuration.specs.declared.limits.TheConstants.{MAX_NUM, MAX_BITS}
+use Rattle.pls_configuration.specs.declared.row.NodeRow.{NodeRow}
+use Rattle.pls_configuration.specs.Configuration.{first_of}
 use Rattle.pls_graph_edits.specs.declared.edit_error.EditError.{EditError}
 use Rattle.pls_graph_edits.specs.declared.edit_error.EditError.TheVariants.{Absent, Full}
 use Rattle.pls_graph_edits.specs.Edits.{SaysEdit, are_linked, cause, is_absent, join_refusal, joined, leave_refusal, left, link_refusal, linked, state_refusal, unlink_refusal, unlinked, weight_refusal, with_state, with_weight}
 use Rattle.pls_graph.specs.Places.{place_in}
-use Rattle.pls_view.specs.Labels.{bits_together}
+use Rattle.pls_labels.specs.Labels.{bits_together}
 use Rattle.pls_edits.specs.declared.edit.Edit.{Edit}
 use Rattle.pls_edits.specs.declared.edit.Edit.TheVariants.{State, Weight, Link, Unlink, Join, Leave, Label}
 

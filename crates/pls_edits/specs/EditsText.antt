@@ -1,7 +1,7 @@
 -- The text of edits: one line for each edit and for each round.
 use Rattle.std.specs.Prelude.{◌≡◌, ℕ, ◌-◌, ◌<◌, ◌≤◌, ◌^◌, Bool, true, false, List, [], ◌∷◌, codes, decimal, length}
-use Rattle.pls_base.specs.declared.text_error.TextError.{TextError}
-use Rattle.pls_model.specs.declared.limits.TheConstants.{MAX_NUM}
+use Rattle.pls_streams.specs.declared.text_error.TextError.{TextError}
+use Rattle.pls_configuration.specs.declared.limits.TheConstants.{MAX_NUM}
 use Rattle.pls_lines.specs.Counted.{counted}
 use Rattle.pls_lines.specs.LineKind.{Always, Says, alone}
 use Rattle.pls_lines.specs.Lines.{Left, Passes}

@@ -1,7 +1,7 @@
 //! Edits of a network and its labels.
 
 use pls_bits::BitBuf;
-use pls_model::State;
+use pls_configuration::State;
 
 /// One edit. Nodes are named by their identities.
 #[derive(Drop)]

@@ -10,11 +10,11 @@ ghost use Rattle.pls_edits.specs.declared.edit_line.EditLine.TheVariants.{Edit a
 use crate::edit::Edit;
 use crate::edit_line::EditLine;
 use crate::number_words::{state_after, three_numbers};
-use pls_base::NoMemory;
 use pls_closing::{ClosingLine, OwnLine};
+use pls_configuration::{MAX_NUM, MAX_WORD};
 use pls_labelfile::LabelLine;
 use pls_lines::{HeadingWord, LineKind, after_line, one_number, two_numbers};
-use pls_model::{MAX_NUM, MAX_WORD};
+use pls_streams::NoMemory;
 use std::alloc::Global;
 use std::marker::Model;
 

@@ -7,9 +7,9 @@ ghost use Rattle.pls_edits.specs.declared.edit_line.EditLine.{EditLine};
 use crate::edit_line::EditLine;
 use crate::edit_words::{EditWords, EditsWord};
 use crate::edits_text::EditsText;
-use pls_base::TextError;
 use pls_closing::ClosingTally;
 use pls_lines::{Lines, Part, ReadOnce, keep_list};
+use pls_streams::TextError;
 use std::alloc::Global;
 use std::marker::Model;
 

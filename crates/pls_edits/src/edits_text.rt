@@ -7,9 +7,9 @@ ghost use Rattle.pls_edits.specs.declared.edit_line.EditLine.{EditLine};
 
 use crate::edit_line::EditLine;
 use crate::edit_words::{EditWords, EditsWord};
-use pls_base::TextError;
 use pls_closing::{ClosingTally, check_limits};
 use pls_lines::{Lines, ListText, Part, scan};
+use pls_streams::TextError;
 use std::alloc::Global;
 use std::marker::Model;
 
@@ -85,8 +85,8 @@ impl<'a> EditsText<'a> {
 
     /// The edits and rounds, in the order of their lines.
     ///
-    /// `Limit(Events)` where there are more lines than [`MAX_LINES`](pls_model::MAX_LINES), else
-    /// `Limit(Rounds)` where there are more rounds than [`MAX_ROUNDS`](pls_model::MAX_ROUNDS),
+    /// `Limit(Events)` where there are more lines than [`MAX_LINES`](pls_configuration::MAX_LINES), else
+    /// `Limit(Rounds)` where there are more rounds than [`MAX_ROUNDS`](pls_configuration::MAX_ROUNDS),
     /// before any memory is taken; `NoMemory` for want of memory.
     pub fn list(&self, alloc: Global) -> Result<Vec<EditLine>, TextError>
         ensures ok { (lines : List EditLine) → TellsEdits self.now.text lines

@@ -23,6 +23,6 @@ pub use edit_line::EditLine;
 pub use edit_words::EditsWord;
 pub use edits_read::ReadEdits;
 pub use edits_text::{EditsText, scan_edits};
-pub use pls_base::NoMemory;
+pub use pls_configuration::{MAX_LINES, MAX_ROUNDS};
 pub use pls_graph_edits::EditError;
-pub use pls_model::{MAX_LINES, MAX_ROUNDS};
+pub use pls_streams::NoMemory;

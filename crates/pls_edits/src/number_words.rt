@@ -1,14 +1,14 @@
 //! Lines of a word and a state, or of a word and three numbers.
 
 ghost use Rattle.std.specs.Prelude.{◌≡◌, ◌≢◌, ℕ, ◌≤◌, ◌^◌, List, [], ◌∷◌, ◌++◌, IfNone, IfSome, decimal};
-ghost use Rattle.pls_model.specs.declared.row.State.{State};
+ghost use Rattle.pls_configuration.specs.declared.row.State.{State};
 ghost use Rattle.pls_lines.specs.Text.{line_of};
 ghost use Rattle.pls_netfile.specs.NetworkLine.{FitsNode};
 ghost use Rattle.pls_netfile.specs.NetworkText.{state_words};
 ghost use Rattle.pls_edits.specs.EditsText.{FitThree};
 
+use pls_configuration::State;
 use pls_lines::{after_word, number_before, u32_before};
-use pls_model::State;
 use pls_netfile::read_state;
 
 // Reads the line `word`, identity, state; `None` where `text` does not start with one.

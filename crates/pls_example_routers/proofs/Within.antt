@@ -1,8 +1,8 @@
 -- A few small rows are within the limits of a network.
 use Rattle.std.proofs.Common.{◌≤◌, List, length, All, arith}
 use Rattle.std.proofs.lemmas.List.Sums.{sum_by-le}
-use Rattle.pls_model.specs.declared.row.NodeRow.{NodeRow}
-use Rattle.pls_model.specs.Configuration.{AreWithinLimits}
+use Rattle.pls_configuration.specs.declared.row.NodeRow.{NodeRow}
+use Rattle.pls_configuration.specs.Configuration.{AreWithinLimits}
 use Rattle.pls_example_routers.specs.SmallRow.{IsSmallRow}
 
 pub within : (rows : List NodeRow) → 1 ≤ length rows → length rows ≤ 100 → All IsSmallRow rows

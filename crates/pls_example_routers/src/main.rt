@@ -8,7 +8,7 @@ mod watch;
 
 use crate::nodes::{Node, labels_of, network_of};
 use crate::watch::{is_a_tree, verdict_at};
-use pls_base::NoMemory;
+use pls_streams::NoMemory;
 use std::io;
 use std::process::ExitCode;
 

@@ -1,15 +1,15 @@
 //! Nodes as the protocol has them, and what the library makes of them.
 
 ghost use Rattle.std.specs.Prelude.{◌≡◌, ◌≤◌, length, IfOk, IfSome};
-ghost use Rattle.pls_model.specs.Walk.{IsConnected};
+ghost use Rattle.pls_configuration.specs.Walk.{IsConnected};
 ghost use Rattle.pls_example_routers.specs.SmallRow.{IsSmallRow};
 
-use pls_base::NoMemory;
 use pls_bits::Gamma;
 use pls_graph::{Network, NodePorts, NodeRow, Port, State, node_apart};
+use pls_labels::LabelStore;
 use pls_pointer::{Tree, TreeLabel};
 use pls_scheme::Scheme;
-use pls_view::LabelStore;
+use pls_streams::NoMemory;
 use std::alloc::Global;
 
 /// A node in a row of nodes, as the protocol keeps it.

@@ -1,16 +1,16 @@
 //! What the nodes find, and what follows where none of them rejects.
 
 ghost use Rattle.std.specs.Prelude.{◌≡◌, ◌<◌, length, IfOk, IsTrue};
-ghost use Rattle.pls_model.specs.Walk.{IsConnected};
+ghost use Rattle.pls_configuration.specs.Walk.{IsConnected};
 ghost use Rattle.pls_facts.specs.SpanningTree.{IsTree};
 
-use pls_base::{NoMemory, Steps};
 use pls_bits::Gamma;
+use pls_configuration::Verdict;
 use pls_graph::Network;
-use pls_model::Verdict;
+use pls_labels::{LabelStore, View};
 use pls_pointer::Tree;
 use pls_scheme::certifies;
-use pls_view::{LabelStore, View};
+use pls_streams::{NoMemory, Steps};
 use std::alloc::Global;
 
 /// The verdict of the node at place i on what it sees: itself, its label and its neighbours' labels.

@@ -5,9 +5,9 @@ ghost use Rattle.pls_numbers.specs.Shape.{said_by};
 ghost use Rattle.pls_example_weights.specs.SameWeights.{weights_shape};
 
 use crate::weights::{MOST, Weights};
-use pls_base::NoMemory;
 use pls_bits::{BitBuf, Bits, NumCode};
 use pls_numbers::{Format, Numbers, ReadsInPlace, append_numbers};
+use pls_streams::NoMemory;
 use std::alloc::Global;
 
 /// How many weights there are, and then these.

@@ -5,12 +5,12 @@ ghost use Rattle.pls_example_weights.specs.SameWeights.{first_weights};
 
 use crate::rules::SameWeightsRules;
 use crate::weights::Weights;
-use pls_base::NoMemory;
 use pls_bits::NumCode;
+use pls_configuration::Port;
 use pls_facts::is_valid;
 use pls_graph::{Network, Size};
-use pls_model::Port;
 use pls_scheme::{Marker, codes_length, hold_everywhere};
+use pls_streams::NoMemory;
 use std::alloc::Global;
 
 impl<C: NumCode> Marker for SameWeightsRules<C> {

@@ -6,7 +6,7 @@ ghost use Rattle.std.specs.Str.{bytes_eq};
 use crate::format::WeightsFormat;
 use crate::weights::Weights;
 use pls_bits::NumCode;
-use pls_model::State;
+use pls_configuration::State;
 use pls_scheme::{Judgement, RuleScheme, Rules, Verdict, judged_from};
 use std::marker::PhantomData;
 

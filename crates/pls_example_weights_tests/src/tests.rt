@@ -1,7 +1,7 @@
 //! Same weights at small networks.
 
 ghost use Rattle.std.specs.Prelude.{IfOk};
-ghost use Rattle.pls_model.specs.Walk.{IsConnected};
+ghost use Rattle.pls_configuration.specs.Walk.{IsConnected};
 
 use pls_bits::{BitBuf, Gamma};
 use pls_example_weights::SameWeights;

@@ -1,7 +1,7 @@
 -- Expressions over the names of schemes: the property, the same as a test, and how large they are.
 use Rattle.std.specs.Prelude.{ℕ, ◌+◌, ◌<◌, ◌≤◌, ◌⊎◌, ◌&&◌, ◌||◌, ⊤, max, Bool, true, false, List}
-use Rattle.pls_model.specs.declared.limits.TheConstants.{MAX_NODES}
-use Rattle.pls_model.specs.declared.row.NodeRow.{NodeRow}
+use Rattle.pls_configuration.specs.declared.limits.TheConstants.{MAX_NODES}
+use Rattle.pls_configuration.specs.declared.row.NodeRow.{NodeRow}
 use Rattle.pls_diameter_bridges.specs.Bridgeless.{IsBridgeless}
 use Rattle.pls_diameter_bridges.specs.Diameter.{HasDiameter}
 use Rattle.pls_diameter_bridges.specs.Tests.{bridgeless_test, diameter_test}

@@ -1,17 +1,17 @@
 //! What decides an expression of properties, by cases.
 
 ghost use Rattle.std.specs.Prelude.{◌↔◌, IfOk, IsTrue};
-ghost use Rattle.pls_model.specs.Walk.{IsConnected};
+ghost use Rattle.pls_configuration.specs.Walk.{IsConnected};
 ghost use Rattle.pls_expressions.specs.Held.{expression_of};
 ghost use Rattle.pls_expressions.specs.Expression.{HasProperty};
 
 use crate::expression_tree::ExpressionTree;
-use pls_base::NoMemory;
 use pls_bits::Gamma;
 use pls_diameter_bridges::{Bridgeless, Diameter};
 use pls_graph::Network;
 use pls_names::SchemeByName;
 use pls_scheme::Property;
+use pls_streams::NoMemory;
 use std::alloc::Global;
 
 /// Whether a connected network has the property. A basic one is decided as its scheme decides it;

@@ -2,9 +2,9 @@
 
 use crate::deciding::decide_tree;
 use crate::expression_tree::ExpressionTree;
-use pls_base::NoMemory;
 use pls_graph::Network;
 use pls_scheme::Property;
+use pls_streams::NoMemory;
 use pls_universal::PropertyTest;
 use std::alloc::Global;
 

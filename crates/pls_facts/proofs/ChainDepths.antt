@@ -1,7 +1,7 @@
 -- The lengths of the chains of pointers, as depths.
 use Rattle.std.proofs.Common.{◌≡◌, ◌∙◌, ℕ, ◌+◌, List, [], ◌∷◌, Contains, Some, None, refl, sym, ap, arith}
-use Rattle.pls_model.specs.declared.row.NodeRow.{NodeRow}
-use Rattle.pls_model.specs.Configuration.{IsNetwork}
+use Rattle.pls_configuration.specs.declared.row.NodeRow.{NodeRow}
+use Rattle.pls_configuration.specs.Configuration.{IsNetwork}
 use Rattle.pls_facts.specs.Pointer.{pointed_node, Falls, IsChainOf}
 use Rattle.pls_facts.proofs.Chains.{IsChainOf-after, IsChainOf-end, IsChainOf-one}
 use Rattle.pls_facts.proofs.Pointed.{chain_stays, ends_at_root, id_of_row, points_from, points_to, root_points_nowhere, row_from_id}

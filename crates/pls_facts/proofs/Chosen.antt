@@ -3,7 +3,7 @@
 use Rattle.std.proofs.Common.{ℕ, ◌<◌, ◌≤◌, inl, inr, Bool, List, set, ap, subst, arith, Contains, remove}
 use Rattle.std.proofs.lemmas.List.Sums.{sum_by-set}
 use Rattle.std.proofs.lemmas.Bool.{cases_lt}
-use Rattle.pls_model.specs.Walk.{Edge, JoinAll}
+use Rattle.pls_configuration.specs.Walk.{Edge, JoinAll}
 use Rattle.pls_graph.proofs.Joined.{AreJoined-adjacent}
 use Rattle.pls_facts.specs.Path.{IsPath, IsAlong}
 use Rattle.pls_facts.specs.SpanningTree.{IsSpanningTree}

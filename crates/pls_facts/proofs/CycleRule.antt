@@ -4,7 +4,7 @@ use Rattle.std.proofs.Common.{◌≡◌, ◌≢◌, ℕ, ◌<◌, ◌≤◌, ◌
 use Rattle.std.specs.List.{filter}
 use Rattle.std.proofs.lemmas.Bool.{cases_eq, cases_lt, leb-true, le-leb}
 use Rattle.std.proofs.lemmas.List.Sums.{sum_by-cons, sum_by-remove, sum_by-set}
-use Rattle.pls_model.specs.Walk.{Edge, AreJoined, Walk}
+use Rattle.pls_configuration.specs.Walk.{Edge, AreJoined, Walk}
 use Rattle.pls_graph.proofs.Members.{Contains-cons_cases, Contains-filter, Contains-first, Contains-from_filter, Contains-later}
 use Rattle.pls_facts.specs.Classes.{class_of}
 use Rattle.pls_facts.specs.Path.{IsPath, IsAlong}

@@ -1,9 +1,9 @@
 -- Depths that fall at some neighbour lead to a root.
 use Rattle.std.proofs.Common.{◌≡◌, ◌∙◌, ℕ, zero, suc, ◌+◌, List, Contains, refl, sym, ap, arith}
-use Rattle.pls_model.specs.declared.row.Port.{Port}
-use Rattle.pls_model.specs.declared.row.NodeRow.{NodeRow}
-use Rattle.pls_model.specs.Configuration.{IsNetwork}
-use Rattle.pls_model.specs.Walk.{IsConnected}
+use Rattle.pls_configuration.specs.declared.row.Port.{Port}
+use Rattle.pls_configuration.specs.declared.row.NodeRow.{NodeRow}
+use Rattle.pls_configuration.specs.Configuration.{IsNetwork}
+use Rattle.pls_configuration.specs.Walk.{IsConnected}
 use Rattle.pls_facts.specs.Descent.{AreRooted, FallsAtSome, IsTheRoot}
 use Rattle.pls_facts.proofs.Agreed.{agree_everywhere}
 use Rattle.pls_facts.proofs.Lists.{some_item}

@@ -8,10 +8,10 @@ use Rattle.std.proofs.lemmas.List.{length-append, length-map}
 use Rattle.std.proofs.lemmas.Map.Steps.{le-length_from_below}
 use Rattle.std.proofs.lemmas.Map.Views.{list_any-from_Contains}
 use Rattle.std.proofs.lemmas.Option.{slice_get-get_or, slice_get_within}
-use Rattle.pls_model.specs.declared.row.NodeRow.{NodeRow}
-use Rattle.pls_model.specs.Walk.{Edge, Adjacent, AreJoined, IsConnected, Walk, edges_of}
+use Rattle.pls_configuration.specs.declared.row.NodeRow.{NodeRow}
+use Rattle.pls_configuration.specs.Walk.{Edge, Adjacent, AreJoined, IsConnected, Walk, edges_of}
 use Rattle.pls_graph.specs.Levels.{AreLevels, IsLevel}
-use Rattle.pls_model.proofs.Paths.{Path-append}
+use Rattle.pls_configuration.proofs.Paths.{Path-append}
 use Rattle.pls_graph.proofs.Joined.{Adjacent-turned}
 use Rattle.pls_graph.proofs.Members.{Contains-from_place, Contains-map}
 use Rattle.pls_facts.specs.Cycle.{AreSearched}

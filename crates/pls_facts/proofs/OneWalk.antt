@@ -1,7 +1,7 @@
 -- Two nodes of a spanning tree are the ends of one path and no other.
 use Rattle.std.proofs.Common.{◌≡◌, ◌≢◌, ◌∙◌, ℕ, inl, inr, List, [], ◌∷◌, refl, sym, subst, Contains, remove}
 use Rattle.std.proofs.lemmas.Bool.{cases_eq}
-use Rattle.pls_model.specs.Walk.{Edge, Adjacent, AreJoined, Joins, Walk}
+use Rattle.pls_configuration.specs.Walk.{Edge, Adjacent, AreJoined, Joins, Walk}
 use Rattle.pls_graph.proofs.Joined.{AreJoined-through, AreJoined-turned}
 use Rattle.pls_graph.proofs.Members.{Contains-first, Contains-later}
 use Rattle.pls_facts.specs.Path.{IsPath}

@@ -4,7 +4,7 @@ use Rattle.std.specs.List.{sum_by}
 use Rattle.std.proofs.lemmas.Bool.{cases_eq, eqb-true}
 use Rattle.std.proofs.lemmas.List.Sums.{sum_by-cons}
 use Rattle.pls_graph.proofs.Members.{Contains-cons_cases, Contains-first, Contains-later}
-use Rattle.pls_model.specs.Path.{Path}
+use Rattle.pls_configuration.specs.Path.{Path}
 use Rattle.pls_facts.specs.Parents.{NoParentsReturn}
 use Rattle.pls_facts.proofs.ParentLines.{Ended, hits, line_from}
 use Rattle.pls_facts.proofs.Sums.{AreApart, eqb_turned, sum-add, sum-at, sum-same, sum-zero, when, when-none}

@@ -1,7 +1,7 @@
 -- Along a walk the colours of a two-colouring alternate.
 use Rattle.std.proofs.Common.{◌≡◌, ◌≢◌, ◌∙◌, ℕ, suc, ◌%◌, Bool, true, false, not, List, [], ◌∷◌, length, inl, inr, refl, sym, ap, arith}
 use Rattle.std.proofs.lemmas.Bool.{eqb-true, eqb-false, eq-eqb, ne_eqb}
-use Rattle.pls_model.specs.Walk.{Edge, Adjacent, Walk}
+use Rattle.pls_configuration.specs.Walk.{Edge, Adjacent, Walk}
 use Rattle.pls_graph.specs.Levels.{IsLevel}
 use Rattle.pls_facts.specs.Bipartite.{Colours, is_odd}
 

@@ -1,10 +1,10 @@
 -- Levels from one node of a network, as a function of the identity.
 use Rattle.std.proofs.Common.{◌≡◌, ◌∙◌, ℕ, ◌+◌, ◌<◌, ◌≤◌, List, [], ◌∷◌, length, Contains, sym, subst, arith}
 use Rattle.std.proofs.lemmas.List.{length-map}
-use Rattle.pls_model.specs.declared.row.Port.{Port}
-use Rattle.pls_model.specs.declared.row.NodeRow.{NodeRow}
-use Rattle.pls_model.specs.Configuration.{IsNetwork, ids_of}
-use Rattle.pls_model.specs.Walk.{Adjacent, Walk, edges_of}
+use Rattle.pls_configuration.specs.declared.row.Port.{Port}
+use Rattle.pls_configuration.specs.declared.row.NodeRow.{NodeRow}
+use Rattle.pls_configuration.specs.Configuration.{IsNetwork, ids_of}
+use Rattle.pls_configuration.specs.Walk.{Adjacent, Walk, edges_of}
 use Rattle.pls_graph.specs.Levels.{IsLevel}
 use Rattle.pls_graph.proofs.Members.{Contains-from_map}
 use Rattle.pls_facts.specs.Cycle.{AreSearched}

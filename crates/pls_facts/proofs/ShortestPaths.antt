@@ -1,10 +1,10 @@
 -- Shortest-path trees, by numbers that fall along pointers and rise along edges by the weights.
 use Rattle.std.proofs.Common.{◌≡◌, ◌∙◌, ℕ, suc, ◌+◌, ◌*◌, ◌≤◌, inl, inr, List, [], ◌∷◌, map, flat_map, length, Contains, Some, None, refl, sym, ap, subst, arith, suc-mul}
 use Rattle.std.proofs.lemmas.Option.{same_Some}
-use Rattle.pls_model.specs.declared.row.Port.{Port}
-use Rattle.pls_model.specs.declared.row.NodeRow.{NodeRow}
-use Rattle.pls_model.specs.Configuration.{IsNetwork}
-use Rattle.pls_model.specs.Walk.{Walk, edges_of}
+use Rattle.pls_configuration.specs.declared.row.Port.{Port}
+use Rattle.pls_configuration.specs.declared.row.NodeRow.{NodeRow}
+use Rattle.pls_configuration.specs.Configuration.{IsNetwork}
+use Rattle.pls_configuration.specs.Walk.{Walk, edges_of}
 use Rattle.pls_graph.specs.Size.{greatest, weights_of}
 use Rattle.pls_graph.proofs.Members.{Contains-cons_cases, Contains-flat_map, Contains-from_place}
 use Rattle.pls_facts.specs.Pointer.{pointed_node, Chain, IsChainOf}

@@ -1,12 +1,12 @@
 -- The weights of walks: they add up, a turned walk weighs the same, and numbers that change from
 -- node to node by the weights of edges bound them.
 use Rattle.std.proofs.Common.{◌≡◌, ◌∙◌, ℕ, ◌+◌, ◌≤◌, List, [], ◌∷◌, ◌++◌, Contains, Some, slice_get, refl, sym, ap, subst, arith}
-use Rattle.pls_model.specs.declared.row.Port.{Port}
-use Rattle.pls_model.specs.declared.row.NodeRow.{NodeRow}
-use Rattle.pls_model.specs.Configuration.{IsNetwork}
-use Rattle.pls_model.specs.Walk.{Adjacent, Walk, edges_of}
+use Rattle.pls_configuration.specs.declared.row.Port.{Port}
+use Rattle.pls_configuration.specs.declared.row.NodeRow.{NodeRow}
+use Rattle.pls_configuration.specs.Configuration.{IsNetwork}
+use Rattle.pls_configuration.specs.Walk.{Adjacent, Walk, edges_of}
 use Rattle.pls_graph.proofs.Adjacent.{Adjacent-port}
-use Rattle.pls_model.proofs.Paths.{Path-append}
+use Rattle.pls_configuration.proofs.Paths.{Path-append}
 use Rattle.pls_graph.proofs.Joined.{Adjacent-turned}
 use Rattle.pls_graph.proofs.Members.{place_from_Contains}
 use Rattle.pls_graph.proofs.Placed.{WayBack, port_of_place, row_of_place, way_back}

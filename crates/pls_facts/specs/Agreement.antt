@@ -1,7 +1,7 @@
 -- What neighbours have in common.
 use Rattle.std.specs.Prelude.{◌≡◌, ℕ, List, Contains}
-use Rattle.pls_model.specs.declared.row.Port.{Port}
-use Rattle.pls_model.specs.declared.row.NodeRow.{NodeRow}
+use Rattle.pls_configuration.specs.declared.row.Port.{Port}
+use Rattle.pls_configuration.specs.declared.row.NodeRow.{NodeRow}
 
 -- the node at each port says what the node of the port says
 abbrev pub AgreeAtPorts : {L : Type 0} → List NodeRow → (ℕ → L) → Type 0

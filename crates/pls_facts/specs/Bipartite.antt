@@ -1,7 +1,7 @@
 -- Two-colourings of a configuration (any textbook on graphs).
 use Rattle.std.specs.Prelude.{◌≢◌, ℕ, ◌%◌, ◌==◌, Bool, true, false, not, List, Contains}
-use Rattle.pls_model.specs.declared.row.NodeRow.{NodeRow}
-use Rattle.pls_model.specs.Walk.{Edge, edges_of}
+use Rattle.pls_configuration.specs.declared.row.NodeRow.{NodeRow}
+use Rattle.pls_configuration.specs.Walk.{Edge, edges_of}
 
 -- the colours that a map gives to the ends of each edge differ
 abbrev pub Colours : (ℕ → Bool) → List Edge → Type 0

@@ -1,7 +1,7 @@
 -- The classes into which edges put nodes: nodes of one class are exactly those that are joined.
 use Rattle.std.specs.Prelude.{ℕ, ◌==◌, cond, Bool, List, [], ◌∷◌}
 use Rattle.std.specs.List.{list_all}
-use Rattle.pls_model.specs.Walk.{Edge}
+use Rattle.pls_configuration.specs.Walk.{Edge}
 
 -- what becomes of a class when class `from` is put into class `to`
 abbrev pub moved : ℕ → ℕ → ℕ → ℕ

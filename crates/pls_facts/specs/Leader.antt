@@ -1,7 +1,7 @@
 -- Marked leaders (Korman, Kutten and Peleg 2010, the leader example).
 use Rattle.std.specs.Prelude.{◌≡◌, ◌==◌, Bool, List}
-use Rattle.pls_model.specs.declared.row.State.{State}
-use Rattle.pls_model.specs.declared.row.NodeRow.{NodeRow}
+use Rattle.pls_configuration.specs.declared.row.State.{State}
+use Rattle.pls_configuration.specs.declared.row.NodeRow.{NodeRow}
 use Rattle.pls_facts.specs.OnlyNode.{passing}
 
 -- the node is marked as a leader: its mark is 1

@@ -1,8 +1,8 @@
 -- Trees of pointers whose edges weigh least together (any textbook on graphs).
 use Rattle.std.specs.Prelude.{List}
-use Rattle.pls_model.specs.declared.row.NodeRow.{NodeRow}
-use Rattle.pls_model.specs.Configuration.{ids_of}
-use Rattle.pls_model.specs.Walk.{edges_of}
+use Rattle.pls_configuration.specs.declared.row.NodeRow.{NodeRow}
+use Rattle.pls_configuration.specs.Configuration.{ids_of}
+use Rattle.pls_configuration.specs.Walk.{edges_of}
 use Rattle.pls_facts.specs.SpanningTree.{IsTree, pointed_edges}
 use Rattle.pls_facts.specs.Lightest.{IsLightest}
 

@@ -1,8 +1,8 @@
 -- The one node that passes a test of its state.
 use Rattle.std.specs.Prelude.{◌≡◌, ℕ, Bool, true, List, Contains, count_by}
 use Rattle.std.specs.Option.{is_none}
-use Rattle.pls_model.specs.declared.row.State.{State}
-use Rattle.pls_model.specs.declared.row.NodeRow.{NodeRow}
+use Rattle.pls_configuration.specs.declared.row.State.{State}
+use Rattle.pls_configuration.specs.declared.row.NodeRow.{NodeRow}
 
 -- the node points at none
 abbrev pub points_at_none : State → Bool

@@ -1,7 +1,7 @@
 -- Chains from parent to parent, by any relation "has as its parent", and how many there are of what
 -- has something in common.
 use Rattle.std.specs.Prelude.{◌≡◌, ℕ, ◌↔◌, List, ◌∷◌, length, Contains}
-use Rattle.pls_model.specs.Path.{Path}
+use Rattle.pls_configuration.specs.Path.{Path}
 use Rattle.pls_facts.specs.SpanningTree.{AreDistinct}
 
 -- the chain of parents of u meets v; it meets u itself

@@ -1,7 +1,7 @@
 -- Shortest-path trees: trees of pointers whose chains are lightest walks (any textbook on graphs).
 use Rattle.std.specs.Prelude.{ℕ, ◌≤◌, List}
-use Rattle.pls_model.specs.declared.row.NodeRow.{NodeRow}
-use Rattle.pls_model.specs.Walk.{Walk, edges_of}
+use Rattle.pls_configuration.specs.declared.row.NodeRow.{NodeRow}
+use Rattle.pls_configuration.specs.Walk.{Walk, edges_of}
 use Rattle.pls_facts.specs.Pointer.{IsChainOf}
 use Rattle.pls_facts.specs.SpanningTree.{IsTree}
 use Rattle.pls_facts.specs.Weight.{walk_weight}

@@ -1,8 +1,8 @@
 -- Numbers that are summed along a tree, from each node to its parent.
 use Rattle.std.specs.Prelude.{◌≡◌, ◌≢◌, ℕ, ◌+◌, ◌==◌, List, sum_by, Contains}
 use Rattle.std.specs.List.{filter}
-use Rattle.pls_model.specs.declared.row.Port.{Port}
-use Rattle.pls_model.specs.declared.row.NodeRow.{NodeRow}
+use Rattle.pls_configuration.specs.declared.row.Port.{Port}
+use Rattle.pls_configuration.specs.declared.row.NodeRow.{NodeRow}
 
 -- the root is its own parent, and that of each other node is one of its neighbours
 pub record HaveParents (rows : List NodeRow) (root : ℕ) (parent : ℕ → ℕ) : Type 0 where

@@ -1,9 +1,9 @@
 -- The weights of walks, and the least of them between two nodes (any textbook on graphs).
 use Rattle.std.specs.Prelude.{◌≡◌, ℕ, ◌+◌, ◌≤◌, List, [], ◌∷◌, option_and_then}
 use Rattle.std.specs.Option.{option_map_or}
-use Rattle.pls_model.specs.declared.row.NodeRow.{NodeRow}
-use Rattle.pls_model.specs.Configuration.{port_to, row_of}
-use Rattle.pls_model.specs.Walk.{Walk, edges_of}
+use Rattle.pls_configuration.specs.declared.row.NodeRow.{NodeRow}
+use Rattle.pls_configuration.specs.Configuration.{port_to, row_of}
+use Rattle.pls_configuration.specs.Walk.{Walk, edges_of}
 
 -- the weight of the edge between two nodes, as the port of u to v states it; 0 where there is none
 abbrev pub edge_weight : List NodeRow → ℕ → ℕ → ℕ

@@ -1,8 +1,8 @@
 //! What all nodes of a connected network have in common.
 
 ghost use Rattle.std.specs.Prelude.{◌≡◌, ℕ, Contains};
-ghost use Rattle.pls_model.specs.Configuration.{ids_of};
-ghost use Rattle.pls_model.specs.Walk.{IsConnected};
+ghost use Rattle.pls_configuration.specs.Configuration.{ids_of};
+ghost use Rattle.pls_configuration.specs.Walk.{IsConnected};
 ghost use Rattle.pls_facts.specs.Agreement.{AgreeAtPorts};
 
 use pls_graph::Network;

@@ -1,8 +1,8 @@
 //! Laws of depths that lead to a root.
 
 ghost use Rattle.std.specs.Prelude.{ℕ};
-ghost use Rattle.pls_model.specs.declared.row.NodeRow.{NodeRow};
-ghost use Rattle.pls_model.specs.Walk.{IsConnected};
+ghost use Rattle.pls_configuration.specs.declared.row.NodeRow.{NodeRow};
+ghost use Rattle.pls_configuration.specs.Walk.{IsConnected};
 ghost use Rattle.pls_facts.specs.Descent.{AreRooted, IsTheRoot};
 
 use crate::valid::is_valid;

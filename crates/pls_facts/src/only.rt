@@ -1,12 +1,12 @@
 //! The one node that passes a test of its state.
 
 ghost use Rattle.std.specs.Prelude.{◌≡◌, Bool, IfSome, IfNone};
-ghost use Rattle.pls_model.specs.declared.row.State.{State};
-ghost use Rattle.pls_model.specs.Configuration.{IsNetwork};
+ghost use Rattle.pls_configuration.specs.declared.row.State.{State};
+ghost use Rattle.pls_configuration.specs.Configuration.{IsNetwork};
 ghost use Rattle.pls_facts.specs.OnlyNode.{IsOnly, passing};
 
+use pls_configuration::State;
 use pls_graph::Network;
-use pls_model::State;
 
 /// A test of a node's state.
 pub trait StateTest {

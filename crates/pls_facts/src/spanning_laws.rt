@@ -2,8 +2,8 @@
 //! tree is seen to be of least weight.
 
 ghost use Rattle.std.specs.Prelude.{◌≡◌, ℕ, Bool, List, Contains, IsTrue, remove, slice_set};
-ghost use Rattle.pls_model.specs.Configuration.{ids_of};
-ghost use Rattle.pls_model.specs.Walk.{AreJoined, Edge, edges_of};
+ghost use Rattle.pls_configuration.specs.Configuration.{ids_of};
+ghost use Rattle.pls_configuration.specs.Walk.{AreJoined, Edge, edges_of};
 ghost use Rattle.pls_facts.specs.Lightest.{AreFirstLeaving, IsEdgeOrder, IsLightest, OthersAreHeavy};
 ghost use Rattle.pls_facts.specs.Path.{IsAlong, IsPath};
 ghost use Rattle.pls_facts.specs.SpanningTree.{IsSpanningTree};

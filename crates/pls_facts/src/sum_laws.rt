@@ -1,7 +1,7 @@
 //! Laws of sums along a tree.
 
 ghost use Rattle.std.specs.Prelude.{◌≡◌, ℕ, length, Contains};
-ghost use Rattle.pls_model.specs.declared.row.NodeRow.{NodeRow};
+ghost use Rattle.pls_configuration.specs.declared.row.NodeRow.{NodeRow};
 ghost use Rattle.pls_facts.specs.TreeSums.{AreSummed, HaveParents};
 
 use crate::valid::is_valid;

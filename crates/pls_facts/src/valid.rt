@@ -1,6 +1,6 @@
 //! What holds of each network.
 
-ghost use Rattle.pls_model.specs.Configuration.{IsNetwork};
+ghost use Rattle.pls_configuration.specs.Configuration.{IsNetwork};
 
 use pls_graph::Network;
 

@@ -4,7 +4,7 @@ ghost use Rattle.std.specs.Prelude.{◌≡◌, option_map};
 ghost use Rattle.pls_fronts.specs.Front.{found_front};
 ghost use Rattle.pls_fronts.specs.NumberFront.{digits_ahead, number_front};
 
-use pls_base::read_decimal;
+use pls_streams::read_decimal;
 
 /// The number that all digits at the front of a text spell, and what follows them; `None` where
 /// they are not the decimal of a number that is at most `most`.

@@ -35,7 +35,7 @@ pub use builder::NetworkBuilder;
 #[doc(hidden)]
 pub use hints::Hints;
 pub use network::Network;
-pub use pls_model::{BuildError, NodePorts, NodeRow, Port, State};
+pub use pls_configuration::{BuildError, NodePorts, NodeRow, Port, State};
 pub use reach::{first_apart, node_apart};
 pub use size::Size;
 #[doc(hidden)]

@@ -2,17 +2,17 @@
 //! them in another, and each node has one range of both.
 
 ghost use Rattle.std.specs.Prelude.{◌≡◌, ◌≢◌, ◌<◌, ◌≤◌, ◌==◌, [], ◌∷◌, ◌++◌, List, ℕ, length, position, slice_get, slice_set, option_map, None, Some, IfOk, OnOk, OnErr};
-ghost use Rattle.pls_model.specs.declared.row.NodeRow.{NodeRow};
-ghost use Rattle.pls_model.specs.Configuration.{out_of_order};
-ghost use Rattle.pls_model.specs.declared.limits.TheConstants.{MAX_NODES};
-ghost use Rattle.pls_model.specs.declared.refusal.BuildError.TheVariants.{Order};
+ghost use Rattle.pls_configuration.specs.declared.row.NodeRow.{NodeRow};
+ghost use Rattle.pls_configuration.specs.Configuration.{out_of_order};
+ghost use Rattle.pls_configuration.specs.declared.limits.TheConstants.{MAX_NODES};
+ghost use Rattle.pls_configuration.specs.declared.refusal.BuildError.TheVariants.{Order};
 ghost use Rattle.pls_graph.specs.declared.table.Node.{Node};
 ghost use Rattle.pls_graph.specs.Places.{places_in};
 ghost use Rattle.pls_graph.specs.Rows.{gaining};
 
 use crate::ranges::{push_both, range_at_end};
 use crate::seeking::{fill_places, order, place_hinted};
-use pls_model::{BuildError, NodePorts, NodeRow, Port, State};
+use pls_configuration::{BuildError, NodePorts, NodeRow, Port, State};
 use std::alloc::{AllocError, Global};
 use std::marker::Model;
 

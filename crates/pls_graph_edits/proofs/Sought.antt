@@ -7,11 +7,11 @@ use Rattle.std.proofs.lemmas.Option.{same_Some, get_or_from_slice_get, slice_get
 use Rattle.std.proofs.lemmas.List.Folds.{find_at}
 use Rattle.std.proofs.lemmas.List.Quantifiers.{position-Some}
 use Rattle.std.proofs.lemmas.Map.Keys.{any_passes_from_place}
-use Rattle.pls_model.specs.declared.row.Port.{Port}
-use Rattle.pls_model.specs.declared.row.State.{State}
-use Rattle.pls_model.specs.declared.row.NodeRow.{NodeRow}
-use Rattle.pls_model.specs.Configuration.{IsNetwork, first_of, port_to, ports_in, row_of}
-use Rattle.pls_model.specs.declared.limits.TheConstants.{MAX_PORTS}
+use Rattle.pls_configuration.specs.declared.row.Port.{Port}
+use Rattle.pls_configuration.specs.declared.row.State.{State}
+use Rattle.pls_configuration.specs.declared.row.NodeRow.{NodeRow}
+use Rattle.pls_configuration.specs.Configuration.{IsNetwork, first_of, port_to, ports_in, row_of}
+use Rattle.pls_configuration.specs.declared.limits.TheConstants.{MAX_PORTS}
 use Rattle.pls_graph_edits.specs.Edits.{fits_state, leave_refusal, unlink_refusal, state_refusal, link_refusal, cause}
 use Rattle.pls_graph_edits.specs.declared.edit_error.EditError.TheVariants.{Absent, Present, Pointer, SelfLink, HasPorts, Last, Full}
 use Rattle.pls_graph.proofs.Placed.{WayBack, way_back, row_of_place}

@@ -1,8 +1,8 @@
 //! The edits of a network. One that is refused changes nothing.
 
 ghost use Rattle.std.specs.Prelude.{◌≡◌, ◌≤◌, ◌==◌, position, slice_get, None, Some, IfOk, IfErr, OnOk, OnErr};
-ghost use Rattle.pls_model.specs.declared.row.NodeRow.{NodeRow};
-ghost use Rattle.pls_model.specs.declared.limits.TheConstants.{MAX_NUM};
+ghost use Rattle.pls_configuration.specs.declared.row.NodeRow.{NodeRow};
+ghost use Rattle.pls_configuration.specs.declared.limits.TheConstants.{MAX_NUM};
 ghost use Rattle.pls_graph_edits.specs.inner.Ends.{AreEnds};
 ghost use Rattle.pls_graph_edits.specs.Edits.{with_state, state_refusal, fits_state, linked, link_refusal, left, leave_refusal, joined, join_refusal, unlinked, unlink_refusal, with_weight, weight_refusal, SaysEdit};
 
@@ -10,8 +10,8 @@ use crate::edit_error::EditError;
 use crate::gap_seeking::gap_for;
 use crate::hinting::{close, open};
 use crate::shaping;
+use pls_configuration::{MAX_NODES, MAX_PORTS, Port, State};
 use pls_graph::Network;
-use pls_model::{MAX_NODES, MAX_PORTS, Port, State};
 
 /// Gives a node the state. It takes no memory. The error is the first that holds: `Absent`, no
 /// node has the identity; `Pointer`, the state points at a port that the node does not have.

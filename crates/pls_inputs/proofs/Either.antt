@@ -1,11 +1,11 @@
 -- Bytes are an input, or are refused.
 use Rattle.std.proofs.Common.{◌≡◌, ℕ, ◌<◌, ◌≤◌, nat_lt, Bool, true, false, List, length, Option, Some, None, Result, Ok, Err, IfErr, IfOk, inl, inr, arith, refl}
 use Rattle.std.proofs.lemmas.Bool.Decides.{nat_tests}
-use Rattle.pls_base.specs.declared.text_error.TextError.{TextError}
-use Rattle.pls_base.specs.declared.text_error.TextError.TheVariants.{Limit}
-use Rattle.pls_base.specs.declared.text_error.Quantity.TheVariants.{Input as InputBytes}
-use Rattle.pls_model.specs.declared.limits.TheConstants.{MAX_INPUT}
-use Rattle.pls_model.specs.Configuration.{first_of}
+use Rattle.pls_streams.specs.declared.text_error.TextError.{TextError}
+use Rattle.pls_streams.specs.declared.text_error.TextError.TheVariants.{Limit}
+use Rattle.pls_streams.specs.declared.text_error.Quantity.TheVariants.{Input as InputBytes}
+use Rattle.pls_configuration.specs.declared.limits.TheConstants.{MAX_INPUT}
+use Rattle.pls_configuration.specs.Configuration.{first_of}
 use Rattle.pls_lines.specs.Fault.{NamesFirstFault}
 use Rattle.pls_inputs.specs.declared.parts.Parts.{Parts}
 use Rattle.pls_inputs.specs.declared.texts.Texts.{Texts}

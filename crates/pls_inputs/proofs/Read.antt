@@ -1,11 +1,11 @@
 -- What was built of the texts that were scanned: the input that they say, or its refusal.
 use Rattle.std.proofs.Common.{◌≡◌, ◌≢◌, ◌∙◌, ℕ, ◌≤◌, Bool, true, List, [], ◌∷◌, length, Option, Some, None, option_map, option_and_then, inr, ap, subst, refl, sym}
 use Rattle.std.specs.Option.{unwrap_or}
-use Rattle.pls_base.specs.declared.text_error.TextError.{TextError}
-use Rattle.pls_base.specs.declared.text_error.TextError.TheVariants.{NoMemory}
-use Rattle.pls_model.specs.declared.row.NodeRow.{NodeRow}
-use Rattle.pls_model.specs.declared.limits.TheConstants.{MAX_BITS, MAX_INPUT}
-use Rattle.pls_model.specs.Configuration.{first_of, ids_of}
+use Rattle.pls_streams.specs.declared.text_error.TextError.{TextError}
+use Rattle.pls_streams.specs.declared.text_error.TextError.TheVariants.{NoMemory}
+use Rattle.pls_configuration.specs.declared.row.NodeRow.{NodeRow}
+use Rattle.pls_configuration.specs.declared.limits.TheConstants.{MAX_BITS, MAX_INPUT}
+use Rattle.pls_configuration.specs.Configuration.{first_of, ids_of}
 use Rattle.pls_bits.specs.declared.code_name.CodeName.{CodeName}
 use Rattle.pls_labelfile.specs.LabelsScan.{total_bits}
 use Rattle.pls_labelfile.specs.Misfit.{misfit}

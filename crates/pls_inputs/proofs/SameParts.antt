@@ -2,8 +2,8 @@
 use Rattle.std.proofs.Common.{◌≡◌, ◌∙◌, ℕ, ◌+◌, Bool, true, false, List, [], length, Option, Some, None, option_map, ap, subst, refl, sym}
 use Rattle.std.specs.Option.{option_map_or, unwrap_or}
 use Rattle.std.proofs.lemmas.List.{length-map}
-use Rattle.pls_model.specs.declared.row.NodeRow.{NodeRow}
-use Rattle.pls_model.specs.Configuration.{ids_of}
+use Rattle.pls_configuration.specs.declared.row.NodeRow.{NodeRow}
+use Rattle.pls_configuration.specs.Configuration.{ids_of}
 use Rattle.pls_netfile.specs.NetworkScan.{TellsNetwork, WrittenNetwork}
 use Rattle.pls_netfile.specs.NetworkText.{AreRows}
 use Rattle.pls_bits.specs.declared.code_name.CodeName.TheVariants.{Gamma}

@@ -1,6 +1,6 @@
 -- Formats with the same texts have the same first faults.
 use Rattle.std.proofs.Common.{ℕ, ◌+◌, List, ◌++◌}
-use Rattle.pls_base.specs.declared.text_error.TextError.{TextError}
+use Rattle.pls_streams.specs.declared.text_error.TextError.{TextError}
 use Rattle.pls_lines.specs.Fault.{Begins, FirstFault, NamesFirstFault}
 
 same_begins : (format other : List (List ℕ) → Type 0) (text : List ℕ) (count : ℕ)

@@ -2,12 +2,12 @@
 use Rattle.std.proofs.Common.{◌≡◌, ◌≢◌, ◌∙◌, ℕ, ◌≤◌, Bool, false, List, [], length, nat_lt, Option, Some, None, option_map, option_and_then, ap, subst, refl, sym, arith}
 use Rattle.std.specs.Option.{option_map_or, unwrap_or}
 use Rattle.std.proofs.lemmas.Bool.Decides.{nat_tests}
-use Rattle.pls_base.specs.declared.text_error.TextError.{TextError}
-use Rattle.pls_base.specs.declared.text_error.TextError.TheVariants.{Form, Limit, Sense, NoMemory}
-use Rattle.pls_base.specs.declared.text_error.Quantity.TheVariants.{Input as InputBytes, Nodes, Ports, Bits, Events, Rounds, Labels}
-use Rattle.pls_model.specs.declared.row.NodeRow.{NodeRow}
-use Rattle.pls_model.specs.declared.limits.TheConstants.{MAX_BITS, MAX_LINES, MAX_NODES, MAX_PORTS}
-use Rattle.pls_model.specs.Configuration.{ids_of, ports_in, refusal_of}
+use Rattle.pls_streams.specs.declared.text_error.TextError.{TextError}
+use Rattle.pls_streams.specs.declared.text_error.TextError.TheVariants.{Form, Limit, Sense, NoMemory}
+use Rattle.pls_streams.specs.declared.text_error.Quantity.TheVariants.{Input as InputBytes, Nodes, Ports, Bits, Events, Rounds, Labels}
+use Rattle.pls_configuration.specs.declared.row.NodeRow.{NodeRow}
+use Rattle.pls_configuration.specs.declared.limits.TheConstants.{MAX_BITS, MAX_LINES, MAX_NODES, MAX_PORTS}
+use Rattle.pls_configuration.specs.Configuration.{ids_of, ports_in, refusal_of}
 use Rattle.pls_netfile.specs.NetworkBuild.{IsRefusedBuild, text_error_of}
 use Rattle.pls_netfile.specs.NetworkScan.{TellsNetwork, WrittenNetwork}
 use Rattle.pls_labelfile.specs.LabelsText.{Labelling, NamedLabel}

@@ -2,17 +2,17 @@
 use Rattle.std.proofs.Common.{◌≡◌, ◌∙◌, ℕ, ◌+◌, ◌-◌, ◌≤◌, ◌<◌, ◌^◌, Bool, true, false, List, [], ◌∷◌, ◌++◌, length, nat_lt, Option, Some, None, if◌then◌else◌, ap, refl, sym, arith}
 use Rattle.std.specs.Option.{option_map_or, unwrap_or}
 use Rattle.std.proofs.lemmas.Bool.Decides.{nat_tests}
-use Rattle.pls_base.specs.declared.text_error.TextError.{TextError}
-use Rattle.pls_base.specs.declared.text_error.TextError.TheVariants.{Limit}
-use Rattle.pls_base.specs.declared.text_error.Quantity.{Quantity}
-use Rattle.pls_base.specs.declared.text_error.Quantity.TheVariants.{Nodes, Ports, Bits, Events, Rounds}
-use Rattle.pls_model.specs.declared.row.NodeRow.{NodeRow}
-use Rattle.pls_model.specs.declared.limits.TheConstants.{MAX_BITS, MAX_LINES, MAX_NODES, MAX_PORTS, MAX_ROUNDS}
-use Rattle.pls_model.specs.Configuration.{first_of, ports_in}
+use Rattle.pls_streams.specs.declared.text_error.TextError.{TextError}
+use Rattle.pls_streams.specs.declared.text_error.TextError.TheVariants.{Limit}
+use Rattle.pls_streams.specs.declared.text_error.Quantity.{Quantity}
+use Rattle.pls_streams.specs.declared.text_error.Quantity.TheVariants.{Nodes, Ports, Bits, Events, Rounds}
+use Rattle.pls_configuration.specs.declared.row.NodeRow.{NodeRow}
+use Rattle.pls_configuration.specs.declared.limits.TheConstants.{MAX_BITS, MAX_LINES, MAX_NODES, MAX_PORTS, MAX_ROUNDS}
+use Rattle.pls_configuration.specs.Configuration.{first_of, ports_in}
 use Rattle.pls_netfile.specs.NetworkScan.{TellsNetwork, WrittenNetwork}
 use Rattle.pls_labelfile.specs.LabelsText.{Labelling}
 use Rattle.pls_labelfile.specs.LabelsScan.{WrittenLabels, total_bits}
-use Rattle.pls_base.specs.Steps.{capped}
+use Rattle.pls_streams.specs.Steps.{capped}
 use Rattle.pls_schedule.specs.declared.event.Event.{Event}
 use Rattle.pls_schedule.specs.ScheduleText.{WrittenSchedule}
 use Rattle.pls_edits.specs.declared.edit_line.EditLine.{EditLine}

@@ -1,11 +1,11 @@
 -- Why an input is refused: the refusals in their order, of which the first that occurs is answered.
 use Rattle.std.specs.Prelude.{◌≡◌, ◌⊎◌, ℕ, ◌+◌, ◌≤◌, ◌<◌, nat_lt, if◌then◌else◌, List, [], ◌∷◌, ◌++◌, length, Option, Some, None, option_map, option_and_then}
-use Rattle.pls_base.specs.declared.text_error.TextError.{TextError}
-use Rattle.pls_base.specs.declared.text_error.TextError.TheVariants.{Limit}
-use Rattle.pls_base.specs.declared.text_error.Quantity.{Quantity}
-use Rattle.pls_base.specs.declared.text_error.Quantity.TheVariants.{Input as InputBytes, Nodes, Ports, Bits, Events, Rounds}
-use Rattle.pls_model.specs.declared.limits.TheConstants.{MAX_BITS, MAX_INPUT, MAX_LINES, MAX_NODES, MAX_PORTS, MAX_ROUNDS}
-use Rattle.pls_model.specs.Configuration.{first_of, ids_of, ports_in, refusal_of}
+use Rattle.pls_streams.specs.declared.text_error.TextError.{TextError}
+use Rattle.pls_streams.specs.declared.text_error.TextError.TheVariants.{Limit}
+use Rattle.pls_streams.specs.declared.text_error.Quantity.{Quantity}
+use Rattle.pls_streams.specs.declared.text_error.Quantity.TheVariants.{Input as InputBytes, Nodes, Ports, Bits, Events, Rounds}
+use Rattle.pls_configuration.specs.declared.limits.TheConstants.{MAX_BITS, MAX_INPUT, MAX_LINES, MAX_NODES, MAX_PORTS, MAX_ROUNDS}
+use Rattle.pls_configuration.specs.Configuration.{first_of, ids_of, ports_in, refusal_of}
 use Rattle.pls_lines.specs.Fault.{NamesFirstFault}
 use Rattle.pls_netfile.specs.NetworkBuild.{text_error_of}
 use Rattle.pls_netfile.specs.NetworkText.{network_lines}

@@ -1,7 +1,7 @@
 -- What was read, as an input.
 use Rattle.std.specs.Prelude.{◌≡◌, ℕ, ◌+◌, Bool, List, [], length, Option, Some, None, option_map, ⊤}
 use Rattle.std.specs.Option.{unwrap_or}
-use Rattle.pls_model.specs.declared.row.NodeRow.{NodeRow}
+use Rattle.pls_configuration.specs.declared.row.NodeRow.{NodeRow}
 use Rattle.pls_schedule.specs.declared.event.Event.{Event}
 use Rattle.pls_edits.specs.declared.edit_line.EditLine.{EditLine}
 use Rattle.pls_watch_part.specs.declared.watch_event.WatchLine.{WatchLine}

@@ -3,15 +3,15 @@
 ghost use Rattle.std.specs.Prelude.{IfErr, IfOk, option_map};
 ghost use Rattle.pls_inputs.specs.inner.Built.{AreBuilt, AreListed, AreEditsIfAny, AreRefused, AreUnlisted, AreUnmade, IsBuilt, IsNoSet, IsSetIfAny, IsUnbuilt, IsUnwatched, IsWatchIfAny};
 
-use pls_base::TextError;
 use pls_edits::{EditLine, ReadEdits};
 use pls_graph::Network;
 use pls_labelfile::LabelsText;
+use pls_labels::LabelStore;
 use pls_netfile::ReadNetwork;
 use pls_rules::RuleSet;
 use pls_rules_part::RulesText;
 use pls_schedule::{Event, ReadSchedule};
-use pls_view::LabelStore;
+use pls_streams::TextError;
 use pls_watch_part::{ReadWatch, WatchLine};
 use std::alloc::Global;
 

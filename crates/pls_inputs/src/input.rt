@@ -11,15 +11,15 @@ use crate::building::{
 use crate::parts::Parts;
 use crate::scanning::scan_parts;
 use crate::texts::{Texts, test_limits};
-use pls_base::TextError;
 use pls_bits::CodeName;
+use pls_configuration::MAX_INPUT;
 use pls_edits::{EditLine, ReadEdits};
 use pls_graph::Network;
 use pls_labelfile::LabelsText;
-use pls_model::MAX_INPUT;
+use pls_labels::LabelStore;
 use pls_rules::RuleSet;
 use pls_schedule::{Event, ReadSchedule};
-use pls_view::LabelStore;
+use pls_streams::TextError;
 use pls_watch_part::{ReadWatch, WatchLine};
 use std::alloc::Global;
 

@@ -1,7 +1,7 @@
 //! Laws of inputs. The functions change nothing: their contracts are the laws.
 
 ghost use Rattle.std.specs.Prelude.{◌≡◌, ℕ, List};
-ghost use Rattle.pls_base.specs.declared.text_error.TextError.{TextError as Error};
+ghost use Rattle.pls_streams.specs.declared.text_error.TextError.{TextError as Error};
 ghost use Rattle.pls_inputs.specs.Parts.{Input as Said};
 ghost use Rattle.pls_inputs.specs.Order.{IsInput, IsInputOrNot, IsNoInput};
 

@@ -13,13 +13,13 @@ ghost use Rattle.pls_inputs.specs.inner.Scanned.{If, IsScanned, PassesIf};
 
 use crate::parts::Parts;
 use crate::texts::Texts;
-use pls_base::TextError;
 use pls_edits::ReadEdits;
 use pls_labelfile::{LabelsText, scan_labels};
 use pls_lines::{Lines, Part, ReadOnce};
 use pls_netfile::{ReadNetwork, pass_network};
 use pls_rules_part::RulesText;
 use pls_schedule::ReadSchedule;
+use pls_streams::TextError;
 use pls_watch_part::ReadWatch;
 use std::alloc::Global;
 

@@ -1,17 +1,17 @@
 //! The texts of the parts of an input, as they were scanned.
 
 ghost use Rattle.std.specs.Prelude.{◌≡◌, IfErr, None, OnOk, Some};
-ghost use Rattle.pls_model.specs.Configuration.{first_of};
+ghost use Rattle.pls_configuration.specs.Configuration.{first_of};
 ghost use Rattle.pls_inputs.specs.Order.{over};
 ghost use Rattle.pls_inputs.specs.inner.Scanned.{bits_in, count_in, limits_told};
 
-use pls_base::{Quantity, TextError};
+use pls_configuration::{MAX_BITS, MAX_LINES, MAX_NODES, MAX_PORTS, MAX_ROUNDS};
 use pls_edits::ReadEdits;
 use pls_labelfile::LabelsText;
-use pls_model::{MAX_BITS, MAX_LINES, MAX_NODES, MAX_PORTS, MAX_ROUNDS};
 use pls_netfile::ReadNetwork;
 use pls_rules_part::RulesText;
 use pls_schedule::ReadSchedule;
+use pls_streams::{Quantity, TextError};
 use pls_watch_part::ReadWatch;
 
 /// The texts of the parts of an input, as they were scanned; `None` where there is no such part.

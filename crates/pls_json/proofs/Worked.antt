@@ -1,7 +1,7 @@
 -- Reports in JSON at worked examples.
 use Rattle.std.proofs.Common.{◌≡◌, [], ◌∷◌, codes, refl}
 use Rattle.std.specs.Fmt.{digits}
-use Rattle.pls_model.specs.declared.verdict.Verdict.TheVariants.{Accept, Reject}
+use Rattle.pls_configuration.specs.declared.verdict.Verdict.TheVariants.{Accept, Reject}
 use Rattle.pls_sim.specs.declared.outcome.Outcome.TheVariants.{Decided, Waiting}
 use Rattle.pls_report.specs.declared.part_row.PartRow.{PartRow}
 use Rattle.pls_json.specs.Json.{json_text}

@@ -6,10 +6,10 @@ ghost use Rattle.serde_json.specs.View.{items_of, view};
 ghost use Rattle.pls_json.specs.Json.{json_text, node_text, part_text, parts_text, with_commas};
 ghost use Rattle.pls_json.specs.inner.Values.{after_others, comma_before, node_data, number_data};
 
-use pls_base::NoMemory;
-use pls_model::Verdict;
+use pls_configuration::Verdict;
 use pls_report::{PartRow, rejecting, waiting};
 use pls_sim::Outcome;
+use pls_streams::NoMemory;
 use serde_json::{Value, json};
 use std::alloc::{AllocError, Global};
 use std::fmt::Write;

@@ -6,11 +6,11 @@ use Rattle.std.proofs.Math.Seq.{set-append_seam}
 use Rattle.std.proofs.lemmas.List.{map_push, length-map}
 use Rattle.std.proofs.lemmas.List.Sums.{sum_by-cons}
 use Rattle.std.proofs.lemmas.Option.{slice_get-map}
-use Rattle.pls_model.specs.declared.row.NodeRow.{NodeRow}
-use Rattle.pls_model.specs.Configuration.{ids_of}
+use Rattle.pls_configuration.specs.declared.row.NodeRow.{NodeRow}
+use Rattle.pls_configuration.specs.Configuration.{ids_of}
 use Rattle.pls_lines.specs.ListPart.{NextItem, Remains}
 use Rattle.pls_labelfile.specs.LabelsText.{NamedLabel, FitsLabel, label_line}
-use Rattle.pls_view.specs.Stored.{cost}
+use Rattle.pls_labels.specs.Stored.{cost}
 use Rattle.pls_labelfile.specs.LabelsScan.{total_bits}
 use Rattle.pls_labelfile.specs.Misfit.{misfit}
 use Rattle.pls_labelfile.proofs.Misfits.{names_of, misfit-append, misfit-first}

@@ -5,9 +5,9 @@ use Rattle.std.specs.Option.{option_map}
 use Rattle.std.specs.Result.{IsErrOf}
 use Rattle.std.proofs.lemmas.List.{length-map}
 use Rattle.std.proofs.lemmas.Result.{IfErr-at_err}
-use Rattle.pls_base.specs.declared.text_error.TextError.{TextError}
-use Rattle.pls_base.specs.declared.text_error.TextError.TheVariants.{Form, Limit}
-use Rattle.pls_base.specs.declared.text_error.Quantity.TheVariants.{Bits}
+use Rattle.pls_streams.specs.declared.text_error.TextError.{TextError}
+use Rattle.pls_streams.specs.declared.text_error.TextError.TheVariants.{Form, Limit}
+use Rattle.pls_streams.specs.declared.text_error.Quantity.TheVariants.{Bits}
 use Rattle.pls_lines.specs.Fault.{IsFirstFault}
 use Rattle.pls_lines.specs.Part.{PassesWhole}
 use Rattle.pls_lines.proofs.WholeTexts.{whole_text}

@@ -5,8 +5,8 @@ use Rattle.std.proofs.lemmas.List.{length-map}
 use Rattle.std.proofs.lemmas.List.Sums.{sum_by-cons}
 use Rattle.std.proofs.lemmas.List.Elements.{All-nil, All-cons, All-head, All-tail}
 use Rattle.std.proofs.lemmas.Bool.{le-ltb}
-use Rattle.pls_model.specs.declared.row.NodeRow.{NodeRow}
-use Rattle.pls_model.specs.Configuration.{ids_of}
+use Rattle.pls_configuration.specs.declared.row.NodeRow.{NodeRow}
+use Rattle.pls_configuration.specs.Configuration.{ids_of}
 use Rattle.pls_netfile.specs.NetworkText.{AreRows, FitsRow}
 use Rattle.pls_labelfile.specs.Refusal.{labels_refusal}
 use Rattle.pls_labelfile.specs.LabelsText.{NamedLabel, FitsLabel, named}

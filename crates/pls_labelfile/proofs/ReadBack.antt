@@ -1,8 +1,8 @@
 -- The text of labels that were written is read as them.
 use Rattle.std.proofs.Common.{◌≡◌, ℕ, List, None, Ok, Err, refl, sym, ◌∙◌}
 use Rattle.std.specs.Prelude.{Result, IfErr}
-use Rattle.pls_base.specs.declared.text_error.TextError.{TextError}
-use Rattle.pls_base.specs.declared.text_error.TextError.TheVariants.{Form, Limit, Sense, NoMemory}
+use Rattle.pls_streams.specs.declared.text_error.TextError.{TextError}
+use Rattle.pls_streams.specs.declared.text_error.TextError.TheVariants.{Form, Limit, Sense, NoMemory}
 use Rattle.pls_labelfile.specs.LabelsText.{NamedLabel}
 use Rattle.pls_labelfile.specs.Refusal.{IsLabelsRefusal, labels_refusal}
 

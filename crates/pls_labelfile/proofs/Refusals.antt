@@ -2,11 +2,11 @@
 use Rattle.std.proofs.Common.{◌≡◌, ℕ, ◌<◌, ◌≤◌, ◌^◌, nat_lt, true, false, List, Some, refl, ◌∙◌, ap, arith}
 use Rattle.std.specs.Option.{option_map}
 use Rattle.std.proofs.lemmas.Bool.{lt-ltb, le-ltb}
-use Rattle.pls_base.specs.declared.text_error.TextError.TheVariants.{Limit}
-use Rattle.pls_base.specs.declared.text_error.Quantity.TheVariants.{Bits}
+use Rattle.pls_streams.specs.declared.text_error.TextError.TheVariants.{Limit}
+use Rattle.pls_streams.specs.declared.text_error.Quantity.TheVariants.{Bits}
 use Rattle.pls_labelfile.specs.LabelsText.{Labelling, labelling_of}
 use Rattle.pls_labelfile.specs.LabelsScan.{HasLabels, TellsLabels, WrittenLabels, total_bits}
-use Rattle.pls_base.specs.Steps.{capped}
+use Rattle.pls_streams.specs.Steps.{capped}
 use Rattle.pls_labelfile.specs.Misfit.{misfit}
 use Rattle.pls_labelfile.specs.Refusal.{misfit_error, labels_refusal}
 use Rattle.pls_labelfile.proofs.LabelsPart.{one_told}

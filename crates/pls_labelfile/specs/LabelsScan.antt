@@ -3,7 +3,7 @@ use Rattle.std.specs.Prelude.{◌≡◌, ℕ, ◌≤◌, ◌^◌, Bool, List, le
 use Rattle.pls_lines.specs.Lines.{Left, Passes}
 use Rattle.pls_bits.specs.declared.code_name.CodeName.{CodeName}
 use Rattle.pls_labelfile.specs.LabelsText.{FitsLabel, Labelling, MayHead, NamedLabel, labelling_of, labels_lines, labels_text}
-use Rattle.pls_base.specs.Steps.{capped}
+use Rattle.pls_streams.specs.Steps.{capped}
 
 -- how many bits all labels have together
 abbrev pub total_bits : List NamedLabel → ℕ

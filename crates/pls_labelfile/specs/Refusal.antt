@@ -1,13 +1,13 @@
 -- With which error the labels of a text are refused for the nodes of a network.
 use Rattle.std.specs.Prelude.{◌≡◌, ℕ, ◌+◌, nat_lt, if◌then◌else◌, List, Option, Some, option_map}
-use Rattle.pls_base.specs.declared.text_error.TextError.{TextError}
-use Rattle.pls_base.specs.declared.text_error.TextError.TheVariants.{Limit, NoMemory, Sense}
-use Rattle.pls_base.specs.declared.text_error.Quantity.TheVariants.{Bits}
+use Rattle.pls_streams.specs.declared.text_error.TextError.{TextError}
+use Rattle.pls_streams.specs.declared.text_error.TextError.TheVariants.{Limit, NoMemory, Sense}
+use Rattle.pls_streams.specs.declared.text_error.Quantity.TheVariants.{Bits}
 use Rattle.pls_labelfile.specs.LabelsText.{NamedLabel}
 use Rattle.pls_labelfile.specs.LabelsScan.{total_bits}
 use Rattle.pls_labelfile.specs.Misfit.{misfit}
-use Rattle.pls_base.specs.declared.refusal_number.TheConstants.{MISFIT}
-use Rattle.pls_model.specs.declared.limits.TheConstants.{MAX_BITS}
+use Rattle.pls_streams.specs.declared.refusal_number.TheConstants.{MISFIT}
+use Rattle.pls_configuration.specs.declared.limits.TheConstants.{MAX_BITS}
 
 -- labels that do not fit the nodes, by the line of the first that does not; the label at place 0
 -- stands in the line behind the heading

@@ -1,19 +1,19 @@
 //! The line of a label.
 
 ghost use Rattle.std.specs.Prelude.{◌≡◌, ◌≢◌, ◌≤◌, ◌<◌, ◌+◌, ◌^◌, ◌↔◌, ◌∷◌, ◌++◌, ℕ, List, length, slice_set, IfNone, IfOk, IfSome, IsTrue};
-ghost use Rattle.pls_model.specs.declared.limits.TheConstants.{MAX_BITS};
+ghost use Rattle.pls_configuration.specs.declared.limits.TheConstants.{MAX_BITS};
 ghost use Rattle.pls_lines.specs.LineKind.{Says};
 ghost use Rattle.pls_lines.specs.Lines.{Stands};
 ghost use Rattle.pls_bits.specs.Hex.{hex_digits};
-ghost use Rattle.pls_view.specs.Stored.{cost};
+ghost use Rattle.pls_labels.specs.Stored.{cost};
 ghost use Rattle.pls_labelfile.specs.LabelsText.{FitsLabel, NamedLabel, label_line, label_of_words};
 ghost use Rattle.pls_labelfile.specs.inner.HexWord.{IsHexWord, SaysLabels, word_length};
 
-use pls_base::NoMemory;
 use pls_bits::{BitBuf, from_hex, spells_bits};
+use pls_configuration::MAX_BITS;
+use pls_labels::LabelRoom;
 use pls_lines::{LineKind, after_word, bytes_before, is_same, number_before, u32_before};
-use pls_model::MAX_BITS;
-use pls_view::LabelRoom;
+use pls_streams::NoMemory;
 use std::alloc::Global;
 use std::marker::Model;
 

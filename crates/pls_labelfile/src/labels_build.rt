@@ -1,8 +1,8 @@
 //! The labels that a text says, for the nodes of a network.
 
 ghost use Rattle.std.specs.Prelude.{◌≡◌, ◌+◌, ◌*◌, ◌<◌, ◌≤◌, List, [], map, length, replicate, None, IfErr, IfNone, IfOk, IfSome, OnOk};
-ghost use Rattle.pls_model.specs.Configuration.{ids_of};
-ghost use Rattle.pls_model.specs.declared.limits.TheConstants.{MAX_NODES};
+ghost use Rattle.pls_configuration.specs.Configuration.{ids_of};
+ghost use Rattle.pls_configuration.specs.declared.limits.TheConstants.{MAX_NODES};
 ghost use Rattle.pls_lines.specs.ListPart.{NextItem, Remains};
 ghost use Rattle.pls_labelfile.specs.LabelsText.{FitsLabel, Labelling, NamedLabel, label_line};
 ghost use Rattle.pls_labelfile.specs.LabelsScan.{TellsLabels, total_bits};
@@ -12,12 +12,12 @@ ghost use Rattle.pls_labelfile.specs.inner.HexWord.{SaysLabels};
 
 use crate::label_line::LabelLine;
 use crate::labels_text::LabelsText;
-use pls_base::refusal_number::MISFIT;
-use pls_base::{Quantity, TextError};
+use pls_configuration::MAX_BITS;
 use pls_graph::Network;
+use pls_labels::{LabelRoom, LabelStore};
 use pls_lines::Lines;
-use pls_model::MAX_BITS;
-use pls_view::{LabelRoom, LabelStore};
+use pls_streams::refusal_number::MISFIT;
+use pls_streams::{Quantity, TextError};
 use std::alloc::Global;
 
 impl<'a> LabelsText<'a> {

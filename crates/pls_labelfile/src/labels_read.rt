@@ -2,18 +2,18 @@
 
 ghost use Rattle.std.specs.Prelude.{◌≡◌, ◌↔◌, ℕ, true, length, map, None, IfErr, IfOk, OnOk};
 ghost use Rattle.std.specs.Result.{IsErrOf};
-ghost use Rattle.pls_model.specs.Configuration.{ids_of};
+ghost use Rattle.pls_configuration.specs.Configuration.{ids_of};
 ghost use Rattle.pls_lines.specs.Fault.{IsFirstFault};
 ghost use Rattle.pls_labelfile.specs.LabelsText.{IsLabelsPart, Labelling, labelling_of, named};
 ghost use Rattle.pls_labelfile.specs.LabelsScan.{TellsLabels};
 ghost use Rattle.pls_labelfile.specs.Refusal.{IsLabelsRefusal, labels_refusal};
 
 use crate::labels_text::LabelsText;
-use pls_base::TextError;
 use pls_bits::CodeName;
 use pls_graph::Network;
+use pls_labels::LabelStore;
 use pls_lines::read_whole;
-use pls_view::LabelStore;
+use pls_streams::TextError;
 use std::alloc::Global;
 
 /// The labels of the nodes of a network and their number code, from a text that is one labels part

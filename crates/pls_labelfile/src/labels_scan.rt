@@ -7,8 +7,8 @@ ghost use Rattle.pls_labelfile.specs.LabelsScan.{PassesPart};
 
 use crate::labels_tally::LabelsTally;
 use crate::labels_text::LabelsText;
-use pls_base::TextError;
 use pls_lines::{Lines, ListText, Part, scan};
+use pls_streams::TextError;
 
 /// Reads one labels part, which the reader passes; `delta` says whether its heading may be
 /// `labels delta`. It takes no memory.

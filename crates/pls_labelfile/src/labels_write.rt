@@ -2,20 +2,20 @@
 
 ghost use Rattle.std.specs.Prelude.{◌≡◌, ◌≤◌, ◌<◌, ◌^◌, ◌-◌, ℕ, [], ◌∷◌, length, All, IfOk, MatchResult, OnErr, OnOk};
 ghost use Rattle.std.specs.Io.KnownBytes.{Appends};
-ghost use Rattle.pls_base.specs.Gathered.{Writes};
-ghost use Rattle.pls_base.specs.Streams.{AppendsPart, Rose, StaysSure};
-ghost use Rattle.pls_model.specs.Configuration.{ids_of};
+ghost use Rattle.pls_streams.specs.Gathered.{Writes};
+ghost use Rattle.pls_streams.specs.Streams.{AppendsPart, Rose, StaysSure};
+ghost use Rattle.pls_configuration.specs.Configuration.{ids_of};
 ghost use Rattle.pls_bits.specs.Hex.{hex_digits};
 ghost use Rattle.pls_lines.specs.Text.{text_of};
 ghost use Rattle.pls_labelfile.specs.LabelsText.{FitsLabel, hex_word, label_line, labelling_of, labels_text, named};
-ghost use Rattle.pls_model.specs.declared.limits.TheConstants.{MAX_BITS};
-ghost use Rattle.pls_view.specs.Labels.{bits_together};
+ghost use Rattle.pls_configuration.specs.declared.limits.TheConstants.{MAX_BITS};
+ghost use Rattle.pls_labels.specs.Labels.{bits_together};
 
 use crate::labels_heading::heading_line;
-use pls_base::{Fault, Gathered, NoMemory, Sink, StdSink};
 use pls_bits::{Bits, CodeName};
 use pls_graph::Network;
-use pls_view::LabelStore;
+use pls_labels::LabelStore;
+use pls_streams::{Fault, Gathered, NoMemory, Sink, StdSink};
 use std::alloc::Global;
 
 /// The text of a labels part with these labels of the nodes of a network, in their order, under a

@@ -1,16 +1,16 @@
 //! Labels that are written are read back.
 
 ghost use Rattle.std.specs.Prelude.{◌≡◌, ◌≤◌, length, IfErr, IfOk};
-ghost use Rattle.pls_base.specs.declared.text_error.TextError.TheVariants.{NoMemory};
-ghost use Rattle.pls_view.specs.Labels.{bits_together};
-ghost use Rattle.pls_model.specs.declared.limits.TheConstants.{MAX_BITS};
+ghost use Rattle.pls_streams.specs.declared.text_error.TextError.TheVariants.{NoMemory};
+ghost use Rattle.pls_labels.specs.Labels.{bits_together};
+ghost use Rattle.pls_configuration.specs.declared.limits.TheConstants.{MAX_BITS};
 
 use crate::labels_read::read_labels;
 use crate::labels_write::write_labels;
-use pls_base::TextError;
 use pls_bits::CodeName;
 use pls_graph::Network;
-use pls_view::LabelStore;
+use pls_labels::LabelStore;
+use pls_streams::TextError;
 use std::alloc::Global;
 
 /// What is written of the labels of all nodes of a network is read as those labels under their

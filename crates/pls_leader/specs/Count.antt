@@ -3,9 +3,9 @@
 -- are summed along a tree (Korman, Kutten and Peleg 2010).
 use Rattle.std.specs.Prelude.{◌≡◌, ◌≢◌, ℕ, ◌+◌, ◌≤◌, ◌==◌, nat_lt, Bool, ◌&&◌, ◌||◌, List, [], ◌∷◌, length, sum_by, slice_get, Contains, get_or, Some}
 use Rattle.std.specs.List.{filter, list_all, list_any}
-use Rattle.pls_model.specs.declared.row.NodeRow.{NodeRow}
-use Rattle.pls_model.specs.Configuration.{ids_of}
-use Rattle.pls_model.specs.Walk.{Adjacent, edges_of}
+use Rattle.pls_configuration.specs.declared.row.NodeRow.{NodeRow}
+use Rattle.pls_configuration.specs.Configuration.{ids_of}
+use Rattle.pls_configuration.specs.Walk.{Adjacent, edges_of}
 use Rattle.pls_graph.specs.Levels.{IsLevel}
 use Rattle.pls_graph.specs.declared.size.Size.{Size}
 use Rattle.pls_numbers.specs.Fixed.{fixed_shape}

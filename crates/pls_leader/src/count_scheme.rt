@@ -1,7 +1,7 @@
 //! How networks whose nodes know their number are labelled.
 
 ghost use Rattle.std.specs.Prelude.{◌≡◌, ◌↔◌, ◌<◌, length, slice_get, Some, IsTrue, IfOk};
-ghost use Rattle.pls_model.specs.declared.row.NodeRow.{NodeRow};
+ghost use Rattle.pls_configuration.specs.declared.row.NodeRow.{NodeRow};
 ghost use Rattle.pls_facts.specs.NodeCount.{AreCounted};
 ghost use Rattle.pls_scheme.specs.Marked.{AreRight};
 ghost use Rattle.pls_search.specs.SubtreeSizes.{AreSubtreeSizes};
@@ -12,12 +12,12 @@ ghost use Rattle.pls_leader.specs.inner.Nearest.{AreNearest};
 use crate::count::{CountLabel, CountRules};
 use crate::parents::nearest_above;
 use crate::rooted::levels_from;
-use pls_base::NoMemory;
 use pls_bits::NumCode;
 use pls_facts::is_valid;
 use pls_graph::{Network, Size};
 use pls_scheme::{Marker, codes_length};
 use pls_search::subtree_sizes;
+use pls_streams::NoMemory;
 use std::alloc::Global;
 
 impl<C: NumCode> Marker for CountRules<C> {

@@ -5,7 +5,7 @@ ghost use Rattle.std.specs.Bool.{beq};
 
 use crate::rooted::is_0_at_root_alone;
 use pls_bits::NumCode;
-use pls_model::State;
+use pls_configuration::State;
 use pls_scheme::{
     Judgement, NumbersFormat, OfNumbers, RuleScheme, Rules, Verdict, is_one_more, judged_from,
 };

@@ -5,12 +5,12 @@ ghost use Rattle.pls_leader.specs.inner.Saying.{leader_at};
 
 use crate::leader::{LeaderLabel, LeaderRules};
 use crate::rooted::levels_from;
-use pls_base::NoMemory;
 use pls_bits::NumCode;
+use pls_configuration::State;
 use pls_facts::{StateTest, only_node};
 use pls_graph::{Network, Size};
-use pls_model::State;
 use pls_scheme::{Marker, codes_length};
+use pls_streams::NoMemory;
 use std::alloc::Global;
 
 /// That the node is marked as a leader.

@@ -4,8 +4,8 @@ ghost use Rattle.std.specs.Prelude.{◌≡◌, ◌<◌, length, IfOk};
 ghost use Rattle.pls_graph.specs.Places.{beside};
 ghost use Rattle.pls_leader.specs.inner.Nearest.{AreNearest, IsLeast, is_level_nearer, lesser};
 
-use pls_base::NoMemory;
 use pls_graph::Network;
+use pls_streams::NoMemory;
 use std::alloc::Global;
 
 // For each node its neighbour of smallest identity one level nearer to the first; `None` without

@@ -1,13 +1,13 @@
 //! What the schemes of a root have in common.
 
 ghost use Rattle.std.specs.Prelude.{◌≡◌, ◌<◌, length, map, unwrap_or, IfOk};
-ghost use Rattle.pls_model.specs.Walk.{IsConnected};
+ghost use Rattle.pls_configuration.specs.Walk.{IsConnected};
 ghost use Rattle.pls_leader.specs.Rooted.{is_0_at_root_alone};
 ghost use Rattle.pls_leader.specs.inner.LevelsFrom.{AreLevelsFrom};
 
-use pls_base::NoMemory;
 use pls_graph::Network;
 use pls_search::levels;
+use pls_streams::NoMemory;
 use std::alloc::Global;
 
 pub(crate) fn is_0_at_root_alone(id: u32, root: u64, depth: u64) -> bool

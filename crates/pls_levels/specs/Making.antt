@@ -2,8 +2,8 @@
 -- made of.
 use Rattle.std.specs.Prelude.{◌≡◌, ℕ, List, [], ◌∷◌, length, get_or, slice_get, Contains, Some, None}
 use Rattle.std.specs.Option.{option_map_or}
-use Rattle.pls_model.specs.declared.row.Port.{Port}
-use Rattle.pls_model.specs.declared.row.NodeRow.{NodeRow}
+use Rattle.pls_configuration.specs.declared.row.Port.{Port}
+use Rattle.pls_configuration.specs.declared.row.NodeRow.{NodeRow}
 use Rattle.pls_graph.specs.declared.size.Size.{Size}
 use Rattle.pls_facts.specs.Pointer.{IsChainOf, pointed_port}
 use Rattle.pls_levels.specs.declared.label.LevelLabel.{LevelLabel}

@@ -3,9 +3,9 @@
 use crate::label::{LevelHead, LevelLabel};
 use crate::level_kind::LevelKind;
 use crate::reading::{head_in, levels_of, read_levels};
-use pls_base::NoMemory;
 use pls_bits::{BitBuf, Bits, NumCode};
 use pls_numbers::{Format, append_numbers};
+use pls_streams::NoMemory;
 use std::alloc::Global;
 use std::marker::PhantomData;
 

@@ -4,9 +4,9 @@ ghost use Rattle.std.specs.Prelude.{◌≡◌, ℕ, ◌<◌, ◌++◌, [], List,
 ghost use Rattle.pls_numbers.specs.Numbers.{AreCoded, codes_of};
 ghost use Rattle.pls_levels.specs.Labels.{HasNoLevel, IsExactForm, IsLevelTaken, LevelForm, items_of, numbers_of};
 
-use pls_base::NoMemory;
 use pls_bits::{BitBuf, NumCode};
 use pls_numbers::Numbers;
+use pls_streams::NoMemory;
 use std::alloc::Global;
 
 /// How a level is numbers, and how the levels of a label and those of all nodes are held.

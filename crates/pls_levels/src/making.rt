@@ -2,14 +2,14 @@
 
 ghost use Rattle.std.specs.Prelude.{◌≡◌, ◌<◌, length, IfOk, slice_get, Some};
 ghost use Rattle.pls_bits.specs.Gamma.{floor_log};
-ghost use Rattle.pls_model.specs.declared.row.NodeRow.{NodeRow};
+ghost use Rattle.pls_configuration.specs.declared.row.NodeRow.{NodeRow};
 ghost use Rattle.pls_levels.specs.Making.{AreMade, label_from, parent_or_own};
 
 use crate::label::LevelLabel;
 use crate::level_kind::LevelKind;
-use pls_base::NoMemory;
 use pls_facts::is_valid;
 use pls_graph::Network;
+use pls_streams::NoMemory;
 use std::alloc::Global;
 
 /// The labels of this root, these depths and these levels, in the order of the nodes. The one error

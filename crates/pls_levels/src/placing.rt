@@ -9,7 +9,7 @@ ghost use Rattle.pls_levels.specs.Rules.{is_placed_in_tree};
 
 use crate::label::LevelHead;
 use crate::level_kind::LevelKind;
-use pls_model::State;
+use pls_configuration::State;
 use pls_scheme::is_one_more;
 
 /// Whether the label of a node with this identity and state, of which `own` stands in front of the

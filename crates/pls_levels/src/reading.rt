@@ -9,9 +9,9 @@ ghost use Rattle.pls_levels.specs.Labels.{AreFewer, AreLevelsLeft, ArePassed, ar
 
 use crate::label::LevelHead;
 use crate::level_kind::LevelKind;
-use pls_base::NoMemory;
 use pls_bits::{Bits, NumCode};
 use pls_numbers::Numbers;
+use pls_streams::NoMemory;
 use std::alloc::Global;
 
 /// What stands in front of the levels, or `None` where the bits are no label, read to the last bit.

@@ -14,9 +14,9 @@ mod rechecks;
 mod views;
 mod ways;
 
-use pls_base::TextError;
 use pls_graph::Network;
 use pls_netfile::read_network;
+use pls_streams::TextError;
 use std::alloc::Global;
 use std::test::Fail;
 

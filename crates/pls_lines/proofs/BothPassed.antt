@@ -1,6 +1,6 @@
 -- Two parts in turn: what a reader has passed, and where their faults are.
 use Rattle.std.proofs.Common.{ℕ, ◌+◌, List, ◌++◌, length, refl, arith}
-use Rattle.pls_base.specs.declared.text_error.TextError.{TextError}
+use Rattle.pls_streams.specs.declared.text_error.TextError.{TextError}
 use Rattle.pls_lines.specs.Fault.{Then}
 use Rattle.pls_lines.specs.Lines.{Left, IsFormFault}
 use Rattle.pls_lines.specs.Part.{IsSomePart, PassesFormat}

@@ -2,8 +2,8 @@
 use Rattle.std.proofs.Common.{◌≡◌, ℕ, ◌↔◌, List, Err, ◌∙◌, ap, subst}
 use Rattle.std.specs.Prelude.{Result}
 use Rattle.std.specs.Result.{IsErrOf}
-use Rattle.pls_base.specs.declared.text_error.TextError.{TextError}
-use Rattle.pls_base.specs.declared.text_error.TextError.TheVariants.{Form}
+use Rattle.pls_streams.specs.declared.text_error.TextError.{TextError}
+use Rattle.pls_streams.specs.declared.text_error.TextError.TheVariants.{Form}
 use Rattle.pls_lines.specs.Fault.{IsFirstFault, NamesFirstFault}
 use Rattle.pls_lines.specs.LineKind.{IsLineKind, Says}
 use Rattle.pls_lines.specs.ListPart.{IsListKind, IsListPart, TellsItems, list_lines}

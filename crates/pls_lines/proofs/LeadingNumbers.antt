@@ -6,7 +6,7 @@ use Rattle.std.proofs.Math.Seq.{take-append_seam}
 use Rattle.std.proofs.lemmas.Str.Parse.{digits_value-take-le}
 use Rattle.std.proofs.lemmas.Int.Digits.{digits_value_more}
 use Rattle.std.proofs.lemmas.Fmt.{decimal_by_steps, decimal_nonempty, decimal_digit, decimal_injective, decimal_step}
-use Rattle.pls_base.proofs.Numerals.{numeral_from_decimal}
+use Rattle.pls_streams.proofs.Numerals.{numeral_from_decimal}
 use Rattle.pls_lines.specs.inner.Digits.{IsDigit, BeginsDigit}
 use Rattle.pls_lines.specs.laws.Cuts.{each-append}
 

@@ -1,8 +1,8 @@
 -- First faults of a whole text, by the numbers of its lines.
 use Rattle.std.proofs.Common.{◌≡◌, ℕ, ◌+◌, List, [], ◌++◌, length, sym, ◌∙◌, ap, subst, append-nil, arith}
 use Rattle.pls_lines.specs.Text.{text_of}
-use Rattle.pls_base.specs.declared.text_error.TextError.{TextError}
-use Rattle.pls_base.specs.declared.text_error.TextError.TheVariants.{Form}
+use Rattle.pls_streams.specs.declared.text_error.TextError.{TextError}
+use Rattle.pls_streams.specs.declared.text_error.TextError.TheVariants.{Form}
 use Rattle.pls_lines.specs.Lines.{Left, Passes, IsFault, IsFormFault}
 use Rattle.pls_lines.specs.Fault.{FirstFault, IsFirstFault, NamesFirstFault, Then}
 use Rattle.pls_lines.specs.Part.{IsPart, PassesFormat}

@@ -1,6 +1,6 @@
 -- Parts that are any items of a kind under a heading of one word.
 use Rattle.std.specs.Prelude.{◌≢◌, ℕ, List, length, codes}
-use Rattle.pls_base.specs.Steps.{capped}
+use Rattle.pls_streams.specs.Steps.{capped}
 use Rattle.pls_lines.specs.Plain.{LacksItem}
 
 -- the word can stand alone in the first line of a part

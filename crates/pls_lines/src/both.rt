@@ -6,7 +6,7 @@ ghost use Rattle.pls_lines.specs.laws.BothLaws.{both_are_part};
 
 use crate::lines::Lines;
 use crate::part::Part;
-use pls_base::TextError;
+use pls_streams::TextError;
 
 /// What is kept of two parts that stand one after the other.
 #[derive(Drop)]

@@ -6,7 +6,7 @@ ghost use Rattle.pls_lines.specs.Counted.{IsHeadingWord, counted};
 use crate::line_kind::LineKind;
 use crate::list_tally::{Keep, ListTally};
 use crate::words::after_line;
-use pls_base::NoMemory;
+use pls_streams::NoMemory;
 use std::alloc::Global;
 use std::marker::PhantomData;
 

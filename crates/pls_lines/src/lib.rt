@@ -53,5 +53,5 @@ pub use list_write::{WriteLine, write_list};
 pub use number_lines::{one_number, two_numbers};
 pub use numbers::{number_before, u32_before};
 pub use part::{Part, ReadOnce, read_whole, scan};
-pub use pls_base::NoMemory;
+pub use pls_streams::NoMemory;
 pub use words::{after_byte, after_line, after_word, bytes_before, is_same};

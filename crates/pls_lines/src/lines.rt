@@ -2,12 +2,12 @@
 
 ghost use Rattle.std.specs.Prelude.{◌≡◌, ◌↔◌, ℕ, ◌+◌, ◌<◌, ◌≤◌, ◌^◌, List, [], ◌∷◌, ◌++◌, length, IfErr, IsTrue, OnErr, OnOk};
 ghost use Rattle.std.specs.Bool.{OnFalse, OnTrue};
-ghost use Rattle.pls_base.specs.declared.text_error.TextError.TheVariants.{Form};
+ghost use Rattle.pls_streams.specs.declared.text_error.TextError.TheVariants.{Form};
 ghost use Rattle.pls_lines.specs.Text.{text_of};
 ghost use Rattle.pls_lines.specs.Lines.{Passes, Stands};
 
 use crate::words::after_line;
-use pls_base::TextError;
+use pls_streams::TextError;
 use std::marker::Model;
 
 /// A reader of the lines of a text, which it lends. Each line ends in a line feed.

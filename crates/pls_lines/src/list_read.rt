@@ -10,8 +10,8 @@ use crate::line_kind::{LineKind, next_of};
 use crate::lines::Lines;
 use crate::list_tally::{Keep, ListTally};
 use crate::list_text::{ListText, next_item};
-use pls_base::NoMemory;
-use pls_model::MAX_LINES;
+use pls_configuration::MAX_LINES;
+use pls_streams::NoMemory;
 use std::alloc::Global;
 
 /// Passes the part with a list that stands next, and keeps a line of each item, so that its text is

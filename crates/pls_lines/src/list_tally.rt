@@ -5,7 +5,7 @@ ghost use Rattle.std.specs.Bool.{OnFalse, OnTrue};
 ghost use Rattle.pls_lines.specs.ListPart.{Begun, IsListKind};
 
 use crate::line_kind::LineKind;
-use pls_base::NoMemory;
+use pls_streams::NoMemory;
 use std::alloc::Global;
 
 /// The lists that one part of an input can be, as what is counted of their items.

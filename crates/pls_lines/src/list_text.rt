@@ -14,7 +14,7 @@ use crate::line_kind::{LineKind, next_of};
 use crate::lines::Lines;
 use crate::list_tally::ListTally;
 use crate::part::Part;
-use pls_base::TextError;
+use pls_streams::TextError;
 
 /// The text of a part with a list of items, which it lends from its heading line to its `end`, and
 /// what is counted of the items.

@@ -4,7 +4,7 @@ ghost use Rattle.std.specs.Prelude.{◌≡◌, ◌≢◌, ℕ, ◌+◌, ◌<◌,
 ghost use Rattle.pls_lines.specs.inner.Digits.{BeginsDigit};
 
 use crate::words::after_byte;
-use pls_model::MAX_WORD;
+use pls_configuration::MAX_WORD;
 
 /// A number up to `most` at the front of a text, and what follows the byte `end` behind it; `None`
 /// where they do not stand there.

@@ -1,13 +1,13 @@
 //! The universal scheme: the verdict of each rule, and how often a round asks the property.
 
-use pls_base::{NoMemory, Steps};
 use pls_bits::{BitBuf, Gamma};
 use pls_diameter_bridges::Diameter;
 use pls_graph::Network;
+use pls_labels::{LabelStore, View};
 use pls_netfile::read_network;
 use pls_scheme::{Checker, Property, Verdict};
+use pls_streams::{NoMemory, Steps};
 use pls_universal::{MapOf, PropertyTest, map_labels};
-use pls_view::{LabelStore, View};
 use std::alloc::Global;
 use std::cell::Cell;
 use std::test::Fail;

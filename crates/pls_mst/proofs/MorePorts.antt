@@ -2,7 +2,7 @@
 use Rattle.std.proofs.Common.{◌≡◌, ◌∙◌, ℕ, ◌+◌, ◌==◌, Bool, true, false, ◌&&◌, if◌then◌else◌, List, [], ◌∷◌, ◌++◌, length, Option, Some, None, option_map, slice_get, refl, sym, ap}
 use Rattle.std.specs.List.{enumerate_from, list_all}
 use Rattle.std.specs.Option.{option_and_then, option_map_or}
-use Rattle.pls_model.specs.declared.row.State.{State}
+use Rattle.pls_configuration.specs.declared.row.State.{State}
 use Rattle.pls_scheme.specs.Reading.{Read, ReadPort, is_pointer, label_above, port_with, reading}
 use Rattle.pls_scheme.proofs.MorePorts.{all_more, at_pointer_more, numbered_from_0}
 use Rattle.pls_mst.specs.declared.comparing.Between.{Between}

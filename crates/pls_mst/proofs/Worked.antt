@@ -1,8 +1,8 @@
 -- What nodes judge, and how long marked labels are, at worked examples.
 use Rattle.std.proofs.Common.{◌≡◌, ◌==◌, ℕ, map, Bool, List, [], ◌∷◌, Option, Some, None, refl}
 use Rattle.std.specs.Prelude.{codes}
-use Rattle.pls_model.specs.declared.verdict.Verdict.TheVariants.{Accept, Reject}
-use Rattle.pls_view.specs.Seen.{Seen, SeenPort}
+use Rattle.pls_configuration.specs.declared.verdict.Verdict.TheVariants.{Accept, Reject}
+use Rattle.pls_labels.specs.Seen.{Seen, SeenPort}
 use Rattle.pls_bits.specs.Gamma.{floor_log, gamma_code, gamma_takes, log_below}
 use Rattle.pls_numbers.specs.Numbers.{left_in}
 use Rattle.pls_graph.specs.declared.size.Size.{Size}

@@ -1,7 +1,7 @@
 //! What a node gathers of its ports, one after another.
 
 ghost use Rattle.std.specs.Prelude.{◌≡◌, ℕ, ◌++◌, List, [], ◌∷◌, Some, length, if◌then◌else◌};
-ghost use Rattle.pls_model.specs.declared.row.State.{State};
+ghost use Rattle.pls_configuration.specs.declared.row.State.{State};
 ghost use Rattle.pls_numbers.specs.Shape.{said_by};
 ghost use Rattle.pls_scheme.specs.Reading.{ReadPort, port_with, reading};
 ghost use Rattle.pls_mst.specs.Labels.{MstLabel, mst_shape};
@@ -12,8 +12,8 @@ ghost use Rattle.pls_mst.specs.inner.Glance.{glance_of};
 use crate::comparing::{Between, LevelComparison, compare_levels};
 use crate::glance::{MstGlance, names_all};
 use pls_bits::NumCode;
+use pls_configuration::State;
 use pls_levels::{LevelHead, follows_above, is_pointer, is_root};
-use pls_model::State;
 use pls_scheme::LabelGlance;
 
 /// Which rules on the ports hold at those so far.

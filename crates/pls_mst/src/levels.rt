@@ -3,11 +3,11 @@
 ghost use Rattle.std.specs.Prelude.{◌≡◌};
 
 use crate::reading::read_level;
-use pls_base::NoMemory;
 use pls_bits::{BitBuf, NumCode};
 use pls_boruvka::{Level, LevelList, LevelLists};
 use pls_levels::{LevelFormat, LevelKind, LevelLabel};
 use pls_numbers::{Numbers, append_numbers};
+use pls_streams::NoMemory;
 use std::alloc::Global;
 
 /// What a label says: where the node stands in the tree, and for each level the node's fragment and

@@ -10,8 +10,8 @@ use crate::gathering::{PortTally, with_port};
 use crate::glance::{MstGlance, glance_at};
 use crate::levels::{MstFormat, MstLevels};
 use pls_bits::{Bits, NumCode};
+use pls_configuration::{State, Verdict};
 use pls_levels::{LevelHead, is_placed};
-use pls_model::{State, Verdict};
 use pls_scheme::{Basic, BoxedGlance, Judgement, JudgesInPlace, LabelGlance, judged_from};
 use std::marker::PhantomData;
 

@@ -2,13 +2,13 @@
 
 use crate::levels::{MstLabel, MstLevels};
 use crate::mst::MstRules;
-use pls_base::NoMemory;
 use pls_bits::NumCode;
 use pls_boruvka::boruvka_levels;
 use pls_graph::{Network, Size};
 use pls_levels::{floor_log, make_labels};
 use pls_pointer::root_and_depths;
 use pls_scheme::{Marker, codes_length};
+use pls_streams::NoMemory;
 use std::alloc::Global;
 
 impl<C: NumCode> Marker for MstRules<C> {

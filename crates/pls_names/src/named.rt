@@ -1,20 +1,20 @@
 //! A named scheme over a code of numbers: what the scheme of that name does.
 
 ghost use Rattle.std.specs.Prelude.{◌≡◌, ◌≤◌, ◌↔◌, All, IfOk, IfSome, IsTrue, length};
-ghost use Rattle.pls_model.specs.Walk.{IsConnected};
+ghost use Rattle.pls_configuration.specs.Walk.{IsConnected};
 ghost use Rattle.pls_graph.specs.Size.{size_of};
-ghost use Rattle.pls_base.specs.Steps.{capped};
+ghost use Rattle.pls_streams.specs.Steps.{capped};
 ghost use Rattle.pls_names.specs.Named.{HasNamed, IsNamedLabel, IsNamedMarked, converted_named, judge_named, longest_named};
 ghost use Rattle.pls_names.specs.inner.Done.{IsDecided, IsMarking};
 
 use crate::by_name;
 use crate::scheme_name::SchemeName;
-use pls_base::{NoMemory, Steps};
 use pls_bits::{BitBuf, Bits, NumCode};
+use pls_configuration::Verdict;
 use pls_graph::{Network, Size};
-use pls_model::Verdict;
+use pls_labels::{LabelStore, Labels, View};
 use pls_scheme::{Checker, Property, Scheme};
-use pls_view::{LabelStore, Labels, View};
+use pls_streams::{NoMemory, Steps};
 use std::alloc::Global;
 use std::marker::PhantomData;
 

@@ -29,6 +29,6 @@ pub use network_read::{ReadNetwork, pass_network};
 pub use network_scan::scan_network;
 pub use network_text::NetworkText;
 pub use network_write::write_network;
-pub use pls_base::NoMemory;
 pub use pls_lines::Lines;
+pub use pls_streams::NoMemory;
 pub use round_trips::{read_written, write_read};

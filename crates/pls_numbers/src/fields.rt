@@ -8,8 +8,8 @@ ghost use Rattle.pls_numbers.specs.Shape.{said_by};
 
 use crate::format::Format;
 use crate::kind::FieldKind;
-use pls_base::NoMemory;
 use pls_bits::{BitBuf, Bits, Cursor, NumCode};
+use pls_streams::NoMemory;
 use std::alloc::Global;
 use std::marker::Model;
 

@@ -3,8 +3,8 @@
 ghost use Rattle.std.specs.Prelude.{◌≡◌, ◌++◌, IfOk, OnOk};
 ghost use Rattle.pls_numbers.specs.Shape.{AreItsNumbers, IsWritable, Shape, said_by, spelling};
 
-use pls_base::NoMemory;
 use pls_bits::{BitBuf, Bits, NumCode};
+use pls_streams::NoMemory;
 use std::alloc::Global;
 
 /// How labels are read and written: as a list of numbers, each in a number code or as one bit. A

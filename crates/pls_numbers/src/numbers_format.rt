@@ -8,8 +8,8 @@ ghost use Rattle.pls_numbers.specs.Shape.{if_clean};
 use crate::format::{Format, ReadsInPlace};
 use crate::numbers::Numbers;
 use crate::writing::append_numbers;
-use pls_base::NoMemory;
 use pls_bits::{BitBuf, Bits, NumCode};
+use pls_streams::NoMemory;
 use std::alloc::Global;
 use std::marker::PhantomData;
 

@@ -4,8 +4,8 @@ ghost use Rattle.std.specs.Prelude.{◌≡◌, IfOk};
 ghost use Rattle.pls_numbers.specs.Shape.{recoded};
 
 use crate::format::Format;
-use pls_base::NoMemory;
 use pls_bits::{BitBuf, Bits, NumCode};
+use pls_streams::NoMemory;
 use std::alloc::Global;
 
 /// The label that the bits are under the code `C`, written under the code `D`, or `None` where

@@ -3,8 +3,8 @@
 ghost use Rattle.std.specs.Prelude.{◌≡◌, ◌++◌, [], OnOk};
 ghost use Rattle.pls_numbers.specs.Numbers.{AreCoded, codes_of};
 
-use pls_base::NoMemory;
 use pls_bits::{BitBuf, NumCode};
+use pls_streams::NoMemory;
 
 /// Appends the codes of these numbers, one behind the other. The one error is want of memory;
 /// nothing is known then of what `bits` holds.

@@ -7,18 +7,18 @@ use Rattle.std.proofs.lemmas.List.{get_or-map, get_or_default, length-append, le
 use Rattle.std.proofs.lemmas.List.Elements.{All-contains, All-map, Contains-get_or}
 use Rattle.std.proofs.lemmas.List.Sums.{list_all-from_AllPass}
 use Rattle.std.proofs.lemmas.Option.{same_Some}
-use Rattle.pls_model.specs.declared.row.NodeRow.{NodeRow}
-use Rattle.pls_model.specs.declared.verdict.Verdict.{Verdict}
-use Rattle.pls_model.specs.declared.verdict.Verdict.TheVariants.{Accept}
-use Rattle.pls_model.specs.Configuration.{IsNetwork}
+use Rattle.pls_configuration.specs.declared.row.NodeRow.{NodeRow}
+use Rattle.pls_configuration.specs.declared.verdict.Verdict.{Verdict}
+use Rattle.pls_configuration.specs.declared.verdict.Verdict.TheVariants.{Accept}
+use Rattle.pls_configuration.specs.Configuration.{IsNetwork}
 use Rattle.pls_bits.specs.NumberCode.{Grows, IsShort, TakesCodes, TakesOnly}
 use Rattle.pls_bits.specs.declared.num_code.TheConstants.{MAX_CODED}
 use Rattle.pls_graph.proofs.Members.{Contains-map}
-use Rattle.pls_view.specs.Seen.{EachFits, Seen, SeenPort, label_of, narrow_by, seen}
-use Rattle.pls_view.proofs.Narrowed.{seen-narrowed, seen_fits}
+use Rattle.pls_labels.specs.Seen.{EachFits, Seen, SeenPort, label_of, narrow_by, seen}
+use Rattle.pls_labels.proofs.Narrowed.{seen-narrowed, seen_fits}
 use Rattle.pls_scheme.specs.Judging.{AllAccept}
 use Rattle.pls_scheme.specs.Length.{code_length}
-use Rattle.pls_base.specs.Steps.{capped}
+use Rattle.pls_streams.specs.Steps.{capped}
 use Rattle.pls_parts.specs.Parts.{cut_at, first_part, has_parts, is_tagged, parts_of, second_part, tag_of}
 use Rattle.pls_parts.specs.Combined.{judge_both, judge_one_of, judge_tagged}
 use Rattle.pls_parts.specs.Joined.{EachJoined, joined_at, joined_bits, longest_both}

@@ -1,6 +1,6 @@
 -- Labels of disjunctions: a tag, and behind it the label of the part that the tag names.
 use Rattle.std.specs.Prelude.{ℕ, ◌+◌, get_or, max, Bool, true, false, List, [], ◌∷◌, length, ◌⊎◌}
-use Rattle.pls_model.specs.declared.row.NodeRow.{NodeRow}
+use Rattle.pls_configuration.specs.declared.row.NodeRow.{NodeRow}
 use Rattle.pls_parts.specs.Joined.{ArePut}
 
 -- the label of a list at a place, behind a tag

@@ -2,15 +2,15 @@
 
 ghost use Rattle.std.specs.Prelude.{◌≡◌, ℕ, ◌≤◌, ◌∷◌, length, IfOk, OnOk};
 ghost use Rattle.pls_bits.specs.declared.num_code.TheConstants.{MAX_CODED};
-ghost use Rattle.pls_base.specs.Steps.{capped};
+ghost use Rattle.pls_streams.specs.Steps.{capped};
 ghost use Rattle.pls_parts.specs.Joined.{EachJoined, joined_at, joined_bits, longest_both};
 ghost use Rattle.pls_parts.specs.Tagged.{EachTagged, longest_one_of, tagged_at};
 ghost use Rattle.pls_parts.specs.inner.Fits.{AllFit, HasCodes, FitsWord};
 
-use pls_base::NoMemory;
 use pls_bits::{BitBuf, Bits, MAX_CODED, NumCode};
+use pls_labels::LabelStore;
 use pls_scheme::code_length;
-use pls_view::LabelStore;
+use pls_streams::NoMemory;
 use std::alloc::Global;
 
 /// The label of a conjunction whose parts are these. The one error is want of memory, by which a

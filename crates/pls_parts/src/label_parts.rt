@@ -6,9 +6,9 @@ ghost use Rattle.pls_parts.specs.Parts.{first_part, has_parts, second_part};
 ghost use Rattle.pls_parts.specs.inner.Rounds.{AreTags};
 
 use crate::narrowing::{is_tagged, parts, tag_of, without_tag};
-use pls_base::NoMemory;
 use pls_bits::{Bits, NumCode};
-use pls_view::{Labels, LentLabels};
+use pls_labels::{Labels, LentLabels};
+use pls_streams::NoMemory;
 use std::alloc::Global;
 
 /// The two parts of each label of a conjunction.

@@ -1,7 +1,7 @@
 //! Verdicts of combinations by those on their parts.
 
 ghost use Rattle.std.specs.Prelude.{◌≡◌, ◌-◌, Bool, List, All, Some, true, false, drop, if◌then◌else◌, length, map, slice_get, unwrap_or, IfOk};
-ghost use Rattle.pls_view.specs.Seen.{Seen};
+ghost use Rattle.pls_labels.specs.Seen.{Seen};
 ghost use Rattle.pls_scheme.specs.Judging.{LeafWithin, verdicts_by};
 ghost use Rattle.pls_parts.specs.Combined.{judge_both, judge_one_of, raised};
 ghost use Rattle.pls_parts.specs.Parts.{first_part, has_parts, second_part};
@@ -9,10 +9,10 @@ ghost use Rattle.pls_parts.specs.inner.Rounds.{all_true, AreTags, both_verdict, 
 
 use crate::label_parts::Tags;
 use crate::raising::raised;
-use pls_base::NoMemory;
 use pls_bits::NumCode;
+use pls_configuration::Verdict;
 use pls_graph::Network;
-use pls_model::Verdict;
+use pls_streams::NoMemory;
 use std::alloc::Global;
 
 /// The verdict of each node on a conjunction, whose first part has so many leaves, by which labels

@@ -5,8 +5,8 @@ use Rattle.std.specs.Option.{option_map_or}
 use Rattle.std.proofs.lemmas.Bool.{cases_Bool, true≢false}
 use Rattle.std.proofs.lemmas.List.{length-take-le, take_more}
 use Rattle.std.proofs.lemmas.Option.{get_or_from_slice_get, same_Some, slice_get_within}
-use Rattle.pls_model.specs.declared.row.State.{State}
-use Rattle.pls_view.specs.Seen.{SeenPort}
+use Rattle.pls_configuration.specs.declared.row.State.{State}
+use Rattle.pls_labels.specs.Seen.{SeenPort}
 use Rattle.pls_graph.proofs.Finds.{from_option_map}
 use Rattle.pls_scheme.specs.Reading.{Read, ReadPort, port_with, read_ports, reading}
 use Rattle.pls_scheme.specs.laws.Readings.{split_read}

@@ -1,8 +1,8 @@
 -- Rule 6, tried on right labels, decides whether some spanning tree is lighter.
 use Rattle.std.proofs.Common.{◌≡◌, ◌↔◌, ℕ, Bool, true, List, Contains, IsTrue}
-use Rattle.pls_model.specs.declared.row.NodeRow.{NodeRow}
-use Rattle.pls_model.specs.Configuration.{IsNetwork}
-use Rattle.pls_model.specs.Walk.{IsConnected}
+use Rattle.pls_configuration.specs.declared.row.NodeRow.{NodeRow}
+use Rattle.pls_configuration.specs.Configuration.{IsNetwork}
+use Rattle.pls_configuration.specs.Walk.{IsConnected}
 use Rattle.pls_facts.specs.MinimumSpanningTree.{IsMinimumSpanningTree}
 use Rattle.pls_facts.specs.SpanningTree.{IsTree}
 use Rattle.pls_scheme.specs.Marked.{AreRight, AreSaidBy}

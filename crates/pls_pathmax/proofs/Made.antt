@@ -1,7 +1,7 @@
 -- Labels that are made of the root, the depths and the levels are right.
 use Rattle.std.proofs.Common.{◌≡◌, ℕ, List, length, subst}
-use Rattle.pls_model.specs.declared.row.NodeRow.{NodeRow}
-use Rattle.pls_model.specs.Configuration.{IsNetwork}
+use Rattle.pls_configuration.specs.declared.row.NodeRow.{NodeRow}
+use Rattle.pls_configuration.specs.Configuration.{IsNetwork}
 use Rattle.pls_search.specs.Depths.{AreDepths}
 use Rattle.pls_scheme.specs.Marked.{AreRight}
 use Rattle.pls_facts.specs.OnlyNode.{IsOnly, points_at_none}

@@ -5,7 +5,7 @@ use Rattle.std.specs.Option.{option_map_or}
 use Rattle.std.proofs.lemmas.List.{ext_get_or, length-map}
 use Rattle.std.proofs.lemmas.List.Folds.{list_any-append}
 use Rattle.std.proofs.lemmas.List.FromFn.{get_or-map-range_with_len, length-range_with_len}
-use Rattle.pls_model.specs.declared.row.State.{State}
+use Rattle.pls_configuration.specs.declared.row.State.{State}
 use Rattle.pls_scheme.specs.Reading.{Read, ReadPort, port_with, reading}
 use Rattle.pls_scheme.proofs.MorePorts.{all_more, numbered_from_0}
 use Rattle.pls_centroid.specs.declared.level.CentroidLevel.{CentroidLevel}

@@ -1,9 +1,9 @@
 -- The verdict by all rules, by those of passes in which rule 5 is asked of some levels alone.
 use Rattle.std.proofs.Common.{◌≡◌, ◌∙◌, ℕ, inl, inr, Bool, true, false, List, [], ◌∷◌, Option, Some, None, refl, sym, ap, arith}
 use Rattle.std.proofs.lemmas.Bool.{cases_Bool, cases_lt, true≢false}
-use Rattle.pls_model.specs.declared.verdict.Verdict.{Verdict}
-use Rattle.pls_model.specs.declared.verdict.Verdict.TheVariants.{Reject}
-use Rattle.pls_view.specs.Seen.{Seen}
+use Rattle.pls_configuration.specs.declared.verdict.Verdict.{Verdict}
+use Rattle.pls_configuration.specs.declared.verdict.Verdict.TheVariants.{Reject}
+use Rattle.pls_labels.specs.Seen.{Seen}
 use Rattle.pls_scheme.specs.Judging.{judged_from}
 use Rattle.pls_scheme.specs.Reading.{Read, ReadPort, judge_by, judged_read, read_ports, reading}
 use Rattle.pls_scheme.specs.laws.Readings.{judged_by_rules}

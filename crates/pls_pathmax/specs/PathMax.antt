@@ -1,7 +1,7 @@
 -- The marker's labels of the scheme `pathmax`, and how long they are.
 use Rattle.std.specs.Prelude.{ℕ, ◌+◌, ◌*◌, Bool, List, [], ◌∷◌}
 use Rattle.pls_bits.specs.Gamma.{floor_log}
-use Rattle.pls_model.specs.declared.row.NodeRow.{NodeRow}
+use Rattle.pls_configuration.specs.declared.row.NodeRow.{NodeRow}
 use Rattle.pls_graph.specs.declared.size.Size.{Size}
 use Rattle.pls_scheme.specs.Length.{codes_length}
 use Rattle.pls_centroid.specs.Levels.{AreCentroidLevels}

@@ -2,7 +2,7 @@
 
 ghost use Rattle.std.specs.Prelude.{◌≡◌, ℕ, ◌<◌, ◌==◌, ◌++◌, ◌&&◌, ◌||◌, List, [], ◌∷◌, Some, false, length, slice_get, slice_index_or, true};
 ghost use Rattle.std.specs.List.{list_any, zip};
-ghost use Rattle.pls_model.specs.declared.row.State.{State};
+ghost use Rattle.pls_configuration.specs.declared.row.State.{State};
 ghost use Rattle.pls_numbers.specs.Shape.{said_by};
 ghost use Rattle.pls_scheme.specs.Reading.{ReadPort, port_with, reading};
 ghost use Rattle.pls_centroid.specs.declared.level.CentroidLevel.{CentroidLevel};

@@ -3,7 +3,7 @@
 
 ghost use Rattle.std.specs.Prelude.{◌≡◌, ℕ, ◌<◌, ◌&&◌, ◌||◌, List, length, Some, false, slice_get, slice_index_or, IfOk};
 ghost use Rattle.pls_numbers.specs.Shape.{said_by};
-ghost use Rattle.pls_view.specs.Seen.{Seen, views};
+ghost use Rattle.pls_labels.specs.Seen.{Seen, views};
 ghost use Rattle.pls_scheme.specs.Basic.{verdict_by};
 ghost use Rattle.pls_scheme.specs.Reading.{ReadPort, port_with, read_ports, reading};
 ghost use Rattle.pls_pathmax.specs.Labels.{PathMaxLabel, pathmax_shape};
@@ -15,12 +15,12 @@ use crate::comparing::note_ways;
 use crate::gathering::{WINDOW, have_ways};
 use crate::levels::PathMaxLevels;
 use crate::pathmax::{head_of, is_settled};
-use pls_base::NoMemory;
 use pls_bits::{Bits, NumCode};
+use pls_configuration::Verdict;
 use pls_graph::Network;
+use pls_labels::{Labels, View};
 use pls_levels::{is_in_tree, levels_of};
-use pls_model::Verdict;
-use pls_view::{Labels, View};
+use pls_streams::NoMemory;
 use std::alloc::Global;
 
 // `verdict` is that of the first pass; the one error is want of memory.

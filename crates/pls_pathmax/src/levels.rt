@@ -3,11 +3,11 @@
 ghost use Rattle.std.specs.Prelude.{◌≡◌, ◌<◌, length, slice_get, Some, IfOk};
 
 use crate::reading::read_level;
-use pls_base::NoMemory;
 use pls_bits::{BitBuf, NumCode};
 use pls_centroid::{CentroidLevel, CentroidList};
 use pls_levels::{LevelFormat, LevelKind, LevelLabel};
 use pls_numbers::{Numbers, append_numbers};
+use pls_streams::NoMemory;
 use std::alloc::Global;
 use std::marker::Model;
 

@@ -3,13 +3,13 @@
 use crate::levels::{CentroidLists, PathMaxLabel, PathMaxLevels};
 use crate::outside::other_edges_are_heavy;
 use crate::pathmax::PathMaxRules;
-use pls_base::NoMemory;
 use pls_bits::NumCode;
 use pls_centroid::centroid_levels;
 use pls_graph::{Network, Size};
 use pls_levels::{floor_log, make_labels};
 use pls_pointer::root_and_depths;
 use pls_scheme::{Marker, codes_length};
+use pls_streams::NoMemory;
 use std::alloc::Global;
 
 impl<C: NumCode> Marker for PathMaxRules<C> {

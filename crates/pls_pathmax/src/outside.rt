@@ -2,7 +2,7 @@
 
 ghost use Rattle.std.specs.Prelude.{◌≡◌, ◌↔◌, ℕ, ◌<◌, ◌||◌, length, map, slice_get, Some, Contains, IsTrue, true};
 ghost use Rattle.std.specs.List.{list_any, zip};
-ghost use Rattle.pls_model.specs.declared.row.NodeRow.{NodeRow};
+ghost use Rattle.pls_configuration.specs.declared.row.NodeRow.{NodeRow};
 ghost use Rattle.pls_graph.specs.Places.{named_places};
 ghost use Rattle.pls_scheme.specs.Marked.{AreSaidBy};
 ghost use Rattle.pls_scheme.specs.Reading.{port_where, port_with, read_where, reading};
@@ -14,10 +14,10 @@ ghost use Rattle.pls_pathmax.specs.Rules.{meet_lightly, other_edges_are_heavy};
 use crate::comparing::meet_lightly;
 use crate::levels::PathMaxLabel;
 use pls_centroid::CentroidLevel;
+use pls_configuration::{Port, State};
 use pls_facts::is_valid;
 use pls_graph::Network;
 use pls_levels::is_in_tree;
-use pls_model::{Port, State};
 
 // Whether rule 6 holds at every node.
 pub(crate) fn other_edges_are_heavy(net: &Network, labels: &[PathMaxLabel]) -> bool

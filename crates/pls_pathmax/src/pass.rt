@@ -6,8 +6,8 @@ use crate::gathering::{PortTally, has_ways, with_port};
 use crate::glance::{PathMaxGlance, glance_in, head_above};
 use crate::levels::{PathMaxFormat, PathMaxLevels};
 use pls_bits::{Bits, NumCode};
+use pls_configuration::{State, Verdict};
 use pls_levels::is_placed;
-use pls_model::{State, Verdict};
 use pls_scheme::{Judgement, JudgesInPlace, LabelGlance, judged_from};
 use std::marker::PhantomData;
 

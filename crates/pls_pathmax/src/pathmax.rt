@@ -13,11 +13,11 @@ use crate::gathering::WINDOW;
 use crate::levels::PathMaxFormat;
 use crate::pass::PathMaxPass;
 use pls_bits::{Bits, NumCode};
+use pls_configuration::Verdict;
+use pls_labels::View;
 use pls_levels::{LevelHead, read_head};
-use pls_model::Verdict;
 use pls_numbers::Numbers;
 use pls_scheme::{Basic, Judgement};
-use pls_view::View;
 use std::marker::PhantomData;
 
 /// What the scheme states of its own: how labels are written, the rules, the property, and what

@@ -10,14 +10,14 @@ use crate::glance::{PathMaxGlance, glance_in};
 use crate::in_memory::verdict_of_node;
 use crate::levels::{PathMaxFormat, PathMaxLabel};
 use crate::pathmax::{PathMaxRules, judge_view, pass_from};
-use pls_base::{NoMemory, Steps};
 use pls_bits::{BitBuf, Bits, NumCode};
+use pls_configuration::Verdict;
 use pls_facts::is_valid;
 use pls_graph::{Network, Size};
-use pls_model::Verdict;
+use pls_labels::{LabelStore, Labels, View};
 use pls_numbers::{Format, recode};
 use pls_scheme::{Checker, Marker, Property, Remembers, Scheme, labels_of};
-use pls_view::{LabelStore, Labels, View};
+use pls_streams::{NoMemory, Steps};
 use std::alloc::Global;
 
 /// The scheme of spanning trees of least weight by centroids, whose labels are written in the

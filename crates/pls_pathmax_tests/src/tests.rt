@@ -1,6 +1,6 @@
 //! Tests of centroid levels and of the scheme `pathmax`.
 
-ghost use Rattle.pls_model.specs.Walk.{IsConnected};
+ghost use Rattle.pls_configuration.specs.Walk.{IsConnected};
 ghost use Rattle.std.specs.Prelude.{IfOk};
 
 mod levels;

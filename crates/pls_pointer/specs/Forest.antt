@@ -1,7 +1,7 @@
 -- The scheme of forests: what a label says, what a node judges, and the marker's labels. The
 -- property is that following pointers never leads back to the start.
 use Rattle.std.specs.Prelude.{ℕ, ◌==◌, Bool, ◌||◌, List, [], ◌∷◌, get_or}
-use Rattle.pls_model.specs.declared.row.NodeRow.{NodeRow}
+use Rattle.pls_configuration.specs.declared.row.NodeRow.{NodeRow}
 use Rattle.pls_graph.specs.declared.size.Size.{Size}
 use Rattle.pls_numbers.specs.Fixed.{fixed_shape}
 use Rattle.pls_numbers.specs.Shape.{Shape}

@@ -2,7 +2,7 @@
 -- is that exactly one node has no pointer, and that the edges along which the others point are a
 -- spanning tree (Korman, Kutten and Peleg 2010, the spanning tree scheme).
 use Rattle.std.specs.Prelude.{◌≡◌, ℕ, ◌==◌, Bool, ◌&&◌, ◌||◌, List, [], ◌∷◌, Contains, get_or, None}
-use Rattle.pls_model.specs.declared.row.NodeRow.{NodeRow}
+use Rattle.pls_configuration.specs.declared.row.NodeRow.{NodeRow}
 use Rattle.pls_graph.specs.declared.size.Size.{Size}
 use Rattle.pls_numbers.specs.Fixed.{fixed_shape}
 use Rattle.pls_numbers.specs.Shape.{Shape}

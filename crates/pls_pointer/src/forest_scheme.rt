@@ -4,11 +4,11 @@ ghost use Rattle.std.specs.Prelude.{◌≡◌, map, IfOk};
 ghost use Rattle.pls_pointer.specs.inner.Saying.{depth_says};
 
 use crate::forest::{DepthLabel, ForestRules};
-use pls_base::NoMemory;
 use pls_bits::NumCode;
 use pls_graph::{Network, Size};
 use pls_scheme::{Marker, codes_length};
 use pls_search::pointer_depths;
+use pls_streams::NoMemory;
 use std::alloc::Global;
 
 impl<C: NumCode> Marker for ForestRules<C> {

@@ -5,7 +5,7 @@ ghost use Rattle.std.specs.Option.{is_some};
 
 use crate::deeper::is_one_deeper;
 use pls_bits::NumCode;
-use pls_model::State;
+use pls_configuration::State;
 use pls_scheme::{Judgement, NumbersFormat, OfNumbers, RuleScheme, Rules, Verdict, judged_from};
 use std::marker::PhantomData;
 

@@ -1,19 +1,19 @@
 //! How networks whose pointers make a tree are labelled.
 
 ghost use Rattle.std.specs.Prelude.{◌≡◌, map, IfOk, IfSome, IfNone};
-ghost use Rattle.pls_model.specs.Configuration.{IsNetwork};
+ghost use Rattle.pls_configuration.specs.Configuration.{IsNetwork};
 ghost use Rattle.pls_facts.specs.OnlyNode.{IsOnly, points_at_none};
 ghost use Rattle.pls_facts.specs.SpanningTree.{IsTree};
 ghost use Rattle.pls_search.specs.Depths.{AreDepths};
 ghost use Rattle.pls_pointer.specs.inner.Saying.{root_says};
 
 use crate::tree::{TreeLabel, TreeRules};
-use pls_base::NoMemory;
 use pls_bits::NumCode;
 use pls_facts::{PointsAtNone, only_node};
 use pls_graph::{Network, Size};
 use pls_scheme::{Marker, codes_length};
 use pls_search::pointer_depths;
+use pls_streams::NoMemory;
 use std::alloc::Global;
 
 impl<C: NumCode> Marker for TreeRules<C> {

@@ -4,15 +4,15 @@ use Rattle.std.proofs.Common.{◌≡◌, ◌≢◌, ◌∙◌, ◌⊎◌, inl, i
 use Rattle.std.proofs.lemmas.Bool.{cases_order, eq-eqb, ne_eqb}
 use Rattle.std.proofs.lemmas.List.{length-map, nil_from_length}
 use Rattle.std.proofs.lemmas.Option.{same_Some, slice_get-map, slice_get-get_or, slice_get_within}
-use Rattle.pls_model.specs.declared.row.Port.{Port}
-use Rattle.pls_model.specs.declared.row.NodeRow.{NodeRow}
-use Rattle.pls_model.specs.declared.verdict.Verdict.{Verdict}
-use Rattle.pls_model.specs.Configuration.{IsNetwork, ids_of, port_to, row_of}
+use Rattle.pls_configuration.specs.declared.row.Port.{Port}
+use Rattle.pls_configuration.specs.declared.row.NodeRow.{NodeRow}
+use Rattle.pls_configuration.specs.declared.verdict.Verdict.{Verdict}
+use Rattle.pls_configuration.specs.Configuration.{IsNetwork, ids_of, port_to, row_of}
 use Rattle.pls_graph_edits.specs.Edits.{lone_node}
 use Rattle.pls_graph_edits.specs.inner.Gaps.{place_with, place_without}
 use Rattle.pls_graph.proofs.Finds.{fails_where_none, from_option_map}
 use Rattle.pls_graph.proofs.Placed.{WayBack, ids_differ, place_of_row, row_of_place, way_back}
-use Rattle.pls_view.specs.Seen.{Seen, label_of, seen, seen_port}
+use Rattle.pls_labels.specs.Seen.{Seen, label_of, seen, seen_port}
 use Rattle.pls_recheck.specs.Watch.{is_among}
 use Rattle.pls_recheck.specs.inner.Flags.{AreAround, AreCurrent, marked}
 use Rattle.pls_recheck.proofs.Marked.{among_marked, flags_filter}

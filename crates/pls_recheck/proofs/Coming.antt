@@ -4,9 +4,9 @@ use Rattle.std.specs.Option.{is_none}
 use Rattle.std.proofs.lemmas.Bool.{eq-eqb, eqb-false, le-ltb, lt-ltb, ltb-false, ltb-true, ne_eqb}
 use Rattle.std.proofs.lemmas.List.Edits.{length-insert}
 use Rattle.std.proofs.lemmas.Option.{same_Some}
-use Rattle.pls_model.specs.declared.row.NodeRow.{NodeRow}
-use Rattle.pls_model.specs.declared.limits.TheConstants.{MAX_NODES}
-use Rattle.pls_model.specs.Configuration.{IsNetwork, first_of, row_of}
+use Rattle.pls_configuration.specs.declared.row.NodeRow.{NodeRow}
+use Rattle.pls_configuration.specs.declared.limits.TheConstants.{MAX_NODES}
+use Rattle.pls_configuration.specs.Configuration.{IsNetwork, first_of, row_of}
 use Rattle.pls_graph_edits.specs.declared.edit_error.EditError.TheVariants.{Full, HasPorts, Last, Present}
 use Rattle.pls_graph_edits.specs.Edits.{lone_node, cause, join_refusal, joined, leave_refusal, left, with_row}
 use Rattle.pls_graph.proofs.Placed.{ids_rise, place_of_row, row_of_place}

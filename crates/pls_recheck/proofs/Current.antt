@@ -2,8 +2,8 @@
 use Rattle.std.proofs.Common.{◌≡◌, ◌∙◌, ℕ, suc, ◌≤◌, List, [], ◌∷◌, map, length, slice_get, Some, refl, sym, ap, arith}
 use Rattle.std.proofs.lemmas.List.{length-map}
 use Rattle.std.proofs.lemmas.Option.{same_Some}
-use Rattle.pls_model.specs.declared.verdict.Verdict.{Verdict}
-use Rattle.pls_view.specs.Seen.{Seen, label_of, seen, views}
+use Rattle.pls_configuration.specs.declared.verdict.Verdict.{Verdict}
+use Rattle.pls_labels.specs.Seen.{Seen, label_of, seen, views}
 use Rattle.pls_scheme.specs.Judging.{round_by}
 use Rattle.pls_recheck.specs.Watch.{IsCurrent, Snapshot, is_among}
 

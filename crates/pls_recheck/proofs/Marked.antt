@@ -3,11 +3,11 @@ use Rattle.std.proofs.Common.{◌≡◌, ◌∙◌, ℕ, zero, suc, ◌≤◌, B
 use Rattle.std.proofs.lemmas.Option.{same_Some, slice_get-map, slice_get-get_or, slice_get_within}
 use Rattle.std.proofs.lemmas.List.{length-map}
 use Rattle.std.proofs.lemmas.Bool.{eq-eqb}
-use Rattle.pls_model.specs.declared.row.NodeRow.{NodeRow}
-use Rattle.pls_model.specs.Configuration.{IsNetwork, has_repeat, ids_of}
+use Rattle.pls_configuration.specs.declared.row.NodeRow.{NodeRow}
+use Rattle.pls_configuration.specs.Configuration.{IsNetwork, has_repeat, ids_of}
 use Rattle.pls_graph.proofs.Finds.{eqb_comm, fails_at, from_option_map}
 use Rattle.pls_graph.proofs.Placed.{ids_differ}
-use Rattle.pls_view.specs.Seen.{Seen, label_of, seen, views}
+use Rattle.pls_labels.specs.Seen.{Seen, label_of, seen, views}
 use Rattle.pls_recheck.specs.Watch.{is_among}
 use Rattle.pls_recheck.specs.inner.Flags.{MarksMore, marked}
 

@@ -3,11 +3,11 @@ use Rattle.std.proofs.Common.{◌≡◌, ◌≢◌, ◌∙◌, inl, inr, ℕ, ze
 use Rattle.std.proofs.lemmas.Bool.{cases_order, ne_eqb}
 use Rattle.std.proofs.lemmas.List.{length-map, length-set, get_or-set_same, get_or-set_other}
 use Rattle.std.proofs.lemmas.Option.{same_Some, slice_get-map, slice_get-get_or, slice_get_within, get_or_from_slice_get}
-use Rattle.pls_model.specs.declared.row.Port.{Port}
-use Rattle.pls_model.specs.declared.row.NodeRow.{NodeRow}
-use Rattle.pls_model.specs.declared.verdict.Verdict.{Verdict}
-use Rattle.pls_model.specs.declared.row.State.{State}
-use Rattle.pls_model.specs.Configuration.{IsNetwork, ids_of}
+use Rattle.pls_configuration.specs.declared.row.Port.{Port}
+use Rattle.pls_configuration.specs.declared.row.NodeRow.{NodeRow}
+use Rattle.pls_configuration.specs.declared.verdict.Verdict.{Verdict}
+use Rattle.pls_configuration.specs.declared.row.State.{State}
+use Rattle.pls_configuration.specs.Configuration.{IsNetwork, ids_of}
 use Rattle.pls_graph_edits.specs.Edits.{change_row, changed, in_state, weighed, weighing, with_state, with_weight}
 use Rattle.pls_graph.proofs.Finds.{fails_where_no_position, item_at}
 use Rattle.pls_graph.proofs.Placed.{place_of_row}

@@ -5,18 +5,18 @@ use Rattle.std.proofs.lemmas.Bool.{eq-eqb, eqb-true, ltb-false, ltb-true, lt-ltb
 use Rattle.std.proofs.lemmas.List.Sums.{sum_by-set}
 use Rattle.std.proofs.lemmas.List.Quantifiers.{position-Some}
 use Rattle.std.proofs.lemmas.Option.{same_Some, slice_get_within, get_or_from_slice_get}
-use Rattle.pls_model.specs.declared.row.Port.{Port}
-use Rattle.pls_model.specs.declared.row.NodeRow.{NodeRow}
-use Rattle.pls_model.specs.Configuration.{IsNetwork, first_of, port_to, row_of}
+use Rattle.pls_configuration.specs.declared.row.Port.{Port}
+use Rattle.pls_configuration.specs.declared.row.NodeRow.{NodeRow}
+use Rattle.pls_configuration.specs.Configuration.{IsNetwork, first_of, port_to, row_of}
 use Rattle.pls_graph_edits.specs.declared.edit_error.EditError.TheVariants.{Absent, Full}
 use Rattle.pls_graph_edits.specs.Edits.{are_linked, cause, leave_refusal}
 use Rattle.pls_graph.specs.Places.{place_in}
 use Rattle.pls_graph.proofs.Finds.{fails_where_no_position, found_place, from_option_map, item_at, list_any-find}
 use Rattle.pls_graph.proofs.Placed.{WayBack, row_of_place, way_back}
-use Rattle.pls_view.specs.Labels.{bits_together}
-use Rattle.pls_view.specs.Seen.{label_of, seen_port}
+use Rattle.pls_labels.specs.Labels.{bits_together}
+use Rattle.pls_labels.specs.Seen.{label_of, seen_port}
 use Rattle.pls_edits.specs.Edited.{label_refusal}
-use Rattle.pls_model.specs.declared.limits.TheConstants.{MAX_BITS}
+use Rattle.pls_configuration.specs.declared.limits.TheConstants.{MAX_BITS}
 use Rattle.pls_recheck.specs.inner.Flags.{MarksMore, names}
 use Rattle.pls_recheck.proofs.Steady.{SeeAlike, either_fails}
 

@@ -5,9 +5,9 @@ use Rattle.std.specs.List.{position_or_len}
 use Rattle.std.specs.Option.{option_and_then, unwrap_or}
 use Rattle.std.proofs.lemmas.Bool.{lt-ltb, le-ltb, ltb-false, ltb-true}
 use Rattle.std.proofs.lemmas.Bool.Decides.{nat_tests}
-use Rattle.pls_model.specs.declared.row.NodeRow.{NodeRow}
+use Rattle.pls_configuration.specs.declared.row.NodeRow.{NodeRow}
 use Rattle.pls_graph_edits.specs.inner.Gaps.{place_with, place_without}
-use Rattle.pls_view.specs.Seen.{label_of}
+use Rattle.pls_labels.specs.Seen.{label_of}
 
 module _ {X : Type 0} where
   pub insert_here : (xs : List X) (i : ℕ) (x : X) → i ≤ length xs

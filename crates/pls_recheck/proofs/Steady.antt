@@ -3,12 +3,12 @@ use Rattle.std.proofs.Common.{◌≡◌, ◌∙◌, ℕ, Bool, true, false, cond
 use Rattle.std.specs.Option.{option_and_then, unwrap_or}
 use Rattle.std.proofs.lemmas.List.{length-map}
 use Rattle.std.proofs.lemmas.Option.{same_Some, slice_get-map, slice_get-get_or, slice_get_within}
-use Rattle.pls_model.specs.declared.row.NodeRow.{NodeRow}
-use Rattle.pls_model.specs.declared.verdict.Verdict.{Verdict}
-use Rattle.pls_model.specs.Configuration.{ids_of}
+use Rattle.pls_configuration.specs.declared.row.NodeRow.{NodeRow}
+use Rattle.pls_configuration.specs.declared.verdict.Verdict.{Verdict}
+use Rattle.pls_configuration.specs.Configuration.{ids_of}
 use Rattle.pls_graph_edits.specs.Edits.{changed, change_ends, change_row}
 use Rattle.pls_graph.proofs.Finds.{from_option_map, position-map}
-use Rattle.pls_view.specs.Seen.{Seen, label_of, seen, seen_port}
+use Rattle.pls_labels.specs.Seen.{Seen, label_of, seen, seen_port}
 use Rattle.pls_recheck.specs.inner.Flags.{AreCurrent, MarksMore}
 
 -- the change of a row keeps its identity

@@ -1,8 +1,8 @@
 -- What an edit makes of what is watched.
 use Rattle.std.specs.Prelude.{ℕ, ◌||◌, List, filter}
-use Rattle.pls_model.specs.declared.row.NodeRow.{NodeRow}
-use Rattle.pls_model.specs.declared.verdict.Verdict.TheVariants.{Accept}
-use Rattle.pls_model.specs.Configuration.{ids_of}
+use Rattle.pls_configuration.specs.declared.row.NodeRow.{NodeRow}
+use Rattle.pls_configuration.specs.declared.verdict.Verdict.TheVariants.{Accept}
+use Rattle.pls_configuration.specs.Configuration.{ids_of}
 use Rattle.pls_edits.specs.declared.edit.Edit.{Edit}
 use Rattle.pls_edits.specs.Edited.{carried, edited, relabelled, touches}
 use Rattle.pls_recheck.specs.Watch.{Snapshot, is_among}

@@ -1,6 +1,6 @@
 -- A network and its labels with their judge, while they are edited.
 use Rattle.std.specs.Prelude.{ℕ, Bool, List}
-use Rattle.pls_model.specs.declared.row.NodeRow.{NodeRow}
+use Rattle.pls_configuration.specs.declared.row.NodeRow.{NodeRow}
 use Rattle.pls_edits.specs.declared.edit.Edit.{Edit}
 use Rattle.pls_edits.specs.Edited.{edited, relabelled}
 use Rattle.pls_recheck.specs.After.{touched_after}

@@ -2,10 +2,10 @@
 -- the verdicts of the others.
 use Rattle.std.specs.Prelude.{◌≡◌, ℕ, ◌+◌, ◌<◌, ◌⊎◌, ◌==◌, Bool, false, List, drop, length, slice_get, Some}
 use Rattle.std.specs.List.{list_any}
-use Rattle.pls_model.specs.declared.row.NodeRow.{NodeRow}
-use Rattle.pls_model.specs.declared.verdict.Verdict.{Verdict}
-use Rattle.pls_base.specs.Steps.{up_by}
-use Rattle.pls_view.specs.Seen.{Seen, views}
+use Rattle.pls_configuration.specs.declared.row.NodeRow.{NodeRow}
+use Rattle.pls_configuration.specs.declared.verdict.Verdict.{Verdict}
+use Rattle.pls_streams.specs.Steps.{up_by}
+use Rattle.pls_labels.specs.Seen.{Seen, views}
 
 -- the network, the labels in the order of its rows, the identities of the touched nodes in their
 -- order, and for each node an identity and a verdict, as it was judged last

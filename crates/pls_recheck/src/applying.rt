@@ -1,11 +1,11 @@
 //! Edits of what is watched.
 
 ghost use Rattle.std.specs.Prelude.{◌≡◌, ◌≤◌, ◌==◌, ◌||◌, length, None, OnErr, OnOk, IfErr, Some};
-ghost use Rattle.pls_model.specs.declared.limits.TheConstants.{MAX_NUM};
-ghost use Rattle.pls_model.specs.declared.verdict.Verdict.{Verdict};
-ghost use Rattle.pls_model.specs.Configuration.{IsNetwork};
+ghost use Rattle.pls_configuration.specs.declared.limits.TheConstants.{MAX_NUM};
+ghost use Rattle.pls_configuration.specs.declared.verdict.Verdict.{Verdict};
+ghost use Rattle.pls_configuration.specs.Configuration.{IsNetwork};
 ghost use Rattle.pls_graph_edits.specs.Edits.{SaysEdit, link_refusal, state_refusal, unlink_refusal, weight_refusal};
-ghost use Rattle.pls_view.specs.Seen.{Seen};
+ghost use Rattle.pls_labels.specs.Seen.{Seen};
 ghost use Rattle.pls_edits.specs.Edited.{FitsNum, RefusesWith, edit_refusal};
 ghost use Rattle.pls_edits.specs.declared.edit.Edit.{Edit};
 ghost use Rattle.pls_edits.specs.declared.edit.Edit.TheVariants.{State as StateEdit, Weight, Link, Unlink};
@@ -14,10 +14,10 @@ ghost use Rattle.pls_recheck.specs.Watch.{IsCurrent};
 ghost use Rattle.pls_recheck.specs.inner.Flags.{ClearsSome, MarksMore};
 
 use crate::edited_network::EditedNetwork;
+use pls_configuration::State;
 use pls_edits::{Edit, EditError};
 use pls_graph::Network;
 use pls_graph_edits::{link, set_state, set_weight, unlink};
-use pls_model::State;
 
 impl EditedNetwork {
     /// Makes an edit, and touches the nodes whose view it may change. An edit that is refused

@@ -1,15 +1,15 @@
 //! Who is asked about the node at a place.
 
 ghost use Rattle.std.specs.Prelude.{◌≡◌, ◌<◌, ℕ, List, Bool, Some, IfOk, length, slice_get};
-ghost use Rattle.pls_model.specs.declared.verdict.Verdict.{Verdict};
-ghost use Rattle.pls_base.specs.Steps.{up_by};
-ghost use Rattle.pls_view.specs.Seen.{Seen, views};
+ghost use Rattle.pls_configuration.specs.declared.verdict.Verdict.{Verdict};
+ghost use Rattle.pls_streams.specs.Steps.{up_by};
+ghost use Rattle.pls_labels.specs.Seen.{Seen, views};
 
 use crate::judge::Judge;
-use pls_base::{NoMemory, Steps};
+use pls_configuration::Verdict;
 use pls_graph::Network;
-use pls_model::Verdict;
-use pls_view::{LabelStore, View};
+use pls_labels::{LabelStore, View};
+use pls_streams::{NoMemory, Steps};
 use std::alloc::Global;
 
 /// A way to ask about the node at a place. The counter counts how often it is asked.

@@ -1,12 +1,12 @@
 //! Where questions to checkers are answered and counted.
 
 ghost use Rattle.std.specs.Prelude.{◌≡◌, ℕ, IfOk};
-ghost use Rattle.pls_base.specs.Steps.{up_by};
+ghost use Rattle.pls_streams.specs.Steps.{up_by};
 
-use pls_base::{NoMemory, Steps};
-use pls_model::Verdict;
+use pls_configuration::Verdict;
+use pls_labels::View;
 use pls_scheme::Checker;
-use pls_view::View;
+use pls_streams::{NoMemory, Steps};
 use std::alloc::Global;
 
 /// A bench answers for any checker, and counts how often it was asked.

@@ -5,11 +5,11 @@ ghost use Rattle.std.specs.Prelude.{◌≡◌};
 use crate::asks::Asks;
 use crate::bench::Bench;
 use crate::checker_at_place::{CheckerAtPlace, OfOne};
-use pls_base::{NoMemory, Steps};
+use pls_configuration::Verdict;
 use pls_graph::Network;
-use pls_model::Verdict;
+use pls_labels::{LabelStore, View};
 use pls_scheme::Remembers;
-use pls_view::{LabelStore, View};
+use pls_streams::{NoMemory, Steps};
 use std::alloc::Global;
 
 /// A checker with what it remembers of each label: a bench is asked about this checker at the

@@ -1,15 +1,15 @@
 //! A checker at one place.
 
 ghost use Rattle.std.specs.Prelude.{◌≡◌, ◌<◌, ◌≤◌, ℕ, IfOk, length, map};
-ghost use Rattle.pls_model.specs.declared.verdict.Verdict.{Verdict};
+ghost use Rattle.pls_configuration.specs.declared.verdict.Verdict.{Verdict};
 ghost use Rattle.pls_scheme.specs.Judging.{LeafWithin};
 ghost use Rattle.pls_recheck.specs.inner.AtPlace.{view_at};
 
-use pls_base::{NoMemory, Steps};
+use pls_configuration::Verdict;
 use pls_graph::Network;
-use pls_model::Verdict;
+use pls_labels::{LabelStore, View};
 use pls_scheme::{Checker, Remembers};
-use pls_view::{LabelStore, View};
+use pls_streams::{NoMemory, Steps};
 use std::alloc::Global;
 
 /// What judges one node.

@@ -1,17 +1,17 @@
 //! A network and its labels while they are edited.
 
 ghost use Rattle.std.specs.Prelude.{◌≡◌, length, replicate, IfOk};
-ghost use Rattle.pls_model.specs.declared.verdict.Verdict.{Verdict};
-ghost use Rattle.pls_model.specs.Configuration.{ids_of};
-ghost use Rattle.pls_view.specs.Seen.{Seen};
+ghost use Rattle.pls_configuration.specs.declared.verdict.Verdict.{Verdict};
+ghost use Rattle.pls_configuration.specs.Configuration.{ids_of};
+ghost use Rattle.pls_labels.specs.Seen.{Seen};
 ghost use Rattle.pls_recheck.specs.Watch.{IsCurrent};
 ghost use Rattle.pls_recheck.specs.inner.Flags.{set_among};
 
-use pls_base::NoMemory;
+use pls_configuration::Verdict;
 use pls_graph::Network;
 use pls_graph_edits::note_places;
-use pls_model::Verdict;
-use pls_view::LabelStore;
+use pls_labels::LabelStore;
+use pls_streams::NoMemory;
 use std::alloc::Global;
 use std::marker::Model;
 
@@ -30,7 +30,7 @@ pub struct EditedNetwork {
 }
 
 impl Model for EditedNetwork {
-    ghost use Rattle.pls_model.specs.Configuration.{ids_of};
+    ghost use Rattle.pls_configuration.specs.Configuration.{ids_of};
     ghost use Rattle.pls_recheck.specs.Watch.{Snapshot};
     ghost use Rattle.pls_recheck.specs.inner.Flags.{MatchRows, marked};
 

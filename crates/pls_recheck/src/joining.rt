@@ -1,24 +1,24 @@
 //! Nodes that join what is watched, and nodes that leave.
 
 ghost use Rattle.std.specs.Prelude.{◌≡◌, ◌<◌, ◌≤◌, [], insert, length, vec_capacity, None, Some, IfOk, IfErr, OnErr, OnOk};
-ghost use Rattle.pls_model.specs.declared.limits.TheConstants.{MAX_NUM};
-ghost use Rattle.pls_model.specs.declared.verdict.Verdict.{Verdict};
-ghost use Rattle.pls_model.specs.declared.verdict.Verdict.TheVariants.{Accept};
+ghost use Rattle.pls_configuration.specs.declared.limits.TheConstants.{MAX_NUM};
+ghost use Rattle.pls_configuration.specs.declared.verdict.Verdict.{Verdict};
+ghost use Rattle.pls_configuration.specs.declared.verdict.Verdict.TheVariants.{Accept};
 ghost use Rattle.pls_graph_edits.specs.Edits.{SaysEdit, joined, join_refusal, leave_refusal, left};
-ghost use Rattle.pls_model.specs.Configuration.{IsNetwork};
+ghost use Rattle.pls_configuration.specs.Configuration.{IsNetwork};
 ghost use Rattle.pls_graph.specs.Places.{place_in};
-ghost use Rattle.pls_view.specs.Seen.{Seen};
+ghost use Rattle.pls_labels.specs.Seen.{Seen};
 ghost use Rattle.pls_edits.specs.Edited.{place_for};
 ghost use Rattle.pls_edits.specs.declared.edit.Edit.TheVariants.{Join, Leave};
 ghost use Rattle.pls_recheck.specs.After.{watch_after};
 ghost use Rattle.pls_recheck.specs.Watch.{IsCurrent};
 
 use crate::edited_network::EditedNetwork;
+use pls_configuration::Verdict;
 use pls_edits::EditError;
 use pls_graph::Network;
 use pls_graph_edits::{join, leave};
-use pls_model::Verdict;
-use pls_view::LabelStore;
+use pls_labels::LabelStore;
 
 impl EditedNetwork {
     // The node has no ports, no pointer and an empty label; gives its place.

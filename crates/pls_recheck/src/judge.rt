@@ -1,13 +1,13 @@
 //! Who judges views.
 
 ghost use Rattle.std.specs.Prelude.{◌≡◌, ℕ, IfOk};
-ghost use Rattle.pls_model.specs.declared.verdict.Verdict.{Verdict};
-ghost use Rattle.pls_base.specs.Steps.{up_by};
-ghost use Rattle.pls_view.specs.Seen.{Seen};
+ghost use Rattle.pls_configuration.specs.declared.verdict.Verdict.{Verdict};
+ghost use Rattle.pls_streams.specs.Steps.{up_by};
+ghost use Rattle.pls_labels.specs.Seen.{Seen};
 
-use pls_base::{NoMemory, Steps};
-use pls_model::Verdict;
-use pls_view::View;
+use pls_configuration::Verdict;
+use pls_labels::View;
+use pls_streams::{NoMemory, Steps};
 use std::alloc::Global;
 
 /// A judge of views, who counts how often it was asked.

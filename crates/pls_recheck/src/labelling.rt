@@ -1,14 +1,14 @@
 //! Labels of what is watched.
 
 ghost use Rattle.std.specs.Prelude.{◌≡◌, All, slice_get, ◌<◌, ◌-◌, ◌^◌, length, min, nat_lt, slice_set, None, OnErr, OnOk, IfErr, IfOk, Some};
-ghost use Rattle.pls_model.specs.declared.row.NodeRow.{NodeRow};
-ghost use Rattle.pls_model.specs.declared.verdict.Verdict.{Verdict};
+ghost use Rattle.pls_configuration.specs.declared.row.NodeRow.{NodeRow};
+ghost use Rattle.pls_configuration.specs.declared.verdict.Verdict.{Verdict};
 ghost use Rattle.pls_graph_edits.specs.Edits.{SaysEdit};
 ghost use Rattle.pls_graph.specs.Places.{place_in};
-ghost use Rattle.pls_view.specs.Labels.{bits_together};
-ghost use Rattle.pls_view.specs.Seen.{Seen};
+ghost use Rattle.pls_labels.specs.Labels.{bits_together};
+ghost use Rattle.pls_labels.specs.Seen.{Seen};
 ghost use Rattle.pls_edits.specs.Edited.{label_refusal};
-ghost use Rattle.pls_model.specs.declared.limits.TheConstants.{MAX_BITS};
+ghost use Rattle.pls_configuration.specs.declared.limits.TheConstants.{MAX_BITS};
 ghost use Rattle.pls_edits.specs.declared.edit.Edit.TheVariants.{Label};
 ghost use Rattle.pls_recheck.specs.After.{watch_after};
 ghost use Rattle.pls_recheck.specs.Watch.{IsCurrent};
@@ -18,7 +18,7 @@ use crate::edited_network::EditedNetwork;
 use pls_bits::BitBuf;
 use pls_edits::EditError;
 use pls_graph::Network;
-use pls_view::LabelStore;
+use pls_labels::LabelStore;
 
 // The greatest number of bits of all labels together, 2^28.
 const MOST_BITS: u64 = 268_435_456;

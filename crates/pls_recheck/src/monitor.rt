@@ -1,20 +1,20 @@
 //! A network and its labels with a checker that remembers what they say.
 
 ghost use Rattle.std.specs.Prelude.{◌≡◌, ◌≤◌, [], length, map, None, IfNone, IfOk, IfSome, OnErr, OnOk};
-ghost use Rattle.pls_model.specs.Configuration.{ids_of};
-ghost use Rattle.pls_base.specs.Steps.{up_by};
+ghost use Rattle.pls_configuration.specs.Configuration.{ids_of};
+ghost use Rattle.pls_streams.specs.Steps.{up_by};
 ghost use Rattle.pls_scheme.specs.Judging.{round_by};
 ghost use Rattle.pls_recheck.specs.Watch.{EndsEarly};
 
 use crate::bench::Bench;
 use crate::by_memory::ByMemory;
 use crate::edited_network::EditedNetwork;
-use pls_base::{NoMemory, Steps};
+use pls_configuration::Verdict;
 use pls_edits::{Edit, EditError};
 use pls_graph::Network;
-use pls_model::Verdict;
+use pls_labels::LabelStore;
 use pls_scheme::Remembers;
-use pls_view::LabelStore;
+use pls_streams::{NoMemory, Steps};
 use std::alloc::Global;
 use std::marker::Model;
 

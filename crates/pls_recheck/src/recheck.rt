@@ -1,8 +1,8 @@
 //! A network and its labels with their judge.
 
 ghost use Rattle.std.specs.Prelude.{◌≡◌, ◌≤◌, [], length, None, IfErr, IfNone, IfOk, IfSome, OnErr, OnOk};
-ghost use Rattle.pls_model.specs.Configuration.{ids_of};
-ghost use Rattle.pls_base.specs.Steps.{up_by};
+ghost use Rattle.pls_configuration.specs.Configuration.{ids_of};
+ghost use Rattle.pls_streams.specs.Steps.{up_by};
 ghost use Rattle.pls_edits.specs.Edited.{FitsNum, RefusesWith, edit_refusal, edited, relabelled};
 ghost use Rattle.pls_scheme.specs.Judging.{round_by};
 ghost use Rattle.pls_recheck.specs.After.{touched_after};
@@ -10,11 +10,11 @@ ghost use Rattle.pls_recheck.specs.Watch.{EndsEarly};
 
 use crate::edited_network::EditedNetwork;
 use crate::judge::Judge;
-use pls_base::{NoMemory, Steps};
+use pls_configuration::Verdict;
 use pls_edits::{Edit, EditError};
 use pls_graph::Network;
-use pls_model::Verdict;
-use pls_view::LabelStore;
+use pls_labels::LabelStore;
+use pls_streams::{NoMemory, Steps};
 use std::alloc::Global;
 use std::marker::Model;
 

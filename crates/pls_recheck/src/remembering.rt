@@ -1,8 +1,8 @@
 //! Edits of a network and its labels with a checker that remembers what they say.
 
 ghost use Rattle.std.specs.Prelude.{◌≡◌, ◌<◌, ◌≤◌, insert, length, vec_capacity, Bool, List, None, Some, IfErr, OnErr, OnOk};
-ghost use Rattle.pls_model.specs.declared.limits.TheConstants.{MAX_NUM};
-ghost use Rattle.pls_model.specs.declared.row.NodeRow.{NodeRow};
+ghost use Rattle.pls_configuration.specs.declared.limits.TheConstants.{MAX_NUM};
+ghost use Rattle.pls_configuration.specs.declared.row.NodeRow.{NodeRow};
 ghost use Rattle.pls_graph_edits.specs.Edits.{SaysEdit, join_refusal, leave_refusal};
 ghost use Rattle.pls_edits.specs.Edited.{FitsNum, RefusesWith, edit_refusal, label_refusal, relabelled};
 ghost use Rattle.pls_edits.specs.declared.edit.Edit.TheVariants.{Join, Label, Leave};

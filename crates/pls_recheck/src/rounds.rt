@@ -1,10 +1,10 @@
 //! Rounds in which the touched nodes are judged.
 
 ghost use Rattle.std.specs.Prelude.{◌≡◌, ◌<◌, ◌≤◌, [], ◌⊎◌, false, length, slice_set, slice_get, IfOk, IfNone, IfSome, OnErr, OnOk, Some};
-ghost use Rattle.pls_model.specs.declared.verdict.Verdict.{Verdict};
-ghost use Rattle.pls_model.specs.Configuration.{ids_of};
-ghost use Rattle.pls_base.specs.Steps.{up_by};
-ghost use Rattle.pls_view.specs.Seen.{Seen, views};
+ghost use Rattle.pls_configuration.specs.declared.verdict.Verdict.{Verdict};
+ghost use Rattle.pls_configuration.specs.Configuration.{ids_of};
+ghost use Rattle.pls_streams.specs.Steps.{up_by};
+ghost use Rattle.pls_labels.specs.Seen.{Seen, views};
 ghost use Rattle.pls_scheme.specs.Judging.{round_by};
 ghost use Rattle.pls_recheck.specs.Watch.{EndsEarly, IsCurrent};
 ghost use Rattle.pls_recheck.specs.inner.Flags.{AreCurrent, cleared, marked};
@@ -12,10 +12,10 @@ ghost use Rattle.pls_recheck.specs.inner.Flags.{AreCurrent, cleared, marked};
 use crate::asks::{Asks, ByView};
 use crate::edited_network::EditedNetwork;
 use crate::judge::Judge;
-use pls_base::{NoMemory, Steps};
+use pls_configuration::Verdict;
 use pls_graph::Network;
-use pls_model::Verdict;
-use pls_view::{LabelStore, View};
+use pls_labels::{LabelStore, View};
+use pls_streams::{NoMemory, Steps};
 use std::alloc::Global;
 
 impl EditedNetwork {

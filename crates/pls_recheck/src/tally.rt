@@ -3,10 +3,10 @@
 ghost use Rattle.std.specs.Prelude.{◌≡◌};
 
 use crate::bench::Bench;
-use pls_base::{NoMemory, Steps};
-use pls_model::Verdict;
+use pls_configuration::Verdict;
+use pls_labels::View;
 use pls_scheme::Checker;
-use pls_view::View;
+use pls_streams::{NoMemory, Steps};
 use std::alloc::Global;
 use std::marker::Model;
 

@@ -1,8 +1,8 @@
 -- Lines of rows, written one after another.
 use Rattle.std.proofs.Common.{◌≡◌, ◌∙◌, ℕ, ◌+◌, ◌<◌, ◌≤◌, List, [], ◌∷◌, ◌++◌, Option, map, take, drop, length, get_or, refl, sym, ap, subst, append_assoc}
 use Rattle.std.proofs.lemmas.List.{map-append, take-append-drop, take_more, take_all}
-use Rattle.pls_base.specs.Gathered.{Wrote, WroteFront}
-use Rattle.pls_base.proofs.Written.{front_first, front_later, wrote_both}
+use Rattle.pls_streams.specs.Gathered.{Wrote, WroteFront}
+use Rattle.pls_streams.proofs.Written.{front_first, front_later, wrote_both}
 use Rattle.pls_lines.specs.Text.{text_of}
 use Rattle.pls_lines.specs.laws.Fronts.{text_of-append}
 

@@ -1,7 +1,7 @@
 -- The lines of a look, piece by piece.
 use Rattle.std.proofs.Common.{◌≡◌, ◌∙◌, ℕ, ◌+◌, ◌<◌, List, [], ◌∷◌, ◌++◌, map, take, length, get_or, codes, decimal, refl, sym, ap, append-nil, append_assoc}
-use Rattle.pls_model.specs.declared.verdict.Verdict.{Verdict}
-use Rattle.pls_model.specs.Verdict.{verdict_text}
+use Rattle.pls_configuration.specs.declared.verdict.Verdict.{Verdict}
+use Rattle.pls_configuration.specs.Verdict.{verdict_text}
 use Rattle.pls_sim.specs.declared.outcome.Outcome.TheVariants.{Decided, Waiting}
 use Rattle.pls_report.specs.Look.{look_closing, look_line, look_text, rejecting_rows, stale_rows, told_ports, waiting_rows}
 use Rattle.pls_report.specs.inner.Pieces.{BeginsWith, outcome_tail, spaced, stale_tail}

@@ -1,7 +1,7 @@
 -- Reports and looks at worked examples.
 use Rattle.std.proofs.Common.{◌≡◌, ℕ, true, false, List, [], ◌∷◌, codes, refl}
 use Rattle.std.specs.Fmt.{digits}
-use Rattle.pls_model.specs.declared.verdict.Verdict.TheVariants.{Accept, Reject}
+use Rattle.pls_configuration.specs.declared.verdict.Verdict.TheVariants.{Accept, Reject}
 use Rattle.pls_sim.specs.declared.outcome.Outcome.{Outcome}
 use Rattle.pls_sim.specs.declared.outcome.Outcome.TheVariants.{Decided, Waiting}
 use Rattle.pls_report.specs.declared.part_row.PartRow.{PartRow}

@@ -4,7 +4,7 @@ ghost use Rattle.std.specs.Prelude.{◌≡◌};
 ghost use Rattle.pls_sim.specs.declared.outcome.Outcome.TheVariants.{Decided};
 ghost use Rattle.pls_report.specs.Report.{all_accept, all_verdicts_accept, is_accepting, is_rejecting, is_waiting, rejecting, rejecting_verdicts, waiting};
 
-use pls_model::Verdict;
+use pls_configuration::Verdict;
 use pls_sim::Outcome;
 
 /// How many of the nodes reject.

@@ -1,13 +1,13 @@
 //! The line of a node that has decided, put together where there is room for it.
 
 ghost use Rattle.std.specs.Prelude.{◌≡◌, ◌<◌, ◌≤◌, ◌+◌, ◌++◌, ◌∷◌, [], codes, decimal, length, take};
-ghost use Rattle.pls_base.specs.Gathered.{Writes};
+ghost use Rattle.pls_streams.specs.Gathered.{Writes};
 ghost use Rattle.pls_sim.specs.declared.outcome.Outcome.TheVariants.{Decided};
 ghost use Rattle.pls_report.specs.Report.{outcome_line};
 ghost use Rattle.pls_report.specs.inner.Pieces.{outcome_tail};
 
-use pls_base::{Fault, Gathered, Sink, write_decimal};
-use pls_model::Verdict;
+use pls_configuration::Verdict;
+use pls_streams::{Fault, Gathered, Sink, write_decimal};
 
 /// Writes the line of a node that has decided.
 pub(crate) fn put_decided<K: Sink>(

@@ -5,8 +5,8 @@ ghost use Rattle.pls_report.specs.inner.Lines.{IsPlace, ShownLine, bytes_in, sho
 
 use crate::line_kind::LineKind;
 use crate::node_line::add_line;
-use pls_base::NoMemory;
 use pls_sim::Outcome;
+use pls_streams::NoMemory;
 use std::alloc::Global;
 use std::marker::Model;
 

@@ -2,12 +2,12 @@
 
 ghost use Rattle.std.specs.Prelude.{ℕ, ◌≤◌, ◌-◌, ◌++◌, codes, decimal, length, MatchResult, OnErr, OnOk};
 ghost use Rattle.std.specs.Io.KnownBytes.{Appends};
-ghost use Rattle.pls_base.specs.Gathered.{Writes};
-ghost use Rattle.pls_base.specs.Streams.{AppendsPart, Rose, StaysSure};
+ghost use Rattle.pls_streams.specs.Gathered.{Writes};
+ghost use Rattle.pls_streams.specs.Streams.{AppendsPart, Rose, StaysSure};
 ghost use Rattle.pls_report.specs.Look.{look_text};
 
 use crate::look_rows::LookRows;
-use pls_base::{Fault, Gathered, Sink};
+use pls_streams::{Fault, Gathered, Sink};
 
 /// Writes what is seen at a look at a round in which labels change: a line for each node, with its
 /// identity, its outcome and, where it has decided, its stale ports, those whose label is not the

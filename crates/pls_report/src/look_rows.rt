@@ -8,8 +8,8 @@ ghost use Rattle.pls_report.specs.Look.{look_line, rejecting_rows, stale_rows, w
 use crate::line_kind::LookCounts;
 use crate::look_lines::LookLines;
 use crate::look_row::LookRow;
-use pls_base::NoMemory;
 use pls_sim::PortNumbers;
+use pls_streams::NoMemory;
 use std::alloc::Global;
 use std::marker::Model;
 

@@ -6,9 +6,9 @@ ghost use Rattle.pls_report.specs.inner.Pieces.{BeginsWith, outcome_tail, spaced
 
 use crate::decided::{line_in, number_at};
 use crate::look_counting::told_ports;
-use pls_base::NoMemory;
-use pls_model::Verdict;
+use pls_configuration::Verdict;
 use pls_sim::Outcome;
+use pls_streams::NoMemory;
 
 /// Adds the line of a node with its line feed. The one error is want of memory: the text is then as
 /// it was.

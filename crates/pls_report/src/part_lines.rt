@@ -1,13 +1,13 @@
 //! The lines of components.
 
 ghost use Rattle.std.specs.Prelude.{◌++◌, ◌∷◌, [], map};
-ghost use Rattle.pls_base.specs.Gathered.{Writes};
+ghost use Rattle.pls_streams.specs.Gathered.{Writes};
 ghost use Rattle.pls_lines.specs.Text.{text_of};
 ghost use Rattle.pls_report.specs.PartLines.{if_several, part_line};
 
 use crate::part_row::PartRow;
 use crate::pieces::put_waiting;
-use pls_base::{Fault, Gathered, Sink};
+use pls_streams::{Fault, Gathered, Sink};
 
 /// Writes a line for each component, where there are two or more.
 pub(crate) fn write_parts<K: Sink>(

@@ -1,10 +1,10 @@
 //! Numbers behind words, as several kinds of lines have them.
 
 ghost use Rattle.std.specs.Prelude.{◌++◌};
-ghost use Rattle.pls_base.specs.Gathered.{Writes};
+ghost use Rattle.pls_streams.specs.Gathered.{Writes};
 ghost use Rattle.pls_report.specs.inner.Pieces.{spaced, waiting_tail};
 
-use pls_base::{Fault, Gathered, Sink};
+use pls_streams::{Fault, Gathered, Sink};
 
 /// Writes a word and numbers, each behind a space.
 pub(crate) fn put_listed<K: Sink>(

@@ -2,8 +2,8 @@
 
 ghost use Rattle.std.specs.Prelude.{ℕ, ◌≤◌, ◌-◌, ◌++◌, ◌∷◌, [], length, map, MatchResult, OnErr, OnOk};
 ghost use Rattle.std.specs.Io.KnownBytes.{Appends};
-ghost use Rattle.pls_base.specs.Gathered.{Writes};
-ghost use Rattle.pls_base.specs.Streams.{AppendsPart, Rose, StaysSure};
+ghost use Rattle.pls_streams.specs.Gathered.{Writes};
+ghost use Rattle.pls_streams.specs.Streams.{AppendsPart, Rose, StaysSure};
 ghost use Rattle.pls_lines.specs.Text.{text_of};
 ghost use Rattle.pls_sim.specs.declared.outcome.Outcome.TheVariants.{Waiting};
 ghost use Rattle.pls_report.specs.PartLines.{if_several, part_line};
@@ -14,8 +14,8 @@ use crate::decided::put_decided;
 use crate::part_lines::write_parts;
 use crate::part_row::PartRow;
 use crate::pieces::{put_listed, put_waiting};
-use pls_base::{Fault, Gathered, Sink};
 use pls_sim::Outcome;
+use pls_streams::{Fault, Gathered, Sink};
 
 /// Writes the report of nodes, each with its identity and its outcome: a line for each, in their
 /// order; where there are two components or more, a line for each of `parts`, in their order; and

@@ -2,15 +2,15 @@
 
 ghost use Rattle.std.specs.Prelude.{◌≡◌, ℕ, ◌≤◌, ◌-◌, ◌++◌, codes, decimal, length, MatchResult, OnErr, OnOk};
 ghost use Rattle.std.specs.Io.KnownBytes.{Appends};
-ghost use Rattle.pls_base.specs.Gathered.{Writes};
-ghost use Rattle.pls_base.specs.Streams.{AppendsPart, Rose, StaysSure};
+ghost use Rattle.pls_streams.specs.Gathered.{Writes};
+ghost use Rattle.pls_streams.specs.Streams.{AppendsPart, Rose, StaysSure};
 ghost use Rattle.pls_report.specs.Report.{round_text};
 ghost use Rattle.pls_report.specs.inner.Pieces.{connected_tail};
 
 use crate::counting::rejecting_verdicts;
 use crate::decided::put_decided;
-use pls_base::{Fault, Gathered, Sink};
-use pls_model::Verdict;
+use pls_configuration::Verdict;
+use pls_streams::{Fault, Gathered, Sink};
 
 /// Writes the report of a round in which touched nodes were judged again: a line for each node, with
 /// its identity and its verdict, and then the number of the round, how many nodes were checked,

@@ -13,12 +13,12 @@ mod rules_parts;
 mod steps;
 mod verdicts;
 
-use pls_base::{NoMemory, Steps};
 use pls_graph::Network;
+use pls_labels::{LabelStore, View};
 use pls_rules::{Field, FieldKind, Name, RuleSet};
 use pls_rules_part::read_rules;
 use pls_scheme::{Checker, Verdict};
-use pls_view::{LabelStore, View};
+use pls_streams::{NoMemory, Steps};
 use std::alloc::{AllocError, Global};
 use std::test::Fail;
 

@@ -4,7 +4,7 @@ use Rattle.std.specs.Option.{is_some}
 use Rattle.std.proofs.lemmas.Bool.{lt-ltb}
 use Rattle.std.proofs.lemmas.List.{length-map}
 use Rattle.std.proofs.lemmas.Option.{same_Some}
-use Rattle.pls_base.specs.declared.refusal_number.TheConstants.{DEPTH}
+use Rattle.pls_streams.specs.declared.refusal_number.TheConstants.{DEPTH}
 use Rattle.pls_fronts.specs.Depth.{deepest}
 use Rattle.pls_rules.specs.declared.field.Field.{Field}
 use Rattle.pls_rules.specs.Formula.{Formula}

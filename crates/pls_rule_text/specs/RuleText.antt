@@ -2,7 +2,7 @@
 use Rattle.std.specs.Prelude.{◌≡◌, ℕ, ◌+◌, ◌<◌, ◌≤◌, ◌&&◌, nat_lt, Bool, true, false, ◌⊎◌, All, List, [], ◌∷◌, length, Option, Some, None, if◌then◌else◌}
 use Rattle.std.specs.List.{list_any}
 use Rattle.std.specs.Str.{bytes_eq}
-use Rattle.pls_base.specs.declared.refusal_number.TheConstants.{DEPTH, FIELD}
+use Rattle.pls_streams.specs.declared.refusal_number.TheConstants.{DEPTH, FIELD}
 use Rattle.pls_fronts.specs.Depth.{deepest}
 use Rattle.pls_rules.specs.Formula.{Formula, Term, Eq, Lt, Le, Same, Both, Either, Not, All as Each, Any, Number, Id, Mark, Num, Degree, Pointed, My, Up, UpWeight, Nb, NbWeight, NbUp, Add, Sum, formula_height, formula_nesting}
 use Rattle.pls_rule_text.specs.FormulaText.{FormulaIsWritten, formula_text}

@@ -6,8 +6,8 @@ ghost use Rattle.pls_rules.specs.HeldTrees.{formula_of, term_of};
 ghost use Rattle.pls_rule_text.specs.FieldNames.{name_at, names_of};
 ghost use Rattle.pls_rule_text.specs.FormulaText.{formula_text, one_text, term_text, two_text};
 
-use pls_base::NoMemory;
 use pls_rules::{BoolExpr, Field, NumExpr};
+use pls_streams::NoMemory;
 use std::fmt::Write;
 
 /// Puts the text of a rule behind a text: a field stands by its name, and by nothing where there is

@@ -2,14 +2,14 @@
 
 ghost use Rattle.std.specs.Prelude.{◌≡◌};
 
-use pls_base::NoMemory;
+use pls_streams::NoMemory;
 use thiserror::Error;
 
 /// Why a rule is not read.
 #[derive(Clone, Copy, Debug, PartialEq, Eq, Error)]
 pub enum RuleError {
-    /// The rule makes no sense, by this number: [`DEPTH`](pls_base::refusal_number::DEPTH) or
-    /// [`FIELD`](pls_base::refusal_number::FIELD).
+    /// The rule makes no sense, by this number: [`DEPTH`](pls_streams::refusal_number::DEPTH) or
+    /// [`FIELD`](pls_streams::refusal_number::FIELD).
     #[error("refused {0}")]
     Refused(u8),
     /// There was no memory for the rule.

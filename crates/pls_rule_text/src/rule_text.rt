@@ -15,10 +15,10 @@ use crate::ends::formula_end;
 use crate::rule_error::RuleError;
 use crate::sense::{is_placed, nesting_of};
 use crate::trees::formula_front;
-use pls_base::NoMemory;
-use pls_base::refusal_number::{DEPTH, FIELD};
 use pls_fronts::is_deeper;
 use pls_rules::{BoolExpr, Field};
+use pls_streams::NoMemory;
+use pls_streams::refusal_number::{DEPTH, FIELD};
 use std::alloc::Global;
 
 // The greatest number of characters in a rule.

@@ -13,9 +13,9 @@ use crate::atoms::atom_front;
 use crate::openings::{
     Comparison, Junction, Modifier, comparison_front, junction_front, modifier_front,
 };
-use pls_base::NoMemory;
 use pls_fronts::after;
 use pls_rules::{BoolExpr, Field, NumExpr};
+use pls_streams::NoMemory;
 use std::alloc::Global;
 
 // A formula of at most `below` levels at the front, and the rest; `None` where there is none.

@@ -3,9 +3,9 @@ use Rattle.std.proofs.Common.{◌≡◌, ◌∙◌, ℕ, ◌+◌, ◌≤◌, All
 use Rattle.std.specs.List.{AllByRecursion}
 use Rattle.std.proofs.lemmas.List.{length-map}
 use Rattle.std.proofs.lemmas.List.Elements.{All-cons, All-head, All-nil, All-tail}
-use Rattle.pls_base.specs.declared.text_error.TextError.{TextError}
+use Rattle.pls_streams.specs.declared.text_error.TextError.{TextError}
 use Rattle.pls_lines.specs.laws.Cuts.{each_back}
-use Rattle.pls_model.specs.Configuration.{first_of}
+use Rattle.pls_configuration.specs.Configuration.{first_of}
 use Rattle.pls_rules.specs.HeldTrees.{set_of}
 use Rattle.pls_rules.specs.RuleSet.{AreRules, IsRule}
 use Rattle.pls_rules.specs.declared.field.Field.{Field}

@@ -4,14 +4,14 @@ use Rattle.std.specs.Str.{bytes_eq}
 use Rattle.std.proofs.lemmas.List.{map-append}
 use Rattle.std.proofs.lemmas.List.Elements.{All-head, All-tail}
 use Rattle.std.proofs.lemmas.List.Folds.{list_any-append}
-use Rattle.pls_base.specs.declared.refusal_number.TheConstants.{FIELD}
-use Rattle.pls_base.specs.declared.text_error.TextError.{TextError}
-use Rattle.pls_base.specs.declared.text_error.TextError.TheVariants.{Form, Limit, NoMemory, Sense}
+use Rattle.pls_streams.specs.declared.refusal_number.TheConstants.{FIELD}
+use Rattle.pls_streams.specs.declared.text_error.TextError.{TextError}
+use Rattle.pls_streams.specs.declared.text_error.TextError.TheVariants.{Form, Limit, NoMemory, Sense}
 use Rattle.pls_lines.specs.LineKind.{Says}
 use Rattle.pls_lines.specs.Lines.{Left, Passes, Stands}
 use Rattle.pls_lines.specs.ListPart.{NextItem, Remains}
 use Rattle.pls_lines.proofs.ListRead.{none_left, one_less}
-use Rattle.pls_model.specs.Configuration.{first_of}
+use Rattle.pls_configuration.specs.Configuration.{first_of}
 use Rattle.pls_rules.specs.Formula.{Formula}
 use Rattle.pls_rules.specs.HeldTrees.{formula_of, set_of}
 use Rattle.pls_rules.specs.RuleSet.{rules_of}

@@ -1,7 +1,7 @@
 -- Errors that calls hand on.
 use Rattle.std.proofs.Common.{◌≡◌, Option, Result, Ok, Err, sym, subst}
 use Rattle.std.specs.Result.{IfErr, IsErrAnd}
-use Rattle.pls_base.specs.declared.text_error.TextError.{TextError}
+use Rattle.pls_streams.specs.declared.text_error.TextError.{TextError}
 use Rattle.pls_rules_part.specs.Refusal.{IsRefusal}
 
 pub if_refusal : {T : Type 0} (result : Result T TextError) (whole : Option TextError)

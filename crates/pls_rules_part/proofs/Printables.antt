@@ -3,11 +3,11 @@ use Rattle.std.proofs.Common.{◌≡◌, ◌∙◌, ℕ, suc, ◌+◌, ◌≤◌
 use Rattle.std.specs.List.{AllByRecursion}
 use Rattle.std.proofs.lemmas.List.{length-map}
 use Rattle.std.proofs.lemmas.List.Elements.{All-append, All-cons, All-head, All-nil, All-tail}
-use Rattle.pls_base.specs.declared.text_error.TextError.{TextError}
-use Rattle.pls_base.specs.declared.text_error.TextError.TheVariants.{Form, Limit, NoMemory, Sense}
+use Rattle.pls_streams.specs.declared.text_error.TextError.{TextError}
+use Rattle.pls_streams.specs.declared.text_error.TextError.TheVariants.{Form, Limit, NoMemory, Sense}
 use Rattle.pls_lines.specs.Fault.{NamesFirstFault}
 use Rattle.pls_lines.specs.laws.Cuts.{each-append}
-use Rattle.pls_model.specs.Configuration.{first_of}
+use Rattle.pls_configuration.specs.Configuration.{first_of}
 use Rattle.pls_rules.specs.Formula.{Formula}
 use Rattle.pls_rules.specs.RuleSet.{IsRule, Rules, rules_of}
 use Rattle.pls_rules.specs.declared.field.Field.{Field}

@@ -1,8 +1,8 @@
 -- A text that is one rules part, and what is read of it.
 use Rattle.std.proofs.Common.{◌≡◌, ◌∙◌, ℕ, ◌+◌, List, ◌++◌, append-nil, Result, Ok, Err, sym, ap}
 use Rattle.std.specs.Result.{IfErr, IfOk}
-use Rattle.pls_base.specs.declared.text_error.TextError.{TextError}
-use Rattle.pls_base.specs.declared.text_error.TextError.TheVariants.{NoMemory}
+use Rattle.pls_streams.specs.declared.text_error.TextError.{TextError}
+use Rattle.pls_streams.specs.declared.text_error.TextError.TheVariants.{NoMemory}
 use Rattle.pls_lines.specs.Part.{PassesWhole}
 use Rattle.pls_rules.specs.HeldTrees.{set_of}
 use Rattle.pls_rules.specs.RuleSet.{Rules}

@@ -1,7 +1,7 @@
 -- Rule sets and their texts.
 use Rattle.std.proofs.Common.{◌≡◌, ℕ, List, [], ◌∷◌, codes, None, Some, refl}
 use Rattle.std.specs.Fmt.{digits}
-use Rattle.pls_base.specs.declared.text_error.TextError.TheVariants.{Sense}
+use Rattle.pls_streams.specs.declared.text_error.TextError.TheVariants.{Sense}
 use Rattle.pls_numbers.specs.declared.kind.FieldKind.{FieldKind}
 use Rattle.pls_numbers.specs.declared.kind.FieldKind.TheVariants.{Num, Bit}
 use Rattle.pls_rules.specs.declared.field.Field.{Field}

@@ -1,7 +1,7 @@
 -- By what a text of rules is refused that is of the form.
 use Rattle.std.specs.Prelude.{◌≡◌, ◌⊎◌, ℕ, List, Option, Some}
-use Rattle.pls_base.specs.declared.text_error.TextError.{TextError}
-use Rattle.pls_base.specs.declared.text_error.TextError.TheVariants.{NoMemory}
+use Rattle.pls_streams.specs.declared.text_error.TextError.{TextError}
+use Rattle.pls_streams.specs.declared.text_error.TextError.TheVariants.{NoMemory}
 use Rattle.pls_lines.specs.Fault.{NamesFirstFault}
 use Rattle.pls_rules_part.specs.RulesScan.{IsRulesPart, TellsRules}
 use Rattle.pls_rules_part.specs.RulesText.{RulesSaid, rules_refusal}

@@ -1,10 +1,10 @@
 -- The text of a rule set: a line for each field, and then one for each rule; and by which of its
 -- lines it is refused.
 use Rattle.std.specs.Prelude.{ℕ, ◌+◌, ◌≤◌, All, List, [], ◌∷◌, ◌++◌, map, length, codes, Option, Some, None, option_map, if◌then◌else◌}
-use Rattle.pls_base.specs.declared.text_error.TextError.{TextError}
-use Rattle.pls_base.specs.declared.text_error.TextError.TheVariants.{Sense}
-use Rattle.pls_base.specs.declared.refusal_number.TheConstants.{FIELD}
-use Rattle.pls_model.specs.Configuration.{first_of}
+use Rattle.pls_streams.specs.declared.text_error.TextError.{TextError}
+use Rattle.pls_streams.specs.declared.text_error.TextError.TheVariants.{Sense}
+use Rattle.pls_streams.specs.declared.refusal_number.TheConstants.{FIELD}
+use Rattle.pls_configuration.specs.Configuration.{first_of}
 use Rattle.pls_numbers.specs.declared.kind.FieldKind.{FieldKind}
 use Rattle.pls_numbers.specs.declared.kind.FieldKind.TheVariants.{Num, Bit}
 use Rattle.pls_lines.specs.Text.{line_of, text_of}

@@ -21,7 +21,7 @@ mod rules_tally;
 mod rules_text;
 mod word_before;
 
-pub use pls_base::NoMemory;
+pub use pls_streams::NoMemory;
 pub use rules_print::print_rules;
 pub use rules_read::read_rules;
 pub use rules_tally::RulesWord;

@@ -1,7 +1,7 @@
 //! Rule sets, as the lines of a part are added to them.
 
 ghost use Rattle.std.specs.Prelude.{◌≡◌, ◌≤◌, ◌∷◌, ◌++◌, [], false, true, if◌then◌else◌, length, IfErr, IfOk, None, OnOk, Some};
-ghost use Rattle.pls_base.specs.declared.refusal_number.TheConstants.{FIELD};
+ghost use Rattle.pls_streams.specs.declared.refusal_number.TheConstants.{FIELD};
 ghost use Rattle.pls_rules.specs.HeldTrees.{formula_of};
 ghost use Rattle.pls_rule_text.specs.FieldNames.{names_of};
 ghost use Rattle.pls_rule_text.specs.FormulaText.{IsFieldName};
@@ -10,10 +10,10 @@ ghost use Rattle.pls_rule_text.specs.RuleText.{FitsRule, IsRuleText, RuleSaid, i
 ghost use Rattle.pls_rules_part.specs.Refusal.{IsRefusal};
 ghost use Rattle.pls_rules_part.specs.inner.Adding.{at_line};
 
-use pls_base::refusal_number::FIELD;
-use pls_base::{NoMemory, TextError};
 use pls_rule_text::{RuleError, read_rule};
 use pls_rules::{BoolExpr, Field, FieldKind, Name};
+use pls_streams::refusal_number::FIELD;
+use pls_streams::{NoMemory, TextError};
 use std::alloc::Global;
 
 /// Adds a field, which a line of this number tells. `Sense` with [`FIELD`] where a field has the

@@ -7,9 +7,9 @@ ghost use Rattle.pls_rules_part.specs.RulesText.{RulesSaid, set_said};
 ghost use Rattle.pls_rules_part.specs.inner.Adding.{StandsBehind, refusal_from};
 
 use crate::rule_words::RuleWords;
-use pls_base::TextError;
 use pls_lines::{Lines, next_of};
 use pls_rules::RuleSet;
+use pls_streams::TextError;
 use std::alloc::Global;
 
 /// The set that the lines behind the heading of a part say. `Sense` with the number by which the

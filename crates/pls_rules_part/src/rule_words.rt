@@ -13,10 +13,10 @@ ghost use Rattle.pls_rules_part.specs.inner.Tally.{is_field};
 use crate::field_line::field_words;
 use crate::rule_adding::{add_field, rule_at};
 use crate::word_before::word_before;
-use pls_base::TextError;
 use pls_lines::{LineKind, after_word};
 use pls_rule_text::is_rule_text;
 use pls_rules::{FieldKind, RuleSet};
+use pls_streams::TextError;
 use std::alloc::Global;
 use std::marker::Model;
 

@@ -8,9 +8,9 @@ ghost use Rattle.pls_rule_text.specs.FieldNames.{names_of};
 ghost use Rattle.pls_rules_part.specs.RulesText.{rules_text, said_of_set};
 ghost use Rattle.pls_rules_part.specs.inner.Printed.{printed_field, printed_rule};
 
-use pls_base::NoMemory;
 use pls_rule_text::print_rule;
 use pls_rules::{BoolExpr, Field, FieldKind, RuleSet};
+use pls_streams::NoMemory;
 use std::alloc::Global;
 
 /// The text of a rule set, which [`read_rules`](crate::read_rules) reads back to it. The one

@@ -1,7 +1,7 @@
 //! Texts that are one rule set and nothing more.
 
 ghost use Rattle.std.specs.Prelude.{◌≡◌, IfErr, IfOk};
-ghost use Rattle.pls_base.specs.declared.text_error.TextError.TheVariants.{NoMemory as OutOfMemory};
+ghost use Rattle.pls_streams.specs.declared.text_error.TextError.TheVariants.{NoMemory as OutOfMemory};
 ghost use Rattle.pls_rules.specs.HeldTrees.{set_of};
 ghost use Rattle.pls_rules.specs.RuleSet.{AreRules, Rules};
 ghost use Rattle.pls_rules_part.specs.Printable.{IsPrintable};
@@ -10,9 +10,9 @@ ghost use Rattle.pls_rules_part.specs.RulesScan.{TellsRules};
 ghost use Rattle.pls_rules_part.specs.RulesText.{RulesSaid, rules_text, said_of_set, set_said};
 
 use crate::rules_text::RulesText;
-use pls_base::TextError;
 use pls_lines::read_whole;
 use pls_rules::RuleSet;
+use pls_streams::TextError;
 use std::alloc::Global;
 
 /// The rule set of a text that is one rules part and nothing more. What

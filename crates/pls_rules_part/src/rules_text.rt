@@ -11,9 +11,9 @@ ghost use Rattle.pls_rules_part.specs.inner.Adding.{StandsBehind};
 
 use crate::rule_lines::set_of_lines;
 use crate::rules_tally::RulesTally;
-use pls_base::TextError;
 use pls_lines::{Lines, ListText, Part, scan};
 use pls_rules::RuleSet;
+use pls_streams::TextError;
 use std::alloc::Global;
 use std::marker::Model;
 
@@ -66,9 +66,9 @@ impl<'a> RulesText<'a> {
     /// The rule set that the text says. Its time is linear in the text.
     ///
     /// `Sense` names the first line that is refused: by
-    /// [`DEPTH`](pls_base::refusal_number::DEPTH) where parentheses in a rule stand more than 31
+    /// [`DEPTH`](pls_streams::refusal_number::DEPTH) where parentheses in a rule stand more than 31
     /// deep, or more than 2 quantifiers inside one another; else by
-    /// [`FIELD`](pls_base::refusal_number::FIELD) where a field has the name of an earlier one, or
+    /// [`FIELD`](pls_streams::refusal_number::FIELD) where a field has the name of an earlier one, or
     /// a rule names no field or asks of a neighbour outside of all quantifiers. `NoMemory` for want
     /// of memory.
     pub fn build(&self, alloc: Global) -> Result<RuleSet, TextError>

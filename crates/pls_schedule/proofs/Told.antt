@@ -1,12 +1,12 @@
 -- A text says one schedule, whose length is counted.
 use Rattle.std.proofs.Common.{◌≡◌, ◌∙◌, ℕ, ◌<◌, ◌≤◌, List, [], length, codes, Result, Ok, Err, sym, ap, subst, append-nil, arith}
 use Rattle.std.specs.Result.{IfErr, IsErrAnd}
-use Rattle.pls_base.specs.declared.text_error.TextError.{TextError}
-use Rattle.pls_base.specs.declared.text_error.TextError.TheVariants.{NoMemory}
+use Rattle.pls_streams.specs.declared.text_error.TextError.{TextError}
+use Rattle.pls_streams.specs.declared.text_error.TextError.TheVariants.{NoMemory}
 use Rattle.pls_lines.specs.LineKind.{Always, alone}
 use Rattle.pls_lines.proofs.ListRead.{one_list}
 use Rattle.pls_schedule.specs.declared.event.Event.{Event}
-use Rattle.pls_model.specs.declared.limits.TheConstants.{MAX_LINES}
+use Rattle.pls_configuration.specs.declared.limits.TheConstants.{MAX_LINES}
 use Rattle.pls_schedule.specs.ScheduleText.{AreEvents, FitsEvent, IsEventsRefusal, HasEvents, TellsSchedule, WrittenSchedule, event_line, schedule_text}
 use Rattle.pls_schedule.specs.laws.EventLaws.{event_lines, events_list, schedule_headings}
 

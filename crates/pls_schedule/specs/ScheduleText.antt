@@ -1,8 +1,8 @@
 -- The text of a schedule: one line for each event.
 use Rattle.std.specs.Prelude.{◌≡◌, ◌⊎◌, ℕ, ◌<◌, ◌≤◌, ◌^◌, List, [], ◌∷◌, All, codes, length}
-use Rattle.pls_base.specs.declared.text_error.TextError.{TextError}
-use Rattle.pls_base.specs.declared.text_error.TextError.TheVariants.{Limit, NoMemory}
-use Rattle.pls_base.specs.declared.text_error.Quantity.TheVariants.{Events}
+use Rattle.pls_streams.specs.declared.text_error.TextError.{TextError}
+use Rattle.pls_streams.specs.declared.text_error.TextError.TheVariants.{Limit, NoMemory}
+use Rattle.pls_streams.specs.declared.text_error.Quantity.TheVariants.{Events}
 use Rattle.pls_lines.specs.Counted.{counted}
 use Rattle.pls_lines.specs.Fault.{NamesFirstFault}
 use Rattle.pls_lines.specs.LineKind.{Always, Says, alone}
@@ -12,7 +12,7 @@ use Rattle.pls_lines.specs.Worded.{numbered}
 use Rattle.pls_lines.specs.declared.counted.BareHeading.{BareHeading}
 use Rattle.pls_schedule.specs.declared.event.Event.{Event}
 use Rattle.pls_schedule.specs.declared.event.Event.TheVariants.{Emit, Arrive, Restart}
-use Rattle.pls_model.specs.declared.limits.TheConstants.{MAX_LINES}
+use Rattle.pls_configuration.specs.declared.limits.TheConstants.{MAX_LINES}
 use Rattle.pls_schedule.specs.declared.schedule_text.ScheduleWord.{ScheduleWord}
 
 -- the first word of an event's line

@@ -1,13 +1,13 @@
 //! A schedule part that is read once: what its lines say is kept while it is passed.
 
 ghost use Rattle.std.specs.Prelude.{◌≡◌, ◌<◌, ◌≤◌, ◌+◌, ◌^◌, List, length, IfErr, IfOk};
-ghost use Rattle.pls_model.specs.declared.limits.TheConstants.{MAX_LINES};
+ghost use Rattle.pls_configuration.specs.declared.limits.TheConstants.{MAX_LINES};
 ghost use Rattle.pls_schedule.specs.ScheduleText.{IsEventsRefusal, TellsSchedule};
 
 use crate::event::Event;
 use crate::schedule_text::{ScheduleText, ScheduleWord};
-use pls_base::TextError;
 use pls_lines::{Count, Lines, Part, ReadOnce, keep_list};
+use pls_streams::TextError;
 use std::alloc::Global;
 use std::marker::Model;
 

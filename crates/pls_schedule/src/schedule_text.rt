@@ -5,9 +5,9 @@ ghost use Rattle.pls_lines.specs.Lines.{IsFormFault};
 ghost use Rattle.pls_schedule.specs.ScheduleText.{IsEventsRefusal, IsRefusedSchedule, IsSchedulePart, PassesSchedule, TellsSchedule};
 
 use crate::event::Event;
-use pls_base::{Quantity, TextError};
+use pls_configuration::MAX_LINES;
 use pls_lines::{Count, HeadingWord, Lines, ListText, Part, read_whole, scan};
-use pls_model::MAX_LINES;
+use pls_streams::{Quantity, TextError};
 use std::alloc::Global;
 use std::marker::Model;
 

@@ -1,8 +1,8 @@
 -- A property that is decided by rules, tried on labels that are right if it holds.
 use Rattle.std.proofs.Common.{◌↔◌, ℕ, Bool, List, IsTrue}
-use Rattle.pls_model.specs.declared.row.NodeRow.{NodeRow}
-use Rattle.pls_model.specs.Configuration.{IsNetwork}
-use Rattle.pls_model.specs.Walk.{IsConnected}
+use Rattle.pls_configuration.specs.declared.row.NodeRow.{NodeRow}
+use Rattle.pls_configuration.specs.Configuration.{IsNetwork}
+use Rattle.pls_configuration.specs.Walk.{IsConnected}
 use Rattle.pls_scheme.specs.Marked.{AreRight, AreSaidBy}
 use Rattle.pls_scheme.specs.Reading.{Read}
 use Rattle.pls_scheme.specs.Theorem.{HoldEverywhere, RulesAreMet, RulesShow}

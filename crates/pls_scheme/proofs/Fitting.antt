@@ -8,7 +8,7 @@ use Rattle.pls_numbers.specs.Numbers.{AreCoded, codes_of}
 use Rattle.pls_numbers.specs.Shape.{Shape}
 use Rattle.pls_scheme.specs.Length.{code_length, codes_length}
 use Rattle.pls_scheme.specs.Marked.{Fits}
-use Rattle.pls_base.specs.Steps.{capped}
+use Rattle.pls_streams.specs.Steps.{capped}
 
 -- numbers are within others, which have codes, place by place
 abbrev pub AreWithin : List ℕ → List ℕ → Type 0

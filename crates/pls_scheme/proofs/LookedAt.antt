@@ -3,17 +3,17 @@ use Rattle.std.proofs.Common.{◌≡◌, ◌∙◌, ◌<◌, ℕ, ◌==◌, Bool
 use Rattle.std.specs.Option.{option_and_then}
 use Rattle.std.proofs.lemmas.List.{length-map}
 use Rattle.std.proofs.lemmas.Option.{get_or_from_slice_get, same_Some, slice_get-get_or, slice_get-map}
-use Rattle.pls_model.specs.declared.row.State.{State}
-use Rattle.pls_model.specs.declared.row.Port.{Port}
-use Rattle.pls_model.specs.declared.row.NodeRow.{NodeRow}
-use Rattle.pls_model.specs.Configuration.{IsNetwork}
+use Rattle.pls_configuration.specs.declared.row.State.{State}
+use Rattle.pls_configuration.specs.declared.row.Port.{Port}
+use Rattle.pls_configuration.specs.declared.row.NodeRow.{NodeRow}
+use Rattle.pls_configuration.specs.Configuration.{IsNetwork}
 use Rattle.pls_graph.specs.Places.{beside}
 use Rattle.pls_graph.proofs.Beside.{beside_many, beside_port}
 use Rattle.pls_graph.proofs.Finds.{from_option_map}
 use Rattle.pls_graph.proofs.Placed.{pointer_within}
 use Rattle.pls_facts.proofs.Lists.{item_at}
-use Rattle.pls_view.specs.Seen.{Seen, SeenPort, label_of, seen_port, views}
-use Rattle.pls_view.proofs.Views.{label_at, port_at, view_by_parts}
+use Rattle.pls_labels.specs.Seen.{Seen, SeenPort, label_of, seen_port, views}
+use Rattle.pls_labels.proofs.Views.{label_at, port_at, view_by_parts}
 use Rattle.pls_scheme.specs.inner.Looks.{AreLooked, kept_at_port, seen_above, seen_in}
 
 -- the view of a node of this identity, state and label, with these ports

@@ -3,12 +3,12 @@ use Rattle.std.proofs.Common.{◌≡◌, ◌∙◌, ℕ, Bool, List, length, sli
 use Rattle.std.specs.Option.{option_and_then}
 use Rattle.std.proofs.lemmas.List.{length-map}
 use Rattle.std.proofs.lemmas.Option.{same_Some, slice_get-get_or, slice_get-map, slice_get_within}
-use Rattle.pls_model.specs.declared.row.NodeRow.{NodeRow}
-use Rattle.pls_model.specs.Configuration.{IsNetwork}
+use Rattle.pls_configuration.specs.declared.row.NodeRow.{NodeRow}
+use Rattle.pls_configuration.specs.Configuration.{IsNetwork}
 use Rattle.pls_graph.proofs.Members.{Contains-from_place, place_from_Contains}
 use Rattle.pls_graph.proofs.Placed.{place_of_row}
-use Rattle.pls_view.specs.Seen.{label_of}
-use Rattle.pls_view.proofs.Views.{label_at}
+use Rattle.pls_labels.specs.Seen.{label_of}
+use Rattle.pls_labels.proofs.Views.{label_at}
 use Rattle.pls_scheme.specs.Judging.{AllAccept, AllHold}
 use Rattle.pls_scheme.specs.Marked.{AreRight, IsMarkedBy}
 use Rattle.pls_scheme.specs.Reading.{Read, judge_by, read_where}

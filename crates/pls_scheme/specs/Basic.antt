@@ -1,10 +1,10 @@
 -- What a basic scheme means, by how its labels are lists of numbers.
 use Rattle.std.specs.Prelude.{ℕ, Bool, List, Option}
-use Rattle.pls_model.specs.declared.row.NodeRow.{NodeRow}
-use Rattle.pls_model.specs.declared.verdict.Verdict.{Verdict}
+use Rattle.pls_configuration.specs.declared.row.NodeRow.{NodeRow}
+use Rattle.pls_configuration.specs.declared.verdict.Verdict.{Verdict}
 use Rattle.pls_graph.specs.declared.size.Size.{Size}
 use Rattle.pls_numbers.specs.Shape.{IsSpelled, Shape, said_by}
-use Rattle.pls_view.specs.Seen.{Seen}
+use Rattle.pls_labels.specs.Seen.{Seen}
 use Rattle.pls_scheme.specs.Length.{codes_length}
 use Rattle.pls_scheme.specs.Marked.{IsMarkedBy}
 use Rattle.pls_scheme.specs.Reading.{Read, judge_by}

@@ -1,11 +1,11 @@
 -- Verdicts by numbered rules, and the round of all nodes.
 use Rattle.std.specs.Prelude.{◌≡◌, ℕ, ◌+◌, ◌≤◌, Bool, true, if◌then◌else◌, List, [], ◌∷◌, map, All}
 use Rattle.std.specs.List.{AllByRecursion}
-use Rattle.pls_model.specs.declared.row.NodeRow.{NodeRow}
-use Rattle.pls_model.specs.declared.verdict.Verdict.{Verdict}
-use Rattle.pls_model.specs.declared.verdict.Verdict.TheVariants.{Accept, Reject}
-use Rattle.pls_base.specs.Steps.{up_by}
-use Rattle.pls_view.specs.Seen.{Seen, views}
+use Rattle.pls_configuration.specs.declared.row.NodeRow.{NodeRow}
+use Rattle.pls_configuration.specs.declared.verdict.Verdict.{Verdict}
+use Rattle.pls_configuration.specs.declared.verdict.Verdict.TheVariants.{Accept, Reject}
+use Rattle.pls_streams.specs.Steps.{up_by}
+use Rattle.pls_labels.specs.Seen.{Seen, views}
 
 -- the verdict of rules tried in order, the first of which has this number: a rejection by the first
 -- that fails, which names leaf 1, the only one of a basic scheme

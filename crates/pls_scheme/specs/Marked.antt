@@ -1,6 +1,6 @@
 -- Labels of which each says what is right for its node.
 use Rattle.std.specs.Prelude.{◌≡◌, ℕ, ◌≤◌, Bool, List, length, slice_get, Some}
-use Rattle.pls_model.specs.declared.row.NodeRow.{NodeRow}
+use Rattle.pls_configuration.specs.declared.row.NodeRow.{NodeRow}
 use Rattle.pls_numbers.specs.Shape.{IsWritable, Shape, spelling}
 
 -- the label of each node is the spelling of one that says what is right for the node

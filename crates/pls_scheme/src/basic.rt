@@ -14,13 +14,13 @@ use crate::property::Property;
 use crate::round::verdicts_of;
 use crate::scheme::Scheme;
 use crate::view_judged::judge_view;
-use pls_base::{NoMemory, Steps};
 use pls_bits::{BitBuf, Bits, NumCode};
+use pls_configuration::Verdict;
 use pls_facts::is_valid;
 use pls_graph::{Network, Size};
-use pls_model::Verdict;
+use pls_labels::{LabelStore, Labels, View};
 use pls_numbers::{Format, recode};
-use pls_view::{LabelStore, Labels, View};
+use pls_streams::{NoMemory, Steps};
 use std::alloc::Global;
 
 /// A basic scheme, by rules that are tried in place and a marker: a verifier of one leaf that takes

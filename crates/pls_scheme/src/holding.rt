@@ -1,7 +1,7 @@
 //! Whether rules hold where labels say something, before anything is written.
 
 ghost use Rattle.std.specs.Prelude.{◌≡◌, ◌↔◌, ℕ, ◌<◌, length, map, slice_get, Some, IsTrue};
-ghost use Rattle.pls_model.specs.declared.row.NodeRow.{NodeRow};
+ghost use Rattle.pls_configuration.specs.declared.row.NodeRow.{NodeRow};
 ghost use Rattle.pls_graph.specs.Places.{named_places};
 ghost use Rattle.pls_scheme.specs.Judging.{judged_from};
 ghost use Rattle.pls_scheme.specs.Marked.{AreSaidBy};
@@ -11,9 +11,9 @@ ghost use Rattle.pls_scheme.specs.inner.Holding.{AreKnown};
 
 use crate::certify::accepts;
 use crate::rules::Rules;
+use pls_configuration::{Port, Verdict};
 use pls_facts::is_valid;
 use pls_graph::Network;
-use pls_model::{Port, Verdict};
 use pls_numbers::Format;
 
 /// Whether the rules hold at every node where the labels say this, in the order of the nodes. It

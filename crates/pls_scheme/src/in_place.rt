@@ -2,7 +2,7 @@
 
 ghost use Rattle.std.specs.Prelude.{◌≡◌, ℕ, ◌++◌, ◌∷◌, [], List, length, Some, IfSome, option_map};
 ghost use Rattle.std.specs.Option.{option_copied};
-ghost use Rattle.pls_model.specs.declared.row.State.{State};
+ghost use Rattle.pls_configuration.specs.declared.row.State.{State};
 ghost use Rattle.pls_numbers.specs.Shape.{said_by};
 ghost use Rattle.pls_scheme.specs.Judging.{judged_from};
 ghost use Rattle.pls_scheme.specs.Reading.{Read, ReadPort, label_above, port_with, reading};
@@ -10,7 +10,7 @@ ghost use Rattle.pls_scheme.specs.Reading.{Read, ReadPort, label_above, port_wit
 use crate::judgement::Judgement;
 use crate::memory::GlanceMemory;
 use pls_bits::Bits;
-use pls_model::{State, Verdict};
+use pls_configuration::{State, Verdict};
 
 /// A label that was looked at: its bits, and what they say at a glance.
 #[derive(Drop)]

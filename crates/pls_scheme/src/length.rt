@@ -2,7 +2,7 @@
 
 ghost use Rattle.std.specs.Prelude.{◌≡◌, []};
 ghost use Rattle.pls_scheme.specs.Length.{code_length, codes_length};
-ghost use Rattle.pls_base.specs.Steps.{capped};
+ghost use Rattle.pls_streams.specs.Steps.{capped};
 
 use pls_bits::{MAX_CODED, NumCode};
 

@@ -56,7 +56,7 @@ pub use length::{code_length, codes_length};
 pub use marker::Marker;
 pub use memory::{BoxedGlance, GlanceMemory};
 pub use once::Once;
-pub use pls_model::Verdict;
+pub use pls_configuration::Verdict;
 pub use pls_numbers::{Format, NumbersFormat, OfNumbers, ReadsInPlace};
 pub use property::Property;
 pub use remembers::Remembers;

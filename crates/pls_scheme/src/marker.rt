@@ -1,17 +1,17 @@
 //! What a basic scheme states of its own, beside its rules.
 
 ghost use Rattle.std.specs.Prelude.{◌≡◌, ◌↔◌, ℕ, List, IsTrue, IfOk, IfSome, IfNone};
-ghost use Rattle.pls_model.specs.declared.row.NodeRow.{NodeRow};
-ghost use Rattle.pls_model.specs.Walk.{IsConnected};
+ghost use Rattle.pls_configuration.specs.declared.row.NodeRow.{NodeRow};
+ghost use Rattle.pls_configuration.specs.Walk.{IsConnected};
 ghost use Rattle.pls_graph.specs.declared.size.Size.{Size};
 ghost use Rattle.pls_scheme.specs.Marked.{AreRight};
-ghost use Rattle.pls_base.specs.Steps.{capped};
+ghost use Rattle.pls_streams.specs.Steps.{capped};
 ghost use Rattle.pls_scheme.specs.Theorem.{OneIsRight, RightFits, RulesAreMet, RulesShow};
 
 use crate::judgement::Judgement;
-use pls_base::NoMemory;
 use pls_graph::{Network, Size};
 use pls_numbers::Format;
+use pls_streams::NoMemory;
 use std::alloc::Global;
 
 /// Rules with a property that they show, and a marker of the networks that have it. A

@@ -3,7 +3,7 @@
 ghost use Rattle.std.specs.Prelude.{◌≡◌, IfOk, Option};
 ghost use Rattle.std.specs.Option.{option_copied};
 
-use pls_base::NoMemory;
+use pls_streams::NoMemory;
 use std::alloc::Global;
 use std::marker::Model;
 

@@ -4,7 +4,7 @@ use crate::in_place::{JudgesInPlace, LabelGlance};
 use crate::judgement::Judgement;
 use crate::rules::Rules;
 use pls_bits::Bits;
-use pls_model::{State, Verdict};
+use pls_configuration::{State, Verdict};
 use pls_numbers::{Format, ReadsInPlace};
 
 /// Rules by which each label is read once, and kept whole.

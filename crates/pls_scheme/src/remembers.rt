@@ -1,18 +1,18 @@
 //! Verifiers that remember what each label says.
 
 ghost use Rattle.std.specs.Prelude.{◌≡◌, ◌<◌, Bool, List, Some, IfOk, length, map, slice_get};
-ghost use Rattle.pls_view.specs.Seen.{Seen, views};
+ghost use Rattle.pls_labels.specs.Seen.{Seen, views};
 
 use crate::basic::Basic;
 use crate::checker::Checker;
 use crate::in_place::JudgesInPlace;
 use crate::memory::GlanceMemory;
 use crate::round::verdict_at;
-use pls_base::NoMemory;
 use pls_bits::Bits;
+use pls_configuration::Verdict;
 use pls_graph::Network;
-use pls_model::Verdict;
-use pls_view::LabelStore;
+use pls_labels::LabelStore;
+use pls_streams::NoMemory;
 use std::alloc::Global;
 
 /// A verifier that judges a node by what it remembers of the labels, so that a label is read once

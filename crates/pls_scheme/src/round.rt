@@ -2,7 +2,7 @@
 
 ghost use Rattle.std.specs.Prelude.{◌≡◌, ◌<◌, All, length, map, slice_get, Some, IfOk, IfSome};
 ghost use Rattle.std.specs.Option.{option_and_then, option_copied};
-ghost use Rattle.pls_view.specs.Seen.{Seen, views};
+ghost use Rattle.pls_labels.specs.Seen.{Seen, views};
 ghost use Rattle.pls_numbers.specs.Shape.{said_by};
 ghost use Rattle.pls_scheme.specs.Basic.{verdict_by};
 ghost use Rattle.pls_scheme.specs.Judging.{RoseByAtMost, verdicts_by};
@@ -11,10 +11,10 @@ ghost use Rattle.pls_scheme.specs.inner.Looks.{AreLooked};
 use crate::in_place::{JudgesInPlace, LabelGlance};
 use crate::memory::GlanceMemory;
 use crate::settling::early_verdict_at;
-use pls_base::{NoMemory, Steps};
+use pls_configuration::Verdict;
 use pls_graph::Network;
-use pls_model::Verdict;
-use pls_view::Labels;
+use pls_labels::Labels;
+use pls_streams::{NoMemory, Steps};
 use std::alloc::Global;
 
 // In the order of the nodes, at most one step each; fails only for want of memory.

@@ -6,7 +6,7 @@ ghost use Rattle.pls_scheme.specs.Judging.{judged_from};
 ghost use Rattle.pls_scheme.specs.Reading.{ReadPort, label_above, port_with, reading};
 
 use crate::judgement::Judgement;
-use pls_model::{State, Verdict};
+use pls_configuration::{State, Verdict};
 use pls_numbers::{Format, ReadsInPlace};
 
 /// Rules that are tried on labels that are read: the own label, and each neighbour's, once for all

@@ -1,7 +1,7 @@
 //! Verdicts for which few labels have to be looked into.
 
 ghost use Rattle.std.specs.Prelude.{◌≡◌, ◌<◌, ℕ, All, is_some, length, map, slice_get, true, None, Some, IfSome, IsFalse, IsTrue};
-ghost use Rattle.pls_view.specs.Seen.{Seen, views};
+ghost use Rattle.pls_labels.specs.Seen.{Seen, views};
 ghost use Rattle.pls_numbers.specs.Shape.{said_by};
 ghost use Rattle.pls_scheme.specs.Basic.{verdict_by};
 ghost use Rattle.pls_scheme.specs.inner.Looks.{AreLooked, kept_at_port};
@@ -9,9 +9,9 @@ ghost use Rattle.pls_scheme.specs.inner.Looks.{AreLooked, kept_at_port};
 use crate::in_place::{JudgesInPlace, LabelGlance};
 use crate::memory::GlanceMemory;
 use crate::round::glance_above;
+use pls_configuration::Verdict;
 use pls_graph::Network;
-use pls_model::Verdict;
-use pls_view::Labels;
+use pls_labels::Labels;
 
 // `None` where the node's label and the one above do not settle its verdict.
 #[inline(always)]

@@ -5,8 +5,8 @@ ghost use Rattle.pls_scheme.specs.Basic.{verdict_by};
 ghost use Rattle.pls_scheme.specs.Reading.{is_pointer};
 
 use crate::in_place::{JudgesInPlace, LabelGlance};
-use pls_model::Verdict;
-use pls_view::View;
+use pls_configuration::Verdict;
+use pls_labels::View;
 
 // The verdict in one pass over the ports, with one look at each label.
 pub(crate) fn judge_view<R: JudgesInPlace>(rules: &R, view: &View<'_>) -> Verdict

@@ -3,8 +3,8 @@
 -- Theory of Computing 12 (2016), on problems that are solved by marks).
 use Rattle.std.specs.Prelude.{◌≡◌, ℕ, ◌==◌, Bool, not, ◌&&◌, ◌||◌, List, [], ◌∷◌, Contains, get_or}
 use Rattle.std.specs.List.{list_any}
-use Rattle.pls_model.specs.declared.row.NodeRow.{NodeRow}
-use Rattle.pls_model.specs.Walk.{Adjacent, edges_of}
+use Rattle.pls_configuration.specs.declared.row.NodeRow.{NodeRow}
+use Rattle.pls_configuration.specs.Walk.{Adjacent, edges_of}
 use Rattle.pls_graph.specs.declared.size.Size.{Size}
 use Rattle.pls_numbers.specs.Fixed.{fixed_shape}
 use Rattle.pls_numbers.specs.Shape.{Shape}

@@ -5,15 +5,15 @@
 ghost use Rattle.std.specs.Prelude.{◌≡◌, ◌==◌, ◌&&◌, ◌||◌, map, not, IfOk};
 ghost use Rattle.pls_scheme_tests.specs.IndependentSet.{mark_of};
 
-use pls_base::NoMemory;
 use pls_bits::NumCode;
+use pls_configuration::State;
 use pls_facts::is_valid;
 use pls_graph::{Network, Size};
-use pls_model::State;
 use pls_scheme::{
     Judgement, Marker, NumbersFormat, OfNumbers, RuleScheme, Rules, Verdict, codes_length,
     hold_everywhere, judged_from,
 };
+use pls_streams::NoMemory;
 use std::alloc::Global;
 use std::marker::PhantomData;
 

@@ -1,6 +1,6 @@
 //! Tests of schemes and searches.
 
-ghost use Rattle.pls_model.specs.Walk.{IsConnected};
+ghost use Rattle.pls_configuration.specs.Walk.{IsConnected};
 ghost use Rattle.std.specs.Prelude.{IfOk};
 
 mod boruvka;

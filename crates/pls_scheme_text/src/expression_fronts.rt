@@ -6,9 +6,9 @@ ghost use Rattle.pls_expressions.specs.Held.{expression_of};
 ghost use Rattle.pls_scheme_text.specs.inner.Fronts.{count_front, expression_front, expression_of_two, found_tree};
 
 use crate::fronts::{Join, join_front, leaf_front, map_front};
-use pls_base::NoMemory;
 use pls_expressions::ExpressionTree;
 use pls_fronts::after;
+use pls_streams::NoMemory;
 use std::alloc::Global;
 
 // Counts the names, up to 255, of an expression of at most `below` levels, without memory.

@@ -7,9 +7,9 @@ ghost use Rattle.pls_expressions.specs.Expression.{names_of};
 ghost use Rattle.pls_expressions.specs.Held.{expression_of};
 ghost use Rattle.pls_scheme_text.specs.inner.Fronts.{edges_front, join_front, leaf_front, map_front, property_front, found_tree};
 
+use pls_configuration::MAX_NODES;
 use pls_expressions::ExpressionTree;
 use pls_fronts::{after, number_front};
-use pls_model::MAX_NODES;
 use pls_names::name_front;
 
 // How two expressions are joined.

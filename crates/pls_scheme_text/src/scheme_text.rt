@@ -11,10 +11,10 @@ ghost use Rattle.pls_scheme_text.specs.inner.Fronts.{expression_in, names_in, sc
 
 use crate::expression_fronts::{names_front, tree_front};
 use crate::scheme_error::SchemeError;
-use pls_base::NoMemory;
 use pls_expressions::ExpressionTree;
 use pls_fronts::is_deeper;
 use pls_names::name_of;
+use pls_streams::NoMemory;
 use std::alloc::Global;
 use std::fmt::Write;
 

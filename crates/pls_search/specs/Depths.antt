@@ -1,6 +1,6 @@
 -- The lengths of the chains of pointers.
 use Rattle.std.specs.Prelude.{◌≡◌, ℕ, List, length, slice_get, Some}
-use Rattle.pls_model.specs.declared.row.NodeRow.{NodeRow}
+use Rattle.pls_configuration.specs.declared.row.NodeRow.{NodeRow}
 use Rattle.pls_facts.specs.Pointer.{IsChainOf}
 
 -- the length of the chain of each node, in the order of the rows

@@ -1,7 +1,7 @@
 -- The least weights of walks from one node.
 use Rattle.std.specs.Prelude.{◌≡◌, ℕ, List, length, slice_get, Option, Some, None}
-use Rattle.pls_model.specs.declared.row.NodeRow.{NodeRow}
-use Rattle.pls_model.specs.Walk.{AreJoined, edges_of}
+use Rattle.pls_configuration.specs.declared.row.NodeRow.{NodeRow}
+use Rattle.pls_configuration.specs.Walk.{AreJoined, edges_of}
 use Rattle.pls_facts.specs.Weight.{IsDistance}
 
 -- what is found for v: its distance from u, or that no walk from u leads there

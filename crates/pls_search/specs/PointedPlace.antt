@@ -1,6 +1,6 @@
 -- Where the pointer of a node leads, by places.
 use Rattle.std.specs.Prelude.{◌≡◌, ℕ, List, slice_get, Option, Some, None}
-use Rattle.pls_model.specs.declared.row.NodeRow.{NodeRow}
+use Rattle.pls_configuration.specs.declared.row.NodeRow.{NodeRow}
 use Rattle.pls_facts.specs.Pointer.{pointed_node}
 
 -- the node at a place points at the node at that place, or at none

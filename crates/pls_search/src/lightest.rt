@@ -8,8 +8,8 @@ ghost use Rattle.pls_graph.specs.Places.{beside};
 ghost use Rattle.pls_search.specs.Distances.{AreDistances};
 ghost use Rattle.pls_search.specs.inner.Ahead.{AddBeside, AreLight, by_weight};
 
-use pls_base::NoMemory;
 use pls_graph::Network;
+use pls_streams::NoMemory;
 use std::alloc::Global;
 use std::cmp::Reverse;
 use std::collections::BinaryHeap;

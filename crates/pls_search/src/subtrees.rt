@@ -7,7 +7,7 @@ ghost use Rattle.pls_facts.specs.Parents.{NoParentsReturn};
 ghost use Rattle.pls_search.specs.SubtreeSizes.{AreParentsWithin, AreSubtreeSizes, HasParentAt};
 ghost use Rattle.pls_search.specs.inner.Passing.{AreWaits, IsPassing, visits_from};
 
-use pls_base::NoMemory;
+use pls_streams::NoMemory;
 use std::alloc::Global;
 
 /// For each place, how many places there are whose chain of parents meets it, itself included. The

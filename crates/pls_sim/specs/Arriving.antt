@@ -1,6 +1,6 @@
 -- Where an emit arrives.
 use Rattle.std.specs.Prelude.{◌≡◌, ℕ, List, Some}
-use Rattle.pls_model.specs.declared.row.NodeRow.{NodeRow}
+use Rattle.pls_configuration.specs.declared.row.NodeRow.{NodeRow}
 use Rattle.pls_sim.specs.Schedule.{Sent, goes_to}
 use Rattle.pls_sim.specs.Ways.{IsSlot}
 

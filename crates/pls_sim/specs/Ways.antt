@@ -1,9 +1,9 @@
 -- The ports of all nodes, numbered through in the order of the nodes, and which leads back from
 -- each.
 use Rattle.std.specs.Prelude.{◌≡◌, ℕ, ◌+◌, ◌<◌, List, take, length, slice_get, slice_index_or, Some}
-use Rattle.pls_model.specs.declared.row.Port.{Port}
-use Rattle.pls_model.specs.declared.row.NodeRow.{NodeRow}
-use Rattle.pls_model.specs.Configuration.{IsNetwork, ports_in}
+use Rattle.pls_configuration.specs.declared.row.Port.{Port}
+use Rattle.pls_configuration.specs.declared.row.NodeRow.{NodeRow}
+use Rattle.pls_configuration.specs.Configuration.{IsNetwork, ports_in}
 
 -- the number of a port of the node at a place
 abbrev pub slot : List NodeRow → ℕ → ℕ → ℕ

@@ -1,6 +1,6 @@
 //! Tests of schemes on all small networks.
 
-ghost use Rattle.pls_model.specs.Walk.{IsConnected};
+ghost use Rattle.pls_configuration.specs.Walk.{IsConnected};
 ghost use Rattle.std.specs.Prelude.{IfOk};
 
 mod apart;

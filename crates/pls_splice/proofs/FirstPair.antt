@@ -7,7 +7,7 @@ use Rattle.std.proofs.lemmas.Map.Lookups.{exact_bytes}
 use Rattle.std.proofs.lemmas.Option.{same_Some}
 use Rattle.std.specs.Cmp.Lexicographic.{slice_cmp}
 use Rattle.std.specs.Ordering.{nat_cmp}
-use Rattle.pls_model.specs.declared.row.NodeRow.{NodeRow}
+use Rattle.pls_configuration.specs.declared.row.NodeRow.{NodeRow}
 use Rattle.pls_splice.specs.Crossing.{AreAlike, HasNoPair, IsFirstPair, IsPair, edge_weight, label_at}
 use Rattle.pls_splice.specs.Ring.{head_of, tail_of}
 use Rattle.pls_splice.specs.declared.finding.Pair.{Pair}

@@ -3,7 +3,7 @@ use Rattle.std.proofs.Common.{◌≡◌, ◌∙◌, ℕ, suc, ◌+◌, ◌-◌, 
 use Rattle.std.specs.BTreeMap.{get}
 use Rattle.std.specs.Cmp.Lexicographic.{slice_cmp}
 use Rattle.std.specs.Ordering.{nat_cmp}
-use Rattle.pls_model.specs.declared.row.NodeRow.{NodeRow}
+use Rattle.pls_configuration.specs.declared.row.NodeRow.{NodeRow}
 use Rattle.pls_splice.specs.declared.finding.Pair.{Pair}
 use Rattle.pls_splice.specs.inner.Finding.{HasFirst, IsFoundFrom, first_from, same_words, with_edge}
 use Rattle.pls_splice.specs.inner.Keys.{edge_key}

@@ -4,14 +4,14 @@ use Rattle.std.specs.Prelude.{unwrap_or}
 use Rattle.std.proofs.lemmas.Bool.{eqb-true}
 use Rattle.std.proofs.lemmas.Simd.{map-map}
 use Rattle.std.proofs.lemmas.Option.{get_or_from_slice_get}
-use Rattle.pls_model.specs.declared.row.Port.{Port}
-use Rattle.pls_model.specs.declared.row.NodeRow.{NodeRow}
-use Rattle.pls_model.specs.Configuration.{IsNetwork}
+use Rattle.pls_configuration.specs.declared.row.Port.{Port}
+use Rattle.pls_configuration.specs.declared.row.NodeRow.{NodeRow}
+use Rattle.pls_configuration.specs.Configuration.{IsNetwork}
 use Rattle.pls_graph.proofs.Finds.{item_at, position-map}
 use Rattle.pls_graph.proofs.Placed.{place_of_row}
 use Rattle.pls_graph_edits.proofs.Changing.{map_same}
-use Rattle.pls_view.proofs.Views.{label_at as label_placed}
-use Rattle.pls_view.specs.Seen.{SeenPort, label_of, seen, seen_port, views}
+use Rattle.pls_labels.proofs.Views.{label_at as label_placed}
+use Rattle.pls_labels.specs.Seen.{SeenPort, label_of, seen, seen_port, views}
 use Rattle.pls_splice.specs.Crossing.{IsPair, cross_port, cross_row, crossed_rows, ends_of, id_at, label_at, named_after}
 use Rattle.pls_splice.specs.declared.crossing.Ends.{Ends}
 use Rattle.pls_splice.specs.Ring.{IsRingOrder, head_of, tail_of}

@@ -2,8 +2,8 @@
 use Rattle.std.proofs.Common.{◌≡◌, ◌≢◌, ◌∙◌, ℕ, ◌⊎◌, inl, inr, true, false, cond, Bool, ◌==◌, ◌||◌, if◌then◌else◌, List, [], ◌∷◌, map, find, Some, option_map, refl, sym, ap}
 use Rattle.std.specs.List.{list_any}
 use Rattle.std.proofs.lemmas.Bool.{cases_eq, eq-eqb, ne_eqb}
-use Rattle.pls_model.specs.declared.row.Port.{Port}
-use Rattle.pls_model.specs.Configuration.{has_repeat}
+use Rattle.pls_configuration.specs.declared.row.Port.{Port}
+use Rattle.pls_configuration.specs.Configuration.{has_repeat}
 use Rattle.pls_splice.specs.Crossing.{named_after}
 use Rattle.pls_splice.specs.declared.crossing.Ends.{Ends}
 

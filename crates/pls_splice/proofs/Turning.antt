@@ -5,10 +5,10 @@ use Rattle.std.proofs.lemmas.List.{get_or_default}
 use Rattle.std.proofs.lemmas.List.Elements.{All-contains}
 use Rattle.std.proofs.lemmas.List.Folds.{find_at}
 use Rattle.std.proofs.lemmas.Option.{same_Some, slice_get_within}
-use Rattle.pls_model.specs.declared.row.Port.{Port}
-use Rattle.pls_model.specs.declared.row.NodeRow.{NodeRow}
-use Rattle.pls_model.specs.Configuration.{IsNetwork, has_repeat, row_of}
-use Rattle.pls_model.specs.Walk.{Adjacent, edges_of}
+use Rattle.pls_configuration.specs.declared.row.Port.{Port}
+use Rattle.pls_configuration.specs.declared.row.NodeRow.{NodeRow}
+use Rattle.pls_configuration.specs.Configuration.{IsNetwork, has_repeat, row_of}
+use Rattle.pls_configuration.specs.Walk.{Adjacent, edges_of}
 use Rattle.pls_graph.specs.Places.{beside, named_places, place_in}
 use Rattle.pls_graph.proofs.Beside.{beside-Adjacent, beside_row, beside_within, one_place}
 use Rattle.pls_graph.proofs.Finds.{item_at}

@@ -1,6 +1,6 @@
 -- A ring of eight nodes, worked by hand.
 use Rattle.std.proofs.Common.{◌≡◌, ℕ, true, false, Bool, List, [], ◌∷◌, None, refl}
-use Rattle.pls_model.specs.declared.row.NodeRow.{NodeRow}
+use Rattle.pls_configuration.specs.declared.row.NodeRow.{NodeRow}
 use Rattle.pls_splice.specs.Crossing.{AreAlike, crossed_rows}
 use Rattle.pls_splice.specs.inner.Round.{places_round}
 use Rattle.pls_splice.specs.inner.Keys.{edge_key}

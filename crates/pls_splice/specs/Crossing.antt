@@ -1,9 +1,9 @@
 -- Which two edges of a ring may be crossed, and what crossing them makes of the network.
 use Rattle.std.specs.Prelude.{◌≡◌, ◌==◌, ◌&&◌, ℕ, ◌+◌, ◌<◌, ◌≤◌, ◌⊎◌, Bool, if◌then◌else◌, List, [], length, map, slice_get, slice_index_or, option_and_then}
 use Rattle.std.specs.Option.{option_map_or}
-use Rattle.pls_model.specs.declared.row.Port.{Port}
-use Rattle.pls_model.specs.declared.row.NodeRow.{NodeRow}
-use Rattle.pls_model.specs.Configuration.{port_to}
+use Rattle.pls_configuration.specs.declared.row.Port.{Port}
+use Rattle.pls_configuration.specs.declared.row.NodeRow.{NodeRow}
+use Rattle.pls_configuration.specs.Configuration.{port_to}
 use Rattle.pls_splice.specs.Ring.{head_of, tail_of}
 use Rattle.pls_splice.specs.declared.crossing.Ends.{Ends}
 

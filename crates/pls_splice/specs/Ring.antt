@@ -1,7 +1,7 @@
 -- Rings, and the order of their nodes as one goes round (any textbook on graphs).
 use Rattle.std.specs.Prelude.{◌≡◌, ◌==◌, ℕ, ◌+◌, ◌<◌, Bool, not, if◌then◌else◌, List, All, Contains, find, length, slice_get, slice_index_or, Option, Some, None}
-use Rattle.pls_model.specs.declared.row.NodeRow.{NodeRow}
-use Rattle.pls_model.specs.Walk.{IsConnected}
+use Rattle.pls_configuration.specs.declared.row.NodeRow.{NodeRow}
+use Rattle.pls_configuration.specs.Walk.{IsConnected}
 use Rattle.pls_graph.specs.Connected.{IsFirstApart}
 use Rattle.pls_graph.specs.Places.{beside}
 use Rattle.pls_facts.specs.SpanningTree.{AreDistinct}

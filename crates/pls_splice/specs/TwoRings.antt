@@ -1,6 +1,6 @@
 -- What becomes of a ring in which two edges are crossed.
 use Rattle.std.specs.Prelude.{◌≡◌, ℕ, List, [], ◌∷◌, length}
-use Rattle.pls_model.specs.declared.row.NodeRow.{NodeRow}
+use Rattle.pls_configuration.specs.declared.row.NodeRow.{NodeRow}
 use Rattle.pls_facts.specs.Leader.{is_leader}
 use Rattle.pls_facts.specs.OnlyNode.{passing}
 use Rattle.pls_components.specs.Components.{AreComponents, IsComponent, items_at}

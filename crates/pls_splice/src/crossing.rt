@@ -1,15 +1,15 @@
 //! How two edges are crossed.
 
 ghost use Rattle.std.specs.Prelude.{◌≡◌, ◌++◌, ◌∷◌, ◌<◌, [], IfOk, OnOk, Some, length, map, slice_get};
-ghost use Rattle.pls_model.specs.declared.row.NodeRow.{NodeRow};
+ghost use Rattle.pls_configuration.specs.declared.row.NodeRow.{NodeRow};
 ghost use Rattle.pls_splice.specs.Crossing.{IsPair, cross_port, cross_row, crossed_rows, ends_of, id_at, named_after};
 ghost use Rattle.pls_splice.specs.Ring.{IsRingOrder};
 
 use crate::finding::Pair;
 use crate::ring::Ring;
-use pls_base::NoMemory;
 use pls_graph::{Network, NetworkBuilder, Port};
-use pls_view::LabelStore;
+use pls_labels::LabelStore;
+use pls_streams::NoMemory;
 use std::alloc::Global;
 
 /// The identities at the ends of two edges.

@@ -6,10 +6,10 @@ ghost use Rattle.pls_splice.specs.Ring.{IsRingOrder};
 ghost use Rattle.pls_splice.specs.inner.Keys.{edge_key, full_words, last_word};
 
 use crate::ring::Ring;
-use pls_base::NoMemory;
 use pls_bits::Bits;
 use pls_graph::{Network, Port};
-use pls_view::LabelStore;
+use pls_labels::LabelStore;
+use pls_streams::NoMemory;
 use std::alloc::Global;
 
 // The first number that has no room for a bit more.

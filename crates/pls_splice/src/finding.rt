@@ -8,9 +8,9 @@ ghost use Rattle.pls_splice.specs.inner.Keys.{edge_key};
 
 use crate::edge_key::edge_key;
 use crate::ring::Ring;
-use pls_base::NoMemory;
 use pls_graph::Network;
-use pls_view::LabelStore;
+use pls_labels::LabelStore;
+use pls_streams::NoMemory;
 use std::alloc::Global;
 use std::collections::BTreeMap;
 

@@ -3,9 +3,9 @@
 //! had one.
 
 ghost use Rattle.std.specs.Prelude.{◌≡◌, ◌-◌, length};
-ghost use Rattle.pls_model.specs.declared.verdict.Verdict.{Verdict};
+ghost use Rattle.pls_configuration.specs.declared.verdict.Verdict.{Verdict};
 ghost use Rattle.pls_facts.specs.Leader.{HasOneLeader};
-ghost use Rattle.pls_view.specs.Seen.{Seen, views};
+ghost use Rattle.pls_labels.specs.Seen.{Seen, views};
 ghost use Rattle.pls_scheme.specs.Judging.{verdicts_by};
 ghost use Rattle.pls_splice.specs.Crossing.{IsPair, crossed_rows};
 ghost use Rattle.pls_splice.specs.Ring.{IsRingOrder};
@@ -15,7 +15,7 @@ use crate::finding::Pair;
 use crate::ring::Ring;
 use pls_facts::is_valid;
 use pls_graph::Network;
-use pls_view::LabelStore;
+use pls_labels::LabelStore;
 
 /// A ring has one order, so that both are the same list.
 pub fn one_order(net: &Network, ring: &Ring, other: &Ring)

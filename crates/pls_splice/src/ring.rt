@@ -5,8 +5,8 @@ ghost use Rattle.pls_splice.specs.Ring.{IsRing, IsRingOrder, SaysNoRing, has_not
 ghost use Rattle.pls_splice.specs.inner.Round.{onward, places_round};
 
 use crate::ring_error::RingError;
-use pls_base::NoMemory;
 use pls_graph::{Network, node_apart};
+use pls_streams::NoMemory;
 use std::alloc::Global;
 use std::marker::Model;
 

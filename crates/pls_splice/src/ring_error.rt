@@ -3,7 +3,7 @@
 ghost use Rattle.std.specs.Prelude.{◌≡◌};
 ghost use Rattle.pls_splice.specs.declared.ring_error.RingError.TheVariants.{NoMemory as OutOfMemory};
 
-use pls_base::NoMemory;
+use pls_streams::NoMemory;
 use thiserror::Error;
 
 /// Why a network is no ring.

@@ -9,9 +9,9 @@ mod small;
 
 use pls_bits::BitBuf;
 use pls_graph::Network;
+use pls_labels::LabelStore;
 use pls_netfile::read_network;
 use pls_splice::{Pair, Ring, cross, find, leaderless, two_rings, views_stay};
-use pls_view::LabelStore;
 use std::alloc::{AllocError, Global};
 use std::test::Fail;
 

@@ -7,11 +7,11 @@ use Rattle.std.proofs.lemmas.List.{length-map}
 use Rattle.std.proofs.lemmas.List.Elements.{Contains-get_or}
 use Rattle.std.proofs.lemmas.List.FromFn.{length-range_with_len}
 use Rattle.std.proofs.lemmas.List.Sums.{sum_by-cons}
-use Rattle.pls_model.specs.declared.limits.TheConstants.{MAX_NUM}
-use Rattle.pls_model.specs.declared.row.NodeRow.{NodeRow}
-use Rattle.pls_model.specs.Configuration.{AreWithinLimits, differs_in_weight, ids_of, lacks_way_back, links_itself, names_twice, names_unknown, out_of_order, points_nowhere, ports_in, refusal_of}
-use Rattle.pls_model.specs.declared.refusal.BuildError.{BuildError}
-use Rattle.pls_model.specs.declared.refusal.BuildError.TheVariants.{NoMemory, OneWay, Order, Pointer, SelfLink, Twice, Unknown, Weights}
+use Rattle.pls_configuration.specs.declared.limits.TheConstants.{MAX_NUM}
+use Rattle.pls_configuration.specs.declared.row.NodeRow.{NodeRow}
+use Rattle.pls_configuration.specs.Configuration.{AreWithinLimits, differs_in_weight, ids_of, lacks_way_back, links_itself, names_twice, names_unknown, out_of_order, points_nowhere, ports_in, refusal_of}
+use Rattle.pls_configuration.specs.declared.refusal.BuildError.{BuildError}
+use Rattle.pls_configuration.specs.declared.refusal.BuildError.TheVariants.{NoMemory, OneWay, Order, Pointer, SelfLink, Twice, Unknown, Weights}
 use Rattle.pls_graph.specs.Build.{IsRefusal, SaysRefusal}
 use Rattle.pls_graph_edits.specs.Edits.{lone_node}
 use Rattle.pls_graph.proofs.Members.{Contains-from_map}

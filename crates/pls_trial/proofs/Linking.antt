@@ -2,8 +2,8 @@
 use Rattle.std.proofs.Common.{◌≡◌, ◌∙◌, ℕ, ◌+◌, ◌*◌, ◌≤◌, ◌⊎◌, inl, inr, Bool, true, false, cond, ◌==◌, ◌||◌, List, [], ◌∷◌, map, length, fold, refl, ap, subst, arith, Contains, length-append}
 use Rattle.std.proofs.lemmas.Bool.{eqb-true}
 use Rattle.std.proofs.lemmas.List.Sums.{sum_by-cons}
-use Rattle.pls_model.specs.declared.row.NodeRow.{NodeRow}
-use Rattle.pls_model.specs.Configuration.{ids_of, ports_in}
+use Rattle.pls_configuration.specs.declared.row.NodeRow.{NodeRow}
+use Rattle.pls_configuration.specs.Configuration.{ids_of, ports_in}
 use Rattle.pls_graph_edits.specs.Edits.{are_linked, change_row, changed, linked, linking}
 use Rattle.pls_graph.proofs.Members.{Contains-first, Contains-from_map, Contains-later}
 use Rattle.pls_trial.specs.Generator.{Link, with_link}

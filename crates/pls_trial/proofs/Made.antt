@@ -4,10 +4,10 @@ use Rattle.std.specs.List.{range_with_len}
 use Rattle.std.proofs.Math.Nat.{mod-lt}
 use Rattle.std.proofs.lemmas.List.FromFn.{length-map-range_with_len}
 use Rattle.std.proofs.lemmas.List.Sums.{fold-append}
-use Rattle.pls_model.specs.declared.limits.TheConstants.{MAX_PORTS}
-use Rattle.pls_model.specs.declared.row.NodeRow.{NodeRow}
-use Rattle.pls_model.specs.Configuration.{IsNetwork, ids_of, ports_in}
-use Rattle.pls_model.specs.Walk.{IsConnected}
+use Rattle.pls_configuration.specs.declared.limits.TheConstants.{MAX_PORTS}
+use Rattle.pls_configuration.specs.declared.row.NodeRow.{NodeRow}
+use Rattle.pls_configuration.specs.Configuration.{IsNetwork, ids_of, ports_in}
+use Rattle.pls_configuration.specs.Walk.{IsConnected}
 use Rattle.pls_graph.proofs.Members.{Contains-from_map}
 use Rattle.pls_facts.specs.MinimumSpanningTree.{IsMinimumSpanningTree}
 use Rattle.pls_trial.specs.Generator.{Link, draw, links_of, nodes_alone, other_link, other_links, pointing, tree_link, tree_links, trial_of, with_link}

@@ -3,9 +3,9 @@ use Rattle.std.proofs.Common.{◌≡◌, ◌∙◌, ℕ, ◌+◌, ◌*◌, ◌�
 use Rattle.std.specs.List.{range_with_len}
 use Rattle.std.proofs.lemmas.List.FromFn.{map-range_with_len_more}
 use Rattle.std.proofs.lemmas.List.Sums.{fold_push}
-use Rattle.pls_model.specs.declared.limits.TheConstants.{MAX_PORTS}
-use Rattle.pls_model.specs.declared.row.NodeRow.{NodeRow}
-use Rattle.pls_model.specs.Configuration.{ids_of, ports_in}
+use Rattle.pls_configuration.specs.declared.limits.TheConstants.{MAX_PORTS}
+use Rattle.pls_configuration.specs.declared.row.NodeRow.{NodeRow}
+use Rattle.pls_configuration.specs.Configuration.{ids_of, ports_in}
 use Rattle.pls_trial.specs.Generator.{Link, with_link}
 use Rattle.pls_trial.specs.inner.Building.{AreReady}
 use Rattle.pls_trial.proofs.Linking.{ids_of-fold, ports_in-fold, times}

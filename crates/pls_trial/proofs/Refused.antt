@@ -4,9 +4,9 @@ use Rattle.std.proofs.Common.{◌≡◌, ◌∙◌, ℕ, ◌+◌, ◌≤◌, ◌
 use Rattle.std.specs.Option.{is_none, option_map_or}
 use Rattle.std.proofs.lemmas.Bool.{eqb-false, le-ltb}
 use Rattle.std.proofs.lemmas.Option.{same_Some}
-use Rattle.pls_model.specs.declared.limits.TheConstants.{MAX_PORTS}
-use Rattle.pls_model.specs.declared.row.NodeRow.{NodeRow}
-use Rattle.pls_model.specs.Configuration.{first_of, ids_of, ports_in, row_of}
+use Rattle.pls_configuration.specs.declared.limits.TheConstants.{MAX_PORTS}
+use Rattle.pls_configuration.specs.declared.row.NodeRow.{NodeRow}
+use Rattle.pls_configuration.specs.Configuration.{first_of, ids_of, ports_in, row_of}
 use Rattle.pls_graph_edits.specs.declared.edit_error.EditError.{EditError}
 use Rattle.pls_graph_edits.specs.declared.edit_error.EditError.TheVariants.{Absent, Full, HasPorts, Last, NoMemory, Pointer, Present, SelfLink}
 use Rattle.pls_graph_edits.specs.Edits.{SaysEdit, are_linked, cause, fits_state, is_absent, link_refusal, state_refusal}

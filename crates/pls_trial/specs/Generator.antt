@@ -3,8 +3,8 @@
 -- good ones are hard to find", Communications of the ACM 31 (1988), with the multiplier 48271.
 use Rattle.std.specs.Prelude.{ℕ, zero, suc, ◌+◌, ◌-◌, ◌*◌, ◌%◌, ◌==◌, ◌||◌, List, ◌++◌, map, fold, Some, if◌then◌else◌}
 use Rattle.std.specs.List.{range_with_len}
-use Rattle.pls_model.specs.declared.row.State.{State}
-use Rattle.pls_model.specs.declared.row.NodeRow.{NodeRow}
+use Rattle.pls_configuration.specs.declared.row.State.{State}
+use Rattle.pls_configuration.specs.declared.row.NodeRow.{NodeRow}
 use Rattle.pls_graph_edits.specs.Edits.{lone_node, are_linked, in_state, linked}
 
 -- the number behind another

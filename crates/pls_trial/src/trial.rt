@@ -2,18 +2,18 @@
 
 ghost use Rattle.std.specs.Prelude.{◌≡◌, ◌≤◌, ◌+◌, ◌-◌, ◌*◌, ℕ, true, map, fold, Contains, IfOk, OnOk};
 ghost use Rattle.std.specs.List.{range_with_len};
-ghost use Rattle.pls_model.specs.Configuration.{ids_of, ports_in};
-ghost use Rattle.pls_model.specs.declared.limits.TheConstants.{MAX_PORTS};
-ghost use Rattle.pls_model.specs.Walk.{IsConnected};
+ghost use Rattle.pls_configuration.specs.Configuration.{ids_of, ports_in};
+ghost use Rattle.pls_configuration.specs.declared.limits.TheConstants.{MAX_PORTS};
+ghost use Rattle.pls_configuration.specs.Walk.{IsConnected};
 ghost use Rattle.pls_facts.specs.MinimumSpanningTree.{IsMinimumSpanningTree};
 ghost use Rattle.pls_trial.specs.Generator.{draw, nodes_alone, other_links, pointing, tree_links, trial_of, with_link};
 ghost use Rattle.pls_trial.specs.inner.Building.{AreReady, has_port};
 
 use crate::draws::Draws;
-use pls_base::NoMemory;
+use pls_configuration::{BuildError, State};
 use pls_graph::{Network, NetworkBuilder};
 use pls_graph_edits::{EditError, link, set_state};
-use pls_model::{BuildError, State};
+use pls_streams::NoMemory;
 use std::alloc::Global;
 
 /// The network of so many nodes, 1 to 32768, that is made from a seed, 1 to 2147483646. Its nodes

@@ -1,7 +1,7 @@
 -- The tests of pointers at small networks.
 use Rattle.std.proofs.Common.{◌≡◌, ℕ, true, false, List, [], ◌∷◌, Option, Some, None, refl}
-use Rattle.pls_model.specs.declared.row.Port.{Port}
-use Rattle.pls_model.specs.declared.row.NodeRow.{NodeRow}
+use Rattle.pls_configuration.specs.declared.row.Port.{Port}
+use Rattle.pls_configuration.specs.declared.row.NodeRow.{NodeRow}
 use Rattle.pls_truth_values.specs.PointerTests.{chain_of, chain_within, forest_test, spt_test, tree_test}
 
 -- a neighbour and the weight of the edge to it

@@ -1,6 +1,6 @@
 -- The tests of marks and numbers, and those that try all lists, at small networks.
 use Rattle.std.proofs.Common.{◌≡◌, ℕ, true, false, List, [], ◌∷◌, map, Option, Some, None, refl}
-use Rattle.pls_model.specs.declared.row.NodeRow.{NodeRow}
+use Rattle.pls_configuration.specs.declared.row.NodeRow.{NodeRow}
 use Rattle.pls_truth_values.specs.MarkTests.{count_test, leader_test}
 use Rattle.pls_truth_values.specs.SearchTests.{acyclic_test, all_lists, bipartite_test, lists_up_to, mst_test}
 

@@ -1,7 +1,7 @@
 -- What the marks and numbers of nodes say, as functions from rows to a truth value.
 use Rattle.std.specs.Prelude.{◌==◌, Bool, List, length}
 use Rattle.std.specs.List.{list_all}
-use Rattle.pls_model.specs.declared.row.NodeRow.{NodeRow}
+use Rattle.pls_configuration.specs.declared.row.NodeRow.{NodeRow}
 use Rattle.pls_facts.specs.OnlyNode.{passing}
 use Rattle.pls_facts.specs.Leader.{is_leader}
 

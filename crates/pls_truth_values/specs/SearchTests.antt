@@ -2,9 +2,9 @@
 -- each of these lists.
 use Rattle.std.specs.Prelude.{ℕ, zero, suc, ◌-◌, ◌==◌, nat_le, Bool, true, false, not, ◌&&◌, ◌||◌, List, [], ◌∷◌, ◌++◌, map, filter, flat_map, length, count_by, if◌then◌else◌}
 use Rattle.std.specs.List.{list_all, list_any}
-use Rattle.pls_model.specs.declared.row.NodeRow.{NodeRow}
-use Rattle.pls_model.specs.Configuration.{has_repeat, ids_of}
-use Rattle.pls_model.specs.Walk.{Edge, edges_of}
+use Rattle.pls_configuration.specs.declared.row.NodeRow.{NodeRow}
+use Rattle.pls_configuration.specs.Configuration.{has_repeat, ids_of}
+use Rattle.pls_configuration.specs.Walk.{Edge, edges_of}
 use Rattle.pls_facts.specs.SpanningTree.{is_root, pointed_edges}
 use Rattle.pls_facts.specs.Lightest.{weight_of}
 use Rattle.pls_facts.specs.Classes.{joins_all}

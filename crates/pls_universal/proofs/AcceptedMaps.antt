@@ -1,13 +1,13 @@
 -- Where all nodes accept, the labels are those of the marker.
 use Rattle.std.proofs.Common.{◌≡◌, ◌∙◌, ℕ, zero, suc, Bool, List, [], ◌∷◌, length, map, slice_get, Contains, Option, Some, refl, sym, ap, subst, arith}
 use Rattle.std.proofs.lemmas.Bool.{eqb-true}
-use Rattle.pls_model.specs.declared.row.NodeRow.{NodeRow}
-use Rattle.pls_model.specs.Configuration.{IsNetwork}
-use Rattle.pls_model.specs.Walk.{IsConnected}
+use Rattle.pls_configuration.specs.declared.row.NodeRow.{NodeRow}
+use Rattle.pls_configuration.specs.Configuration.{IsNetwork}
+use Rattle.pls_configuration.specs.Walk.{IsConnected}
 use Rattle.pls_graph.proofs.Members.{Contains-from_place}
 use Rattle.pls_graph.proofs.Placed.{place_of_row}
-use Rattle.pls_view.specs.Seen.{label_of}
-use Rattle.pls_view.proofs.Views.{label_at}
+use Rattle.pls_labels.specs.Seen.{label_of}
+use Rattle.pls_labels.proofs.Views.{label_at}
 use Rattle.pls_bits.specs.NumberCode.{TakesCodes, TakesOnly}
 use Rattle.pls_numbers.specs.Shape.{IsSpelled, said_by}
 use Rattle.pls_numbers.specs.laws.FormatLaws.{said_spells}

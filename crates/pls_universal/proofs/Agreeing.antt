@@ -4,8 +4,8 @@ use Rattle.std.proofs.Math.Seq.{drop-cons}
 use Rattle.std.proofs.lemmas.Bool.{false_from_ne_true}
 use Rattle.std.proofs.lemmas.List.{drop_all}
 use Rattle.pls_bits.specs.NumberCode.{TakesCodes, TakesOnly}
-use Rattle.pls_view.specs.declared.view.PortView.{PortView}
-use Rattle.pls_view.specs.Seen.{SeenPort}
+use Rattle.pls_labels.specs.declared.view.PortView.{PortView}
+use Rattle.pls_labels.specs.Seen.{SeenPort}
 use Rattle.pls_numbers.specs.Shape.{IsSpelled, said_by}
 use Rattle.pls_numbers.specs.laws.FormatLaws.{one_spelling, said_spells}
 use Rattle.pls_scheme.specs.Reading.{ReadPort, read_ports}

@@ -5,10 +5,10 @@ use Rattle.std.proofs.lemmas.Bool.{false_from_ne_true, le-leb, lt-leb, true≢fa
 use Rattle.std.proofs.lemmas.List.{length-map}
 use Rattle.std.proofs.lemmas.List.Sums.{get_or-le-sum_by, list_all-from_AllPass, sum_by-cons, sum_by_more_le}
 use Rattle.std.proofs.lemmas.Option.{get_or_from_slice_get, slice_get-get_or, slice_get-map, slice_get_within}
-use Rattle.pls_model.specs.declared.limits.TheConstants.{MAX_PORTS}
-use Rattle.pls_model.specs.declared.row.NodeRow.{NodeRow}
-use Rattle.pls_model.specs.declared.refusal.BuildError.{BuildError}
-use Rattle.pls_model.specs.Configuration.{IsNetwork, ids_of, ports_in, refusal_of}
+use Rattle.pls_configuration.specs.declared.limits.TheConstants.{MAX_PORTS}
+use Rattle.pls_configuration.specs.declared.row.NodeRow.{NodeRow}
+use Rattle.pls_configuration.specs.declared.refusal.BuildError.{BuildError}
+use Rattle.pls_configuration.specs.Configuration.{IsNetwork, ids_of, ports_in, refusal_of}
 use Rattle.pls_graph.specs.Connected.{IsFirstApart, smallest_id}
 use Rattle.pls_graph.proofs.Members.{Contains-first}
 use Rattle.pls_graph.proofs.Placed.{pointer_within, smallest_first}

@@ -5,14 +5,14 @@ use Rattle.std.specs.Option.{option_and_then, option_map_or}
 use Rattle.std.proofs.lemmas.Bool.{ltb-false}
 use Rattle.std.proofs.lemmas.List.Folds.{find_at}
 use Rattle.std.proofs.lemmas.Option.{same_Some, slice_get_past}
-use Rattle.pls_model.specs.declared.row.Port.{Port}
-use Rattle.pls_model.specs.declared.row.State.{State}
-use Rattle.pls_model.specs.declared.row.NodeRow.{NodeRow}
-use Rattle.pls_model.specs.declared.verdict.Verdict.TheVariants.{Reject}
-use Rattle.pls_model.specs.Configuration.{row_of}
+use Rattle.pls_configuration.specs.declared.row.Port.{Port}
+use Rattle.pls_configuration.specs.declared.row.State.{State}
+use Rattle.pls_configuration.specs.declared.row.NodeRow.{NodeRow}
+use Rattle.pls_configuration.specs.declared.verdict.Verdict.TheVariants.{Reject}
+use Rattle.pls_configuration.specs.Configuration.{row_of}
 use Rattle.pls_bits.specs.NumberCode.{TakesCodes, TakesOnly}
 use Rattle.pls_numbers.specs.Shape.{said_by}
-use Rattle.pls_view.specs.Seen.{Seen, SeenPort}
+use Rattle.pls_labels.specs.Seen.{Seen, SeenPort}
 use Rattle.pls_scheme.specs.Judging.{judged_from}
 use Rattle.pls_scheme.specs.Reading.{ReadPort, judge_by, port_with, read_ports, reading}
 use Rattle.pls_scheme.specs.laws.Readings.{judged_by_rules, rejected_by_2, split_read}

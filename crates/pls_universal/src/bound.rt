@@ -1,9 +1,9 @@
 //! How long labels with maps are.
 
 ghost use Rattle.std.specs.Prelude.{◌≡◌, [], ℕ, ◌+◌, ◌*◌, ◌≤◌, Bool, List, length, Contains};
-ghost use Rattle.pls_model.specs.declared.row.NodeRow.{NodeRow};
+ghost use Rattle.pls_configuration.specs.declared.row.NodeRow.{NodeRow};
 ghost use Rattle.pls_graph.specs.Size.{size_of};
-ghost use Rattle.pls_base.specs.Steps.{capped};
+ghost use Rattle.pls_streams.specs.Steps.{capped};
 ghost use Rattle.pls_universal.specs.Bound.{longest_map};
 ghost use Rattle.pls_numbers.specs.Numbers.{AreCoded};
 ghost use Rattle.pls_numbers.specs.Shape.{IsSpelled};

@@ -2,14 +2,14 @@
 
 ghost use Rattle.std.specs.Prelude.{◌≡◌, ◌≤◌, nat_le, true, map, if◌then◌else◌, Some, None, IfOk};
 ghost use Rattle.std.specs.List.{list_all};
-ghost use Rattle.pls_model.specs.declared.limits.TheConstants.{MAX_PORTS};
+ghost use Rattle.pls_configuration.specs.declared.limits.TheConstants.{MAX_PORTS};
 ghost use Rattle.pls_universal.specs.Rules.{is_joined, is_port_small, is_small, is_within_limits, node_of, nodes_of, port_of, up_of};
 ghost use Rattle.pls_universal.specs.inner.Stating.{IsNetworkOf, is_pointer_small, ports_stated};
 
 use crate::map::MapRow;
-use pls_base::NoMemory;
+use pls_configuration::{MAX_NODES, MAX_NUM, MAX_PORTS, MAX_WORD};
 use pls_graph::{BuildError, Network, NodePorts, NodeRow, Port, State, node_apart};
-use pls_model::{MAX_NODES, MAX_NUM, MAX_PORTS, MAX_WORD};
+use pls_streams::NoMemory;
 use std::alloc::Global;
 
 // The connected network that the records state, or `None` where they state none.

@@ -2,7 +2,7 @@
 
 ghost use Rattle.std.specs.Prelude.{◌≡◌, ◌<◌, ◌++◌, ◌∷◌, [], ℕ, true, Bool, List, All, Option, Some, None, length, slice_get, IfOk, IfSome, IfNone, OnOk};
 ghost use Rattle.std.specs.Bool.{OnTrue};
-ghost use Rattle.pls_model.specs.declared.row.NodeRow.{NodeRow};
+ghost use Rattle.pls_configuration.specs.declared.row.NodeRow.{NodeRow};
 ghost use Rattle.pls_numbers.specs.Shape.{said_by};
 ghost use Rattle.pls_scheme.specs.Reading.{judge_by};
 ghost use Rattle.pls_universal.specs.Reading.{map_shape};
@@ -13,11 +13,11 @@ use crate::format::MapFormat;
 use crate::property_test::PropertyTest;
 use crate::stating::{StatedNetwork, stated_by};
 use crate::verifying::{parts, verdict_on};
-use pls_base::NoMemory;
 use pls_bits::{Bits, NumCode};
-use pls_model::Verdict;
+use pls_configuration::Verdict;
+use pls_labels::{Labels, View};
 use pls_numbers::Format;
-use pls_view::{Labels, View};
+use pls_streams::NoMemory;
 use std::alloc::Global;
 use std::collections::BTreeMap;
 

@@ -3,9 +3,9 @@
 use crate::map::{MapLabel, RowList};
 use crate::reading::read_rows;
 use crate::writing::append_rows;
-use pls_base::NoMemory;
 use pls_bits::{BitBuf, Bits, NumCode};
 use pls_numbers::{Format, Numbers, append_numbers};
+use pls_streams::NoMemory;
 use std::alloc::Global;
 
 /// The format: the node's identity, and then the map.

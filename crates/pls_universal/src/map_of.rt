@@ -1,7 +1,7 @@
 //! The universal scheme.
 
 ghost use Rattle.std.specs.Prelude.{◌≡◌, Bool, List, length};
-ghost use Rattle.pls_model.specs.Walk.{IsConnected};
+ghost use Rattle.pls_configuration.specs.Walk.{IsConnected};
 ghost use Rattle.pls_numbers.specs.Shape.{IsSpelled, said_by};
 ghost use Rattle.pls_scheme.specs.Judging.{AllAccept};
 ghost use Rattle.pls_scheme.specs.Marked.{IsMarkedBy};
@@ -17,14 +17,14 @@ use crate::marking::map_labels;
 use crate::property_test::PropertyTest;
 use crate::stating::stated_by;
 use crate::verifying::verdict_on;
-use pls_base::{NoMemory, Steps};
 use pls_bits::{BitBuf, Bits, NumCode};
+use pls_configuration::Verdict;
 use pls_facts::is_valid;
 use pls_graph::{Network, Size};
-use pls_model::Verdict;
+use pls_labels::{LabelStore, Labels, View};
 use pls_numbers::Format;
 use pls_scheme::{Checker, Property, Scheme};
-use pls_view::{LabelStore, Labels, View};
+use pls_streams::{NoMemory, Steps};
 use std::alloc::Global;
 use std::marker::PhantomData;
 

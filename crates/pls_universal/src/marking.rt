@@ -8,10 +8,10 @@ ghost use Rattle.pls_universal.specs.Reading.{map_label_with, map_shape, rows_sh
 ghost use Rattle.pls_universal.specs.Rules.{map_says};
 
 use crate::writing::write_map;
-use pls_base::NoMemory;
 use pls_bits::{BitBuf, Bits, NumCode};
 use pls_graph::Network;
-use pls_view::LabelStore;
+use pls_labels::LabelStore;
+use pls_streams::NoMemory;
 use std::alloc::Global;
 
 /// The labels of a network, each with its node's identity and the map of the network. The map is

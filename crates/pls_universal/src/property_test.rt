@@ -1,8 +1,8 @@
 //! Properties that are told by a test.
 
 ghost use Rattle.std.specs.Prelude.{◌≡◌, ℕ, Bool, List, Contains};
-ghost use Rattle.pls_model.specs.declared.row.NodeRow.{NodeRow};
-ghost use Rattle.pls_model.specs.Walk.{IsConnected};
+ghost use Rattle.pls_configuration.specs.declared.row.NodeRow.{NodeRow};
+ghost use Rattle.pls_configuration.specs.Walk.{IsConnected};
 ghost use Rattle.pls_scheme.specs.Theorem.{AreRightEverywhere, HoldEverywhere};
 ghost use Rattle.pls_universal.specs.declared.map.MapLabel.{MapLabel};
 ghost use Rattle.pls_universal.specs.Rules.{IsTestOf, map_rules, map_says, nodes_of};

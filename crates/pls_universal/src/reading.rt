@@ -5,9 +5,9 @@ ghost use Rattle.pls_numbers.specs.Taking.{many_off};
 ghost use Rattle.pls_universal.specs.Reading.{port_off, row_off};
 
 use crate::map::{MapRow, PortList};
-use pls_base::NoMemory;
 use pls_bits::NumCode;
 use pls_numbers::Numbers;
+use pls_streams::NoMemory;
 use std::alloc::Global;
 
 // `None` where fewer than `count` records can be read.

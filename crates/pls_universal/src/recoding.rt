@@ -8,9 +8,9 @@ ghost use Rattle.pls_universal.specs.Reading.{map_shape};
 use crate::deciding::has_map;
 use crate::format::MapFormat;
 use crate::verifying::parts;
-use pls_base::NoMemory;
 use pls_bits::{BitBuf, Bits, NumCode};
 use pls_numbers::recode;
+use pls_streams::NoMemory;
 use std::alloc::Global;
 
 /// The label that the bits are under the code `C`, written under the code `D`, or `None` where they

@@ -6,8 +6,8 @@ ghost use Rattle.pls_universal.specs.inner.Stating.{IsStated};
 use crate::building::network_of;
 use crate::map::MapRow;
 use crate::property_test::PropertyTest;
-use pls_base::NoMemory;
 use pls_graph::Network;
+use pls_streams::NoMemory;
 use std::alloc::Global;
 
 /// The connected network that a map states, and whether it has the property.

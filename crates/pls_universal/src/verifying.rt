@@ -1,7 +1,7 @@
 //! The verdict of a node on its view, where its map was read before.
 
 ghost use Rattle.std.specs.Prelude.{◌≡◌, Bool, List, Some, IfOk};
-ghost use Rattle.pls_model.specs.declared.row.NodeRow.{NodeRow};
+ghost use Rattle.pls_configuration.specs.declared.row.NodeRow.{NodeRow};
 ghost use Rattle.pls_numbers.specs.Shape.{said_by};
 ghost use Rattle.pls_scheme.specs.Reading.{judge_by};
 ghost use Rattle.pls_universal.specs.declared.map.MapLabel.{MapLabel};
@@ -13,13 +13,13 @@ ghost use Rattle.pls_universal.specs.inner.Verifying.{agreement, has_node, is_ca
 
 use crate::format::MapFormat;
 use crate::stating::StatedNetwork;
-use pls_base::NoMemory;
 use pls_bits::{Bits, NumCode};
+use pls_configuration::Verdict;
 use pls_graph::{Network, Port, State};
-use pls_model::Verdict;
+use pls_labels::{PortView, View};
 use pls_numbers::Format;
 use pls_scheme::judged_from;
-use pls_view::{PortView, View};
+use pls_streams::NoMemory;
 use std::alloc::Global;
 
 // `stated` is what the map in the node's own label states.

@@ -2,7 +2,7 @@
 
 ghost use Rattle.std.specs.Prelude.{◌≡◌, ◌<◌, ◌++◌, [], ℕ, List, length, slice_get, Some, IfOk, OnOk};
 ghost use Rattle.std.specs.List.{flat_map};
-ghost use Rattle.pls_model.specs.declared.row.NodeRow.{NodeRow};
+ghost use Rattle.pls_configuration.specs.declared.row.NodeRow.{NodeRow};
 ghost use Rattle.pls_numbers.specs.Numbers.{AreCoded, codes_of};
 ghost use Rattle.pls_numbers.specs.Shape.{IsSpelled};
 ghost use Rattle.pls_universal.specs.Map.{map_of, numbers_of_port, numbers_of_row, row_stated, up_stated};
@@ -11,10 +11,10 @@ ghost use Rattle.pls_universal.specs.Reading.{rows_shape};
 
 use crate::bound::maps_are_short;
 use crate::map::MapRow;
-use pls_base::NoMemory;
 use pls_bits::{BitBuf, NumCode};
 use pls_graph::{Network, Port};
 use pls_numbers::append_numbers;
+use pls_streams::NoMemory;
 use std::alloc::Global;
 
 // A port that a record states.

@@ -2,13 +2,13 @@
 use Rattle.std.proofs.Common.{◌≡◌, ◌≢◌, ◌∙◌, ℕ, zero, suc, ◌<◌, ◌≤◌, ◌==◌, Bool, true, false, cond, max, nat_le, List, [], ◌∷◌, ◌++◌, length, get_or, set, position, Option, Some, None, is_none, is_some, slice_get, option_map, option_and_then, inl, inr, refl, sym, ap, subst, arith}
 use Rattle.std.specs.Option.{IfSome, option_map_or}
 use Rattle.std.proofs.lemmas.Bool.{cases_lt, eqb-true, le-leb, lt-leb}
-use Rattle.pls_model.specs.declared.row.Port.{Port}
+use Rattle.pls_configuration.specs.declared.row.Port.{Port}
 use Rattle.pls_graph.specs.Places.{beside}
 use Rattle.pls_sim.proofs.Ends.{beside_length, end_at}
 use Rattle.pls_sim.proofs.Refusing.{At, at_place, first_refusal, no_emit, place_within}
 use Rattle.std.proofs.lemmas.Option.{slice_get_within}
-use Rattle.pls_model.specs.declared.row.NodeRow.{NodeRow}
-use Rattle.pls_model.specs.Configuration.{IsNetwork, first_of, ports_in}
+use Rattle.pls_configuration.specs.declared.row.NodeRow.{NodeRow}
+use Rattle.pls_configuration.specs.Configuration.{IsNetwork, first_of, ports_in}
 use Rattle.pls_graph.proofs.Beside.{one_place}
 use Rattle.pls_graph.proofs.Finds.{item_at}
 use Rattle.pls_graph.proofs.Placed.{place_of_row}

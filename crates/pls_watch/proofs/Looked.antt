@@ -3,15 +3,15 @@ use Rattle.std.proofs.Common.{◌≡◌, ◌≢◌, ◌∙◌, ℕ, zero, suc, �
 use Rattle.std.specs.Result.{IfOk}
 use Rattle.std.proofs.lemmas.Bool.{eq-eqb, eqb-true}
 use Rattle.std.proofs.lemmas.Option.{same_Some, slice_get-map, slice_get-get_or, slice_get_within}
-use Rattle.pls_model.specs.declared.row.Port.{Port}
-use Rattle.pls_model.specs.declared.row.NodeRow.{NodeRow}
-use Rattle.pls_model.specs.declared.verdict.Verdict.{Verdict}
-use Rattle.pls_model.specs.Configuration.{IsNetwork}
+use Rattle.pls_configuration.specs.declared.row.Port.{Port}
+use Rattle.pls_configuration.specs.declared.row.NodeRow.{NodeRow}
+use Rattle.pls_configuration.specs.declared.verdict.Verdict.{Verdict}
+use Rattle.pls_configuration.specs.Configuration.{IsNetwork}
 use Rattle.pls_graph.specs.Places.{beside}
 use Rattle.pls_graph.proofs.Beside.{beside_port}
 use Rattle.pls_graph.proofs.Placed.{names_another, place_of_row}
-use Rattle.pls_view.specs.Seen.{Seen, label_of, seen, seen_port}
-use Rattle.pls_view.proofs.Views.{label_at as label_placed}
+use Rattle.pls_labels.specs.Seen.{Seen, label_of, seen, seen_port}
+use Rattle.pls_labels.proofs.Views.{label_at as label_placed}
 use Rattle.pls_sim.specs.declared.outcome.Outcome.TheVariants.{Decided, Waiting}
 use Rattle.pls_sim.specs.Schedule.{has_heard, outcome_after, unheard, failing_from}
 use Rattle.pls_scheme.specs.Judging.{RoseByAtMost}

@@ -2,7 +2,7 @@
 use Rattle.std.proofs.Common.{◌≡◌, ◌≢◌, ◌∙◌, ℕ, suc, ◌<◌, ◌==◌, Bool, true, false, cond, max, List, [], ◌∷◌, ◌++◌, length, get_or, set, Some, slice_get, is_some, Option, None, refl, sym, ap, subst, arith, inl, inr}
 use Rattle.std.proofs.lemmas.Bool.{eqb-true, eqb-false}
 use Rattle.std.proofs.lemmas.List.{get_or-set_same, get_or-set_other, length-set}
-use Rattle.pls_model.specs.declared.row.NodeRow.{NodeRow}
+use Rattle.pls_configuration.specs.declared.row.NodeRow.{NodeRow}
 use Rattle.pls_schedule.specs.declared.event.Event.{Event}
 use Rattle.pls_schedule.specs.declared.event.Event.TheVariants.{Arrive}
 use Rattle.pls_sim.specs.Schedule.{Sent, emits_of, goes_to, has_heard}

@@ -4,8 +4,8 @@ use Rattle.std.proofs.lemmas.Grind.{flat_map-append}
 use Rattle.std.proofs.lemmas.List.{take-append-le}
 use Rattle.std.proofs.lemmas.Option.{same_Some, slice_get_within}
 use Rattle.std.proofs.Math.Seq.{take-append_seam}
-use Rattle.pls_model.specs.declared.row.NodeRow.{NodeRow}
-use Rattle.pls_model.specs.Configuration.{ports_in}
+use Rattle.pls_configuration.specs.declared.row.NodeRow.{NodeRow}
+use Rattle.pls_configuration.specs.Configuration.{ports_in}
 use Rattle.pls_sim.proofs.Heard.{get_kept}
 use Rattle.pls_watch.specs.declared.turn.Turn.{Turn}
 use Rattle.pls_watch.specs.declared.turn.Turn.TheVariants.{Plain, Relabel}

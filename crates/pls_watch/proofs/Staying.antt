@@ -4,10 +4,10 @@ use Rattle.std.specs.Option.{option_map_or}
 use Rattle.std.proofs.lemmas.Bool.{eqb-true}
 use Rattle.std.proofs.lemmas.Grind.{flat_map-append}
 use Rattle.std.proofs.lemmas.List.{get_or_append_left, map-append}
-use Rattle.pls_model.specs.declared.row.Port.{Port}
-use Rattle.pls_model.specs.declared.row.NodeRow.{NodeRow}
-use Rattle.pls_model.specs.declared.verdict.Verdict.{Verdict}
-use Rattle.pls_view.specs.Seen.{Seen, label_of, seen}
+use Rattle.pls_configuration.specs.declared.row.Port.{Port}
+use Rattle.pls_configuration.specs.declared.row.NodeRow.{NodeRow}
+use Rattle.pls_configuration.specs.declared.verdict.Verdict.{Verdict}
+use Rattle.pls_labels.specs.Seen.{Seen, label_of, seen}
 use Rattle.pls_sim.specs.Schedule.{has_heard, outcome_after, unheard, failing_from}
 use Rattle.pls_watch_part.specs.declared.watch_event.WatchEvent.{WatchEvent}
 use Rattle.pls_watch.specs.declared.turn.Turn.{Turn}

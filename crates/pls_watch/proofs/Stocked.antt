@@ -5,12 +5,12 @@ use Rattle.std.proofs.lemmas.Grind.{flat_map-append}
 use Rattle.std.proofs.lemmas.List.{get_or-set_same, get_or-set_other, length-set}
 use Rattle.std.proofs.lemmas.List.Sums.{sum_by_push}
 use Rattle.std.proofs.lemmas.Option.{slice_get_within}
-use Rattle.pls_model.specs.declared.row.NodeRow.{NodeRow}
-use Rattle.pls_model.specs.Configuration.{IsNetwork}
+use Rattle.pls_configuration.specs.declared.row.NodeRow.{NodeRow}
+use Rattle.pls_configuration.specs.Configuration.{IsNetwork}
 use Rattle.pls_graph.proofs.Placed.{place_of_row}
-use Rattle.pls_view.specs.Seen.{label_of}
-use Rattle.pls_view.specs.Stored.{Stored, cost}
-use Rattle.pls_view.proofs.Views.{label_at as label_placed}
+use Rattle.pls_labels.specs.Seen.{label_of}
+use Rattle.pls_labels.specs.Stored.{Stored, cost}
+use Rattle.pls_labels.proofs.Views.{label_at as label_placed}
 use Rattle.pls_schedule.specs.declared.event.Event.{Event}
 use Rattle.pls_schedule.specs.declared.event.Event.TheVariants.{Emit, Arrive, Restart}
 use Rattle.pls_watch_part.specs.declared.watch_event.WatchEvent.{WatchEvent}

@@ -1,6 +1,6 @@
 -- The ports of a node, walked one after another.
 use Rattle.std.proofs.Common.{◌≡◌, ◌∙◌, ℕ, ◌+◌, Bool, false, List, [], ◌∷◌, ◌++◌, drop, Some, slice_get, sym, append_assoc}
-use Rattle.pls_model.specs.declared.row.Port.{Port}
+use Rattle.pls_configuration.specs.declared.row.Port.{Port}
 use Rattle.pls_sim.specs.Schedule.{failing_from}
 use Rattle.pls_sim.proofs.Unheard.{adds_unheard}
 

@@ -1,9 +1,9 @@
 -- A network whose labels change while messages are under way.
 use Rattle.std.specs.Prelude.{ℕ, ◌+◌, ◌||◌, nat_le, nat_lt, Bool, false, List, [], ◌∷◌, ◌++◌, map, length, Option}
-use Rattle.pls_model.specs.declared.row.NodeRow.{NodeRow}
-use Rattle.pls_model.specs.declared.verdict.Verdict.{Verdict}
-use Rattle.pls_model.specs.Configuration.{first_of}
-use Rattle.pls_view.specs.Seen.{Seen, label_of}
+use Rattle.pls_configuration.specs.declared.row.NodeRow.{NodeRow}
+use Rattle.pls_configuration.specs.declared.verdict.Verdict.{Verdict}
+use Rattle.pls_configuration.specs.Configuration.{first_of}
+use Rattle.pls_labels.specs.Seen.{Seen, label_of}
 use Rattle.pls_sim.specs.declared.event_error.EventError.{EventError}
 use Rattle.pls_sim.specs.declared.event_error.EventError.TheVariants.{Full}
 use Rattle.pls_sim.specs.declared.outcome.Outcome.{Outcome}

@@ -4,8 +4,8 @@ ghost use Rattle.std.specs.Prelude.{◌≡◌, ◌≢◌, ◌<◌, ℕ, All, IfO
 ghost use Rattle.pls_graph.specs.Places.{beside};
 ghost use Rattle.pls_watch.specs.inner.Current.{AreLabelsNoted, IsMoreNoted, IsNoted, IsNotedAround, is_relabel, with_beside, with_held};
 
-use pls_base::NoMemory;
 use pls_graph::Network;
+use pls_streams::NoMemory;
 use pls_watch_part::WatchEvent;
 use std::alloc::Global;
 

@@ -1,7 +1,7 @@
 //! Which node a turn changes something for.
 
 ghost use Rattle.std.specs.Prelude.{◌≡◌, ◌≢◌, ◌<◌, ◌++◌, ◌∷◌, ℕ, [], false, length, slice_get, IfSome, Some};
-ghost use Rattle.pls_model.specs.declared.row.NodeRow.{NodeRow};
+ghost use Rattle.pls_configuration.specs.declared.row.NodeRow.{NodeRow};
 ghost use Rattle.pls_watch.specs.Versions.{held, relabels};
 
 use crate::turn::Turn;

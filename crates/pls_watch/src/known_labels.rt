@@ -4,7 +4,7 @@ ghost use Rattle.std.specs.Prelude.{◌≡◌, ◌<◌, All, length};
 ghost use Rattle.pls_watch.specs.inner.Known.{known_labels};
 
 use pls_bits::Bits;
-use pls_view::{LabelRoom, Labels};
+use pls_labels::{LabelRoom, Labels};
 use std::marker::Model;
 
 /// One label for each node, in the order of the nodes, each by its number in a store, and lent from

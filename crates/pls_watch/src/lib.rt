@@ -23,9 +23,9 @@ mod versions;
 mod watch;
 
 pub use lookout::Lookout;
-pub use pls_base::NoMemory;
 pub use pls_report::{LookRow, LookRows};
 pub use pls_sim::{EventError, Outcome, PortNumbers};
+pub use pls_streams::NoMemory;
 pub use pls_watch_part::WatchEvent;
 pub use turn::Turn;
 pub use watch::Watch;

@@ -1,7 +1,7 @@
 //! A watch with its looks.
 
 ghost use Rattle.std.specs.Prelude.{◌≡◌, ◌≢◌, ◌<◌, ℕ, length, slice_get, slice_set, IfErr, IfOk, None, OnErr, OnOk, Some};
-ghost use Rattle.pls_model.specs.declared.row.NodeRow.{NodeRow};
+ghost use Rattle.pls_configuration.specs.declared.row.NodeRow.{NodeRow};
 ghost use Rattle.pls_scheme.specs.Judging.{RoseByAtMost};
 ghost use Rattle.pls_watch.specs.Watching.{look_of, watch_refusal, watching};
 ghost use Rattle.pls_watch.specs.inner.Current.{IsRenewed};
@@ -9,10 +9,10 @@ ghost use Rattle.pls_watch.specs.inner.Known.{IsTable};
 
 use crate::change::{Change, forget, no_changes, note};
 use crate::watch::Watch;
-use pls_base::{NoMemory, Steps};
 use pls_report::{LookRow, LookRows};
 use pls_scheme::Checker;
 use pls_sim::EventError;
+use pls_streams::{NoMemory, Steps};
 use pls_watch_part::WatchEvent;
 use std::alloc::Global;
 use std::marker::Model;

@@ -1,9 +1,9 @@
 //! What has become of the nodes.
 
 ghost use Rattle.std.specs.Prelude.{◌≡◌, ◌≢◌, ◌<◌, ◌+◌, ℕ, [], length, slice_get, IfOk, IfSome, OnErr, OnOk, Some};
-ghost use Rattle.pls_model.specs.declared.row.NodeRow.{NodeRow};
-ghost use Rattle.pls_model.specs.declared.row.Port.{Port};
-ghost use Rattle.pls_view.specs.Seen.{seen};
+ghost use Rattle.pls_configuration.specs.declared.row.NodeRow.{NodeRow};
+ghost use Rattle.pls_configuration.specs.declared.row.Port.{Port};
+ghost use Rattle.pls_labels.specs.Seen.{seen};
 ghost use Rattle.pls_scheme.specs.Judging.{RoseByAtMost};
 ghost use Rattle.pls_sim.specs.Rising.{IsRising};
 ghost use Rattle.pls_sim.specs.Schedule.{unheard};
@@ -17,12 +17,12 @@ use crate::known_labels::KnownLabels;
 use crate::port_state::PortState;
 use crate::versions::noughts;
 use crate::watch::Watch;
-use pls_base::{NoMemory, Steps};
-use pls_model::Verdict;
+use pls_configuration::Verdict;
+use pls_labels::View;
 use pls_report::LookRow;
 use pls_scheme::Checker;
 use pls_sim::{Outcome, PortNumbers};
-use pls_view::View;
+use pls_streams::{NoMemory, Steps};
 use std::alloc::Global;
 
 impl<'n> Watch<'n> {

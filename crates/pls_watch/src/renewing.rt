@@ -9,10 +9,10 @@ ghost use Rattle.pls_watch.specs.inner.Known.{IsTable};
 use crate::change::Change;
 use crate::versions::noughts;
 use crate::watch::Watch;
-use pls_base::{NoMemory, Steps};
 use pls_report::LookRows;
 use pls_scheme::Checker;
 use pls_sim::PortNumbers;
+use pls_streams::{NoMemory, Steps};
 use std::alloc::Global;
 
 /// What a look needs for one node after another: the table of what the node knows, and the list of

@@ -2,8 +2,8 @@
 
 ghost use Rattle.std.specs.Prelude.{◌≡◌, ◌+◌, ◌*◌, ◌≤◌, ◌^◌, ◌++◌, [], length, replicate, IfOk};
 
-use pls_base::NoMemory;
-use pls_view::{LabelRoom, LabelStore};
+use pls_labels::{LabelRoom, LabelStore};
+use pls_streams::NoMemory;
 use std::alloc::Global;
 
 // The greatest number of bits for which room is asked, 2^61.

@@ -3,7 +3,7 @@
 ghost use Rattle.std.specs.Prelude.{◌≡◌, ◌<◌, ◌≤◌, ◌^◌, ◌++◌, ◌∷◌, [], length, replicate, slice_index_or, slice_set, IfOk};
 ghost use Rattle.pls_watch.specs.inner.Numbers.{ArePlaces};
 
-use pls_base::NoMemory;
+use pls_streams::NoMemory;
 use std::alloc::Global;
 use std::marker::Model;
 

@@ -2,9 +2,9 @@
 
 ghost use Rattle.std.specs.Prelude.{◌≡◌, ◌≢◌, ◌<◌, ◌≤◌, ℕ, [], cond, false, true, length, max, option_map, replicate, slice_get, IfErr, IfOk, IfSome, OnErr, OnOk, None, Some};
 ghost use Rattle.std.specs.List.{AllByRecursion};
-ghost use Rattle.pls_model.specs.declared.limits.TheConstants.{MAX_LINES};
-ghost use Rattle.pls_model.specs.declared.row.NodeRow.{NodeRow};
-ghost use Rattle.pls_model.specs.declared.row.Port.{Port};
+ghost use Rattle.pls_configuration.specs.declared.limits.TheConstants.{MAX_LINES};
+ghost use Rattle.pls_configuration.specs.declared.row.NodeRow.{NodeRow};
+ghost use Rattle.pls_configuration.specs.declared.row.Port.{Port};
 ghost use Rattle.pls_sim.specs.Applying.{names_no_node, names_no_port};
 ghost use Rattle.pls_sim.specs.Schedule.{emits_of};
 ghost use Rattle.pls_sim.specs.inner.Kept.{NamesEmit};
@@ -15,10 +15,10 @@ ghost use Rattle.pls_watch.specs.inner.Numbers.{IsLabel, IsOneOf};
 
 use crate::turn::Turn;
 use crate::version_list::VersionList;
-use pls_base::NoMemory;
 use pls_graph::Network;
 use pls_schedule::Event;
 use pls_sim::{EventError, Sim};
+use pls_streams::NoMemory;
 use std::alloc::Global;
 use std::marker::Model;
 

@@ -1,10 +1,10 @@
 //! A network whose labels change while messages are under way.
 
 ghost use Rattle.std.specs.Prelude.{◌≡◌, ◌≢◌, ◌<◌, ◌≤◌, ℕ, Bool, List, [], false, length, map, slice_get, IfErr, IfOk, IfSome, None, OnErr, OnOk, Some, option_map};
-ghost use Rattle.pls_model.specs.declared.limits.TheConstants.{MAX_BITS, MAX_LINES};
-ghost use Rattle.pls_model.specs.declared.row.NodeRow.{NodeRow};
-ghost use Rattle.pls_model.specs.declared.row.Port.{Port};
-ghost use Rattle.pls_model.specs.Configuration.{IsNetwork};
+ghost use Rattle.pls_configuration.specs.declared.limits.TheConstants.{MAX_BITS, MAX_LINES};
+ghost use Rattle.pls_configuration.specs.declared.row.NodeRow.{NodeRow};
+ghost use Rattle.pls_configuration.specs.declared.row.Port.{Port};
+ghost use Rattle.pls_configuration.specs.Configuration.{IsNetwork};
 ghost use Rattle.pls_watch_part.specs.WatchText.{watch_event};
 ghost use Rattle.pls_watch.specs.Labelled.{turn_of, turns_of};
 ghost use Rattle.pls_watch.specs.Turning.{IsNotBack, restarts_in};
@@ -15,12 +15,12 @@ ghost use Rattle.pls_watch.specs.Watching.{lacks_room, version_of_label, watch_r
 use crate::stock::stock_of;
 use crate::turn::Turn;
 use crate::versions::Versions;
-use pls_base::NoMemory;
 use pls_bits::{BitBuf, Bits};
 use pls_graph::Network;
+use pls_labels::{LabelRoom, LabelStore};
 use pls_schedule::Event;
 use pls_sim::EventError;
-use pls_view::{LabelRoom, LabelStore};
+use pls_streams::NoMemory;
 use pls_watch_part::WatchEvent;
 use std::alloc::Global;
 use std::marker::Model;

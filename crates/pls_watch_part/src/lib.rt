@@ -13,8 +13,8 @@ mod watch_read;
 mod watch_text;
 mod watch_words;
 
-pub use pls_base::NoMemory;
-pub use pls_model::{MAX_LINES, MAX_ROUNDS};
+pub use pls_configuration::{MAX_LINES, MAX_ROUNDS};
+pub use pls_streams::NoMemory;
 pub use watch_event::{WatchEvent, WatchLine};
 pub use watch_read::ReadWatch;
 pub use watch_text::{WatchText, scan_watch};

@@ -8,9 +8,9 @@ ghost use Rattle.pls_watch_part.specs.declared.watch_event.WatchLine.{WatchLine}
 use crate::watch_event::WatchLine;
 use crate::watch_text::WatchText;
 use crate::watch_words::{WatchWord, WatchWords};
-use pls_base::TextError;
 use pls_closing::ClosingTally;
 use pls_lines::{Lines, Part, ReadOnce, keep_list};
+use pls_streams::TextError;
 use std::alloc::Global;
 use std::marker::Model;
 

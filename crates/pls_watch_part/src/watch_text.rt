@@ -8,9 +8,9 @@ ghost use Rattle.pls_watch_part.specs.declared.watch_event.WatchLine.{WatchLine}
 
 use crate::watch_event::WatchLine;
 use crate::watch_words::{WatchWord, WatchWords};
-use pls_base::TextError;
 use pls_closing::{ClosingTally, check_limits};
 use pls_lines::{Lines, ListText, Part, scan};
+use pls_streams::TextError;
 use std::alloc::Global;
 use std::marker::Model;
 
@@ -93,8 +93,8 @@ impl<'a> WatchText<'a> {
 
     /// The events and looks, in the order of their lines.
     ///
-    /// `Limit(Events)` where there are more lines than [`MAX_LINES`](pls_model::MAX_LINES), else
-    /// `Limit(Rounds)` where there are more looks than [`MAX_ROUNDS`](pls_model::MAX_ROUNDS),
+    /// `Limit(Events)` where there are more lines than [`MAX_LINES`](pls_configuration::MAX_LINES), else
+    /// `Limit(Rounds)` where there are more looks than [`MAX_ROUNDS`](pls_configuration::MAX_ROUNDS),
     /// before any memory is taken; `NoMemory` for want of memory.
     pub fn list(&self, alloc: Global) -> Result<Vec<WatchLine>, TextError>
         ensures ok { (lines : List WatchLine) → TellsWatch self.now.text lines

@@ -5,11 +5,11 @@ ghost use Rattle.pls_labelfile.specs.LabelsText.{FitsLabel, NamedLabel, label_li
 ghost use Rattle.pls_watch_part.specs.WatchText.{FitsWatch, bits_of, is_look, watch_line};
 
 use crate::watch_event::{WatchEvent, WatchLine};
-use pls_base::NoMemory;
 use pls_closing::{ClosingLine, OwnLine};
 use pls_labelfile::LabelLine;
 use pls_lines::{HeadingWord, LineKind, after_byte, after_line};
 use pls_schedule::Event;
+use pls_streams::NoMemory;
 use std::alloc::Global;
 use std::marker::Model;
 

@@ -6,14 +6,14 @@ mod texts;
 
 ghost use Rattle.std.specs.Prelude.{◌≡◌, IfOk, length};
 
-use pls_base::{Steps, TextError};
+use pls_configuration::Verdict;
 use pls_graph::Network;
 use pls_labelfile::read_labels;
-use pls_model::Verdict;
+use pls_labels::LabelStore;
 use pls_netfile::read_network;
 use pls_scheme::Checker;
 use pls_sim::Outcome;
-use pls_view::LabelStore;
+use pls_streams::{Steps, TextError};
 use pls_watch::Lookout;
 use std::alloc::Global;
 use std::test::Fail;

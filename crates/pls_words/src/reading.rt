@@ -10,8 +10,8 @@ ghost use Rattle.pls_words.specs.inner.Parser.{HasWords, parser};
 use crate::command_words::{CommandWords, Flag};
 use clap::error::ErrorKind;
 use clap::{Arg, ArgAction, ArgMatches, Command, Error};
-use pls_base::NoMemory;
 use pls_bits::CodeName;
+use pls_streams::NoMemory;
 use std::alloc::{AllocError, Global};
 
 // The most words that say something: two, and `--code` with its name.

@@ -1,9 +1,9 @@
 -- Why a run ends as it does, at the calls below the public one.
 use Rattle.std.specs.Prelude.{◌≡◌, ◌⊎◌, ℕ, List, Option, ⊤}
 use Rattle.std.specs.Io.KnownBytes.{Appends}
-use Rattle.pls_base.specs.Streams.{AppendsPart, Rose}
-use Rattle.pls_model.specs.declared.status.Status.{Status}
-use Rattle.pls_model.specs.declared.status.Status.TheVariants.{Done, No, Usage, Refused, ReadFault, WriteFault, NoMemory, Limit}
+use Rattle.pls_streams.specs.Streams.{AppendsPart, Rose}
+use Rattle.pls_configuration.specs.declared.status.Status.{Status}
+use Rattle.pls_configuration.specs.declared.status.Status.TheVariants.{Done, No, Usage, Refused, ReadFault, WriteFault, NoMemory, Limit}
 
 -- a run that comes to no answer before it writes: a fault of the source, whose count rose, or want
 -- of memory

@@ -1,8 +1,8 @@
 -- How the looks of a watch come about, line by line.
 use Rattle.std.specs.Prelude.{◌≡◌, ℕ, ◌+◌, ◌≤◌, Bool, List, [], ◌∷◌, length}
-use Rattle.pls_model.specs.declared.row.NodeRow.{NodeRow}
-use Rattle.pls_model.specs.declared.verdict.Verdict.{Verdict}
-use Rattle.pls_view.specs.Seen.{Seen}
+use Rattle.pls_configuration.specs.declared.row.NodeRow.{NodeRow}
+use Rattle.pls_configuration.specs.declared.verdict.Verdict.{Verdict}
+use Rattle.pls_labels.specs.Seen.{Seen}
 use Rattle.pls_sim.specs.declared.outcome.Outcome.{Outcome}
 use Rattle.pls_watch_part.specs.declared.watch_event.WatchEvent.{WatchEvent}
 use Rattle.pls_watch_part.specs.declared.watch_event.WatchLine.{WatchLine}

@@ -1,9 +1,9 @@
 -- The edges that leave fragments, as the method compares them.
 use Rattle.std.specs.Prelude.{◌≡◌, ◌≢◌, ℕ, ◌<◌, ◌⊎◌, min, max, if◌then◌else◌, List, length, Contains, Option, Some, None, slice_get, slice_index_or}
 use Rattle.std.specs.Option.{is_some}
-use Rattle.pls_model.specs.declared.row.Port.{Port}
-use Rattle.pls_model.specs.declared.row.NodeRow.{NodeRow}
-use Rattle.pls_model.specs.Walk.{Edge}
+use Rattle.pls_configuration.specs.declared.row.Port.{Port}
+use Rattle.pls_configuration.specs.declared.row.NodeRow.{NodeRow}
+use Rattle.pls_configuration.specs.Walk.{Edge}
 use Rattle.pls_graph.specs.Places.{place_in}
 use Rattle.pls_facts.specs.EdgeOrder.{edge_key}
 use Rattle.pls_facts.specs.Precedes.{IsAtMost}

@@ -1,7 +1,7 @@
 -- What a level says of each node, and which pointers its edges join.
 use Rattle.std.specs.Prelude.{◌≡◌, ◌≢◌, ℕ, ◌<◌, ◌⊎◌, ◌↔◌, Bool, true, false, List, length, map, Option, Some, None, slice_get, slice_index_or}
 use Rattle.std.specs.List.{range_with_len}
-use Rattle.pls_model.specs.declared.row.NodeRow.{NodeRow}
+use Rattle.pls_configuration.specs.declared.row.NodeRow.{NodeRow}
 use Rattle.pls_boruvka.specs.declared.choice.Choice.{Choice}
 use Rattle.pls_boruvka.specs.declared.joining.ChosenEnd.{ChosenEnd}
 use Rattle.pls_boruvka.specs.declared.level.Level.{Level}

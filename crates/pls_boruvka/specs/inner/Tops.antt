@@ -1,7 +1,7 @@
 -- The places where chains of joined pointers end.
 use Rattle.std.specs.Prelude.{◌≡◌, ℕ, ◌+◌, ◌<◌, ◌≤◌, Bool, false, if◌then◌else◌, IfSome, List, length, Option, Some, None, slice_get, slice_index_or}
-use Rattle.pls_model.specs.declared.row.NodeRow.{NodeRow}
-use Rattle.pls_model.specs.Path.{Path}
+use Rattle.pls_configuration.specs.declared.row.NodeRow.{NodeRow}
+use Rattle.pls_configuration.specs.Path.{Path}
 use Rattle.pls_search.specs.PointedPlace.{PointsTo}
 
 -- what stands at each place of a list is right for that place

@@ -1,8 +1,8 @@
 -- The parents that are left in the pieces of a level, by places.
 use Rattle.std.specs.Prelude.{◌≡◌, ℕ, ◌+◌, ◌<◌, ◌⊎◌, List, length, slice_get, Option}
 use Rattle.std.specs.Option.{option_map_or}
-use Rattle.pls_model.specs.declared.row.NodeRow.{NodeRow}
-use Rattle.pls_model.specs.Walk.{Edge, Adjacent}
+use Rattle.pls_configuration.specs.declared.row.NodeRow.{NodeRow}
+use Rattle.pls_configuration.specs.Walk.{Edge, Adjacent}
 use Rattle.pls_search.specs.SubtreeSizes.{HasParentAt}
 
 -- the identity at a place

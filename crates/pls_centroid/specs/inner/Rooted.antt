@@ -1,9 +1,9 @@
 -- A tree of pointers by places, and what is left of it on a level.
 use Rattle.std.specs.Prelude.{◌≡◌, ℕ, ◌<◌, ◌≤◌, ◌⊎◌, ◌||◌, Bool, true, false, if◌then◌else◌, List, length, slice_get, slice_index_or, Contains, Option, Some, None}
 use Rattle.std.specs.Option.{option_and_then, option_map_or}
-use Rattle.pls_model.specs.declared.row.NodeRow.{NodeRow}
-use Rattle.pls_model.specs.Configuration.{IsNetwork, ids_of}
-use Rattle.pls_model.specs.Walk.{Edge}
+use Rattle.pls_configuration.specs.declared.row.NodeRow.{NodeRow}
+use Rattle.pls_configuration.specs.Configuration.{IsNetwork, ids_of}
+use Rattle.pls_configuration.specs.Walk.{Edge}
 use Rattle.pls_facts.specs.Parents.{ChainMeets}
 use Rattle.pls_facts.specs.Pointer.{pointed_node, pointed_port}
 use Rattle.pls_facts.specs.SpanningTree.{IsTree, pointed_edges}

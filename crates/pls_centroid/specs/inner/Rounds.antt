@@ -1,9 +1,9 @@
 -- What the rounds say that find one level after another, by places.
 use Rattle.std.specs.Prelude.{◌≡◌, ℕ, zero, suc, ◌==◌, ◌||◌, Bool, true, false, if◌then◌else◌, List, [], ◌∷◌, length, map, slice_get, slice_index_or, Contains, Option, Some, None}
 use Rattle.std.specs.Option.{option_map_or}
-use Rattle.pls_model.specs.declared.row.NodeRow.{NodeRow}
-use Rattle.pls_model.specs.Configuration.{IsNetwork, ids_of}
-use Rattle.pls_model.specs.Walk.{Edge}
+use Rattle.pls_configuration.specs.declared.row.NodeRow.{NodeRow}
+use Rattle.pls_configuration.specs.Configuration.{IsNetwork, ids_of}
+use Rattle.pls_configuration.specs.Walk.{Edge}
 use Rattle.pls_facts.specs.Pointer.{Falls}
 use Rattle.pls_facts.specs.SpanningTree.{IsTree, pointed_edges}
 use Rattle.pls_centroid.specs.Centroid.{is_centroid, next_edges}

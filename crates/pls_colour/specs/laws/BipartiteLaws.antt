@@ -1,9 +1,9 @@
 -- The theorem of the scheme of two-colourings.
 use Rattle.std.proofs.Common.{◌≡◌, ◌≢◌, ◌∙◌, ℕ, ◌≤◌, Bool, true, false, List, Contains, Some, slice_get, refl, sym, ap, subst, arith}
 use Rattle.pls_bits.specs.Bytes.{weigh}
-use Rattle.pls_model.specs.declared.row.Port.{Port}
-use Rattle.pls_model.specs.declared.row.NodeRow.{NodeRow}
-use Rattle.pls_model.specs.Walk.{edges_of}
+use Rattle.pls_configuration.specs.declared.row.Port.{Port}
+use Rattle.pls_configuration.specs.declared.row.NodeRow.{NodeRow}
+use Rattle.pls_configuration.specs.Walk.{edges_of}
 use Rattle.pls_graph.specs.Levels.{IsLevel}
 use Rattle.pls_scheme.specs.Reading.{port_where}
 use Rattle.pls_scheme.specs.Basic.{longest_by}

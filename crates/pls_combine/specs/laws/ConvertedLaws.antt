@@ -7,9 +7,9 @@ use Rattle.std.proofs.lemmas.List.Elements.{All-head, All-map, All-tail}
 use Rattle.std.proofs.lemmas.List.Folds.{list_all-map}
 use Rattle.std.proofs.lemmas.List.Sums.{AllPass-from_list_all, list_all-from_AllPass}
 use Rattle.pls_bits.specs.declared.num_code.TheConstants.{MAX_CODED}
-use Rattle.pls_model.specs.declared.verdict.Verdict.{Verdict}
-use Rattle.pls_model.specs.declared.verdict.Verdict.TheVariants.{Reject}
-use Rattle.pls_view.specs.Seen.{EachFits, Seen, SeenPort, narrow_by, narrow_port}
+use Rattle.pls_configuration.specs.declared.verdict.Verdict.{Verdict}
+use Rattle.pls_configuration.specs.declared.verdict.Verdict.TheVariants.{Reject}
+use Rattle.pls_labels.specs.Seen.{EachFits, Seen, SeenPort, narrow_by, narrow_port}
 use Rattle.pls_numbers.specs.Shape.{recoded}
 use Rattle.pls_universal.specs.Reading.{map_shape}
 use Rattle.pls_universal.specs.Rules.{map_rules}

@@ -2,17 +2,17 @@
 use Rattle.std.proofs.Common.{◌≡◌, ◌∙◌, ℕ, ◌==◌, Bool, List, [], ◌∷◌, length, map, position, get_or, Some, option_map, All, refl, sym, ap}
 use Rattle.std.specs.Prelude.{slice_get}
 use Rattle.std.proofs.lemmas.Option.{slice_get-map}
-use Rattle.pls_model.specs.declared.row.NodeRow.{NodeRow}
-use Rattle.pls_model.specs.declared.row.Port.{Port}
-use Rattle.pls_model.specs.Configuration.{IsNetwork}
+use Rattle.pls_configuration.specs.declared.row.NodeRow.{NodeRow}
+use Rattle.pls_configuration.specs.declared.row.Port.{Port}
+use Rattle.pls_configuration.specs.Configuration.{IsNetwork}
 use Rattle.pls_graph.specs.Places.{beside}
 use Rattle.pls_graph.proofs.Beside.{beside_port}
 use Rattle.pls_graph.proofs.Placed.{place_of_row}
 use Rattle.pls_graph.proofs.Members.{Contains-from_place}
 use Rattle.pls_graph.proofs.Ranged.{map_same}
-use Rattle.pls_view.specs.Seen.{EachFits, Seen, label_of, narrow_by, narrow_port, seen, seen_port, views}
-use Rattle.pls_view.proofs.Narrowed.{seen_fits}
-use Rattle.pls_view.proofs.Views.{label_at, label_stands}
+use Rattle.pls_labels.specs.Seen.{EachFits, Seen, label_of, narrow_by, narrow_port, seen, seen_port, views}
+use Rattle.pls_labels.proofs.Narrowed.{seen_fits}
+use Rattle.pls_labels.proofs.Views.{label_at, label_stands}
 
 module _ (rows : List NodeRow) (net : IsNetwork rows) (labels : List (List Bool))
     (each : length labels ≡ length rows) (change : List Bool → List Bool) where

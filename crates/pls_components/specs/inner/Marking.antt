@@ -1,10 +1,10 @@
 -- What is known while one component after the other is marked.
 use Rattle.std.specs.Prelude.{◌≡◌, ◌⊎◌, ℕ, ◌+◌, ◌*◌, ◌<◌, Bool, true, false, List, Contains, Some, length, slice_get}
-use Rattle.pls_model.specs.declared.row.NodeRow.{NodeRow}
-use Rattle.pls_model.specs.declared.verdict.Verdict.{Verdict}
+use Rattle.pls_configuration.specs.declared.row.NodeRow.{NodeRow}
+use Rattle.pls_configuration.specs.declared.verdict.Verdict.{Verdict}
 use Rattle.pls_graph.specs.declared.size.Size.{Size}
-use Rattle.pls_view.specs.Labels.{bits_together}
-use Rattle.pls_view.specs.Seen.{Seen}
+use Rattle.pls_labels.specs.Labels.{bits_together}
+use Rattle.pls_labels.specs.Seen.{Seen}
 use Rattle.pls_scheme.specs.Judging.{AllAccept}
 use Rattle.pls_components.specs.Components.{NumbersRise, items_at, least_id}
 use Rattle.pls_components.specs.Parts.{AreWithinBound}

@@ -1,7 +1,7 @@
 -- The ports that lead from the nodes nearer to one end of an edge to the others.
 use Rattle.std.specs.Prelude.{◌≡◌, ℕ, ◌<◌, nat_lt, ◌==◌, Bool, true, false, not, ◌&&◌, ◌||◌, List, length, Contains, slice_get, Option, Some, None}
-use Rattle.pls_model.specs.declared.row.NodeRow.{NodeRow}
-use Rattle.pls_model.specs.Walk.{AreJoined, Edge, Joins, edges_of}
+use Rattle.pls_configuration.specs.declared.row.NodeRow.{NodeRow}
+use Rattle.pls_configuration.specs.Walk.{AreJoined, Edge, Joins, edges_of}
 use Rattle.pls_graph.specs.Places.{beside}
 use Rattle.pls_diameter_bridges.specs.Bridgeless.{without}
 

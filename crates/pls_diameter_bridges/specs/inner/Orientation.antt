@@ -2,7 +2,7 @@
 -- from the first to each.
 use Rattle.std.specs.Prelude.{◌≡◌, ℕ, ◌<◌, ◌≤◌, nat_lt, ◌==◌, Bool, true, not, ◌&&◌, ◌||◌, List, length, slice_get, Option, Some, None}
 use Rattle.std.specs.List.{list_any}
-use Rattle.pls_model.specs.declared.row.NodeRow.{NodeRow}
+use Rattle.pls_configuration.specs.declared.row.NodeRow.{NodeRow}
 use Rattle.pls_graph.specs.Places.{beside}
 
 -- a number that is listed; 0 where there is none

@@ -1,7 +1,7 @@
 -- What is said of the walks from one node.
 use Rattle.std.specs.Prelude.{◌≡◌, ℕ, nat_le, Bool, false, List, Contains, slice_get, Option, Some, None}
-use Rattle.pls_model.specs.declared.row.NodeRow.{NodeRow}
-use Rattle.pls_model.specs.Walk.{edges_of}
+use Rattle.pls_configuration.specs.declared.row.NodeRow.{NodeRow}
+use Rattle.pls_configuration.specs.Walk.{edges_of}
 use Rattle.pls_diameter_bridges.specs.Diameter.{AreWithin}
 
 -- the level is found, and at most this

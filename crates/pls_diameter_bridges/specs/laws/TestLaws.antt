@@ -2,9 +2,9 @@
 use Rattle.std.proofs.Common.{◌≡◌, ◌∙◌, ℕ, zero, suc, ◌≤◌, ◌==◌, ◌&&◌, ◌||◌, ◌↔◌, inl, inr, Bool, true, List, [], ◌∷◌, length, Contains, refl, ap, arith}
 use Rattle.std.specs.List.{list_all}
 use Rattle.std.proofs.lemmas.Bool.{and_from, and_parts, eq-eqb, eqb-true, or_cases, or_left, or_right}
-use Rattle.pls_model.specs.declared.row.NodeRow.{NodeRow}
-use Rattle.pls_model.specs.Configuration.{ids_of}
-use Rattle.pls_model.specs.Walk.{Adjacent, Edge, JoinAll, Walk, edges_of}
+use Rattle.pls_configuration.specs.declared.row.NodeRow.{NodeRow}
+use Rattle.pls_configuration.specs.Configuration.{ids_of}
+use Rattle.pls_configuration.specs.Walk.{Adjacent, Edge, JoinAll, Walk, edges_of}
 use Rattle.pls_facts.specs.Classes.{class_of, joins_all}
 use Rattle.pls_facts.proofs.Classes.{class-joined, joined-class}
 use Rattle.pls_facts.proofs.Lists.{all_pass, any_passes, each_passes, passes_any}

@@ -1,8 +1,8 @@
 -- Whether distances that were found follow the pointers, and labels made of them.
 use Rattle.std.specs.Prelude.{◌≡◌, ℕ, ◌+◌, List, length, get_or, slice_get, slice_index_or, Option, Some, None}
 use Rattle.std.specs.Option.{unwrap_or}
-use Rattle.pls_model.specs.declared.row.Port.{Port}
-use Rattle.pls_model.specs.declared.row.NodeRow.{NodeRow}
+use Rattle.pls_configuration.specs.declared.row.Port.{Port}
+use Rattle.pls_configuration.specs.declared.row.NodeRow.{NodeRow}
 use Rattle.pls_graph.specs.Places.{place_in}
 use Rattle.pls_distance.specs.declared.spt.SptLabel.{SptLabel}
 use Rattle.pls_distance.specs.inner.Saying.{far_says}

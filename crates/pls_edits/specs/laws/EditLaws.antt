@@ -4,7 +4,7 @@ use Rattle.std.specs.List.{AllByRecursion, list_all}
 use Rattle.std.specs.Str.{bytes_eq}
 use Rattle.std.specs.Str.Parse.{digits_value}
 use Rattle.std.proofs.lemmas.Slice.Eq.{bytes_eq-Decides}
-use Rattle.pls_model.specs.declared.limits.TheConstants.{MAX_NUM}
+use Rattle.pls_configuration.specs.declared.limits.TheConstants.{MAX_NUM}
 use Rattle.pls_lines.specs.Counted.{IsHeadingWord}
 use Rattle.pls_lines.specs.LineKind.{Always, IsLineKind, alone}
 use Rattle.pls_lines.specs.ListPart.{IsListKind}

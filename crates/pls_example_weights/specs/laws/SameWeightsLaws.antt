@@ -10,9 +10,9 @@ use Rattle.pls_numbers.specs.Fixed.{so_many}
 use Rattle.pls_numbers.specs.Numbers.{NumbersLeft, with_number}
 use Rattle.pls_numbers.specs.Shape.{AreItsNumbers, if_clean}
 use Rattle.pls_numbers.specs.laws.FixedLaws.{so_many-all, so_many-only}
-use Rattle.pls_model.specs.declared.row.NodeRow.{NodeRow}
-use Rattle.pls_model.specs.declared.row.Port.{Port}
-use Rattle.pls_model.specs.Configuration.{IsNetwork}
+use Rattle.pls_configuration.specs.declared.row.NodeRow.{NodeRow}
+use Rattle.pls_configuration.specs.declared.row.Port.{Port}
+use Rattle.pls_configuration.specs.Configuration.{IsNetwork}
 use Rattle.pls_scheme.specs.Basic.{longest_by}
 use Rattle.pls_scheme.specs.Reading.{ReadPort, port_where}
 use Rattle.pls_scheme.specs.Theorem.{HoldEverywhere, OneIsRight, RightFits, RulesAreMet, RulesShow}
@@ -23,7 +23,7 @@ use Rattle.pls_facts.proofs.Pointed.{id_of_row}
 use Rattle.pls_facts.proofs.Greatest.{in_greatest}
 use Rattle.pls_graph.specs.Size.{greatest, weights_of}
 use Rattle.pls_graph.proofs.Members.{Contains-flat_map, Contains-from_place, Contains-map}
-use Rattle.pls_base.specs.Steps.{capped}
+use Rattle.pls_streams.specs.Steps.{capped}
 use Rattle.pls_bits.specs.declared.num_code.TheConstants.{MAX_CODED}
 use Rattle.pls_scheme.specs.Length.{codes_length}
 use Rattle.pls_scheme.specs.Marked.{Fits}

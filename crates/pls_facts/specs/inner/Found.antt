@@ -1,7 +1,7 @@
 -- What the search for the one node that passes a test has found.
 use Rattle.std.specs.Prelude.{◌≡◌, ℕ, Bool, List, Option, Some, None}
-use Rattle.pls_model.specs.declared.row.State.{State}
-use Rattle.pls_model.specs.declared.row.NodeRow.{NodeRow}
+use Rattle.pls_configuration.specs.declared.row.State.{State}
+use Rattle.pls_configuration.specs.declared.row.NodeRow.{NodeRow}
 use Rattle.pls_facts.specs.OnlyNode.{IsOnly, passing}
 
 -- the one that passes, or that there is none

@@ -1,6 +1,6 @@
 -- Edges between nodes.
 use Rattle.std.specs.Prelude.{ℕ, List, Contains}
-use Rattle.pls_model.specs.Walk.{Edge}
+use Rattle.pls_configuration.specs.Walk.{Edge}
 use Rattle.pls_facts.specs.SpanningTree.{AreDistinct}
 
 -- the nodes differ, and each edge joins two of them

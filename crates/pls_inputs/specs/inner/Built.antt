@@ -1,9 +1,9 @@
 -- What was built of the texts that were scanned.
 use Rattle.std.specs.Prelude.{◌≡◌, ℕ, ◌+◌, Bool, List, map, Option, Some, None, ⊤}
-use Rattle.pls_base.specs.declared.text_error.TextError.{TextError}
-use Rattle.pls_base.specs.declared.text_error.TextError.TheVariants.{NoMemory}
-use Rattle.pls_model.specs.declared.row.NodeRow.{NodeRow}
-use Rattle.pls_model.specs.Configuration.{IsNetwork, ids_of}
+use Rattle.pls_streams.specs.declared.text_error.TextError.{TextError}
+use Rattle.pls_streams.specs.declared.text_error.TextError.TheVariants.{NoMemory}
+use Rattle.pls_configuration.specs.declared.row.NodeRow.{NodeRow}
+use Rattle.pls_configuration.specs.Configuration.{IsNetwork, ids_of}
 use Rattle.pls_netfile.specs.NetworkBuild.{IsRefusedBuild}
 use Rattle.pls_netfile.specs.NetworkScan.{TellsNetwork, WrittenNetwork}
 use Rattle.pls_bits.specs.declared.code_name.CodeName.{CodeName}

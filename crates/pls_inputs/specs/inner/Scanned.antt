@@ -1,15 +1,15 @@
 -- What was scanned of an input.
 use Rattle.std.specs.Prelude.{◌≡◌, ℕ, ◌+◌, Bool, true, false, List, [], ◌∷◌, Option, Some, None, ⊤}
-use Rattle.pls_base.specs.declared.text_error.TextError.{TextError}
-use Rattle.pls_base.specs.declared.text_error.Quantity.TheVariants.{Nodes, Ports, Bits, Events, Rounds}
-use Rattle.pls_model.specs.declared.limits.TheConstants.{MAX_BITS, MAX_LINES, MAX_NODES, MAX_PORTS, MAX_ROUNDS}
+use Rattle.pls_streams.specs.declared.text_error.TextError.{TextError}
+use Rattle.pls_streams.specs.declared.text_error.Quantity.TheVariants.{Nodes, Ports, Bits, Events, Rounds}
+use Rattle.pls_configuration.specs.declared.limits.TheConstants.{MAX_BITS, MAX_LINES, MAX_NODES, MAX_PORTS, MAX_ROUNDS}
 use Rattle.pls_lines.specs.Counted.{counted}
 use Rattle.pls_lines.specs.Lines.{Left}
 use Rattle.pls_lines.specs.Text.{text_of}
 use Rattle.pls_netfile.specs.NetworkScan.{TellsNetwork}
 use Rattle.pls_labelfile.specs.LabelsText.{Labelling}
 use Rattle.pls_labelfile.specs.LabelsScan.{TellsLabels, WrittenLabels, total_bits}
-use Rattle.pls_base.specs.Steps.{capped}
+use Rattle.pls_streams.specs.Steps.{capped}
 use Rattle.pls_schedule.specs.declared.event.Event.{Event}
 use Rattle.pls_schedule.specs.ScheduleText.{TellsSchedule, WrittenSchedule}
 use Rattle.pls_edits.specs.declared.edit_line.EditLine.{EditLine}

@@ -2,7 +2,7 @@
 use Rattle.std.specs.Prelude.{List}
 use Rattle.pls_labelfile.specs.LabelsText.{NamedLabel}
 use Rattle.pls_labelfile.specs.LabelsScan.{total_bits}
-use Rattle.pls_base.specs.Steps.{capped}
+use Rattle.pls_streams.specs.Steps.{capped}
 use Rattle.pls_labelfile.specs.declared.labels_tally.LabelsTally.{LabelsTally}
 
 -- the bits of all labels

@@ -1,6 +1,6 @@
 -- The first of the places beside one that are a level nearer.
 use Rattle.std.specs.Prelude.{◌≡◌, ℕ, ◌+◌, ◌≤◌, ◌==◌, min, Bool, true, false, List, length, slice_get, slice_index_or, Contains, Option, Some, None}
-use Rattle.pls_model.specs.declared.row.NodeRow.{NodeRow}
+use Rattle.pls_configuration.specs.declared.row.NodeRow.{NodeRow}
 use Rattle.pls_graph.specs.Places.{beside}
 
 -- one place is a level nearer than another

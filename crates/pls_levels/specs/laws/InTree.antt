@@ -4,10 +4,10 @@ use Rattle.std.proofs.Common.{◌≡◌, ◌∙◌, ℕ, ◌==◌, inl, inr, Boo
 use Rattle.std.specs.Option.{option_and_then}
 use Rattle.std.proofs.lemmas.Bool.{eq-eqb, eqb-true, or_cases, or_left, or_right}
 use Rattle.std.proofs.lemmas.Option.{option_and_then_some, same_Some}
-use Rattle.pls_model.specs.declared.row.Port.{Port}
-use Rattle.pls_model.specs.declared.row.NodeRow.{NodeRow}
-use Rattle.pls_model.specs.Configuration.{IsNetwork, port_to}
-use Rattle.pls_model.specs.Walk.{Adjacent}
+use Rattle.pls_configuration.specs.declared.row.Port.{Port}
+use Rattle.pls_configuration.specs.declared.row.NodeRow.{NodeRow}
+use Rattle.pls_configuration.specs.Configuration.{IsNetwork, port_to}
+use Rattle.pls_configuration.specs.Walk.{Adjacent}
 use Rattle.pls_graph.proofs.Members.{Contains-from_place, place_from_Contains}
 use Rattle.pls_graph.proofs.Placed.{names_another, place_of_port, port_of_place, row_of_place, row_place, way_back, WayBack}
 use Rattle.pls_facts.specs.Pointer.{pointed_port}

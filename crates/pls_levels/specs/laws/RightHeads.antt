@@ -1,9 +1,9 @@
 -- Where the pointers make a tree: what is right in front of the levels places all nodes, is one,
 -- and is small.
 use Rattle.std.proofs.Common.{◌≡◌, ◌∙◌, ℕ, ◌≤◌, List, Contains, Option, Some, None, option_and_then, option_map, refl, sym, ap, subst, arith, slice_get}
-use Rattle.pls_model.specs.declared.row.Port.{Port}
-use Rattle.pls_model.specs.declared.row.NodeRow.{NodeRow}
-use Rattle.pls_model.specs.Configuration.{IsNetwork}
+use Rattle.pls_configuration.specs.declared.row.Port.{Port}
+use Rattle.pls_configuration.specs.declared.row.NodeRow.{NodeRow}
+use Rattle.pls_configuration.specs.Configuration.{IsNetwork}
 use Rattle.pls_graph.specs.Size.{size_of}
 use Rattle.pls_facts.specs.Pointer.{Falls, IsChainOf, pointed_port}
 use Rattle.pls_facts.specs.SpanningTree.{IsTree}

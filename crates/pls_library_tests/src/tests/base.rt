@@ -1,6 +1,6 @@
 //! Streams and decimals.
 
-use pls_base::{
+use pls_streams::{
     Fault, MemSink, MemSource, ReadError, Sink, Source, StdSink, StdSource, read_all, read_decimal,
     write_all, write_decimal,
 };

@@ -1,7 +1,7 @@
 //! Known hex texts, and digits that are refused.
 
-use pls_base::NoMemory;
 use pls_bits::{BitBuf, Bits, Cursor, HexError, from_hex, spells_bits};
+use pls_streams::NoMemory;
 use std::alloc::Global;
 use std::process::Abort;
 use std::test::Fail;

@@ -1,8 +1,8 @@
 //! Known codes of numbers, and bits that no code stands in front of.
 
 use super::bits::{bits_of, bits_of_both};
-use pls_base::NoMemory;
 use pls_bits::{BitBuf, Delta, Gamma, MAX_CODED, NumCode};
+use pls_streams::NoMemory;
 use std::alloc::Global;
 use std::test::Fail;
 

@@ -1,15 +1,15 @@
 //! Networks of several components: the components by themselves, and what is marked of them.
 
 use super::network;
-use pls_base::NoMemory;
 use pls_bits::Gamma;
 use pls_colour::{Acyclic, Bipartite};
 use pls_components::{
     Components, IdList, MarkResult, bound_parts, components, in_a_component, mark_parts, room_parts,
 };
 use pls_graph::{Network, node_apart};
+use pls_labels::LabelStore;
 use pls_scheme::Scheme;
-use pls_view::LabelStore;
+use pls_streams::NoMemory;
 use std::alloc::Global;
 use std::process::Abort;
 use std::test::Fail;

@@ -1,12 +1,12 @@
 //! Texts of labels for a network of three nodes: what is read, and why others are refused.
 
 use super::{line_of, network};
-use pls_base::{Fault, MemSink, Sink, TextError};
 use pls_graph::Network;
 use pls_labelfile::{
     MAX_BITS, read_labels, scan_labels, stream_labels, write_labels, written_is_read,
 };
 use pls_lines::Lines;
+use pls_streams::{Fault, MemSink, Sink, TextError};
 use std::alloc::Global;
 use std::process::Abort;
 use std::test::Fail;

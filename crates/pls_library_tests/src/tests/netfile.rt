@@ -1,10 +1,10 @@
 //! Texts of networks: the first faulty line of each, refusals, and texts that are read.
 
 use super::{line_of, network};
-use pls_base::TextError;
 use pls_graph::Network;
 use pls_lines::Lines;
 use pls_netfile::{read_network, read_written, scan_network, write_network, write_read};
+use pls_streams::TextError;
 use std::alloc::Global;
 use std::process::Abort;
 use std::test::Fail;

@@ -1,13 +1,13 @@
 //! Nodes that join a network and leave it again while it is rechecked.
 
 use super::network;
-use pls_base::Steps;
 use pls_bits::{CodeName, Gamma};
 use pls_colour::Bipartite;
 use pls_graph_edits::EditError;
 use pls_labelfile::{read_labels, write_labels};
 use pls_netfile::write_network;
 use pls_recheck::{BenchJudge, Edit, Judge, Recheck, Tally};
+use pls_streams::Steps;
 use std::alloc::Global;
 use std::process::Abort;
 use std::test::Fail;

@@ -2,10 +2,10 @@
 
 use super::bits::{bits_of, zeros_and_ones};
 use super::network;
-use pls_base::NoMemory;
 use pls_bits::{BitBuf, from_hex, spells_bits};
 use pls_graph::Network;
-use pls_view::{LabelRoom, LabelStore, PortView, View};
+use pls_labels::{LabelRoom, LabelStore, PortView, View};
+use pls_streams::NoMemory;
 use std::alloc::Global;
 use std::process::Abort;
 use std::test::Fail;

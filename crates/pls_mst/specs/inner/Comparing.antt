@@ -1,6 +1,6 @@
 -- What the levels of two neighbours say together.
 use Rattle.std.specs.Prelude.{ℕ, ◌&&◌, ◌||◌, List}
-use Rattle.pls_model.specs.Walk.{Edge}
+use Rattle.pls_configuration.specs.Walk.{Edge}
 use Rattle.pls_boruvka.specs.declared.level.Level.{Level}
 use Rattle.pls_mst.specs.declared.comparing.Between.{Between}
 use Rattle.pls_mst.specs.declared.comparing.LevelComparison.{LevelComparison}

@@ -8,15 +8,15 @@ use Rattle.std.proofs.lemmas.List.Elements.{All-cons, All-nil}
 use Rattle.pls_bits.specs.Gamma.{floor_log}
 use Rattle.pls_bits.specs.NumberCode.{Grows, IsShort}
 use Rattle.pls_bits.specs.laws.FloorLogLaws.{floor_log-bound, floor_log-lt_suc}
-use Rattle.pls_model.specs.declared.row.Port.{Port}
-use Rattle.pls_model.specs.declared.row.NodeRow.{NodeRow}
-use Rattle.pls_model.specs.Configuration.{IsNetwork, ids_of}
-use Rattle.pls_model.specs.Walk.{Edge, edges_from, edges_of}
+use Rattle.pls_configuration.specs.declared.row.Port.{Port}
+use Rattle.pls_configuration.specs.declared.row.NodeRow.{NodeRow}
+use Rattle.pls_configuration.specs.Configuration.{IsNetwork, ids_of}
+use Rattle.pls_configuration.specs.Walk.{Edge, edges_from, edges_of}
 use Rattle.pls_graph.specs.Size.{size_of, weights_of}
 use Rattle.pls_graph.specs.declared.size.Size.{Size}
 use Rattle.pls_graph.proofs.Members.{Contains-flat_map, Contains-from_filter, Contains-from_flat_map, Contains-from_map, Contains-map}
 use Rattle.pls_scheme.specs.Marked.{Fits}
-use Rattle.pls_base.specs.Steps.{capped}
+use Rattle.pls_streams.specs.Steps.{capped}
 use Rattle.pls_scheme.specs.Theorem.{AreWords}
 use Rattle.pls_scheme.proofs.Fitting.{AreWithin}
 use Rattle.pls_facts.proofs.Greatest.{in_greatest}

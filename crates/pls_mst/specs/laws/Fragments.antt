@@ -1,8 +1,8 @@
 -- What the rules of `mst` say, level by level, of labels that a function of the identity gives.
 use Rattle.std.proofs.Common.{◌≡◌, ◌≢◌, ℕ, ◌<◌, ◌⊎◌, length, get_or, slice_get, Contains, Some}
-use Rattle.pls_model.specs.declared.row.Port.{Port}
-use Rattle.pls_model.specs.declared.row.NodeRow.{NodeRow}
-use Rattle.pls_model.specs.Walk.{Edge}
+use Rattle.pls_configuration.specs.declared.row.Port.{Port}
+use Rattle.pls_configuration.specs.declared.row.NodeRow.{NodeRow}
+use Rattle.pls_configuration.specs.Walk.{Edge}
 use Rattle.pls_scheme.specs.Reading.{port_where}
 use Rattle.pls_facts.specs.EdgeOrder.{edge_key}
 use Rattle.pls_facts.specs.Pointer.{pointed_port}

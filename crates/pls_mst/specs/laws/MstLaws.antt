@@ -4,9 +4,9 @@ use Rattle.std.specs.List.{flat_map}
 use Rattle.std.proofs.lemmas.List.{length-map}
 use Rattle.std.proofs.lemmas.Option.{same_Some, slice_get-map}
 use Rattle.pls_bits.specs.NumberCode.{Grows, IsShort}
-use Rattle.pls_model.specs.declared.row.NodeRow.{NodeRow}
-use Rattle.pls_model.specs.Configuration.{IsNetwork, ids_of}
-use Rattle.pls_model.specs.Walk.{Edge, edges_of}
+use Rattle.pls_configuration.specs.declared.row.NodeRow.{NodeRow}
+use Rattle.pls_configuration.specs.Configuration.{IsNetwork, ids_of}
+use Rattle.pls_configuration.specs.Walk.{Edge, edges_of}
 use Rattle.pls_graph.specs.Size.{size_of}
 use Rattle.pls_graph.proofs.Members.{place_from_Contains}
 use Rattle.pls_scheme.specs.Theorem.{OneIsRight, RightFits, RulesAreMet, RulesShow}

@@ -5,8 +5,8 @@ use Rattle.std.proofs.lemmas.Bool.{and_from, cases_eq, cond-false, cond-true, eq
 use Rattle.std.proofs.lemmas.List.{get_or_default}
 use Rattle.std.proofs.lemmas.List.Sums.{list_all-from_AllPass}
 use Rattle.std.proofs.lemmas.Option.{same_Some, slice_get-map}
-use Rattle.pls_model.specs.declared.row.Port.{Port}
-use Rattle.pls_model.specs.declared.row.NodeRow.{NodeRow}
+use Rattle.pls_configuration.specs.declared.row.Port.{Port}
+use Rattle.pls_configuration.specs.declared.row.NodeRow.{NodeRow}
 use Rattle.pls_graph.proofs.Finds.{from_option_map}
 use Rattle.pls_graph.proofs.Members.{Contains-from_place}
 use Rattle.pls_scheme.specs.Judging.{AllHold}
@@ -16,7 +16,7 @@ use Rattle.pls_facts.specs.EdgeOrder.{edge_key, is_same_edge}
 use Rattle.pls_facts.specs.Pointer.{pointed_port}
 use Rattle.pls_facts.proofs.EdgeKeys.{is_same_edge-itself}
 use Rattle.pls_pointer.specs.laws.PointingLaws.{points_or}
-use Rattle.pls_model.specs.Walk.{Edge}
+use Rattle.pls_configuration.specs.Walk.{Edge}
 use Rattle.pls_boruvka.specs.declared.level.Level.{Level}
 use Rattle.pls_levels.specs.laws.InTree.{pointed_has}
 use Rattle.pls_levels.specs.laws.Levelwise.{all_from_0}

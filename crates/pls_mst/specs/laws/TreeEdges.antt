@@ -1,10 +1,10 @@
 -- Whether the edge at a port is outside of the tree, as the node tells it: 0 or 1.
 use Rattle.std.proofs.Common.{◌≡◌, ℕ, inl, inr, Bool, List, Some, subst, slice_get, Contains}
 use Rattle.std.proofs.lemmas.Bool.{cases_Bool, cond-true, cond-false}
-use Rattle.pls_model.specs.declared.row.Port.{Port}
-use Rattle.pls_model.specs.declared.row.NodeRow.{NodeRow}
-use Rattle.pls_model.specs.Configuration.{IsNetwork}
-use Rattle.pls_model.specs.Walk.{Edge, Joins}
+use Rattle.pls_configuration.specs.declared.row.Port.{Port}
+use Rattle.pls_configuration.specs.declared.row.NodeRow.{NodeRow}
+use Rattle.pls_configuration.specs.Configuration.{IsNetwork}
+use Rattle.pls_configuration.specs.Walk.{Edge, Joins}
 use Rattle.pls_scheme.specs.Reading.{port_where}
 use Rattle.pls_facts.specs.SpanningTree.{edge_at, pointed_edges}
 use Rattle.pls_facts.proofs.PointedEdges.{Joins-edge_at}

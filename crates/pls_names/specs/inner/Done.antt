@@ -1,9 +1,9 @@
 -- What a call of a scheme has done, as one fact, whichever the scheme is.
 use Rattle.std.specs.Prelude.{◌↔◌, Bool, List, Option, Result, IfOk, IsTrue}
 use Rattle.std.specs.Option.{IfNone, IfSome}
-use Rattle.pls_model.specs.declared.row.NodeRow.{NodeRow}
-use Rattle.pls_model.specs.declared.verdict.Verdict.{Verdict}
-use Rattle.pls_view.specs.Seen.{Seen}
+use Rattle.pls_configuration.specs.declared.row.NodeRow.{NodeRow}
+use Rattle.pls_configuration.specs.declared.verdict.Verdict.{Verdict}
+use Rattle.pls_labels.specs.Seen.{Seen}
 use Rattle.pls_scheme.specs.Judging.{AllAccept}
 
 -- whether the rows have the property is decided

@@ -4,10 +4,10 @@ use Rattle.std.specs.Prelude.{option_and_then, unwrap_or}
 use Rattle.std.proofs.lemmas.List.Elements.{All-head, All-tail}
 use Rattle.pls_bits.specs.NumberCode.{TakesCodes, TakesOnly}
 use Rattle.pls_bits.specs.declared.num_code.TheConstants.{MAX_CODED}
-use Rattle.pls_model.specs.declared.verdict.Verdict.{Verdict}
+use Rattle.pls_configuration.specs.declared.verdict.Verdict.{Verdict}
 use Rattle.pls_numbers.specs.Shape.{AreItsNumbers, IsSpelled, Shape, recoded, said_by, spelling}
 use Rattle.pls_numbers.specs.laws.FormatLaws.{said_spells}
-use Rattle.pls_view.specs.Seen.{EachFits, Seen, SeenPort, narrow_by, narrow_port}
+use Rattle.pls_labels.specs.Seen.{EachFits, Seen, SeenPort, narrow_by, narrow_port}
 use Rattle.pls_scheme.specs.Basic.{verdict_by}
 use Rattle.pls_scheme.specs.Reading.{Read, ReadPort, judge_by, judged_read, read_port, read_ports}
 

@@ -3,9 +3,9 @@
 use Rattle.std.specs.Prelude.{◌≡◌, ℕ, ◌≤◌, ◌+◌, ◌==◌, nat_le, nat_lt, Bool, true, false, not, ◌&&◌, ◌||◌, List, [], ◌∷◌, map, slice_get, slice_index_or, Option, Some, None}
 use Rattle.std.specs.List.{enumerate_from, list_all, list_any, range_with_len}
 use Rattle.std.specs.Option.{option_map_or}
-use Rattle.pls_model.specs.declared.verdict.Verdict.{Verdict}
-use Rattle.pls_model.specs.declared.verdict.Verdict.TheVariants.{Accept, Reject}
-use Rattle.pls_view.specs.Seen.{Seen}
+use Rattle.pls_configuration.specs.declared.verdict.Verdict.{Verdict}
+use Rattle.pls_configuration.specs.declared.verdict.Verdict.TheVariants.{Accept, Reject}
+use Rattle.pls_labels.specs.Seen.{Seen}
 use Rattle.pls_scheme.specs.Reading.{Read, ReadPort, read_ports, reading}
 use Rattle.pls_centroid.specs.declared.level.CentroidLevel.{CentroidLevel}
 use Rattle.pls_levels.specs.Rules.{is_placed_in_tree}

@@ -5,8 +5,8 @@ use Rattle.std.specs.List.{enumerate_from, list_any, zip}
 use Rattle.std.specs.Option.{option_map, option_map_or}
 use Rattle.std.proofs.lemmas.Bool.{and_parts, eqb-true, leb-true, or_cases, true≢false}
 use Rattle.std.proofs.lemmas.Option.{slice_get-map}
-use Rattle.pls_model.specs.declared.row.Port.{Port}
-use Rattle.pls_model.specs.declared.row.NodeRow.{NodeRow}
+use Rattle.pls_configuration.specs.declared.row.Port.{Port}
+use Rattle.pls_configuration.specs.declared.row.NodeRow.{NodeRow}
 use Rattle.pls_graph.proofs.Finds.{from_option_map}
 use Rattle.pls_scheme.specs.Judging.{AllHold}
 use Rattle.pls_scheme.specs.Reading.{ReadPort, port_where, read_where}

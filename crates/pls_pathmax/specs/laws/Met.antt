@@ -3,10 +3,10 @@
 -- centroid lies on the path between them, along which no edge is heavier.
 use Rattle.std.proofs.Common.{◌≡◌, ◌∙◌, ℕ, ◌⊎◌, inl, inr, true, false, List, Some, sym, ap, subst, arith, slice_get, Contains}
 use Rattle.std.proofs.lemmas.Bool.{true≢false}
-use Rattle.pls_model.specs.declared.row.Port.{Port}
-use Rattle.pls_model.specs.declared.row.NodeRow.{NodeRow}
-use Rattle.pls_model.specs.Configuration.{IsNetwork, ids_of}
-use Rattle.pls_model.specs.Walk.{Edge, Adjacent, AreJoined, Joins, edges_of}
+use Rattle.pls_configuration.specs.declared.row.Port.{Port}
+use Rattle.pls_configuration.specs.declared.row.NodeRow.{NodeRow}
+use Rattle.pls_configuration.specs.Configuration.{IsNetwork, ids_of}
+use Rattle.pls_configuration.specs.Walk.{Edge, Adjacent, AreJoined, Joins, edges_of}
 use Rattle.pls_graph.proofs.Joined.{AreJoined-adjacent, AreJoined-turned}
 use Rattle.pls_graph.proofs.Members.{Contains-from_place, place_from_Contains}
 use Rattle.pls_facts.specs.Lightest.{IsLightest}

@@ -1,9 +1,9 @@
 -- The theorem of the scheme `pathmax`.
 use Rattle.std.proofs.Common.{◌≡◌, ◌↔◌, ℕ, Bool, true, List, Contains}
 use Rattle.pls_bits.specs.NumberCode.{Grows, IsShort}
-use Rattle.pls_model.specs.declared.row.NodeRow.{NodeRow}
-use Rattle.pls_model.specs.Configuration.{IsNetwork, ids_of}
-use Rattle.pls_model.specs.Walk.{IsConnected}
+use Rattle.pls_configuration.specs.declared.row.NodeRow.{NodeRow}
+use Rattle.pls_configuration.specs.Configuration.{IsNetwork, ids_of}
+use Rattle.pls_configuration.specs.Walk.{IsConnected}
 use Rattle.pls_scheme.specs.Reading.{read_where}
 use Rattle.pls_scheme.specs.Theorem.{AreRightEverywhere, OneIsRight, RightFits, RulesAreMet, RulesShow}
 use Rattle.pls_facts.specs.MinimumSpanningTree.{IsMinimumSpanningTree}

@@ -4,10 +4,10 @@
 -- edges that are no heavier than it; and then, by the cycle rule, no spanning tree is lighter.
 use Rattle.std.proofs.Common.{◌≡◌, ◌∙◌, ℕ, zero, suc, ◌≤◌, inl, inr, nat_le, true, List, [], Some, refl, sym, ap, subst, arith, slice_get, Contains}
 use Rattle.std.proofs.lemmas.Bool.{cases_Bool, le-leb}
-use Rattle.pls_model.specs.declared.row.Port.{Port}
-use Rattle.pls_model.specs.declared.row.NodeRow.{NodeRow}
-use Rattle.pls_model.specs.Configuration.{IsNetwork, ids_of}
-use Rattle.pls_model.specs.Walk.{Edge, Adjacent, AreJoined, IsConnected, edges_of}
+use Rattle.pls_configuration.specs.declared.row.Port.{Port}
+use Rattle.pls_configuration.specs.declared.row.NodeRow.{NodeRow}
+use Rattle.pls_configuration.specs.Configuration.{IsNetwork, ids_of}
+use Rattle.pls_configuration.specs.Walk.{Edge, Adjacent, AreJoined, IsConnected, edges_of}
 use Rattle.pls_graph.proofs.Joined.{AreJoined-adjacent, AreJoined-through, AreJoined-turned}
 use Rattle.pls_graph.proofs.Members.{Contains-filter, Contains-from_place, place_from_Contains}
 use Rattle.pls_facts.specs.SpanningTree.{IsTree, edge_at, pointed_edges}

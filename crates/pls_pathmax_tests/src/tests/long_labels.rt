@@ -1,13 +1,13 @@
 //! Labels with more levels than one pass over the ports asks for.
 
 use super::connected_network;
-use pls_base::Steps;
 use pls_bits::{BitBuf, Gamma};
 use pls_graph::Network;
+use pls_labels::{LabelStore, View};
 use pls_numbers::append_numbers;
 use pls_pathmax::PathMax;
 use pls_scheme::{Checker, Verdict};
-use pls_view::{LabelStore, View};
+use pls_streams::Steps;
 use std::alloc::Global;
 use std::test::Fail;
 

@@ -1,12 +1,12 @@
 //! Labels of the scheme `pathmax` of small networks, worked out by hand, and labels that lie.
 
 use super::connected_network;
-use pls_base::{NoMemory, Steps};
 use pls_bits::{BitBuf, Gamma, from_hex};
 use pls_graph::Network;
+use pls_labels::LabelStore;
 use pls_pathmax::PathMax;
 use pls_scheme::{Checker, Scheme, Verdict, certifies};
-use pls_view::LabelStore;
+use pls_streams::{NoMemory, Steps};
 use std::alloc::Global;
 use std::test::Fail;
 

@@ -2,15 +2,15 @@
 //! nodes all that make a tree: `pathmax` finds its property just where `mst` does, and then its
 //! labels are accepted.
 
-ghost use Rattle.pls_model.specs.Walk.{IsConnected};
+ghost use Rattle.pls_configuration.specs.Walk.{IsConnected};
 
 use super::network;
-use pls_base::Steps;
 use pls_bits::Gamma;
 use pls_graph::{Network, node_apart};
 use pls_mst::Mst;
 use pls_pathmax::PathMax;
 use pls_scheme::{Property, Scheme, certifies};
+use pls_streams::Steps;
 use std::alloc::{AllocError, Global};
 use std::test::Fail;
 

@@ -2,9 +2,9 @@
 use Rattle.std.proofs.Common.{◌≡◌, ◌≤◌, ◌<◌, ◌∙◌, ◌||◌, ◌==◌, ◌&&◌, ℕ, Bool, true, List, length, Contains, None, refl, sym, ap, arith, is_some}
 use Rattle.std.proofs.lemmas.Bool.{and_from, and_parts, eq-eqb, eqb-true}
 use Rattle.pls_bits.specs.NumberCode.{Grows, IsShort}
-use Rattle.pls_model.specs.declared.row.Port.{Port}
-use Rattle.pls_model.specs.declared.row.NodeRow.{NodeRow}
-use Rattle.pls_model.specs.Configuration.{ids_of}
+use Rattle.pls_configuration.specs.declared.row.Port.{Port}
+use Rattle.pls_configuration.specs.declared.row.NodeRow.{NodeRow}
+use Rattle.pls_configuration.specs.Configuration.{ids_of}
 use Rattle.pls_graph.specs.Size.{greatest, size_of}
 use Rattle.pls_scheme.specs.Basic.{longest_by}
 use Rattle.pls_scheme.specs.Reading.{has_number, port_where, read_where}

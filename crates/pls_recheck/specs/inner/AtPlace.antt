@@ -1,7 +1,7 @@
 -- The view of the node at a place.
 use Rattle.std.specs.Prelude.{ℕ, Bool, List, [], None, slice_index_or}
-use Rattle.pls_model.specs.declared.row.NodeRow.{NodeRow}
-use Rattle.pls_view.specs.Seen.{Seen, views}
+use Rattle.pls_configuration.specs.declared.row.NodeRow.{NodeRow}
+use Rattle.pls_labels.specs.Seen.{Seen, views}
 
 -- the view of the node at a place, or where there is none, one that shows nothing
 abbrev pub view_at : List NodeRow → List (List Bool) → ℕ → Seen

@@ -1,7 +1,7 @@
 -- The pieces that lines of a report are made of.
 use Rattle.std.specs.Prelude.{◌≡◌, ℕ, codes, Bool, true, false, List, [], ◌∷◌, ◌++◌, decimal}
 use Rattle.std.specs.List.{flat_map}
-use Rattle.pls_model.specs.Verdict.{verdict_text}
+use Rattle.pls_configuration.specs.Verdict.{verdict_text}
 use Rattle.pls_sim.specs.declared.outcome.Outcome.{Outcome}
 use Rattle.pls_sim.specs.declared.outcome.Outcome.TheVariants.{Decided, Waiting}
 

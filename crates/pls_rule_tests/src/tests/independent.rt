@@ -5,12 +5,12 @@ ghost use Rattle.std.specs.Prelude.{◌≡◌, length};
 
 use super::networks::networks;
 use super::{read_set, verdict_at};
-use pls_base::Steps;
 use pls_bits::BitBuf;
 use pls_compile::RuleChecker;
 use pls_graph::Network;
+use pls_labels::LabelStore;
 use pls_scheme::{Checker, Verdict};
-use pls_view::LabelStore;
+use pls_streams::Steps;
 use std::alloc::Global;
 use std::test::Fail;
 

@@ -4,10 +4,10 @@ ghost use Rattle.pls_rules.specs.HeldTrees.{set_of};
 ghost use Rattle.pls_rules.specs.RuleSet.{AreRules};
 
 use super::read_set;
-use pls_base::NoMemory;
 use pls_builtin::builtin;
 use pls_compile::{compile, listing};
 use pls_rules::RuleSet;
+use pls_streams::NoMemory;
 use std::alloc::Global;
 use std::test::Fail;
 

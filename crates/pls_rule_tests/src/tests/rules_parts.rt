@@ -1,10 +1,10 @@
 //! Rules parts: the first line that is not of the form, and the first that makes no sense.
 
 use super::repeat;
-use pls_base::TextError;
 use pls_lines::Lines;
 use pls_rules::RuleSet;
 use pls_rules_part::{read_rules, scan_rules};
+use pls_streams::TextError;
 use std::alloc::{AllocError, Global};
 use std::test::Fail;
 

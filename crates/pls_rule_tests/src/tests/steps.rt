@@ -7,16 +7,16 @@ ghost use Rattle.pls_rules.specs.RuleSet.{AreRules, Rules, kinds_of};
 ghost use Rattle.pls_compile.specs.Code.{code_of_rules};
 ghost use Rattle.pls_compile.specs.ReadLabels.{is_read};
 
-use pls_base::NoMemory;
 use pls_bits::{BitBuf, Gamma};
 use pls_builtin::builtin;
 use pls_compile::{Code, Machine, RuleChecker, compile};
 use pls_graph::Network;
+use pls_labels::{LabelStore, PortView, View};
 use pls_netfile::read_network;
 use pls_numbers::{FieldKind, Fields, Format};
 use pls_rules::RuleSet;
 use pls_scheme::Verdict;
-use pls_view::{LabelStore, PortView, View};
+use pls_streams::NoMemory;
 use std::alloc::Global;
 use std::test::Fail;
 

@@ -2,19 +2,19 @@
 //! scheme, and a set of no name as a plain program.
 
 ghost use Rattle.std.specs.Prelude.{◌≡◌, length};
-ghost use Rattle.pls_model.specs.Walk.{IsConnected};
+ghost use Rattle.pls_configuration.specs.Walk.{IsConnected};
 
 use super::networks::networks;
 use super::verdict_at;
-use pls_base::Steps;
 use pls_bits::{BitBuf, Bits, Gamma};
 use pls_builtin::builtin;
 use pls_combine::AnyScheme;
 use pls_compile::RuleChecker;
 use pls_graph::{Network, node_apart};
+use pls_labels::LabelStore;
 use pls_scheme::{Checker, Scheme, Verdict};
 use pls_scheme_text::read_expression;
-use pls_view::LabelStore;
+use pls_streams::Steps;
 use std::alloc::Global;
 use std::test::Fail;
 

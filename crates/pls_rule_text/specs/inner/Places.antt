@@ -1,6 +1,6 @@
 -- Expressions whose fields stand by their places make sense as those whose fields stand by names.
 use Rattle.std.specs.Prelude.{ℕ, ◌&&◌, nat_lt, Bool, true, false, Option, Some, None, if◌then◌else◌}
-use Rattle.pls_base.specs.declared.refusal_number.TheConstants.{DEPTH, FIELD}
+use Rattle.pls_streams.specs.declared.refusal_number.TheConstants.{DEPTH, FIELD}
 use Rattle.pls_rules.specs.Formula.{Formula, Term, Eq, Lt, Le, Same, Both, Either, Not, All as Each, Any, Number, Id, Mark, Num, Degree, Pointed, My, Up, UpWeight, Nb, NbWeight, NbUp, Add, Sum, formula_nesting}
 
 -- each place is below the number of fields, and what is asked of a neighbour stands inside a

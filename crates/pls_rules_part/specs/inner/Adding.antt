@@ -1,10 +1,10 @@
 -- How the lines of a rules part make a rule set, one after another.
 use Rattle.std.specs.Prelude.{◌≡◌, ℕ, List, [], ◌∷◌, ◌++◌, map, Option, Some, None, option_map, if◌then◌else◌}
-use Rattle.pls_base.specs.declared.refusal_number.TheConstants.{FIELD}
-use Rattle.pls_base.specs.declared.text_error.TextError.{TextError}
-use Rattle.pls_base.specs.declared.text_error.TextError.TheVariants.{Sense}
+use Rattle.pls_streams.specs.declared.refusal_number.TheConstants.{FIELD}
+use Rattle.pls_streams.specs.declared.text_error.TextError.{TextError}
+use Rattle.pls_streams.specs.declared.text_error.TextError.TheVariants.{Sense}
 use Rattle.pls_lines.specs.ListPart.{Remains}
-use Rattle.pls_model.specs.Configuration.{first_of}
+use Rattle.pls_configuration.specs.Configuration.{first_of}
 use Rattle.pls_rules.specs.Formula.{Formula}
 use Rattle.pls_rules.specs.HeldTrees.{formula_of}
 use Rattle.pls_rules.specs.declared.field.Field.{Field}

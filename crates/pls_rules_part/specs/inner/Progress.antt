@@ -1,9 +1,9 @@
 -- How far a rule set has come, of which the lines are added one after another.
 use Rattle.std.specs.Prelude.{◌≡◌, ℕ, List, ◌++◌, map, All, Option}
-use Rattle.pls_base.specs.declared.text_error.TextError.{TextError}
+use Rattle.pls_streams.specs.declared.text_error.TextError.{TextError}
 use Rattle.pls_lines.specs.Lines.{Left}
 use Rattle.pls_lines.specs.ListPart.{Remains}
-use Rattle.pls_model.specs.Configuration.{first_of}
+use Rattle.pls_configuration.specs.Configuration.{first_of}
 use Rattle.pls_rules.specs.Formula.{Formula}
 use Rattle.pls_rules.specs.HeldTrees.{formula_of}
 use Rattle.pls_rules.specs.declared.field.Field.{Field}

@@ -4,7 +4,7 @@ use Rattle.std.proofs.Common.{◌≡◌, ◌∙◌, ℕ, suc, ◌<◌, ◌≤◌
 use Rattle.std.specs.Str.{bytes_eq}
 use Rattle.std.proofs.lemmas.Bool.{and_parts, ltb-false, ltb-true}
 use Rattle.std.proofs.lemmas.Slice.Eq.{bytes_eq-Decides}
-use Rattle.pls_base.specs.declared.refusal_number.TheConstants.{DEPTH, FIELD}
+use Rattle.pls_streams.specs.declared.refusal_number.TheConstants.{DEPTH, FIELD}
 use Rattle.pls_rules.specs.Formula.{Formula, Term, Eq, Lt, Le, Same, Both, Either, Not, All as Each, Any, Number, Id, Mark, Num, Degree, Pointed, My, Up, UpWeight, Nb, NbWeight, NbUp, Add, Sum, formula_nesting}
 use Rattle.pls_rules.specs.RuleSet.{FormulaFits, IsRule, TermFits}
 use Rattle.pls_rule_text.specs.FieldNames.{name_at}

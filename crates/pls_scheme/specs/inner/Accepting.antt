@@ -1,7 +1,7 @@
 -- Which verdicts accept.
 use Rattle.std.specs.Prelude.{Bool, true, false}
-use Rattle.pls_model.specs.declared.verdict.Verdict.{Verdict}
-use Rattle.pls_model.specs.declared.verdict.Verdict.TheVariants.{Accept, Reject}
+use Rattle.pls_configuration.specs.declared.verdict.Verdict.{Verdict}
+use Rattle.pls_configuration.specs.declared.verdict.Verdict.TheVariants.{Accept, Reject}
 
 -- the verdict accepts
 abbrev pub accepts : Verdict → Bool

@@ -1,7 +1,7 @@
 -- Labels that are looked at once.
 use Rattle.std.specs.Prelude.{◌≡◌, ℕ, Bool, List, map, slice_get, slice_index_or, Option, option_map}
 use Rattle.std.specs.Option.{option_and_then}
-use Rattle.pls_view.specs.Seen.{SeenPort}
+use Rattle.pls_labels.specs.Seen.{SeenPort}
 
 -- what bits say at a glance, by a way to read them and what is kept of what they say
 abbrev pub seen_in : {L G : Type 0} → (List Bool → Option L) → (L → G) → List Bool → Option G

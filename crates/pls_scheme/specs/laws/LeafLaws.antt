@@ -1,6 +1,6 @@
 -- Which leaf verdicts by rules name.
 use Rattle.std.proofs.Common.{ℕ, ◌+◌, Bool, true, false, List, [], ◌∷◌, Option, Some, None, if◌then◌else◌, arith}
-use Rattle.pls_model.specs.declared.verdict.Verdict.TheVariants.{Reject}
+use Rattle.pls_configuration.specs.declared.verdict.Verdict.TheVariants.{Reject}
 use Rattle.pls_scheme.specs.Judging.{judged_from, LeafWithin}
 use Rattle.pls_scheme.specs.SchemeLaws.{LeavesWithin}
 use Rattle.pls_scheme.specs.Reading.{Read, ReadPort, judge_by, judged_read, read_ports}

@@ -3,13 +3,13 @@ use Rattle.std.proofs.Common.{◌≡◌, ◌∙◌, ℕ, ◌+◌, Bool, true, fa
 use Rattle.std.specs.List.{AllByRecursion}
 use Rattle.std.proofs.lemmas.List.Elements.{All-contains, All-head, All-map, All-tail}
 use Rattle.std.proofs.lemmas.Option.{slice_get-get_or}
-use Rattle.pls_model.specs.declared.row.Port.{Port}
-use Rattle.pls_model.specs.declared.row.NodeRow.{NodeRow}
-use Rattle.pls_model.specs.declared.verdict.Verdict.TheVariants.{Accept, Reject}
-use Rattle.pls_model.specs.Configuration.{IsNetwork, row_of}
+use Rattle.pls_configuration.specs.declared.row.Port.{Port}
+use Rattle.pls_configuration.specs.declared.row.NodeRow.{NodeRow}
+use Rattle.pls_configuration.specs.declared.verdict.Verdict.TheVariants.{Accept, Reject}
+use Rattle.pls_configuration.specs.Configuration.{IsNetwork, row_of}
 use Rattle.pls_graph.proofs.Members.{Contains-map, Contains-from_place}
 use Rattle.pls_graph.proofs.Placed.{neighbour_found, row_place}
-use Rattle.pls_view.specs.Seen.{Seen, label_of, seen, seen_port}
+use Rattle.pls_labels.specs.Seen.{Seen, label_of, seen, seen_port}
 use Rattle.pls_scheme.specs.Judging.{AllAccept, AllHold, judged_from}
 use Rattle.pls_scheme.specs.Reading.{Read, ReadPort, judge_by, judged_read, read_port, read_ports, read_where, port_where}
 use Rattle.pls_scheme.specs.laws.Readings.{judged_by_rules, split_read}

@@ -1,21 +1,21 @@
 //! Schemes joined by `and` and `or`, and expressions of them as texts.
 
 ghost use Rattle.std.specs.Prelude.{◌≡◌, ◌+◌, ◌<◌, ◌≤◌, IfOk, length};
-ghost use Rattle.pls_model.specs.Walk.{IsConnected};
+ghost use Rattle.pls_configuration.specs.Walk.{IsConnected};
 
 use super::connected_network;
-use pls_base::{NoMemory, Steps};
 use pls_bits::{Bits, Gamma};
 use pls_colour::{Acyclic, Bipartite};
 use pls_combine::AnyScheme;
 use pls_expressions::ExpressionTree;
 use pls_graph::Network;
 use pls_labelfile::read_labels;
+use pls_labels::{LabelStore, View};
 use pls_pairs::{Both, OneOf};
 use pls_pointer::Tree;
 use pls_scheme::{Checker, Scheme, Verdict, are_accepted};
 use pls_scheme_text::{SchemeError, print_expression, read_expression};
-use pls_view::{LabelStore, View};
+use pls_streams::{NoMemory, Steps};
 use std::alloc::Global;
 use std::test::Fail;
 

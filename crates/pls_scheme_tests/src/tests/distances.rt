@@ -1,12 +1,12 @@
 //! Least weights of walks, and shortest-path trees, by worked examples.
 
 use super::{APART, CHAIN, CIRCLE, RING, connected_network, network};
-use pls_base::NoMemory;
 use pls_bits::Gamma;
 use pls_distance::{Spt, SptLabel};
+use pls_labels::LabelStore;
 use pls_scheme::Scheme;
 use pls_search::distances;
-use pls_view::LabelStore;
+use pls_streams::NoMemory;
 use std::alloc::Global;
 use std::test::Fail;
 

@@ -1,16 +1,16 @@
 //! Checkers that are made of others and nested in each other, and a scheme of these tests' own.
 
 ghost use Rattle.std.specs.Prelude.{◌≡◌, ◌+◌, ◌≤◌, IfOk, length};
-ghost use Rattle.pls_model.specs.Walk.{IsConnected};
+ghost use Rattle.pls_configuration.specs.Walk.{IsConnected};
 
 use super::connected_network;
 use crate::IndependentSet;
-use pls_base::{NoMemory, Steps};
 use pls_bits::Gamma;
 use pls_graph::Network;
+use pls_labels::{LabelStore, View};
 use pls_pointer::{Forest, Tree};
 use pls_scheme::{Checker, Scheme, Verdict, are_accepted};
-use pls_view::{LabelStore, View};
+use pls_streams::{NoMemory, Steps};
 use std::alloc::Global;
 use std::test::Fail;
 

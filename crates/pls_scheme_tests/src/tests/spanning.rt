@@ -1,15 +1,15 @@
 //! Labels of spanning trees of least weight, of small networks.
 
 ghost use Rattle.std.specs.Prelude.{◌≡◌, length};
-ghost use Rattle.pls_model.specs.Walk.{IsConnected};
+ghost use Rattle.pls_configuration.specs.Walk.{IsConnected};
 
 use super::{ALONE, HEAVY, RING, TRIANGLE, connected_network};
-use pls_base::{NoMemory, Steps};
 use pls_bits::{BitBuf, Bits, Gamma, from_hex};
 use pls_graph::Network;
+use pls_labels::LabelStore;
 use pls_mst::Mst;
 use pls_scheme::{Scheme, certifies};
-use pls_view::LabelStore;
+use pls_streams::{NoMemory, Steps};
 use std::alloc::Global;
 use std::test::Fail;
 

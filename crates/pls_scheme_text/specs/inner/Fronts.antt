@@ -3,7 +3,7 @@
 use Rattle.std.specs.Prelude.{ℕ, zero, suc, ◌-◌, nat_lt, min, Bool, true, false, List, codes, Option, Some, None, option_map, option_and_then, if◌then◌else◌}
 use Rattle.std.specs.Borrow.{Bor}
 use Rattle.std.specs.Option.{option_map_or, option_or}
-use Rattle.pls_model.specs.declared.limits.TheConstants.{MAX_NODES}
+use Rattle.pls_configuration.specs.declared.limits.TheConstants.{MAX_NODES}
 use Rattle.pls_fronts.specs.Depth.{deepest}
 use Rattle.pls_fronts.specs.Front.{Front, after, followed, whole_item, word_front}
 use Rattle.pls_fronts.specs.NumberFront.{number_front}

@@ -9,7 +9,7 @@ use Rattle.pls_fronts.specs.Front.{Front, after, followed, word_front}
 use Rattle.pls_fronts.specs.NumberFront.{digits_ahead, number_front}
 use Rattle.pls_fronts.specs.laws.FrontLaws.{after_is, either_found, worded_is}
 use Rattle.pls_fronts.specs.laws.NumberFrontLaws.{number_is, number_read}
-use Rattle.pls_model.specs.declared.limits.TheConstants.{MAX_NODES}
+use Rattle.pls_configuration.specs.declared.limits.TheConstants.{MAX_NODES}
 use Rattle.pls_names.specs.Front.{name_front}
 use Rattle.pls_names.specs.laws.FrontLaws.{name_found}
 use Rattle.pls_names.specs.laws.NamedLaws.{laws_of}

@@ -1,6 +1,6 @@
 -- What a walk along chains of pointers has noted so far.
 use Rattle.std.specs.Prelude.{◌≡◌, ◌⊎◌, ℕ, List, length, slice_index_or, Option, Some, None}
-use Rattle.pls_model.specs.declared.row.NodeRow.{NodeRow}
+use Rattle.pls_configuration.specs.declared.row.NodeRow.{NodeRow}
 use Rattle.pls_search.specs.inner.ChainLengths.{IsDepth}
 use Rattle.pls_search.specs.PointedPlace.{PointsTo}
 

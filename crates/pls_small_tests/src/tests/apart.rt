@@ -11,15 +11,15 @@ use super::small::{
     SETS, Small, has, is_acyclic, is_bipartite, is_forest, is_tree, nodes_within, pair, text_with,
     with,
 };
-use pls_base::{NoMemory, Steps};
 use pls_bits::Gamma;
 use pls_combine::AnyScheme;
 use pls_components::{Components, MarkResult, components, mark_parts};
+use pls_configuration::Verdict;
 use pls_graph::Network;
-use pls_model::Verdict;
+use pls_labels::LabelStore;
 use pls_scheme::{Checker, Scheme};
 use pls_scheme_text::read_expression;
-use pls_view::LabelStore;
+use pls_streams::{NoMemory, Steps};
 use std::alloc::Global;
 use std::test::Fail;
 

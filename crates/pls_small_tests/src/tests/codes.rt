@@ -4,17 +4,17 @@
 //! program.
 
 ghost use Rattle.std.specs.Prelude.{◌≡◌, length};
-ghost use Rattle.pls_model.specs.Walk.{IsConnected};
+ghost use Rattle.pls_configuration.specs.Walk.{IsConnected};
 
 use super::connected_network;
 use super::small::{SETS, Small, are_joined, text_with};
-use pls_base::Steps;
 use pls_bits::{Delta, Gamma, NumCode};
 use pls_combine::AnyScheme;
 use pls_graph::Network;
+use pls_labels::LabelStore;
 use pls_scheme::{Scheme, certifies};
 use pls_scheme_text::read_expression;
-use pls_view::LabelStore;
+use pls_streams::Steps;
 use std::alloc::Global;
 use std::test::Fail;
 

@@ -1,7 +1,7 @@
 //! Expressions on all connected networks of up to four nodes with all pointers: each marks just
 //! where plain programs find its parts, joined as it says, and then all nodes accept the labels.
 
-ghost use Rattle.pls_model.specs.Walk.{IsConnected};
+ghost use Rattle.pls_configuration.specs.Walk.{IsConnected};
 
 use super::small::{
     SETS, Small, are_joined, connected_small, has, is_acyclic, is_bipartite, is_forest, is_tree,

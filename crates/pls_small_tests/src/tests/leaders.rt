@@ -1,18 +1,18 @@
 //! One leader, and the number of nodes: worked examples, and all small networks.
 
 ghost use Rattle.std.specs.Prelude.{◌≡◌, length};
-ghost use Rattle.pls_model.specs.Walk.{IsConnected};
+ghost use Rattle.pls_configuration.specs.Walk.{IsConnected};
 
 use super::small::{SETS, Small, are_joined, has, marks, write_ports};
 use super::{connected_network, network};
-use pls_base::{NoMemory, Steps};
 use pls_bits::{CodeName, Gamma};
+use pls_configuration::Verdict;
 use pls_graph::Network;
 use pls_labelfile::{read_labels, write_labels};
+use pls_labels::LabelStore;
 use pls_leader::{Count, Leader};
-use pls_model::Verdict;
 use pls_scheme::{Checker, Scheme};
-use pls_view::LabelStore;
+use pls_streams::{NoMemory, Steps};
 use std::alloc::{AllocError, Global};
 use std::test::Fail;
 

@@ -3,16 +3,16 @@
 //! accepted.
 
 ghost use Rattle.std.specs.Prelude.{◌≡◌, IfOk, length};
-ghost use Rattle.pls_model.specs.Walk.{IsConnected};
+ghost use Rattle.pls_configuration.specs.Walk.{IsConnected};
 
 use super::connected_network;
-use pls_base::Steps;
 use pls_bits::Gamma;
 use pls_colour::{Acyclic, Bipartite};
 use pls_graph::Network;
+use pls_labels::LabelStore;
 use pls_pointer::{Forest, Tree};
 use pls_scheme::{Scheme, certifies};
-use pls_view::LabelStore;
+use pls_streams::Steps;
 use std::alloc::{AllocError, Global};
 use std::test::Fail;
 

@@ -2,7 +2,7 @@
 //! and all pointers, of four nodes all that make a tree, decided as plain programs do that try all
 //! walks and all sets of edges.
 
-ghost use Rattle.pls_model.specs.Walk.{IsConnected};
+ghost use Rattle.pls_configuration.specs.Walk.{IsConnected};
 
 use super::connected_network;
 use super::small::{SETS, Small, are_joined, has, is_tree, marks, pair, pointer_edges, write_node};

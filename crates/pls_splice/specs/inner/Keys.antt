@@ -1,7 +1,7 @@
 -- The words that edges are looked up by.
 use Rattle.std.specs.Prelude.{ℕ, ◌+◌, ◌*◌, nat_lt, Bool, if◌then◌else◌, List, [], ◌∷◌, ◌++◌, length}
 use Rattle.pls_bits.specs.Bytes.{weigh}
-use Rattle.pls_model.specs.declared.row.NodeRow.{NodeRow}
+use Rattle.pls_configuration.specs.declared.row.NodeRow.{NodeRow}
 use Rattle.pls_splice.specs.Crossing.{edge_weight, label_at}
 use Rattle.pls_splice.specs.Ring.{head_of, tail_of}
 

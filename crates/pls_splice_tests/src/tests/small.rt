@@ -5,8 +5,8 @@ ghost use Rattle.pls_splice.specs.Ring.{IsRingOrder};
 use super::{first_crossing, labels_of, network};
 use pls_components::components;
 use pls_graph::Network;
+use pls_labels::LabelStore;
 use pls_splice::{Pair, Ring};
-use pls_view::LabelStore;
 use std::alloc::{AllocError, Global};
 use std::test::Fail;
 

@@ -3,10 +3,10 @@
 use super::input::input_of;
 use super::rows::{ROOM, end_with};
 use pls_app::{Bench, run};
-use pls_base::{MemSink, NoMemory, Steps, SureSource};
-use pls_model::Verdict;
+use pls_configuration::Verdict;
+use pls_labels::View;
 use pls_scheme::Checker;
-use pls_view::View;
+use pls_streams::{MemSink, NoMemory, Steps, SureSource};
 use std::alloc::Global;
 use std::process::Abort;
 

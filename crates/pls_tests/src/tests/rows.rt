@@ -8,7 +8,7 @@
 
 use super::input::input_of;
 use pls_app::{Tally, run};
-use pls_base::{MemSink, Status, SureSource};
+use pls_streams::{MemSink, Status, SureSource};
 use std::alloc::Global;
 use std::process::Abort;
 

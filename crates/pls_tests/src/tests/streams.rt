@@ -3,7 +3,7 @@
 use super::input::input_of;
 use super::rows::assert_row;
 use pls_app::{Tally, run};
-use pls_base::{MemSink, MemSource, Status};
+use pls_streams::{MemSink, MemSource, Status};
 use std::alloc::Global;
 use std::process::Abort;
 

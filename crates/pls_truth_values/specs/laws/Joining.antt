@@ -3,7 +3,7 @@
 use Rattle.std.proofs.Common.{◌≡◌, ◌∙◌, ◌+◌, ◌-◌, ◌≤◌, ◌↔◌, ℕ, inl, inr, Bool, List, length, get_or, sym, subst, arith, Contains, remove}
 use Rattle.std.proofs.lemmas.List.{get_or_default}
 use Rattle.std.proofs.lemmas.List.Edits.{get_or-remove_below, length-remove}
-use Rattle.pls_model.specs.Walk.{Edge, JoinAll}
+use Rattle.pls_configuration.specs.Walk.{Edge, JoinAll}
 use Rattle.pls_graph.proofs.Members.{Contains-filter, Contains-from_filter}
 use Rattle.pls_facts.specs.Classes.{joins_all}
 use Rattle.pls_facts.specs.SpanningTree.{AreDistinct, IsSpanningTree}

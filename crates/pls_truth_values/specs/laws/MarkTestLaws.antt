@@ -1,6 +1,6 @@
 -- The tests of marks and numbers give true exactly where the properties hold.
 use Rattle.std.proofs.Common.{◌≡◌, ◌==◌, ◌↔◌, true, List, length}
-use Rattle.pls_model.specs.declared.row.NodeRow.{NodeRow}
+use Rattle.pls_configuration.specs.declared.row.NodeRow.{NodeRow}
 use Rattle.pls_facts.specs.OnlyNode.{passing}
 use Rattle.pls_facts.specs.Leader.{HasOneLeader, is_leader}
 use Rattle.pls_facts.specs.NodeCount.{AreCounted}

@@ -4,9 +4,9 @@ use Rattle.std.specs.Prelude.{nat_le}
 use Rattle.std.specs.List.{count_by, list_all, list_any}
 use Rattle.std.proofs.lemmas.Bool.{both_ways, eq-eqb, eqb-true, false_from_ne_true, false≢true, not-true, not_from_false, or_from, or_parts, true≢false}
 use Rattle.std.proofs.lemmas.List.{length-map}
-use Rattle.pls_model.specs.declared.row.NodeRow.{NodeRow}
-use Rattle.pls_model.specs.Configuration.{IsNetwork, has_repeat, ids_of}
-use Rattle.pls_model.specs.Walk.{Adjacent, Edge, JoinAll, Joins, Walk, edges_of}
+use Rattle.pls_configuration.specs.declared.row.NodeRow.{NodeRow}
+use Rattle.pls_configuration.specs.Configuration.{IsNetwork, has_repeat, ids_of}
+use Rattle.pls_configuration.specs.Walk.{Adjacent, Edge, JoinAll, Joins, Walk, edges_of}
 use Rattle.pls_graph.proofs.Members.{Contains-cons_cases, Contains-first, Contains-later}
 use Rattle.pls_facts.specs.Bipartite.{Colours, IsBipartite, differ}
 use Rattle.pls_facts.specs.Cycle.{IsAcyclic, IsCycle}

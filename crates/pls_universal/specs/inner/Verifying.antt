@@ -2,11 +2,11 @@
 use Rattle.std.specs.Prelude.{ℕ, ◌==◌, ◌&&◌, Bool, false, List, map, Option, option_map}
 use Rattle.std.specs.List.{list_all}
 use Rattle.std.specs.Option.{option_map_or}
-use Rattle.pls_model.specs.declared.row.Port.{Port}
-use Rattle.pls_model.specs.declared.row.NodeRow.{NodeRow}
-use Rattle.pls_model.specs.Configuration.{row_of}
-use Rattle.pls_view.specs.declared.view.PortView.{PortView}
-use Rattle.pls_view.specs.Seen.{Seen, SeenPort, shown}
+use Rattle.pls_configuration.specs.declared.row.Port.{Port}
+use Rattle.pls_configuration.specs.declared.row.NodeRow.{NodeRow}
+use Rattle.pls_configuration.specs.Configuration.{row_of}
+use Rattle.pls_labels.specs.declared.view.PortView.{PortView}
+use Rattle.pls_labels.specs.Seen.{Seen, SeenPort, shown}
 use Rattle.pls_numbers.specs.Shape.{said_by}
 use Rattle.pls_scheme.specs.Reading.{read_ports}
 use Rattle.pls_universal.specs.declared.map.MapRow.{MapRow}

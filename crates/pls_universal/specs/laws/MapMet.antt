@@ -8,12 +8,12 @@ use Rattle.std.proofs.lemmas.List.{length-map}
 use Rattle.std.proofs.lemmas.List.Elements.{All-contains, Contains-get_or}
 use Rattle.std.proofs.lemmas.List.Folds.{list_all-map}
 use Rattle.std.proofs.lemmas.List.Sums.{list_all-from_AllPass}
-use Rattle.pls_model.specs.declared.limits.TheConstants.{MAX_NODES, MAX_NUM, MAX_PORTS}
-use Rattle.pls_model.specs.declared.row.Port.{Port}
-use Rattle.pls_model.specs.declared.row.State.{State}
-use Rattle.pls_model.specs.declared.row.NodeRow.{NodeRow}
-use Rattle.pls_model.specs.Configuration.{IsNetwork, ids_of, ports_in, refusal_of, row_of}
-use Rattle.pls_model.specs.Walk.{IsConnected, edges_of}
+use Rattle.pls_configuration.specs.declared.limits.TheConstants.{MAX_NODES, MAX_NUM, MAX_PORTS}
+use Rattle.pls_configuration.specs.declared.row.Port.{Port}
+use Rattle.pls_configuration.specs.declared.row.State.{State}
+use Rattle.pls_configuration.specs.declared.row.NodeRow.{NodeRow}
+use Rattle.pls_configuration.specs.Configuration.{IsNetwork, ids_of, ports_in, refusal_of, row_of}
+use Rattle.pls_configuration.specs.Walk.{IsConnected, edges_of}
 use Rattle.pls_graph.specs.Size.{greatest, size_of, weights_of}
 use Rattle.pls_graph.proofs.Members.{Contains-first, Contains-flat_map, Contains-later, Contains-map}
 use Rattle.pls_facts.proofs.Classes.{joins_all-JoinAll}

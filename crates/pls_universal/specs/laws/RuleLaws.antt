@@ -5,12 +5,12 @@ use Rattle.std.proofs.lemmas.Bool.{eqb-true, leb-true}
 use Rattle.std.proofs.lemmas.List.{length-map}
 use Rattle.std.proofs.lemmas.List.Elements.{All-map}
 use Rattle.std.proofs.lemmas.List.Sums.{AllPass-from_list_all}
-use Rattle.pls_model.specs.declared.row.State.{State}
-use Rattle.pls_model.specs.declared.row.NodeRow.{NodeRow}
-use Rattle.pls_model.specs.declared.refusal.BuildError.{BuildError}
-use Rattle.pls_model.specs.declared.limits.TheConstants.{MAX_NODES, MAX_NUM, MAX_PORTS}
-use Rattle.pls_model.specs.Configuration.{AreWithinLimits, IsNetwork, ids_of, ports_in, refusal_of}
-use Rattle.pls_model.specs.Walk.{IsConnected, edges_of}
+use Rattle.pls_configuration.specs.declared.row.State.{State}
+use Rattle.pls_configuration.specs.declared.row.NodeRow.{NodeRow}
+use Rattle.pls_configuration.specs.declared.refusal.BuildError.{BuildError}
+use Rattle.pls_configuration.specs.declared.limits.TheConstants.{MAX_NODES, MAX_NUM, MAX_PORTS}
+use Rattle.pls_configuration.specs.Configuration.{AreWithinLimits, IsNetwork, ids_of, ports_in, refusal_of}
+use Rattle.pls_configuration.specs.Walk.{IsConnected, edges_of}
 use Rattle.pls_facts.proofs.Classes.{joins_all-JoinAll}
 use Rattle.pls_universal.specs.declared.map.MapRow.{MapRow}
 use Rattle.pls_universal.specs.Rules.{is_joined, is_network, is_port_small, is_small, is_within_limits, matched, node_of, nodes_of, same_port, same_record, same_state, same_up}

@@ -1,8 +1,8 @@
 -- What is kept of the turns taken.
 use Rattle.std.specs.Prelude.{◌≡◌, ℕ, ◌≤◌, List, length, slice_get, slice_index_or, Some}
 use Rattle.std.specs.List.{AllByRecursion}
-use Rattle.pls_model.specs.declared.row.NodeRow.{NodeRow}
-use Rattle.pls_model.specs.Configuration.{IsNetwork, ports_in}
+use Rattle.pls_configuration.specs.declared.row.NodeRow.{NodeRow}
+use Rattle.pls_configuration.specs.Configuration.{IsNetwork, ports_in}
 use Rattle.pls_sim.specs.Schedule.{Sent, emits_of, goes_to}
 use Rattle.pls_sim.specs.Applying.{Played}
 use Rattle.pls_sim.specs.inner.Kept.{NamesEmit}

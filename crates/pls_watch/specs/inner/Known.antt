@@ -1,7 +1,7 @@
 -- What a node knows of the labels: its own newest one, and those that it holds of its neighbours.
 use Rattle.std.specs.Prelude.{◌≡◌, ℕ, ◌+◌, ◌<◌, All, Bool, true, false, List, [], map, length, slice_get, slice_index_or, Some}
-use Rattle.pls_model.specs.declared.row.Port.{Port}
-use Rattle.pls_model.specs.declared.row.NodeRow.{NodeRow}
+use Rattle.pls_configuration.specs.declared.row.Port.{Port}
+use Rattle.pls_configuration.specs.declared.row.NodeRow.{NodeRow}
 use Rattle.pls_graph.specs.Places.{beside}
 use Rattle.pls_sim.specs.Schedule.{has_heard}
 use Rattle.pls_watch.specs.declared.port_state.PortState.{PortState}

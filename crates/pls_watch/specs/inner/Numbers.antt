@@ -1,8 +1,8 @@
 -- The numbers of labels: the first label of each node has the place of its node, and then each that
 -- is given has the next one.
 use Rattle.std.specs.Prelude.{◌≡◌, ◌⊎◌, ℕ, zero, suc, ◌+◌, ◌<◌, ◌≤◌, ◌==◌, Bool, true, List, [], ◌∷◌, filter, flat_map, length, take, slice_get, slice_index_or, Some}
-use Rattle.pls_model.specs.declared.row.NodeRow.{NodeRow}
-use Rattle.pls_model.specs.Configuration.{ports_in}
+use Rattle.pls_configuration.specs.declared.row.NodeRow.{NodeRow}
+use Rattle.pls_configuration.specs.Configuration.{ports_in}
 use Rattle.pls_sim.specs.Schedule.{Sent, emits_of}
 use Rattle.pls_sim.specs.Ways.{IsSlot}
 use Rattle.pls_watch.specs.declared.turn.Turn.{Turn}

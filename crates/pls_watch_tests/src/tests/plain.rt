@@ -1,12 +1,12 @@
 //! Random events on all small networks, against a plain program.
 
 use super::{NodeLook, labels, look, network};
-use pls_base::Steps;
 use pls_bits::{BitBuf, Gamma};
 use pls_colour::Bipartite;
 use pls_graph::Network;
 use pls_scheme::Checker;
 use pls_sim::EventError;
+use pls_streams::Steps;
 use pls_watch::{Lookout, Watch};
 use pls_watch_part::WatchEvent;
 use std::alloc::{AllocError, Global};

@@ -1,12 +1,12 @@
 //! Worked rows on two nodes.
 
 use super::{NodeLook, labels, look, network};
-use pls_base::Steps;
 use pls_bits::Gamma;
 use pls_colour::Bipartite;
 use pls_lines::Lines;
 use pls_scheme::Checker;
 use pls_sim::EventError;
+use pls_streams::Steps;
 use pls_watch::{Lookout, Watch};
 use pls_watch_part::{WatchLine, scan_watch};
 use std::alloc::Global;

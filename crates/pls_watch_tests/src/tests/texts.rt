@@ -1,8 +1,8 @@
 //! The watch part of an input.
 
 use super::line_of;
-use pls_base::{Quantity, TextError};
 use pls_lines::{Lines, read_whole};
+use pls_streams::{Quantity, TextError};
 use pls_watch_part::{WatchEvent, WatchLine, WatchText, scan_watch};
 use std::alloc::Global;
 use std::test::Fail;

@@ -1,10 +1,10 @@
 use Rattle.std.proofs.Common.{List, ap, length, sym, arith}
 use Rattle.std.proofs.lemmas.Bool.{lt-leb}
 use Rattle.std.proofs.lemmas.List.Sums.{sum_by_more_le}
-use Rattle.pls_model.specs.declared.limits.TheConstants.{MAX_PORTS}
-use Rattle.pls_model.specs.declared.row.NodeRow.{NodeRow}
-use Rattle.pls_model.specs.declared.row.Port.{Port}
-use Rattle.pls_model.specs.Configuration.{ports_in}
+use Rattle.pls_configuration.specs.declared.limits.TheConstants.{MAX_PORTS}
+use Rattle.pls_configuration.specs.declared.row.NodeRow.{NodeRow}
+use Rattle.pls_configuration.specs.declared.row.Port.{Port}
+use Rattle.pls_configuration.specs.Configuration.{ports_in}
 use Rattle.pls.proofs.networks.have_few_ports.Goals as goal
 
 pub returns-then-count-left : goal.returns-then-count-left

@@ -1,6 +1,6 @@
 use Rattle.std.proofs.Common.{◌≡◌, ◌+◌, take}
-use Rattle.pls_model.specs.declared.limits.TheConstants.{MAX_PORTS}
-use Rattle.pls_model.specs.Configuration.{ports_in}
+use Rattle.pls_configuration.specs.declared.limits.TheConstants.{MAX_PORTS}
+use Rattle.pls_configuration.specs.Configuration.{ports_in}
 use Rattle.pls.proofs.networks.have_few_ports.Given as goal
 
 -- what is left, and the ports so far

@@ -1,6 +1,6 @@
 use Rattle.std.proofs.Common.{◌∙◌, refl, sym, IfNone, IfSome, subst}
 use Rattle.std.proofs.lemmas.Bool.{true≢false}
-use Rattle.pls_model.specs.Walk.{IsConnected}
+use Rattle.pls_configuration.specs.Walk.{IsConnected}
 use Rattle.pls_graph.specs.Connected.{IsFirstApart}
 use Rattle.pls_universal.specs.laws.MapMet.{connected-joined}
 use Rattle.pls_universal.proofs.Buildable.{apart-none}

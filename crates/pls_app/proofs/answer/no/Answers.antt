@@ -1,5 +1,5 @@
 use Rattle.std.proofs.Common.{◌≡◌, ap, List, ℕ}
-use Rattle.pls_model.specs.declared.status.Status.TheVariants.{No}
+use Rattle.pls_configuration.specs.declared.status.Status.TheVariants.{No}
 use Rattle.pls_app.specs.Answer.{no}
 use Rattle.pls_app.specs.Said.{Answer}
 use Rattle.pls_app.proofs.Naming.{no_text}

@@ -1,13 +1,13 @@
 use Rattle.std.proofs.Common.{◌≡◌, ◌∙◌, ℕ, List, Option, Some, None, IfOk, inl, inr, refl, sym}
 use Rattle.std.proofs.lemmas.Result.{IfOk-weaker}
-use Rattle.pls_base.specs.declared.refusal_number.TheConstants.{UNREADABLE}
-use Rattle.pls_base.specs.declared.text_error.TextError.{TextError}
-use Rattle.pls_base.specs.declared.text_error.TextError.TheVariants.{Sense}
-use Rattle.pls_base.specs.declared.text_error.Quantity.TheVariants.{Bits}
+use Rattle.pls_streams.specs.declared.refusal_number.TheConstants.{UNREADABLE}
+use Rattle.pls_streams.specs.declared.text_error.TextError.{TextError}
+use Rattle.pls_streams.specs.declared.text_error.TextError.TheVariants.{Sense}
+use Rattle.pls_streams.specs.declared.text_error.Quantity.TheVariants.{Bits}
 use Rattle.pls_bits.specs.Delta.{delta_code}
 use Rattle.pls_bits.specs.declared.code_name.CodeName.TheVariants.{Delta}
-use Rattle.pls_model.specs.declared.limits.TheConstants.{MAX_BITS}
-use Rattle.pls_view.specs.Labels.{bits_together}
+use Rattle.pls_configuration.specs.declared.limits.TheConstants.{MAX_BITS}
+use Rattle.pls_labels.specs.Labels.{bits_together}
 use Rattle.pls_combine.specs.Converted.{converted}
 use Rattle.pls_inputs.specs.Order.{over}
 use Rattle.pls_inputs.specs.Parts.{Input, code_in, labels_in, rows_in}

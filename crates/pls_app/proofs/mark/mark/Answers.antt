@@ -1,8 +1,8 @@
 use Rattle.std.proofs.Common.{◌≡◌, ◌∙◌, List, inl, inr, ap, arith, subst, sym}
 use Rattle.std.proofs.lemmas.Result.{IfOk-weaker}
-use Rattle.pls_base.specs.declared.text_error.Quantity.TheVariants.{Labels}
-use Rattle.pls_model.specs.declared.limits.TheConstants.{MAX_BITS}
-use Rattle.pls_model.specs.declared.row.NodeRow.{NodeRow}
+use Rattle.pls_streams.specs.declared.text_error.Quantity.TheVariants.{Labels}
+use Rattle.pls_configuration.specs.declared.limits.TheConstants.{MAX_BITS}
+use Rattle.pls_configuration.specs.declared.row.NodeRow.{NodeRow}
 use Rattle.pls_inputs.specs.Order.{over}
 use Rattle.pls_inputs.specs.Parts.{Input, rows_in}
 use Rattle.pls_combine.specs.Expression.{longest_of}

@@ -1,7 +1,7 @@
 use Rattle.std.proofs.Common.{◌≡◌, ◌∙◌, true, refl, subst, sym, ℕ, List, inl, inr}
 use Rattle.pls_words.specs.Words.{words_in}
-use Rattle.pls_model.specs.declared.status.Status.{Status}
-use Rattle.pls_model.specs.declared.status.Status.TheVariants.{Done, No}
+use Rattle.pls_configuration.specs.declared.status.Status.{Status}
+use Rattle.pls_configuration.specs.declared.status.Status.TheVariants.{Done, No}
 use Rattle.pls_app.specs.declared.command.Command.{Command}
 use Rattle.pls_app.specs.declared.command.Command.TheVariants.{ByRules, With}
 use Rattle.pls_app.specs.declared.command.RuleTask.TheVariants.{Judge}

@@ -1,5 +1,5 @@
 use Rattle.std.proofs.Common.{[], append-nil, refl, sym}
-use Rattle.pls_base.proofs.Written.{alone, both, failed, front_first}
+use Rattle.pls_streams.proofs.Written.{alone, both, failed, front_first}
 use Rattle.pls_inputs.specs.Parts.{net_labels_text}
 use Rattle.pls_app.proofs.program.write_configuration.Goals as goal
 

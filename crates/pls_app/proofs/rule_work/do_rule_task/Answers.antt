@@ -1,5 +1,5 @@
 use Rattle.std.proofs.Common.{◌≡◌, ◌∙◌, false, List, [], inr, ap, refl, subst, sym}
-use Rattle.pls_model.specs.declared.row.NodeRow.{NodeRow}
+use Rattle.pls_configuration.specs.declared.row.NodeRow.{NodeRow}
 use Rattle.pls_components.specs.Components.{AreComponents}
 use Rattle.pls_components.proofs.Empty.{empty_parts}
 use Rattle.pls_inputs.specs.Parts.{rows_in}

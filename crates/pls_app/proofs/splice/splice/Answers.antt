@@ -1,7 +1,7 @@
 use Rattle.std.proofs.Common.{◌≡◌, subst}
 use Rattle.std.proofs.lemmas.Result.{IfOk-weaker}
-use Rattle.pls_base.specs.declared.refusal_number.TheConstants.{NO_RING}
-use Rattle.pls_base.specs.declared.text_error.TextError.TheVariants.{Sense}
+use Rattle.pls_streams.specs.declared.refusal_number.TheConstants.{NO_RING}
+use Rattle.pls_streams.specs.declared.text_error.TextError.TheVariants.{Sense}
 use Rattle.pls_splice.specs.Ring.{SaysNoRing}
 use Rattle.pls_splice.specs.declared.ring_error.RingError.TheVariants.{NotRing}
 use Rattle.pls_app.specs.Answer.{refusal}

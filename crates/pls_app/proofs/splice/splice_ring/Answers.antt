@@ -1,7 +1,7 @@
 use Rattle.std.proofs.Common.{◌≡◌, ◌∙◌, Option, IfNone, IfSome, ap, subst, sym}
 use Rattle.std.proofs.lemmas.Result.{IfOk-weaker}
-use Rattle.pls_base.specs.declared.refusal_number.TheConstants.{REJECTS}
-use Rattle.pls_base.specs.declared.text_error.TextError.TheVariants.{Sense}
+use Rattle.pls_streams.specs.declared.refusal_number.TheConstants.{REJECTS}
+use Rattle.pls_streams.specs.declared.text_error.TextError.TheVariants.{Sense}
 use Rattle.pls_splice.specs.Crossing.{HasNoPair, IsFirstPair}
 use Rattle.pls_splice.specs.declared.finding.Pair.{Pair}
 use Rattle.pls_app.specs.Answer.{refusal}

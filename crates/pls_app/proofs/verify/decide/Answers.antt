@@ -1,10 +1,10 @@
 use Rattle.std.proofs.Common.{◌≡◌, ◌∙◌, ℕ, List, length, map, zip, ap}
 use Rattle.std.proofs.lemmas.Result.{IfOk-weaker}
-use Rattle.pls_model.specs.declared.row.NodeRow.{NodeRow}
-use Rattle.pls_model.specs.declared.verdict.Verdict.{Verdict}
+use Rattle.pls_configuration.specs.declared.row.NodeRow.{NodeRow}
+use Rattle.pls_configuration.specs.declared.verdict.Verdict.{Verdict}
 use Rattle.pls_sim.specs.declared.outcome.Outcome.{Outcome}
 use Rattle.pls_sim.specs.declared.outcome.Outcome.TheVariants.{Decided}
-use Rattle.pls_view.specs.Seen.{label_of}
+use Rattle.pls_labels.specs.Seen.{label_of}
 use Rattle.pls_app.specs.Reports.{decided_by}
 use Rattle.pls_app.proofs.Rounds.{decided_many, zip-round}
 use Rattle.pls_app.proofs.verify.decide.Goals as goal

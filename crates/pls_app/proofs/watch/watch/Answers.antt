@@ -1,8 +1,8 @@
 use Rattle.std.proofs.Common.{◌≡◌, ◌∙◌, ◌+◌, ℕ, List, [], Some, None, inl, inr, length, option_map, ap, arith, sym}
 use Rattle.std.proofs.lemmas.Result.{IfOk-weaker}
-use Rattle.pls_base.specs.declared.refusal_number.TheConstants.{WATCH_EVENT}
-use Rattle.pls_base.specs.declared.text_error.TextError.{TextError}
-use Rattle.pls_base.specs.declared.text_error.TextError.TheVariants.{Sense}
+use Rattle.pls_streams.specs.declared.refusal_number.TheConstants.{WATCH_EVENT}
+use Rattle.pls_streams.specs.declared.text_error.TextError.{TextError}
+use Rattle.pls_streams.specs.declared.text_error.TextError.TheVariants.{Sense}
 use Rattle.pls_combine.specs.Expression.{judge_of}
 use Rattle.pls_watch_part.specs.declared.watch_event.WatchEvent.{WatchEvent}
 use Rattle.pls_watch.specs.Labelled.{bits_given, labels_given}

@@ -4,8 +4,8 @@ use Rattle.pls_inputs.specs.Parts.{Input, code_in, labels_in, rows_in}
 use Rattle.pls_inputs.specs.Read.{said}
 use Rattle.pls_bits.specs.declared.code_name.CodeName.{CodeName}
 use Rattle.pls_combine.specs.Expression.{judge_of, longest_of}
-use Rattle.pls_model.specs.declared.row.NodeRow.{NodeRow}
-use Rattle.pls_model.specs.declared.status.Status.TheVariants.{Done}
+use Rattle.pls_configuration.specs.declared.row.NodeRow.{NodeRow}
+use Rattle.pls_configuration.specs.declared.status.Status.TheVariants.{Done}
 use Rattle.pls_app.specs.declared.command.Command.TheVariants.{With}
 use Rattle.pls_app.specs.declared.command.Task.{Task}
 use Rattle.pls_app.specs.declared.command.Task.TheVariants.{Verify, Convert, Mark, Simulate, Recheck, Splice, Watch}

@@ -1,5 +1,5 @@
 use Rattle.std.proofs.Common.{◌≡◌, ◌∙◌, ◌∷◌, [], ℕ, List, Option, Some, get_or, length, slice_get, sym, ap, subst, arith, length-append}
-use Rattle.pls_model.specs.declared.row.NodeRow.{NodeRow}
+use Rattle.pls_configuration.specs.declared.row.NodeRow.{NodeRow}
 use Rattle.pls_graph.proofs.Finds.{from_option_map}
 use Rattle.pls_boruvka.specs.Fragments.{JoinedChainEnds}
 use Rattle.pls_boruvka.specs.inner.Tops.{Each, HasDepths, IsTop}

@@ -1,5 +1,5 @@
 use Rattle.std.proofs.Common.{◌∙◌, refl, sym, ap, subst}
-use Rattle.pls_view.specs.Seen.{views}
+use Rattle.pls_labels.specs.Seen.{views}
 use Rattle.pls_scheme.specs.Judging.{verdicts_by}
 use Rattle.pls_combine.specs.Expression.{judge_of}
 use Rattle.pls_parts.specs.inner.Rounds.{SomeTrue}

@@ -1,5 +1,5 @@
 use Rattle.std.proofs.Common.{ℕ, ◌<◌, ◌^◌, get_or}
-use Rattle.pls_model.specs.declared.row.Port.{Port}
+use Rattle.pls_configuration.specs.declared.row.Port.{Port}
 use Rattle.pls_compile.proofs.in_network.weights_fit.Given as goal
 
 -- the weights so far

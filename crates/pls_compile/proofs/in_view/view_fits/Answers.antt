@@ -1,5 +1,5 @@
 use Rattle.std.proofs.Common.{◌≡◌, ◌∙◌, ap, map, sym}
-use Rattle.pls_view.specs.Seen.{Seen}
+use Rattle.pls_labels.specs.Seen.{Seen}
 use Rattle.pls_compile.proofs.ShownPorts.{shows, weights_small}
 use Rattle.pls_compile.proofs.in_view.view_fits.Goals as goal
 

@@ -1,5 +1,5 @@
 use Rattle.std.proofs.Common.{◌<◌, ◌^◌}
-use Rattle.pls_view.specs.declared.view.PortView.{PortView}
+use Rattle.pls_labels.specs.declared.view.PortView.{PortView}
 use Rattle.pls_compile.proofs.Lists.{each_more}
 use Rattle.pls_compile.proofs.in_view.weights_fit.Goals as goal
 

@@ -1,5 +1,5 @@
 use Rattle.std.proofs.Common.{◌≡◌, ◌∙◌, ◌++◌, ◌∷◌, [], ℕ, List, Some, get_or, slice_get, ap, sym}
-use Rattle.pls_model.specs.declared.row.NodeRow.{NodeRow}
+use Rattle.pls_configuration.specs.declared.row.NodeRow.{NodeRow}
 use Rattle.pls_graph.proofs.Finds.{item_at}
 use Rattle.pls_components.proofs.Items.{items-more}
 use Rattle.pls_components.proofs.component_list.rows_of.Goals as goal

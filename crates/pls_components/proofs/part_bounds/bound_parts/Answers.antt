@@ -1,7 +1,7 @@
 use Rattle.std.proofs.Common.{◌≡◌, ◌∙◌, ◌+◌, ◌-◌, ◌^◌, ℕ, List, ap, map, max, min, sym, take, arith}
 use Rattle.pls_graph.specs.declared.size.Size.{Size}
 use Rattle.pls_graph.specs.Size.{greatest, size_of}
-use Rattle.pls_base.specs.Steps.{capped}
+use Rattle.pls_streams.specs.Steps.{capped}
 use Rattle.pls_components.specs.Components.{items_at}
 use Rattle.pls_components.proofs.Bounds.{greatest-more}
 use Rattle.pls_components.proofs.Part.{part_network, places_within}

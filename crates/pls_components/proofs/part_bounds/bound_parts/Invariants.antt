@@ -1,6 +1,6 @@
 use Rattle.std.proofs.Common.{◌≡◌, map, take}
 use Rattle.pls_graph.specs.Size.{greatest, size_of}
-use Rattle.pls_base.specs.Steps.{capped}
+use Rattle.pls_streams.specs.Steps.{capped}
 use Rattle.pls_components.specs.Components.{items_at}
 use Rattle.pls_components.proofs.part_bounds.bound_parts.Given as goal
 

@@ -2,7 +2,7 @@ use Rattle.std.proofs.Common.{◌≡◌, ◌∙◌, ◌+◌, ◌*◌, ◌-◌, �
 use Rattle.std.specs.List.{sum_by}
 use Rattle.pls_graph.specs.declared.size.Size.{Size}
 use Rattle.pls_graph.specs.Size.{size_of}
-use Rattle.pls_base.specs.Steps.{capped}
+use Rattle.pls_streams.specs.Steps.{capped}
 use Rattle.pls_components.specs.Components.{IsComponent, items_at}
 use Rattle.pls_components.specs.Parts.{room_of_parts}
 use Rattle.pls_components.proofs.Bounds.{saturated, sum-more}

@@ -1,7 +1,7 @@
 use Rattle.std.proofs.Common.{◌≡◌, ◌*◌, length, take}
 use Rattle.std.specs.List.{sum_by}
 use Rattle.pls_graph.specs.Size.{size_of}
-use Rattle.pls_base.specs.Steps.{capped}
+use Rattle.pls_streams.specs.Steps.{capped}
 use Rattle.pls_components.specs.Components.{items_at}
 use Rattle.pls_components.proofs.part_bounds.room_parts.Given as goal
 

@@ -1,7 +1,7 @@
 use Rattle.std.proofs.Common.{◌≡◌, ◌∙◌, ℕ, List, Some, ap, length, refl, slice_get, sym, subst, arith}
 use Rattle.std.proofs.lemmas.Option.{same_Some}
-use Rattle.pls_model.specs.declared.row.NodeRow.{NodeRow}
-use Rattle.pls_model.specs.Walk.{IsConnected}
+use Rattle.pls_configuration.specs.declared.row.NodeRow.{NodeRow}
+use Rattle.pls_configuration.specs.Walk.{IsConnected}
 use Rattle.pls_graph.proofs.Members.{Contains-from_place}
 use Rattle.pls_components.specs.Components.{IsComponent, items_at}
 use Rattle.pls_components.specs.inner.Marking.{ArePutAt, IsShownBy}

@@ -1,5 +1,5 @@
 use Rattle.std.proofs.Common.{◌≡◌, ◌∙◌, fold, max, rules}
-use Rattle.pls_model.specs.declared.row.Port.{Port}
+use Rattle.pls_configuration.specs.declared.row.Port.{Port}
 use Rattle.pls_components.proofs.Bounds.{fold_greatest}
 use Rattle.pls_components.proofs.part_size.max_weight.Goals as goal
 

@@ -1,5 +1,5 @@
 use Rattle.std.proofs.Common.{◌≡◌, ◌∙◌, ℕ, Some, ap, get_or, slice_get, sym, take, arith}
-use Rattle.pls_model.specs.declared.row.NodeRow.{NodeRow}
+use Rattle.pls_configuration.specs.declared.row.NodeRow.{NodeRow}
 use Rattle.pls_graph.specs.declared.size.Size.{Size}
 use Rattle.pls_graph.specs.Size.{size_of}
 use Rattle.pls_graph.proofs.Finds.{item_at}

@@ -1,9 +1,9 @@
 use Rattle.std.proofs.Common.{◌≡◌, ◌∙◌, [], ◌∷◌, ◌++◌, ap, max, slice_get, sym, arith}
 use Rattle.std.proofs.lemmas.Option.{same_Some}
-use Rattle.pls_model.specs.declared.row.NodeRow.{NodeRow}
+use Rattle.pls_configuration.specs.declared.row.NodeRow.{NodeRow}
 use Rattle.pls_graph.specs.Size.{size_of}
 use Rattle.pls_graph.proofs.Agreed.{row_by_parts}
-use Rattle.pls_view.proofs.Few.{proper_at}
+use Rattle.pls_labels.proofs.Few.{proper_at}
 use Rattle.pls_components.proofs.PartSize.{size_by_parts}
 use Rattle.pls_components.proofs.part_size.with_row.Goals as goal
 

@@ -1,6 +1,6 @@
 use Rattle.std.proofs.Common.{◌≡◌, ◌∙◌, sym, ap, Some, slice_get}
 use Rattle.std.specs.List.{list_all}
-use Rattle.pls_model.specs.declared.row.NodeRow.{NodeRow}
+use Rattle.pls_configuration.specs.declared.row.NodeRow.{NodeRow}
 use Rattle.pls_facts.proofs.Lists.{item_at}
 use Rattle.pls_diameter_bridges.specs.inner.Reaching.{is_within}
 use Rattle.pls_diameter_bridges.proofs.Reached.{levels_within, reached}

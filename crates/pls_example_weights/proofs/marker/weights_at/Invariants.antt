@@ -1,5 +1,5 @@
 use Rattle.std.proofs.Common.{◌≡◌, map, take}
-use Rattle.pls_model.specs.declared.row.Port.{Port}
+use Rattle.pls_configuration.specs.declared.row.Port.{Port}
 use Rattle.pls_example_weights.proofs.marker.weights_at.Given as goal
 
 -- the weights at the ports so far

@@ -1,6 +1,6 @@
 use Rattle.std.proofs.Common.{IsTrue}
-use Rattle.pls_model.specs.Configuration.{ids_of}
-use Rattle.pls_model.specs.Walk.{Edge, edges_of}
+use Rattle.pls_configuration.specs.Configuration.{ids_of}
+use Rattle.pls_configuration.specs.Walk.{Edge, edges_of}
 use Rattle.pls_facts.proofs.CutRule.{IsLightest-first, OthersAreHeavy-first}
 use Rattle.pls_facts.proofs.PortEdges.{IsGraph-network}
 use Rattle.pls_facts.proofs.spanning_laws.cut_rule.Goals as goal

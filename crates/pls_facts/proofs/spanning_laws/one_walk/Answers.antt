@@ -1,5 +1,5 @@
-use Rattle.pls_model.specs.Configuration.{ids_of}
-use Rattle.pls_model.specs.Walk.{edges_of}
+use Rattle.pls_configuration.specs.Configuration.{ids_of}
+use Rattle.pls_configuration.specs.Walk.{edges_of}
 use Rattle.pls_facts.proofs.OneWalk.{one_walk}
 use Rattle.pls_facts.proofs.PortEdges.{IsGraph-network}
 use Rattle.pls_facts.proofs.spanning_laws.one_walk.Goals as goal

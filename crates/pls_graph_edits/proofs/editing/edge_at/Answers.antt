@@ -1,7 +1,7 @@
 use Rattle.std.proofs.Common.{◌≡◌, ◌∙◌, ◌==◌, ap, sym, get_or, position, None, is_some}
-use Rattle.pls_model.specs.declared.row.Port.{Port}
-use Rattle.pls_model.specs.declared.row.NodeRow.{NodeRow}
-use Rattle.pls_model.specs.Configuration.{port_to}
+use Rattle.pls_configuration.specs.declared.row.Port.{Port}
+use Rattle.pls_configuration.specs.declared.row.NodeRow.{NodeRow}
+use Rattle.pls_configuration.specs.Configuration.{port_to}
 use Rattle.pls_graph.proofs.Beside.{named_place}
 use Rattle.pls_graph_edits.proofs.Sought.{IsSought, sought, sought_none, ports_read}
 use Rattle.pls_graph_edits.proofs.Sought.{free_both, found_as, no_find, unlink_absent_first, unlink_apart, unlink_allowed}

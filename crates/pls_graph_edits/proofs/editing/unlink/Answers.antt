@@ -1,5 +1,5 @@
 use Rattle.std.proofs.Common.{◌∙◌, ap, sym, subst, List, arith}
-use Rattle.pls_model.specs.declared.row.NodeRow.{NodeRow}
+use Rattle.pls_configuration.specs.declared.row.NodeRow.{NodeRow}
 use Rattle.pls_graph_edits.specs.Edits.{unlinked}
 use Rattle.pls_graph_edits.specs.inner.Ends.{AreEnds}
 use Rattle.pls_graph_edits.proofs.EditSteps.{unlink_second, unlink_steps, unlink_within}

@@ -1,5 +1,5 @@
 use Rattle.std.proofs.Common.{◌∙◌, List, slice_get, set, refl, ap, arith}
-use Rattle.pls_model.specs.declared.row.NodeRow.{NodeRow}
+use Rattle.pls_configuration.specs.declared.row.NodeRow.{NodeRow}
 use Rattle.pls_graph_edits.specs.Edits.{in_state}
 use Rattle.pls_graph_edits.proofs.Shaped.{range_kept, state_rows, state_places}
 use Rattle.pls_graph_edits.proofs.NodeSlot.{node_slot}

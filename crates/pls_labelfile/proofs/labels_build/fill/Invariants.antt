@@ -1,5 +1,5 @@
 use Rattle.std.proofs.Common.{◌≡◌, List, length}
-use Rattle.pls_model.specs.Configuration.{ids_of}
+use Rattle.pls_configuration.specs.Configuration.{ids_of}
 use Rattle.pls_lines.specs.ListPart.{Remains}
 use Rattle.pls_labelfile.specs.LabelsText.{FitsLabel, NamedLabel, label_line}
 use Rattle.pls_labelfile.specs.inner.HexWord.{SaysLabels}

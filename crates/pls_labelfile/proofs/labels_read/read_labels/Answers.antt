@@ -1,8 +1,8 @@
 use Rattle.std.proofs.Common.{true, ◌∙◌, Err, ap}
 use Rattle.std.proofs.lemmas.List.{length-map}
 use Rattle.std.proofs.lemmas.Result.{err_from_is_err_and}
-use Rattle.pls_base.specs.declared.text_error.TextError.{TextError}
-use Rattle.pls_model.specs.Configuration.{ids_of}
+use Rattle.pls_streams.specs.declared.text_error.TextError.{TextError}
+use Rattle.pls_configuration.specs.Configuration.{ids_of}
 use Rattle.pls_lines.proofs.FormTold.{form_alone}
 use Rattle.pls_labelfile.specs.LabelsText.{IsLabelsPart}
 use Rattle.pls_labelfile.proofs.LabelsRead.{no_labels_told, form_never, store_told, store_long}

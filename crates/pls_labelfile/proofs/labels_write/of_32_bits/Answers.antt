@@ -1,7 +1,7 @@
 use Rattle.std.proofs.Common.{◌<◌, ◌^◌, arith, subst}
 use Rattle.std.specs.List.{All}
 use Rattle.std.proofs.lemmas.List.{length-map, take_all}
-use Rattle.pls_model.specs.Configuration.{ids_of}
+use Rattle.pls_configuration.specs.Configuration.{ids_of}
 use Rattle.pls_labelfile.proofs.LabelsWritten.{one_small_more}
 use Rattle.pls_labelfile.proofs.labels_write.of_32_bits.Goals as goal
 

@@ -1,6 +1,6 @@
 use Rattle.std.proofs.Common.{◌<◌, ◌^◌, take}
 use Rattle.std.specs.List.{All}
-use Rattle.pls_model.specs.Configuration.{ids_of}
+use Rattle.pls_configuration.specs.Configuration.{ids_of}
 use Rattle.pls_labelfile.proofs.labels_write.of_32_bits.Given as goal
 
 abbrev pub invariant-loop-place : goal.invariant-loop-place

@@ -1,7 +1,7 @@
 use Rattle.std.proofs.Common.{◌*◌, ◌+◌, ◌++◌, List, ℕ, ap, arith, drop, subst, take, ◌∙◌}
 use Rattle.std.proofs.lemmas.List.{take-append-drop, take_all}
-use Rattle.pls_base.specs.Gathered.{Wrote, WroteFront}
-use Rattle.pls_base.proofs.Written.{failed, front_first, front_later, wrote_both}
+use Rattle.pls_streams.specs.Gathered.{Wrote, WroteFront}
+use Rattle.pls_streams.proofs.Written.{failed, front_first, front_later, wrote_both}
 use Rattle.pls_bits.specs.Hex.{hex_digits}
 use Rattle.pls_bits.proofs.Text.{length-hex_digits}
 use Rattle.pls_labelfile.proofs.LabelsWritten.{digits_more}

@@ -1,5 +1,5 @@
 use Rattle.std.proofs.Common.{◌*◌, take}
-use Rattle.pls_base.specs.Gathered.{Wrote}
+use Rattle.pls_streams.specs.Gathered.{Wrote}
 use Rattle.pls_bits.specs.Hex.{hex_digits}
 use Rattle.pls_labelfile.proofs.labels_write.put_digits.Given as goal
 

@@ -1,6 +1,6 @@
 use Rattle.std.proofs.Common.{◌++◌, List, ℕ, codes, decimal, length, subst}
-use Rattle.pls_base.specs.Gathered.{Writes, WroteFront}
-use Rattle.pls_base.proofs.Written.{both, failed, front_first, front_later}
+use Rattle.pls_streams.specs.Gathered.{Writes, WroteFront}
+use Rattle.pls_streams.proofs.Written.{both, failed, front_first, front_later}
 use Rattle.pls_labelfile.specs.LabelsText.{hex_word}
 use Rattle.pls_labelfile.proofs.LabelsWritten.{line_written}
 use Rattle.pls_labelfile.proofs.labels_write.put_label.Goals as goal

@@ -1,8 +1,8 @@
 use Rattle.std.proofs.Common.{◌+◌, ◌≤◌, ◌++◌, ◌∷◌, ◌∙◌, [], List, ℕ, ap, append_assoc, arith, codes, length, map, min, subst, sym}
-use Rattle.pls_base.specs.Gathered.{Writes, Wrote, WroteFront}
-use Rattle.pls_base.proofs.Written.{both, failed, front_first, front_later, wrote_both}
+use Rattle.pls_streams.specs.Gathered.{Writes, Wrote, WroteFront}
+use Rattle.pls_streams.proofs.Written.{both, failed, front_first, front_later, wrote_both}
 use Rattle.pls_lines.specs.Text.{text_of}
-use Rattle.pls_model.specs.Configuration.{ids_of}
+use Rattle.pls_configuration.specs.Configuration.{ids_of}
 use Rattle.pls_labelfile.specs.LabelsText.{label_line, labelling_of, labels_heading, labels_text, named}
 use Rattle.pls_labelfile.proofs.LabelsWritten.{lines_behind, lines_so_far, none_behind, one_line_more, whole_text}
 use Rattle.pls_labelfile.proofs.labels_write.put_lines.Goals as goal

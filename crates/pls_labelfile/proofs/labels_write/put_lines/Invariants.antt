@@ -1,4 +1,4 @@
-use Rattle.pls_base.specs.Gathered.{Wrote}
+use Rattle.pls_streams.specs.Gathered.{Wrote}
 use Rattle.pls_lines.specs.Text.{text_of}
 use Rattle.pls_labelfile.proofs.LabelsWritten.{lines_so_far}
 use Rattle.pls_labelfile.proofs.labels_write.put_lines.Given as goal

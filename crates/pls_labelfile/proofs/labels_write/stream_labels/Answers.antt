@@ -1,5 +1,5 @@
-use Rattle.pls_base.proofs.Written.{part_of}
-use Rattle.pls_model.specs.Configuration.{ids_of}
+use Rattle.pls_streams.proofs.Written.{part_of}
+use Rattle.pls_configuration.specs.Configuration.{ids_of}
 use Rattle.pls_labelfile.specs.LabelsText.{labelling_of, labels_text, named}
 use Rattle.pls_labelfile.proofs.labels_write.stream_labels.Goals as goal
 

@@ -1,5 +1,5 @@
 use Rattle.std.proofs.Common.{ℕ, Vec, Global, ap, ◌∙◌}
-use Rattle.pls_model.specs.Configuration.{ids_of}
+use Rattle.pls_configuration.specs.Configuration.{ids_of}
 use Rattle.pls_labelfile.proofs.Named.{each_short, named_fit}
 use Rattle.pls_labelfile.proofs.labels_write.write_labels.Goals as goal
 

@@ -1,6 +1,6 @@
 use Rattle.std.proofs.Common.{◌≡◌, Bool, List, IfOk, sym, ◌∙◌, subst}
 use Rattle.std.proofs.lemmas.List.{length-map}
-use Rattle.pls_model.specs.Configuration.{ids_of}
+use Rattle.pls_configuration.specs.Configuration.{ids_of}
 use Rattle.pls_labelfile.specs.LabelsText.{Labelling, labelling_of, named}
 use Rattle.pls_labelfile.specs.LabelsScan.{TellsLabels}
 use Rattle.pls_labelfile.proofs.Named.{bare-named, net_labels_accepted}

@@ -1,7 +1,7 @@
 use Rattle.std.proofs.Common.{◌≡◌, ◌∙◌, ℕ, get_or, slice_get, Option, Some, None, ap, sym, arith}
 use Rattle.std.proofs.lemmas.Option.{same_Some, slice_get-get_or}
 use Rattle.std.specs.Option.{option_map}
-use Rattle.pls_model.specs.declared.row.NodeRow.{NodeRow}
+use Rattle.pls_configuration.specs.declared.row.NodeRow.{NodeRow}
 use Rattle.pls_leader.proofs.Counted.{parents_within}
 use Rattle.pls_leader.proofs.Written.{IsWritten, counted_right, written_own, written_parent}
 use Rattle.pls_leader.proofs.count_scheme.label_at.Goals.{in-Some, in-None}

@@ -1,6 +1,6 @@
 use Rattle.std.proofs.Common.{◌∙◌, ap}
 use Rattle.std.proofs.lemmas.Result.{err_from_is_err_and}
-use Rattle.pls_base.specs.declared.text_error.TextError.TheVariants.{Form}
+use Rattle.pls_streams.specs.declared.text_error.TextError.TheVariants.{Form}
 use Rattle.pls_lines.specs.Lines.{Left}
 use Rattle.pls_lines.proofs.ListItems.{fault_at_heading, fault_before_end, fault_at_end}
 use Rattle.pls_lines.proofs.ListPassed.{lines_passed, list_formed, list_passed, place_behind}

@@ -1,6 +1,6 @@
 use Rattle.std.proofs.Common.{◌≡◌, ◌∙◌, ◌&&◌, ◌||◌, ℕ, Bool, List, Option, Some, false, get_or, length, slice_get, sym, ap, arith}
 use Rattle.std.proofs.lemmas.List.{length-map, take_all}
-use Rattle.pls_view.specs.Seen.{Seen, SeenPort}
+use Rattle.pls_labels.specs.Seen.{Seen, SeenPort}
 use Rattle.pls_numbers.specs.Shape.{said_by}
 use Rattle.pls_facts.proofs.Lists.{item_mapped}
 use Rattle.pls_scheme.specs.Reading.{ReadPort, port_with, reading}

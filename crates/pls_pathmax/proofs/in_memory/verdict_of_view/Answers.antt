@@ -1,6 +1,6 @@
 use Rattle.std.proofs.Common.{◌≡◌, ◌∙◌, ◌<◌, ◌≤◌, ◌||◌, ℕ, Bool, false, List, Option, get_or, length, sym, ap, arith}
 use Rattle.std.proofs.lemmas.Option.{same_Some, slice_get_within}
-use Rattle.pls_view.specs.Seen.{Seen}
+use Rattle.pls_labels.specs.Seen.{Seen}
 use Rattle.pls_numbers.specs.Shape.{said_by}
 use Rattle.pls_scheme.specs.Reading.{Read, reading}
 use Rattle.pls_centroid.specs.declared.level.CentroidLevel.{CentroidLevel}

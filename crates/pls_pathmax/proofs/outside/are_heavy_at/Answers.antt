@@ -1,8 +1,8 @@
 use Rattle.std.proofs.Common.{◌≡◌, ◌∙◌, List, Some, slice_get, length, refl, ap, subst, arith}
 use Rattle.std.proofs.lemmas.Option.{slice_get_read}
-use Rattle.pls_model.specs.declared.row.Port.{Port}
-use Rattle.pls_model.specs.declared.row.State.{State}
-use Rattle.pls_model.specs.declared.row.NodeRow.{NodeRow}
+use Rattle.pls_configuration.specs.declared.row.Port.{Port}
+use Rattle.pls_configuration.specs.declared.row.State.{State}
+use Rattle.pls_configuration.specs.declared.row.NodeRow.{NodeRow}
 use Rattle.pls_graph.specs.Places.{named_places}
 use Rattle.pls_facts.proofs.Lists.{given_at, item_at}
 use Rattle.pls_scheme.specs.inner.Holding.{AreKnown}

@@ -1,6 +1,6 @@
 use Rattle.std.proofs.Common.{◌≡◌, ◌∙◌, arith, refl, subst, sym}
 use Rattle.std.proofs.lemmas.Option.{same_Some}
-use Rattle.pls_model.specs.Configuration.{IsNetwork}
+use Rattle.pls_configuration.specs.Configuration.{IsNetwork}
 use Rattle.pls_edits.specs.Edited.{place_for}
 use Rattle.pls_recheck.proofs.Coming.{place_inside, joined_and_left, joined_place, may_go}
 use Rattle.pls_recheck.proofs.joining.join_with_label.Goals as goal

@@ -1,6 +1,6 @@
 use Rattle.std.proofs.Common.{◌∙◌, ℕ, nat_lt, set, ap, arith, ◌^◌, ◌-◌}
-use Rattle.pls_view.specs.Labels.{bits_together}
-use Rattle.pls_model.specs.declared.limits.TheConstants.{MAX_BITS}
+use Rattle.pls_labels.specs.Labels.{bits_together}
+use Rattle.pls_configuration.specs.declared.limits.TheConstants.{MAX_BITS}
 use Rattle.pls_recheck.proofs.Relabelled.{lt_min}
 use Rattle.pls_recheck.proofs.labelling.is_full.Goals as goal
 

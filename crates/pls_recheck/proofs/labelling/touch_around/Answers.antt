@@ -1,5 +1,5 @@
 use Rattle.std.proofs.Common.{◌≡◌, true, ℕ, List, Some, set, slice_get, subst}
-use Rattle.pls_model.specs.declared.row.NodeRow.{NodeRow}
+use Rattle.pls_configuration.specs.declared.row.NodeRow.{NodeRow}
 use Rattle.pls_graph.proofs.Finds.{item_at}
 use Rattle.pls_recheck.specs.inner.Flags.{MarksMore, SetsAt, beside_itself}
 use Rattle.pls_recheck.proofs.Around.{marks_around, note_more}

@@ -1,7 +1,7 @@
 use Rattle.std.proofs.Common.{◌≡◌, ◌∙◌, inl, inr, ℕ, ◌+◌, ◌<◌, Bool, true, false, List, Some, Vec, Global, length, set, slice_get, sym, ap, subst, arith}
 use Rattle.std.proofs.lemmas.List.{length-set}
-use Rattle.pls_model.specs.declared.verdict.Verdict.{Verdict}
-use Rattle.pls_model.specs.Configuration.{ids_of}
+use Rattle.pls_configuration.specs.declared.verdict.Verdict.{Verdict}
+use Rattle.pls_configuration.specs.Configuration.{ids_of}
 use Rattle.pls_recheck.specs.inner.Flags.{AreCurrent, marked, set_among}
 use Rattle.pls_recheck.proofs.Cleared.{all_set, cleared_more, cleared_same, current_more, few_set, flag_was, judged_same, length-cleared, many_ids, marked_cleared, none_left, not_all_set, on_err, set_among_more, set_among_same}
 use Rattle.pls_recheck.proofs.rounds.judge_flagged.Goals.{then-index+in_ok-found, else-index}

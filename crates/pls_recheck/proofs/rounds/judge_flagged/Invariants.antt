@@ -1,5 +1,5 @@
 use Rattle.std.proofs.Common.{◌≡◌, length}
-use Rattle.pls_base.specs.Steps.{up_by}
+use Rattle.pls_streams.specs.Steps.{up_by}
 use Rattle.pls_recheck.specs.inner.Flags.{AreCurrent, cleared, set_among}
 use Rattle.pls_recheck.proofs.rounds.judge_flagged.Given as goal
 

@@ -1,5 +1,5 @@
 use Rattle.std.proofs.Common.{◌++◌, List, ℕ, codes, decimal}
-use Rattle.pls_base.proofs.Written.{both, failed, front_first, front_later, wrote_both}
+use Rattle.pls_streams.proofs.Written.{both, failed, front_first, front_later, wrote_both}
 use Rattle.pls_report.proofs.look.write_counts.Goals as goal
 
 pub returns : goal.returns

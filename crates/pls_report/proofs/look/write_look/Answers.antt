@@ -1,5 +1,5 @@
 use Rattle.pls_report.specs.Look.{look_text}
-use Rattle.pls_base.proofs.Written.{part_of}
+use Rattle.pls_streams.proofs.Written.{part_of}
 use Rattle.pls_report.proofs.look.write_look.Goals as goal
 
 pub returns-clause-part : goal.returns-clause-part

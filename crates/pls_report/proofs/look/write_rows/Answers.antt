@@ -1,7 +1,7 @@
 use Rattle.std.proofs.Common.{◌∙◌, ◌++◌, ◌∷◌, [], List, ℕ, append_assoc, subst, sym}
 use Rattle.pls_report.specs.Look.{look_closing}
-use Rattle.pls_base.specs.Gathered.{Writes, WroteFront}
-use Rattle.pls_base.proofs.Written.{both, failed, front_first, front_later, wrote_both}
+use Rattle.pls_streams.specs.Gathered.{Writes, WroteFront}
+use Rattle.pls_streams.proofs.Written.{both, failed, front_first, front_later, wrote_both}
 use Rattle.pls_report.proofs.LookTexts.{look_pieces}
 use Rattle.pls_report.proofs.look.write_rows.Goals as goal
 

@@ -1,5 +1,5 @@
 use Rattle.std.proofs.Common.{[], append-nil, map, refl}
-use Rattle.pls_base.proofs.Written.{failed}
+use Rattle.pls_streams.proofs.Written.{failed}
 use Rattle.pls_report.specs.PartLines.{part_line}
 use Rattle.pls_report.proofs.Lines.{failed_line, wrote_line}
 use Rattle.pls_report.proofs.part_lines.write_each.Goals as goal

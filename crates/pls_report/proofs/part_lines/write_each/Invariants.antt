@@ -1,7 +1,7 @@
 use Rattle.std.proofs.Common.{map, take}
 use Rattle.pls_lines.specs.Text.{text_of}
 use Rattle.pls_report.specs.PartLines.{part_line}
-use Rattle.pls_base.specs.Gathered.{Wrote}
+use Rattle.pls_streams.specs.Gathered.{Wrote}
 use Rattle.pls_report.proofs.part_lines.write_each.Given as goal
 
 abbrev pub invariant-loop-part : goal.invariant-loop-part

@@ -1,6 +1,6 @@
 use Rattle.std.proofs.Common.{◌++◌, List, ℕ, codes, decimal, subst}
-use Rattle.pls_base.specs.Gathered.{Writes, WroteFront}
-use Rattle.pls_base.proofs.Written.{both, failed, front_first, front_later, wrote_both}
+use Rattle.pls_streams.specs.Gathered.{Writes, WroteFront}
+use Rattle.pls_streams.proofs.Written.{both, failed, front_first, front_later, wrote_both}
 use Rattle.pls_report.specs.inner.Pieces.{waiting_tail}
 use Rattle.pls_report.proofs.Texts.{part_text}
 use Rattle.pls_report.proofs.part_lines.write_part.Goals as goal

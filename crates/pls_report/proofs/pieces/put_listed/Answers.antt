@@ -1,4 +1,4 @@
-use Rattle.pls_base.proofs.Written.{both, failed, front_first}
+use Rattle.pls_streams.proofs.Written.{both, failed, front_first}
 use Rattle.pls_report.proofs.pieces.put_listed.Goals as goal
 
 pub returns-in_err-put : goal.returns-in_err-put

@@ -1,7 +1,7 @@
 use Rattle.std.proofs.Common.{◌∙◌, ◌+◌, ◌++◌, List, ℕ, codes, decimal, drop, take, get_or, ap, subst}
-use Rattle.pls_base.specs.Gathered.{Wrote, WroteFront}
+use Rattle.pls_streams.specs.Gathered.{Wrote, WroteFront}
 use Rattle.pls_report.specs.inner.Pieces.{spaced}
-use Rattle.pls_base.proofs.Written.{failed, front_first, front_later, wrote_both}
+use Rattle.pls_streams.proofs.Written.{failed, front_first, front_later, wrote_both}
 use Rattle.pls_report.proofs.Texts.{spaced_more, spaced_rest}
 use Rattle.pls_report.proofs.pieces.put_spaced.Goals as goal
 

@@ -1,5 +1,5 @@
 use Rattle.std.proofs.Common.{take}
-use Rattle.pls_base.specs.Gathered.{Wrote}
+use Rattle.pls_streams.specs.Gathered.{Wrote}
 use Rattle.pls_report.specs.inner.Pieces.{spaced}
 use Rattle.pls_report.proofs.pieces.put_spaced.Given as goal
 

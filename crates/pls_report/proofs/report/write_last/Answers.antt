@@ -3,8 +3,8 @@ use Rattle.pls_lines.specs.Text.{text_of}
 use Rattle.pls_lines.specs.laws.Fronts.{text_of-append}
 use Rattle.pls_report.specs.PartLines.{if_several, part_line}
 use Rattle.pls_report.specs.Report.{closing_line}
-use Rattle.pls_base.specs.Gathered.{Writes, WroteFront}
-use Rattle.pls_base.proofs.Written.{both, failed, front_first}
+use Rattle.pls_streams.specs.Gathered.{Writes, WroteFront}
+use Rattle.pls_streams.proofs.Written.{both, failed, front_first}
 use Rattle.pls_report.proofs.report.write_last.Goals as goal
 
 pub returns : goal.returns

@@ -2,8 +2,8 @@ use Rattle.std.proofs.Common.{◌++◌, ◌∷◌, [], List, ℕ, map, take, sub
 use Rattle.pls_lines.specs.Text.{text_of}
 use Rattle.pls_report.specs.PartLines.{if_several, part_line}
 use Rattle.pls_report.specs.Report.{closing_line, outcome_line}
-use Rattle.pls_base.specs.Gathered.{Writes}
-use Rattle.pls_base.proofs.Written.{both, failed}
+use Rattle.pls_streams.specs.Gathered.{Writes}
+use Rattle.pls_streams.proofs.Written.{both, failed}
 use Rattle.pls_report.proofs.Lines.{failed_line, lines_closed, wrote_line}
 use Rattle.pls_report.proofs.report.write_lines.Goals as goal
 

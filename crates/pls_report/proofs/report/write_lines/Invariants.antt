@@ -1,7 +1,7 @@
 use Rattle.std.proofs.Common.{map, take}
 use Rattle.pls_lines.specs.Text.{text_of}
 use Rattle.pls_report.specs.Report.{outcome_line}
-use Rattle.pls_base.specs.Gathered.{Wrote}
+use Rattle.pls_streams.specs.Gathered.{Wrote}
 use Rattle.pls_report.proofs.report.write_lines.Given as goal
 
 abbrev pub invariant-loop-id : goal.invariant-loop-id

@@ -1,8 +1,8 @@
 use Rattle.std.proofs.Common.{◌++◌, List, ℕ, codes, decimal, subst}
 use Rattle.pls_sim.specs.declared.outcome.Outcome.TheVariants.{Waiting}
-use Rattle.pls_base.specs.Gathered.{Writes, WroteFront}
+use Rattle.pls_streams.specs.Gathered.{Writes, WroteFront}
 use Rattle.pls_report.specs.inner.Pieces.{outcome_tail}
-use Rattle.pls_base.proofs.Written.{both, failed, front_first, front_later, wrote_both}
+use Rattle.pls_streams.proofs.Written.{both, failed, front_first, front_later, wrote_both}
 use Rattle.pls_report.proofs.Texts.{node_text}
 use Rattle.pls_report.proofs.report.write_waiting_node.Goals as goal
 

@@ -1,8 +1,8 @@
 use Rattle.std.proofs.Common.{◌++◌, ◌∷◌, [], List, ℕ, map, refl, take, subst}
 use Rattle.pls_lines.specs.Text.{text_of}
 use Rattle.pls_report.specs.Report.{decided_line, round_line}
-use Rattle.pls_base.specs.Gathered.{Writes}
-use Rattle.pls_base.proofs.Written.{both, failed}
+use Rattle.pls_streams.specs.Gathered.{Writes}
+use Rattle.pls_streams.proofs.Written.{both, failed}
 use Rattle.pls_report.proofs.Lines.{failed_line, lines_closed, wrote_line}
 use Rattle.pls_report.proofs.Texts.{round_text}
 use Rattle.pls_report.proofs.round.write_decided.Goals as goal

@@ -1,6 +1,6 @@
 use Rattle.std.proofs.Common.{◌++◌, List, ℕ, codes, decimal}
 use Rattle.pls_report.specs.inner.Pieces.{connected_tail}
-use Rattle.pls_base.proofs.Written.{both, failed, front_first, front_later, wrote_both}
+use Rattle.pls_streams.proofs.Written.{both, failed, front_first, front_later, wrote_both}
 use Rattle.pls_report.proofs.round.write_numbers.Goals as goal
 
 pub returns : goal.returns

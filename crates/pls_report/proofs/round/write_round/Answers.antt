@@ -1,5 +1,5 @@
 use Rattle.pls_report.specs.Report.{round_text}
-use Rattle.pls_base.proofs.Written.{part_of}
+use Rattle.pls_streams.proofs.Written.{part_of}
 use Rattle.pls_report.proofs.round.write_round.Goals as goal
 
 pub returns-clause-part : goal.returns-clause-part

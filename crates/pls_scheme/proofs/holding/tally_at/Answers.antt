@@ -1,6 +1,6 @@
 use Rattle.std.proofs.Common.{◌≡◌, ◌∙◌, ◌+◌, ◌++◌, ◌∷◌, [], List, Some, ap, arith, map, take, get_or, refl, slice_get}
 use Rattle.std.proofs.lemmas.Option.{slice_get-get_or}
-use Rattle.pls_model.specs.declared.row.Port.{Port}
+use Rattle.pls_configuration.specs.declared.row.Port.{Port}
 use Rattle.pls_graph.specs.Places.{place_in}
 use Rattle.pls_facts.proofs.Lists.{map-take_more}
 use Rattle.pls_scheme.specs.Reading.{ReadPort, port_with, port_where}

@@ -1,9 +1,9 @@
 use Rattle.std.proofs.Common.{get_or, ◌≡◌, ◌<◌, ◌∙◌, ap, length, map, slice_get, sym, List, Some, refl, subst, arith}
 use Rattle.std.specs.Option.{option_copied}
 use Rattle.std.proofs.lemmas.Option.{slice_get-get_or, slice_get_read}
-use Rattle.pls_model.specs.declared.row.Port.{Port}
-use Rattle.pls_model.specs.declared.row.State.{State}
-use Rattle.pls_model.specs.declared.row.NodeRow.{NodeRow}
+use Rattle.pls_configuration.specs.declared.row.Port.{Port}
+use Rattle.pls_configuration.specs.declared.row.State.{State}
+use Rattle.pls_configuration.specs.declared.row.NodeRow.{NodeRow}
 use Rattle.pls_graph.specs.Places.{named_places}
 use Rattle.pls_graph.proofs.Placed.{pointer_within}
 use Rattle.pls_facts.proofs.Lists.{given_at, item_at}

@@ -1,11 +1,11 @@
 use Rattle.std.proofs.Common.{◌≡◌, ◌∙◌, is_some, arith, length, List, Some, slice_get, sym, ap, subst}
 use Rattle.std.specs.Option.{option_copied}
 use Rattle.std.proofs.lemmas.List.{length-map}
-use Rattle.pls_model.specs.declared.row.Port.{Port}
-use Rattle.pls_model.specs.declared.verdict.Verdict.TheVariants.{Reject}
+use Rattle.pls_configuration.specs.declared.row.Port.{Port}
+use Rattle.pls_configuration.specs.declared.verdict.Verdict.TheVariants.{Reject}
 use Rattle.pls_facts.proofs.Lists.{item_at}
-use Rattle.pls_view.specs.Seen.{Seen, SeenPort, label_of, seen_port}
-use Rattle.pls_view.proofs.Views.{placed}
+use Rattle.pls_labels.specs.Seen.{Seen, SeenPort, label_of, seen_port}
+use Rattle.pls_labels.proofs.Views.{placed}
 use Rattle.pls_scheme.specs.Reading.{judge_by}
 use Rattle.pls_scheme.specs.inner.Looks.{seen_above, seen_in}
 use Rattle.pls_scheme.proofs.LookedAt.{above_kept, is_shown, kept_there, place_for_port, places_for_ports, pointer_some, read_there, shown_from}

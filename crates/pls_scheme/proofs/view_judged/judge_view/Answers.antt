@@ -1,6 +1,6 @@
 use Rattle.std.proofs.Common.{◌≡◌, ◌∙◌, ◌≤◌, ℕ, Bool, List, Option, Some, length, slice_get, take, sym, ap, arith, if◌then◌else◌}
 use Rattle.std.proofs.lemmas.List.{length-map, take_all}
-use Rattle.pls_view.specs.Seen.{Seen, SeenPort}
+use Rattle.pls_labels.specs.Seen.{Seen, SeenPort}
 use Rattle.pls_facts.proofs.Lists.{item_mapped}
 use Rattle.pls_scheme.specs.Reading.{is_pointer}
 use Rattle.pls_scheme.specs.inner.Looks.{seen_above, seen_in}

@@ -1,6 +1,6 @@
 use Rattle.std.proofs.Common.{◌≡◌, ◌∙◌, ◌<◌, ℕ, List, [], ◌∷◌, Option, None, Some, heap_items, rules, false, not, IsPermutation, is_some, length, replicate, slice_get, slice_index_or, sym, ap, subst, arith}
 use Rattle.std.proofs.lemmas.List.{nil_from_length}
-use Rattle.pls_model.specs.declared.row.NodeRow.{NodeRow}
+use Rattle.pls_configuration.specs.declared.row.NodeRow.{NodeRow}
 use Rattle.pls_graph.proofs.Finds.{item_at, Some-is_some}
 use Rattle.pls_search.specs.inner.Ahead.{Ahead, reached_by}
 use Rattle.pls_search.specs.inner.Noting.{IsNoted}

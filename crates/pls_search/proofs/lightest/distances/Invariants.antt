@@ -2,7 +2,7 @@ use Rattle.std.proofs.Common.{◌+◌, ◌*◌, count_by, is_none, heap_items, h
 use Rattle.std.specs.BinaryHeap.{IsHeap}
 use Rattle.pls_search.specs.inner.Ahead.{by_weight}
 use Rattle.pls_search.proofs.Reaching.{Reaching}
-use Rattle.pls_model.specs.declared.limits.TheConstants.{MAX_PORTS}
+use Rattle.pls_configuration.specs.declared.limits.TheConstants.{MAX_PORTS}
 use Rattle.pls_search.proofs.lightest.distances.Given as goal
 
 abbrev pub invariant-loop-weight : goal.invariant-loop-weight

@@ -1,5 +1,5 @@
 use Rattle.std.proofs.Common.{◌≡◌, ◌+◌, ◌++◌, ◌<◌, ◌^◌, map, take, All, IsPermutation}
-use Rattle.pls_model.specs.declared.row.Port.{Port}
+use Rattle.pls_configuration.specs.declared.row.Port.{Port}
 use Rattle.std.specs.BinaryHeap.{IsHeap, heap_items, heap_len}
 use Rattle.pls_search.specs.inner.Ahead.{by_weight, reached_at}
 use Rattle.pls_search.proofs.lightest.look_beside.Given as goal

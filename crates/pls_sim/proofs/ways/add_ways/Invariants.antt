@@ -1,5 +1,5 @@
 use Rattle.std.proofs.Common.{◌≡◌, ◌+◌, length, take}
-use Rattle.pls_model.specs.Configuration.{ports_in}
+use Rattle.pls_configuration.specs.Configuration.{ports_in}
 use Rattle.pls_sim.specs.Ways.{LeadBack}
 use Rattle.pls_sim.proofs.ways.add_ways.Given as goal
 

@@ -1,5 +1,5 @@
 use Rattle.std.proofs.Common.{◌∙◌, sym, subst, ap, map}
-use Rattle.pls_model.specs.Configuration.{AreWithinLimits}
+use Rattle.pls_configuration.specs.Configuration.{AreWithinLimits}
 use Rattle.pls_splice.specs.Crossing.{cross_row}
 use Rattle.pls_splice.specs.declared.crossing.Ends.{Ends}
 use Rattle.pls_splice.proofs.CrossedRows.{crossed_network}

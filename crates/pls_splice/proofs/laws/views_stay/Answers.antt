@@ -1,5 +1,5 @@
 use Rattle.std.proofs.Common.{List, map, ap}
-use Rattle.pls_view.specs.Seen.{Seen}
+use Rattle.pls_labels.specs.Seen.{Seen}
 use Rattle.pls_splice.proofs.SameViews.{same_views}
 use Rattle.pls_splice.proofs.laws.views_stay.Goals as goal
 

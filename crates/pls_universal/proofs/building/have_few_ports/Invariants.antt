@@ -1,5 +1,5 @@
 use Rattle.std.proofs.Common.{◌≡◌, ◌+◌, take}
-use Rattle.pls_model.specs.declared.limits.TheConstants.{MAX_PORTS}
+use Rattle.pls_configuration.specs.declared.limits.TheConstants.{MAX_PORTS}
 use Rattle.pls_universal.specs.inner.Stating.{ports_stated}
 use Rattle.pls_universal.proofs.building.have_few_ports.Given as goal
 

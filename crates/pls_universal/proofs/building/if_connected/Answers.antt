@@ -1,5 +1,5 @@
 use Rattle.std.proofs.Common.{refl, IfNone, IfSome, subst}
-use Rattle.pls_model.specs.Walk.{IsConnected}
+use Rattle.pls_configuration.specs.Walk.{IsConnected}
 use Rattle.pls_graph.specs.Connected.{IsFirstApart}
 use Rattle.pls_universal.specs.laws.MapMet.{connected-joined}
 use Rattle.pls_universal.proofs.Buildable.{apart-none}

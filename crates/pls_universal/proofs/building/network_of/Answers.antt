@@ -1,5 +1,5 @@
 use Rattle.std.proofs.Common.{◌∙◌, sym, subst}
-use Rattle.pls_model.specs.Configuration.{AreWithinLimits}
+use Rattle.pls_configuration.specs.Configuration.{AreWithinLimits}
 use Rattle.pls_universal.specs.laws.RuleLaws.{limits-are}
 use Rattle.pls_universal.proofs.Buildable.{pointers-none}
 use Rattle.pls_universal.proofs.building.network_of.Goals as goal

@@ -1,5 +1,5 @@
 use Rattle.std.proofs.Common.{Some, subst, sym}
-use Rattle.pls_model.specs.Walk.{IsConnected}
+use Rattle.pls_configuration.specs.Walk.{IsConnected}
 use Rattle.pls_universal.specs.laws.RuleLaws.{network-is}
 use Rattle.pls_universal.specs.inner.Stating.{IsNetworkOf}
 use Rattle.pls_universal.proofs.Buildable.{told}

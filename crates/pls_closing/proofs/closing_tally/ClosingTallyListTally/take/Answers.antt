@@ -1,5 +1,5 @@
 use Rattle.std.proofs.Common.{◌∙◌, ◌+◌, ap, sym}
-use Rattle.pls_base.specs.Steps.{capped}
+use Rattle.pls_streams.specs.Steps.{capped}
 use Rattle.pls_closing.specs.laws.ClosedLists.{closed_push}
 use Rattle.pls_closing.proofs.Pushed.{begun_push, bits_push, closing_push, lines_push, other_push}
 use Rattle.pls_closing.proofs.closing_tally.ClosingTallyListTally.take.Goals as goal

@@ -1,5 +1,5 @@
 use Rattle.std.proofs.Common.{◌≡◌, ℕ, List, Option, IfSome, get_or, arith, refl, subst, sym}
-use Rattle.pls_model.specs.declared.row.Port.{Port}
+use Rattle.pls_configuration.specs.declared.row.Port.{Port}
 use Rattle.pls_scheme.specs.Reading.{ReadPort}
 use Rattle.pls_compile.proofs.TableRead.{port_read, ports_many}
 use Rattle.pls_compile.proofs.in_network.InNetworkSees.weight.Goals as goal

@@ -1,7 +1,7 @@
 use Rattle.std.proofs.Common.{◌≡◌, ◌∙◌, ◌<◌, List, ap, arith, length, map, sym}
 use Rattle.std.proofs.lemmas.List.{length-map}
-use Rattle.pls_view.specs.Seen.{Seen, SeenPort}
-use Rattle.pls_view.specs.declared.view.PortView.{PortView}
+use Rattle.pls_labels.specs.Seen.{Seen, SeenPort}
+use Rattle.pls_labels.specs.declared.view.PortView.{PortView}
 use Rattle.pls_compile.specs.ReadLabels.{port_values}
 use Rattle.pls_compile.proofs.ShownPorts.{weight_shown, shows}
 use Rattle.pls_compile.proofs.in_view.InViewSees.weight.Goals as goal

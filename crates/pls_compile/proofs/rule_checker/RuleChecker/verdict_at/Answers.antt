@@ -1,6 +1,6 @@
 use Rattle.std.proofs.Common.{◌≡◌, ◌∙◌, ap, arith, length, subst, sym}
 use Rattle.std.proofs.lemmas.List.{length-map}
-use Rattle.pls_view.proofs.Few.{proper_at}
+use Rattle.pls_labels.proofs.Few.{proper_at}
 use Rattle.pls_rules.specs.declared.rule_set.RuleSet.{RuleSet}
 use Rattle.pls_rules.specs.RuleSet.{kinds_of}
 use Rattle.pls_rules.specs.HeldTrees.{set_of}

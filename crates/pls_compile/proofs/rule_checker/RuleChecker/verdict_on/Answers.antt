@@ -1,7 +1,7 @@
 use Rattle.std.proofs.Common.{◌≡◌, ◌∙◌, List, length, map, not, sym, ap, take, true}
 use Rattle.std.specs.Option.{is_some}
-use Rattle.pls_view.specs.Seen.{Seen}
-use Rattle.pls_view.specs.declared.view.PortView.{PortView}
+use Rattle.pls_labels.specs.Seen.{Seen}
+use Rattle.pls_labels.specs.declared.view.PortView.{PortView}
 use Rattle.pls_numbers.specs.declared.kind.FieldKind.{FieldKind}
 use Rattle.pls_rules.specs.declared.rule_set.RuleSet.{RuleSet}
 use Rattle.pls_rules.specs.HeldTrees.{set_of}

@@ -1,7 +1,7 @@
 use Rattle.std.proofs.Common.{◌≡◌, ◌∙◌, ◌+◌, length, slice_get, Some, arith}
 use Rattle.std.proofs.lemmas.List.{length-map}
 use Rattle.pls_bits.specs.Gamma.{gamma_takes}
-use Rattle.pls_view.specs.Seen.{Seen, label_of, seen, views}
+use Rattle.pls_labels.specs.Seen.{Seen, label_of, seen, views}
 use Rattle.pls_facts.proofs.Lists.{item_at, map-take_more}
 use Rattle.pls_rules.specs.HeldTrees.{set_of}
 use Rattle.pls_compile.specs.RuleMeaning.{meaning}

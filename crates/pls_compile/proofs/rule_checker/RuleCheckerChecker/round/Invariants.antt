@@ -1,7 +1,7 @@
 use Rattle.std.proofs.Common.{◌≡◌, map, take}
-use Rattle.pls_base.specs.Steps.{up_by}
+use Rattle.pls_streams.specs.Steps.{up_by}
 use Rattle.pls_bits.specs.Gamma.{gamma_takes}
-use Rattle.pls_view.specs.Seen.{views}
+use Rattle.pls_labels.specs.Seen.{views}
 use Rattle.pls_rules.specs.HeldTrees.{set_of}
 use Rattle.pls_compile.specs.RuleMeaning.{meaning}
 use Rattle.pls_compile.proofs.rule_checker.RuleCheckerChecker.round.Given as goal

@@ -1,5 +1,5 @@
 use Rattle.std.proofs.Common.{◌≡◌, ◌∙◌, ◌==◌, ℕ, List, Option, None, Some, true, false, length, position, sym, subst}
-use Rattle.pls_model.specs.declared.row.NodeRow.{NodeRow}
+use Rattle.pls_configuration.specs.declared.row.NodeRow.{NodeRow}
 use Rattle.pls_distance.specs.inner.Following.{AreFollowed, AreLabelsSoFar}
 use Rattle.pls_distance.proofs.Followed.{followed_right, followed_shortest, root_place, shortest_followed}
 use Rattle.pls_distance.proofs.spt_scheme.SptRulesMarker.right_labels.Goals as goal

@@ -1,5 +1,5 @@
 use Rattle.std.proofs.Common.{◌≡◌, map, take}
-use Rattle.pls_view.specs.Seen.{views}
+use Rattle.pls_labels.specs.Seen.{views}
 use Rattle.pls_scheme.specs.Basic.{verdict_by}
 use Rattle.pls_pathmax.specs.Labels.{pathmax_shape}
 use Rattle.pls_pathmax.specs.Rules.{pathmax_rules}

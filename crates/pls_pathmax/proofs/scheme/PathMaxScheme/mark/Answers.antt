@@ -1,7 +1,7 @@
 use Rattle.std.proofs.Common.{◌≤◌, List, Bool, ap, length, arith}
 use Rattle.pls_graph.specs.declared.size.Size.{Size}
 use Rattle.pls_graph.specs.Size.{size_of}
-use Rattle.pls_base.specs.Steps.{capped}
+use Rattle.pls_streams.specs.Steps.{capped}
 use Rattle.pls_numbers.specs.Shape.{IsSpelled, IsWritable, said_by}
 use Rattle.pls_numbers.specs.laws.FormatLaws.{said_spells}
 use Rattle.pls_scheme.specs.Theorem.{AreWords}

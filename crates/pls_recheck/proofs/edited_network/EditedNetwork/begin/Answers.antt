@@ -1,6 +1,6 @@
 use Rattle.std.proofs.Common.{arith, ◌≡◌, ◌∙◌, ℕ, Bool, List, Some, false, true, length, replicate, slice_get, ap, subst}
 use Rattle.std.proofs.lemmas.List.{length-replicate}
-use Rattle.pls_model.specs.Configuration.{ids_of}
+use Rattle.pls_configuration.specs.Configuration.{ids_of}
 use Rattle.pls_recheck.proofs.Marked.{among_itself, id_at_view, marked_all_rows, none_is_set}
 use Rattle.pls_recheck.proofs.edited_network.EditedNetwork.begin.Goals as goal
 

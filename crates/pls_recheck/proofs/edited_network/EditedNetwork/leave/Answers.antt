@@ -1,5 +1,5 @@
 use Rattle.std.proofs.Common.{◌≡◌, ◌∙◌, Some, ap, refl, subst, sym}
-use Rattle.pls_model.specs.declared.row.NodeRow.{NodeRow}
+use Rattle.pls_configuration.specs.declared.row.NodeRow.{NodeRow}
 use Rattle.pls_graph_edits.specs.declared.edit_error.EditError.TheVariants.{Absent}
 use Rattle.pls_graph_edits.specs.Edits.{leave_refusal, left}
 use Rattle.pls_edits.specs.declared.edit.Edit.TheVariants.{Leave}

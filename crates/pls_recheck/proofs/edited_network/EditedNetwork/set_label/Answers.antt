@@ -1,7 +1,7 @@
 use Rattle.std.proofs.Common.{◌≡◌, ◌∙◌, ℕ, Bool, ◌==◌, ◌||◌, List, None, Some, cond, length, set, ap, refl, subst, sym}
 use Rattle.std.proofs.lemmas.List.{length-set}
-use Rattle.pls_model.specs.declared.row.NodeRow.{NodeRow}
-use Rattle.pls_model.specs.Configuration.{ids_of}
+use Rattle.pls_configuration.specs.declared.row.NodeRow.{NodeRow}
+use Rattle.pls_configuration.specs.Configuration.{ids_of}
 use Rattle.pls_graph_edits.specs.declared.edit_error.EditError.TheVariants.{Absent, Full}
 use Rattle.pls_graph_edits.specs.Edits.{are_linked}
 use Rattle.pls_edits.specs.Edited.{label_refusal}

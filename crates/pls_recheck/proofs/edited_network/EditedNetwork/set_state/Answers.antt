@@ -1,6 +1,6 @@
 use Rattle.std.proofs.Common.{◌≡◌, ◌∙◌, ℕ, Bool, ◌==◌, List, ap, refl, subst, sym}
-use Rattle.pls_model.specs.declared.row.NodeRow.{NodeRow}
-use Rattle.pls_model.specs.Configuration.{ids_of}
+use Rattle.pls_configuration.specs.declared.row.NodeRow.{NodeRow}
+use Rattle.pls_configuration.specs.Configuration.{ids_of}
 use Rattle.pls_graph_edits.specs.Edits.{in_state}
 use Rattle.pls_recheck.specs.After.{watch_after}
 use Rattle.pls_recheck.specs.Watch.{IsCurrent, Snapshot}

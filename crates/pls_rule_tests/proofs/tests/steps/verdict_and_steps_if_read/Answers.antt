@@ -2,8 +2,8 @@ use Rattle.std.proofs.Common.{◌≡◌, ◌∙◌, List, ap, map, subst, sym, t
 use Rattle.std.specs.List.{list_all}
 use Rattle.std.proofs.lemmas.List.Folds.{list_all-map}
 use Rattle.pls_numbers.specs.declared.kind.FieldKind.{FieldKind}
-use Rattle.pls_view.specs.Seen.{Seen, SeenPort}
-use Rattle.pls_view.specs.declared.view.PortView.{PortView}
+use Rattle.pls_labels.specs.Seen.{Seen, SeenPort}
+use Rattle.pls_labels.specs.declared.view.PortView.{PortView}
 use Rattle.pls_compile.specs.ReadLabels.{is_read}
 use Rattle.pls_compile.proofs.ShownPorts.{shows}
 use Rattle.pls_rule_tests.proofs.tests.steps.verdict_and_steps_if_read.Goals as goal

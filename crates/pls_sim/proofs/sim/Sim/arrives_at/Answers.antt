@@ -1,5 +1,5 @@
 use Rattle.std.proofs.Common.{◌≡◌, ◌∙◌, ◌-◌, ◌<◌, ℕ, suc, List, length, Some, get_or, slice_get, ap, subst, arith}
-use Rattle.pls_model.specs.declared.row.NodeRow.{NodeRow}
+use Rattle.pls_configuration.specs.declared.row.NodeRow.{NodeRow}
 use Rattle.pls_sim.specs.Applying.{Played}
 use Rattle.pls_sim.specs.Arriving.{ArrivesAt}
 use Rattle.pls_sim.specs.Schedule.{emit_number, emits_of}

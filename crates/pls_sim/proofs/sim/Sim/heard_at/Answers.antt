@@ -1,7 +1,7 @@
 use Rattle.std.proofs.Common.{◌≡◌, ◌∙◌, ℕ, List, Some, nat_lt, get_or, slice_get, sym, ap, subst, arith}
 use Rattle.std.proofs.lemmas.Option.{slice_get_within}
-use Rattle.pls_model.specs.declared.row.NodeRow.{NodeRow}
-use Rattle.pls_model.specs.Configuration.{ports_in}
+use Rattle.pls_configuration.specs.declared.row.NodeRow.{NodeRow}
+use Rattle.pls_configuration.specs.Configuration.{ports_in}
 use Rattle.pls_sim.specs.Applying.{Played}
 use Rattle.pls_sim.specs.Schedule.{has_heard}
 use Rattle.pls_sim.specs.Ways.{IsSlot}

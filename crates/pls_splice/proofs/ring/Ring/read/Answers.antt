@@ -1,6 +1,6 @@
 use Rattle.std.proofs.Common.{ℕ, Option, IfNone, IfSome, find, sym, subst}
-use Rattle.pls_model.specs.declared.row.NodeRow.{NodeRow}
-use Rattle.pls_model.specs.Walk.{IsConnected}
+use Rattle.pls_configuration.specs.declared.row.NodeRow.{NodeRow}
+use Rattle.pls_configuration.specs.Walk.{IsConnected}
 use Rattle.pls_graph.specs.Connected.{IsFirstApart}
 use Rattle.pls_graph.proofs.Finds.{None-option_map}
 use Rattle.pls_splice.specs.Ring.{IsOrder, IsRing, has_not_two}

@@ -1,6 +1,6 @@
 use Rattle.std.proofs.Common.{List}
 use Rattle.std.specs.Bool.{⊤}
-use Rattle.pls_model.specs.declared.row.NodeRow.{NodeRow}
+use Rattle.pls_configuration.specs.declared.row.NodeRow.{NodeRow}
 use Rattle.pls_numbers.specs.Shape.{IsSpelled}
 use Rattle.pls_numbers.specs.laws.FormatLaws.{one_spelling}
 use Rattle.pls_scheme.specs.laws.Marking.{marked_once}

@@ -1,6 +1,6 @@
 use Rattle.std.proofs.Common.{◌∙◌, ◌+◌, arith}
-use Rattle.pls_view.specs.Seen.{views}
-use Rattle.pls_view.proofs.Views.{own_at}
+use Rattle.pls_labels.specs.Seen.{views}
+use Rattle.pls_labels.proofs.Views.{own_at}
 use Rattle.pls_facts.proofs.Lists.{map-take_more}
 use Rattle.pls_scheme.specs.Reading.{judge_by}
 use Rattle.pls_numbers.specs.Shape.{said_by}

@@ -1,6 +1,6 @@
 use Rattle.std.proofs.Common.{◌≡◌, map, take}
-use Rattle.pls_base.specs.Steps.{up_by}
-use Rattle.pls_view.specs.Seen.{views}
+use Rattle.pls_streams.specs.Steps.{up_by}
+use Rattle.pls_labels.specs.Seen.{views}
 use Rattle.pls_scheme.specs.Reading.{judge_by}
 use Rattle.pls_numbers.specs.Shape.{said_by}
 use Rattle.pls_universal.specs.Reading.{map_shape}

@@ -1,5 +1,5 @@
 use Rattle.std.proofs.Common.{◌∙◌, List, ap, sym, subst}
-use Rattle.pls_model.specs.declared.row.NodeRow.{NodeRow}
+use Rattle.pls_configuration.specs.declared.row.NodeRow.{NodeRow}
 use Rattle.pls_watch.specs.Watching.{Watched}
 use Rattle.pls_watch.specs.inner.Current.{IsCurrent, IsNoted}
 use Rattle.pls_watch.proofs.Current.{current_next}

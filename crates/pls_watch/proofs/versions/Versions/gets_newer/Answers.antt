@@ -1,5 +1,5 @@
 use Rattle.std.proofs.Common.{◌≡◌, ◌∙◌, ◌-◌, List, length, None, Some, ap, arith, slice_get}
-use Rattle.pls_model.specs.Configuration.{ports_in}
+use Rattle.pls_configuration.specs.Configuration.{ports_in}
 use Rattle.pls_sim.specs.Schedule.{Sent, emit_number, emits_of}
 use Rattle.pls_watch.specs.Versions.{plain_of}
 use Rattle.pls_watch.specs.Turning.{Turned}

@@ -1,6 +1,6 @@
 use Rattle.std.proofs.Common.{◌≡◌, ◌∙◌, ℕ, List, Some, get_or, slice_get, sym, ap, subst, arith}
-use Rattle.pls_model.specs.declared.row.NodeRow.{NodeRow}
-use Rattle.pls_model.specs.Configuration.{ports_in}
+use Rattle.pls_configuration.specs.declared.row.NodeRow.{NodeRow}
+use Rattle.pls_configuration.specs.Configuration.{ports_in}
 use Rattle.pls_sim.specs.Ways.{IsSlot}
 use Rattle.pls_sim.proofs.Numbering.{value_at}
 use Rattle.pls_watch.specs.Versions.{held}

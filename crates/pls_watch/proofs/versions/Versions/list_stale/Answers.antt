@@ -1,5 +1,5 @@
 use Rattle.std.proofs.Common.{◌∙◌, ◌∷◌, ◌++◌, ◌+◌, [], ℕ, List, length, slice_get, drop, sym, ap, arith, append_assoc}
-use Rattle.pls_model.specs.declared.row.NodeRow.{NodeRow}
+use Rattle.pls_configuration.specs.declared.row.NodeRow.{NodeRow}
 use Rattle.pls_watch.specs.Turning.{Turned}
 use Rattle.pls_sim.specs.Schedule.{failing_from}
 use Rattle.pls_watch.specs.Versions.{is_fresh}

@@ -1,5 +1,5 @@
 use Rattle.std.proofs.Common.{◌≡◌, ◌≤◌, Some, slice_get}
-use Rattle.pls_model.specs.declared.row.NodeRow.{NodeRow}
+use Rattle.pls_configuration.specs.declared.row.NodeRow.{NodeRow}
 use Rattle.pls_watch.specs.inner.Numbers.{IsLabel}
 use Rattle.pls_watch.proofs.versions.Versions.number_of.Given as goal
 

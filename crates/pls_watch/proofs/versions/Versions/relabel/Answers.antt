@@ -1,7 +1,7 @@
 use Rattle.std.proofs.Common.{◌≡◌, ◌∙◌, ◌<◌, ◌+◌, ◌==◌, length, get_or, position, Option, Some, is_none, sym, ap, arith}
 use Rattle.std.proofs.lemmas.Option.{slice_get_within}
-use Rattle.pls_model.specs.declared.row.NodeRow.{NodeRow}
-use Rattle.pls_model.specs.Configuration.{row_of}
+use Rattle.pls_configuration.specs.declared.row.NodeRow.{NodeRow}
+use Rattle.pls_configuration.specs.Configuration.{row_of}
 use Rattle.pls_sim.specs.Applying.{refused_if}
 use Rattle.pls_sim.specs.declared.event_error.EventError.TheVariants.{NoNode}
 use Rattle.pls_sim.proofs.Numbering.{value_at}

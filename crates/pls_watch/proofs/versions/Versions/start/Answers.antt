@@ -1,6 +1,6 @@
 use Rattle.std.proofs.Common.{rules, ◌≡◌, ◌∙◌, ℕ, length, replicate, ap, subst}
 use Rattle.std.proofs.lemmas.List.{length-replicate}
-use Rattle.pls_model.specs.Configuration.{ports_in}
+use Rattle.pls_configuration.specs.Configuration.{ports_in}
 use Rattle.pls_watch.specs.inner.Columns.{VersionColumns}
 use Rattle.pls_watch.specs.inner.Numbers.{ArePlaces}
 use Rattle.pls_watch.proofs.Keep.{kept_start}

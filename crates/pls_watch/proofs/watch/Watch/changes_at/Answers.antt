@@ -1,6 +1,6 @@
 use Rattle.std.proofs.Common.{◌≡◌, ◌∙◌, List, Some, [], ◌∷◌, ◌++◌, slice_get, sym, ap}
 use Rattle.std.proofs.lemmas.List.{map-append}
-use Rattle.pls_model.specs.declared.row.NodeRow.{NodeRow}
+use Rattle.pls_configuration.specs.declared.row.NodeRow.{NodeRow}
 use Rattle.pls_watch.specs.Labelled.{turn_of, turns_of}
 use Rattle.pls_watch.specs.Versions.{held, relabels}
 use Rattle.pls_watch.specs.Watching.{Watched}

@@ -1,5 +1,5 @@
 use Rattle.std.proofs.Common.{◌≡◌, ◌∙◌, ℕ, ◌+◌, List, ◌++◌, length, drop, slice_get, sym, ap, subst, arith}
-use Rattle.pls_model.specs.Configuration.{IsNetwork}
+use Rattle.pls_configuration.specs.Configuration.{IsNetwork}
 use Rattle.pls_sim.specs.Schedule.{has_heard, failing_from}
 use Rattle.pls_sim.proofs.Outcomes.{they_rise}
 use Rattle.pls_sim.proofs.Unheard.{all_passed, has_port, passes_heard, port_small}
@@ -8,7 +8,7 @@ use Rattle.pls_watch.specs.inner.Known.{is_heard, is_newest}
 use Rattle.pls_watch.proofs.Looked.{stale_rise}
 use Rattle.pls_watch.proofs.Walked.{adds_one}
 use Rattle.pls_watch.proofs.watch.Watch.know.Goals.{in-Unheard+in_ok-push-in-Unheard, in-Stale+in_ok-push-in-Stale, in-Fresh}
-use Rattle.pls_model.specs.declared.row.NodeRow.{NodeRow}
+use Rattle.pls_configuration.specs.declared.row.NodeRow.{NodeRow}
 use Rattle.pls_graph.proofs.Finds.{item_at}
 use Rattle.pls_sim.proofs.Refusing.{ports_at}
 use Rattle.pls_watch.specs.Labelled.{turns_of}

@@ -1,7 +1,7 @@
 use Rattle.std.proofs.Common.{◌≡◌, ◌∙◌, false, List, [], ◌∷◌, ◌++◌, sym, ap, subst}
 use Rattle.std.specs.Option.{IfSome}
 use Rattle.std.proofs.lemmas.List.{map-append}
-use Rattle.pls_model.specs.declared.row.NodeRow.{NodeRow}
+use Rattle.pls_configuration.specs.declared.row.NodeRow.{NodeRow}
 use Rattle.pls_watch.specs.declared.turn.Turn.{Turn}
 use Rattle.pls_watch.specs.Labelled.{turn_of, turns_of}
 use Rattle.pls_watch.specs.Turning.{restarts_in}

@@ -1,5 +1,5 @@
 use Rattle.std.proofs.Common.{◌∙◌, ◌+◌, length, ap, arith}
-use Rattle.pls_model.specs.declared.row.NodeRow.{NodeRow}
+use Rattle.pls_configuration.specs.declared.row.NodeRow.{NodeRow}
 use Rattle.pls_facts.proofs.Lists.{map-take_more}
 use Rattle.pls_graph.proofs.Finds.{item_at}
 use Rattle.pls_watch.specs.Watching.{outcome_in, stale_in}

@@ -1,6 +1,6 @@
 use Rattle.std.proofs.Common.{◌≡◌, ◌∙◌, ℕ, ◌+◌, List, Bool, length, set, Some, sym, ap, subst, arith}
 use Rattle.pls_sim.specs.declared.event_error.EventError.{EventError}
-use Rattle.pls_view.specs.Stored.{cost}
+use Rattle.pls_labels.specs.Stored.{cost}
 use Rattle.pls_watch_part.specs.declared.watch_event.WatchEvent.TheVariants as Watches
 use Rattle.pls_watch.specs.declared.turn.Turn.TheVariants.{Relabel}
 use Rattle.pls_watch.specs.Turning.{Turned, turn_refusal, turning}

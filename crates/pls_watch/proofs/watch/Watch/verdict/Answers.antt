@@ -1,10 +1,10 @@
 use Rattle.std.proofs.Common.{◌≡◌, ◌∙◌, Bool, List, [], Some, slice_get, sym, ap, subst}
 use Rattle.std.proofs.lemmas.Option.{same_Some}
-use Rattle.pls_model.specs.declared.verdict.Verdict.{Verdict}
-use Rattle.pls_model.specs.declared.row.NodeRow.{NodeRow}
-use Rattle.pls_model.specs.Configuration.{IsNetwork}
-use Rattle.pls_view.specs.Seen.{label_of, seen, views}
-use Rattle.pls_view.proofs.Views.{view_at}
+use Rattle.pls_configuration.specs.declared.verdict.Verdict.{Verdict}
+use Rattle.pls_configuration.specs.declared.row.NodeRow.{NodeRow}
+use Rattle.pls_configuration.specs.Configuration.{IsNetwork}
+use Rattle.pls_labels.specs.Seen.{label_of, seen, views}
+use Rattle.pls_labels.proofs.Views.{view_at}
 use Rattle.pls_sim.specs.Schedule.{unheard}
 use Rattle.pls_watch.specs.Labelled.{turns_of}
 use Rattle.pls_watch.specs.Versions.{known, plain_of}
