@@ -87,7 +87,7 @@ impl<'n> Versions<'n> {
             newest: VersionList::first(alloc, net.len())?,
             carried: VersionList::with_room(alloc, most)?,
             ends: Vec::with_capacity(alloc, most)?,
-            held_version,
+            held,
             earlier: Vec::with_capacity(alloc, most)?,
         })
     }
