@@ -190,7 +190,7 @@ fn write_rounds<K: Sink>(reports: &[RoundReport], sink: &mut K) -> Result<(), Fa
         let RoundReport {
             number,
             checked,
-            node_apart,
+            connected,
             verdicts,
         } = report;
         write_round(*number, *checked, *connected, verdicts, sink)?;
