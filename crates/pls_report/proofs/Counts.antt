@@ -1,44 +1,40 @@
--- What lines of nodes count as.
-use Rattle.std.proofs.Common.{◌≡◌, ◌∙◌, ℕ, ◌+◌, ◌<◌, Bool, List, [], ◌∷◌, ◌++◌, map, take, drop, length, get_or, slice_get, Some, count_by, fold, cond, refl, sym, ap, arith, append_assoc}
-use Rattle.std.proofs.lemmas.List.Sums.{sum_by-append, sum_by-cons}
-use Rattle.std.proofs.lemmas.Option.{slice_get-get_or}
+-- What nodes count as, where one is replaced.
+use Rattle.std.proofs.Common.{◌≡◌, ◌∙◌, ℕ, ◌+◌, ◌<◌, ◌≤◌, ◌^◌, Bool, List, [], ◌∷◌, ◌++◌, take, drop, set, length, get_or, count_by, cond, refl, sym, ap, arith, append-nil}
+use Rattle.std.proofs.lemmas.List.{drop_more, length-take-le, set_at, take-append-drop, take_more}
+use Rattle.std.proofs.lemmas.List.Sums.{count_by-le-length, sum_by-append, sum_by-cons}
 use Rattle.pls_sim.specs.declared.outcome.Outcome.{Outcome}
-use Rattle.pls_report.specs.Look.{rejecting_rows, stale_rows, waiting_rows}
 use Rattle.pls_report.specs.declared.line_kind.LineKind.{LineKind}
 use Rattle.pls_report.specs.declared.line_kind.LookCounts.{LookCounts}
-use Rattle.pls_report.specs.inner.Lines.{HasLine, ShownLine, counts_in, shown_line, with_line}
-use Rattle.pls_report.proofs.Passing.{one_among}
+use Rattle.pls_report.specs.inner.Lines.{HasLine, HasRoomForOne, counts_of, kind_of, with_line}
 
-module _ (p : LineKind → Bool) (front behind : List ShownLine) (line : ShownLine) where
-  abbrev is : ShownLine → Bool
-  is line = p line.kind
+abbrev pub Row : Type 0
+Row = ℕ × Outcome × List ℕ
 
-  one_more : count_by is (front ++ line ∷ behind)
-      ≡ count_by is (front ++ behind) + cond (p line.kind) 1 0
+module _ (p : Row → Bool) (front behind : List Row) (row : Row) where
+  one_more : count_by p (front ++ row ∷ behind) ≡ count_by p (front ++ behind) + cond (p row) 1 0
   one_more =
-      let one : ShownLine → ℕ = λ line. cond (p line.kind) 1 0 in
-      let before : count_by is (front ++ line ∷ behind)
-      ≡ count_by is front + count_by is (line ∷ behind) =
-      sum_by-append one front (line ∷ behind) in
-      let first : count_by is (line ∷ behind) ≡ cond (p line.kind) 1 0 + count_by is behind =
-      sum_by-cons one line behind in
-      let others : count_by is (front ++ behind) ≡ count_by is front + count_by is behind =
+      let one : Row → ℕ = λ row. cond (p row) 1 0 in
+      let before : count_by p (front ++ row ∷ behind) ≡ count_by p front + count_by p (row ∷ behind) =
+      sum_by-append one front (row ∷ behind) in
+      let first : count_by p (row ∷ behind) ≡ cond (p row) 1 0 + count_by p behind =
+      sum_by-cons one row behind in
+      let others : count_by p (front ++ behind) ≡ count_by p front + count_by p behind =
       sum_by-append one front behind in
       omega (arith, before, first, others)
 
--- what lines count as, where one is among others
-pub counts_one : (front behind : List ShownLine) (line : ShownLine)
-    → counts_in (front ++ line ∷ behind) ≡ with_line line.kind (counts_in (front ++ behind))
-counts_one front behind line i = record {
-  rejecting = one_more (λ kind. kind.rejects) front behind line i;
-  waiting = one_more (λ kind. kind.waits) front behind line i;
-  stale = one_more (λ kind. kind.tells_stale) front behind line i;
+-- what rows count as, where one is among others
+counts_one : (front behind : List Row) (row : Row)
+    → counts_of (front ++ row ∷ behind) ≡ with_line (kind_of row) (counts_of (front ++ behind))
+counts_one front behind row i = record {
+  rejecting = one_more (λ row. (kind_of row).rejects) front behind row i;
+  waiting = one_more (λ row. (kind_of row).waits) front behind row i;
+  stale = one_more (λ row. (kind_of row).tells_stale) front behind row i;
 }
 
--- counts that are the same with a line of a kind are the same without it
-same_without : (kind : LineKind) (these those : LookCounts)
-    → with_line kind these ≡ with_line kind those → these ≡ those
-same_without kind these those same i = record {
+-- counts that are the same with a row of a kind are the same without it
+same_without : (row : Row) (these those : LookCounts)
+    → with_line (kind_of row) these ≡ with_line (kind_of row) those → these ≡ those
+same_without row these those same i = record {
   rejecting = rejecting i;
   waiting = waiting i;
   stale = stale i;
@@ -53,59 +49,81 @@ same_without kind these those same i = record {
     stale : these.stale ≡ those.stale
     stale = omega (arith, ap (λ (counts : LookCounts). counts.stale) same)
 
--- lines of which some stand in front, and the others behind those of another list, where another
--- line comes in the place of the one behind the next ones
-module _ (front last : List ShownLine) (first count : ℕ) (within : first + count < length last)
-    (counts : LookCounts) (are : counts ≡ counts_in (front ++ drop first last)) (at : ℕ)
-    (is : at ≡ first + count) (kind : LineKind)
-    (kinds : (line : ShownLine) → slice_get last at ≡ Some line → kind ≡ line.kind)
-    (line : ShownLine) where
-  abbrev before : List ShownLine
-  before = front ++ take count (drop first last)
+module _ (rows : List Row) (i : ℕ) (within : i < length rows) (was : Row)
+    (is : was ≡ get_or rows i was) where
+  abbrev others : LookCounts
+  others = counts_of (take i rows ++ drop (i + 1) rows)
 
-  abbrev behind : List ShownLine
-  behind = drop (first + count + 1) last
-
-  abbrev was : ShownLine
-  was = get_or last (first + count) line
-
-  kind_is : kind ≡ was.kind
-  kind_is = kinds was (ap (slice_get last) is ∙ slice_get-get_or last (first + count) line within)
-
-  with_it : counts ≡ with_line kind (counts_in (before ++ behind))
+  with_it : counts_of rows ≡ with_line (kind_of was) others
   with_it =
-      are
-      ∙ ap counts_in (one_among front last first count line within)
-      ∙ counts_one before behind was
-      ∙ (λ k. with_line (sym kind_is k) (counts_in (before ++ behind)))
+      ap counts_of
+      (sym (take-append-drop i rows)
+      ∙ ap (λ (behind : List Row). take i rows ++ behind)
+      (drop_more rows i was within ∙ (λ k. sym is k ∷ drop (i + 1) rows)))
+      ∙ counts_one (take i rows) (drop (i + 1) rows) was
 
-  -- it was counted
-  pub is_among : HasLine kind counts
-  is_among = (counts_in (before ++ behind), with_it)
+  -- the row is counted
+  pub is_among : HasLine (kind_of was) (counts_of rows)
+  is_among = (others, with_it)
 
   -- without it, and with the other one
-  pub with_other : (others : LookCounts) → counts ≡ with_line kind others
-      → with_line line.kind others ≡ counts_in ((before ++ line ∷ []) ++ behind)
-  with_other others without =
-      ap (with_line line.kind)
-      (same_without kind others (counts_in (before ++ behind)) (sym without ∙ with_it))
-      ∙ sym (counts_one before behind line)
-      ∙ ap counts_in (sym (append_assoc before (line ∷ []) behind))
+  pub with_other : (row : Row) (left : LookCounts) → counts_of rows ≡ with_line (kind_of was) left
+      → with_line (kind_of row) left ≡ counts_of (set rows i row)
+  with_other row left without =
+      ap (with_line (kind_of row)) (same_without was left others (sym without ∙ with_it))
+      ∙ sym (counts_one (take i rows) (drop (i + 1) rows) row)
+      ∙ ap counts_of (sym (ap (λ (all : List Row). set all i row)
+      (sym (take-append-drop i rows)
+      ∙ ap (λ (behind : List Row). take i rows ++ behind) (drop_more rows i was within))
+      ∙ set_at (take i rows) (get_or rows i was) (drop (i + 1) rows) row i
+      (length-take-le i rows (omega (arith, within)))))
 
-module _ {X Y : Type 0} (p : Y → Bool) (f : X → Y) where
-  count_map : (count : ℕ) (xs : List X)
-      → fold (λ count y. count + cond (p y) 1 0) count (map f xs)
-      ≡ fold (λ count x. count + cond (p (f x)) 1 0) count xs
-  count_map count [] = refl
-  count_map count (x ∷ xs) = count_map (count + cond (p (f x)) 1 0) xs
+module _ (rows : List Row) (i : ℕ) where
+  few_of : (p : Row → Bool) → i < length rows → count_by p (take i rows) ≤ i
+  few_of p within =
+      omega (
+        arith,
+        count_by-le-length p (take i rows),
+        length-take-le i rows (omega (arith, within)),
+      )
 
-pub shown_counts : (rows : List (ℕ × Outcome × List ℕ)) → counts_in (map shown_line rows) ≡ record {
-  rejecting = rejecting_rows rows;
-  waiting = waiting_rows rows;
-  stale = stale_rows rows;
-}
-shown_counts rows i = record {
-  rejecting = count_map (λ (line : ShownLine). line.kind.rejects) shown_line 0 rows i;
-  waiting = count_map (λ (line : ShownLine). line.kind.waits) shown_line 0 rows i;
-  stale = count_map (λ (line : ShownLine). line.kind.tells_stale) shown_line 0 rows i;
-}
+  -- what the first rows count as is little
+  pub counts_few : (counts : LookCounts) → counts ≡ counts_of (take i rows) → i < length rows
+      → length rows < 2 ^ 63 → HasRoomForOne counts
+  counts_few counts is within few = record {
+    rejecting =
+        omega (
+          arith,
+          ap (λ (all : LookCounts). all.rejecting) is,
+          few_of (λ row. (kind_of row).rejects) within,
+          within,
+          few,
+        );
+    waiting =
+        omega (
+          arith,
+          ap (λ (all : LookCounts). all.waiting) is,
+          few_of (λ row. (kind_of row).waits) within,
+          within,
+          few,
+        );
+    stale =
+        omega (
+          arith,
+          ap (λ (all : LookCounts). all.stale) is,
+          few_of (λ row. (kind_of row).tells_stale) within,
+          within,
+          few,
+        );
+  }
+
+  -- one row more
+  pub counts_next : (row : Row) (kind : LineKind) (counts more : LookCounts) → row ≡ get_or rows i row
+      → i < length rows → kind ≡ kind_of row → more ≡ with_line kind counts
+      → counts ≡ counts_of (take i rows) → more ≡ counts_of (take (i + 1) rows)
+  counts_next row kind counts more is within kind_is more_is counts_is =
+      more_is ∙ (λ k. with_line (kind_is k) (counts_is k))
+      ∙ (λ k. with_line (kind_of row) (counts_of (sym (append-nil (take i rows)) k)))
+      ∙ sym (counts_one (take i rows) [] row)
+      ∙ ap counts_of (sym (take_more rows i row within
+      ∙ (λ k. take i rows ++ sym is k ∷ [])))

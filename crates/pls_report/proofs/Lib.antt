@@ -1,7 +1,9 @@
-pub mod Counts
-pub mod Cut
+pub mod Flat
+pub mod KeptTexts
 pub mod Lines
+pub mod Counts
 pub mod LookTexts
-pub mod Passing
+pub mod Renewing
+pub mod Stays
 pub mod Texts
 mod Worked

@@ -1,5 +1,5 @@
 -- The lines of a look, piece by piece.
-use Rattle.std.proofs.Common.{◌≡◌, ◌∙◌, ℕ, ◌+◌, ◌<◌, List, [], ◌∷◌, ◌++◌, map, take, length, get_or, codes, decimal, refl, sym, ap, append-nil, append_assoc}
+use Rattle.std.proofs.Common.{◌≡◌, ◌≢◌, ◌∙◌, ℕ, ◌+◌, ◌<◌, List, [], ◌∷◌, ◌++◌, map, take, length, get_or, codes, decimal, refl, sym, ap, append-nil, append_assoc}
 use Rattle.pls_configuration.specs.declared.verdict.Verdict.{Verdict}
 use Rattle.pls_configuration.specs.Verdict.{verdict_text}
 use Rattle.pls_sim.specs.declared.outcome.Outcome.TheVariants.{Decided, Waiting}
@@ -34,6 +34,14 @@ stale_seen id verdict port ports =
     (append_assoc (decimal id) (32 ∷ words) tail
     ∙ ap (λ (tail : List ℕ). decimal id ++ 32 ∷ (words ++ 32 ∷ tail))
     (sym (line_spaced (codes "stale") (port ∷ ports))))
+
+-- the same in the pieces that are written
+pub stale_put : (id : ℕ) (verdict : Verdict) (ports : List ℕ) → ports ≢ []
+    → (((codes "node " ++ decimal id) ++ outcome_tail (Decided verdict))
+    ++ (codes " stale" ++ spaced ports)) ++ codes "\n"
+    ≡ look_line (id, Decided verdict, ports) ++ 10 ∷ []
+stale_put id verdict [] some = absurd (some refl)
+stale_put id verdict (port ∷ ports) some = stale_seen id verdict port ports
 
 -- the line of a node whose stale ports are not told, or that has none
 none_seen : (id : ℕ) (outcome : Outcome)
@@ -75,25 +83,3 @@ pub look_closing_text : (number : ℕ) (rows : List (ℕ × Outcome × List ℕ)
     ++ (codes " stale " ++ decimal (stale_rows rows))))) ++ codes "\n"
     ≡ look_closing number rows ++ 10 ∷ []
 look_closing_text number rows = refl
-
--- what goes on from a text that goes on from another goes on from that one
-pub begins_later : (front middle text : List ℕ) → BeginsWith front middle
-    → BeginsWith middle text → BeginsWith front text
-begins_later front middle text first then = (
-  first.0 ++ then.0,
-  then.1
-      ∙ ap (λ (text : List ℕ). text ++ then.0) first.1
-      ∙ append_assoc front first.0 then.0,
-)
-
--- a text goes on from itself
-pub begins_with_itself : (text : List ℕ) → BeginsWith text text
-begins_with_itself text = ([], sym (append-nil text))
-
--- a look is the lines of its nodes, in two pieces, and its closing line
-pub look_pieces : (number : ℕ) (rows : List (ℕ × Outcome × List ℕ)) (front behind : List ℕ)
-    → front ++ behind ≡ text_of (map look_line rows)
-    → (front ++ behind) ++ (look_closing number rows ++ 10 ∷ []) ≡ look_text number rows
-look_pieces number rows front behind are =
-    ap (λ (lines : List ℕ). lines ++ (look_closing number rows ++ 10 ∷ [])) are
-    ∙ sym (text_of-append (map look_line rows) (look_closing number rows ∷ []))

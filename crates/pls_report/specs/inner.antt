@@ -1,3 +1,7 @@
 -- What private functions say to each other.
+pub mod Kept
+pub mod KeptTexts
 pub mod Lines
 pub mod Pieces
+pub mod Renewed
+pub mod Spans

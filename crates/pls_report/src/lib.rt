@@ -6,17 +6,17 @@
 //! [`all_accept`] tells whether there is none. [`write_round`] writes the report of a round in
 //! which touched nodes were judged again. [`write_look`] writes what is seen at a look at a round
 //! in which labels change (`specs/Look`), of which a [`LookRow`] is what is shown of one node and
-//! [`LookRows`] are those of all, with their text; [`look_is_well`] tells whether all accept there
-//! on the newest labels.
+//! [`LookRows`] are those of all; they can keep looks, which [`write_kept`] writes later.
+//! [`look_is_well`] tells whether all accept there on the newest labels.
 #![tactic(auto)]
 
 mod counting;
 mod decided;
-mod line_block;
+mod kept_looks;
 mod line_kind;
+mod line_store;
 mod look;
 mod look_counting;
-mod look_lines;
 mod look_row;
 mod look_rows;
 mod node_line;
@@ -27,7 +27,7 @@ mod report;
 mod round;
 
 pub use counting::{all_accept, all_verdicts_accept, rejecting, waiting};
-pub use look::write_look;
+pub use look::{write_kept, write_look};
 pub use look_counting::look_is_well;
 pub use look_row::LookRow;
 pub use look_rows::LookRows;

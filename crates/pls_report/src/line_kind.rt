@@ -1,11 +1,11 @@
 //! What the node of a line counts as at a look, and how many there are of each kind.
 
-ghost use Rattle.std.specs.Prelude.{◌≡◌, []};
-ghost use Rattle.pls_report.specs.inner.Lines.{HasLine, HasRoomForOne, counts_in, shown_kind, with_line};
+ghost use Rattle.std.specs.Prelude.{◌≡◌, ◌^◌, ◌<◌, length};
+ghost use Rattle.pls_report.specs.inner.Lines.{HasLine, HasRoomForOne, counts_of, kind_of, with_line};
 
 use crate::counting::{rejects, waits};
 use crate::look_counting::told_ports;
-use pls_sim::Outcome;
+use crate::look_row::LookRow;
 
 /// Whether the node of a line rejects, whether it waits, and whether the line tells of stale ports.
 #[derive(Clone, Copy, Debug)]
@@ -17,13 +17,13 @@ pub(crate) struct LineKind {
 
 impl LineKind {
     /// What a node counts as.
-    pub(crate) fn of(outcome: &Outcome, stale: &[u32]) -> LineKind
-        ensures { result ≡ shown_kind outcome.now stale.now }
+    pub(crate) fn of(row: &LookRow) -> LineKind
+        ensures { result ≡ kind_of row.now }
     {
         LineKind {
-            rejects: rejects(outcome),
-            waits: waits(outcome),
-            tells_stale: !told_ports(outcome, stale).is_empty(),
+            rejects: rejects(row.outcome()),
+            waits: waits(row.outcome()),
+            tells_stale: !told_ports(row.outcome(), row.stale()).is_empty(),
         }
     }
 }
@@ -37,18 +37,23 @@ pub(crate) struct LookCounts {
 }
 
 impl LookCounts {
-    /// Those of no line.
-    pub(crate) fn none() -> LookCounts
-        ensures { result ≡ counts_in [] }
+    /// What these rows count as.
+    pub(crate) fn of(rows: &[LookRow]) -> LookCounts
+        requires few { length rows.now < 2 ^ 63 }
+        ensures { result ≡ counts_of rows.now }
     {
-        LookCounts {
+        let mut counts = LookCounts {
             rejecting: 0,
             waiting: 0,
             stale: 0,
+        };
+        for row in rows {
+            counts.add(LineKind::of(row));
         }
+        counts
     }
 
-    /// Counts one line more.
+    /// Counts one node more.
     pub(crate) fn add(&mut self, kind: LineKind)
         requires { HasRoomForOne self.old }
         ensures { self.new ≡ with_line kind self.old }
@@ -58,7 +63,7 @@ impl LookCounts {
         self.stale += kind.tells_stale as usize;
     }
 
-    /// Counts a line no more.
+    /// Counts a node no more.
     pub(crate) fn take_away(&mut self, kind: LineKind)
         requires { HasLine kind self.old }
         ensures { self.old ≡ with_line kind self.new }

@@ -1,53 +1,70 @@
 //! The rows of a look, kept for the next one.
 
-ghost use Rattle.std.specs.Prelude.{◌≡◌, ◌+◌, ◌<◌, ◌++◌, ℕ, List, length, map, slice_get, slice_set, IfOk, OnErr, OnOk, Some};
-ghost use Rattle.pls_lines.specs.Text.{text_of};
+ghost use Rattle.std.specs.Prelude.{◌≡◌, ◌+◌, ◌<◌, ◌++◌, ◌∷◌, [], ℕ, List, false, length, map, replicate, slice_get, slice_set, IfOk, OnErr, OnOk, Some};
 ghost use Rattle.pls_sim.specs.declared.outcome.Outcome.{Outcome};
-ghost use Rattle.pls_report.specs.Look.{look_line, rejecting_rows, stale_rows, waiting_rows};
+ghost use Rattle.pls_report.specs.Look.{look_text, rejecting_rows, stale_rows, waiting_rows};
+ghost use Rattle.pls_report.specs.inner.Kept.{row_line};
+ghost use Rattle.pls_report.specs.inner.Lines.{counts_of};
+ghost use Rattle.pls_report.specs.inner.Renewed.{AreRenewed};
 
-use crate::line_kind::LookCounts;
-use crate::look_lines::LookLines;
+use crate::kept_looks::KeptLooks;
+use crate::line_kind::{LineKind, LookCounts};
 use crate::look_row::LookRow;
 use pls_sim::PortNumbers;
 use pls_streams::NoMemory;
 use std::alloc::Global;
 use std::marker::Model;
 
-/// What a look shows of all nodes, with the text of their lines, seen as the rows and how many of
-/// them the look has passed. From one look to the next most nodes are as they were: the text of
-/// their lines is copied, and that of the others alone is made anew.
+/// What a look shows of all nodes, seen as the rows, how many of them the look has passed, and the
+/// texts of the looks that were kept. From one look to the next most nodes are as they were: the
+/// line of such a node is kept once.
 #[derive(Drop)]
 pub struct LookRows {
     rows: Vec<LookRow>,
-    lines: LookLines,
+    counts: LookCounts,
     passed: usize,
+    // Whether the row of a node is another than that of its line in `kept`.
+    changed: Vec<bool>,
+    kept: KeptLooks,
 }
 
 impl Model for LookRows {
-    ghost use Rattle.std.specs.Prelude.{◌≡◌, ◌≤◌, length, map};
+    ghost use Rattle.std.specs.Prelude.{◌≡◌, ◌≤◌, length};
     ghost use Rattle.pls_report.specs.LookRows.{PassedRows};
-    ghost use Rattle.pls_report.specs.inner.Lines.{shown_line};
+    ghost use Rattle.pls_report.specs.inner.Lines.{counts_of};
+    ghost use Rattle.pls_report.specs.inner.Renewed.{AreRenewed};
 
     ghost Value = { PassedRows };
 
-    ghost view = { λ look. record { rows = look.rows.items; passed = look.passed } };
+    ghost view = { λ look. record {
+      rows = look.rows.items;
+      passed = look.passed;
+      kept = look.kept.texts;
+    } };
 
-    ghost invariant = { λ look. (look.lines.all ≡ map shown_line look.rows.items)
-        × (look.lines.settled ≤ look.passed) × (look.passed ≤ length look.rows.items) };
+    ghost invariant = { λ look. (look.counts ≡ counts_of look.rows.items)
+        × (look.passed ≤ length look.rows.items)
+        × AreRenewed look.rows.items look.changed.items look.kept.lines };
 }
 
 impl LookRows {
-    /// A look that shows these rows, and has passed all of them. The one error is want of memory.
+    /// A look that shows these rows, and has passed all of them; none is kept. The one error is want
+    /// of memory.
     pub fn of(alloc: Global, rows: Vec<LookRow>) -> Result<LookRows, NoMemory>
         ensures rows { IfOk result (λ look. look.rows ≡ rows.items) }
         ensures passed { IfOk result (λ look. look.passed ≡ length rows.items) }
+        ensures none { IfOk result (λ look. look.kept ≡ []) }
     {
-        let lines = LookLines::of(alloc, rows.as_slice())?;
+        let kept = KeptLooks::of(alloc, rows.as_slice())?;
+        let changed = vec![in alloc; false; rows.len()]?;
+        let counts = LookCounts::of(rows.as_slice());
         let passed = rows.len();
         Ok(LookRows {
             rows,
-            lines,
+            counts,
             passed,
+            changed,
+            kept,
         })
     }
 
@@ -58,61 +75,53 @@ impl LookRows {
         self.rows.as_slice()
     }
 
-    /// Begins another look, which has passed no row. The one error is want of memory: nothing
-    /// changes then.
-    pub fn begin(&mut self) -> Result<(), NoMemory>
-        ensures rows { self.new.rows ≡ self.old.rows }
-        ensures passed { OnOk result (self.new.passed ≡ 0) }
-        ensures unchanged { OnErr result (self.new ≡ self.old) }
+    /// Begins another look, which has passed no row.
+    pub fn begin(&mut self)
+        ensures { self.new ≡ record self.old { passed = 0 } }
     {
-        self.lines.unsettle()?;
         self.passed = 0;
-        Ok(())
     }
 
     /// Passes the next row, which stays.
     #[inline(always)]
     pub fn keep(&mut self)
         requires { self.old.passed < length self.old.rows }
-        ensures rows { self.new.rows ≡ self.old.rows }
-        ensures passed { self.new.passed ≡ self.old.passed + 1 }
+        ensures { self.new ≡ record self.old { passed = self.old.passed + 1 } }
     {
         self.passed += 1;
     }
 
-    /// Passes the next row, and puts another in its place. The one error is want of memory: nothing
-    /// changes then.
-    pub fn replace(&mut self, row: LookRow) -> Result<(), NoMemory>
+    /// Passes the next row, and puts another in its place.
+    pub fn replace(&mut self, row: LookRow)
         requires { self.old.passed < length self.old.rows }
-        ensures rows { OnOk result
-            (self.new.rows ≡ slice_set self.old.rows self.old.passed row) }
-        ensures passed { OnOk result (self.new.passed ≡ self.old.passed + 1) }
-        ensures unchanged { OnErr result (self.new ≡ self.old) }
+        ensures rows { self.new.rows ≡ slice_set self.old.rows self.old.passed row }
+        ensures passed { self.new.passed ≡ self.old.passed + 1 }
+        ensures kept { self.new.kept ≡ self.old.kept }
     {
         let i = self.passed;
-        self.lines.replace(i, row.id(), row.outcome(), row.stale())?;
+        self.counts.take_away(LineKind::of(&self.rows[i]));
+        self.counts.add(LineKind::of(&row));
         self.rows[i] = row;
+        self.changed[i] = true;
         self.passed = i + 1;
-        Ok(())
     }
 
-    /// Passes the next row, and shows other ports of its node as stale. The one error is want of
-    /// memory: nothing changes then.
-    pub fn replace_stale(&mut self, stale: PortNumbers) -> Result<(), NoMemory>
+    /// Passes the next row, and shows other ports of its node as stale.
+    pub fn replace_stale(&mut self, stale: PortNumbers)
         requires { self.old.passed < length self.old.rows }
-        ensures rows { OnOk result ((id : ℕ) (outcome : Outcome) (before : List ℕ)
+        ensures rows { (id : ℕ) (outcome : Outcome) (before : List ℕ)
             → slice_get self.old.rows self.old.passed ≡ Some (id, outcome, before)
-            → self.new.rows ≡ slice_set self.old.rows self.old.passed (id, outcome, stale)) }
-        ensures passed { OnOk result (self.new.passed ≡ self.old.passed + 1) }
-        ensures unchanged { OnErr result (self.new ≡ self.old) }
+            → self.new.rows ≡ slice_set self.old.rows self.old.passed (id, outcome, stale) }
+        ensures passed { self.new.passed ≡ self.old.passed + 1 }
+        ensures kept { self.new.kept ≡ self.old.kept }
     {
         let i = self.passed;
         let row = &mut self.rows[i];
-        self.lines
-            .replace(i, row.id(), row.outcome(), stale.as_slice())?;
+        self.counts.take_away(LineKind::of(row));
         row.set_stale(stale);
+        self.counts.add(LineKind::of(row));
+        self.changed[i] = true;
         self.passed = i + 1;
-        Ok(())
     }
 
     /// How many rows the look has passed.
@@ -122,19 +131,51 @@ impl LookRows {
         self.passed
     }
 
-    /// The text of the lines of all nodes, in two pieces.
-    pub(crate) fn text(&self) -> (&[u8], &[u8])
-        ensures { result.0.now ++ result.1.now ≡ text_of (map look_line self.now.rows) }
+    /// Keeps the look as it is, numbered behind those that were kept, from 1. It makes the lines of
+    /// the rows that are others than at the last one that was kept. The one error is want of memory:
+    /// nothing that is seen changes then.
+    pub fn keep_look(&mut self, alloc: Global) -> Result<(), NoMemory>
+        ensures rows { self.new.rows ≡ self.old.rows }
+        ensures passed { self.new.passed ≡ self.old.passed }
+        ensures kept { OnOk result (self.new.kept ≡ self.old.kept
+            ++ look_text (length self.old.kept + 1) self.old.rows ∷ []) }
+        ensures unchanged { OnErr result (self.new ≡ self.old) }
     {
-        self.lines.text()
+        renew_lines(self.rows.as_slice(), &mut self.changed, &mut self.kept)?;
+        self.kept.keep(alloc, self.counts)
+    }
+
+    /// The looks that were kept.
+    pub(crate) fn kept(&self) -> &KeptLooks
+        ensures { result.now.texts ≡ self.now.kept }
+    {
+        &self.kept
     }
 
     /// How many nodes reject, how many wait, and how many have a line with stale ports.
     pub(crate) fn counts(&self) -> LookCounts
-        ensures rejecting { result.rejecting ≡ rejecting_rows self.now.rows }
-        ensures waiting { result.waiting ≡ waiting_rows self.now.rows }
-        ensures stale { result.stale ≡ stale_rows self.now.rows }
+        ensures { result ≡ counts_of self.now.rows }
     {
-        self.lines.counts()
+        self.counts
     }
+}
+
+// Makes the lines of the rows that changed. The one error is want of memory: some were made then.
+fn renew_lines(
+    rows: &[LookRow],
+    changed: &mut Vec<bool>,
+    kept: &mut KeptLooks,
+) -> Result<(), NoMemory>
+    requires { AreRenewed rows.now changed.old.items kept.old.lines }
+    ensures renewed { AreRenewed rows.now changed.new.items kept.new.lines }
+    ensures texts { kept.new.texts ≡ kept.old.texts }
+    ensures all { OnOk result (kept.new.lines ≡ map row_line rows.now) }
+{
+    for (i, row) in rows.iter().enumerate() {
+        if changed[i] {
+            kept.renew(i, row)?;
+            changed[i] = false;
+        }
+    }
+    Ok(())
 }

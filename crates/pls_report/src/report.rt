@@ -81,7 +81,8 @@ fn write_last<K: Sink>(
     write_closing(rows, simulated, sink, gathered)
 }
 
-fn write_node<K: Sink>(
+/// Writes the line of a node of a report.
+pub(crate) fn write_node<K: Sink>(
     sink: &mut K,
     gathered: &mut Gathered,
     id: u32,

@@ -70,8 +70,10 @@ abbrev pub look_of : (Seen → Verdict) → Watched → List (ℕ × Outcome × 
 look_of judge watched =
     map (λ row. (row.id, outcome_in judge watched row, stale_in watched row)) watched.network
 
--- a watch with its looks: the checker, what is watched, and what was shown at the last look
+-- a watch with its looks: the checker, what is watched, what was shown at the last look, and the
+-- texts of the looks that were kept
 pub record Shown (K : Type 0) : Type 0 where
   pub checker : K
   pub watched : Watched
   pub rows : List (ℕ × Outcome × List ℕ)
+  pub kept : List (List ℕ)

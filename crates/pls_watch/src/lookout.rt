@@ -1,8 +1,9 @@
 //! A watch with its looks.
 
-ghost use Rattle.std.specs.Prelude.{◌≡◌, ◌≢◌, ◌<◌, ℕ, length, slice_get, slice_set, IfErr, IfOk, None, OnErr, OnOk, Some};
+ghost use Rattle.std.specs.Prelude.{◌≡◌, ◌≢◌, ◌<◌, ◌+◌, ◌++◌, ◌∷◌, ℕ, [], length, slice_get, slice_set, IfErr, IfOk, None, OnErr, OnOk, Some};
 ghost use Rattle.pls_configuration.specs.declared.row.NodeRow.{NodeRow};
 ghost use Rattle.pls_scheme.specs.Judging.{RoseByAtMost};
+ghost use Rattle.pls_report.specs.Look.{look_text};
 ghost use Rattle.pls_watch.specs.Watching.{look_of, watch_refusal, watching};
 ghost use Rattle.pls_watch.specs.inner.Current.{IsRenewed};
 ghost use Rattle.pls_watch.specs.inner.Known.{IsTable};
@@ -17,8 +18,8 @@ use pls_watch_part::WatchEvent;
 use std::alloc::Global;
 use std::marker::Model;
 
-/// A [`Watch`] with the checker of its looks, seen as the checker, what is watched, and what was
-/// shown at the last look.
+/// A [`Watch`] with the checker of its looks, seen as the checker, what is watched, what was shown at
+/// the last look, and the texts of the looks that were kept.
 #[derive(Drop)]
 pub struct Lookout<'n, 'k, K: Checker> {
     watch: Watch<'n>,
@@ -38,6 +39,7 @@ impl<'n, 'k, K: Checker> Model for Lookout<'n, 'k, K> {
       checker = lookout.checker.now;
       watched = lookout.watch;
       rows = lookout.shown.rows;
+      kept = lookout.shown.kept;
     } };
 
     ghost invariant = { λ lookout. IsCurrent (K.judge lookout.checker.now) lookout.watch
@@ -57,6 +59,7 @@ impl<'n, 'k, K: Checker> Lookout<'n, 'k, K> {
         ensures watched { IfOk result (λ lookout. lookout.watched ≡ watch.entry) }
         ensures rows { IfOk result
             (λ lookout. lookout.rows ≡ look_of (K.judge checker.now) watch.entry) }
+        ensures none { IfOk result (λ lookout. lookout.kept ≡ []) }
         ensures few_steps { RoseByAtMost (length watch.entry.network) steps.old steps.new }
     {
         let rows = watch.outcomes(alloc, checker, steps)?;
@@ -76,6 +79,7 @@ impl<'n, 'k, K: Checker> Lookout<'n, 'k, K> {
         ensures taken { OnOk result (self.new.watched ≡ watching event.now self.old.watched) }
         ensures checker { self.new.checker ≡ self.old.checker }
         ensures rows { self.new.rows ≡ self.old.rows }
+        ensures kept { self.new.kept ≡ self.old.kept }
         ensures applies { OnOk result (watch_refusal self.old.watched event.now ≡ None) }
         ensures refused { IfErr result
             (λ error. watch_refusal self.old.watched event.now ≡ Some error) }
@@ -97,6 +101,7 @@ impl<'n, 'k, K: Checker> Lookout<'n, 'k, K> {
         ensures checker { self.new.checker ≡ self.old.checker }
         ensures rows { OnOk result
             (self.new.rows ≡ look_of (K.judge self.old.checker) self.old.watched) }
+        ensures kept { self.new.kept ≡ self.old.kept }
         ensures few_steps { RoseByAtMost (length self.old.watched.network) steps.old steps.new }
     {
         let changes = self.changes.as_slice();
@@ -113,10 +118,30 @@ impl<'n, 'k, K: Checker> Lookout<'n, 'k, K> {
         self.shown.rows()
     }
 
-    /// What was shown at the last look, with its text.
+    /// What was shown at the last look.
     pub fn shown(&self) -> &LookRows
-        ensures { result.now.rows ≡ self.now.rows }
+        ensures rows { result.now.rows ≡ self.now.rows }
+        ensures kept { result.now.kept ≡ self.now.kept }
     {
         &self.shown
+    }
+
+    /// Keeps what was shown at the last look, as [`LookRows::keep_look`] does. The one error is want
+    /// of memory: nothing that is seen changes then.
+    pub fn keep_look(&mut self, alloc: Global) -> Result<(), NoMemory>
+        ensures kept { OnOk result (self.new ≡ record self.old {
+          kept = self.old.kept ++ look_text (length self.old.kept + 1) self.old.rows ∷ [];
+        }) }
+        ensures unchanged { OnErr result (self.new ≡ self.old) }
+    {
+        self.shown.keep_look(alloc)
+    }
+
+    /// What was shown at the last look, and the looks that were kept; the rest is dropped.
+    pub fn into_shown(self) -> LookRows
+        ensures rows { result.rows ≡ self.entry.rows }
+        ensures kept { result.kept ≡ self.entry.kept }
+    {
+        self.shown
     }
 }

@@ -37,9 +37,10 @@ impl<'n> Watch<'n> {
         requires { IsCurrent (K.judge checker.now) self.now changes.now shown.old.rows }
         ensures current { IsCurrent (K.judge checker.now) self.now changes.now shown.new.rows }
         ensures rows { OnOk result (shown.new.rows ≡ look_of (K.judge checker.now) self.now) }
+        ensures kept { shown.new.kept ≡ shown.old.kept }
         ensures few_steps { RoseByAtMost (length self.now.network) steps.old steps.new }
     {
-        shown.begin()?;
+        shown.begin();
         let mut room = LookRoom {
             table: noughts(alloc, changes.len())?,
             stale: Vec::new(alloc),
@@ -68,6 +69,7 @@ impl<'n> Watch<'n> {
         ensures renewed { OnOk result (IsRenewed (K.judge checker.now) self.now shown.old.passed
             shown.old.rows shown.new.rows) }
         ensures passed { OnOk result (shown.new.passed ≡ shown.old.passed + 1) }
+        ensures kept { shown.new.kept ≡ shown.old.kept }
         ensures unchanged { OnErr result (shown.new ≡ shown.old) }
         ensures few_steps { RoseByAtMost 1 steps.old steps.new }
     {
@@ -80,12 +82,12 @@ impl<'n> Watch<'n> {
                 if stale == shown.rows()[i].stale() {
                     shown.keep();
                 } else {
-                    shown.replace_stale(PortNumbers::from_vec(stale.to_vec(alloc)?))?;
+                    shown.replace_stale(PortNumbers::from_vec(stale.to_vec(alloc)?));
                 }
             }
             Change::Held | Change::Label => {
                 let row = self.look_at(alloc, i, &mut room.table, checker, steps)?;
-                shown.replace(row)?;
+                shown.replace(row);
             }
         }
         Ok(())

@@ -24,8 +24,8 @@ pub enum WatchEvent {
     Relabel {
         /// The identity of the node.
         node: u32,
-        /// The label.
-        bits: BitBuf,
+        /// The label, elsewhere, so that other events take no room for one.
+        bits: Box<BitBuf>,
     },
 }
 

@@ -127,7 +127,7 @@ impl<'a> OwnLine<'a> for WatchWords<'a> {
         match self.words {
             Words::Plain(event) => Ok(WatchLine::Event(WatchEvent::of(event))),
             Words::Relabel(label) => {
-                let bits = label.to_bits(alloc)?;
+                let bits = Box::new(alloc, label.to_bits(alloc)?)?;
                 let node = label.id();
                 Ok(WatchLine::Event(WatchEvent::Relabel { node, bits }))
             }

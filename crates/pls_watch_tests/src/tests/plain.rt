@@ -208,6 +208,7 @@ fn event_of(alloc: Global, event: EventCode) -> Result<WatchEvent, Fail> {
         _ => {
             let mut bits = BitBuf::new(alloc);
             bits.push(two == 1)?;
+            let bits = Box::new(alloc, bits)?;
             WatchEvent::Relabel { node, bits }
         }
     })

@@ -1,43 +1,41 @@
-use Rattle.std.proofs.Common.{◌∙◌, ◌++◌, ◌∷◌, [], List, ℕ, append_assoc, subst, sym}
-use Rattle.pls_report.specs.Look.{look_closing}
-use Rattle.pls_streams.specs.Gathered.{Writes, WroteFront}
-use Rattle.pls_streams.proofs.Written.{both, failed, front_first, front_later, wrote_both}
-use Rattle.pls_report.proofs.LookTexts.{look_pieces}
+use Rattle.std.proofs.Common.{◌≡◌, ◌<◌, ◌≤◌, ◌∙◌, ◌++◌, ◌∷◌, [], List, ℕ, ap, get_or, length, map, take, subst}
+use Rattle.pls_lines.specs.Text.{text_of}
+use Rattle.pls_report.specs.Look.{look_closing, look_line}
+use Rattle.pls_report.specs.inner.Kept.{counts_text}
+use Rattle.pls_streams.specs.Gathered.{Writes}
+use Rattle.pls_streams.proofs.Written.{both, failed}
+use Rattle.pls_report.proofs.Lines.{failed_line, lines_closed, wrote_line}
 use Rattle.pls_report.proofs.look.write_rows.Goals as goal
+
+pub loop-row-preserved : goal.loop-row-preserved
+loop-row-preserved g c =
+    let rows = c.args.look.now.rows in
+    let listed : c.rows-row-items.result.now ≡ rows = c.rows-row-items.ensures in
+    wrote_line look_line rows c.loop-row.row-index c.row-item.result _
+    (c.row-item.is ∙ (λ k. get_or (listed k) c.loop-row.row-index c.row-item.result))
+    (subst (λ rows. c.loop-row.row-index < length rows) listed c.loop-row-test.true)
+    c.loop-row.invariant c.in_ok-write_row.ensures
+
+pub returns-in_err-write_row : goal.returns-in_err-write_row
+returns-in_err-write_row g c =
+    let rows = c.args.look.now.rows in
+    let listed : c.rows-row-items.result.now ≡ rows = c.rows-row-items.ensures in
+    failed _ _ c.from_residual.result _ c.from_residual.ensures.0
+    (failed_line look_line rows c.loop-row.row-index c.row-item.result _
+    (c.row-item.is ∙ (λ k. get_or (listed k) c.loop-row.row-index c.row-item.result))
+    (subst (λ rows. c.loop-row.row-index < length rows) listed c.loop-row-test.true)
+    (look_closing c.args.number rows ∷ []) c.loop-row.invariant c.in_err-write_row.ensures)
 
 pub returns : goal.returns
 returns g c =
     let rows = c.args.look.now.rows in
-    let front : List ℕ = c.text.result.0.now in
-    let behind : List ℕ = c.text.result.1.now in
-    let closing : List ℕ = look_closing c.args.number rows ++ 10 ∷ [] in
-    let counts = c.counts-counts.ensures in
-    let closed = rw (counts.rejecting, counts.waiting, counts.stale) at c.write_counts.ensures in
+    let i : ℕ = c.loop-row.row-index in
+    let last : List (List ℕ) = look_closing c.args.number rows ∷ [] in
+    let listed : c.rows-row-items.result.now ≡ rows = c.rows-row-items.ensures in
     subst (Writes _ _ _ _ _ _ _ _ c.write_counts.result)
-    (look_pieces c.args.number rows front behind c.text.ensures)
-    (both _ _ _ _ c.write_counts.result (front ++ behind) closing
-    (wrote_both front behind c.in_ok-put.ensures c.in_ok-put-2.ensures) closed)
-
-pub returns-in_err-put : goal.returns-in_err-put
-returns-in_err-put g c =
-    let rows = c.args.look.now.rows in
-    let front : List ℕ = c.text.result.0.now in
-    let behind : List ℕ = c.text.result.1.now in
-    let closing : List ℕ = look_closing c.args.number rows ++ 10 ∷ [] in
-    failed _ _ c.from_residual.result _ c.from_residual.ensures.0
-    (subst (WroteFront _ _ _ _ _ _)
-    (sym (append_assoc front behind closing)
-    ∙ look_pieces c.args.number rows front behind c.text.ensures)
-    (front_first front (behind ++ closing) c.in_err-put.ensures))
-
-pub returns-in_err-put-2 : goal.returns-in_err-put-2
-returns-in_err-put-2 g c =
-    let rows = c.args.look.now.rows in
-    let front : List ℕ = c.text.result.0.now in
-    let behind : List ℕ = c.text.result.1.now in
-    let closing : List ℕ = look_closing c.args.number rows ++ 10 ∷ [] in
-    failed _ _ c.from_residual-in_err-put-2.result _ c.from_residual-in_err-put-2.ensures.0
-    (subst (WroteFront _ _ _ _ _ _)
-    (look_pieces c.args.number rows front behind c.text.ensures)
-    (front_first (front ++ behind) closing
-    (front_later front behind c.in_ok-put.ensures c.in_err-put-2.ensures)))
+    (lines_closed look_line rows i last
+    (subst (λ rows. length rows ≤ i) listed c.loop-row-test.false))
+    (both _ _ _ _ c.write_counts.result (text_of (map look_line (take i rows))) (text_of last)
+    c.loop-row.invariant
+    (subst (Writes _ _ _ _ _ _ _ _ c.write_counts.result)
+    (ap (counts_text c.args.number) c.counts.ensures) c.write_counts.ensures))

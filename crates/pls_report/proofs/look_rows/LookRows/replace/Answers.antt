@@ -1,19 +1,36 @@
-use Rattle.std.proofs.Common.{◌≡◌, ◌∙◌, arith, length, set}
+use Rattle.std.proofs.Common.{◌≡◌, ◌<◌, ◌∙◌, arith, length, sym}
 use Rattle.std.proofs.lemmas.List.{length-set}
-use Rattle.pls_report.specs.inner.Lines.{shown_line}
-use Rattle.pls_report.proofs.Passing.{rows_replaced}
+use Rattle.pls_report.specs.inner.Lines.{with_line}
+use Rattle.pls_report.proofs.Counts.{is_among, with_other}
+use Rattle.pls_report.proofs.Renewing.{row_changed}
 use Rattle.pls_report.proofs.look_rows.LookRows.replace.Goals as goal
 
-pub invariant_of-self-2 : goal.invariant_of-self-2
-invariant_of-self-2 c =
+pub take_away-requires : goal.take_away-requires
+take_away-requires c =
     let inside = c.self.inside in
     let rows = inside.rows.items in
-    let i = inside.passed in
     let many : length rows ≡ length c.args.self.now.rows = λ k. length (c.self.view_is k).rows in
-    let passed : i ≡ c.args.self.now.passed = λ k. (c.self.view_is k).passed in (
-      rows_replaced rows c.args.row i inside.lines.all c.replace.new.self.all c.self.invariant.0
-          (c.in_ok-replace.ensures.all ∙ (λ k. set inside.lines.all i
-          (shown_line (c.id.ensures k, c.outcome.ensures k, c.stale.ensures k)))),
-      omega (arith, c.in_ok-replace.ensures.settled),
-      omega (arith, c.requires, many, passed, length-set rows i c.args.row),
+    let passed : inside.passed ≡ c.args.self.now.passed = λ k. (c.self.view_is k).passed in
+    let within : inside.passed < length rows = omega (arith, c.requires, many, passed) in
+    let (others, is) = is_among rows inside.passed within c.index.result.now c.index.ensures in (
+      others,
+      c.self.invariant.0 ∙ is ∙ (λ k. with_line (sym c.of.ensures k) others),
+    )
+
+pub invariant_of-self : goal.invariant_of-self
+invariant_of-self c =
+    let inside = c.self.inside in
+    let rows = inside.rows.items in
+    let row = c.args.row in
+    let many : length rows ≡ length c.args.self.now.rows = λ k. length (c.self.view_is k).rows in
+    let passed : inside.passed ≡ c.args.self.now.passed = λ k. (c.self.view_is k).passed in
+    let within : inside.passed < length rows = omega (arith, c.requires, many, passed) in (
+      c.add.ensures
+          ∙ (λ k. with_line (c.of-2.ensures k) c.take_away.new.self)
+          ∙ with_other rows inside.passed within c.index.result.now c.index.ensures row
+          c.take_away.new.self
+          (sym c.self.invariant.0 ∙ c.take_away.ensures
+          ∙ (λ k. with_line (c.of.ensures k) c.take_away.new.self)),
+      omega (arith, within, length-set rows inside.passed row),
+      row_changed rows inside.changed.items inside.kept.lines c.self.invariant.2 inside.passed row,
     )

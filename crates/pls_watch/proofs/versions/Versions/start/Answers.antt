@@ -22,13 +22,13 @@ invariant_of-result-2 c =
       kept_start _ _ _ c.len.ensures.valid
           (c.in_ok-first.ensures.versions ∙ ap (λ (count : ℕ). replicate {A = ℕ} count 0)
           c.len.ensures.len)
-          (ap (λ (list : VersionColumns). length list.versions) c.held_version.view_is
+          (ap (λ (list : VersionColumns). length list.versions) c.held.view_is
           ∙ ap length c.in_ok-held.ensures.versions ∙ length-replicate c.ports.result 0 ∙ ports),
       search rules,
       numbered_start _ _ _
           (subst (λ (count : ℕ). ArePlaces count c.in_ok-first.field-0.labels) c.len.ensures.len
           c.in_ok-first.ensures.labels)
-          (ap (λ (list : VersionColumns). length list.labels) c.held_version.view_is
+          (ap (λ (list : VersionColumns). length list.labels) c.held.view_is
           ∙ c.in_ok-held.ensures.labels ∙ ports),
       search rules,
     )

@@ -1,13 +1,13 @@
 use Rattle.std.proofs.Common.{◌≡◌, ◌<◌, ◌∙◌, Some, ap, arith, get_or, length, slice_get, sym}
 use Rattle.std.proofs.lemmas.Option.{slice_get-get_or}
 use Rattle.std.proofs.lemmas.Slice.Eq.{bytes_eq-Decides}
+use Rattle.pls_report.specs.LookRows.{PassedRows}
 use Rattle.pls_watch.specs.declared.change.Change.TheVariants.{Nothing, Beside}
 use Rattle.pls_watch.proofs.Current.{renewed_as_shown, renewed_set, renewed_stale}
 use Rattle.pls_watch.proofs.watch.Watch.renew.Goals as goal
 
-pub returns-in_ok-replace_stale-in-Beside-clause-renewed :
-    goal.returns-in_ok-replace_stale-in-Beside-clause-renewed
-returns-in_ok-replace_stale-in-Beside-clause-renewed g c =
+pub returns-in_ok-to_vec-in-Beside-clause-renewed : goal.returns-in_ok-to_vec-in-Beside-clause-renewed
+returns-in_ok-to_vec-in-Beside-clause-renewed g c =
     let judge = g.K.Checker.judge c.args.checker.now in
     let changes = c.args.changes.now in
     let place = c.args.shown.now.passed in
@@ -22,16 +22,15 @@ returns-in_ok-replace_stale-in-Beside-clause-renewed g c =
     ∙ c.in_ok-to_vec-in-Beside.ensures.items_if_clones_equal (λ x y is. is)
     ∙ c.as_slice-stale.ensures.value ∙ c.in_ok-list_stale-in-Beside.ensures.ports row
     ((λ k. slice_get c.args.self.now.network (c.passed-i.ensures k)) ∙ stands))
-    c.in_ok-replace_stale-in-Beside.ensures.rows
+    c.replace_stale.ensures.rows
 
-pub returns-in_ok-replace-in-Held-clause-renewed :
-    goal.returns-in_ok-replace-in-Held-clause-renewed
-returns-in_ok-replace-in-Held-clause-renewed g c =
+pub returns-in_ok-row-in-Held-clause-renewed : goal.returns-in_ok-row-in-Held-clause-renewed
+returns-in_ok-row-in-Held-clause-renewed g c =
     let judge = g.K.Checker.judge c.args.checker.now in
     let old = c.args.shown.now.rows in
     let place = c.args.shown.now.passed in
     let row = c.in_ok-row-in-Held.row in
-    rw c.in_ok-replace-in-Held.ensures.rows
+    rw c.replace.ensures.rows
     (renewed_set judge c.args.self.now place old row
     (omega (arith, c.requires.place, c.requires.current.all))
     (λ other stands. c.in_ok-row-in-Held.ensures.shows other
@@ -52,7 +51,7 @@ returns-then-eq-clause-renewed g c =
     let same : c.as_slice-stale.result.now ≡ c.stale.result.now =
     (bytes_eq-Decides c.as_slice-stale.result.now c.stale.result.now).0
     (sym c.eq.ensures ∙ c.if-eq.true) in
-    rw c.keep-then-eq.ensures.rows
+    rw (ap (λ (shown : PassedRows). shown.rows) c.keep-then-eq.ensures)
     (renewed_as_shown judge c.args.self.now changes place old current shown
     (omega (arith, c.requires.place, current.all)) is
     (c.index-rows-i.is

@@ -18,6 +18,7 @@ loop-preserved g c =
       current = renewed_current judge watched c.loop.index old new renewed c.args.changes.now
           before.current;
       table = c.renew.ensures.table;
+      kept = c.renew.ensures.kept ∙ before.kept;
       now = renewed_now judge watched c.loop.index old new renewed before.now;
       rose = rose_more c.loop.index _ _ _ before.rose c.renew.ensures.few_steps;
     }
@@ -37,3 +38,6 @@ returns-in_err-renew-clause-few_steps g c =
     rose_within (c.loop.index + 1) _ _ _
     (omega (arith, c.loop-test.true, c.loop.invariant.current.each))
     (rose_more c.loop.index _ _ _ c.loop.invariant.rose c.renew.ensures.few_steps)
+
+pub returns-in_err-renew-clause-kept : goal.returns-in_err-renew-clause-kept
+returns-in_err-renew-clause-kept g c = c.renew.ensures.kept ∙ c.loop.invariant.kept

@@ -10,6 +10,7 @@ invariant-loop g l = record {
   passed : l.shown.passed ≡ l.index;
   current : IsCurrent (g.K.Checker.judge l.checker) l.self l.changes l.shown.rows;
   table : IsTable l.self l.room.table.items;
+  kept : l.shown.kept ≡ l.fn.shown.kept;
   now : AreNow (g.K.Checker.judge l.checker) l.self l.index l.shown.rows;
   rose : RoseByAtMost l.index l.fn.steps l.steps;
 }
