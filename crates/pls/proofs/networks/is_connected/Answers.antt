@@ -10,7 +10,7 @@ pub returns-in-None : goal.returns-in-None
 returns-in-None c =
     let rows = c.args.net.now in
     let joined : IsConnected rows =
-    subst (λ o. IfNone o (IsConnected rows)) c.in-None.is c.in_ok-connected.ensures.connected in
+    subst (λ o. IfNone o (IsConnected rows)) c.in-None.is c.in_ok-node_apart.ensures.connected in
     (λ _. joined, λ _. refl)
 
 pub returns-in-Some : goal.returns-in-Some
@@ -19,7 +19,7 @@ returns-in-Some c =
     let id = c.in-Some.field-0 in
     let apart : IsFirstApart rows id =
     subst (λ o. IfSome o (λ id. IsFirstApart rows id)) c.in-Some.is
-    c.in_ok-connected.ensures.apart in (
+    c.in_ok-node_apart.ensures.apart in (
       λ yes. absurd (true≢false (sym yes)),
       λ joined. absurd (true≢false
           (sym (connected-joined rows joined) ∙ apart-none rows c.is_valid.ensures id apart)),

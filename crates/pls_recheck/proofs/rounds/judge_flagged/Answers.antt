@@ -162,8 +162,8 @@ returns-clause-a_flag g c =
     ap length c.loop-i.invariant.flags ∙ length-cleared c.loop-i.i c.args.flags.now.items
     ∙ c.requires.a_flag
 
-pub answered-requires-clause-flag : goal.answered-requires-clause-flag
-answered-requires-clause-flag g c =
+pub keep_answer-requires-clause-flag : goal.keep_answer-requires-clause-flag
+keep_answer-requires-clause-flag g c =
     let many = ap length c.loop-i.invariant.flags in
     let same = length-cleared c.loop-i.i c.args.flags.now.items in
     omega (arith, many, same, c.loop-i-test.true, c.len-i-end.ensures.len, c.requires.a_flag)

@@ -7,15 +7,15 @@ returns-in_default g c =
     sym (recoded-none g.C.NumCode.code g.C.NumCode.takes g.met.C.NumCode.takes_codes
     g.met.C.NumCode.takes_only g.D.NumCode.code c.args.bits.now (sym c.in_default.ensures))
 
-pub joined-requires : goal.joined-requires
-joined-requires g c =
+pub number_before_map-requires : goal.number_before_map-requires
+number_before_map-requires g c =
     (g.met.C.NumCode.takes_only c.args.bits.now c.in-Some.own c.in-Some.map
     (sym c.in-Some.ensures)).0
 
-pub returns-in_ok-joined-in-Some-parts : goal.returns-in_ok-joined-in-Some-parts
-returns-in_ok-joined-in-Some-parts g c =
+pub returns-in_ok-number_before_map-in-Some-parts : goal.returns-in_ok-number_before_map-in-Some-parts
+returns-in_ok-number_before_map-in-Some-parts g c =
     let known = c.has_map.ensures c.if-not-has_map.false in
-    ap (λ bits. Some bits) c.in_ok-joined-in-Some-parts.ensures
+    ap (λ bits. Some bits) c.in_ok-number_before_map-in-Some-parts.ensures
     ∙ sym (recoded_beside g.C.NumCode.code g.C.NumCode.takes g.met.C.NumCode.takes_codes
     g.met.C.NumCode.takes_only g.D.NumCode.code g.D.NumCode.takes g.met.D.NumCode.takes_codes
     c.args.old.now c.args.new.now c.args.bits.now c.in-Some.map c.in-Some-parts.map known.0

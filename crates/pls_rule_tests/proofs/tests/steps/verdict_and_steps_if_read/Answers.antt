@@ -8,8 +8,8 @@ use Rattle.pls_compile.specs.ReadLabels.{is_read}
 use Rattle.pls_compile.proofs.ShownPorts.{shows}
 use Rattle.pls_rule_tests.proofs.tests.steps.verdict_and_steps_if_read.Goals as goal
 
-pub stepped-requires-clause-ports : goal.stepped-requires-clause-ports
-stepped-requires-clause-ports c =
+pub verdict_and_steps-requires-clause-ports : goal.verdict_and_steps-requires-clause-ports
+verdict_and_steps-requires-clause-ports c =
     let same : c.as_slice-then-branch.result.now ≡ c.args.format.now.kinds.items =
     c.as_slice-then-branch.ensures.value in
     let ports : List PortView = c.as_slice.result.now in
