@@ -62,9 +62,9 @@ loop-i-preserved g c =
       | then-index+in_ok-found w ↦
           let is_set : slice_get flags i ≡ Some true = at ∙ ap (λ (b : Bool). Some b) w.if-index.true in
           let flags_now : c.if-index.flags.items ≡ set c.loop-i.flags.items i false =
-          ap (λ (v : Vec Bool Global). v.items) w.flags-is ∙ w.answered.ensures.flag in
+          ap (λ (v : Vec Bool Global). v.items) w.flags-is ∙ w.keep_answer.ensures.flag in
           let kept_now : c.if-index.kept.items ≡ set c.loop-i.kept.items i w.in_ok-found.found =
-          ap (λ (v : Vec (ℕ × Verdict) Global). v.items) w.kept-is ∙ w.answered.ensures.verdict in
+          ap (λ (v : Vec (ℕ × Verdict) Global). v.items) w.kept-is ∙ w.keep_answer.ensures.verdict in
           record {
             flags = flags_now ∙ ap (λ (all : List Bool). set all i false) c.loop-i.invariant.flags
                 ∙ cleared_more i flags within;
