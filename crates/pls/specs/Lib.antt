@@ -65,6 +65,7 @@ pub use Rattle.pls_sim.specs.Schedule
 pub use Rattle.pls_watch.specs.Labelled
 pub use Rattle.pls_watch.specs.Versions
 pub use Rattle.pls_watch.specs.Watching
+pub use Rattle.pls_watch_part.specs.declared.boxed_label.BoxedLabel
 pub use Rattle.pls_watch_part.specs.declared.watch_event.WatchEvent
 -- rule sets
 pub use Rattle.pls_compile.specs.RuleMeaning

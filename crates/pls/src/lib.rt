@@ -72,7 +72,7 @@ pub use pls_recheck::{Bench, BenchJudge, EditedNetwork, Judge, Monitor, Recheck,
 pub use pls_schedule::Event;
 pub use pls_sim::{EventError, Outcome, PortNumbers, Sim};
 pub use pls_watch::{LookRow, LookRows, Lookout, Turn, Watch};
-pub use pls_watch_part::WatchEvent;
+pub use pls_watch_part::{BoxedLabel, WatchEvent};
 
 // Rule sets, which judge as a text says.
 pub use pls_compile::RuleChecker;

@@ -20,7 +20,6 @@ use Rattle.pls_watch.specs.Watching.{Watched, look_of}
 use Rattle.pls_app.specs.Looks.{look_after, looks_behind, looks_text}
 use Rattle.pls_app.specs.WatchRefusal.{event_of, events_of, first_refused_line, line_does_not_apply}
 use Rattle.pls_app.specs.inner.Watching.{AreShown, shown_at}
-use Rattle.pls_app.specs.declared.watch.LooksSoFar.{LooksSoFar}
 
 -- the events of lines behind lines
 pub events_more : (lines later : List WatchLine)
@@ -89,15 +88,6 @@ given_within lines i d within =
       sum_by-take-drop bits_of lines i,
       sum_by-drop_more bits_of lines i d within,
     )
-
--- there are at most as many looks as lines
-pub few_looks : (shown : List WatchEvent → List (ℕ × Outcome × List ℕ))
-    (before : List WatchEvent) (lines : List WatchLine)
-    → length (looks_behind shown before lines) ≤ length lines
-few_looks shown before [] = omega arith
-few_looks shown before (Event event ∷ lines) =
-    omega (arith, few_looks shown (before ++ event ∷ []) lines)
-few_looks shown before (Look ∷ lines) = omega (arith, few_looks shown before lines)
 
 module _ (rows : List NodeRow) (before : List WatchEvent) (lines : List WatchLine)
     (place number : ℕ) (d : WatchLine) (within : place < length lines) where
@@ -176,15 +166,18 @@ looks_text_more (first ∷ looks) look number =
     (look_text (number + length (first ∷ looks)) look))
 
 -- one look more is shown
-pub shown_more : (old new : LooksSoFar) (looks : List (List (ℕ × Outcome × List ℕ)))
-    (look : List (ℕ × Outcome × List ℕ)) → AreShown old looks
-    → new.text.taken ≡ old.text.taken ++ look_text new.looks look → new.looks ≡ old.looks + 1
-    → new.well ≡ look_is_well look → AreShown new (looks ++ look ∷ [])
-shown_more old new looks look are text count well =
-    let number : new.looks ≡ 1 + length looks = omega (arith, count, are.count) in record {
-      says = text
-          ∙ (λ i. are.says i ++ look_text (number i) look)
+pub shown_more : (texts : List (List ℕ)) (was well : Bool)
+    (looks : List (List (ℕ × Outcome × List ℕ))) (look : List (ℕ × Outcome × List ℕ))
+    → AreShown texts was looks → well ≡ look_is_well look
+    → AreShown (texts ++ look_text (length texts + 1) look ∷ []) well (looks ++ look ∷ [])
+shown_more texts was well looks look are is =
+    let text : List ℕ = look_text (length texts + 1) look in
+    let number : length texts + 1 ≡ 1 + length looks = omega (arith, are.count) in record {
+      says = flat_map-append (λ text. text) texts (text ∷ [])
+          ∙ (λ i. are.says i ++ append-nil text i)
+          ∙ (λ i. looks_text 1 looks ++ look_text (number i) look)
           ∙ sym (looks_text_more looks look 1);
-      count = omega (arith, count, are.count, length-append looks (look ∷ []));
-      ends = well ∙ sym (closed_push (λ look. Unit {0}) look_is_well true looks look);
+      count = length-append texts (text ∷ []) ∙ ap (λ (n : ℕ). n + 1) are.count
+          ∙ sym (length-append looks (look ∷ []));
+      ends = is ∙ sym (closed_push (λ look. Unit {0}) look_is_well true looks look);
     }

@@ -13,7 +13,6 @@ use Rattle.pls_watch.specs.Watching.{Watched}
 use Rattle.pls_app.specs.Looks.{look_after, looks_behind}
 use Rattle.pls_app.specs.WatchRefusal.{event_of, events_of, first_refused_line, line_does_not_apply}
 use Rattle.pls_app.specs.inner.Watching.{AreShown, HasRoomForEvents, shown_at, watched_behind}
-use Rattle.pls_app.specs.declared.watch.LooksSoFar.{LooksSoFar}
 use Rattle.pls_app.proofs.WatchLines.{events_more, line_shows, looks_more, unwatched_later}
 use Rattle.pls_app.proofs.WatchRoom.{room_behind, room_first}
 
@@ -76,13 +75,13 @@ module _ (lines : List WatchLine) (place : ℕ) (d : WatchLine) (within : place 
         ∙ ap (λ events. events ++ event_of line) taken ∙ events_here
 
     -- the looks so far, with what the line shows
-    pub shown_on : (judge : Seen → Verdict) (shown : LooksSoFar)
-        → AreShown shown (looks_behind (look_after judge rows labels) [] (take place lines)
+    pub shown_on : (judge : Seen → Verdict) (texts : List (List ℕ)) (well : Bool)
+        → AreShown texts well (looks_behind (look_after judge rows labels) [] (take place lines)
         ++ shown_at judge old line)
-        → AreShown shown (looks_behind (look_after judge rows labels) [] (take (place + 1) lines))
-    shown_on judge shown are =
+        → AreShown texts well (looks_behind (look_after judge rows labels) [] (take (place + 1) lines))
+    shown_on judge texts well are =
         let look : List WatchEvent → List (ℕ × Outcome × List ℕ) = look_after judge rows labels in
-        subst (AreShown shown)
+        subst (AreShown texts well)
         (ap (λ more. looks_behind look [] (take place lines) ++ more)
         (line_shows judge old rows labels (events_of (take place lines)) line network start taken)
         ∙ sym (looks_more look [] (take place lines) line)

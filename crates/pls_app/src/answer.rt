@@ -17,7 +17,7 @@ use pls_components::Components;
 use pls_graph::Network;
 use pls_json::json_report;
 use pls_labels::LabelStore;
-use pls_report::{PartRow, all_accept};
+use pls_report::{LookRows, PartRow, all_accept};
 use pls_sim::Outcome;
 use pls_streams::{NoMemory, Status, TextError};
 use std::alloc::Global;
@@ -60,6 +60,8 @@ pub(crate) enum Content {
     },
     /// Reports of rounds, which become text as they are written.
     Rounds(Vec<RoundReport>),
+    /// Looks that were kept, which are put together as they are written.
+    Looks(LookRows),
 }
 
 impl Model for Answer {

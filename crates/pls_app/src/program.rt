@@ -24,7 +24,7 @@ use pls_graph::Network;
 use pls_labelfile::stream_labels;
 use pls_labels::LabelStore;
 use pls_recheck::Bench;
-use pls_report::{write_report, write_round};
+use pls_report::{write_kept, write_report, write_round};
 use pls_streams::{Fault, NoMemory, Sink, Source, Status, write_all};
 use std::alloc::Global;
 
@@ -160,6 +160,7 @@ fn write_content<K: Sink>(sink: &mut K, content: &Content) -> Result<(), Fault>
             rows,
         } => write_report(rows, *simulated, parts, sink),
         Content::Rounds(reports) => write_rounds(reports, sink),
+        Content::Looks(look) => write_kept(look, sink),
     }
 }
 

@@ -14,15 +14,14 @@ ghost use Rattle.pls_app.specs.inner.Watching.{AreShown, HasRoomForEvents, IsWat
 
 use crate::answer::{Answer, Content, refuse};
 use crate::command::{Command, Task};
-use crate::growing_text::GrowingText;
 use pls_bits::NumCode;
 use pls_combine::AnyScheme;
 use pls_graph::Network;
 use pls_labels::LabelStore;
-use pls_report::{look_is_well, write_look};
+use pls_report::look_is_well;
 use pls_scheme::Checker;
 use pls_streams::refusal_number::WATCH_EVENT;
-use pls_streams::{Fault, NoMemory, Status, Steps, TextError};
+use pls_streams::{NoMemory, Status, Steps, TextError};
 use pls_watch::{LookRows, Lookout, Watch, WatchEvent};
 use pls_watch_part::WatchLine;
 use std::alloc::Global;
@@ -49,14 +48,14 @@ pub(crate) fn watch<C: NumCode>(
     let (relabels, bits) = relabels_in(lines);
     let watch = Watch::start(alloc, net, labels, lines.len(), relabels, bits)?;
     let mut lookout = Lookout::over(alloc, watch, scheme, &mut Steps::new())?;
-    let mut shown = LooksSoFar::nothing(alloc);
-    match play(alloc, &mut lookout, lines, &mut shown)? {
+    let mut well = true;
+    match play(alloc, &mut lookout, lines, &mut well)? {
         Some(place) => {
             let place = first_line + place as u64;
             let number = WATCH_EVENT;
             refuse(alloc, TextError::Sense { number, place })
         }
-        None => Ok(shown.into_answer()),
+        None => Ok(looks_answer(lookout.into_shown(), well)),
     }
 }
 
@@ -74,33 +73,33 @@ fn relabels_in(lines: &[WatchLine]) -> (usize, u64)
         };
         if let WatchEvent::Relabel { bits, .. } = event {
             count += 1;
-            total += bits.len() as u64;
+            total += bits.bits().len() as u64;
         }
     }
     (count, total)
 }
 
-// The place of the first line whose event does not apply, `None` where all do.
+// The place of the first line whose event does not apply, `None` where all do. `well` becomes whether
+// all is well at the last look.
 fn play<K: Checker>(
     alloc: Global,
     lookout: &mut Lookout<'_, '_, K>,
     lines: &[WatchLine],
-    shown: &mut LooksSoFar,
+    well: &mut bool,
 ) -> Result<Option<usize>, NoMemory>
     requires start { lookout.old.watched.events ≡ [] }
     requires room { HasRoomForEvents lookout.old.with_watch (events_of lines.now) }
-    requires few { length lines.now ≤ MAX_LINES }
-    requires none { AreShown shown.old [] }
+    requires none { AreShown lookout.old.kept well.old [] }
     ensures place { IfOk result (λ found. (number : ℕ)
         → first_refused_line lookout.old.watched.network [] number lines.now
         ≡ option_map (λ place. number + place) found) }
     ensures within { IfOk result (λ found. IfSome found (λ place. place < length lines.now)) }
-    ensures shown { IfOk result (λ found. found ≡ None → AreShown shown.new
+    ensures shown { IfOk result (λ found. found ≡ None → AreShown lookout.new.kept well.new
         (looks_behind (look_after (K.judge lookout.old.checker) lookout.old.watched.network
         lookout.old.watched.start) [] lines.now)) }
 {
     for (place, line) in lines.iter().enumerate() {
-        if !take_line(alloc, lookout, line, shown)? {
+        if !take_line(alloc, lookout, line, well)? {
             return Ok(Some(place));
         }
     }
@@ -112,70 +111,38 @@ fn take_line<K: Checker>(
     alloc: Global,
     lookout: &mut Lookout<'_, '_, K>,
     line: &WatchLine,
-    shown: &mut LooksSoFar,
+    well: &mut bool,
 ) -> Result<bool, NoMemory>
     requires room { HasRoomForEvents lookout.old.with_watch (event_of line.now) }
-    requires few { shown.old.looks < 2 ^ 31 }
     ensures checker { lookout.new.checker ≡ lookout.old.checker }
     ensures refused { IfOk result (λ applies. applies ≡ not (line_does_not_apply
         lookout.old.watched.network lookout.old.watched.events line.now)) }
     ensures taken { IfOk result (λ applies. applies ≡ true
         → lookout.new.watched ≡ watched_behind line.now lookout.old.watched) }
     ensures shown { IfOk result (λ applies. (looks : List (List (ℕ × Outcome × List ℕ)))
-        → AreShown shown.old looks
-        → AreShown shown.new (looks ++ shown_at (K.judge lookout.old.checker) lookout.old.watched line.now)) }
+        → AreShown lookout.old.kept well.old looks
+        → AreShown lookout.new.kept well.new
+        (looks ++ shown_at (K.judge lookout.old.checker) lookout.old.watched line.now)) }
 {
     match line {
         WatchLine::Event(event) => Ok(lookout.step(event).is_ok()),
         WatchLine::Look => {
             lookout.look(alloc, &mut Steps::new())?;
-            shown.add_look(lookout.shown())?;
+            lookout.keep_look(alloc)?;
+            *well = look_is_well(lookout.rows());
             Ok(true)
         }
     }
 }
 
-/// What the looks have shown so far: their text, how many there were, and whether all was well at
-/// the last one.
-#[derive(Drop)]
-pub(crate) struct LooksSoFar {
-    text: GrowingText,
-    looks: u32,
-    well: bool,
-}
-
-impl LooksSoFar {
-    fn nothing(alloc: Global) -> LooksSoFar
-        ensures { AreShown result [] }
-    {
-        LooksSoFar {
-            text: GrowingText::new(alloc),
-            looks: 0,
-            well: true,
-        }
-    }
-
-    // Writing into memory fails only for want of memory.
-    fn add_look(&mut self, look: &LookRows) -> Result<(), NoMemory>
-        requires { self.old.looks < 2 ^ 31 }
-        ensures { OnOk result ((looks : List (List (ℕ × Outcome × List ℕ)))
-            → AreShown self.old looks → AreShown self.new (looks ++ look.now.rows ∷ [])) }
-    {
-        self.looks += 1;
-        self.well = look_is_well(look.rows());
-        match write_look(self.looks, look, &mut self.text) {
-            Ok(()) => Ok(()),
-            Err(Fault) => Err(NoMemory),
-        }
-    }
-
-    fn into_answer(self) -> Answer
-        ensures says { (looks : List (List (ℕ × Outcome × List ℕ))) → AreShown self looks
-            → result ≡ looks_answer looks }
-        ensures worked { IsWorked result.status }
-    {
-        let status = if self.well { Status::Done } else { Status::No };
-        let content = Content::Written(self.text.into_bytes());
-        Answer { status, content }
+// `well` says whether all was well at the last look, and is true where there is none.
+fn looks_answer(look: LookRows, well: bool) -> Answer
+    ensures says { (looks : List (List (ℕ × Outcome × List ℕ))) → AreShown look.kept well looks
+        → result ≡ looks_answer looks }
+    ensures worked { IsWorked result.status }
+{
+    Answer {
+        status: if well { Status::Done } else { Status::No },
+        content: Content::Looks(look),
     }
 }

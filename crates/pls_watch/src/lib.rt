@@ -26,6 +26,6 @@ pub use lookout::Lookout;
 pub use pls_report::{LookRow, LookRows};
 pub use pls_sim::{EventError, Outcome, PortNumbers};
 pub use pls_streams::NoMemory;
-pub use pls_watch_part::WatchEvent;
+pub use pls_watch_part::{BoxedLabel, WatchEvent};
 pub use turn::Turn;
 pub use watch::Watch;

@@ -117,7 +117,7 @@ impl<'n> Watch<'n> {
             }),
             WatchEvent::Arrive(number) => self.play(Event::Arrive(*number)),
             WatchEvent::Restart(node) => self.play(Event::Restart(*node)),
-            WatchEvent::Relabel { node, bits } => self.relabel(*node, bits),
+            WatchEvent::Relabel { node, bits } => self.relabel(*node, bits.bits()),
         }
     }
 

@@ -8,11 +8,13 @@
 //! where they were kept while the text was passed.
 #![tactic(auto)]
 
+mod boxed_label;
 mod watch_event;
 mod watch_read;
 mod watch_text;
 mod watch_words;
 
+pub use boxed_label::BoxedLabel;
 pub use pls_configuration::{MAX_LINES, MAX_ROUNDS};
 pub use pls_streams::NoMemory;
 pub use watch_event::{WatchEvent, WatchLine};

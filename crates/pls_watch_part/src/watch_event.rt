@@ -3,7 +3,7 @@
 ghost use Rattle.std.specs.Prelude.{◌≡◌};
 ghost use Rattle.pls_watch_part.specs.WatchText.{watch_event};
 
-use pls_bits::BitBuf;
+use crate::boxed_label::BoxedLabel;
 use pls_schedule::Event;
 
 /// What happens next in a round of messages in which labels change.
@@ -24,8 +24,8 @@ pub enum WatchEvent {
     Relabel {
         /// The identity of the node.
         node: u32,
-        /// The label, elsewhere, so that other events take no room for one.
-        bits: Box<BitBuf>,
+        /// The label.
+        bits: BoxedLabel,
     },
 }
 

@@ -4,6 +4,7 @@ ghost use Rattle.std.specs.Prelude.{◌≡◌, ◌≢◌, ℕ, false, List, ◌�
 ghost use Rattle.pls_labelfile.specs.LabelsText.{FitsLabel, NamedLabel, label_line};
 ghost use Rattle.pls_watch_part.specs.WatchText.{FitsWatch, bits_of, is_look, watch_line};
 
+use crate::boxed_label::BoxedLabel;
 use crate::watch_event::{WatchEvent, WatchLine};
 use pls_closing::{ClosingLine, OwnLine};
 use pls_labelfile::LabelLine;
@@ -127,7 +128,7 @@ impl<'a> OwnLine<'a> for WatchWords<'a> {
         match self.words {
             Words::Plain(event) => Ok(WatchLine::Event(WatchEvent::of(event))),
             Words::Relabel(label) => {
-                let bits = Box::new(alloc, label.to_bits(alloc)?)?;
+                let bits = BoxedLabel::new(alloc, label.to_bits(alloc)?)?;
                 let node = label.id();
                 Ok(WatchLine::Event(WatchEvent::Relabel { node, bits }))
             }

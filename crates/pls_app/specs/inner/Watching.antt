@@ -1,5 +1,6 @@
 -- How the looks of a watch come about, line by line.
 use Rattle.std.specs.Prelude.{◌≡◌, ℕ, ◌+◌, ◌≤◌, Bool, List, [], ◌∷◌, length}
+use Rattle.std.specs.List.{flat_map}
 use Rattle.pls_configuration.specs.declared.row.NodeRow.{NodeRow}
 use Rattle.pls_configuration.specs.declared.verdict.Verdict.{Verdict}
 use Rattle.pls_labels.specs.Seen.{Seen}
@@ -12,7 +13,6 @@ use Rattle.pls_watch.specs.Watching.{Watched, look_of, watching}
 use Rattle.pls_inputs.specs.Parts.{Input, labels_in, rows_in, watch_in}
 use Rattle.pls_inputs.specs.Order.{watch_heading}
 use Rattle.pls_app.specs.Looks.{ends_in_well, looks_text}
-use Rattle.pls_app.specs.declared.watch.LooksSoFar.{LooksSoFar}
 
 -- an input with these rows, labels and lines of a watch, the first in this line
 pub record IsWatchInput (rows : List NodeRow) (labels : List (List Bool)) (lines : List WatchLine)
@@ -39,8 +39,9 @@ abbrev pub shown_at : (Seen → Verdict) → Watched → WatchLine → List (Lis
 shown_at judge watched (Event event) = []
 shown_at judge watched Look = look_of judge watched ∷ []
 
--- what was shown are these looks
-pub record AreShown (shown : LooksSoFar) (looks : List (List (ℕ × Outcome × List ℕ))) : Type 0 where
-  pub says : shown.text.taken ≡ looks_text 1 looks
-  pub count : shown.looks ≡ length looks
-  pub ends : shown.well ≡ ends_in_well looks
+-- these are the texts of looks, and whether all was well at the last of them
+pub record AreShown (texts : List (List ℕ)) (well : Bool)
+    (looks : List (List (ℕ × Outcome × List ℕ))) : Type 0 where
+  pub says : flat_map (λ text. text) texts ≡ looks_text 1 looks
+  pub count : length texts ≡ length looks
+  pub ends : well ≡ ends_in_well looks

@@ -8,7 +8,7 @@ use pls_scheme::Checker;
 use pls_sim::EventError;
 use pls_streams::Steps;
 use pls_watch::{Lookout, Watch};
-use pls_watch_part::WatchEvent;
+use pls_watch_part::{BoxedLabel, WatchEvent};
 use std::alloc::{AllocError, Global};
 use std::test::Fail;
 
@@ -208,7 +208,7 @@ fn event_of(alloc: Global, event: EventCode) -> Result<WatchEvent, Fail> {
         _ => {
             let mut bits = BitBuf::new(alloc);
             bits.push(two == 1)?;
-            let bits = Box::new(alloc, bits)?;
+            let bits = BoxedLabel::new(alloc, bits)?;
             WatchEvent::Relabel { node, bits }
         }
     })

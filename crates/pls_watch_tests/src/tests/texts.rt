@@ -58,7 +58,7 @@ fn short(line: &WatchLine) -> (u8, u64) {
                 b'l',
                 (*node as u64)
                     .saturating_mul(10)
-                    .saturating_add(bits.len() as u64),
+                    .saturating_add(bits.bits().len() as u64),
             )
         }
         WatchLine::Look => (b'k', 0),

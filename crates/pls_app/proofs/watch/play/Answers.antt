@@ -1,29 +1,12 @@
 use Rattle.std.proofs.Common.{◌≡◌, ◌∙◌, ◌++◌, ℕ, List, [], false, get_or, take, ap, arith, subst, sym}
-use Rattle.std.proofs.lemmas.List.{length-take}
 use Rattle.pls_configuration.specs.declared.verdict.Verdict.{Verdict}
 use Rattle.pls_labels.specs.Seen.{Seen}
 use Rattle.pls_watch_part.specs.declared.watch_event.WatchLine.{WatchLine}
 use Rattle.pls_app.specs.Looks.{look_after, looks_behind}
 use Rattle.pls_app.specs.WatchRefusal.{line_does_not_apply}
 use Rattle.pls_app.specs.inner.Watching.{AreShown, shown_at, watched_behind}
-use Rattle.pls_app.proofs.WatchLines.{few_looks}
 use Rattle.pls_app.proofs.WatchPlay.{applies_so, first_on, network_on, room_on, shown_on, start_on, taken_on}
 use Rattle.pls_app.proofs.watch.play.Goals as goal
-
-pub take_line-requires-clause-few : goal.take_line-requires-clause-few
-take_line-requires-clause-few g c =
-    let lines : List WatchLine = c.args.lines.now in
-    let place : ℕ = c.loop-place.place in
-    let start = c.args.lookout.now.watched in
-    omega (
-      arith,
-      c.loop-place.invariant.shown.count,
-      few_looks (look_after (g.K.Checker.judge c.args.lookout.now.checker) start.network start.start) []
-          (take place lines),
-      length-take place lines,
-      c.loop-place-test.true,
-      c.requires.few,
-    )
 
 pub loop-place-preserved : goal.loop-place-preserved
 loop-place-preserved g c =
@@ -53,11 +36,11 @@ loop-place-preserved g c =
           before.network before.start before.taken is;
       room = room_on lines place line within old before.room new is;
       shown = shown_on lines place line within start.network start.start old new
-          before.network before.start before.taken judge c.take_line.new.shown
-          (subst (λ (line : WatchLine). AreShown c.take_line.new.shown
+          before.network before.start before.taken judge c.take_line.new.lookout.kept c.take_line.new.well
+          (subst (λ (line : WatchLine). AreShown c.take_line.new.lookout.kept c.take_line.new.well
           (looks_behind (look_after judge start.network start.start) [] (take place lines)
           ++ shown_at judge old line)) at
-          (subst (λ (by : Seen → Verdict). AreShown c.take_line.new.shown
+          (subst (λ (by : Seen → Verdict). AreShown c.take_line.new.lookout.kept c.take_line.new.well
           (looks_behind (look_after judge start.network start.start) [] (take place lines)
           ++ shown_at by old line)) (ap g.K.Checker.judge before.checker)
           (step.shown _ before.shown)));

@@ -11,7 +11,7 @@ invariant-loop-place g l = record {
   start : l.lookout.watched.start ≡ l.fn.lookout.watched.start;
   taken : l.lookout.watched.events ≡ events_of (take l.place l.lines);
   room : HasRoomForEvents l.lookout.watched (events_of (drop l.place l.lines));
-  shown : AreShown l.shown (looks_behind (look_after (g.K.Checker.judge l.fn.lookout.checker)
+  shown : AreShown l.lookout.kept l.well (looks_behind (look_after (g.K.Checker.judge l.fn.lookout.checker)
       l.fn.lookout.watched.network l.fn.lookout.watched.start) [] (take l.place l.lines));
   so_far : (number : ℕ) → first_refused_line l.fn.lookout.watched.network [] number l.lines
       ≡ first_refused_line l.fn.lookout.watched.network (events_of (take l.place l.lines)) (number + l.place)

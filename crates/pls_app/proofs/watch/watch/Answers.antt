@@ -110,7 +110,7 @@ returns-clause-does g c input is takes parts =
     let labels = ap (λ (watched : Watched). watched.start) same ∙ start.labels ∙ sym is.store in
     inr (
       (λ i. watch_lines_refusal (is.net i) (sym is.at i) (is.list i)) ∙ none,
-      c.into_answer.ensures.says _ (c.in_ok-place.ensures.shown c.in-None.is)
+      c.looks_answer.ensures.says _ (c.in_ok-place.ensures.shown c.in-None.is)
           ∙ (λ i. looks_answer (looks_behind (look_after (judge_of (takes i) (checker i))
           (networks i) (labels i)) [] (sym is.list i))),
     )
