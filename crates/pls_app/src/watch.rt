@@ -88,7 +88,7 @@ fn play<K: Checker>(
     well: &mut bool,
 ) -> Result<Option<usize>, NoMemory>
     requires start { lookout.old.watched.events ≡ [] }
-    requires room { HasRoomForEvents lookout.old.with_watch (events_of lines.now) }
+    requires room { HasRoomForEvents lookout.old.watched (events_of lines.now) }
     requires none { AreShown lookout.old.kept well.old [] }
     ensures place { IfOk result (λ found. (number : ℕ)
         → first_refused_line lookout.old.watched.network [] number lines.now
@@ -113,7 +113,7 @@ fn take_line<K: Checker>(
     line: &WatchLine,
     well: &mut bool,
 ) -> Result<bool, NoMemory>
-    requires room { HasRoomForEvents lookout.old.with_watch (event_of line.now) }
+    requires room { HasRoomForEvents lookout.old.watched (event_of line.now) }
     ensures checker { lookout.new.checker ≡ lookout.old.checker }
     ensures refused { IfOk result (λ applies. applies ≡ not (line_does_not_apply
         lookout.old.watched.network lookout.old.watched.events line.now)) }

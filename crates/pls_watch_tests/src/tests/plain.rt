@@ -188,7 +188,7 @@ fn next(number: u32) -> u32 {
 }
 
 // May name a node, port or emit that does not exist; `emits` were taken before.
-fn event_of(number: u32, emits: u32) -> EventCode {
+fn event_code(number: u32, emits: u32) -> EventCode {
     let (one, two) = (number.wrapping_shr(8) & 255, number.wrapping_shr(16) & 255);
     match number & 7 {
         0..=2 => (0, one % 5, two % 4),
@@ -247,7 +247,7 @@ fn play<K: Checker>(
     let (mut number, mut taken) = (seed, 0_u32);
     for _ in 0..60 {
         number = next(number);
-        let event = event_of(number, plain.emits.len().min(250) as u32);
+        let event = event_code(number, plain.emits.len().min(250) as u32);
         let refused = lookout.step(&event_of(alloc, event)?).err();
         if refused != plain.take(event)? {
             return Err(Fail::from("refused otherwise"));

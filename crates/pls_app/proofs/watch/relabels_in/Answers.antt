@@ -1,4 +1,4 @@
-use Rattle.std.proofs.Common.{◌≡◌, ◌∙◌, ℕ, List, length, take, get_or, ap, arith, sym}
+use Rattle.std.proofs.Common.{◌≡◌, ◌∙◌, ℕ, Bool, List, length, take, get_or, ap, arith, sym}
 use Rattle.std.proofs.lemmas.List.{length-take}
 use Rattle.pls_watch_part.specs.WatchText.{bits_of}
 use Rattle.pls_watch_part.specs.declared.watch_event.WatchLine.{WatchLine}
@@ -33,5 +33,6 @@ overflow_add-total c =
       c.loop-line.invariant.sum,
       given_within lines i c.line-item.result c.loop-line-test.true,
       same,
+      ap (length {A = Bool}) c.bits.ensures,
       c.requires.bits,
     )

@@ -1,8 +1,9 @@
-use Rattle.std.proofs.Common.{◌≡◌, ◌∙◌, ◌+◌, ℕ, List, [], Some, None, inl, inr, length, option_map, ap, arith, sym}
+use Rattle.std.proofs.Common.{◌≡◌, ◌∙◌, ◌+◌, ℕ, List, [], Some, None, inl, inr, length, option_map, ap, arith, subst, sym}
 use Rattle.std.proofs.lemmas.Result.{IfOk-weaker}
 use Rattle.pls_streams.specs.declared.refusal_number.TheConstants.{WATCH_EVENT}
 use Rattle.pls_streams.specs.declared.text_error.TextError.{TextError}
 use Rattle.pls_streams.specs.declared.text_error.TextError.TheVariants.{Sense}
+use Rattle.pls_sim.specs.declared.outcome.Outcome.{Outcome}
 use Rattle.pls_combine.specs.Expression.{judge_of}
 use Rattle.pls_watch_part.specs.declared.watch_event.WatchEvent.{WatchEvent}
 use Rattle.pls_watch.specs.Labelled.{bits_given, labels_given}
@@ -15,7 +16,7 @@ use Rattle.pls_app.specs.Looks.{look_after, looks_answer, looks_behind}
 use Rattle.pls_app.specs.Meant.{takes_of}
 use Rattle.pls_app.specs.WatchRefusal.{events_of, first_refused_line, watch_lines_refusal}
 use Rattle.pls_app.specs.inner.Tasks.{Does}
-use Rattle.pls_app.specs.inner.Watching.{IsWatchInput}
+use Rattle.pls_app.specs.inner.Watching.{AreShown, IsWatchInput}
 use Rattle.pls_app.proofs.WatchLines.{few_events, few_labels, total_given}
 use Rattle.pls_app.proofs.watch.watch.Goals as goal
 
@@ -93,8 +94,8 @@ returns-in-Some-clause-does g c =
       same,
     )) c.refuse.ensures.says
 
-pub returns-clause-does : goal.returns-clause-does
-returns-clause-does g c input is takes parts =
+pub returns-in-None-clause-does : goal.returns-in-None-clause-does
+returns-in-None-clause-does g c input is takes parts =
     let net = c.args.net.now in
     let lines = c.args.lines.now in
     let first = c.args.first_line in
@@ -108,9 +109,15 @@ returns-clause-does g c input is takes parts =
     ∙ c.in_ok-place.ensures.place first ∙ ap (option_map (λ place. first + place)) c.in-None.is) in
     let networks = network ∙ sym is.net in
     let labels = ap (λ (watched : Watched). watched.start) same ∙ start.labels ∙ sym is.store in
+    let lookout = c.in_ok-lookout.lookout in
+    let looks : List (List (ℕ × Outcome × List ℕ)) =
+    looks_behind (look_after (judge_of g.C.NumCode.takes lookout.checker) lookout.watched.network
+    lookout.watched.start) [] lines in
     inr (
       (λ i. watch_lines_refusal (is.net i) (sym is.at i) (is.list i)) ∙ none,
-      c.looks_answer.ensures.says _ (c.in_ok-place.ensures.shown c.in-None.is)
+      c.looks_answer.ensures.says looks
+          (subst (λ (texts : List (List ℕ)). AreShown texts c.play.new.well looks) (sym c.into_shown.ensures.kept)
+          (c.in_ok-place.ensures.shown c.in-None.is))
           ∙ (λ i. looks_answer (looks_behind (look_after (judge_of (takes i) (checker i))
           (networks i) (labels i)) [] (sym is.list i))),
     )
