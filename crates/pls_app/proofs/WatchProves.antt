@@ -1,5 +1,5 @@
 -- What `Done` after a watch says of the network.
-use Rattle.std.proofs.Common.{◌≡◌, ◌∙◌, ◌&&◌, ◌==◌, ◌<◌, ℕ, zero, suc, Bool, true, false, List, [], ◌∷◌, ◌++◌, map, length, All, get_or, Option, Some, None, option_map, if◌then◌else◌, inl, inr, refl, sym, ap, subst, arith, append-nil, append_assoc}
+use Rattle.std.proofs.Common.{◌≡◌, ◌∙◌, ◌&&◌, ◌==◌, ℕ, suc, Bool, true, false, List, [], ◌∷◌, ◌++◌, map, length, All, get_or, Option, Some, None, option_map, inl, inr, refl, sym, ap, arith, append-nil, append_assoc}
 use Rattle.std.specs.Prelude.{slice_get, position}
 use Rattle.std.proofs.lemmas.Bool.{eqb-true}
 use Rattle.std.proofs.lemmas.List.{length-map}
@@ -10,7 +10,7 @@ use Rattle.std.proofs.lemmas.List.Quantifiers.{position-Some}
 use Rattle.std.proofs.lemmas.Option.{slice_get-get_or, slice_get-map}
 use Rattle.pls_configuration.specs.declared.row.Port.{Port}
 use Rattle.pls_configuration.specs.declared.row.NodeRow.{NodeRow}
-use Rattle.pls_configuration.specs.declared.status.Status.TheVariants.{Done, No}
+use Rattle.pls_configuration.specs.declared.status.Status.TheVariants.{Done}
 use Rattle.pls_configuration.specs.declared.verdict.Verdict.{Verdict}
 use Rattle.pls_configuration.specs.declared.verdict.Verdict.TheVariants.{Accept}
 use Rattle.pls_configuration.specs.Configuration.{IsNetwork}
@@ -37,13 +37,12 @@ use Rattle.pls_watch.proofs.Laws.{fresh_round}
 use Rattle.pls_expressions.specs.Expression.{Expression}
 use Rattle.std.specs.Option.{unwrap_or}
 use Rattle.pls_inputs.specs.Parts.{Has, Input, code_in, labels_in, parts_with_watch, rows_in, watch_in}
-use Rattle.pls_inputs.specs.Order.{IsInput}
 use Rattle.pls_inputs.proofs.Facts.{readable}
 use Rattle.pls_app.specs.declared.command.Command.TheVariants.{With}
 use Rattle.pls_app.specs.declared.command.Task.TheVariants.{Watch}
 use Rattle.pls_app.specs.Answer.{Answers}
 use Rattle.pls_app.specs.Looks.{ends_in_well, look_after, looks_behind, looks_in, watched_after}
-use Rattle.pls_app.specs.Meant.{Holds, judge_in}
+use Rattle.pls_app.specs.Meant.{judge_in}
 use Rattle.pls_app.specs.Run.{Proves}
 use Rattle.pls_app.specs.Said.{Answer}
 use Rattle.pls_app.specs.WatchRefusal.{events_of}

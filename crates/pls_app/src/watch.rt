@@ -1,6 +1,6 @@
 //! The answer to `watch`.
 
-ghost use Rattle.std.specs.Prelude.{◌≡◌, ◌+◌, ◌++◌, ◌<◌, ◌≤◌, ◌^◌, ℕ, List, [], ◌∷◌, not, true, length, option_map, IfOk, IfSome, OnOk, None};
+ghost use Rattle.std.specs.Prelude.{◌≡◌, ◌+◌, ◌++◌, ◌<◌, ◌≤◌, ◌^◌, ℕ, List, [], not, true, length, option_map, IfOk, IfSome, None};
 ghost use Rattle.pls_configuration.specs.declared.limits.TheConstants.{MAX_BITS, MAX_LINES};
 ghost use Rattle.pls_sim.specs.declared.outcome.Outcome.{Outcome};
 ghost use Rattle.pls_watch_part.specs.WatchText.{total_bits};

@@ -1,5 +1,5 @@
 -- What nodes count as, where one is replaced.
-use Rattle.std.proofs.Common.{◌≡◌, ◌∙◌, ℕ, ◌+◌, ◌<◌, ◌≤◌, ◌^◌, Bool, List, [], ◌∷◌, ◌++◌, take, drop, set, length, get_or, count_by, cond, refl, sym, ap, arith, append-nil}
+use Rattle.std.proofs.Common.{◌≡◌, ◌∙◌, ℕ, ◌+◌, ◌<◌, ◌≤◌, ◌^◌, Bool, List, [], ◌∷◌, ◌++◌, take, drop, set, length, get_or, count_by, cond, sym, ap, arith, append-nil}
 use Rattle.std.proofs.lemmas.List.{drop_more, length-take-le, set_at, take-append-drop, take_more}
 use Rattle.std.proofs.lemmas.List.Sums.{count_by-le-length, sum_by-append, sum_by-cons}
 use Rattle.pls_sim.specs.declared.outcome.Outcome.{Outcome}

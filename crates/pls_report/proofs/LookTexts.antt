@@ -3,12 +3,11 @@ use Rattle.std.proofs.Common.{◌≡◌, ◌≢◌, ◌∙◌, ℕ, ◌+◌, ◌
 use Rattle.pls_configuration.specs.declared.verdict.Verdict.{Verdict}
 use Rattle.pls_configuration.specs.Verdict.{verdict_text}
 use Rattle.pls_sim.specs.declared.outcome.Outcome.TheVariants.{Decided, Waiting}
-use Rattle.pls_report.specs.Look.{look_closing, look_line, look_text, rejecting_rows, stale_rows, told_ports, waiting_rows}
-use Rattle.pls_report.specs.inner.Pieces.{BeginsWith, outcome_tail, spaced, stale_tail}
+use Rattle.pls_report.specs.Look.{look_line, told_ports}
+use Rattle.pls_report.specs.inner.Pieces.{outcome_tail, spaced, stale_tail}
 use Rattle.pls_report.proofs.Texts.{line_spaced, node_text, spaced_more}
 use Rattle.pls_sim.specs.declared.outcome.Outcome.{Outcome}
-use Rattle.pls_lines.specs.Text.{line_of, text_of}
-use Rattle.pls_lines.specs.laws.Fronts.{text_of-append}
+use Rattle.pls_lines.specs.Text.{line_of}
 use Rattle.pls_report.specs.Report.{outcome_line}
 
 -- a word and numbers behind a text, with one number more
@@ -76,10 +75,3 @@ node_behind front id outcome stale =
     ap (λ (text : List ℕ). text ++ 10 ∷ []) (append_assoc front node tail)
     ∙ append_assoc front (node ++ tail) (10 ∷ [])
     ∙ ap (λ (text : List ℕ). front ++ text) (node_seen id outcome stale)
-
-pub look_closing_text : (number : ℕ) (rows : List (ℕ × Outcome × List ℕ))
-    → ((codes "look " ++ decimal number) ++ ((codes " rejecting " ++ decimal (rejecting_rows rows))
-    ++ ((codes " waiting " ++ decimal (waiting_rows rows))
-    ++ (codes " stale " ++ decimal (stale_rows rows))))) ++ codes "\n"
-    ≡ look_closing number rows ++ 10 ∷ []
-look_closing_text number rows = refl

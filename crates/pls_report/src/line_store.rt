@@ -1,6 +1,6 @@
 //! Lines of nodes, each found by its number.
 
-ghost use Rattle.std.specs.Prelude.{◌≡◌, ◌^◌, ◌<◌, ◌++◌, ◌∷◌, [], length, slice_get, OnErr, OnOk, Some};
+ghost use Rattle.std.specs.Prelude.{◌≡◌, ◌<◌, ◌++◌, ◌∷◌, [], length, slice_get, OnErr, OnOk, Some};
 ghost use Rattle.pls_report.specs.inner.Kept.{row_line};
 
 use crate::look_row::LookRow;

@@ -6,12 +6,11 @@ ghost use Rattle.std.specs.Io.KnownBytes.{Appends};
 ghost use Rattle.pls_streams.specs.Gathered.{Writes};
 ghost use Rattle.pls_streams.specs.Streams.{AppendsPart, Rose, StaysSure};
 ghost use Rattle.pls_sim.specs.declared.outcome.Outcome.TheVariants.{Decided};
-ghost use Rattle.pls_report.specs.Look.{look_line, look_text};
+ghost use Rattle.pls_report.specs.Look.{look_text};
 ghost use Rattle.pls_report.specs.inner.Kept.{counts_text, row_line};
 
 use crate::decided::line_in;
 use crate::line_kind::LookCounts;
-use crate::look_counting::told_ports;
 use crate::look_row::LookRow;
 use crate::look_rows::LookRows;
 use crate::pieces::put_listed;

@@ -1,8 +1,8 @@
 //! The rows of a look, kept for the next one.
 
-ghost use Rattle.std.specs.Prelude.{◌≡◌, ◌+◌, ◌<◌, ◌++◌, ◌∷◌, [], ℕ, List, false, length, map, replicate, slice_get, slice_set, IfOk, OnErr, OnOk, Some};
+ghost use Rattle.std.specs.Prelude.{◌≡◌, ◌+◌, ◌<◌, ◌++◌, ◌∷◌, [], ℕ, List, false, length, map, slice_get, slice_set, IfOk, OnErr, OnOk, Some};
 ghost use Rattle.pls_sim.specs.declared.outcome.Outcome.{Outcome};
-ghost use Rattle.pls_report.specs.Look.{look_text, rejecting_rows, stale_rows, waiting_rows};
+ghost use Rattle.pls_report.specs.Look.{look_text};
 ghost use Rattle.pls_report.specs.inner.Kept.{row_line};
 ghost use Rattle.pls_report.specs.inner.Lines.{counts_of};
 ghost use Rattle.pls_report.specs.inner.Renewed.{AreRenewed};

@@ -2,7 +2,7 @@
 
 ghost use Rattle.std.specs.Prelude.{◌≡◌, ◌≢◌, ◌<◌, ℕ, All, IfOk, IfSome, length, replicate, slice_get, slice_index_or, slice_set, Some};
 ghost use Rattle.pls_graph.specs.Places.{beside};
-ghost use Rattle.pls_watch.specs.inner.Current.{AreLabelsNoted, IsMoreNoted, IsNoted, IsNotedAround, is_relabel, with_beside, with_held};
+ghost use Rattle.pls_watch.specs.inner.Current.{AreLabelsNoted, IsMoreNoted, IsNoted, is_relabel, with_beside, with_held};
 
 use pls_graph::Network;
 use pls_streams::NoMemory;

@@ -1,12 +1,9 @@
 //! A watch with its looks.
 
-ghost use Rattle.std.specs.Prelude.{◌≡◌, ◌≢◌, ◌<◌, ◌+◌, ◌++◌, ◌∷◌, ℕ, [], length, slice_get, slice_set, IfErr, IfOk, None, OnErr, OnOk, Some};
-ghost use Rattle.pls_configuration.specs.declared.row.NodeRow.{NodeRow};
+ghost use Rattle.std.specs.Prelude.{◌≡◌, ◌<◌, ◌+◌, ◌++◌, ◌∷◌, [], length, IfErr, IfOk, None, OnErr, OnOk, Some};
 ghost use Rattle.pls_scheme.specs.Judging.{RoseByAtMost};
 ghost use Rattle.pls_report.specs.Look.{look_text};
 ghost use Rattle.pls_watch.specs.Watching.{look_of, watch_refusal, watching};
-ghost use Rattle.pls_watch.specs.inner.Current.{IsRenewed};
-ghost use Rattle.pls_watch.specs.inner.Known.{IsTable};
 
 use crate::change::{Change, forget, no_changes, note};
 use crate::watch::Watch;

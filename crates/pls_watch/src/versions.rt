@@ -1,6 +1,6 @@
 //! The versions that nodes have and hold of labels.
 
-ghost use Rattle.std.specs.Prelude.{◌≡◌, ◌≢◌, ◌<◌, ◌≤◌, ℕ, [], cond, false, true, length, max, option_map, replicate, slice_get, IfErr, IfOk, IfSome, OnErr, OnOk, None, Some};
+ghost use Rattle.std.specs.Prelude.{◌≡◌, ◌≢◌, ◌<◌, ◌≤◌, [], cond, false, true, length, max, option_map, replicate, slice_get, IfErr, IfOk, IfSome, OnErr, OnOk, None, Some};
 ghost use Rattle.std.specs.List.{AllByRecursion};
 ghost use Rattle.pls_configuration.specs.declared.limits.TheConstants.{MAX_LINES};
 ghost use Rattle.pls_configuration.specs.declared.row.NodeRow.{NodeRow};

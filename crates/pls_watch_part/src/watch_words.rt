@@ -1,6 +1,6 @@
 //! The lines of a watch part, read without memory.
 
-ghost use Rattle.std.specs.Prelude.{◌≡◌, ◌≢◌, ℕ, false, List, ◌∷◌, ◌++◌, IfNone, IfOk, IfSome};
+ghost use Rattle.std.specs.Prelude.{◌≡◌, ◌≢◌, ℕ, false, List, ◌∷◌, ◌++◌, IfNone, IfSome};
 ghost use Rattle.pls_labelfile.specs.LabelsText.{FitsLabel, NamedLabel, label_line};
 ghost use Rattle.pls_watch_part.specs.WatchText.{FitsWatch, bits_of, is_look, watch_line};
 

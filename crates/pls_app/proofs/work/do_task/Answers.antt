@@ -15,7 +15,7 @@ use Rattle.pls_app.specs.Meant.{number_code_of, takes_of}
 use Rattle.pls_app.specs.Reports.{decided_by}
 use Rattle.pls_app.specs.inner.Tasks.{Does, DoesWork, IsNamed, IsRechecked, IsSimulated, RecheckedIn, ShowsIn, working_code, DoesSplice}
 use Rattle.pls_app.specs.inner.Watching.{IsWatchInput}
-use Rattle.pls_app.proofs.Values.{edits_at, edits_few, edits_fit, edits_small, items_are, labels_are, labels_each, made_of, rows_are, schedule_at, schedule_small, watch_at, watch_bits, watch_few, watch_small}
+use Rattle.pls_app.proofs.Values.{edits_at, edits_few, edits_fit, edits_small, items_are, labels_are, labels_each, made_of, rows_are, schedule_at, schedule_small, watch_at, watch_small}
 use Rattle.pls_app.proofs.Spliced.{spliced_so}
 use Rattle.pls_components.specs.Components.{AreComponents}
 use Rattle.pls_components.specs.Parts.{bound_of_parts}

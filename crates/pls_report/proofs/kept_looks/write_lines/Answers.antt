@@ -1,4 +1,4 @@
-use Rattle.std.proofs.Common.{ℕ, List, arith, length, subst}
+use Rattle.std.proofs.Common.{ℕ, List, arith, subst}
 use Rattle.std.proofs.lemmas.List.{length-map}
 use Rattle.pls_streams.specs.Gathered.{Wrote}
 use Rattle.pls_streams.proofs.Written.{failed}

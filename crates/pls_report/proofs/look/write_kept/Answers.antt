@@ -1,5 +1,3 @@
-use Rattle.std.proofs.Common.{ap}
-use Rattle.std.specs.List.{flat_map}
 use Rattle.pls_streams.proofs.Written.{part_of}
 use Rattle.pls_report.proofs.Flat.{flat}
 use Rattle.pls_report.proofs.look.write_kept.Goals as goal

@@ -1,4 +1,4 @@
-use Rattle.std.proofs.Common.{◌≡◌, ◌<◌, ◌≤◌, ◌∙◌, ◌++◌, ◌∷◌, [], List, ℕ, ap, get_or, length, map, take, subst}
+use Rattle.std.proofs.Common.{◌≡◌, ◌<◌, ◌≤◌, ◌∙◌, ◌∷◌, [], List, ℕ, ap, get_or, length, map, take, subst}
 use Rattle.pls_lines.specs.Text.{text_of}
 use Rattle.pls_report.specs.Look.{look_closing, look_line}
 use Rattle.pls_report.specs.inner.Kept.{counts_text}

@@ -1,5 +1,5 @@
-use Rattle.std.proofs.Common.{◌≡◌, ◌+◌, ◌<◌, ◌≤◌, ◌∙◌, ℕ, Bool, List, Some, Vec, Global, ap, arith, false, get_or, length, set, slice_get, subst, sym}
-use Rattle.std.proofs.lemmas.Option.{slice_get-get_or, slice_get_read}
+use Rattle.std.proofs.Common.{◌≡◌, ◌+◌, ◌<◌, ◌∙◌, ℕ, Bool, List, Some, Vec, Global, ap, arith, false, length, set, slice_get, subst, sym}
+use Rattle.std.proofs.lemmas.Option.{slice_get-get_or}
 use Rattle.pls_report.specs.inner.Kept.{TextsKept, row_line}
 use Rattle.pls_report.specs.inner.Renewed.{AreRenewed}
 use Rattle.pls_report.proofs.Renewing.{all_lines, line_made, more_kept, more_made}

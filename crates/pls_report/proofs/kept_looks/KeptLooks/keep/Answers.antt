@@ -1,4 +1,4 @@
-use Rattle.std.proofs.Common.{◌≡◌, ◌+◌, ◌∙◌, ◌++◌, ◌∷◌, [], ℕ, List, ap, length}
+use Rattle.std.proofs.Common.{◌≡◌, ◌+◌, ◌∙◌, ◌++◌, ◌∷◌, [], List, ap, length}
 use Rattle.pls_report.specs.declared.kept_looks.KeptLook.{KeptLook}
 use Rattle.pls_report.specs.inner.Kept.{kept_text, lines_at}
 use Rattle.pls_report.specs.inner.KeptTexts.{texts_from}

@@ -1,4 +1,4 @@
-use Rattle.std.proofs.Common.{◌≡◌, ◌∙◌, List, ℕ, ap, set}
+use Rattle.std.proofs.Common.{◌∙◌, List, ℕ, ap, set}
 use Rattle.pls_report.specs.inner.Kept.{lines_at, row_line}
 use Rattle.pls_report.specs.inner.KeptTexts.{texts_from}
 use Rattle.pls_report.proofs.Stays.{lines_renewed, texts_stay}

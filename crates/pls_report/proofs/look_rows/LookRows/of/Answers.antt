@@ -1,4 +1,4 @@
-use Rattle.std.proofs.Common.{◌≡◌, ◌∙◌, ap, arith, false, map, replicate, ℕ}
+use Rattle.std.proofs.Common.{◌∙◌, ap, arith, false, map, replicate, ℕ}
 use Rattle.pls_report.specs.inner.Kept.{row_line}
 use Rattle.pls_report.specs.inner.Lines.{counts_of}
 use Rattle.pls_report.proofs.Renewing.{none_changed}
