@@ -3,10 +3,9 @@
 //!
 //! [`Bipartite`] and [`Acyclic`] are the schemes; [`BipartiteRules`] and [`AcyclicRules`] what each
 //! states of its own, [`ColourLabel`] and [`CycleLabel`] what their labels say. Definitions stand
-//! in `specs/`, one file a scheme (`acyclic_rules`, `judge_acyclic`, `acyclic_says`,
-//! `IsAcyclicMarked`, `longest_acyclic`, and so for bipartite), the theorems in `specs/laws/`
-//! (`acyclic_show`, `acyclic_met`, `acyclic_one_right`, `acyclic_fits`, `acyclic_sound`,
-//! `acyclic_marked_once`); what cycles and two-colourings are stands in `pls_facts`.
+//! in `specs/`, one file a scheme (`acyclic_rules`, `acyclic_says`, `acyclic_limits`, and so for
+//! bipartite), the theorems in `specs/laws/` (`acyclic_show`, `acyclic_met`, `acyclic_one_right`,
+//! `acyclic_fits`); what cycles and two-colourings are stands in `pls_facts`.
 #![tactic(auto)]
 
 mod acyclic;

@@ -63,7 +63,7 @@ pub fn write_kept<K: Sink>(look: &LookRows, sink: &mut K) -> Result<(), Fault>
         (K.faults sink.new)) (λ _. ⊥) }
 {
     let mut gathered = Gathered::new();
-    look.kept().write(sink, &mut gathered)?;
+    look.kept_looks().write(sink, &mut gathered)?;
     gathered.flush(sink)
 }
 

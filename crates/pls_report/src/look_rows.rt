@@ -124,8 +124,8 @@ impl LookRows {
         self.passed = i + 1;
     }
 
-    /// How many rows the look has passed.
-    pub fn passed(&self) -> usize
+    /// The place of the next row that the look passes: how many it has passed.
+    pub fn next_place(&self) -> usize
         ensures { result ≡ self.now.passed }
     {
         self.passed
@@ -146,7 +146,7 @@ impl LookRows {
     }
 
     /// The looks that were kept.
-    pub(crate) fn kept(&self) -> &KeptLooks
+    pub(crate) fn kept_looks(&self) -> &KeptLooks
         ensures { result.now.texts ≡ self.now.kept }
     {
         &self.kept

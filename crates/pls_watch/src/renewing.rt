@@ -73,7 +73,7 @@ impl<'n> Watch<'n> {
         ensures unchanged { OnErr result (shown.new ≡ shown.old) }
         ensures few_steps { RoseByAtMost 1 steps.old steps.new }
     {
-        let i = shown.passed();
+        let i = shown.next_place();
         match changes[i] {
             Change::Nothing => shown.keep(),
             Change::Beside => {

@@ -15,13 +15,13 @@ returns-in_ok-to_vec-in-Beside-clause-renewed g c =
     let within : place < length changes = omega (arith, c.requires.place, current.each) in
     let is : slice_get changes place ≡ Some Beside =
     slice_get-get_or changes place Nothing within
-    ∙ (λ k. Some (get_or changes (sym c.passed-i.ensures k) Nothing)) ∙ ap Some c.in-Beside.is in
+    ∙ (λ k. Some (get_or changes (sym c.next_place-i.ensures k) Nothing)) ∙ ap Some c.in-Beside.is in
     renewed_stale judge c.args.self.now changes place c.args.shown.now.rows current
     c.replace_stale.new.self.rows c.from_vec.result c.requires.place is
     (λ row stands. c.from_vec.ensures
     ∙ c.in_ok-to_vec-in-Beside.ensures.items_if_clones_equal (λ x y is. is)
     ∙ c.as_slice-stale.ensures.value ∙ c.in_ok-list_stale-in-Beside.ensures.ports row
-    ((λ k. slice_get c.args.self.now.network (c.passed-i.ensures k)) ∙ stands))
+    ((λ k. slice_get c.args.self.now.network (c.next_place-i.ensures k)) ∙ stands))
     c.replace_stale.ensures.rows
 
 pub returns-in_ok-row-in-Held-clause-renewed : goal.returns-in_ok-row-in-Held-clause-renewed
@@ -34,7 +34,7 @@ returns-in_ok-row-in-Held-clause-renewed g c =
     (renewed_set judge c.args.self.now place old row
     (omega (arith, c.requires.place, c.requires.current.all))
     (λ other stands. c.in_ok-row-in-Held.ensures.shows other
-    ((λ k. slice_get c.args.self.now.network (c.passed-i.ensures k)) ∙ stands)))
+    ((λ k. slice_get c.args.self.now.network (c.next_place-i.ensures k)) ∙ stands)))
 
 pub returns-then-eq-clause-renewed : goal.returns-then-eq-clause-renewed
 returns-then-eq-clause-renewed g c =
@@ -46,7 +46,7 @@ returns-then-eq-clause-renewed g c =
     let within : place < length changes = omega (arith, c.requires.place, current.each) in
     let is : slice_get changes place ≡ Some Beside =
     slice_get-get_or changes place Nothing within
-    ∙ (λ k. Some (get_or changes (sym c.passed-i.ensures k) Nothing)) ∙ ap Some c.in-Beside.is in
+    ∙ (λ k. Some (get_or changes (sym c.next_place-i.ensures k) Nothing)) ∙ ap Some c.in-Beside.is in
     let shown = c.index-rows-i.result in
     let same : c.as_slice-stale.result.now ≡ c.stale.result.now =
     (bytes_eq-Decides c.as_slice-stale.result.now c.stale.result.now).0
@@ -55,7 +55,7 @@ returns-then-eq-clause-renewed g c =
     (renewed_as_shown judge c.args.self.now changes place old current shown
     (omega (arith, c.requires.place, current.all)) is
     (c.index-rows-i.is
-    ∙ (λ k. get_or (c.rows.ensures k) (c.passed-i.ensures k) c.index-rows-i.result))
+    ∙ (λ k. get_or (c.rows.ensures k) (c.next_place-i.ensures k) c.index-rows-i.result))
     (λ row stands. sym c.stale.ensures ∙ sym same ∙ c.as_slice-stale.ensures.value
     ∙ c.in_ok-list_stale-in-Beside.ensures.ports row
-    ((λ k. slice_get c.args.self.now.network (c.passed-i.ensures k)) ∙ stands)))
+    ((λ k. slice_get c.args.self.now.network (c.next_place-i.ensures k)) ∙ stands)))
