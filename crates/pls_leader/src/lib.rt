@@ -5,8 +5,8 @@
 //! [`Leader`] and [`Count`] are the schemes, over any number code; [`LeaderRules`] and
 //! [`CountRules`] what each states of its own, [`LeaderLabel`] and [`CountLabel`] what their labels
 //! say. Definitions stand in `specs/`, one file a scheme (`leader_rules`, `leader_says`,
-//! `leader_limits`, and so for count), the theorems in `specs/laws/`; what a leader is, depths that lead to a root, and sums along a tree stand in
-//! `pls_facts`.
+//! `leader_limits`, and so for count), the theorems in `specs/laws/`; what a leader is, depths that
+//! lead to a root, and sums along a tree stand in `pls_facts`.
 #![tactic(auto)]
 
 mod count;

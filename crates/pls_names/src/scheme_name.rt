@@ -1,5 +1,5 @@
 //! The names of basic schemes, and their types. A new name has a row in the four tables of this
-//! file, one in `specs/SchemeByName` and one in `specs/laws/NamedLaws`. Besides, `pls_builtin` says
+//! file, one in `specs/Named` and one in `specs/laws/NamedLaws`. Besides, `pls_builtin` says
 //! whether a rule set has the name, and `pls` how many rules the scheme has and what they ask.
 
 ghost use Rattle.std.specs.Prelude.{◌≡◌};

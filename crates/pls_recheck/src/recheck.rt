@@ -21,7 +21,7 @@ use std::marker::Model;
 // What is known of a value that a judge borrows, as of the bench of a `BenchJudge`, is lost where the
 // judge is moved in here and out again. Who has to count a bench's questions lends the judge to
 // each `EditedNetwork::round` instead.
-/// A [`EditedNetwork`] with the judge of all its rounds, seen as the record `Rechecked`.
+/// An [`EditedNetwork`] with the judge of all its rounds, seen as the record `Rechecked`.
 #[derive(Drop)]
 pub struct Recheck<J: Judge> {
     judge: J,
@@ -65,7 +65,7 @@ impl<J: Judge + Drop> Recheck<J> {
 }
 
 impl<J: Judge> Recheck<J> {
-    /// Makes an edit, and touches the nodes whose view it may change, as [`EditedNetwork::apply`] does.
+    /// Makes an edit, and touches the nodes whose view it may change: [`EditedNetwork::apply`].
     pub fn apply(&mut self, edit: &Edit) -> Result<(), EditError>
         requires { FitsNum edit.now }
         ensures network { OnOk result

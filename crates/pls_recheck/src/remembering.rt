@@ -16,7 +16,7 @@ use std::alloc::Global;
 
 impl<K: Remembers> Monitor<K> {
     /// Makes an edit, and touches the nodes whose view it may change, as
-    /// [`EditedNetwork::apply`](crate::Watched::apply) does. A label that an edit gives is read once.
+    /// [`EditedNetwork::apply`](crate::EditedNetwork::apply) does. A label of an edit is read once.
     pub fn apply(&mut self, alloc: Global, edit: &Edit) -> Result<(), EditError>
         requires { FitsNum edit.now }
         ensures ok { OnOk result (self.new ≡ edited_with edit.now self.old) }

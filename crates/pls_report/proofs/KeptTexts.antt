@@ -1,5 +1,5 @@
 -- The texts of looks that are kept.
-use Rattle.std.proofs.Common.{◌≡◌, ◌∙◌, ℕ, ◌+◌, ◌<◌, List, [], ◌∷◌, ◌++◌, zero, suc, length, get_or, refl, sym, ap, arith}
+use Rattle.std.proofs.Common.{◌≡◌, ◌∙◌, ℕ, ◌+◌, ◌<◌, List, [], ◌∷◌, ◌++◌, zero, suc, length, get_or, refl, sym, ap, arith, subst}
 use Rattle.pls_report.specs.declared.kept_looks.KeptLook.{KeptLook}
 use Rattle.pls_report.specs.inner.Kept.{kept_text, lines_at}
 use Rattle.pls_report.specs.inner.KeptTexts.{texts_from}
@@ -61,3 +61,19 @@ module _ (lines : List (List ℕ)) where
   text_here looks i look e within is =
       (λ k. kept_text (i + 1) (lines_at lines (is k).numbers.items) (is k).counts)
       ∙ sym (text_at 1 looks i look e within)
+
+-- the texts of looks while they are written: the next one is its lines and its closing line
+pub next_text : (store : List (List ℕ)) (looks listed : List KeptLook) (texts : List (List ℕ))
+    → texts_from 1 store looks ≡ texts → listed ≡ looks → (i : ℕ) (look : KeptLook)
+    (numbers e : List ℕ) → i < length listed → look ≡ get_or listed i look
+    → numbers ≡ look.numbers.items
+    → (i < length texts)
+    × (kept_text (i + 1) (lines_at store numbers) look.counts ≡ get_or texts i e)
+next_text store looks listed texts are same i look numbers e within is are_numbers =
+    let inside : i < length looks =
+    subst (λ (looks : List KeptLook). i < length looks) same within in (
+      omega (arith, inside, texts_many store 1 looks, ap (length {A = List ℕ}) are),
+      (λ k. kept_text (i + 1) (lines_at store (are_numbers k)) look.counts)
+          ∙ text_here store looks i look e inside (is ∙ (λ k. get_or (same k) i look))
+          ∙ (λ k. get_or (are k) i e),
+    )

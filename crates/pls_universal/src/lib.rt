@@ -1,6 +1,6 @@
 //! The universal scheme (Korman, Kutten and Peleg 2010): each label holds its node's identity and a
-//! map of the whole network. [`MapOf`] is the scheme of any property that a test tells ([`PropertyTest`]).
-//! Its round reads and decides each map once, for all nodes that have it.
+//! map of the whole network. [`MapOf`] is the scheme of any property that a test tells
+//! ([`PropertyTest`]). Its round reads and decides each map once, for all nodes that have it.
 //!
 //! `specs/Map` says of which numbers a map is (`numbers_of_map`, `map_of`), and `specs/Reading`
 //! what numbers say (`map_shape` of a label, `rows_shape` of a map alone). [`MapFormat`] reads and
