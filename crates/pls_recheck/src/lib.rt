@@ -1,13 +1,14 @@
 //! Edits of a network while it is watched with its labels, and rounds in which only the nodes that
 //! an edit touched are judged again.
 //!
-//! An [`EditedNetwork`] holds a network, its labels and the verdicts of the last rounds, and is seen
-//! as the record `Snapshot`. [`EditedNetwork::apply`] makes an [`Edit`] and touches the nodes whose
-//! view it may change; [`EditedNetwork::round`] asks a [`Judge`] once for each touched node and for
-//! no other. Where no node is touched, [`EditedNetwork::verdicts`] are those of a full round. A
-//! [`Judge`] is lent to each: [`BenchJudge`] judges as a checker by a [`Bench`], which counts the
-//! questions. A [`Recheck`] keeps its judge, and its verdicts are those of that judge. A [`Monitor`]
-//! keeps a checker that remembers what each label says, and lends a bench to each round.
+//! An [`EditedNetwork`] holds a network, its labels and the verdicts of the last rounds, and is
+//! seen as the record `Snapshot`. [`EditedNetwork::apply`] makes an [`Edit`] and touches the nodes
+//! whose view it may change; [`EditedNetwork::round`] asks a [`Judge`] once for each touched node
+//! and for no other. Where no node is touched, [`EditedNetwork::verdicts`] are those of a full
+//! round. A [`Judge`] is lent to each: [`BenchJudge`] judges as a checker by a [`Bench`], which
+//! counts the questions. A [`Recheck`] keeps its judge, and its verdicts are those of that judge. A
+//! [`Monitor`] keeps a checker that remembers what each label says, and lends a bench to each
+//! round.
 //!
 //! The edits of an input come from [`scan_edits`], as the [`EditLine`]s of an [`EditsText`].
 //!

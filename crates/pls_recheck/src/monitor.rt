@@ -18,9 +18,9 @@ use pls_streams::{NoMemory, Steps};
 use std::alloc::Global;
 use std::marker::Model;
 
-/// An [`EditedNetwork`] with the checker of all its rounds, and what this remembers of each label, so
-/// that a label is read once and not in each round. Seen as the record `Rechecked`, the checker being
-/// the judge.
+/// An [`EditedNetwork`] with the checker of all its rounds, and what it remembers of each label, so
+/// that none is read again in each round. Seen as the record `Rechecked`, the checker being the
+/// judge.
 #[derive(Drop)]
 pub struct Monitor<K: Remembers> {
     pub(crate) checker: K,

@@ -8,12 +8,12 @@
 //! alone.
 //!
 //! A basic scheme states only what is its own: how its labels are lists of numbers ([`Format`];
-//! [`NumbersFormat`] for a fixed count of them), its rules ([`Rules`] over labels that are read, each
-//! once, or [`JudgesInPlace`] over labels that are kept at a glance), its property and what labels
-//! are right ([`Marker`]).
-//! [`Basic`] makes the scheme of it, [`RuleScheme`] of [`Rules`]. Other schemes implement [`Checker`],
-//! [`Property`] and [`Scheme`] themselves. A checker that [`Remembers`] judges a node by a memory
-//! of each label, as [`Basic`] does by a [`GlanceMemory`] of it, which may be a [`BoxedGlance`].
+//! [`NumbersFormat`] for a fixed count of them), its rules ([`Rules`] over labels that are read,
+//! each once, or [`JudgesInPlace`] over labels that are kept at a glance), its property and what
+//! labels are right ([`Marker`]). [`Basic`] makes the scheme of it, [`RuleScheme`] of [`Rules`].
+//! Other schemes implement [`Checker`], [`Property`] and [`Scheme`] themselves. A checker that
+//! [`Remembers`] judges a node by a memory of each label, as [`Basic`] does by a [`GlanceMemory`]
+//! of it, which may be a [`BoxedGlance`].
 //!
 //! Definitions stand in `specs/`: `Judging` has verdicts and rounds, `Reading` what a node reads,
 //! `Basic` what a basic scheme means, `Theorem` what makes rules and a marker a scheme, `Marked`
