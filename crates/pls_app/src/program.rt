@@ -116,50 +116,51 @@ pub fn run<'w, S: Source, K: Sink, B: Bench>(
 {
     match read_command(alloc, words) {
         Err(NoMemory) => Status::NoMemory,
-        Ok(None) => tell(sink, &usage()),
+        Ok(None) => tell(sink, usage()),
         Ok(Some(command)) => match answer_from(alloc, command, source, bench) {
-            Ok(answer) => tell(sink, &answer),
+            Ok(answer) => tell(sink, answer),
             Err(status) => status,
         },
     }
 }
 
 // The status of the answer, or `WriteFault` where a write failed.
-fn tell<K: Sink>(sink: &mut K, answer: &Answer) -> Status
-    ensures told { WritesOrFails answer.now.status result (K.faults sink.old) (K.faults sink.new)
-        (K.taken sink.old) (K.taken sink.new) answer.now.text }
-    ensures sure { K.IsSureOf sink.old (length answer.now.text) → result ≡ answer.now.status }
+fn tell<K: Sink>(sink: &mut K, answer: Answer) -> Status
+    ensures told { WritesOrFails answer.status result (K.faults sink.old) (K.faults sink.new)
+        (K.taken sink.old) (K.taken sink.new) answer.text }
+    ensures sure { K.IsSureOf sink.old (length answer.text) → result ≡ answer.status }
 {
-    match write_content(sink, &answer.content) {
-        Ok(()) => answer.status,
+    let Answer { status, content } = answer;
+    match write_content(sink, content) {
+        Ok(()) => status,
         Err(Fault) => Status::WriteFault,
     }
 }
 
-fn write_content<K: Sink>(sink: &mut K, content: &Content) -> Result<(), Fault>
+fn write_content<K: Sink>(sink: &mut K, content: Content) -> Result<(), Fault>
     ensures all { OnOk result (Appends (K.taken sink.old) (K.taken sink.new)
-        (text_in content.now)) }
+        (text_in content)) }
     ensures part { OnErr result (AppendsPart (K.taken sink.old) (K.taken sink.new)
-        (text_in content.now)) }
+        (text_in content)) }
     ensures fault { OnErr result (Rose (K.faults sink.old) (K.faults sink.new)) }
-    ensures sure { K.IsSureOf sink.old (length (text_in content.now)) → IsOk result }
+    ensures sure { K.IsSureOf sink.old (length (text_in content)) → IsOk result }
 {
     match content {
         Content::Known(text) => write_all(sink, text),
-        Content::Written(text) => write_all(sink, text),
-        Content::Labels { code, net, labels } => stream_labels(net, labels, *code, sink),
+        Content::Written(text) => write_all(sink, &text),
+        Content::Labels { code, net, labels } => stream_labels(&net, &labels, code, sink),
         Content::Configuration {
             network,
             code,
             net,
             labels,
-        } => write_configuration(network, *code, net, labels, sink),
+        } => write_configuration(&network, code, &net, &labels, sink),
         Content::Report {
             simulated,
             parts,
             rows,
-        } => write_report(rows, *simulated, parts, sink),
-        Content::Rounds(reports) => write_rounds(reports, sink),
+        } => write_report(&rows, simulated, &parts, sink),
+        Content::Rounds(reports) => write_rounds(&reports, sink),
         Content::Looks(look) => write_kept(look, sink),
     }
 }

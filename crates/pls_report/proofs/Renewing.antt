@@ -1,7 +1,7 @@
 -- Lines of rows while rows change and lines are made.
 use Rattle.std.proofs.Common.{◌≡◌, ◌≢◌, ◌∙◌, ℕ, ◌+◌, ◌<◌, ◌⊎◌, inl, inr, Bool, true, false, List, [], length, map, replicate, get_or, set, slice_get, Some, sym, ap, arith, get_or-set_same, get_or-set_other}
 use Rattle.std.proofs.lemmas.Bool.{cases_eq, cases_lt}
-use Rattle.std.proofs.lemmas.List.{ext_get_or, get_or-map, length-map, length-replicate, length-set}
+use Rattle.std.proofs.lemmas.List.{get_or-map, get_or-replicate, length-map, length-replicate, length-set}
 use Rattle.std.proofs.lemmas.Option.{get_or_from_slice_get, same_Some, slice_get-get_or, slice_get_within}
 use Rattle.pls_sim.specs.declared.outcome.Outcome.{Outcome}
 use Rattle.pls_sim.specs.declared.outcome.Outcome.TheVariants.{Waiting}
@@ -62,60 +62,7 @@ module _ (rows : List (ℕ × Outcome × List ℕ)) (changed : List Bool) (lines
     ];
   }
 
-  -- the line of a row is made
-  pub line_made : (row : ℕ × Outcome × List ℕ) → slice_get rows i ≡ Some row
-      → AreRenewed rows (set changed i false) (set lines i (row_line row))
-  line_made row stands = record {
-    each = length-set changed i false ∙ are.each;
-    as_many = length-set lines i (row_line row) ∙ are.as_many;
-    same = λ k other at kept. elim (cases_eq k i) [
-      | inl same ↦
-          let is : other ≡ row =
-          same_Some other row (sym at ∙ ap (slice_get rows) same ∙ stands) in
-          (λ j. slice_get (set lines i (row_line row)) (same j))
-          ∙ set_here lines i (row_line row)
-          (omega (arith, slice_get_within rows i row stands, are.as_many))
-          ∙ ap (λ row. Some (row_line row)) (sym is)
-      | inr apart ↦ set_there lines i k (row_line row) (row_line other) apart
-          (are.same k other at (elim (set_cases changed i false k false kept) [
-            | inl here ↦ absurd (apart here.0)
-            | inr there ↦ there.1
-          ]))
-    ];
-  }
-
--- the first rows are as their lines are, and one more
-module _ (changed : List Bool) (i : ℕ)
-    (before : (k : ℕ) → k < i → slice_get changed k ≡ Some false) where
-  pub more_kept : slice_get changed i ≡ Some false → (k : ℕ) → k < i + 1
-      → slice_get changed k ≡ Some false
-  more_kept here k within = elim (cases_lt k i) [
-    | inl earlier ↦ before k earlier
-    | inr late ↦ ap (slice_get changed) (omega (arith, within, late)) ∙ here
-  ]
-
-  pub more_made : i < length changed → (k : ℕ) → k < i + 1
-      → slice_get (set changed i false) k ≡ Some false
-  more_made inside k within = elim (cases_lt k i) [
-    | inl earlier ↦ set_there changed i k false false (λ same. omega (arith, earlier, same)) (before k earlier)
-    | inr late ↦ ap (slice_get (set changed i false)) (omega (arith, within, late))
-        ∙ set_here changed i false inside
-  ]
-
--- where no row is another than that of its line, the lines are those of the rows
-pub all_lines : (rows : List (ℕ × Outcome × List ℕ)) (changed : List Bool) (lines : List (List ℕ))
-    → AreRenewed rows changed lines
-    → ((k : ℕ) → k < length rows → slice_get changed k ≡ Some false) → lines ≡ map row_line rows
-all_lines rows changed lines are kept =
-    ext_get_or [] lines (map row_line rows) (are.as_many ∙ sym (length-map rows row_line))
-    (λ k within.
-    let inside : k < length rows = omega (arith, within, are.as_many) in
-    let row : ℕ × Outcome × List ℕ = get_or rows k (0, Waiting [], []) in
-    get_or_from_slice_get lines k (row_line row) []
-    (are.same k row (slice_get-get_or rows k (0, Waiting [], []) inside) (kept k inside))
-    ∙ sym (get_or-map row_line rows k (0, Waiting [], []) [] inside))
-
--- at the start the lines are those of all rows
+-- where lines are those of all rows, none has changed
 pub none_changed : (rows : List (ℕ × Outcome × List ℕ)) (changed : List Bool) (lines : List (List ℕ))
     → changed ≡ replicate (length rows) false → lines ≡ map row_line rows
     → AreRenewed rows changed lines
@@ -130,3 +77,21 @@ none_changed rows changed lines is are = record {
       ∙ ap Some (get_or-map row_line rows i row (row_line row) within
       ∙ ap row_line (get_or_from_slice_get rows i row row at));
 }
+
+-- where all rows count as changed, the lines may be any
+pub all_changed : (rows : List (ℕ × Outcome × List ℕ)) (changed : List Bool) (lines : List (List ℕ))
+    → changed ≡ replicate (length rows) true → length lines ≡ length rows
+    → AreRenewed rows changed lines
+all_changed rows changed lines is long =
+    let many : length changed ≡ length rows =
+    ap (length {A = Bool}) is ∙ length-replicate (length rows) true in record {
+      each = many;
+      as_many = long;
+      same = λ i row at kept.
+          let within = slice_get_within rows i row at in
+          let not : false ≡ true =
+          sym (get_or_from_slice_get changed i false false kept)
+          ∙ (λ k. get_or (is k) i false)
+          ∙ get_or-replicate (length rows) i true false within in
+          absurd (cc);
+    }

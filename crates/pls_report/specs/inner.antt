@@ -2,6 +2,6 @@
 pub mod Kept
 pub mod KeptTexts
 pub mod Lines
+pub mod Patches
 pub mod Pieces
 pub mod Renewed
-pub mod Spans

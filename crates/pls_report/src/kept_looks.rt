@@ -1,126 +1,162 @@
-//! Looks that are kept, each line of a node once.
+//! Looks that are kept, each by what is other than at the one before.
 
-ghost use Rattle.std.specs.Prelude.{◌≡◌, ◌+◌, ◌<◌, ◌++◌, ◌∷◌, [], length, map, slice_set, IfOk, OnErr, OnOk};
-ghost use Rattle.std.specs.List.{flat_map};
+ghost use Rattle.std.specs.Prelude.{◌≡◌, ◌+◌, ◌<◌, ◌^◌, ◌++◌, ◌∷◌, [], ℕ, List, length, map, replicate, IfOk, OnErr, OnOk};
+ghost use Rattle.std.specs.List.{flat_map, sum};
 ghost use Rattle.pls_streams.specs.Gathered.{Writes};
-ghost use Rattle.pls_report.specs.inner.Kept.{AreLines, kept_text, lines_at, row_line};
+ghost use Rattle.pls_report.specs.inner.Kept.{joined_text, kept_text, row_line};
+ghost use Rattle.pls_report.specs.inner.Patches.{patch_text};
+ghost use Rattle.pls_report.specs.inner.Renewed.{AreRenewed};
 
 use crate::line_kind::LookCounts;
-use crate::line_store::LineStore;
 use crate::look::write_counts;
 use crate::look_row::LookRow;
+use crate::patches::Patches;
 use pls_streams::{Fault, Gathered, NoMemory, Sink};
 use std::alloc::Global;
 use std::marker::Model;
+use std::mem::swap;
 
-/// A look that is kept: the number of each node's line, and what the lines count as.
+/// A look that is kept: what its lines are other than those of the look before, as patches of their
+/// text, and what they count as.
 #[derive(Drop)]
 pub(crate) struct KeptLook {
-    numbers: Vec<usize>,
+    patches: Patches,
     counts: LookCounts,
 }
 
-/// The looks that are kept, and the lines of the nodes for the next one. A line that several looks
-/// show stands here once. Seen as these lines, and the texts of the looks, numbered from 1.
+/// The looks that are kept. A line that several looks show stands here once. Seen as the lines of
+/// the nodes at the last of them, which are empty before the first, and the texts of the looks,
+/// numbered from 1.
 #[derive(Drop)]
 pub(crate) struct KeptLooks {
-    store: LineStore,
-    numbers: Vec<usize>,
     looks: Vec<KeptLook>,
+    // The lengths of the nodes' lines at the last look, and room for those at the next.
+    lengths: Vec<usize>,
+    renewed: Vec<usize>,
+    // Empty, with room for the lines of each look.
+    before: Vec<u8>,
+    after: Vec<u8>,
 }
 
 impl Model for KeptLooks {
-    ghost use Rattle.std.specs.Prelude.{All};
-    ghost use Rattle.pls_report.specs.inner.Kept.{AreLines, TextsKept, lines_at};
-    ghost use Rattle.pls_report.specs.inner.KeptTexts.{texts_from};
+    ghost use Rattle.std.specs.Prelude.{◌≡◌, [], length};
+    ghost use Rattle.std.specs.List.{sum};
+    ghost use Rattle.std.specs.Vec.{vec_capacity};
+    ghost use Rattle.pls_report.specs.inner.Kept.{TextsKept, pieces_of};
+    ghost use Rattle.pls_report.specs.inner.KeptTexts.{HasRoomForAll, last_lines, texts_from};
 
     ghost Value = { TextsKept };
 
     ghost view = { λ kept. record {
-      lines = lines_at kept.store kept.numbers.items;
-      texts = texts_from 1 kept.store kept.looks.items;
+      lines = pieces_of kept.lengths.items (last_lines [] kept.looks.items);
+      texts = texts_from 1 [] kept.looks.items;
     } };
 
-    ghost invariant = { λ kept. AreLines kept.store kept.numbers.items
-        × All (λ look. AreLines kept.store look.numbers.items) kept.looks.items };
+    ghost invariant = { λ kept. (sum kept.lengths.items ≡ length (last_lines [] kept.looks.items))
+        × (length kept.renewed.items ≡ length kept.lengths.items)
+        × (kept.before.items ≡ []) × (kept.after.items ≡ [])
+        × HasRoomForAll (vec_capacity kept.before) kept.looks.items
+        × HasRoomForAll (vec_capacity kept.after) kept.looks.items };
 }
 
 impl KeptLooks {
-    /// No look, and the lines of these rows. The one error is want of memory.
-    pub(crate) fn of(alloc: Global, rows: &[LookRow]) -> Result<KeptLooks, NoMemory>
-        ensures lines { IfOk result (λ kept. kept.lines ≡ map row_line rows.now) }
+    /// No look at so many nodes. The one error is want of memory.
+    pub(crate) fn none(alloc: Global, count: usize) -> Result<KeptLooks, NoMemory>
+        ensures lines { IfOk result (λ kept. kept.lines ≡ replicate count []) }
         ensures texts { IfOk result (λ kept. kept.texts ≡ []) }
     {
-        let mut store = LineStore::new(alloc);
-        let mut numbers = Vec::new(alloc);
-        for row in rows {
-            let number = store.len();
-            store.add(row)?;
-            numbers.push(number)?;
-        }
         Ok(KeptLooks {
-            store,
-            numbers,
             looks: Vec::new(alloc),
+            lengths: vec![in alloc; 0; count]?,
+            renewed: vec![in alloc; 0; count]?,
+            before: Vec::new(alloc),
+            after: Vec::new(alloc),
         })
     }
 
-    /// Puts the line of a row in the place of another. The one error is want of memory: nothing
-    /// changes then.
-    pub(crate) fn renew(&mut self, i: usize, row: &LookRow) -> Result<(), NoMemory>
-        requires { i < length self.old.lines }
-        ensures lines { OnOk result (self.new.lines
-            ≡ slice_set self.old.lines i (row_line row.now)) }
-        ensures texts { self.new.texts ≡ self.old.texts }
-        ensures unchanged { OnErr result (self.new ≡ self.old) }
-    {
-        let number = self.store.len();
-        self.store.add(row)?;
-        self.numbers[i] = number;
-        Ok(())
-    }
-
-    /// Keeps a look with the lines as they are. The one error is want of memory: nothing changes
-    /// then.
-    pub(crate) fn keep(&mut self, alloc: Global, counts: LookCounts) -> Result<(), NoMemory>
-        ensures lines { self.new.lines ≡ self.old.lines }
+    /// Keeps a look that shows these rows, which are as the lines of the look before, but for those
+    /// that changed. The one error is want of memory: nothing changes then.
+    pub(crate) fn keep(
+        &mut self,
+        alloc: Global,
+        rows: &[LookRow],
+        changed: &[bool],
+        counts: LookCounts,
+    ) -> Result<(), NoMemory>
+        requires { AreRenewed rows.now changed.now self.old.lines }
+        ensures lines { OnOk result (self.new.lines ≡ map row_line rows.now) }
         ensures texts { OnOk result (self.new.texts ≡ self.old.texts
-            ++ kept_text (length self.old.texts + 1) self.old.lines counts ∷ []) }
+            ++ kept_text (length self.old.texts + 1) (map row_line rows.now) counts ∷ []) }
         ensures unchanged { OnErr result (self.new ≡ self.old) }
     {
-        let numbers = Vec::from_slice(alloc, self.numbers.as_slice())?;
-        self.looks.push(KeptLook { numbers, counts })?;
+        let lengths = self.lengths.as_slice();
+        let (patches, room) = patches_of(alloc, rows, changed, lengths, &mut self.renewed)?;
+        self.before.reserve(room)?;
+        self.after.reserve(room)?;
+        self.looks.push(KeptLook { patches, counts })?;
+        swap(&mut self.lengths, &mut self.renewed);
         Ok(())
     }
 
     /// Writes the texts of all looks that were kept.
-    pub(crate) fn write<K: Sink>(&self, sink: &mut K, gathered: &mut Gathered) -> Result<(), Fault>
+    pub(crate) fn write<K: Sink>(self, sink: &mut K, gathered: &mut Gathered) -> Result<(), Fault>
         ensures { Writes gathered.old gathered.new (K.taken sink.old) (K.taken sink.new)
             (K.faults sink.old) (K.faults sink.new) (K.IsSureOf sink.old) (K.IsSureOf sink.new)
-            result (flat_map (λ text. text) self.now.texts) }
+            result (flat_map (λ text. text) self.texts) }
     {
-        for (place, look) in self.looks.iter().enumerate() {
-            let KeptLook { numbers, counts } = look;
-            write_lines(&self.store, numbers.as_slice(), sink, gathered)?;
-            write_counts(sink, gathered, place as u64 + 1, *counts)?;
+        let KeptLooks {
+            looks,
+            mut before,
+            mut after,
+            ..
+        } = self;
+        for (place, look) in looks.iter().enumerate() {
+            look.patches.apply(before.as_slice(), &mut after);
+            gathered.put(sink, after.as_slice())?;
+            write_counts(sink, gathered, place as u64 + 1, look.counts)?;
+            swap(&mut before, &mut after);
         }
         Ok(())
     }
 }
 
-fn write_lines<K: Sink>(
-    store: &LineStore,
-    numbers: &[usize],
-    sink: &mut K,
-    gathered: &mut Gathered,
-) -> Result<(), Fault>
-    requires { AreLines store.now numbers.now }
-    ensures { Writes gathered.old gathered.new (K.taken sink.old) (K.taken sink.new)
-        (K.faults sink.old) (K.faults sink.new) (K.IsSureOf sink.old) (K.IsSureOf sink.new)
-        result (flat_map (λ line. line) (lines_at store.now numbers.now)) }
+// The patches that make the lines of these rows of lines of these lengths, and how long the text of
+// the new lines is. Their lengths are written into `renewed`.
+fn patches_of(
+    alloc: Global,
+    rows: &[LookRow],
+    changed: &[bool],
+    lengths: &[usize],
+    renewed: &mut Vec<usize>,
+) -> Result<(Patches, usize), NoMemory>
+    requires each { length changed.now ≡ length rows.now }
+    requires lengths { length lengths.now ≡ length rows.now }
+    requires renewed { length renewed.old.items ≡ length rows.now }
+    requires short { sum lengths.now < 2 ^ 64 }
+    ensures as_many { length renewed.new.items ≡ length rows.now }
+    ensures patches { IfOk result (λ made. (lines : List (List ℕ))
+        → AreRenewed rows.now changed.now lines → lengths.now ≡ map length lines
+        → patch_text made.0 (joined_text lines) ≡ joined_text (map row_line rows.now)) }
+    ensures renewed { OnOk result ((lines : List (List ℕ))
+        → AreRenewed rows.now changed.now lines → lengths.now ≡ map length lines
+        → renewed.new.items ≡ map length (map row_line rows.now)) }
+    ensures room { IfOk result (λ made. made.1 ≡ sum renewed.new.items) }
 {
-    for number in numbers {
-        gathered.put(sink, store.line(*number))?;
+    let mut patches = Patches::new(alloc);
+    let (mut stays, mut room) = (0, 0usize);
+    for (i, row) in rows.iter().enumerate() {
+        let mut length = lengths[i];
+        if changed[i] {
+            length = patches.add(stays, length, row)?;
+            stays = 0;
+        } else {
+            stays += length;
+        }
+        renewed[i] = length;
+        let Some(longer) = room.checked_add(length) else {
+            return Err(NoMemory);
+        };
+        room = longer;
     }
-    Ok(())
+    Ok((patches, room))
 }

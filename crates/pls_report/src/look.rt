@@ -49,22 +49,34 @@ pub fn write_look<K: Sink>(number: u32, look: &LookRows, sink: &mut K) -> Result
 ///
 /// `Fault` comes only where the sink's count of faults rose in this call; the sink has then taken a
 /// front of the text, but not all. A sink that is sure of so many bytes takes all.
-pub fn write_kept<K: Sink>(look: &LookRows, sink: &mut K) -> Result<(), Fault>
+pub fn write_kept<K: Sink>(look: LookRows, sink: &mut K) -> Result<(), Fault>
     ensures all { OnOk result (Appends (K.taken sink.old) (K.taken sink.new)
-        (flat_map (λ text. text) look.now.kept)) }
+        (flat_map (λ text. text) look.kept)) }
     ensures part { OnErr result (AppendsPart (K.taken sink.old) (K.taken sink.new)
-        (flat_map (λ text. text) look.now.kept)) }
+        (flat_map (λ text. text) look.kept)) }
     ensures fault { OnErr result (Rose (K.faults sink.old) (K.faults sink.new)) }
     ensures never_falls { K.faults sink.old ≤ K.faults sink.new }
     ensures sure { (most : ℕ) → K.IsSureOf sink.old most
-        → length (flat_map (λ text. text) look.now.kept) ≤ most
+        → length (flat_map (λ text. text) look.kept) ≤ most
         → MatchResult result (λ _. StaysSure (K.IsSureOf sink.new)
-        (most - length (flat_map (λ text. text) look.now.kept)) (K.faults sink.old)
+        (most - length (flat_map (λ text. text) look.kept)) (K.faults sink.old)
         (K.faults sink.new)) (λ _. ⊥) }
 {
     let mut gathered = Gathered::new();
-    look.kept_looks().write(sink, &mut gathered)?;
+    write_texts(look, sink, &mut gathered)?;
     gathered.flush(sink)
+}
+
+fn write_texts<K: Sink>(
+    look: LookRows,
+    sink: &mut K,
+    gathered: &mut Gathered,
+) -> Result<(), Fault>
+    ensures { Writes gathered.old gathered.new (K.taken sink.old) (K.taken sink.new)
+        (K.faults sink.old) (K.faults sink.new) (K.IsSureOf sink.old) (K.IsSureOf sink.new)
+        result (flat_map (λ text. text) look.kept) }
+{
+    look.into_kept().write(sink, gathered)
 }
 
 fn write_rows<K: Sink>(

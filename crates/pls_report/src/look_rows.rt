@@ -23,7 +23,7 @@ pub struct LookRows {
     rows: Vec<LookRow>,
     counts: LookCounts,
     passed: usize,
-    // Whether the row of a node is another than that of its line in `kept`.
+    // Whether the row of a node is another than at the last look in `kept`.
     changed: Vec<bool>,
     kept: KeptLooks,
 }
@@ -55,8 +55,8 @@ impl LookRows {
         ensures passed { IfOk result (λ look. look.passed ≡ length rows.items) }
         ensures none { IfOk result (λ look. look.kept ≡ []) }
     {
-        let kept = KeptLooks::of(alloc, rows.as_slice())?;
-        let changed = vec![in alloc; false; rows.len()]?;
+        let kept = KeptLooks::none(alloc, rows.len())?;
+        let changed = vec![in alloc; true; rows.len()]?;
         let counts = LookCounts::of(rows.as_slice());
         let passed = rows.len();
         Ok(LookRows {
@@ -141,15 +141,18 @@ impl LookRows {
             ++ look_text (length self.old.kept + 1) self.old.rows ∷ []) }
         ensures unchanged { OnErr result (self.new ≡ self.old) }
     {
-        renew_lines(self.rows.as_slice(), &mut self.changed, &mut self.kept)?;
-        self.kept.keep(alloc, self.counts)
+        let rows = self.rows.as_slice();
+        self.kept
+            .keep(alloc, rows, self.changed.as_slice(), self.counts)?;
+        self.changed.fill(false);
+        Ok(())
     }
 
     /// The looks that were kept.
-    pub(crate) fn kept_looks(&self) -> &KeptLooks
-        ensures { result.now.texts ≡ self.now.kept }
+    pub(crate) fn into_kept(self) -> KeptLooks
+        ensures { result.texts ≡ self.kept }
     {
-        &self.kept
+        self.kept
     }
 
     /// How many nodes reject, how many wait, and how many have a line with stale ports.
@@ -158,24 +161,4 @@ impl LookRows {
     {
         self.counts
     }
-}
-
-// Makes the lines of the rows that changed. The one error is want of memory: some were made then.
-fn renew_lines(
-    rows: &[LookRow],
-    changed: &mut Vec<bool>,
-    kept: &mut KeptLooks,
-) -> Result<(), NoMemory>
-    requires { AreRenewed rows.now changed.old.items kept.old.lines }
-    ensures renewed { AreRenewed rows.now changed.new.items kept.new.lines }
-    ensures texts { kept.new.texts ≡ kept.old.texts }
-    ensures all { OnOk result (kept.new.lines ≡ map row_line rows.now) }
-{
-    for (i, row) in rows.iter().enumerate() {
-        if changed[i] {
-            kept.renew(i, row)?;
-            changed[i] = false;
-        }
-    }
-    Ok(())
 }

@@ -27,21 +27,21 @@ returns-in-Ok-None-clause-text g c bytes told answered =
     let words : List (List ℕ) = words_in c.args.words.now in
     let none : IsUsage words = c.in-Ok-None.ensures.none c.in-Ok-None.field-0-is in
     tells words bytes usage _ _ _ _ _ (usage_answer words bytes none)
-    (rw c.usage.ensures at c.tell-in-Ok-None.ensures.told) answered
+    (rw c.usage.ensures at c.tell.ensures.told) answered
 
 pub returns-in-Ok-None-clause-part : goal.returns-in-Ok-None-clause-part
 returns-in-Ok-None-clause-part g c bytes told fault =
     let words : List (List ℕ) = words_in c.args.words.now in
     let none : IsUsage words = c.in-Ok-None.ensures.none c.in-Ok-None.field-0-is in
     tells_part words bytes usage _ _ _ _ _ (usage_answer words bytes none) tt
-    (rw c.usage.ensures at c.tell-in-Ok-None.ensures.told) fault
+    (rw c.usage.ensures at c.tell.ensures.told) fault
 
 pub returns-in-Ok-None-clause-answers : goal.returns-in-Ok-None-clause-answers
 returns-in-Ok-None-clause-answers g c read_all sure =
     let words : List (List ℕ) = words_in c.args.words.now in
     let none : IsUsage words = c.in-Ok-None.ensures.none c.in-Ok-None.field-0-is in
-    let told = rw c.usage.ensures at c.tell-in-Ok-None.ensures.told in
-    let ends = rw c.usage.ensures at c.tell-in-Ok-None.ensures.sure in
+    let told = rw c.usage.ensures at c.tell.ensures.told in
+    let ends = rw c.usage.ensures at c.tell.ensures.sure in
     inr (elim sure [
       | inl held ↦ told_answered _ _ _ _ _ _ _ told tt held
       | inr sure ↦
@@ -116,9 +116,9 @@ pub returns-in-Ok-None-clause-unread : goal.returns-in-Ok-None-clause-unread
 returns-in-Ok-None-clause-unread g c due unread =
     let words : List (List ℕ) = words_in c.args.words.now in
     let none : IsUsage words = c.in-Ok-None.ensures.none c.in-Ok-None.field-0-is in
-    let told = rw c.usage.ensures at c.tell-in-Ok-None.ensures.told in
+    let told = rw c.usage.ensures at c.tell.ensures.told in
     let ends = told_ends _ _ _ _ _ _ _ told in (
-      subst (λ (due : Status). EndsAs due c.tell-in-Ok-None.result)
+      subst (λ (due : Status). EndsAs due c.tell.result)
           (sym (unread_usage words due none unread)) ends,
       refl,
     )

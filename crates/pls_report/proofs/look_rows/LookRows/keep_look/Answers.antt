@@ -1,5 +1,4 @@
-use Rattle.std.proofs.Common.{◌≡◌, ◌+◌, ◌∙◌, ◌++◌, ◌∷◌, [], List, ℕ, length, map, subst}
-use Rattle.std.specs.Result.{OnOk}
+use Rattle.std.proofs.Common.{◌≡◌, ◌+◌, ◌∙◌, ◌++◌, ◌∷◌, [], ℕ, length, map}
 use Rattle.pls_report.specs.Look.{look_text}
 use Rattle.pls_report.specs.inner.Kept.{kept_text, row_line}
 use Rattle.pls_report.specs.inner.Lines.{counts_of}
@@ -10,14 +9,11 @@ pub returns-clause-kept : goal.returns-clause-kept
 returns-clause-kept c =
     let inside = c.self.inside in
     let rows = inside.rows.items in
-    let texts : c.renew_lines.new.kept.texts ≡ c.args.self.now.kept =
-    c.renew_lines.ensures.texts ∙ (λ k. (c.self.view_is k).kept) in
-    let lines : c.renew_lines.new.kept.lines ≡ map row_line rows =
-    c.in_ok-renew_lines.ensures.all ∙ (λ k. map row_line (c.as_slice.ensures.value k)) in
+    let texts : inside.kept.texts ≡ c.args.self.now.kept = λ k. (c.self.view_is k).kept in
     let number : ℕ = length c.args.self.now.kept + 1 in
     let text : kept_text number (map row_line rows) (counts_of rows) ≡ look_text number c.args.self.now.rows =
     kept_look number rows ∙ (λ k. look_text number (c.self.view_is k).rows) in
-    subst (λ (texts : List (List ℕ)). OnOk c.keep.result (c.keep.new.self.texts ≡ texts))
-    ((λ k. texts k ++ kept_text (length (texts k) + 1) (lines k) (c.self.invariant.0 k) ∷ [])
-    ∙ (λ k. c.args.self.now.kept ++ text k ∷ []))
-    c.keep.ensures.texts
+    c.in_ok-keep.ensures.texts
+    ∙ (λ k. texts k ++ kept_text (length (texts k) + 1)
+    (map row_line (c.as_slice-rows.ensures.value k)) (c.self.invariant.0 k) ∷ [])
+    ∙ (λ k. c.args.self.now.kept ++ text k ∷ [])
