@@ -1,8 +1,8 @@
 -- The labels in a store with room, and what a watch is seen as.
-use Rattle.std.proofs.Common.{◌≡◌, ◌∙◌, ℕ, zero, suc, ◌+◌, ◌-◌, ◌<◌, ◌≤◌, nat_le, nat_lt, Bool, false, List, [], ◌∷◌, ◌++◌, length, take, get_or, set, Some, replicate, slice_get, refl, sym, ap, subst, arith, append-nil, length-append}
+use Rattle.std.proofs.Common.{◌≡◌, ◌≢◌, ◌∙◌, Option, ℕ, zero, suc, ◌+◌, ◌-◌, ◌<◌, ◌≤◌, nat_le, nat_lt, Bool, false, List, [], ◌∷◌, ◌++◌, length, take, get_or, set, Some, replicate, slice_get, refl, sym, ap, subst, arith, append-nil, length-append}
 use Rattle.std.specs.List.{sum_by}
 use Rattle.std.proofs.lemmas.Grind.{flat_map-append}
-use Rattle.std.proofs.lemmas.List.{get_or-set_same, get_or-set_other, length-set}
+use Rattle.std.proofs.lemmas.List.{get_or-set_same, get_or-set_other, length-set, map-append}
 use Rattle.std.proofs.lemmas.List.Sums.{sum_by_push}
 use Rattle.std.proofs.lemmas.Option.{slice_get_within}
 use Rattle.pls_configuration.specs.declared.row.NodeRow.{NodeRow}
@@ -18,10 +18,12 @@ use Rattle.pls_watch_part.specs.declared.watch_event.WatchEvent.TheVariants as W
 use Rattle.pls_watch_part.specs.WatchText.{watch_event}
 use Rattle.pls_watch.specs.declared.turn.Turn.{Turn}
 use Rattle.pls_watch.specs.declared.turn.Turn.TheVariants.{Plain, Relabel}
-use Rattle.pls_watch.specs.Labelled.{bits_given, given_by, labels_given, turns_of}
+use Rattle.pls_watch.specs.Labelled.{bits_given, given_by, labels_given, turn_of, turns_of}
 use Rattle.pls_watch.specs.Turning.{Turned, turning}
 use Rattle.pls_watch.specs.Versions.{held, newest}
+use Rattle.pls_watch.specs.Versions as Versions
 use Rattle.pls_watch.specs.Watching.{Watched, lacks_room, turned_of, version_of_label, watching}
+use Rattle.pls_watch.specs.inner.Current.{KnowsSame}
 use Rattle.pls_watch.specs.inner.Numbers.{IsLabel, relabelled}
 use Rattle.pls_watch.specs.inner.Stock.{IsStocked, events_of, given_label, watched_by}
 use Rattle.pls_watch.proofs.Numbers.{relabelled_more}
@@ -54,6 +56,32 @@ module _ (turned : Turned) (stored : Stored) (relabels bits : ℕ) where
     most = turned.most;
     turns = turns_are i;
   }
+
+  -- a node that holds what it held and got no label, seen from outside
+  pub knows_same : (seen : Watched) → watched_by turned stored relabels bits ≡ seen
+      → (event : WatchEvent) (turn : Turn) → turn_of event ≡ turn → (i : ℕ) (row : NodeRow)
+      → slice_get seen.network i ≡ Some row → (place : Option ℕ) → place ≢ Some i
+      → ((i : ℕ) (row : NodeRow) (neighbour : ℕ) → slice_get turned.network i ≡ Some row
+      → place ≢ Some i
+      → held turned.network (turned.turns ++ turn ∷ []) row.id neighbour
+      ≡ held turned.network turned.turns row.id neighbour)
+      → ((i : ℕ) (row : NodeRow) → slice_get turned.network i ≡ Some row → place ≢ Some i
+      → Versions.relabels row.id turn ≡ false)
+      → KnowsSame seen event row.id
+  knows_same seen is event turn same i row stands place differs holds stays =
+      let network = ap (λ (watched : Watched). watched.network) is in
+      let there : slice_get turned.network i ≡ Some row =
+      ap (λ (rows : List NodeRow). slice_get rows i) network ∙ stands in
+      let were : turns_of seen.events ≡ turned.turns =
+      ap (λ (watched : Watched). turns_of watched.events) (sym is) ∙ turns_are in
+      let grown : turns_of (seen.events ++ event ∷ []) ≡ turned.turns ++ turn ∷ [] =
+      map-append turn_of seen.events (event ∷ []) ∙ (λ k. were k ++ same k ∷ []) in
+      record {
+        holds = λ neighbour. (λ k. held (sym network k) (grown k) row.id neighbour)
+            ∙ holds i row neighbour there differs
+            ∙ (λ k. held (network k) (sym were k) row.id neighbour);
+        stays = ap (Versions.relabels row.id) same ∙ stays i row there differs;
+      }
 
   -- one more event that gives no label
   module _ (event : Event) where

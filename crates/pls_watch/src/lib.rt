@@ -10,7 +10,6 @@
 #![tactic(auto)]
 
 mod change;
-mod changing;
 mod known_labels;
 mod lookout;
 mod looks;

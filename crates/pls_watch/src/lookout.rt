@@ -82,8 +82,7 @@ impl<'n, 'k, K: Checker> Lookout<'n, 'k, K> {
             (λ error. watch_refusal self.old.watched event.now ≡ Some error) }
         ensures unchanged { OnErr result (self.new ≡ self.old) }
     {
-        let place = self.watch.changes_at(event);
-        self.watch.step(event)?;
+        let place = self.watch.step_at(event)?;
         note(self.watch.network(), &mut self.changes, place, event);
         Ok(())
     }

@@ -1,6 +1,6 @@
 //! The versions that nodes have and hold of labels.
 
-ghost use Rattle.std.specs.Prelude.{◌≡◌, ◌≢◌, ◌<◌, ◌≤◌, [], cond, false, true, length, max, option_map, replicate, slice_get, IfErr, IfOk, IfSome, OnErr, OnOk, None, Some};
+ghost use Rattle.std.specs.Prelude.{◌≡◌, ◌≢◌, ◌<◌, ◌≤◌, ◌++◌, ◌∷◌, ℕ, [], cond, false, true, length, max, option_map, replicate, slice_get, IfErr, IfOk, IfSome, OnErr, OnOk, None, Some};
 ghost use Rattle.std.specs.List.{AllByRecursion};
 ghost use Rattle.pls_configuration.specs.declared.limits.TheConstants.{MAX_LINES};
 ghost use Rattle.pls_configuration.specs.declared.row.NodeRow.{NodeRow};
@@ -8,7 +8,7 @@ ghost use Rattle.pls_configuration.specs.declared.row.Port.{Port};
 ghost use Rattle.pls_sim.specs.Applying.{names_no_node, names_no_port};
 ghost use Rattle.pls_sim.specs.Schedule.{emits_of};
 ghost use Rattle.pls_sim.specs.inner.Kept.{NamesEmit};
-ghost use Rattle.pls_watch.specs.Versions.{held, is_fresh, newest, plain_of, stale};
+ghost use Rattle.pls_watch.specs.Versions.{held, is_fresh, newest, plain_of, relabels, stale};
 ghost use Rattle.pls_watch.specs.Turning.{turn_refusal, turning};
 ghost use Rattle.pls_watch.specs.inner.Held.{AreBoth};
 ghost use Rattle.pls_watch.specs.inner.Numbers.{IsLabel, IsOneOf};
@@ -93,9 +93,20 @@ impl<'n> Versions<'n> {
     }
 
     /// Takes one more turn, in constant time but for the search of an identity, and without memory.
-    /// A turn that does not apply changes nothing.
-    pub(crate) fn step(&mut self, turn: Turn) -> Result<(), EventError>
+    /// Gives the place of the node that knows something else then, if one does: it holds another
+    /// version of a neighbour's label, or has a newer one itself. A turn that does not apply changes
+    /// nothing.
+    pub(crate) fn step(&mut self, turn: Turn) -> Result<Option<usize>, EventError>
         ensures taken { OnOk result (self.new ≡ turning turn self.old) }
+        ensures holds { IfOk result (λ place. (i : ℕ) (row : NodeRow) (neighbour : ℕ)
+            → slice_get self.old.network i ≡ Some row → place ≢ Some i
+            → held self.old.network (self.old.turns ++ turn ∷ []) row.id neighbour
+            ≡ held self.old.network self.old.turns row.id neighbour) }
+        ensures stays { IfOk result (λ place. (i : ℕ) (row : NodeRow)
+            → slice_get self.old.network i ≡ Some row → place ≢ Some i
+            → relabels row.id turn ≡ false) }
+        ensures within { IfOk result
+            (λ place. IfSome place (λ at. at < length self.old.network)) }
         ensures applies { OnOk result (turn_refusal self.old turn ≡ None) }
         ensures refused { IfErr result (λ error. turn_refusal self.old turn ≡ Some error) }
         ensures unchanged { OnErr result (self.new ≡ self.old) }
@@ -111,10 +122,16 @@ impl<'n> Versions<'n> {
         }
     }
 
-    fn emit(&mut self, node: u32, port: u32) -> Result<(), EventError>
+    fn emit(&mut self, node: u32, port: u32) -> Result<Option<usize>, EventError>
         requires { length self.old.turns < self.old.most }
         ensures taken { OnOk result
             (self.new ≡ turning (Turn.Plain (Event.Emit node port)) self.old) }
+        ensures holds { IfOk result (λ place. (i : ℕ) (row : NodeRow) (neighbour : ℕ)
+            → slice_get self.old.network i ≡ Some row → place ≢ Some i
+            → held self.old.network (self.old.turns ++ Turn.Plain (Event.Emit node port) ∷ []) row.id neighbour
+            ≡ held self.old.network self.old.turns row.id neighbour) }
+        ensures within { IfOk result
+            (λ place. IfSome place (λ at. at < length self.old.network)) }
         ensures applies { OnOk result
             (turn_refusal self.old (Turn.Plain (Event.Emit node port)) ≡ None) }
         ensures refused { IfErr result (λ error.
@@ -128,13 +145,20 @@ impl<'n> Versions<'n> {
         self.ends.push_reserved(to);
         self.turns
             .push_reserved(Turn::Plain(Event::Emit { node, port }));
-        Ok(())
+        Ok(None)
     }
 
-    fn arrive(&mut self, number: u32) -> Result<(), EventError>
+    // What arrives changes nothing where it is no newer than what is held.
+    fn arrive(&mut self, number: u32) -> Result<Option<usize>, EventError>
         requires { length self.old.turns < self.old.most }
         ensures taken { OnOk result
             (self.new ≡ turning (Turn.Plain (Event.Arrive number)) self.old) }
+        ensures holds { IfOk result (λ place. (i : ℕ) (row : NodeRow) (neighbour : ℕ)
+            → slice_get self.old.network i ≡ Some row → place ≢ Some i
+            → held self.old.network (self.old.turns ++ Turn.Plain (Event.Arrive number) ∷ []) row.id neighbour
+            ≡ held self.old.network self.old.turns row.id neighbour) }
+        ensures within { IfOk result
+            (λ place. IfSome place (λ at. at < length self.old.network)) }
         ensures applies { OnOk result
             (turn_refusal self.old (Turn.Plain (Event.Arrive number)) ≡ None) }
         ensures refused { IfErr result (λ error.
@@ -145,20 +169,30 @@ impl<'n> Versions<'n> {
             return Err(EventError::NoEmit);
         }
         let place = number as usize - 1;
+        let to = self.ends[place] as usize;
         let at = self.sim.arrives_at(number);
-        let heard = self.sim.heard_at(self.ends[place] as usize, at);
+        let heard = self.sim.heard_at(to, at);
         self.sim.step(Event::Arrive(number))?;
-        let (version, label) = later(heard, self.held.get(at), self.carried.get(place));
+        let (old, old_label) = self.held.get(at);
+        let (came, came_label) = self.carried.get(place);
+        let changed = if heard && came <= old { None } else { Some(to) };
+        let (version, label) = later(heard, (old, old_label), (came, came_label));
         self.held.set(at, version, label);
         self.turns.push_reserved(Turn::Plain(Event::Arrive(number)));
-        Ok(())
+        Ok(changed)
     }
 
     // What is held no longer counts, since nothing was heard; no port is walked.
-    fn restart(&mut self, node: u32) -> Result<(), EventError>
+    fn restart(&mut self, node: u32) -> Result<Option<usize>, EventError>
         requires { length self.old.turns < self.old.most }
         ensures taken { OnOk result
             (self.new ≡ turning (Turn.Plain (Event.Restart node)) self.old) }
+        ensures holds { IfOk result (λ place. (i : ℕ) (row : NodeRow) (neighbour : ℕ)
+            → slice_get self.old.network i ≡ Some row → place ≢ Some i
+            → held self.old.network (self.old.turns ++ Turn.Plain (Event.Restart node) ∷ []) row.id neighbour
+            ≡ held self.old.network self.old.turns row.id neighbour) }
+        ensures within { IfOk result
+            (λ place. IfSome place (λ at. at < length self.old.network)) }
         ensures applies { OnOk result
             (turn_refusal self.old (Turn.Plain (Event.Restart node)) ≡ None) }
         ensures refused { IfErr result (λ error.
@@ -167,12 +201,21 @@ impl<'n> Versions<'n> {
     {
         self.sim.step(Event::Restart(node))?;
         self.turns.push_reserved(Turn::Plain(Event::Restart(node)));
-        Ok(())
+        Ok(self.net.place_of(node))
     }
 
-    fn relabel(&mut self, node: u32) -> Result<(), EventError>
+    fn relabel(&mut self, node: u32) -> Result<Option<usize>, EventError>
         requires { length self.old.turns < self.old.most }
         ensures taken { OnOk result (self.new ≡ turning (Turn.Relabel node) self.old) }
+        ensures holds { IfOk result (λ place. (i : ℕ) (row : NodeRow) (neighbour : ℕ)
+            → slice_get self.old.network i ≡ Some row → place ≢ Some i
+            → held self.old.network (self.old.turns ++ Turn.Relabel node ∷ []) row.id neighbour
+            ≡ held self.old.network self.old.turns row.id neighbour) }
+        ensures stays { IfOk result (λ place. (i : ℕ) (row : NodeRow)
+            → slice_get self.old.network i ≡ Some row → place ≢ Some i
+            → relabels row.id (Turn.Relabel node) ≡ false) }
+        ensures within { IfOk result
+            (λ place. IfSome place (λ at. at < length self.old.network)) }
         ensures applies { OnOk result (turn_refusal self.old (Turn.Relabel node) ≡ None) }
         ensures refused { IfErr result
             (λ error. turn_refusal self.old (Turn.Relabel node) ≡ Some error) }
@@ -186,7 +229,7 @@ impl<'n> Versions<'n> {
         self.earlier.push_reserved(label);
         self.newest.set(place, version + 1, number as u32);
         self.turns.push_reserved(Turn::Relabel(node));
-        Ok(())
+        Ok(Some(place))
     }
 
     /// The newest version of the label of the node at place `i`, and the number of that label.

@@ -110,6 +110,25 @@ impl<'n> Watch<'n> {
         ensures refused { IfErr result (λ error. watch_refusal self.old event.now ≡ Some error) }
         ensures unchanged { OnErr result (self.new ≡ self.old) }
     {
+        self.step_at(event)?;
+        Ok(())
+    }
+
+    /// Takes one more event as [`Watch::step`] does, and gives the place of the node that knows
+    /// something else then, if one does: it holds another version of a neighbour's label, or it has
+    /// got one itself.
+    pub(crate) fn step_at(&mut self, event: &WatchEvent) -> Result<Option<usize>, EventError>
+        ensures taken { OnOk result (self.new ≡ watching event.now self.old) }
+        ensures applies { OnOk result (watch_refusal self.old event.now ≡ None) }
+        ensures others { IfOk result (λ place. (i : ℕ) (row : NodeRow)
+            → slice_get self.old.network i ≡ Some row → place ≢ Some i
+            → KnowsSame self.old event.now row.id) }
+        ensures within { IfOk result
+            (λ place. IfSome place (λ at. at < length self.old.network)) }
+        ensures valid { IsNetwork self.old.network }
+        ensures refused { IfErr result (λ error. watch_refusal self.old event.now ≡ Some error) }
+        ensures unchanged { OnErr result (self.new ≡ self.old) }
+    {
         match event {
             WatchEvent::Emit { node, port } => self.play(Event::Emit {
                 node: *node,
@@ -121,34 +140,34 @@ impl<'n> Watch<'n> {
         }
     }
 
-    /// The place of the node that knows something else after the event, if one does: it holds
-    /// another version of a neighbour's label, or it has got one itself.
-    pub(crate) fn changes_at(&self, event: &WatchEvent) -> Option<usize>
-        ensures others { (i : ℕ) (row : NodeRow) → slice_get self.now.network i ≡ Some row
-            → result ≢ Some i → KnowsSame self.now event.now row.id }
-        ensures within { IfSome result (λ place. place < length self.now.network) }
-        ensures valid { IsNetwork self.now.network }
-    {
-        self.versions.changes_at(Turn::of(event))
-    }
-
-    fn play(&mut self, event: Event) -> Result<(), EventError>
+    fn play(&mut self, event: Event) -> Result<Option<usize>, EventError>
         ensures taken { OnOk result (self.new ≡ watching (watch_event event) self.old) }
         ensures applies { OnOk result (watch_refusal self.old (watch_event event) ≡ None) }
+        ensures others { IfOk result (λ place. (i : ℕ) (row : NodeRow)
+            → slice_get self.old.network i ≡ Some row → place ≢ Some i
+            → KnowsSame self.old (watch_event event) row.id) }
+        ensures within { IfOk result
+            (λ place. IfSome place (λ at. at < length self.old.network)) }
+        ensures valid { IsNetwork self.old.network }
         ensures refused { IfErr result
             (λ error. watch_refusal self.old (watch_event event) ≡ Some error) }
         ensures unchanged { OnErr result (self.new ≡ self.old) }
     {
-        self.versions.step(Turn::Plain(event))?;
-        Ok(())
+        Ok(self.versions.step(Turn::Plain(event))?)
     }
 
     // A refused relabel writes no bits.
-    fn relabel(&mut self, node: u32, label: &BitBuf) -> Result<(), EventError>
+    fn relabel(&mut self, node: u32, label: &BitBuf) -> Result<Option<usize>, EventError>
         ensures taken { OnOk result
             (self.new ≡ watching (WatchEvent.Relabel node label.now) self.old) }
         ensures applies { OnOk result
             (watch_refusal self.old (WatchEvent.Relabel node label.now) ≡ None) }
+        ensures others { IfOk result (λ place. (i : ℕ) (row : NodeRow)
+            → slice_get self.old.network i ≡ Some row → place ≢ Some i
+            → KnowsSame self.old (WatchEvent.Relabel node label.now) row.id) }
+        ensures within { IfOk result
+            (λ place. IfSome place (λ at. at < length self.old.network)) }
+        ensures valid { IsNetwork self.old.network }
         ensures refused { IfErr result (λ error.
             watch_refusal self.old (WatchEvent.Relabel node label.now) ≡ Some error) }
         ensures unchanged { OnErr result (self.new ≡ self.old) }
@@ -157,12 +176,12 @@ impl<'n> Watch<'n> {
         if self.lacks_room(len) {
             return Err(EventError::Full);
         }
-        self.versions.step(Turn::Relabel(node))?;
+        let place = self.versions.step(Turn::Relabel(node))?;
         let number = self.net.len() + self.given;
         self.labels.replace_spare(number, label.bits());
         self.given += 1;
         self.given_bits += len;
-        Ok(())
+        Ok(place)
     }
 
     fn lacks_room(&self, len: u64) -> bool

@@ -10,10 +10,10 @@ invariant_of-self-2 g c =
     let old = c.self.inside in
     let judge = g.K.Checker.judge old.checker.now in
     let event = c.args.event.now in
-    let place = c.changes_at-place.result in
-    let change = c.changes_at-place.ensures in
+    let place = c.in_ok-place.place in
+    let change = c.in_ok-place.ensures in
     let new = c.note.new.changes.items in
-    let taken = c.in_ok-step.ensures.taken in
+    let taken = change.taken in
     let noted = subst (λ (net : List NodeRow). IsNoted net event place old.changes.items new)
     (c.network.ensures ∙ ap (λ (watched : Watched). watched.network) taken) c.note.ensures in
     subst (λ (watched : Watched). IsCurrent judge watched new old.shown.rows) (sym taken)

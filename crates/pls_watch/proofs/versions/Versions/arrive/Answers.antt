@@ -1,4 +1,4 @@
-use Rattle.std.proofs.Common.{◌≡◌, ◌∙◌, ◌-◌, ◌<◌, List, length, None, sym, ap, arith}
+use Rattle.std.proofs.Common.{◌≡◌, ◌∙◌, ◌-◌, ◌<◌, List, length, slice_get, None, Some, sym, ap, arith}
 use Rattle.pls_configuration.specs.Configuration.{ports_in}
 use Rattle.pls_schedule.specs.declared.event.Event.TheVariants.{Arrive}
 use Rattle.pls_sim.specs.Schedule.{Sent, emit_number, emits_of}
@@ -6,8 +6,8 @@ use Rattle.pls_watch.specs.Versions.{plain_of}
 use Rattle.pls_watch.specs.Turning.{Turned}
 use Rattle.pls_watch.proofs.More.{many_carried}
 use Rattle.pls_watch.proofs.Keep.{rooms_more, round_more}
-use Rattle.pls_watch.proofs.Arrived.{at_within, not_emitted, past_emit, zero_emit, end_within, few_emits, kept_now, numbered_now}
-use Rattle.pls_watch.proofs.versions.Versions.arrive.Goals.{then-number-eq0-via-then-number-eq0, then-number-eq0-via-else-number-eq0+then-number-len}
+use Rattle.pls_watch.proofs.Arrived.{at_within, not_emitted, past_emit, zero_emit, end_within, few_emits, held_elsewhere, held_still, kept_now, numbered_now}
+use Rattle.pls_watch.proofs.versions.Versions.arrive.Goals.{else-heard, then-heard+then-came-old, then-number-eq0-via-then-number-eq0, then-number-eq0-via-else-number-eq0+then-number-len}
 use Rattle.pls_watch.proofs.versions.Versions.arrive.Goals as goal
 
 pub arrives_at-at-requires-clause-emitted : goal.arrives_at-at-requires-clause-emitted
@@ -30,8 +30,8 @@ heard_at-heard-requires-clause-number c =
           c.arrives_at-at.ensures,
     )
 
-pub get-requires : goal.get-requires
-get-requires c =
+pub get-old-requires : goal.get-old-requires
+get-old-requires c =
     let old = c.self.inside in
     omega (
       arith,
@@ -92,8 +92,8 @@ invariant_of-self-2 c =
           c.args.number (omega (arith, c.if-number-len.false, c.len.ensures))
           (c.args.number - 1) (omega (arith, c.if-number-eq0.false)) c.arrives_at-at.result
           c.arrives_at-at.ensures c.index.result.now c.index.ensures c.heard_at-heard.result
-          c.heard_at-heard.ensures c.get.result.0 c.get-2.result.0 c.later-version.result.0
-          c.get.ensures.version c.get-2.ensures.version c.later-version.ensures.version,
+          c.heard_at-heard.ensures c.get-old.result.0 c.get-came.result.0 c.later-version.result.0
+          c.get-old.ensures.version c.get-came.ensures.version c.later-version.ensures.version,
       rooms_more old.most _ _ _ old.turns.items _ room c.self.invariant.2,
       numbered_now old.net.now old.turns.items _ _ _ _ c.self.invariant.1 old.most old.sim
           c.self.invariant.0 c.args.number
@@ -102,9 +102,9 @@ invariant_of-self-2 c =
           (omega (arith, c.if-number-eq0.false)) c.arrives_at-at.result c.arrives_at-at.ensures
           c.index.result.now c.index.ensures c.heard_at-heard.result c.heard_at-heard.ensures _ _ _
           _
-          c.self.invariant.3 c.get.result.0 c.get.result.1 c.get-2.result.0 c.get-2.result.1
-          c.later-version.result.0 c.later-version.result.1 c.get.ensures.version c.get.ensures.label
-          c.get-2.ensures.version c.get-2.ensures.label c.later-version.ensures.version
+          c.self.invariant.3 c.get-old.result.0 c.get-old.result.1 c.get-came.result.0 c.get-came.result.1
+          c.later-version.result.0 c.later-version.result.1 c.get-old.ensures.version c.get-old.ensures.label
+          c.get-came.ensures.version c.get-came.ensures.label c.later-version.ensures.version
           c.later-version.ensures.label,
       c.self.invariant.4,
     )
@@ -130,3 +130,47 @@ returns-then-number-eq0-clause-refused c =
     not_emitted c.args.self.now c.args.number c.requires
     (ap (λ (turned : Turned). emit_number (emits_of (plain_of turned.turns)) c.args.number)
     (sym c.self.view_is) ∙ none)
+
+pub returns-clause-holds : goal.returns-clause-holds
+returns-clause-holds c = λ i row neighbour stands differs.
+    let old = c.self.inside in
+    let there : slice_get old.net.now i ≡ Some row =
+    ap (λ (turned : Turned). slice_get turned.network i) c.self.view_is ∙ stands in
+    elim c.if-heard.branch [
+      | then-heard+then-came-old w ↦
+          rw (← c.self.view_is)
+          (held_still old.net.now old.turns.items _ _ _ _ c.self.invariant.1 old.most old.sim
+          c.self.invariant.0
+          c.args.number (omega (arith, c.if-number-len.false, c.len.ensures))
+          (c.args.number - 1) (omega (arith, c.if-number-eq0.false)) c.arrives_at-at.result
+          c.arrives_at-at.ensures c.index.result.now c.index.ensures c.heard_at-heard.result
+          c.heard_at-heard.ensures w.if-heard.true c.get-old.result.0 c.get-came.result.0
+          w.if-came-old.true c.get-old.ensures.version c.get-came.ensures.version row.id neighbour)
+      | else-heard w ↦
+          rw (← c.self.view_is)
+          (held_elsewhere old.net.now old.turns.items _ _ _ _ c.self.invariant.1 old.most old.sim
+          c.self.invariant.0
+          c.args.number (omega (arith, c.if-number-len.false, c.len.ensures))
+          (c.args.number - 1) (omega (arith, c.if-number-eq0.false)) c.arrives_at-at.result
+          c.arrives_at-at.ensures c.index.result.now c.index.ensures c.heard_at-heard.result
+          c.heard_at-heard.ensures i row neighbour there
+          (λ same. differs (w.changed-is ∙ ap Some same)))
+    ]
+
+pub returns-clause-within : goal.returns-clause-within
+returns-clause-within c =
+    let old = c.self.inside in
+    let within : c.index.result.now < length c.args.self.now.network =
+    omega (
+      arith,
+      ap (λ (turned : Turned). length turned.network) c.self.view_is,
+      end_within old.net.now old.turns.items _ _ _ _ c.self.invariant.1 old.most old.sim
+          c.self.invariant.0
+          c.args.number (omega (arith, c.if-number-len.false, c.len.ensures))
+          (c.args.number - 1) (omega (arith, c.if-number-eq0.false)) c.arrives_at-at.result
+          c.arrives_at-at.ensures c.index.result.now c.index.ensures,
+    ) in
+    elim c.if-heard.branch [
+      | then-heard+then-came-old w ↦ rw w.changed-is tt
+      | else-heard w ↦ rw w.changed-is within
+    ]

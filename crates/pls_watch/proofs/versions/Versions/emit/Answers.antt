@@ -5,6 +5,7 @@ use Rattle.pls_sim.proofs.Numbering.{value_at}
 use Rattle.pls_watch.specs.Turning.{Turned}
 use Rattle.pls_watch.proofs.Keep.{kept_emit, rooms_more, round_more}
 use Rattle.pls_watch.proofs.Numbered.{numbered_emit}
+use Rattle.pls_watch.proofs.More.{held_emit}
 use Rattle.pls_watch.proofs.Arrived.{names, few_carried}
 use Rattle.pls_watch.proofs.versions.Versions.emit.Goals as goal
 
@@ -94,3 +95,9 @@ invariant_of-self-2 c =
           c.ends_of-from.result.0 c.ends_of-from.result.1 both,
       c.self.invariant.4,
     )
+
+pub returns-clause-holds : goal.returns-clause-holds
+returns-clause-holds c = λ i row neighbour stands differs.
+    rw (← c.self.view_is)
+    (held_emit c.self.inside.net.now c.self.inside.turns.items c.args.node c.args.port row.id
+    neighbour c.self.invariant.1.numbered)

@@ -1,4 +1,4 @@
-use Rattle.std.proofs.Common.{◌≡◌, ◌∙◌, ◌<◌, ◌+◌, ◌==◌, length, get_or, position, Option, Some, is_none, sym, ap, arith}
+use Rattle.std.proofs.Common.{◌≡◌, ◌≢◌, ◌∙◌, ℕ, slice_get, subst, ◌<◌, ◌+◌, ◌==◌, length, get_or, position, Option, Some, is_none, sym, ap, arith}
 use Rattle.std.proofs.lemmas.Option.{slice_get_within}
 use Rattle.pls_configuration.specs.declared.row.NodeRow.{NodeRow}
 use Rattle.pls_configuration.specs.Configuration.{row_of}
@@ -8,10 +8,10 @@ use Rattle.pls_sim.proofs.Numbering.{value_at}
 use Rattle.pls_sim.proofs.Refusing.{at_place, none_found, place_within}
 use Rattle.pls_watch.specs.declared.turn.Turn.TheVariants.{Relabel}
 use Rattle.pls_watch.specs.Turning.{Turned}
-use Rattle.pls_watch.proofs.More.{newest_few}
+use Rattle.pls_watch.proofs.More.{held_relabel, newest_few}
 use Rattle.pls_watch.proofs.Keep.{kept_relabel, rooms_more, round_relabel}
 use Rattle.pls_watch.specs.inner.Numbers.{relabelled}
-use Rattle.pls_watch.proofs.Arrived.{by_round}
+use Rattle.pls_watch.proofs.Arrived.{by_round, not_there}
 use Rattle.pls_watch.proofs.Numbers.{few_given}
 use Rattle.pls_watch.proofs.Numbered.{numbered_relabel}
 use Rattle.pls_watch.proofs.versions.Versions.relabel.Goals as goal
@@ -139,3 +139,16 @@ overflow_cast-number c =
       c.self.invariant.4.small,
       c.self.invariant.1.is_network.limits.few_nodes,
     )
+
+pub returns-clause-holds : goal.returns-clause-holds
+returns-clause-holds c = λ i row neighbour stands differs.
+    held_relabel c.args.self.now.network c.args.self.now.turns c.args.node row.id neighbour
+
+pub returns-clause-stays : goal.returns-clause-stays
+returns-clause-stays c = λ i row stands differs.
+    let old = c.self.inside in
+    let there : slice_get old.net.now i ≡ Some row =
+    ap (λ (turned : Turned). slice_get turned.network i) c.self.view_is ∙ stands in
+    let elsewhere : position (λ row. c.args.node == row.id) old.net.now ≢ Some i =
+    subst (λ (place : Option ℕ). place ≢ Some i) (sym (sym c.place_of.ensures ∙ c.in-Some.is)) differs in
+    not_there old.net.now c.self.invariant.1.is_network i row there c.args.node elsewhere

@@ -1,6 +1,8 @@
-use Rattle.std.proofs.Common.{◌<◌, length, ap, arith}
+use Rattle.std.proofs.Common.{◌≡◌, ◌≢◌, ◌<◌, ◌∙◌, ◌==◌, ℕ, Option, Some, length, position, slice_get, ap, arith, subst}
 use Rattle.pls_schedule.specs.declared.event.Event.TheVariants.{Restart}
 use Rattle.pls_watch.specs.Turning.{Turned}
+use Rattle.pls_watch.proofs.Arrived.{not_there}
+use Rattle.pls_watch.proofs.More.{held_restart}
 use Rattle.pls_watch.proofs.Keep.{kept_restart, rooms_more, round_more}
 use Rattle.pls_watch.proofs.Numbered.{numbered_restart}
 use Rattle.pls_watch.proofs.versions.Versions.restart.Goals as goal
@@ -25,3 +27,15 @@ invariant_of-self-2 c =
           c.args.node,
       c.self.invariant.4,
     )
+
+pub returns-clause-holds : goal.returns-clause-holds
+returns-clause-holds c = λ i row neighbour stands differs.
+    let old = c.self.inside in
+    let there : slice_get old.net.now i ≡ Some row =
+    ap (λ (turned : Turned). slice_get turned.network i) c.self.view_is ∙ stands in
+    let elsewhere : position (λ row. c.args.node == row.id) old.net.now ≢ Some i =
+    subst (λ (place : Option ℕ). place ≢ Some i) c.place_of.ensures differs in
+    rw (← c.self.view_is)
+    (held_restart old.net.now old.turns.items c.args.node row.id neighbour
+    c.self.invariant.1.numbered
+    (not_there old.net.now c.self.invariant.1.is_network i row there c.args.node elsewhere))

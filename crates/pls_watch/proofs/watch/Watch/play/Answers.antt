@@ -6,7 +6,8 @@ use Rattle.pls_watch.specs.Watching.{Watched, turned_of, watch_refusal, watching
 use Rattle.pls_watch.specs.inner.Stock.{IsStocked, watched_by}
 use Rattle.pls_watch_part.specs.WatchText.{watch_event}
 use Rattle.pls_watch.proofs.Room.{play_refusal, same_refusal}
-use Rattle.pls_watch.proofs.Stocked.{stocked_play, turned_same, watched_play}
+use Rattle.pls_watch.proofs.Spelled.{turn_watch}
+use Rattle.pls_watch.proofs.Stocked.{knows_same, stocked_play, turned_same, watched_play}
 use Rattle.pls_watch.proofs.watch.Watch.play.Goals as goal
 
 pub returns-in_err-step-clause-refused : goal.returns-in_err-step-clause-refused
@@ -48,3 +49,10 @@ invariant_of-self-2 c =
     old.given_bits) (sym c.in_ok-step.ensures.taken)
     (stocked_play old.versions old.labels old.relabels old.bits c.args.event old.net.now old.given
     old.given_bits c.self.invariant)
+
+pub returns-clause-others : goal.returns-clause-others
+returns-clause-others c = λ i row stands differs.
+    let old = c.self.inside in
+    knows_same old.versions old.labels old.relabels old.bits c.args.self.now c.self.view_is
+    (watch_event c.args.event) (Plain c.args.event) (turn_watch c.args.event) i row stands
+    c.in_ok-step.field-0 differs c.in_ok-step.ensures.holds c.in_ok-step.ensures.stays

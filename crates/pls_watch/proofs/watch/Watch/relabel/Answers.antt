@@ -1,4 +1,4 @@
-use Rattle.std.proofs.Common.{◌≡◌, ◌∙◌, ℕ, ◌+◌, List, Bool, length, set, Some, sym, ap, subst, arith}
+use Rattle.std.proofs.Common.{◌≡◌, ◌∙◌, ℕ, ◌+◌, List, Bool, length, set, Some, refl, sym, ap, subst, arith}
 use Rattle.pls_sim.specs.declared.event_error.EventError.{EventError}
 use Rattle.pls_labels.specs.Stored.{cost}
 use Rattle.pls_watch_part.specs.declared.watch_event.WatchEvent.TheVariants as Watches
@@ -7,7 +7,7 @@ use Rattle.pls_watch.specs.Turning.{Turned, turn_refusal, turning}
 use Rattle.pls_watch.specs.Watching.{Watched, lacks_room, turned_of, watch_refusal, watching}
 use Rattle.pls_watch.specs.inner.Stock.{IsStocked, watched_by}
 use Rattle.pls_watch.proofs.Room.{full_refusal, relabel_refusal, same_refusal}
-use Rattle.pls_watch.proofs.Stocked.{has_room, room_for, stocked_relabel, turned_same, watched_relabel}
+use Rattle.pls_watch.proofs.Stocked.{has_room, knows_same, room_for, stocked_relabel, turned_same, watched_relabel}
 use Rattle.pls_watch.proofs.watch.Watch.relabel.Goals as goal
 
 pub returns-then-lacks_room-clause-refused : goal.returns-then-lacks_room-clause-refused
@@ -16,8 +16,8 @@ returns-then-lacks_room-clause-refused c =
     (sym (c.lacks_room.ensures c.args.node c.args.label.now (sym c.len-len.ensures))
     ∙ c.if-lacks_room.true)
 
-pub returns-in_err-step-clause-refused : goal.returns-in_err-step-clause-refused
-returns-in_err-step-clause-refused c =
+pub returns-in_err-place-clause-refused : goal.returns-in_err-place-clause-refused
+returns-in_err-place-clause-refused c =
     let old = c.self.inside in
     let label : List Bool = c.args.label.now in
     let node : ℕ = c.args.node in
@@ -29,7 +29,7 @@ returns-in_err-step-clause-refused c =
     c.self.view_is)
     ∙ ap (λ (turned : Turned). turn_refusal turned (Relabel node))
     (turned_same old.versions old.labels old.relabels old.bits)
-    ∙ c.in_err-step.ensures.refused)
+    ∙ c.in_err-place.ensures.refused)
 
 pub returns-clause-applies : goal.returns-clause-applies
 returns-clause-applies c =
@@ -42,7 +42,7 @@ returns-clause-applies c =
     c.self.view_is)
     ∙ ap (λ (turned : Turned). turn_refusal turned (Relabel node))
     (turned_same old.versions old.labels old.relabels old.bits)
-    ∙ c.in_ok-step.ensures.applies
+    ∙ c.in_ok-place.ensures.applies
 
 pub replace_spare-requires-clause-within : goal.replace_spare-requires-clause-within
 replace_spare-requires-clause-within c =
@@ -109,7 +109,7 @@ returns-clause-taken c =
     c.bits.ensures)
     ∙ c.replace_spare.ensures.spare in
     ap (λ (turned : Turned). watched_by turned c.replace_spare.new.self old.relabels old.bits)
-    c.in_ok-step.ensures.taken
+    c.in_ok-place.ensures.taken
     ∙ watched_relabel old.versions old.labels old.relabels old.bits old.net.now old.given
     old.given_bits
     c.self.invariant c.args.node label c.replace_spare.new.self placed spent room.0 room.1
@@ -140,10 +140,17 @@ invariant_of-self-2 c =
     ∙ c.replace_spare.ensures.spare in
     subst (λ (turned : Turned). IsStocked old.net.now turned c.replace_spare.new.self old.relabels
     old.bits
-    (old.given + 1) (old.given_bits + c.len-len.result)) (sym c.in_ok-step.ensures.taken)
+    (old.given + 1) (old.given_bits + c.len-len.result)) (sym c.in_ok-place.ensures.taken)
     (subst (λ (len : ℕ). IsStocked old.net.now (turning (Relabel c.args.node) old.versions)
     c.replace_spare.new.self old.relabels old.bits (old.given + 1) (old.given_bits + len))
     (sym c.len-len.ensures)
     (stocked_relabel old.versions old.labels old.relabels old.bits old.net.now old.given
     old.given_bits
     c.self.invariant c.args.node label c.replace_spare.new.self placed spent room.0 room.1))
+
+pub returns-clause-others : goal.returns-clause-others
+returns-clause-others c = λ i row stands differs.
+    let old = c.self.inside in
+    knows_same old.versions old.labels old.relabels old.bits c.args.self.now c.self.view_is
+    (Watches.Relabel c.args.node c.args.label.now) (Relabel c.args.node) refl i row stands
+    c.in_ok-place.place differs c.in_ok-place.ensures.holds c.in_ok-place.ensures.stays
