@@ -6,6 +6,7 @@ ghost use Rattle.pls_report.specs.Look.{look_text};
 ghost use Rattle.pls_watch.specs.Watching.{look_of, watch_refusal, watching};
 
 use crate::change::{Change, forget, no_changes, note};
+use crate::renewing::LookRoom;
 use crate::watch::Watch;
 use pls_report::{LookRow, LookRows};
 use pls_scheme::Checker;
@@ -24,6 +25,7 @@ pub struct Lookout<'n, 'k, K: Checker> {
     shown: LookRows,
     // For each node what of it changed since the last look.
     changes: Vec<Change>,
+    room: LookRoom,
 }
 
 impl<'n, 'k, K: Checker> Model for Lookout<'n, 'k, K> {
@@ -67,6 +69,7 @@ impl<'n, 'k, K: Checker> Lookout<'n, 'k, K> {
             checker,
             shown,
             changes,
+            room: LookRoom::new(alloc),
         })
     }
 
@@ -101,8 +104,14 @@ impl<'n, 'k, K: Checker> Lookout<'n, 'k, K> {
         ensures few_steps { RoseByAtMost (length self.old.watched.network) steps.old steps.new }
     {
         let changes = self.changes.as_slice();
-        self.watch
-            .renew_all(alloc, changes, &mut self.shown, self.checker, steps)?;
+        self.watch.renew_all(
+            alloc,
+            changes,
+            &mut self.shown,
+            &mut self.room,
+            self.checker,
+            steps,
+        )?;
         forget(&mut self.changes);
         Ok(())
     }

@@ -7,7 +7,6 @@ ghost use Rattle.pls_watch.specs.inner.Current.{IsCurrent, IsRenewed};
 ghost use Rattle.pls_watch.specs.inner.Known.{IsTable};
 
 use crate::change::Change;
-use crate::versions::noughts;
 use crate::watch::Watch;
 use pls_report::LookRows;
 use pls_scheme::Checker;
@@ -15,12 +14,22 @@ use pls_sim::PortNumbers;
 use pls_streams::{NoMemory, Steps};
 use std::alloc::Global;
 
-/// What a look needs for one node after another: the table of what the node knows, and the list of
-/// its stale ports.
+/// What looks need for one node after another: the table of what the node knows, and the list of its
+/// stale ports.
 #[derive(Drop)]
-struct LookRoom {
+pub(crate) struct LookRoom {
     table: Vec<u32>,
     stale: Vec<u32>,
+}
+
+impl LookRoom {
+    /// Room that is taken at the first look.
+    pub(crate) fn new(alloc: Global) -> LookRoom {
+        LookRoom {
+            table: Vec::new(alloc),
+            stale: Vec::new(alloc),
+        }
+    }
 }
 
 impl<'n> Watch<'n> {
@@ -31,6 +40,7 @@ impl<'n> Watch<'n> {
         alloc: Global,
         changes: &[Change],
         shown: &mut LookRows,
+        room: &mut LookRoom,
         checker: &K,
         steps: &mut Steps,
     ) -> Result<(), NoMemory>
@@ -41,12 +51,10 @@ impl<'n> Watch<'n> {
         ensures few_steps { RoseByAtMost (length self.now.network) steps.old steps.new }
     {
         shown.begin();
-        let mut room = LookRoom {
-            table: noughts(alloc, changes.len())?,
-            stale: Vec::new(alloc),
-        };
+        room.table.clear();
+        room.table.resize(changes.len(), 0)?;
         for _ in changes {
-            self.renew(alloc, changes, shown, &mut room, checker, steps)?;
+            self.renew(alloc, changes, shown, room, checker, steps)?;
         }
         Ok(())
     }
