@@ -89,8 +89,8 @@ fn have_small_numbers(rows: &[NodeRow]) -> bool
 }
 
 /// The row of a node: its identity, the number of the port that it points at, from 0, if it points,
-/// and its neighbours, each beyond an edge of weight 1. Its mark and its number are 0. The one error
-/// is want of memory.
+/// and its neighbours, each beyond an edge of weight 1. Its mark and its number are 0. The one
+/// error is want of memory.
 pub fn plain_row(
     alloc: Global,
     id: u32,

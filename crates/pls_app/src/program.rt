@@ -29,8 +29,8 @@ use pls_streams::{Fault, NoMemory, Sink, Source, Status, write_all};
 use std::alloc::Global;
 
 /// Runs the program: `words` are the words after its name, `source` gives its input, and `sink`
-/// takes its text. `bench` answers for the nodes that `recheck` judges. The answer is the status with
-/// which the process ends.
+/// takes its text. `bench` answers for the nodes that `recheck` judges. The answer is the status
+/// with which the process ends.
 ///
 /// What the text says is known before its first byte is written, and writing takes no memory.
 pub fn run<'w, S: Source, K: Sink, B: Bench>(

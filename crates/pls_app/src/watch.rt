@@ -79,8 +79,8 @@ fn relabels_in(lines: &[WatchLine]) -> (usize, u64)
     (count, total)
 }
 
-// The place of the first line whose event does not apply, `None` where all do. `well` becomes whether
-// all is well at the last look.
+// The place of the first line whose event does not apply, `None` where all do. `well` becomes
+// whether all is well at the last look.
 fn play<K: Checker>(
     alloc: Global,
     lookout: &mut Lookout<'_, '_, K>,

@@ -1,6 +1,5 @@
 -- Texts of a list, written one behind another.
 use Rattle.std.proofs.Common.{◌≡◌, ◌∙◌, ℕ, ◌+◌, ◌<◌, ◌≤◌, List, [], ◌∷◌, ◌++◌, Option, take, drop, length, map, get_or, refl, sym, ap, subst, append-nil, append_assoc}
-use Rattle.std.specs.List.{flat_map}
 use Rattle.std.proofs.lemmas.Grind.{flat_map-append}
 use Rattle.std.proofs.lemmas.List.{take-append-drop, take_all, take_more}
 use Rattle.pls_sim.specs.declared.outcome.Outcome.{Outcome}

@@ -1,8 +1,7 @@
 -- The lines of looks, as one text and their lengths.
 use Rattle.std.proofs.Common.{◌≡◌, ◌∙◌, ℕ, ◌+◌, ◌≤◌, zero, suc, List, [], ◌∷◌, ◌++◌, map, take, drop, length, replicate, refl, sym, ap, arith}
 use Rattle.std.specs.List.{sum}
-use Rattle.std.proofs.lemmas.List.{length-append, length-drop, length-take-le, take-append-drop, take_all}
-use Rattle.std.proofs.lemmas.List.Folds.{sum_by-replicate}
+use Rattle.std.proofs.lemmas.List.{length-append, length-drop, length-take-le, take-append-drop}
 use Rattle.std.proofs.lemmas.List.Sums.{sum_by-cons}
 use Rattle.std.proofs.Math.Seq.{drop-append_seam, take-append_seam}
 use Rattle.pls_report.specs.inner.Kept.{joined_text, pieces_of}
@@ -62,6 +61,3 @@ joined_pieces (count ∷ counts) text is =
 pub pieces_empty : (count : ℕ) → pieces_of (replicate count 0) [] ≡ replicate count []
 pieces_empty zero = refl
 pieces_empty (suc count) = ap (λ (others : List (List ℕ)). [] ∷ others) (pieces_empty count)
-
-pub total_empty : (count : ℕ) → sum (replicate count 0) ≡ 0
-total_empty count = sum_by-replicate (λ x. x) count 0 ∙ omega arith

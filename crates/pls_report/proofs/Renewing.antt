@@ -1,11 +1,9 @@
 -- Lines of rows while rows change and lines are made.
-use Rattle.std.proofs.Common.{◌≡◌, ◌≢◌, ◌∙◌, ℕ, ◌+◌, ◌<◌, ◌⊎◌, inl, inr, Bool, true, false, List, [], length, map, replicate, get_or, set, slice_get, Some, sym, ap, arith, get_or-set_same, get_or-set_other}
-use Rattle.std.proofs.lemmas.Bool.{cases_eq, cases_lt}
-use Rattle.std.proofs.lemmas.List.{get_or-map, get_or-replicate, length-map, length-replicate, length-set}
-use Rattle.std.proofs.lemmas.Option.{get_or_from_slice_get, same_Some, slice_get-get_or, slice_get_within}
+use Rattle.std.proofs.Common.{◌≡◌, ◌≢◌, ◌∙◌, ℕ, ◌⊎◌, inl, inr, Bool, true, false, List, length, replicate, get_or, set, slice_get, Some, sym, ap, arith, get_or-set_same, get_or-set_other}
+use Rattle.std.proofs.lemmas.Bool.{cases_eq}
+use Rattle.std.proofs.lemmas.List.{get_or-replicate, length-replicate, length-set}
+use Rattle.std.proofs.lemmas.Option.{get_or_from_slice_get, slice_get-get_or, slice_get_within}
 use Rattle.pls_sim.specs.declared.outcome.Outcome.{Outcome}
-use Rattle.pls_sim.specs.declared.outcome.Outcome.TheVariants.{Waiting}
-use Rattle.pls_report.specs.inner.Kept.{row_line}
 use Rattle.pls_report.specs.inner.Renewed.{AreRenewed}
 
 -- what stands at a place of a list that was written once: the new item, or the old one elsewhere
@@ -30,21 +28,6 @@ set_cases xs i new k x at =
       )
     ]
 
--- what stands at the place that was written
-set_here : {X : Type 0} (xs : List X) (i : ℕ) (new : X) → i < length xs
-    → slice_get (set xs i new) i ≡ Some new
-set_here xs i new within =
-    slice_get-get_or (set xs i new) i new (omega (arith, within, length-set xs i new))
-    ∙ ap Some (get_or-set_same xs i new new within)
-
--- and elsewhere
-set_there : {X : Type 0} (xs : List X) (i k : ℕ) (new x : X) → k ≢ i → slice_get xs k ≡ Some x
-    → slice_get (set xs i new) k ≡ Some x
-set_there xs i k new x apart at =
-    slice_get-get_or (set xs i new) k x
-    (omega (arith, slice_get_within xs k x at, length-set xs i new))
-    ∙ ap Some (get_or-set_other xs i k new x apart ∙ get_or_from_slice_get xs k x x at)
-
 module _ (rows : List (ℕ × Outcome × List ℕ)) (changed : List Bool) (lines : List (List ℕ))
     (are : AreRenewed rows changed lines) (i : ℕ) where
   -- a row is replaced, and noted as changed
@@ -61,22 +44,6 @@ module _ (rows : List (ℕ × Outcome × List ℕ)) (changed : List Bool) (lines
       ]
     ];
   }
-
--- where lines are those of all rows, none has changed
-pub none_changed : (rows : List (ℕ × Outcome × List ℕ)) (changed : List Bool) (lines : List (List ℕ))
-    → changed ≡ replicate (length rows) false → lines ≡ map row_line rows
-    → AreRenewed rows changed lines
-none_changed rows changed lines is are = record {
-  each = ap (length {A = Bool}) is ∙ length-replicate (length rows) false;
-  as_many = ap (length {A = List ℕ}) are ∙ length-map rows row_line;
-  same = λ i row at kept.
-      let within = slice_get_within rows i row at in
-      (λ k. slice_get (are k) i)
-      ∙ slice_get-get_or (map row_line rows) i (row_line row)
-      (omega (arith, within, length-map rows row_line))
-      ∙ ap Some (get_or-map row_line rows i row (row_line row) within
-      ∙ ap row_line (get_or_from_slice_get rows i row row at));
-}
 
 -- where all rows count as changed, the lines may be any
 pub all_changed : (rows : List (ℕ × Outcome × List ℕ)) (changed : List Bool) (lines : List (List ℕ))

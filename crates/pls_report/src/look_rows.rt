@@ -48,8 +48,8 @@ impl Model for LookRows {
 }
 
 impl LookRows {
-    /// A look that shows these rows, and has passed all of them; none is kept. The one error is want
-    /// of memory.
+    /// A look that shows these rows, and has passed all of them; none is kept. The one error is
+    /// want of memory.
     pub fn of(alloc: Global, rows: Vec<LookRow>) -> Result<LookRows, NoMemory>
         ensures rows { IfOk result (λ look. look.rows ≡ rows.items) }
         ensures passed { IfOk result (λ look. look.passed ≡ length rows.items) }
@@ -84,7 +84,7 @@ impl LookRows {
 
     /// Passes the next row, which stays.
     #[inline(always)]
-    pub fn keep(&mut self)
+    pub fn pass(&mut self)
         requires { self.old.passed < length self.old.rows }
         ensures { self.new ≡ record self.old { passed = self.old.passed + 1 } }
     {
@@ -132,8 +132,8 @@ impl LookRows {
     }
 
     /// Keeps the look as it is, numbered behind those that were kept, from 1. It makes the lines of
-    /// the rows that are others than at the last one that was kept. The one error is want of memory:
-    /// nothing that is seen changes then.
+    /// the rows that are others than at the last one that was kept. The one error is want of
+    /// memory: nothing that is seen changes then.
     pub fn keep_look(&mut self, alloc: Global) -> Result<(), NoMemory>
         ensures rows { self.new.rows ≡ self.old.rows }
         ensures passed { self.new.passed ≡ self.old.passed }

@@ -12,9 +12,9 @@ use crate::decided::put_decided;
 use pls_configuration::Verdict;
 use pls_streams::{Fault, Gathered, Sink};
 
-/// Writes the report of a round in which touched nodes were judged again: a line for each node, with
-/// its identity and its verdict, and then the number of the round, how many nodes were checked,
-/// whether the edges join all nodes, and how many reject. It takes no memory.
+/// Writes the report of a round in which touched nodes were judged again: a line for each node,
+/// with its identity and its verdict, and then the number of the round, how many nodes were
+/// checked, whether the edges join all nodes, and how many reject. It takes no memory.
 ///
 /// `Fault` comes only where the sink's count of faults rose in this call; the sink has then taken a
 /// front of the text, but not all. A sink that is sure of so many bytes takes all.

@@ -224,22 +224,7 @@ held_more rows turns event node neighbour numbered =
           append-nil (bring event),
         ) refl)
 
--- where no emit arrives, each node holds what it held
-pub nothing_arrives : (rows : List NodeRow) (turns : List Turn) (number node neighbour : ℕ)
-    → AllByRecursion (NamesEmit (length (emits_of (plain_of turns)))) (plain_of turns)
-    → emit_number (emits_of (plain_of turns)) number ≡ None
-    → held rows (turns ++ Plain (Arrive number) ∷ []) node neighbour
-    ≡ held rows turns node neighbour
-nothing_arrives rows turns number node neighbour numbered none =
-    held_more rows turns (Arrive number) node neighbour numbered
-    ∙ ap (λ (sent : Option Sent). greatest (arrived rows turns node neighbour
-    ++ cond (option_map_or (goes rows neighbour node) sent false)
-    (version_of (carried turns ++ []) (Arrive number) ∷ []) []))
-    (ap (λ (emits : List Sent). emit_number emits number) (append-nil (emits_of (plain_of turns)))
-    ∙ none)
-    ∙ ap greatest (append-nil (arrived rows turns node neighbour))
-
--- and so after an emit, and after a restart of another node
+-- each node holds what it held after an emit, and after a restart of another node
 pub held_emit : (rows : List NodeRow) (turns : List Turn) (sender port node neighbour : ℕ)
     → AllByRecursion (NamesEmit (length (emits_of (plain_of turns)))) (plain_of turns)
     → held rows (turns ++ Plain (Emit sender port) ∷ []) node neighbour

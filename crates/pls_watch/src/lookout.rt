@@ -16,8 +16,8 @@ use pls_watch_part::WatchEvent;
 use std::alloc::Global;
 use std::marker::Model;
 
-/// A [`Watch`] with the checker of its looks, seen as the checker, what is watched, what was shown at
-/// the last look, and the texts of the looks that were kept.
+/// A [`Watch`] with the checker of its looks, seen as the checker, what is watched, what was shown
+/// at the last look, and the texts of the looks that were kept.
 #[derive(Drop)]
 pub struct Lookout<'n, 'k, K: Checker> {
     watch: Watch<'n>,
@@ -131,8 +131,8 @@ impl<'n, 'k, K: Checker> Lookout<'n, 'k, K> {
         &self.shown
     }
 
-    /// Keeps what was shown at the last look, as [`LookRows::keep_look`] does. The one error is want
-    /// of memory: nothing that is seen changes then.
+    /// Keeps what was shown at the last look, as [`LookRows::keep_look`] does. The one error is
+    /// want of memory: nothing that is seen changes then.
     pub fn keep_look(&mut self, alloc: Global) -> Result<(), NoMemory>
         ensures kept { OnOk result (self.new ≡ record self.old {
           kept = self.old.kept ++ look_text (length self.old.kept + 1) self.old.rows ∷ [];

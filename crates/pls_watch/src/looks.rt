@@ -84,7 +84,8 @@ impl<'n> Watch<'n> {
         Ok(PortNumbers::from_vec(numbers))
     }
 
-    /// Writes these numbers into a list, in the place of what it has. The one error is want of memory.
+    /// Writes these numbers into a list, in the place of what it has. The one error is want of
+    /// memory.
     pub(crate) fn list_stale(&self, i: usize, numbers: &mut Vec<u32>) -> Result<(), NoMemory>
         requires { i < length self.now.network }
         ensures ports { OnOk result ((row : NodeRow) → slice_get self.now.network i ≡ Some row

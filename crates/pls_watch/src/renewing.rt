@@ -14,8 +14,8 @@ use pls_sim::PortNumbers;
 use pls_streams::{NoMemory, Steps};
 use std::alloc::Global;
 
-/// What looks need for one node after another: the table of what the node knows, and the list of its
-/// stale ports.
+/// What looks need for one node after another: the table of what the node knows, and the list of
+/// its stale ports.
 #[derive(Drop)]
 pub(crate) struct LookRoom {
     table: Vec<u32>,
@@ -83,12 +83,12 @@ impl<'n> Watch<'n> {
     {
         let i = shown.next_place();
         match changes[i] {
-            Change::Nothing => shown.keep(),
+            Change::Nothing => shown.pass(),
             Change::Beside => {
                 self.list_stale(i, &mut room.stale)?;
                 let stale = room.stale.as_slice();
                 if stale == shown.rows()[i].stale() {
-                    shown.keep();
+                    shown.pass();
                 } else {
                     shown.replace_stale(PortNumbers::from_vec(stale.to_vec(alloc)?));
                 }

@@ -94,8 +94,8 @@ impl<'n> Versions<'n> {
 
     /// Takes one more turn, in constant time but for the search of an identity, and without memory.
     /// Gives the place of the node that knows something else then, if one does: it holds another
-    /// version of a neighbour's label, or has a newer one itself. A turn that does not apply changes
-    /// nothing.
+    /// version of a neighbour's label, or has a newer one itself. A turn that does not apply
+    /// changes nothing.
     pub(crate) fn step(&mut self, turn: Turn) -> Result<Option<usize>, EventError>
         ensures taken { OnOk result (self.new ≡ turning turn self.old) }
         ensures holds { IfOk result (λ place. (i : ℕ) (row : NodeRow) (neighbour : ℕ)

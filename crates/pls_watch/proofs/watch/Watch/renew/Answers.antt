@@ -51,7 +51,7 @@ returns-then-eq-clause-renewed g c =
     let same : c.as_slice-stale.result.now ≡ c.stale.result.now =
     (bytes_eq-Decides c.as_slice-stale.result.now c.stale.result.now).0
     (sym c.eq.ensures ∙ c.if-eq.true) in
-    rw (ap (λ (shown : PassedRows). shown.rows) c.keep-then-eq.ensures)
+    rw (ap (λ (shown : PassedRows). shown.rows) c.pass-then-eq.ensures)
     (renewed_as_shown judge c.args.self.now changes place old current shown
     (omega (arith, c.requires.place, current.all)) is
     (c.index-rows-i.is
