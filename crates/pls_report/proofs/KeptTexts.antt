@@ -66,6 +66,7 @@ text_at number text (first ∷ looks) (suc i) d e within =
   where
     next : i + (number + 1) ≡ suc i + number
     next = omega arith
+
     up : suc (i + 1) ≡ suc i + 1
     up = omega arith
 

@@ -67,11 +67,7 @@ pub fn write_kept<K: Sink>(look: LookRows, sink: &mut K) -> Result<(), Fault>
     gathered.flush(sink)
 }
 
-fn write_texts<K: Sink>(
-    look: LookRows,
-    sink: &mut K,
-    gathered: &mut Gathered,
-) -> Result<(), Fault>
+fn write_texts<K: Sink>(look: LookRows, sink: &mut K, gathered: &mut Gathered) -> Result<(), Fault>
     ensures { Writes gathered.old gathered.new (K.taken sink.old) (K.taken sink.new)
         (K.faults sink.old) (K.faults sink.new) (K.IsSureOf sink.old) (K.IsSureOf sink.new)
         result (flat_map (λ text. text) look.kept) }

@@ -15,14 +15,12 @@ use pls_streams::NoMemory;
 use std::alloc::Global;
 use std::marker::Model;
 
-/// What a look shows of all nodes, seen as the rows, how many of them the look has passed, and the
-/// texts of the looks that were kept. From one look to the next most nodes are as they were: the
+/// What a look shows of all nodes, seen as the rows, and the texts of the looks that were kept. From one look to the next most nodes are as they were: the
 /// line of such a node is kept once.
 #[derive(Drop)]
 pub struct LookRows {
     rows: Vec<LookRow>,
     counts: LookCounts,
-    passed: usize,
     // Whether the row of a node is another than at the last look in `kept`.
     changed: Vec<bool>,
     kept: KeptLooks,
@@ -30,39 +28,34 @@ pub struct LookRows {
 
 impl Model for LookRows {
     ghost use Rattle.std.specs.Prelude.{◌≡◌, ◌≤◌, length};
-    ghost use Rattle.pls_report.specs.LookRows.{PassedRows};
+    ghost use Rattle.pls_report.specs.LookRows.{ShownRows};
     ghost use Rattle.pls_report.specs.inner.Lines.{counts_of};
     ghost use Rattle.pls_report.specs.inner.Renewed.{AreRenewed};
 
-    ghost Value = { PassedRows };
+    ghost Value = { ShownRows };
 
     ghost view = { λ look. record {
       rows = look.rows.items;
-      passed = look.passed;
       kept = look.kept.texts;
     } };
 
     ghost invariant = { λ look. (look.counts ≡ counts_of look.rows.items)
-        × (look.passed ≤ length look.rows.items)
         × AreRenewed look.rows.items look.changed.items look.kept.lines };
 }
 
 impl LookRows {
-    /// A look that shows these rows, and has passed all of them; none is kept. The one error is
+    /// A look that shows these rows; none is kept. The one error is
     /// want of memory.
     pub fn of(alloc: Global, rows: Vec<LookRow>) -> Result<LookRows, NoMemory>
         ensures rows { IfOk result (λ look. look.rows ≡ rows.items) }
-        ensures passed { IfOk result (λ look. look.passed ≡ length rows.items) }
         ensures none { IfOk result (λ look. look.kept ≡ []) }
     {
         let kept = KeptLooks::none(alloc, rows.len())?;
         let changed = vec![in alloc; true; rows.len()]?;
         let counts = LookCounts::of(rows.as_slice());
-        let passed = rows.len();
         Ok(LookRows {
             rows,
             counts,
-            passed,
             changed,
             kept,
         })
@@ -75,60 +68,31 @@ impl LookRows {
         self.rows.as_slice()
     }
 
-    /// Begins another look, which has passed no row.
-    pub fn begin(&mut self)
-        ensures { self.new ≡ record self.old { passed = 0 } }
-    {
-        self.passed = 0;
-    }
-
-    /// Passes the next row, which stays.
-    #[inline(always)]
-    pub fn pass(&mut self)
-        requires { self.old.passed < length self.old.rows }
-        ensures { self.new ≡ record self.old { passed = self.old.passed + 1 } }
-    {
-        self.passed += 1;
-    }
-
-    /// Passes the next row, and puts another in its place.
-    pub fn replace(&mut self, row: LookRow)
-        requires { self.old.passed < length self.old.rows }
-        ensures rows { self.new.rows ≡ slice_set self.old.rows self.old.passed row }
-        ensures passed { self.new.passed ≡ self.old.passed + 1 }
+    /// Puts another row in the place of that at `i`.
+    pub fn replace(&mut self, i: usize, row: LookRow)
+        requires { i < length self.old.rows }
+        ensures rows { self.new.rows ≡ slice_set self.old.rows i row }
         ensures kept { self.new.kept ≡ self.old.kept }
     {
-        let i = self.passed;
         self.counts.take_away(LineKind::of(&self.rows[i]));
         self.counts.add(LineKind::of(&row));
         self.rows[i] = row;
         self.changed[i] = true;
-        self.passed = i + 1;
     }
 
-    /// Passes the next row, and shows other ports of its node as stale.
-    pub fn replace_stale(&mut self, stale: PortNumbers)
-        requires { self.old.passed < length self.old.rows }
+    /// Shows other ports of the node at place `i` as stale.
+    pub fn replace_stale(&mut self, i: usize, stale: PortNumbers)
+        requires { i < length self.old.rows }
         ensures rows { (id : ℕ) (outcome : Outcome) (before : List ℕ)
-            → slice_get self.old.rows self.old.passed ≡ Some (id, outcome, before)
-            → self.new.rows ≡ slice_set self.old.rows self.old.passed (id, outcome, stale) }
-        ensures passed { self.new.passed ≡ self.old.passed + 1 }
+            → slice_get self.old.rows i ≡ Some (id, outcome, before)
+            → self.new.rows ≡ slice_set self.old.rows i (id, outcome, stale) }
         ensures kept { self.new.kept ≡ self.old.kept }
     {
-        let i = self.passed;
         let row = &mut self.rows[i];
         self.counts.take_away(LineKind::of(row));
         row.set_stale(stale);
         self.counts.add(LineKind::of(row));
         self.changed[i] = true;
-        self.passed = i + 1;
-    }
-
-    /// The place of the next row that the look passes: how many it has passed.
-    pub fn next_place(&self) -> usize
-        ensures { result ≡ self.now.passed }
-    {
-        self.passed
     }
 
     /// Keeps the look as it is, numbered behind those that were kept, from 1. It makes the lines of
@@ -136,7 +100,6 @@ impl LookRows {
     /// memory: nothing that is seen changes then.
     pub fn keep_look(&mut self, alloc: Global) -> Result<(), NoMemory>
         ensures rows { self.new.rows ≡ self.old.rows }
-        ensures passed { self.new.passed ≡ self.old.passed }
         ensures kept { OnOk result (self.new.kept ≡ self.old.kept
             ++ look_text (length self.old.kept + 1) self.old.rows ∷ []) }
         ensures unchanged { OnErr result (self.new ≡ self.old) }

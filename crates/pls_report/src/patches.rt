@@ -52,7 +52,12 @@ impl Patches {
 
     /// Adds a patch: behind bytes that stay the line of a row comes in the place of bytes that go.
     /// Gives the length of the line. The one error is want of memory.
-    pub(crate) fn add(&mut self, stays: usize, goes: usize, row: &LookRow) -> Result<usize, NoMemory>
+    pub(crate) fn add(
+        &mut self,
+        stays: usize,
+        goes: usize,
+        row: &LookRow,
+    ) -> Result<usize, NoMemory>
         ensures added { OnOk result (self.new ≡ self.old
             ++ record { stays = stays; goes = goes; comes = row_line row.now } ∷ []) }
         ensures length { IfOk result (λ count. count ≡ length (row_line row.now)) }

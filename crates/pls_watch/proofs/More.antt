@@ -8,7 +8,7 @@ use Rattle.std.proofs.lemmas.List.Elements.{filter-append}
 use Rattle.pls_configuration.specs.declared.row.NodeRow.{NodeRow}
 use Rattle.pls_schedule.specs.declared.event.Event.{Event}
 use Rattle.pls_schedule.specs.declared.event.Event.TheVariants.{Emit, Arrive, Restart}
-use Rattle.pls_sim.specs.Schedule.{Sent, brings, emit_number, emits_of, goes, has_heard, restarts, sent_by, since_restart}
+use Rattle.pls_sim.specs.Schedule.{Sent, brings, emits_of, has_heard, restarts, sent_by, since_restart}
 use Rattle.pls_sim.specs.inner.Kept.{NamesEmit}
 use Rattle.pls_sim.proofs.Heard.{brings_kept, emits_more, since_all, since_more}
 use Rattle.pls_watch.specs.declared.turn.Turn.{Turn}

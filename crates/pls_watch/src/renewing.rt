@@ -50,52 +50,50 @@ impl<'n> Watch<'n> {
         ensures kept { shown.new.kept ≡ shown.old.kept }
         ensures few_steps { RoseByAtMost (length self.now.network) steps.old steps.new }
     {
-        shown.begin();
         room.table.clear();
         room.table.resize(changes.len(), 0)?;
-        for _ in changes {
-            self.renew(alloc, changes, shown, room, checker, steps)?;
+        for i in 0..changes.len() {
+            self.renew(alloc, i, changes, shown, room, checker, steps)?;
         }
         Ok(())
     }
 
-    // Renews the next row only as far as its node changed.
+    // Renews the row of the node at place `i` only as far as the node changed.
     #[inline(always)]
     fn renew<K: Checker>(
         &self,
         alloc: Global,
+        i: usize,
         changes: &[Change],
         shown: &mut LookRows,
         room: &mut LookRoom,
         checker: &K,
         steps: &mut Steps,
     ) -> Result<(), NoMemory>
-        requires place { shown.old.passed < length self.now.network }
+        requires place { i < length self.now.network }
         requires current { IsCurrent (K.judge checker.now) self.now changes.now shown.old.rows }
         requires table { IsTable self.now room.old.table.items }
         ensures table { IsTable self.now room.new.table.items }
-        ensures renewed { OnOk result (IsRenewed (K.judge checker.now) self.now shown.old.passed
+        ensures renewed { OnOk result (IsRenewed (K.judge checker.now) self.now i
             shown.old.rows shown.new.rows) }
-        ensures passed { OnOk result (shown.new.passed ≡ shown.old.passed + 1) }
         ensures kept { shown.new.kept ≡ shown.old.kept }
         ensures unchanged { OnErr result (shown.new ≡ shown.old) }
         ensures few_steps { RoseByAtMost 1 steps.old steps.new }
     {
-        let i = shown.next_place();
         match changes[i] {
-            Change::Nothing => shown.pass(),
+            Change::Nothing => {}
             Change::Beside => {
                 self.list_stale(i, &mut room.stale)?;
                 let stale = room.stale.as_slice();
                 if stale == shown.rows()[i].stale() {
-                    shown.pass();
-                } else {
-                    shown.replace_stale(PortNumbers::from_vec(stale.to_vec(alloc)?));
+                    return Ok(());
                 }
+                let stale = PortNumbers::from_vec(stale.to_vec(alloc)?);
+                shown.replace_stale(i, stale);
             }
             Change::Held | Change::Label => {
                 let row = self.look_at(alloc, i, &mut room.table, checker, steps)?;
-                shown.replace(row);
+                shown.replace(i, row);
             }
         }
         Ok(())

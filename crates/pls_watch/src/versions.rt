@@ -96,6 +96,7 @@ impl<'n> Versions<'n> {
     /// Gives the place of the node that knows something else then, if one does: it holds another
     /// version of a neighbour's label, or has a newer one itself. A turn that does not apply
     /// changes nothing.
+    #[inline(always)]
     pub(crate) fn step(&mut self, turn: Turn) -> Result<Option<usize>, EventError>
         ensures taken { OnOk result (self.new ≡ turning turn self.old) }
         ensures holds { IfOk result (λ place. (i : ℕ) (row : NodeRow) (neighbour : ℕ)
@@ -122,6 +123,7 @@ impl<'n> Versions<'n> {
         }
     }
 
+    #[inline(always)]
     fn emit(&mut self, node: u32, port: u32) -> Result<Option<usize>, EventError>
         requires { length self.old.turns < self.old.most }
         ensures taken { OnOk result
@@ -149,6 +151,7 @@ impl<'n> Versions<'n> {
     }
 
     // What arrives changes nothing where it is no newer than what is held.
+    #[inline(always)]
     fn arrive(&mut self, number: u32) -> Result<Option<usize>, EventError>
         requires { length self.old.turns < self.old.most }
         ensures taken { OnOk result

@@ -117,6 +117,7 @@ impl<'n> Watch<'n> {
     /// Takes one more event as [`Watch::step`] does, and gives the place of the node that knows
     /// something else then, if one does: it holds another version of a neighbour's label, or it has
     /// got one itself.
+    #[inline(always)]
     pub(crate) fn step_at(&mut self, event: &WatchEvent) -> Result<Option<usize>, EventError>
         ensures taken { OnOk result (self.new ≡ watching event.now self.old) }
         ensures applies { OnOk result (watch_refusal self.old event.now ≡ None) }
@@ -140,6 +141,7 @@ impl<'n> Watch<'n> {
         }
     }
 
+    #[inline(always)]
     fn play(&mut self, event: Event) -> Result<Option<usize>, EventError>
         ensures taken { OnOk result (self.new ≡ watching (watch_event event) self.old) }
         ensures applies { OnOk result (watch_refusal self.old (watch_event event) ≡ None) }

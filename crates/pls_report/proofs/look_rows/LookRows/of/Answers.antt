@@ -8,7 +8,6 @@ pub invariant_of-result : goal.invariant_of-result
 invariant_of-result c =
     let rows = c.args.rows in (
       c.of-counts.ensures ∙ ap counts_of c.as_slice.ensures.value,
-      omega (arith, c.len-passed.ensures, rows.ok.0),
       all_changed rows.items c.in_ok-changed.changed.items c.in_ok-kept.kept.lines
           (c.in_ok-changed.ensures.items_if_clones_equal (λ y is. is)
           ∙ ap (λ (n : ℕ). replicate n true) (c.len-2.ensures ∙ rows.ok.0))

@@ -10,9 +10,8 @@ take_away-requires c =
     let inside = c.self.inside in
     let rows = inside.rows.items in
     let many : length rows ≡ length c.args.self.now.rows = λ k. length (c.self.view_is k).rows in
-    let passed : inside.passed ≡ c.args.self.now.passed = λ k. (c.self.view_is k).passed in
-    let within : inside.passed < length rows = omega (arith, c.requires, many, passed) in
-    let (others, is) = is_among rows inside.passed within c.index.result.now c.index.ensures in (
+    let within : c.args.i < length rows = omega (arith, c.requires, many) in
+    let (others, is) = is_among rows c.args.i within c.index.result.now c.index.ensures in (
       others,
       c.self.invariant.0 ∙ is ∙ (λ k. with_line (sym c.of.ensures k) others),
     )
@@ -23,14 +22,12 @@ invariant_of-self c =
     let rows = inside.rows.items in
     let row = c.args.row in
     let many : length rows ≡ length c.args.self.now.rows = λ k. length (c.self.view_is k).rows in
-    let passed : inside.passed ≡ c.args.self.now.passed = λ k. (c.self.view_is k).passed in
-    let within : inside.passed < length rows = omega (arith, c.requires, many, passed) in (
+    let within : c.args.i < length rows = omega (arith, c.requires, many) in (
       c.add.ensures
           ∙ (λ k. with_line (c.of-2.ensures k) c.take_away.new.self)
-          ∙ with_other rows inside.passed within c.index.result.now c.index.ensures row
+          ∙ with_other rows c.args.i within c.index.result.now c.index.ensures row
           c.take_away.new.self
           (sym c.self.invariant.0 ∙ c.take_away.ensures
           ∙ (λ k. with_line (c.of.ensures k) c.take_away.new.self)),
-      omega (arith, within, length-set rows inside.passed row),
-      row_changed rows inside.changed.items inside.kept.lines c.self.invariant.2 inside.passed row,
+      row_changed rows inside.changed.items inside.kept.lines c.self.invariant.1 c.args.i row,
     )

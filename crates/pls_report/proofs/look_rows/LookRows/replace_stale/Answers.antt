@@ -12,9 +12,8 @@ take_away-requires c =
     let inside = c.self.inside in
     let rows = inside.rows.items in
     let many : length rows ≡ length c.args.self.now.rows = λ k. length (c.self.view_is k).rows in
-    let passed : inside.passed ≡ c.args.self.now.passed = λ k. (c.self.view_is k).passed in
-    let within : inside.passed < length rows = omega (arith, c.requires, many, passed) in
-    let (others, is) = is_among rows inside.passed within c.index_mut-row.result.now c.index_mut-row.ensures.value in (
+    let within : c.args.i < length rows = omega (arith, c.requires, many) in
+    let (others, is) = is_among rows c.args.i within c.index_mut-row.result.now c.index_mut-row.ensures.value in (
       others,
       c.self.invariant.0 ∙ is ∙ (λ k. with_line (sym c.of.ensures k) others),
     )
@@ -25,31 +24,28 @@ invariant_of-self c =
     let rows = inside.rows.items in
     let row = c.set_stale.new.self in
     let many : length rows ≡ length c.args.self.now.rows = λ k. length (c.self.view_is k).rows in
-    let passed : inside.passed ≡ c.args.self.now.passed = λ k. (c.self.view_is k).passed in
-    let within : inside.passed < length rows = omega (arith, c.requires, many, passed) in (
+    let within : c.args.i < length rows = omega (arith, c.requires, many) in (
       c.add.ensures
           ∙ (λ k. with_line (c.of-2.ensures k) c.take_away.new.self)
-          ∙ with_other rows inside.passed within c.index_mut-row.result.now c.index_mut-row.ensures.value row
+          ∙ with_other rows c.args.i within c.index_mut-row.result.now c.index_mut-row.ensures.value row
           c.take_away.new.self
           (sym c.self.invariant.0 ∙ c.take_away.ensures
           ∙ (λ k. with_line (c.of.ensures k) c.take_away.new.self)),
-      omega (arith, within, length-set rows inside.passed row),
-      row_changed rows inside.changed.items inside.kept.lines c.self.invariant.2 inside.passed row,
+      row_changed rows inside.changed.items inside.kept.lines c.self.invariant.1 c.args.i row,
     )
 
 pub returns-clause-rows : goal.returns-clause-rows
 returns-clause-rows c id outcome before at =
     let inside = c.self.inside in
     let rows = inside.rows.items in
-    let i = inside.passed in
+    let i = c.args.i in
     let read = c.index_mut-row.result.now in
     let many : rows ≡ c.args.self.now.rows = λ k. (c.self.view_is k).rows in
-    let passed : i ≡ c.args.self.now.passed = λ k. (c.self.view_is k).passed in
     let within : i < length rows =
-    omega (arith, c.requires, passed, ap (length {A = ℕ × Outcome × List ℕ}) many) in
+    omega (arith, c.requires, ap (length {A = ℕ × Outcome × List ℕ}) many) in
     let was : read ≡ (id, outcome, before) =
     same_Some read (id, outcome, before)
     (ap Some c.index_mut-row.ensures.value ∙ sym (slice_get-get_or rows i read within)
-    ∙ (λ k. slice_get (many k) (passed k)) ∙ at) in
-    (λ k. set (many k) (passed k) ((c.set_stale.ensures
+    ∙ (λ k. slice_get (many k) i) ∙ at) in
+    (λ k. set (many k) i ((c.set_stale.ensures
     ∙ (λ j. ((was j).0, (was j).1, c.args.stale))) k))

@@ -82,7 +82,7 @@ add-requires-2 c =
       c.requires,
       c.loop-place.invariant.1,
       ap (length {A = ℕ}) ((λ k. c.loop-place.after.items ++ patch_text (sym none k) left)
-      ∙ c.loop-place.invariant.0),
+          ∙ c.loop-place.invariant.0),
       length-append c.loop-place.after.items left,
     )
 
