@@ -15,8 +15,8 @@ use pls_streams::NoMemory;
 use std::alloc::Global;
 use std::marker::Model;
 
-/// What a look shows of all nodes, seen as the rows, and the texts of the looks that were kept. From one look to the next most nodes are as they were: the
-/// line of such a node is kept once.
+/// What a look shows of all nodes, seen as the rows, and the texts of the looks that were kept.
+/// From one look to the next most nodes are as they were: the line of such a node is kept once.
 #[derive(Drop)]
 pub struct LookRows {
     rows: Vec<LookRow>,
@@ -44,8 +44,7 @@ impl Model for LookRows {
 }
 
 impl LookRows {
-    /// A look that shows these rows; none is kept. The one error is
-    /// want of memory.
+    /// A look that shows these rows; none is kept. The one error is want of memory.
     pub fn of(alloc: Global, rows: Vec<LookRow>) -> Result<LookRows, NoMemory>
         ensures rows { IfOk result (λ look. look.rows ≡ rows.items) }
         ensures none { IfOk result (λ look. look.kept ≡ []) }
