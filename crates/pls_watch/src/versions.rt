@@ -130,8 +130,7 @@ impl<'n> Versions<'n> {
             (self.new ≡ turning (Turn.Plain (Event.Emit node port)) self.old) }
         ensures holds { IfOk result (λ place. (i : ℕ) (row : NodeRow) (neighbour : ℕ)
             → slice_get self.old.network i ≡ Some row → place ≢ Some i
-            → held self.old.network (self.old.turns ++ Turn.Plain (Event.Emit node port) ∷ [])
-            row.id neighbour
+            → held self.old.network (self.old.turns ++ Turn.Plain (Event.Emit node port) ∷ []) row.id neighbour
             ≡ held self.old.network self.old.turns row.id neighbour) }
         ensures within { IfOk result
             (λ place. IfSome place (λ at. at < length self.old.network)) }
@@ -159,8 +158,7 @@ impl<'n> Versions<'n> {
             (self.new ≡ turning (Turn.Plain (Event.Arrive number)) self.old) }
         ensures holds { IfOk result (λ place. (i : ℕ) (row : NodeRow) (neighbour : ℕ)
             → slice_get self.old.network i ≡ Some row → place ≢ Some i
-            → held self.old.network (self.old.turns ++ Turn.Plain (Event.Arrive number) ∷ [])
-            row.id neighbour
+            → held self.old.network (self.old.turns ++ Turn.Plain (Event.Arrive number) ∷ []) row.id neighbour
             ≡ held self.old.network self.old.turns row.id neighbour) }
         ensures within { IfOk result
             (λ place. IfSome place (λ at. at < length self.old.network)) }
@@ -194,8 +192,7 @@ impl<'n> Versions<'n> {
             (self.new ≡ turning (Turn.Plain (Event.Restart node)) self.old) }
         ensures holds { IfOk result (λ place. (i : ℕ) (row : NodeRow) (neighbour : ℕ)
             → slice_get self.old.network i ≡ Some row → place ≢ Some i
-            → held self.old.network (self.old.turns ++ Turn.Plain (Event.Restart node) ∷ [])
-            row.id neighbour
+            → held self.old.network (self.old.turns ++ Turn.Plain (Event.Restart node) ∷ []) row.id neighbour
             ≡ held self.old.network self.old.turns row.id neighbour) }
         ensures within { IfOk result
             (λ place. IfSome place (λ at. at < length self.old.network)) }
