@@ -13,7 +13,7 @@ use Rattle.pls_streams.proofs.Written.{front_first, front_later, wrote_both}
 
 module _ (texts : List (List ℕ)) (i : ℕ) where
   -- one text more
-  flat_more : (d : List ℕ) → i < length texts
+  pub flat_more : (d : List ℕ) → i < length texts
       → joined_text (take i texts) ++ get_or texts i d ≡ joined_text (take (i + 1) texts)
   flat_more d within =
       sym (ap joined_text (take_more texts i d within)

@@ -11,6 +11,7 @@ use Rattle.pls_report.specs.inner.Kept.{counts_text, joined_text, kept_text, pie
 use Rattle.pls_report.specs.inner.KeptTexts.{HasRoomForAll, last_lines, texts_from}
 use Rattle.pls_report.specs.inner.Patches.{Patch, patch_text}
 use Rattle.pls_report.specs.inner.Renewed.{AreRenewed}
+use Rattle.pls_report.proofs.Flat.{flat_more}
 use Rattle.pls_report.proofs.Kept.{pieces_joined, total_length}
 use Rattle.pls_report.proofs.KeptTexts.{last_more, room_grows, room_more, texts_more}
 use Rattle.pls_report.proofs.Patching.{Makes, a_patch, makes_all, makes_more, makes_nothing}
@@ -43,13 +44,6 @@ number_within numbers i d within =
 
 abbrev pub row_lines : List (ℕ × Outcome × List ℕ) → List (List ℕ)
 row_lines rows = map row_line rows
-
-joined_more : (lines : List (List ℕ)) (i : ℕ) (d : List ℕ) → i < length lines
-    → joined_text (take (i + 1) lines) ≡ joined_text (take i lines) ++ get_or lines i d
-joined_more lines i d within =
-    ap joined_text (take_more lines i d within)
-    ∙ flat_map-append (λ line. line) (take i lines) (get_or lines i d ∷ [])
-    ∙ ap (λ (text : List ℕ). joined_text (take i lines) ++ text) (append-nil (get_or lines i d))
 
 lines_more : (rows : List (ℕ × Outcome × List ℕ)) (i : ℕ) (row : ℕ × Outcome × List ℕ) → i < length rows
     → row ≡ get_or rows i row → row_lines (take (i + 1) rows) ≡ row_lines (take i rows) ++ row_line row ∷ []
@@ -117,13 +111,12 @@ module _ (rows : List (ℕ × Outcome × List ℕ)) (changed : List Bool) (lines
 
   joined_lines : joined_text (take (i + 1) lines) ≡ (before.front ++ before.mid) ++ old_line
   joined_lines =
-      joined_more lines i [] in_lines ∙ ap (λ (text : List ℕ). text ++ old_line) before.was
+      sym (flat_more lines i [] in_lines) ∙ ap (λ (text : List ℕ). text ++ old_line) before.was
 
-  -- a row that did not change is passed
-  pub passed_as_it_is : get_or changed i false ≡ false
-      → ArePassed rows lines (i + 1) patches (stays + get_or lengths i 0)
-      (set renewed i (get_or lengths i 0))
-  passed_as_it_is kept =
+  -- a row that did not change is passed, and its length is as it was
+  pub passed_as_it_is : get_or changed i false ≡ false → get_or renewed i 0 ≡ get_or lengths i 0
+      → ArePassed rows lines (i + 1) patches (stays + get_or lengths i 0) renewed
+  passed_as_it_is kept stands =
       let same : old_line ≡ line =
       get_or_from_slice_get lines i line [] (are.same i row
       (slice_get-get_or rows i row within ∙ ap Some (sym is))
@@ -138,8 +131,11 @@ module _ (rows : List (ℕ × Outcome × List ℕ)) (changed : List Bool) (lines
             ∙ append_assoc before.front before.mid line;
         is = joined_rows ∙ append_assoc before.after before.mid line;
         long = omega (arith, long, before.long, length-append before.mid line);
-        lengths = subst (λ (count : ℕ). take (i + 1) (set renewed i count)
-            ≡ map (length {A = ℕ}) (row_lines (take (i + 1) rows))) (sym long) lengths_more;
+        lengths =
+            take_more renewed i 0 (omega (arith, within, as_many))
+            ∙ (λ k. before.lengths k ++ (stands ∙ long) k ∷ [])
+            ∙ sym (ap (map (length {A = ℕ})) (lines_more rows i row within is)
+            ∙ map-append (length {A = ℕ}) (row_lines (take i rows)) (line ∷ []));
       }
 
   -- one that changed is put in the place of its line before

@@ -142,21 +142,26 @@ fn patches_of(
         → renewed.new.items ≡ map length (map row_line rows.now)) }
     ensures room { IfOk result (λ made. made.1 ≡ sum renewed.new.items) }
 {
+    renewed.copy_from_slice(lengths);
     let mut patches = Patches::new(alloc);
-    let (mut stays, mut room) = (0, 0usize);
+    let (mut stays, mut room) = (0, 0);
     for (i, row) in rows.iter().enumerate() {
-        let mut length = lengths[i];
-        if changed[i] {
-            length = patches.add(stays, length, row)?;
-            stays = 0;
-        } else {
-            stays += length;
+        if !changed[i] {
+            stays += lengths[i];
+            continue;
         }
+        let length = patches.add(stays, lengths[i], row)?;
+        room = sum(sum(room, stays)?, length)?;
         renewed[i] = length;
-        let Some(longer) = room.checked_add(length) else {
-            return Err(NoMemory);
-        };
-        room = longer;
+        stays = 0;
     }
+    room = sum(room, stays)?;
     Ok((patches, room))
+}
+
+// More than there is memory for is want of memory.
+fn sum(count: usize, more: usize) -> Result<usize, NoMemory>
+    ensures { IfOk result (λ total. total ≡ count + more) }
+{
+    count.checked_add(more).ok_or(NoMemory)
 }

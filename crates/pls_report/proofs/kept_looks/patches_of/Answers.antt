@@ -1,22 +1,25 @@
-use Rattle.std.proofs.Common.{◌≡◌, ◌<◌, ◌∙◌, ◌++◌, ◌∷◌, [], ℕ, List, ap, arith, length, subst, sym}
+use Rattle.std.proofs.Common.{◌≡◌, ◌∙◌, ◌++◌, ◌∷◌, [], ℕ, List, ap, arith, get_or, length, subst, sym}
 use Rattle.std.specs.List.{sum}
-use Rattle.std.proofs.lemmas.List.{length-set, take_all}
+use Rattle.std.proofs.lemmas.List.{get_or-set_other, length-set, take_all}
 use Rattle.pls_report.specs.inner.Kept.{row_line}
 use Rattle.pls_report.specs.inner.Patches.{Patch}
 use Rattle.pls_report.proofs.Keeping.{ArePassed, all_lengths, all_made, none_passed, number_within, passed_as_changed, passed_as_it_is, sum_more, sum_set}
 use Rattle.pls_report.proofs.Patching.{a_patch}
 use Rattle.pls_report.proofs.kept_looks.patches_of.Goals as goal
-use Rattle.pls_report.proofs.kept_looks.patches_of.Goals.{else-changed-i, then-changed-i+in_ok-length}
 
 pub loop-i-init : goal.loop-i-init
-loop-i-init c = (
-  c.requires.renewed,
-  omega arith,
-  omega arith,
-  λ lines are those.
-      subst (λ (patches : List Patch). ArePassed c.args.rows.now lines 0 patches 0 c.args.renewed.now.items)
-      (sym c.new-patches.ensures) (none_passed c.args.rows.now lines c.args.renewed.now.items),
-)
+loop-i-init c =
+    let copied = c.copy_from_slice.ensures.items in (
+      ap (length {A = ℕ}) copied ∙ c.requires.lengths,
+      omega arith,
+      omega arith,
+      λ k past. ap (λ (lengths : List ℕ). get_or lengths k 0) copied,
+      λ lines are those.
+          subst (λ (patches : List Patch). ArePassed c.args.rows.now lines 0 patches 0
+          c.copy_from_slice.new.self.items)
+          (sym c.new-patches.ensures)
+          (none_passed c.args.rows.now lines c.copy_from_slice.new.self.items),
+    )
 
 pub overflow_add-stays : goal.overflow_add-stays
 overflow_add-stays c =
@@ -28,6 +31,34 @@ overflow_add-stays c =
       number_within lengths c.loop-i.i 0 (omega (arith, c.loop-i-test.true, c.requires.lengths)),
     )
 
+pub loop-i-preserved-then-not-changed-i : goal.loop-i-preserved-then-not-changed-i
+loop-i-preserved-then-not-changed-i c =
+    let rows = c.args.rows.now in
+    let lengths : List ℕ = c.args.lengths.now in
+    let renewed : List ℕ = c.loop-i.renewed.items in
+    let i : ℕ = c.loop-i.i in
+    let as_many : length renewed ≡ length rows = c.loop-i.invariant.0 in
+    let stands : get_or renewed i 0 ≡ get_or lengths i 0 =
+    c.loop-i.invariant.3 i (omega arith) in (
+      as_many,
+      omega (
+        arith,
+        c.loop-i.invariant.1,
+        stands,
+        sum_more renewed i 0 (omega (arith, c.loop-i-test.true, as_many)),
+      ),
+      omega (
+        arith,
+        c.loop-i.invariant.2,
+        sum_more lengths i 0 (omega (arith, c.loop-i-test.true, c.requires.lengths)),
+      ),
+      λ k past. c.loop-i.invariant.3 k (omega (arith, past)),
+      λ lines are those.
+          passed_as_it_is rows c.args.changed.now lines are lengths those i c.index-rows-i.result
+          c.loop-i-test.true c.index-rows-i.is c.loop-i.patches c.loop-i.stays renewed as_many
+          (c.loop-i.invariant.4 lines are those) c.if-not-changed-i.true stands,
+    )
+
 pub loop-i-preserved : goal.loop-i-preserved
 loop-i-preserved c =
     let rows = c.args.rows.now in
@@ -35,55 +66,44 @@ loop-i-preserved c =
     let renewed : List ℕ = c.loop-i.renewed.items in
     let i : ℕ = c.loop-i.i in
     let as_many : length renewed ≡ length rows = c.loop-i.invariant.0 in
-    let in_lengths : i < length lengths = omega (arith, c.loop-i-test.true, c.requires.lengths) in (
-      length-set renewed i c.if-changed-i.length ∙ as_many,
+    let line : List ℕ = row_line c.index-rows-i.result in
+    let made : c.add.new.self ≡ c.loop-i.patches ++ a_patch c.loop-i.stays _ line ∷ [] =
+    c.in_ok-length.ensures.added in
+    let long : c.in_ok-length.length ≡ length line = c.in_ok-length.ensures.length in (
+      length-set renewed i c.in_ok-length.length ∙ as_many,
       omega (
         arith,
-        c.in-Some.ensures.1,
+        c.in_ok-room.ensures,
+        c.in_ok-sum.ensures,
         c.loop-i.invariant.1,
-        sum_set renewed i c.if-changed-i.length (omega (arith, c.loop-i-test.true, as_many)),
+        sum_set renewed i c.in_ok-length.length (omega (arith, c.loop-i-test.true, as_many)),
       ),
-      elim c.if-changed-i.branch [
-        | then-changed-i+in_ok-length w ↦ omega (arith, w.stays-is)
-        | else-changed-i w ↦ omega (
-          arith,
-          w.stays-is,
-          c.loop-i.invariant.2,
-          sum_more lengths i 0 in_lengths,
-        )
-      ],
-      λ lines are those. elim c.if-changed-i.branch [
-        | then-changed-i+in_ok-length w ↦
-            let line : List ℕ = row_line c.index-rows-i.result in
-            let made : c.if-changed-i.patches ≡ c.loop-i.patches ++ a_patch c.loop-i.stays _ line ∷ [] =
-            w.patches-is ∙ w.in_ok-length.ensures.added in
-            let long : c.if-changed-i.length ≡ length line =
-            w.length-is ∙ w.in_ok-length.ensures.length in
-            rw (made, long, w.stays-is)
-            (passed_as_changed rows c.args.changed.now lines are lengths those i c.index-rows-i.result
-            c.loop-i-test.true c.index-rows-i.is c.loop-i.patches c.loop-i.stays renewed as_many
-            (c.loop-i.invariant.3 lines are those))
-        | else-changed-i w ↦
-            rw (w.patches-is, w.length-is, w.stays-is)
-            (passed_as_it_is rows c.args.changed.now lines are lengths those i c.index-rows-i.result
-            c.loop-i-test.true c.index-rows-i.is c.loop-i.patches c.loop-i.stays renewed as_many
-            (c.loop-i.invariant.3 lines are those) w.if-changed-i.false)
-      ],
+      omega arith,
+      λ k past.
+          get_or-set_other renewed i k c.in_ok-length.length 0
+          (λ same. omega (arith, past, same))
+          ∙ c.loop-i.invariant.3 k (omega (arith, past)),
+      λ lines are those.
+          rw (made, long)
+          (passed_as_changed rows c.args.changed.now lines are lengths those i
+          c.index-rows-i.result c.loop-i-test.true c.index-rows-i.is c.loop-i.patches c.loop-i.stays
+          renewed as_many (c.loop-i.invariant.4 lines are those)),
     )
 
 pub returns-clause-patches : goal.returns-clause-patches
 returns-clause-patches c lines are those =
     all_made c.args.rows.now lines c.loop-i.i c.loop-i.patches c.loop-i.stays c.loop-i.renewed.items
-    (c.loop-i.invariant.3 lines are those) c.loop-i-test.false are.as_many
+    (c.loop-i.invariant.4 lines are those) c.loop-i-test.false are.as_many
 
 pub returns-clause-renewed : goal.returns-clause-renewed
 returns-clause-renewed c lines are those =
     all_lengths c.args.rows.now lines c.loop-i.i c.loop-i.patches c.loop-i.stays
-    c.loop-i.renewed.items (c.loop-i.invariant.3 lines are those) c.loop-i-test.false
+    c.loop-i.renewed.items (c.loop-i.invariant.4 lines are those) c.loop-i-test.false
     c.loop-i.invariant.0
 
 pub returns-clause-room : goal.returns-clause-room
 returns-clause-room c =
-    c.loop-i.invariant.1
+    c.in_ok-room-2.ensures
+    ∙ c.loop-i.invariant.1
     ∙ ap sum (take_all c.loop-i.i c.loop-i.renewed.items
     (omega (arith, c.loop-i-test.false, c.loop-i.invariant.0)))

@@ -1,4 +1,4 @@
-use Rattle.std.proofs.Common.{◌∙◌, [], List, ap, arith, length, replicate, true, ℕ}
+use Rattle.std.proofs.Common.{◌∙◌, [], List, ap, length, replicate, true, ℕ}
 use Rattle.std.proofs.lemmas.List.{length-replicate}
 use Rattle.pls_report.specs.inner.Lines.{counts_of}
 use Rattle.pls_report.proofs.Renewing.{all_changed}

@@ -1,5 +1,4 @@
 use Rattle.std.proofs.Common.{◌≡◌, ◌<◌, ◌∙◌, arith, length, sym}
-use Rattle.std.proofs.lemmas.List.{length-set}
 use Rattle.pls_report.specs.inner.Lines.{with_line}
 use Rattle.pls_report.proofs.Counts.{is_among, with_other}
 use Rattle.pls_report.proofs.Renewing.{row_changed}
