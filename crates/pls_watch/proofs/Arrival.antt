@@ -19,8 +19,8 @@ use Rattle.pls_watch.specs.inner.Held.{AreHeld, AreKept}
 use Rattle.pls_watch.proofs.More.{greatest_more, heard_held, held_more, with_one}
 use Rattle.pls_watch.proofs.Keep.{kept_quiet}
 
-module _ (rows : List NodeRow) (turns : List Turn) (versions sent ends holds : List ℕ)
-    (kept : AreKept rows turns versions sent ends holds) where
+module _ (rows : List NodeRow) (turns : List Turn) (versions sent holds : List ℕ)
+    (kept : AreKept rows turns versions sent holds) where
   abbrev net : IsNetwork rows
   net = kept.is_network
 
@@ -183,10 +183,10 @@ module _ (rows : List NodeRow) (turns : List Turn) (versions sent ends holds : L
             (kept.are_held k other neighbour most s
             (sym (elsewhere_held k other neighbour differs s) ∙ is))
 
-    pub kept_arrive : AreKept rows (turns ++ Plain (Arrive (suc at)) ∷ []) versions sent ends
+    pub kept_arrive : AreKept rows (turns ++ Plain (Arrive (suc at)) ∷ []) versions sent
         (set holds number now)
     kept_arrive =
-        kept_quiet rows turns versions sent ends holds kept (Arrive (suc at)) refl (
+        kept_quiet rows turns versions sent holds kept (Arrive (suc at)) refl (
           omega arith,
           omega (arith, few),
         ) (set holds number now)

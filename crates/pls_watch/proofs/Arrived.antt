@@ -1,11 +1,9 @@
 -- What is known of an emit that arrives.
-use Rattle.std.proofs.Common.{◌≡◌, ◌≢◌, ◌∙◌, ℕ, zero, suc, ◌<◌, ◌≤◌, ◌==◌, Bool, true, false, cond, max, nat_le, List, [], ◌∷◌, ◌++◌, length, get_or, set, position, Option, Some, None, is_none, is_some, slice_get, option_map, option_and_then, inl, inr, refl, sym, ap, subst, arith}
-use Rattle.std.specs.Option.{IfSome, option_map_or}
-use Rattle.std.proofs.lemmas.Bool.{cases_lt, eqb-true, le-leb, lt-leb}
+use Rattle.std.proofs.Common.{◌≡◌, ◌≢◌, ◌∙◌, ℕ, zero, suc, ◌<◌, ◌≤◌, ◌==◌, Bool, true, false, cond, max, List, [], ◌∷◌, ◌++◌, length, get_or, set, position, Option, Some, None, is_none, is_some, slice_get, refl, sym, ap, subst, arith}
+use Rattle.std.specs.Option.{IfSome}
+use Rattle.std.proofs.lemmas.Bool.{eqb-true, lt-leb}
 use Rattle.pls_configuration.specs.declared.row.Port.{Port}
-use Rattle.pls_graph.specs.Places.{beside}
-use Rattle.pls_sim.proofs.Ends.{beside_length, end_at}
-use Rattle.pls_sim.proofs.Refusing.{At, at_place, first_refusal, no_emit, place_within}
+use Rattle.pls_sim.proofs.Refusing.{no_emit}
 use Rattle.std.proofs.lemmas.Option.{slice_get_within}
 use Rattle.pls_configuration.specs.declared.row.NodeRow.{NodeRow}
 use Rattle.pls_configuration.specs.Configuration.{IsNetwork, first_of, ports_in}
@@ -13,20 +11,20 @@ use Rattle.pls_graph.proofs.Beside.{one_place}
 use Rattle.pls_graph.proofs.Finds.{item_at}
 use Rattle.pls_graph.proofs.Placed.{place_of_row}
 use Rattle.pls_schedule.specs.declared.event.Event.{Event}
-use Rattle.pls_schedule.specs.declared.event.Event.TheVariants.{Emit, Arrive}
+use Rattle.pls_schedule.specs.declared.event.Event.TheVariants.{Arrive}
 use Rattle.pls_sim.specs.declared.event_error.EventError.{EventError}
 use Rattle.pls_sim.specs.declared.event_error.EventError.TheVariants.{Full, NoEmit}
 use Rattle.pls_sim.specs.Schedule.{Sent, emit_number, emits_of, goes_to, has_heard}
-use Rattle.pls_sim.specs.Applying.{Played, event_refusal, is_full, names_no_emit, names_no_node, names_no_port, refused_if}
+use Rattle.pls_sim.specs.Applying.{Played, is_full, refused_if}
 use Rattle.pls_sim.specs.Arriving.{ArrivesAt}
-use Rattle.pls_sim.specs.Ways.{IsSlot}
+use Rattle.pls_sim.specs.Ways.{IsPlaceOf, IsSlot}
 use Rattle.pls_sim.proofs.Keeping.{few_sent}
 use Rattle.pls_sim.proofs.Numbering.{slot_within, value_at}
 use Rattle.pls_watch.specs.declared.turn.Turn.{Turn}
 use Rattle.pls_watch.specs.declared.turn.Turn.TheVariants.{Plain, Relabel}
 use Rattle.pls_watch.specs.Versions.{held, plain_of}
 use Rattle.pls_watch.specs.Turning.{Turned, refused_in, round_of, turn_refusal}
-use Rattle.pls_watch.specs.inner.Held.{AreBoth, AreKept, IsRound}
+use Rattle.pls_watch.specs.inner.Held.{AreKept, IsRound}
 use Rattle.pls_watch.specs.inner.Numbers.{AreNumbered, IsOneOf}
 use Rattle.pls_watch.proofs.More.{heard_held, many_carried}
 use Rattle.pls_watch.proofs.Arrival.{kept_arrive, older_held, other_held}
@@ -38,9 +36,9 @@ plain_few (Plain event ∷ turns) = omega (arith, plain_few turns)
 plain_few (Relabel node ∷ turns) = omega (arith, plain_few turns)
 
 -- no more is carried than there are turns
-pub few_carried : (rows : List NodeRow) (turns : List Turn) (versions sent ends holds : List ℕ)
-    → AreKept rows turns versions sent ends holds → length sent ≤ length turns
-few_carried rows turns versions sent ends holds kept =
+pub few_carried : (rows : List NodeRow) (turns : List Turn) (versions sent holds : List ℕ)
+    → AreKept rows turns versions sent holds → length sent ≤ length turns
+few_carried rows turns versions sent holds kept =
     omega (
       arith,
       ap length kept.are_carried,
@@ -61,8 +59,13 @@ by_round turned turn room =
     by None = refl
     by (Some error) = refl
 
-module _ (rows : List NodeRow) (turns : List Turn) (versions sent ends holds : List ℕ)
-    (kept : AreKept rows turns versions sent ends holds) (most : ℕ) (played : Played)
+-- where there is room for a turn, there is room in the round
+pub room_in_round : (turned : Turned) → length turned.turns < turned.most
+    → length (plain_of turned.turns) < turned.most
+room_in_round turned room = omega (arith, room, plain_few turned.turns)
+
+module _ (rows : List NodeRow) (turns : List Turn) (versions sent holds : List ℕ)
+    (kept : AreKept rows turns versions sent holds) (most : ℕ) (played : Played)
     (round : IsRound rows most turns played) (number : ℕ) (few : number ≤ length sent) where
   abbrev emits : List Sent
   emits = emits_of (plain_of turns)
@@ -93,31 +96,33 @@ module _ (rows : List NodeRow) (turns : List Turn) (versions sent ends holds : L
       pub at_within : at < ports_in rows
       at_within = slot_within rows at to.0 one.0.node to.2
 
-      module _ (end : ℕ) (end_is : end ≡ get_or ends place end) where
-        here : get_or ends place 0 ≡ end
-        here = value_at ends place end (omega (arith, is, few, kept.each_emit)) end_is
-
-        row : (row : NodeRow) × (slice_get rows (get_or ends place 0) ≡ Some row) × (row.id ≡ to.0)
-        row = kept.are_ends place to.0 one.0 one.1 to.1
+      module _ (end : ℕ) (end_is : (node neighbour : ℕ) → IsSlot played.network at node neighbour
+          → IsPlaceOf played.network node end) where
+        receiver : IsPlaceOf rows to.0 end
+        receiver =
+            subst (λ (rows : List NodeRow). IsPlaceOf rows to.0 end) round.network
+            (end_is to.0 one.0.node
+            (subst (λ (rows : List NodeRow). IsSlot rows at to.0 one.0.node) (sym round.network)
+            to.2))
 
         pub end_within : end < length rows
-        end_within = omega (arith, here, slice_get_within rows (get_or ends place 0) row.0 row.1)
+        end_within = slice_get_within rows end receiver.row receiver.stands
 
         module _ (heard : Bool) (heard_is : (row : NodeRow) (neighbour : ℕ)
             → slice_get played.network end ≡ Some row → IsSlot played.network at row.id neighbour
             → heard ≡ has_heard played.network played.events row.id neighbour) where
           heard_here : heard ≡ has_heard rows (plain_of turns) to.0 one.0.node
           heard_here =
-              heard_is row.0 one.0.node
-              (ap (λ (rows : List NodeRow). slice_get rows end) round.network
-              ∙ ap (slice_get rows) (sym here) ∙ row.1)
-              (subst (λ (rows : List NodeRow). IsSlot rows at row.0.id one.0.node) (sym
-              round.network)
-              (subst (λ (id : ℕ). IsSlot rows at id one.0.node) (sym row.2) to.2))
-              ∙ ap (λ (rows : List NodeRow). has_heard rows played.events row.0.id one.0.node)
+              heard_is receiver.row one.0.node
+              (ap (λ (rows : List NodeRow). slice_get rows end) round.network ∙ receiver.stands)
+              (subst (λ (rows : List NodeRow). IsSlot rows at receiver.row.id one.0.node)
+              (sym round.network)
+              (subst (λ (id : ℕ). IsSlot rows at id one.0.node) (sym receiver.is) to.2))
+              ∙ ap (λ (rows : List NodeRow). has_heard rows played.events receiver.row.id one.0.node)
               round.network
-              ∙ ap (λ (events : List Event). has_heard rows events row.0.id one.0.node) round.events
-              ∙ ap (λ (id : ℕ). has_heard rows (plain_of turns) id one.0.node) row.2
+              ∙ ap (λ (events : List Event). has_heard rows events receiver.row.id one.0.node)
+              round.events
+              ∙ ap (λ (id : ℕ). has_heard rows (plain_of turns) id one.0.node) receiver.is
 
           -- what a node holds that is not the one where it arrives
           pub held_elsewhere : (i : ℕ) (other : NodeRow) (neighbour : ℕ)
@@ -126,10 +131,10 @@ module _ (rows : List NodeRow) (turns : List Turn) (versions sent ends holds : L
               ≡ held rows turns other.id neighbour
           held_elsewhere i other neighbour stands differs =
               rw is
-              (other_held rows turns versions sent ends holds kept place one.0 one.1 to.0 at to.1
+              (other_held rows turns versions sent holds kept place one.0 one.1 to.0 at to.1
               to.2 heard heard_here (omega (arith, at_within, kept.each_port)) neighbour other.id
-              (λ same. differs (one_place rows kept.is_network end i row.0 other
-              (ap (slice_get rows) (sym here) ∙ row.1) stands (row.2 ∙ same))))
+              (λ same. differs (one_place rows kept.is_network end i receiver.row other
+              receiver.stands stands (receiver.is ∙ same))))
 
           -- and what all nodes hold where it is no newer
           pub held_still : heard ≡ true → (old came : ℕ) → came ≤ old → old ≡ get_or holds at old
@@ -141,21 +146,21 @@ module _ (rows : List NodeRow) (turns : List Turn) (versions sent ends holds : L
               let old_here = value_at holds at old within old_is in
               let came_here = value_at sent place came (omega (arith, is, few)) came_is in
               rw is
-              (older_held rows turns versions sent ends holds kept place one.0 one.1 to.0 at to.1
+              (older_held rows turns versions sent holds kept place one.0 one.1 to.0 at to.1
               to.2 heard heard_here within has (omega (arith, older, old_here, came_here))
               neighbour node)
 
           pub kept_now : (old came now : ℕ) → old ≡ get_or holds at old → came ≡ get_or sent place
               came
               → now ≡ cond heard (max old came) came
-              → AreKept rows (turns ++ Plain (Arrive number) ∷ []) versions sent ends (set holds at
+              → AreKept rows (turns ++ Plain (Arrive number) ∷ []) versions sent (set holds at
               now)
           kept_now old came now old_is came_is now_is =
               let within : at < length holds = omega (arith, at_within, kept.each_port) in
               let old_here = value_at holds at old within old_is in
               let came_here = value_at sent place came (omega (arith, is, few)) came_is in
               rw (is, now_is, ← old_here, ← came_here)
-              (kept_arrive rows turns versions sent ends holds kept place one.0 one.1 to.0 at to.1
+              (kept_arrive rows turns versions sent holds kept place one.0 one.1 to.0 at to.1
               to.2
               heard heard_here within)
 
@@ -182,7 +187,7 @@ module _ (rows : List NodeRow) (turns : List Turn) (versions sent ends holds : L
               rw is
               (numbered_arrive rows turns newest_labels carried_labels held_labels earlier are
               versions
-              sent ends holds kept place one.0 one.1 to.0 at to.1 to.2 heard heard_here within
+              sent holds kept place one.0 one.1 to.0 at to.1 to.2 heard heard_here within
               version label
               (rw (old_here, came_here) version_is)
               (rw (old_here, old_label_here, came_here, came_label_here) one_of))
@@ -190,61 +195,6 @@ module _ (rows : List NodeRow) (turns : List Turn) (versions sent ends holds : L
 -- what cannot be proves anything
 pub never : (P : Type 0) → true ≡ false → P
 never P e = absurd (cc)
-
-below : (n m : ℕ) → nat_le n m ≡ false → m < n
-below n m over = elim (cases_lt m n) [
-  | inl under ↦ under
-  | inr past ↦ never (m < n) (sym (le-leb n m past) ∙ over)
-]
-
--- an event that is not refused names a node and a port
-passes : (full node port emit : Bool) → first_refusal full node port emit ≡ None
-    → (node ≡ false) × (port ≡ false)
-passes true node port emit none = absurd (cc)
-passes false true port emit none = absurd (cc)
-passes false false true emit none = absurd (cc)
-passes false false false emit none = (refl, refl)
-
-pub names : (rows : List NodeRow) (played : Played) → played.network ≡ rows → (event : Event)
-    → event_refusal played event ≡ None
-    → (names_no_node rows event ≡ false) × (names_no_port rows event ≡ false)
-names rows played network event none =
-    let both = passes (is_full played) (names_no_node played.network event)
-    (names_no_port played.network event) (names_no_emit played.events event) none in (
-      ap (λ (rows : List NodeRow). names_no_node rows event) (sym network) ∙ both.0,
-      ap (λ (rows : List NodeRow). names_no_port rows event) (sym network) ∙ both.1,
-    )
-
--- the ends of an emit
-module _ (rows : List NodeRow) (net : IsNetwork rows) (node port place : ℕ)
-    (found : position (λ row. node == row.id) rows ≡ Some place)
-    (has_port : names_no_port rows (Emit node port) ≡ false) where
-  at : At rows node place
-  at = at_place rows net node place (place_within rows node place found) found
-
-  within : port < length at.row.ports
-  within = below (length at.row.ports) port
-      (ap (λ (o : Option NodeRow). option_map_or (λ (row : NodeRow). nat_le (length row.ports)
-      port) o false)
-      (sym at.found) ∙ has_port)
-
-  pub beside_within : port < length (beside rows place)
-  beside_within = omega (arith, within, beside_length rows net place at.row at.stands)
-
-  pub both_ends : AreBoth rows node port place (get_or (beside rows place) port 0)
-  both_ends =
-      let end = end_at rows net place port at.row at.stands within in record {
-        row = at.row;
-        other = end.other;
-        stands = at.stands;
-        is = at.is;
-        there = end.there;
-        goes =
-            ap (λ (o : Option NodeRow). option_map (λ (port : Port). port.nbr)
-            (option_and_then (λ (row : NodeRow). slice_get row.ports port) o)) at.found
-            ∙ ap (option_map (λ (port : Port). port.nbr)) end.has
-            ∙ ap Some end.leads;
-      }
 
 -- a node and its port by their numbers
 pub port_there : (rows : List NodeRow) (i p : ℕ) → i < length rows
@@ -257,8 +207,8 @@ port_there rows i p inside few =
     (subst (λ o. IfSome o (λ (row : NodeRow). p < length row.ports)) row.1 few) in
     (row.0, port.0, row.1, port.1)
 
-module _ (rows : List NodeRow) (turns : List Turn) (versions sent ends holds : List ℕ)
-    (kept : AreKept rows turns versions sent ends holds) (most : ℕ) (played : Played)
+module _ (rows : List NodeRow) (turns : List Turn) (versions sent holds : List ℕ)
+    (kept : AreKept rows turns versions sent holds) (most : ℕ) (played : Played)
     (round : IsRound rows most turns played) (node neighbour : ℕ) (heard : Bool)
     (is : heard ≡ has_heard played.network played.events node neighbour) where
   heard_some : heard ≡ is_some (held rows turns node neighbour)

@@ -1,26 +1,32 @@
 -- The rows of the last look, as events come and as they are renewed.
-use Rattle.std.proofs.Common.{◌≡◌, ◌≢◌, ◌∙◌, ℕ, suc, ◌+◌, ◌<◌, ◌≤◌, ◌==◌, Bool, true, false, List, [], ◌∷◌, length, replicate, get_or, set, Option, Some, slice_get, option_map, refl, sym, ap, subst, arith}
-use Rattle.std.proofs.lemmas.Bool.{eqb-true, eqb-false}
+use Rattle.std.proofs.Common.{◌≡◌, ◌≢◌, ◌∙◌, ℕ, suc, ◌+◌, ◌<◌, ◌≤◌, Bool, true, false, List, [], ◌∷◌, inl, inr, nat_le, length, replicate, get_or, set, Option, None, Some, slice_get, option_map, refl, sym, ap, subst, arith}
+use Rattle.std.specs.Option.{is_none}
+use Rattle.std.proofs.lemmas.Bool.{eq-eqb}
 use Rattle.std.proofs.lemmas.List.{length-map, length-replicate, length-set}
 use Rattle.std.proofs.lemmas.Option.{same_Some, slice_get-map, slice_get-get_or, slice_get_within}
 use Rattle.pls_configuration.specs.declared.row.Port.{Port}
 use Rattle.pls_configuration.specs.declared.row.NodeRow.{NodeRow}
 use Rattle.pls_configuration.specs.declared.verdict.Verdict.{Verdict}
-use Rattle.pls_configuration.specs.Configuration.{IsNetwork}
+use Rattle.pls_configuration.specs.Configuration.{IsNetwork, first_of, row_of}
 use Rattle.pls_graph.specs.Places.{beside}
 use Rattle.pls_graph.proofs.Finds.{item_at}
+use Rattle.pls_graph.proofs.Placed.{row_place}
 use Rattle.pls_labels.specs.Seen.{Seen}
 use Rattle.pls_sim.specs.declared.outcome.Outcome.{Outcome}
+use Rattle.pls_sim.specs.declared.event_error.EventError.TheVariants.{Full, NoNode}
+use Rattle.pls_sim.specs.Applying.{refused_if}
+use Rattle.pls_sim.proofs.Refusing.{At}
 use Rattle.pls_watch_part.specs.declared.watch_event.WatchEvent.{WatchEvent}
 use Rattle.pls_watch_part.specs.declared.watch_event.WatchEvent.TheVariants as Watches
+use Rattle.pls_watch.specs.declared.turn.Turn.{Turn}
 use Rattle.pls_watch.specs.declared.change.Change.{Change}
 use Rattle.pls_watch.specs.declared.change.Change.TheVariants.{Nothing, Beside, Label}
 use Rattle.pls_watch.specs.Labelled.{turn_of, turns_of}
 use Rattle.pls_watch.specs.Versions.{relabels}
-use Rattle.pls_watch.specs.Watching.{Watched, look_of, stale_in, outcome_in, watching}
-use Rattle.pls_watch.specs.inner.Current.{IsCurrent, IsNoted, IsRenewed, KnowsSame, is_relabel, keeps_outcome, look_row}
-use Rattle.pls_watch.proofs.Noted.{beside_back, quiet_at, set_elsewhere, set_here}
-use Rattle.pls_watch.proofs.Staying.{outcome_stays, stale_stays}
+use Rattle.pls_watch.specs.Watching.{Watched, lacks_room, look_of, outcome_in, stale_in, watch_refusal, watching}
+use Rattle.pls_watch.specs.inner.Current.{AreLabelsNoted, AreLastNoted, IsCurrent, IsNoted, IsRenewed, KnowsSame, holds_last, holds_newest, is_relabel, keeps_outcome, look_row}
+use Rattle.pls_watch.proofs.Noted.{Back, at_place, quiet_at, set_elsewhere, set_here, way_back}
+use Rattle.pls_watch.proofs.Staying.{last_held, newest_behind, outcome_stays, stale_stays}
 use Rattle.pls_watch.proofs.Table.{other_at}
 
 -- lists with the same items are the same
@@ -74,7 +80,7 @@ module _ (judge : Seen → Verdict) (watched : Watched) where
     all = long;
     outcomes = λ i row change stands at keeps. (stale_in watched row, now i row stands);
     stales = λ i row stands quiet. now i row stands;
-    labels = λ place label.
+    labels = λ place p row at label stands has quiet.
         let no : Label ≡ Nothing =
         quiet_at (length shown) place Label
         (ap (λ (changes : List Change). slice_get changes place) (sym none) ∙ label) in
@@ -94,13 +100,6 @@ module _ (judge : Seen → Verdict) (watched : Watched) where
   -- one row more is renewed
   module _ (place : ℕ) (old new : List (ℕ × Outcome × List ℕ))
       (renewed : IsRenewed judge watched place old new) where
-    at_place : {P : Type 0} (i : ℕ) → (i ≡ place → P) → (i ≢ place → P) → P
-    at_place {P} i here there = by (i == place) refl
-      where
-        by : (b : Bool) → (i == place) ≡ b → P
-        by true is = here (eqb-true i place is)
-        by false is = there (eqb-false i place is)
-
     here_now : (i : ℕ) (row : NodeRow) → i ≡ place → slice_get rows i ≡ Some row
         → slice_get new i ≡ Some (look_row judge watched row)
     here_now i row same stands =
@@ -108,7 +107,7 @@ module _ (judge : Seen → Verdict) (watched : Watched) where
 
     pub renewed_now : AreNow place old → AreNow (place + 1) new
     renewed_now are i row within stands =
-        at_place i (λ same. here_now i row same stands)
+        at_place i place (λ same. here_now i row same stands)
         (λ differs. renewed.others i differs ∙ are i row (omega (arith, within, differs)) stands)
 
     pub renewed_current : (changes : List Change) → IsCurrent judge watched changes old
@@ -116,11 +115,11 @@ module _ (judge : Seen → Verdict) (watched : Watched) where
     renewed_current changes current = record {
       each = current.each;
       all = renewed.as_many ∙ current.all;
-      outcomes = λ i row change stands at keeps. at_place i
+      outcomes = λ i row change stands at keeps. at_place i place
           (λ same. (stale_in watched row, here_now i row same stands))
           (λ differs. let was = current.outcomes i row change stands at keeps in
           (was.0, renewed.others i differs ∙ was.1));
-      stales = λ i row stands quiet. at_place i (λ same. here_now i row same stands)
+      stales = λ i row stands quiet. at_place i place (λ same. here_now i row same stands)
           (λ differs. renewed.others i differs ∙ current.stales i row stands quiet);
       labels = current.labels;
     }
@@ -189,15 +188,46 @@ pub change_here : (changes : List Change) (place : ℕ) (read change : Change)
 change_here changes place read change within at is =
     slice_get-get_or changes place read within ∙ ap Some (sym at ∙ is)
 
+-- the place is this one where it is no other
+is_place : (o : Option ℕ) (i : ℕ) → (o ≢ Some i → ⊥) → o ≡ Some i
+is_place None i not = absurd (not (λ same. absurd (cc)))
+is_place (Some place) i not =
+    at_place place i (λ same. ap Some same)
+    (λ differs. absurd (not (λ same. differs (same_Some place i same))))
+
+-- an event that gives a node a label is a relabel
+gives_label : (event : WatchEvent) (node : ℕ) → relabels node (turn_of event) ≡ true
+    → is_relabel event ≡ true
+gives_label (Watches.Emit other port) node gives = absurd (cc)
+gives_label (Watches.Arrive number) node gives = absurd (cc)
+gives_label (Watches.Restart other) node gives = absurd (cc)
+gives_label (Watches.Relabel other bits) node gives = refl
+
+-- a relabel that applies names a node
+names_node : (lacks full : Bool) (o : Option NodeRow)
+    → first_of (refused_if lacks Full ∷ first_of (refused_if full Full
+    ∷ refused_if (is_none o) NoNode ∷ []) ∷ []) ≡ None → (row : NodeRow) × (o ≡ Some row)
+names_node true full o none = absurd (cc)
+names_node false true o none = absurd (cc)
+names_node false false None none = absurd (cc)
+names_node false false (Some row) none = (row, refl)
+
 -- after an event the rows are current where what it changes is noted
 module _ (judge : Seen → Verdict) (watched : Watched) (event : WatchEvent) (place : Option ℕ)
-    (valid : IsNetwork watched.network) (old new : List Change)
-    (shown : List (ℕ × Outcome × List ℕ)) (current : IsCurrent judge watched old shown)
-    (noted : IsNoted watched.network event place old new)
+    (valid : IsNetwork watched.network) (applies : watch_refusal watched event ≡ None)
+    (old new : List Change) (shown : List (ℕ × Outcome × List ℕ))
+    (current : IsCurrent judge watched old shown)
+    (noted : IsNoted (watching event watched) event place old new)
     (knows : (i : ℕ) (row : NodeRow) → slice_get watched.network i ≡ Some row → place ≢ Some i
     → KnowsSame watched event row.id) where
   abbrev net : List NodeRow
   net = watched.network
+
+  abbrev turns : List Turn
+  turns = turns_of watched.events
+
+  abbrev later : List Turn
+  later = turns_of (watching event watched).events
 
   -- of which outcomes stay, the event changes nothing for
   place_differs : (i : ℕ) (change : Change) → slice_get new i ≡ Some change
@@ -208,30 +238,96 @@ module _ (judge : Seen → Verdict) (watched : Watched) (event : WatchEvent) (pl
       let no : false ≡ true = sym here.2 ∙ ap keeps_outcome is ∙ keeps in
       absurd (cc)
 
-  -- no neighbour of a node of which nothing changed gets a label by the event
+  -- the node that gets a label stands at the place
+  given_here : (i : ℕ) (row : NodeRow) → slice_get net i ≡ Some row
+      → relabels row.id (turn_of event) ≡ true → place ≡ Some i
+  given_here i row stands gives = is_place place i
+      (λ differs. let no : true ≡ false = sym gives ∙ (knows i row stands differs).stays in
+      absurd (cc))
+
+  gives_there : (i : ℕ) (row : NodeRow) → slice_get net i ≡ Some row → is_relabel event ≡ true
+      → place ≡ Some i → relabels row.id (turn_of event) ≡ true
+  gives_there i row stands given same = of event refl given
+    where
+      of : (one : WatchEvent) → event ≡ one → is_relabel one ≡ true
+          → relabels row.id (turn_of event) ≡ true
+      of (Watches.Emit node port) is relabel = absurd (cc)
+      of (Watches.Arrive number) is relabel = absurd (cc)
+      of (Watches.Restart node) is relabel = absurd (cc)
+      of (Watches.Relabel node bits) is relabel =
+          let named = names_node (lacks_room watched (Watches.Relabel node bits))
+          (nat_le watched.most (length turns)) (row_of net node)
+          (ap (watch_refusal watched) (sym is) ∙ applies) in
+          let found = row_place net valid node named.0 named.1 in
+          let gives : relabels named.0.id (turn_of event) ≡ true =
+          ap (λ (event : WatchEvent). relabels named.0.id (turn_of event)) is
+          ∙ eq-eqb node named.0.id found.2 in
+          let here : found.0 ≡ i =
+          same_Some found.0 i (sym (given_here found.0 named.0 found.1 gives) ∙ same) in
+          let own : named.0 ≡ row =
+          same_Some named.0 row (sym found.1 ∙ ap (slice_get net) here ∙ stands) in
+          ap (λ (row : NodeRow). relabels row.id (turn_of event)) (sym own) ∙ gives
+
+  -- a node of which nothing changed did not hold the label that was the newest before
   module _ (i : ℕ) (row : NodeRow) (stands : slice_get net i ≡ Some row)
       (quiet : slice_get new i ≡ Some Nothing) where
-    beside_quiet : (p : ℕ) (at : Port) → slice_get row.ports p ≡ Some at
-        → relabels at.nbr (turn_of event) ≡ false
-    beside_quiet p at has = of event refl
+    behind : (p : ℕ) (at : Port) → slice_get row.ports p ≡ Some at
+        → relabels at.nbr (turn_of event) ≡ true → holds_newest net turns row.id at.nbr ≡ false
+    behind p at has gives = elim (noted.around there (gives_label event at.nbr gives) is) [
+      | inl label ↦
+          subst (λ (nbr : ℕ). holds_newest net turns row.id nbr ≡ false) back.is
+          (subst (λ (id : ℕ). holds_newest net turns id back.other.id ≡ false) back.leads
+          (current.labels there back.q back.other back.port label back.stands back.has
+          (ap (slice_get old) back.home ∙ noted.more.nothing i quiet)))
+      | inr all ↦ by (holds_newest net turns row.id at.nbr) refl all
+    ]
       where
         there : ℕ
         there = get_or (beside net i) p 0
 
-        differs : is_relabel event ≡ true → place ≢ Some there
-        differs given same =
-            let back = beside_back net valid i p row at stands has in
-            noted.labels there (noted.own there given same) back.0 i back.1 quiet
+        back : Back net i p row at
+        back = way_back net valid i p row at stands has
 
-        of : (one : WatchEvent) → event ≡ one → relabels at.nbr (turn_of one) ≡ false
-        of (Watches.Emit node port) is = refl
-        of (Watches.Arrive number) is = refl
-        of (Watches.Restart node) is = refl
-        of (Watches.Relabel node bits) is =
-            let other = other_at net valid (turns_of watched.events) i row stands p at has in
-            let same = knows there other.row other.stands (differs (ap is_relabel is)) in
-            ap (λ (event : WatchEvent). relabels at.nbr (turn_of event)) (sym is)
-            ∙ ap (λ (node : ℕ). relabels node (turn_of event)) (sym other.is) ∙ same.stays
+        is : place ≡ Some there
+        is = given_here there back.other back.stands
+            (ap (λ (node : ℕ). relabels node (turn_of event)) back.is ∙ gives)
+
+        by : (b : Bool) → holds_newest net turns row.id at.nbr ≡ b
+            → AreLastNoted (watching event watched) new there → b ≡ false
+        by false is_newest all = refl
+        by true is_newest all =
+            let same = knows i row stands (place_differs i Nothing quiet refl) in
+            absurd (all back.other back.q back.port back.stands back.has
+            (subst (λ (nbr : ℕ). holds_last net later back.port.nbr nbr ≡ true) (sym back.is)
+            (subst (λ (id : ℕ). holds_last net later id at.nbr ≡ true) (sym back.leads)
+            (last_held watched event row same at.nbr gives is_newest)))
+            (ap (slice_get new) back.home ∙ quiet))
+
+  -- beside a label that is noted nothing is fresh of which nothing changed
+  labels_next : AreLabelsNoted (watching event watched) new
+  labels_next i p row at label stands has quiet =
+      subst (λ (id : ℕ). holds_newest net later id row.id ≡ false) other.is
+      (newest_behind watched event other.row same row.id before)
+    where
+      there : ℕ
+      there = get_or (beside net i) p 0
+
+      other : At net at.nbr there
+      other = other_at net valid turns i row stands p at has
+
+      same : KnowsSame watched event other.row.id
+      same = knows there other.row other.stands (place_differs there Nothing quiet refl)
+
+      before : relabels row.id (turn_of event) ≡ false
+          → holds_newest net turns other.row.id row.id ≡ false
+      before unlabelled = elim (noted.labels i label) [
+        | inl was ↦
+            subst (λ (id : ℕ). holds_newest net turns id row.id ≡ false) (sym other.is)
+            (current.labels i p row at was stands has (noted.more.nothing there quiet))
+        | inr given ↦
+            let no : false ≡ true =
+            sym unlabelled ∙ gives_there i row stands given.0 given.1 in absurd (cc)
+      ]
 
   pub current_next : IsCurrent judge (watching event watched) new shown
   current_next = record {
@@ -248,8 +344,8 @@ module _ (judge : Seen → Verdict) (watched : Watched) (event : WatchEvent) (pl
     stales = λ i row stands quiet.
         let same = knows i row stands (place_differs i Nothing quiet refl) in
         let outcome = outcome_stays watched event row same judge in
-        let stale = stale_stays watched event row same (beside_quiet i row stands quiet) in
+        let stale = stale_stays watched event row same (behind i row stands quiet) in
         current.stales i row stands (noted.more.nothing i quiet)
         ∙ (λ k. Some (row.id, sym outcome k, sym stale k));
-    labels = noted.labels;
+    labels = labels_next;
   }

@@ -1,38 +1,36 @@
 -- What is kept after one more turn.
-use Rattle.std.proofs.Common.{◌≡◌, ◌≢◌, ◌∙◌, ℕ, zero, suc, ◌+◌, ◌<◌, Bool, true, false, ◌==◌, cond, List, [], ◌∷◌, ◌++◌, length, replicate, get_or, set, Some, slice_get, refl, sym, ap, subst, arith, append-nil, length-append, inl, inr}
+use Rattle.std.proofs.Common.{◌≡◌, ◌≢◌, ◌∙◌, ℕ, zero, suc, ◌+◌, ◌<◌, Bool, true, false, ◌==◌, cond, List, [], ◌∷◌, ◌++◌, length, replicate, get_or, set, Some, slice_get, refl, sym, ap, arith, append-nil, length-append}
 use Rattle.std.specs.List.{AllByRecursion}
-use Rattle.std.proofs.lemmas.Bool.{cases_lt, eqb-true, eqb-false}
-use Rattle.std.proofs.lemmas.List.{get_or-set_same, get_or-set_other, get_or_append_left, length-replicate, length-set}
-use Rattle.std.proofs.lemmas.Option.{same_Some, slice_get_within, get_or_from_slice_get}
-use Rattle.std.proofs.Math.Seq.{get_or-append_seam}
+use Rattle.std.proofs.lemmas.Bool.{eqb-true, eqb-false}
+use Rattle.std.proofs.lemmas.List.{get_or-set_same, get_or-set_other, length-replicate, length-set}
+use Rattle.std.proofs.lemmas.Option.{same_Some, slice_get_within}
 use Rattle.pls_configuration.specs.declared.row.NodeRow.{NodeRow}
 use Rattle.pls_configuration.specs.Configuration.{IsNetwork, ports_in}
 use Rattle.pls_graph.proofs.Beside.{one_place}
 use Rattle.pls_schedule.specs.declared.event.Event.{Event}
 use Rattle.pls_schedule.specs.declared.event.Event.TheVariants.{Emit, Restart}
-use Rattle.pls_sim.specs.Schedule.{Sent, emits_of, goes, goes_to, sent_by}
+use Rattle.pls_sim.specs.Schedule.{Sent, emits_of, sent_by}
 use Rattle.pls_sim.specs.Applying.{Played, taking}
 use Rattle.pls_sim.specs.inner.Kept.{NamesEmit}
-use Rattle.pls_sim.proofs.Heard.{get_kept}
+use Rattle.pls_sim.specs.Ways.{IsPlaceOf}
 use Rattle.pls_sim.proofs.Keeping.{one_numbered}
 use Rattle.pls_watch.specs.declared.turn.Turn.{Turn}
 use Rattle.pls_watch.specs.declared.turn.Turn.TheVariants.{Plain, Relabel}
 use Rattle.pls_watch.specs.Versions.{carried, newest, plain_of}
-use Rattle.pls_watch.specs.inner.Held.{AreBoth, AreEnds, AreHeld, AreKept, AreNewest, IsRound, Rooms}
-use Rattle.pls_watch.proofs.More.{before_emit, before_restart, carried_more, carried_quiet, emits_plain, held_relabel, many_carried, newest_more, plain_more}
+use Rattle.pls_watch.specs.inner.Held.{AreHeld, AreKept, AreNewest, IsRound, Rooms}
+use Rattle.pls_watch.proofs.More.{before_emit, before_restart, carried_more, carried_quiet, emits_plain, held_relabel, newest_more, plain_more}
 
 turns_more : (turns : List Turn) (turn : Turn) → length (turns ++ turn ∷ []) ≡ length turns + 1
 turns_more turns turn = length-append turns (turn ∷ [])
 
 -- there is room for the next turn
-pub rooms_more : (most turn_room sent_room end_room : ℕ) (turns : List Turn) (turn : Turn)
-    → length turns < most → Rooms most turns turn_room sent_room end_room
-    → Rooms most (turns ++ turn ∷ []) turn_room sent_room end_room
-rooms_more most turn_room sent_room end_room turns turn before has = record {
+pub rooms_more : (most turn_room sent_room : ℕ) (turns : List Turn) (turn : Turn)
+    → length turns < most → Rooms most turns turn_room sent_room
+    → Rooms most (turns ++ turn ∷ []) turn_room sent_room
+rooms_more most turn_room sent_room turns turn before has = record {
   few = omega (arith, before, turns_more turns turn);
   for_turns = has.for_turns;
   for_sent = has.for_sent;
-  for_ends = has.for_ends;
 }
 
 -- the round after one more event
@@ -58,7 +56,7 @@ round_relabel rows most turns node played round = record {
 }
 
 module _ (rows : List NodeRow) (turns : List Turn)
-    (versions sent ends holds : List ℕ) (kept : AreKept rows turns versions sent ends holds) where
+    (versions sent holds : List ℕ) (kept : AreKept rows turns versions sent holds) where
   abbrev net : IsNetwork rows
   net = kept.is_network
 
@@ -90,16 +88,13 @@ module _ (rows : List NodeRow) (turns : List Turn)
     same : emits ++ sent_by event ≡ emits
     same = ap (λ (last : List Sent). emits ++ last) none ∙ append-nil emits
 
-    pub kept_quiet : AreKept rows (turns ++ Plain event ∷ []) versions sent ends now
+    pub kept_quiet : AreKept rows (turns ++ Plain event ∷ []) versions sent now
     kept_quiet = record {
       is_network = net;
       numbered = numbered_now event (rw same few);
       each_node = kept.each_node;
       are_newest = newest_now event;
       are_carried = kept.are_carried ∙ sym (carried_quiet turns event none);
-      each_emit = kept.each_emit;
-      are_ends = subst (λ (emits : List Sent). AreEnds rows emits ends)
-          (sym (emits_now event ∙ same)) kept.are_ends;
       each_port = long ∙ kept.each_port;
       are_held = are;
     }
@@ -111,14 +106,14 @@ module _ (rows : List NodeRow) (turns : List Turn)
       (before_restart rows turns node other neighbour version kept.numbered is)
 
   pub kept_restart : (node : ℕ) → AreKept rows (turns ++ Plain (Restart node) ∷ []) versions sent
-      ends holds
+      holds
   kept_restart node = kept_quiet (Restart node) refl tt holds refl (held_restart node)
 
   -- after a relabel
   pub kept_relabel : (node place : ℕ) (row : NodeRow) → slice_get rows place ≡ Some row
       → row.id ≡ node
       → AreKept rows (turns ++ Relabel node ∷ []) (set versions place (get_or versions place 0 + 1))
-      sent ends holds
+      sent holds
   kept_relabel node place row at is =
       let same : plain_of (turns ++ Relabel node ∷ []) ≡ plain_of turns =
       plain_more turns (Relabel node) ∙ append-nil (plain_of turns) in record {
@@ -128,9 +123,6 @@ module _ (rows : List NodeRow) (turns : List Turn)
         are_newest = newest_now;
         are_carried = kept.are_carried
             ∙ sym (carried_more turns (Relabel node) ∙ append-nil (carried turns));
-        each_emit = kept.each_emit;
-        are_ends = subst (λ (events : List Event). AreEnds rows (emits_of events) ends) (sym same)
-            kept.are_ends;
         each_port = kept.each_port;
         are_held = λ number other neighbour version s is.
             kept.are_held number other neighbour version s
@@ -162,60 +154,15 @@ module _ (rows : List NodeRow) (turns : List Turn)
               (kept.are_newest i other there ∙ omega arith)
 
   -- after an emit
-  module _ (node port from to : ℕ) (both : AreBoth rows node port from to) where
-    abbrev emit : Sent
-    emit = record { node = node; port = port }
-
+  module _ (node port from : ℕ) (at : IsPlaceOf rows node from) where
     abbrev version : ℕ
     version = get_or versions from 0
 
     version_is : version ≡ newest turns node
-    version_is = kept.are_newest from both.row both.stands ∙ ap (newest turns) both.is
-
-    ends_now : AreEnds rows (emits ++ emit ∷ []) (ends ++ to ∷ [])
-    ends_now k end one at goes = elim (cases_lt k (length emits)) [
-      | inl before ↦
-          let old = kept.are_ends k end one (sym (get_kept emits (emit ∷ []) k before) ∙ at) goes
-          in (
-            old.0,
-            ap (slice_get rows) (get_or_append_left ends (to ∷ []) 0 k
-                (omega (
-                  arith,
-                  before,
-                  kept.each_emit,
-                  ap length kept.are_carried,
-                  many_carried
-                      turns,
-                )))
-                ∙ old.1,
-            old.2,
-          )
-      | inr last ↦
-          let within = slice_get_within (emits ++ emit ∷ []) k one at in
-          let here : k ≡ length emits = omega (
-            arith,
-            last,
-            within,
-            length-append emits (emit ∷
-                []),
-          ) in
-          let is : emit ≡ one =
-          sym (get_or-append_seam emits emit [] emit)
-          ∙ ap (λ (i : ℕ). get_or (emits ++ emit ∷ []) i emit) (sym here)
-          ∙ get_or_from_slice_get (emits ++ emit ∷ []) k one emit at in
-          let long : length ends ≡ k =
-          omega (arith, here, kept.each_emit, ap length kept.are_carried, many_carried turns) in
-          let place : to ≡ get_or (ends ++ to ∷ []) k 0 =
-          sym (get_or-append_seam ends to [] 0) ∙ ap (λ (i : ℕ). get_or (ends ++ to ∷ []) i 0) long
-          in (
-            both.other,
-            ap (slice_get rows) (sym place) ∙ both.there,
-            same_Some both.other.id end (sym both.goes ∙ ap (goes_to rows) is ∙ goes),
-          )
-    ]
+    version_is = kept.are_newest from at.row at.stands ∙ ap (newest turns) at.is
 
     pub kept_emit : AreKept rows (turns ++ Plain (Emit node port) ∷ []) versions
-        (sent ++ version ∷ []) (ends ++ to ∷ []) holds
+        (sent ++ version ∷ []) holds
     kept_emit = record {
       is_network = net;
       numbered = numbered_now (Emit node port) tt;
@@ -225,14 +172,6 @@ module _ (rows : List NodeRow) (turns : List Turn)
           ap (λ (version : ℕ). sent ++ version ∷ []) version_is
           ∙ ap (λ (sent : List ℕ). sent ++ newest turns node ∷ []) kept.are_carried
           ∙ sym (carried_more turns (Plain (Emit node port)));
-      each_emit = omega (
-        arith,
-        kept.each_emit,
-        length-append ends (to ∷ []),
-        length-append sent (version ∷ []),
-      );
-      are_ends = subst (λ (emits : List Sent). AreEnds rows emits (ends ++ to ∷ []))
-          (sym (emits_now (Emit node port))) ends_now;
       each_port = kept.each_port;
       are_held = λ number other neighbour version s is.
           kept.are_held number other neighbour version s
@@ -248,7 +187,7 @@ nought (suc count) (suc place) = nought count place
 -- what is kept before the first turn
 pub kept_start : (rows : List NodeRow) (versions holds : List ℕ) → IsNetwork rows
     → versions ≡ replicate (length rows) 0 → length holds ≡ ports_in rows
-    → AreKept rows [] versions [] [] holds
+    → AreKept rows [] versions [] holds
 kept_start rows versions holds valid are long = record {
   is_network = valid;
   numbered = tt;
@@ -256,8 +195,6 @@ kept_start rows versions holds valid are long = record {
   are_newest = λ place row at.
       ap (λ (versions : List ℕ). get_or versions place 0) are ∙ nought (length rows) place;
   are_carried = refl;
-  each_emit = refl;
-  are_ends = λ place to emit at goes. absurd (cc);
   each_port = long;
   are_held = λ number node neighbour version slot is. absurd (cc);
 }

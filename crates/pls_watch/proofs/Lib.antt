@@ -15,6 +15,7 @@ pub mod Looked
 pub mod Table
 pub mod Ahead
 pub mod Staying
+pub mod LedBack
 pub mod Noted
 pub mod Current
 pub mod Columns

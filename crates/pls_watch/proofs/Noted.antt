@@ -1,18 +1,20 @@
 -- What is noted of the nodes as events come.
-use Rattle.std.proofs.Common.{◌≡◌, ◌≢◌, ◌∙◌, ℕ, zero, suc, ◌+◌, ◌<◌, ◌==◌, Bool, true, false, List, [], ◌∷◌, length, replicate, get_or, set, Some, None, slice_get, refl, sym, ap, subst, arith}
+use Rattle.std.proofs.Common.{◌≡◌, ◌≢◌, ◌∙◌, ℕ, zero, suc, ◌+◌, ◌<◌, ◌==◌, Bool, true, false, List, [], ◌∷◌, ◌⊎◌, inl, inr, length, replicate, get_or, set, Some, None, slice_get, refl, sym, ap, subst, arith}
 use Rattle.std.proofs.lemmas.Bool.{eqb-true, eqb-false}
 use Rattle.std.proofs.lemmas.List.{length-set}
-use Rattle.std.proofs.lemmas.Option.{get_or_from_slice_get, same_Some, slice_get-get_or, slice_get_within}
+use Rattle.std.proofs.lemmas.Option.{same_Some, slice_get-get_or}
 use Rattle.pls_configuration.specs.declared.row.Port.{Port}
 use Rattle.pls_configuration.specs.declared.row.NodeRow.{NodeRow}
 use Rattle.pls_configuration.specs.Configuration.{IsNetwork}
 use Rattle.pls_graph.specs.Places.{beside}
 use Rattle.pls_graph.proofs.Beside.{one_place}
-use Rattle.pls_sim.proofs.Ends.{beside_length, slot_back}
+use Rattle.pls_sim.proofs.Ends.{slot_back}
 use Rattle.pls_watch_part.specs.declared.watch_event.WatchEvent.{WatchEvent}
+use Rattle.pls_watch.specs.Labelled.{turns_of}
+use Rattle.pls_watch.specs.Watching.{Watched}
 use Rattle.pls_watch.specs.declared.change.Change.{Change}
 use Rattle.pls_watch.specs.declared.change.Change.TheVariants.{Nothing, Beside, Held, Label}
-use Rattle.pls_watch.specs.inner.Current.{AreLabelsNoted, IsMoreNoted, IsNoted, IsNotedAround, is_relabel, keeps_outcome, with_beside, with_held}
+use Rattle.pls_watch.specs.inner.Current.{AreLastNoted, IsMoreNoted, IsNoted, holds_last, is_relabel, keeps_outcome, with_beside, with_held}
 use Rattle.pls_watch.proofs.Table.{other_at}
 
 -- an item of a list in which one was replaced
@@ -49,46 +51,47 @@ quiet_at zero i change at = absurd (cc)
 quiet_at (suc count) zero change at = sym (same_Some Nothing change at)
 quiet_at (suc count) (suc i) change at = quiet_at count i change at
 
--- a node stands beside each of its neighbours
-pub beside_back : (rows : List NodeRow) → IsNetwork rows → (i p : ℕ) (row : NodeRow) (at : Port)
-    → slice_get rows i ≡ Some row → slice_get row.ports p ≡ Some at
-    → (q : ℕ) × (slice_get (beside rows (get_or (beside rows i) p 0)) q ≡ Some i)
-beside_back rows valid i p row at stands has =
+-- the port of a neighbour that leads back
+pub record Back (rows : List NodeRow) (i p : ℕ) (row : NodeRow) (at : Port) : Type 0 where
+  pub q : ℕ
+  pub other : NodeRow
+  pub port : Port
+  pub stands : slice_get rows (get_or (beside rows i) p 0) ≡ Some other
+  pub is : other.id ≡ at.nbr
+  pub has : slice_get other.ports q ≡ Some port
+  pub leads : port.nbr ≡ row.id
+  pub home : get_or (beside rows (get_or (beside rows i) p 0)) q 0 ≡ i
+
+pub way_back : (rows : List NodeRow) → IsNetwork rows → (i p : ℕ) (row : NodeRow) (at : Port)
+    → slice_get rows i ≡ Some row → slice_get row.ports p ≡ Some at → Back rows i p row at
+way_back rows valid i p row at stands has =
     let there : ℕ = get_or (beside rows i) p 0 in
     let other = other_at rows valid [] i row stands p at has in
-    let back = slot_back rows valid i p row at stands has in
-    let slot = back.1 in
+    let slot = (slot_back rows valid i p row at stands has).1 in
     let same : slot.place ≡ there =
     one_place rows valid slot.place there slot.row other.row slot.stands other.stands
     (slot.owner ∙ sym other.is) in
     let home = other_at rows valid [] slot.place slot.row slot.stands slot.at slot.port slot.has in
     let leads : get_or (beside rows slot.place) slot.at 0 ≡ i =
     one_place rows valid (get_or (beside rows slot.place) slot.at 0) i home.row row home.stands
-    stands (home.is ∙ slot.leads) in (
-      slot.at,
-      ap (λ (place : ℕ). slice_get (beside rows place) slot.at) (sym same)
-          ∙ slice_get-get_or (beside rows slot.place) slot.at 0
-          (omega (
-            arith,
-            slice_get_within slot.row.ports slot.at slot.port slot.has,
-            beside_length rows valid slot.place slot.row slot.stands,
-          ))
-          ∙ ap Some leads,
-    )
+    stands (home.is ∙ slot.leads) in record {
+      q = slot.at;
+      other = slot.row;
+      port = slot.port;
+      stands = ap (slice_get rows) (sym same) ∙ slot.stands;
+      is = slot.owner;
+      has = slot.has;
+      leads = slot.leads;
+      home = ap (λ (place : ℕ). get_or (beside rows place) slot.at 0) (sym same) ∙ leads;
+    }
 
 -- either the place or another
-at_place : {P : Type 0} (i place : ℕ) → (i ≡ place → P) → (i ≢ place → P) → P
+pub at_place : {P : Type 0} (i place : ℕ) → (i ≡ place → P) → (i ≢ place → P) → P
 at_place {P} i place here there = by (i == place) refl
   where
     by : (b : Bool) → (i == place) ≡ b → P
     by true is = here (eqb-true i place is)
     by false is = there (eqb-false i place is)
-
--- what is noted around a place stays so
-still_noted : (rows : List NodeRow) (old new : List Change) → IsMoreNoted old new → (place : ℕ)
-    → IsNotedAround rows old place → IsNotedAround rows new place
-still_noted rows old new more place around p there at none =
-    around p there at (more.nothing there none)
 
 pub same_noted : (changes : List Change) → IsMoreNoted changes changes
 same_noted changes = record {
@@ -147,15 +150,14 @@ module _ (old : List Change) (place : ℕ) (change : Change) (within : place < l
       ap (slice_get old) same ∙ was_here ∙ ap Some (was is))
       (λ differs. sym (set_elsewhere old place i change differs) ∙ at)
 
--- where labels are noted as before, they stay so
-pub labels_stay : (rows : List NodeRow) (old new : List Change) → IsMoreNoted old new
-    → ((i : ℕ) → slice_get new i ≡ Some Label → slice_get old i ≡ Some Label)
-    → AreLabelsNoted rows old → AreLabelsNoted rows new
-labels_stay rows old new more labels noted i label =
-    still_noted rows old new more i (noted i (labels i label))
+-- what is noted beside a label stays so
+last_stays : (watched : Watched) (old new : List Change) (place : ℕ) → IsMoreNoted old new
+    → AreLastNoted watched old place → AreLastNoted watched new place
+last_stays watched old new place more noted row p at stands has last none =
+    noted row p at stands has last (more.nothing _ none)
 
--- a label that is noted behind all that is beside it
-module _ (rows : List NodeRow) (old marked : List Change) (place : ℕ)
+-- a label that is noted behind those beside it
+module _ (watched : Watched) (old marked : List Change) (place : ℕ)
     (within : place < length marked) (more : IsMoreNoted old marked) where
   abbrev labelled : List Change
   labelled = set marked place Label
@@ -166,15 +168,13 @@ module _ (rows : List NodeRow) (old marked : List Change) (place : ℕ)
   pub label_more : IsMoreNoted old labelled
   label_more = more_noted old marked labelled more later
 
-  pub label_noted : AreLabelsNoted rows old
-      → ((i : ℕ) → slice_get marked i ≡ Some Label → slice_get old i ≡ Some Label)
-      → IsNotedAround rows marked place → AreLabelsNoted rows labelled
-  label_noted noted labels around i label =
-      at_place i place
-      (λ same. subst (IsNotedAround rows labelled) (sym same)
-      (still_noted rows marked labelled later place around))
-      (λ differs. still_noted rows old labelled label_more i
-      (noted i (labels i (sym (set_elsewhere marked place i Label differs) ∙ label))))
+  pub label_others : ((i : ℕ) → slice_get marked i ≡ Some Label → slice_get old i ≡ Some Label)
+      → (i : ℕ) → slice_get labelled i ≡ Some Label → i ≢ place → slice_get old i ≡ Some Label
+  label_others labels i label differs =
+      labels i (sym (set_elsewhere marked place i Label differs) ∙ label)
+
+  pub label_last : AreLastNoted watched marked place → AreLastNoted watched labelled place
+  label_last = last_stays watched marked labelled place later
 
 -- one node more beside a new label
 beside_some : (change : Change) → with_beside change ≢ Nothing
@@ -216,44 +216,41 @@ module _ (old : List Change) (place : ℕ) (within : place < length old) where
       (same_Some (with_beside (get_or old place Nothing)) Nothing
       (sym (set_here old place (with_beside (get_or old place Nothing)) within) ∙ none))
 
--- one place more of those beside a new label
-module _ (first old : List Change) (places : List ℕ) (i : ℕ)
-    (within : get_or places i 0 < length old) (change : Change)
-    (is : change ≡ with_beside (get_or old (get_or places i 0) Nothing)) where
-  abbrev at : ℕ
-  at = get_or places i 0
+-- those of the first ports of a node are noted that hold the last label before its newest
+abbrev pub AreFirstNoted : Watched → List Change → ℕ → ℕ → Type 0
+AreFirstNoted watched changes place count =
+    (row : NodeRow) (p : ℕ) (at : Port) → p < count → slice_get watched.network place ≡ Some row
+    → slice_get row.ports p ≡ Some at
+    → holds_last watched.network (turns_of watched.events) at.nbr row.id ≡ true
+    → slice_get changes (get_or (beside watched.network place) p 0) ≢ Some Nothing
 
-  abbrev next : List Change
-  next = set old at change
+-- one port more
+module _ (watched : Watched) (old : List Change) (place port : ℕ)
+    (first : AreFirstNoted watched old place port) where
+  abbrev there : ℕ
+  there = get_or (beside watched.network place) port 0
 
-  next_is : next ≡ beside_it old at within
-  next_is = ap (set old at) is
+  pub first_held : there < length old
+      → AreFirstNoted watched (set old there (with_beside (get_or old there Nothing))) place
+      (port + 1)
+  first_held within row p at under stands has last none =
+      at_place p port
+      (λ same. beside_here old there within
+      (ap (λ (p : ℕ). slice_get (set old there (with_beside (get_or old there Nothing)))
+      (get_or (beside watched.network place) p 0)) (sym same) ∙ none))
+      (λ differs. first row p at (omega (arith, under, differs)) stands has last
+      ((beside_more old there within).nothing (get_or (beside watched.network place) p 0) none))
 
-  pub next_more : IsMoreNoted first old → IsMoreNoted first next
-  next_more more =
-      subst (IsMoreNoted first) (sym next_is)
-      (more_noted first old (beside_it old at within) more (beside_more old at within))
-
-  pub next_labels : (j : ℕ) → slice_get next j ≡ Some Label → slice_get old j ≡ Some Label
-  next_labels j label =
-      beside_labels old at within j
-      (ap (λ (changes : List Change). slice_get changes j) (sym next_is) ∙ label)
-
-  pub next_all : ((p there : ℕ) → p < i → slice_get places p ≡ Some there
-      → slice_get old there ≢ Some Nothing)
-      → (p there : ℕ) → p < i + 1 → slice_get places p ≡ Some there
-      → slice_get next there ≢ Some Nothing
-  next_all all p there under stands none =
-      at_place there at
-      (λ same. beside_here old at within
-      (ap (λ (changes : List Change). slice_get changes at) (sym next_is)
-      ∙ ap (slice_get next) (sym same) ∙ none))
-      (λ differs.
-      let another : p ≢ i =
-      λ same. differs (sym (get_or_from_slice_get places p there 0 stands)
-      ∙ ap (λ (p : ℕ). get_or places p 0) same) in
-      all p there (omega (arith, under, another)) stands
-      (sym (set_elsewhere old at there change differs) ∙ none))
+  pub first_other : ((row : NodeRow) (at : Port) → slice_get watched.network place ≡ Some row
+      → slice_get row.ports port ≡ Some at
+      → holds_last watched.network (turns_of watched.events) at.nbr row.id ≡ false)
+      → AreFirstNoted watched old place (port + 1)
+  first_other other row p at under stands has last none =
+      at_place p port
+      (λ same.
+      let no : false ≡ true =
+      sym (other row at stands (ap (slice_get row.ports) (sym same) ∙ has)) ∙ last in absurd (cc))
+      (λ differs. first row p at (omega (arith, under, differs)) stands has last none)
 
 -- a node that holds something else
 held_some : (change : Change) → with_held change ≢ Nothing
@@ -275,37 +272,42 @@ held_label Held is = absurd (cc)
 held_label Label is = refl
 
 -- nothing is noted of an event that changes nothing
-pub noted_none : (rows : List NodeRow) (event : WatchEvent) (changes : List Change)
-    → AreLabelsNoted rows changes → IsNoted rows event None changes changes
-noted_none rows event changes labels = record {
+pub noted_none : (watched : Watched) (event : WatchEvent) (changes : List Change)
+    → IsNoted watched event None changes changes
+noted_none watched event changes = record {
   more = same_noted changes;
-  labels = labels;
+  labels = λ i at. inl at;
   here = λ i same. absurd (cc);
-  own = λ i given same. absurd (cc);
+  around = λ i given same. absurd (cc);
 }
 
-module _ (rows : List NodeRow) (event : WatchEvent) (place : ℕ) (old : List Change) where
-  pub noted_label : (new : List Change) → IsMoreNoted old new → AreLabelsNoted rows new
-      → slice_get new place ≡ Some Label → IsNoted rows event (Some place) old new
-  noted_label new more labels here = record {
+module _ (watched : Watched) (event : WatchEvent) (place : ℕ) (old : List Change) where
+  pub noted_label : (new : List Change) → IsMoreNoted old new → is_relabel event ≡ true
+      → ((i : ℕ) → slice_get new i ≡ Some Label → i ≢ place → slice_get old i ≡ Some Label)
+      → slice_get new place ≡ Some Label
+      → ((slice_get old place ≡ Some Label) ⊎ AreLastNoted watched new place)
+      → IsNoted watched event (Some place) old new
+  noted_label new more given labels here around = record {
     more = more;
-    labels = labels;
+    labels = λ i label. at_place i place (λ same. inr (given, ap Some (sym same)))
+        (λ differs. inl (labels i label differs));
     here = λ i same. (Label, ap (slice_get new) (sym (same_Some place i same)) ∙ here, refl);
-    own = λ i given same. ap (slice_get new) (sym (same_Some place i same)) ∙ here;
+    around = λ i relabels same. subst (λ (place : ℕ). (slice_get old place ≡ Some Label)
+        ⊎ AreLastNoted watched new place) (same_Some place i same) around;
   }
 
-  pub noted_held : place < length old → is_relabel event ≡ false → AreLabelsNoted rows old
-      → IsNoted rows event (Some place) old (set old place (with_held (get_or old place Nothing)))
-  noted_held within quiet labels = record {
+  pub noted_held : place < length old → is_relabel event ≡ false
+      → IsNoted watched event (Some place) old
+      (set old place (with_held (get_or old place Nothing)))
+  noted_held within quiet = record {
     more = more;
-    labels = labels_stay rows old new more
-        (set_labels old place change within (held_label before)) labels;
+    labels = λ i label. inl (set_labels old place change within (held_label before) i label);
     here = λ i same. (
       change,
       ap (slice_get new) (sym (same_Some place i same)) ∙ set_here old place change within,
       held_keeps before,
     );
-    own = λ i given same. let no : false ≡ true = sym quiet ∙ given in absurd (cc);
+    around = λ i given same. let no : false ≡ true = sym quiet ∙ given in absurd (cc);
   }
     where
       before : Change

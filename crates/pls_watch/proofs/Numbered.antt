@@ -10,12 +10,12 @@ use Rattle.pls_graph.proofs.Beside.{one_place}
 use Rattle.pls_schedule.specs.declared.event.Event.{Event}
 use Rattle.pls_schedule.specs.declared.event.Event.TheVariants.{Emit, Restart}
 use Rattle.pls_sim.specs.Schedule.{Sent, emits_of, sent_by}
-use Rattle.pls_sim.specs.Ways.{IsSlot}
+use Rattle.pls_sim.specs.Ways.{IsPlaceOf, IsSlot}
 use Rattle.pls_sim.proofs.Heard.{get_kept}
 use Rattle.pls_watch.specs.declared.turn.Turn.{Turn}
 use Rattle.pls_watch.specs.declared.turn.Turn.TheVariants.{Plain, Relabel}
 use Rattle.pls_watch.specs.Versions.{carried, held, newest, plain_of}
-use Rattle.pls_watch.specs.inner.Held.{AreBoth, AreKept}
+use Rattle.pls_watch.specs.inner.Held.{AreKept}
 use Rattle.pls_watch.specs.inner.Numbers.{AreNumbered, IsGiven, IsLabel, relabelled}
 use Rattle.pls_watch.proofs.More.{before_emit, before_restart, carried_more, carried_quiet, emits_plain, held_relabel, many_carried, newest_more, plain_more}
 use Rattle.pls_watch.proofs.Numbers.{given_last, given_less, label_more, last_is, relabelled_more}
@@ -88,7 +88,7 @@ module _ (rows : List NodeRow) (turns : List Turn) (newest_labels carried_labels
       are_earlier = earlier_now event;
     }
 
-  module _ (versions sent ends holds : List ℕ) (kept : AreKept rows turns versions sent ends holds)
+  module _ (versions sent holds : List ℕ) (kept : AreKept rows turns versions sent holds)
     where
       -- after a restart
       pub numbered_restart : (node : ℕ) → AreNumbered rows (turns ++ Plain (Restart node) ∷ [])
@@ -101,7 +101,7 @@ module _ (rows : List NodeRow) (turns : List Turn) (newest_labels carried_labels
           (before_restart rows turns node other neighbour version kept.numbered is)))
 
       -- after an emit
-      module _ (node port from to : ℕ) (both : AreBoth rows node port from to) where
+      module _ (node port from : ℕ) (place_of : IsPlaceOf rows node from) where
         abbrev emit : Sent
         emit = record { node = node; port = port }
 
@@ -119,8 +119,8 @@ module _ (rows : List NodeRow) (turns : List Turn) (newest_labels carried_labels
 
         label_is : IsLabel rows turns node (newest turns node) label
         label_is =
-            subst (λ (id : ℕ). IsLabel rows turns id (newest turns id) label) both.is
-            (are.are_newest from both.row both.stands)
+            subst (λ (id : ℕ). IsLabel rows turns id (newest turns id) label) place_of.is
+            (are.are_newest from place_of.row place_of.stands)
 
         carries : (place : ℕ) (one : Sent) → slice_get (emits ++ emit ∷ []) place ≡ Some one
             → IsLabel rows turns one.node (get_or (carried turns ++ newest turns node ∷ []) place 0)

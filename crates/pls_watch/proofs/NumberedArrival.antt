@@ -20,7 +20,7 @@ use Rattle.pls_watch.proofs.Numbered.{numbered_quiet}
 module _ (rows : List NodeRow) (turns : List Turn)
     (newest_labels carried_labels held_labels earlier : List ℕ)
     (are : AreNumbered rows turns newest_labels carried_labels held_labels earlier)
-    (versions sent ends holds : List ℕ) (kept : AreKept rows turns versions sent ends holds) where
+    (versions sent holds : List ℕ) (kept : AreKept rows turns versions sent holds) where
   -- after an arrival of an emit that stands at a place, at the port of this number
   module _ (at : ℕ) (one : Sent) (sent_there : slice_get (emits_of (plain_of turns)) at ≡ Some one)
       (to number : ℕ) (goes_there : goes_to rows one ≡ Some to) (arrives : IsSlot rows number to
@@ -64,7 +64,7 @@ module _ (rows : List NodeRow) (turns : List Turn)
             (get_or (set held_labels number label) k 0)
         by true e =
             let same : k ≡ number = eqb-true k number e in
-            let both = same_port rows turns versions sent ends holds kept at one sent_there to
+            let both = same_port rows turns versions sent holds kept at one sent_there to
             number
             goes_there arrives heard heard_is within k other neighbour found same slot is in
             rw (
@@ -80,7 +80,7 @@ module _ (rows : List NodeRow) (turns : List Turn)
             rw (get_or-set_other held_labels number k label 0 differs)
             (label_more rows turns (Plain event) neighbour found (get_or held_labels k 0)
             (are.are_held k other neighbour found slot
-            (sym (elsewhere_held rows turns versions sent ends holds kept at one sent_there to
+            (sym (elsewhere_held rows turns versions sent holds kept at one sent_there to
             number
             goes_there arrives heard heard_is within k other neighbour differs slot) ∙ is)))
 

@@ -1,7 +1,7 @@
 -- What stays of a look after an event.
 use Rattle.std.proofs.Common.{◌≡◌, ◌∙◌, ℕ, suc, ◌+◌, ◌≤◌, ◌==◌, Bool, true, false, cond, List, [], ◌∷◌, ◌++◌, get_or, Option, Some, None, is_some, slice_get, refl, sym, ap, arith, append-nil}
 use Rattle.std.specs.Option.{option_map_or}
-use Rattle.std.proofs.lemmas.Bool.{eqb-true}
+use Rattle.std.proofs.lemmas.Bool.{eq-eqb, eqb-true, ne_eqb}
 use Rattle.std.proofs.lemmas.Grind.{flat_map-append}
 use Rattle.std.proofs.lemmas.List.{get_or_append_left, map-append}
 use Rattle.pls_configuration.specs.declared.row.Port.{Port}
@@ -14,7 +14,7 @@ use Rattle.pls_watch.specs.declared.turn.Turn.{Turn}
 use Rattle.pls_watch.specs.Labelled.{given_to, later_labels, turn_of, turns_of}
 use Rattle.pls_watch.specs.Versions.{held, is_fresh, known, newest, plain_of, relabels}
 use Rattle.pls_watch.specs.Watching.{Watched, outcome_in, stale_in, version_of_label, watching}
-use Rattle.pls_watch.specs.inner.Current.{KnowsSame}
+use Rattle.pls_watch.specs.inner.Current.{KnowsSame, holds_last, holds_newest}
 use Rattle.pls_watch.proofs.Ahead.{held_few}
 use Rattle.pls_watch.proofs.Given.{many_labels}
 use Rattle.pls_watch.proofs.More.{heard_held, newest_more}
@@ -53,6 +53,14 @@ module _ (watched : Watched) (event : WatchEvent) where
       ap (λ (turns : List Turn). newest turns node) grown
       ∙ newest_more turns (turn_of event) node
       ∙ ap (λ (b : Bool). newest turns node + cond b 1 0) stays ∙ same
+
+  -- and one that gets a label has one version more
+  newest_next : (node : ℕ) → relabels node (turn_of event) ≡ true
+      → newest later node ≡ newest turns node + 1
+  newest_next node gives =
+      ap (λ (turns : List Turn). newest turns node) grown
+      ∙ newest_more turns (turn_of event) node
+      ∙ ap (λ (b : Bool). newest turns node + cond b 1 0) gives
 
   -- labels that there are stay as they are
   labels_grown : (node : ℕ)
@@ -125,11 +133,82 @@ module _ (watched : Watched) (event : WatchEvent) where
     outcome_stays judge = λ i. outcome_after (unheard_same i)
         (judge (seen (λ other. believed_same other i) row))
 
-    -- stale ports stay so where no neighbour gets a label
+    -- a port stays as stale as it is where the neighbour gets no label, or none before was its newest
+    fresh_same : (nbr : ℕ) → (relabels nbr (turn_of event) ≡ true
+        → holds_newest rows turns row.id nbr ≡ false)
+        → is_fresh rows later row.id nbr ≡ is_fresh rows turns row.id nbr
+    fresh_same nbr behind = by (relabels nbr (turn_of event)) refl
+      where
+        of : (o : Option ℕ) → held rows turns row.id nbr ≡ o
+            → relabels nbr (turn_of event) ≡ true
+            → option_map_or (λ version. version == newest later nbr) o true
+            ≡ option_map_or (λ version. version == newest turns nbr) o true
+        of None is gives = refl
+        of (Some version) is gives =
+            ne_eqb version (newest later nbr) (λ same. omega (
+              arith,
+              same,
+              held_few rows turns row.id nbr version is,
+              newest_next nbr gives,
+            ))
+            ∙ sym (sym (ap (λ (o : Option ℕ). option_map_or
+            (λ version. version == newest turns nbr) o false) is) ∙ behind gives)
+
+        by : (b : Bool) → relabels nbr (turn_of event) ≡ b
+            → is_fresh rows later row.id nbr ≡ is_fresh rows turns row.id nbr
+        by false quiet = λ i. option_map_or (λ version. version == newest_same nbr quiet i)
+            (knows.holds nbr i) true
+        by true gives =
+            ap (λ (o : Option ℕ). option_map_or (λ version. version == newest later nbr) o true)
+            (knows.holds nbr)
+            ∙ of (held rows turns row.id nbr) refl gives
+
     pub stale_stays : ((p : ℕ) (at : Port) → slice_get row.ports p ≡ Some at
-        → relabels at.nbr (turn_of event) ≡ false)
+        → relabels at.nbr (turn_of event) ≡ true
+        → holds_newest rows turns row.id at.nbr ≡ false)
         → stale_in next row ≡ stale_in watched row
-    stale_stays quiet =
+    stale_stays behind =
         same_ports (is_fresh rows later row.id) (is_fresh rows turns row.id) 0 row.ports
-        (λ p at has i. option_map_or
-        (λ version. version == newest_same at.nbr (quiet p at has) i) (knows.holds at.nbr i) true)
+        (λ p at has. fresh_same at.nbr (behind p at has))
+
+    -- the newest that is held is the last one once there is another
+    pub last_held : (nbr : ℕ) → relabels nbr (turn_of event) ≡ true
+        → holds_newest rows turns row.id nbr ≡ true → holds_last rows later row.id nbr ≡ true
+    last_held nbr gives is_newest =
+        ap (λ (o : Option ℕ). option_map_or (λ version. version + 1 == newest later nbr) o false)
+        (knows.holds nbr)
+        ∙ of (held rows turns row.id nbr) is_newest
+      where
+        of : (o : Option ℕ) → option_map_or (λ version. version == newest turns nbr) o false ≡ true
+            → option_map_or (λ version. version + 1 == newest later nbr) o false ≡ true
+        of None is = absurd (cc)
+        of (Some version) is =
+            eq-eqb (version + 1) (newest later nbr)
+            (omega (arith, eqb-true version (newest turns nbr) is, newest_next nbr gives))
+
+    -- what is not the newest does not come to be it by an event
+    pub newest_behind : (nbr : ℕ) → (relabels nbr (turn_of event) ≡ false
+        → holds_newest rows turns row.id nbr ≡ false)
+        → holds_newest rows later row.id nbr ≡ false
+    newest_behind nbr behind = by (relabels nbr (turn_of event)) refl
+      where
+        of : (o : Option ℕ) → held rows turns row.id nbr ≡ o
+            → relabels nbr (turn_of event) ≡ true
+            → option_map_or (λ version. version == newest later nbr) o false ≡ false
+        of None is gives = refl
+        of (Some version) is gives =
+            ne_eqb version (newest later nbr) (λ same. omega (
+              arith,
+              same,
+              held_few rows turns row.id nbr version is,
+              newest_next nbr gives,
+            ))
+
+        by : (b : Bool) → relabels nbr (turn_of event) ≡ b
+            → holds_newest rows later row.id nbr ≡ false
+        by false quiet = (λ i. option_map_or (λ version. version == newest_same nbr quiet i)
+            (knows.holds nbr i) false) ∙ behind quiet
+        by true gives =
+            ap (λ (o : Option ℕ). option_map_or (λ version. version == newest later nbr) o false)
+            (knows.holds nbr)
+            ∙ of (held rows turns row.id nbr) refl gives

@@ -1,10 +1,9 @@
 //! What of each node changed since the last look.
 
-ghost use Rattle.std.specs.Prelude.{◌≡◌, ◌≢◌, ◌<◌, ℕ, All, IfOk, IfSome, length, replicate, slice_get, slice_index_or, slice_set, Some};
-ghost use Rattle.pls_graph.specs.Places.{beside};
-ghost use Rattle.pls_watch.specs.inner.Current.{AreLabelsNoted, IsMoreNoted, IsNoted, is_relabel, with_beside, with_held};
+ghost use Rattle.std.specs.Prelude.{◌≡◌, ◌≢◌, ◌<◌, ◌⊎◌, ℕ, IfOk, IfSome, length, replicate, slice_get, slice_index_or, slice_set, Some};
+ghost use Rattle.pls_watch.specs.inner.Current.{AreLastNoted, IsMoreNoted, IsNoted, is_relabel, with_beside, with_held};
 
-use pls_graph::Network;
+use crate::watch::Watch;
 use pls_streams::NoMemory;
 use pls_watch_part::WatchEvent;
 use std::alloc::Global;
@@ -14,7 +13,7 @@ use std::alloc::Global;
 pub(crate) enum Change {
     /// Nothing.
     Nothing,
-    /// A neighbour got a label: another port may be stale.
+    /// A neighbour got a label, and another port is stale.
     Beside,
     /// What it holds of its neighbours' labels.
     Held,
@@ -30,23 +29,23 @@ pub(crate) fn no_changes(alloc: Global, count: usize) -> Result<Vec<Change>, NoM
 }
 
 /// Notes that the node at a place, if there is one, knows something else after an event, and of a
-/// node that got a label, at its first one, that its neighbours are beside it.
+/// node that got a label, at its first one, that those neighbours are beside it that hold the last
+/// label before: other ports of theirs are stale now.
 pub(crate) fn note(
-    net: &Network,
+    watch: &Watch<'_>,
     changes: &mut Vec<Change>,
     place: Option<usize>,
     event: &WatchEvent,
 )
-    requires each { length changes.old.items ≡ length net.now }
-    requires labels { AreLabelsNoted net.now changes.old.items }
-    requires within { IfSome place (λ place. place < length net.now) }
-    ensures { IsNoted net.now event.now place changes.old.items changes.new.items }
+    requires each { length changes.old.items ≡ length watch.now.network }
+    requires within { IfSome place (λ place. place < length watch.now.network) }
+    ensures { IsNoted watch.now event.now place changes.old.items changes.new.items }
 {
     let Some(place) = place else {
         return;
     };
     if is_relabel(event) {
-        note_label(net, changes, place);
+        note_label(watch, changes, place);
     } else {
         note_held(changes, place);
     }
@@ -58,35 +57,40 @@ fn is_relabel(event: &WatchEvent) -> bool
     matches!(event, WatchEvent::Relabel { .. })
 }
 
-// Notes the neighbours too, which are beside the new label.
-fn note_label(net: &Network, changes: &mut Vec<Change>, place: usize)
-    requires each { length changes.old.items ≡ length net.now }
-    requires labels { AreLabelsNoted net.now changes.old.items }
-    requires within { place < length net.now }
+// Where a label was noted before, the neighbours were noted then.
+fn note_label(watch: &Watch<'_>, changes: &mut Vec<Change>, place: usize)
+    requires each { length changes.old.items ≡ length watch.now.network }
+    requires within { place < length watch.now.network }
     ensures more { IsMoreNoted changes.old.items changes.new.items }
-    ensures labels { AreLabelsNoted net.now changes.new.items }
+    ensures labels { (i : ℕ) → slice_get changes.new.items i ≡ Some Change.Label → i ≢ place
+        → slice_get changes.old.items i ≡ Some Change.Label }
     ensures here { slice_get changes.new.items place ≡ Some Change.Label }
+    ensures around { (slice_get changes.old.items place ≡ Some Change.Label)
+        ⊎ AreLastNoted watch.now changes.new.items place }
 {
     match changes[place] {
         Change::Label => {}
         _ => {
-            note_beside(changes, net.places(place));
+            note_beside(watch, changes, place);
             changes[place] = Change::Label;
         }
     }
 }
 
-fn note_beside(changes: &mut Vec<Change>, places: &[u32])
-    requires { All (λ place. place < length changes.old.items) places.now }
+// Notes the neighbours of a node that hold the last version of its label before the newest.
+fn note_beside(watch: &Watch<'_>, changes: &mut Vec<Change>, i: usize)
+    requires each { length changes.old.items ≡ length watch.now.network }
+    requires within { i < length watch.now.network }
     ensures more { IsMoreNoted changes.old.items changes.new.items }
     ensures labels { (i : ℕ) → slice_get changes.new.items i ≡ Some Change.Label
         → slice_get changes.old.items i ≡ Some Change.Label }
-    ensures all { (p there : ℕ) → slice_get places.now p ≡ Some there
-        → slice_get changes.new.items there ≢ Some Change.Nothing }
+    ensures all { AreLastNoted watch.now changes.new.items i }
 {
-    for beside in places {
-        let place = *beside as usize;
-        changes[place] = with_beside(changes[place]);
+    for (port, beside) in watch.network().places(i).iter().enumerate() {
+        if watch.is_last_held(i, port) {
+            let place = *beside as usize;
+            changes[place] = with_beside(changes[place]);
+        }
     }
 }
 

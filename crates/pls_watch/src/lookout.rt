@@ -86,7 +86,7 @@ impl<'n, 'k, K: Checker> Lookout<'n, 'k, K> {
         ensures unchanged { OnErr result (self.new ≡ self.old) }
     {
         let place = self.watch.step_at(event)?;
-        note(self.watch.network(), &mut self.changes, place, event);
+        note(&self.watch, &mut self.changes, place, event);
         Ok(())
     }
 

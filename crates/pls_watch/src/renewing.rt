@@ -1,6 +1,6 @@
 //! The rows of a look, renewed as far as something changed.
 
-ghost use Rattle.std.specs.Prelude.{◌≡◌, ◌<◌, ◌+◌, length, OnErr, OnOk};
+ghost use Rattle.std.specs.Prelude.{◌≡◌, ◌<◌, length, OnErr, OnOk};
 ghost use Rattle.pls_scheme.specs.Judging.{RoseByAtMost};
 ghost use Rattle.pls_watch.specs.Watching.{look_of};
 ghost use Rattle.pls_watch.specs.inner.Current.{IsCurrent, IsRenewed};

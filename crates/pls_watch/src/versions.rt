@@ -1,16 +1,16 @@
 //! The versions that nodes have and hold of labels.
 
-ghost use Rattle.std.specs.Prelude.{◌≡◌, ◌≢◌, ◌<◌, ◌≤◌, ◌++◌, ◌∷◌, ℕ, [], cond, false, true, length, max, option_map, replicate, slice_get, IfErr, IfOk, IfSome, OnErr, OnOk, None, Some};
+ghost use Rattle.std.specs.Prelude.{◌≡◌, ◌≢◌, ◌<◌, ◌≤◌, ℕ, [], cond, false, true, length, max, option_map, replicate, slice_get, IfErr, IfOk, IfSome, OnErr, OnOk, None, Some};
 ghost use Rattle.std.specs.List.{AllByRecursion};
 ghost use Rattle.pls_configuration.specs.declared.limits.TheConstants.{MAX_LINES};
 ghost use Rattle.pls_configuration.specs.declared.row.NodeRow.{NodeRow};
 ghost use Rattle.pls_configuration.specs.declared.row.Port.{Port};
-ghost use Rattle.pls_sim.specs.Applying.{names_no_node, names_no_port};
 ghost use Rattle.pls_sim.specs.Schedule.{emits_of};
 ghost use Rattle.pls_sim.specs.inner.Kept.{NamesEmit};
 ghost use Rattle.pls_watch.specs.Versions.{held, is_fresh, newest, plain_of, relabels, stale};
 ghost use Rattle.pls_watch.specs.Turning.{turn_refusal, turning};
-ghost use Rattle.pls_watch.specs.inner.Held.{AreBoth};
+ghost use Rattle.pls_watch.specs.inner.Current.{holds_last};
+ghost use Rattle.pls_watch.specs.inner.Held.{HoldAsBefore};
 ghost use Rattle.pls_watch.specs.inner.Numbers.{IsLabel, IsOneOf};
 
 use crate::turn::Turn;
@@ -32,9 +32,8 @@ pub(crate) struct Versions<'n> {
     turns: Vec<Turn>,
     // For each node its newest version.
     newest: VersionList,
-    // For each emit the version that it carries, and the place of the node to which it goes.
+    // For each emit the version that it carries.
     pub(crate) carried: VersionList,
-    pub(crate) ends: Vec<u32>,
     // For each port, numbered through, the version that is held, where something was heard.
     pub(crate) held: VersionList,
     // For each label that was given the number of the one that its node had before.
@@ -57,9 +56,8 @@ impl<'n> Model for Versions<'n> {
 
     ghost invariant = { λ watch. IsRound watch.net.now watch.most watch.turns.items watch.sim
         × AreKept watch.net.now watch.turns.items watch.newest.versions watch.carried.versions
-        watch.ends.items watch.held.versions
+        watch.held.versions
         × Rooms watch.most watch.turns.items (vec_capacity watch.turns) watch.carried.room
-        (vec_capacity watch.ends)
         × AreNumbered watch.net.now watch.turns.items watch.newest.labels watch.carried.labels
         watch.held.labels watch.earlier.items
         × NumberRooms watch.most (vec_capacity watch.earlier) };
@@ -86,7 +84,6 @@ impl<'n> Versions<'n> {
             turns: Vec::with_capacity(alloc, most)?,
             newest: VersionList::first(alloc, net.len())?,
             carried: VersionList::with_room(alloc, most)?,
-            ends: Vec::with_capacity(alloc, most)?,
             held,
             earlier: Vec::with_capacity(alloc, most)?,
         })
@@ -99,10 +96,7 @@ impl<'n> Versions<'n> {
     #[inline(always)]
     pub(crate) fn step(&mut self, turn: Turn) -> Result<Option<usize>, EventError>
         ensures taken { OnOk result (self.new ≡ turning turn self.old) }
-        ensures holds { IfOk result (λ place. (i : ℕ) (row : NodeRow) (neighbour : ℕ)
-            → slice_get self.old.network i ≡ Some row → place ≢ Some i
-            → held self.old.network (self.old.turns ++ turn ∷ []) row.id neighbour
-            ≡ held self.old.network self.old.turns row.id neighbour) }
+        ensures holds { IfOk result (HoldAsBefore self.old turn) }
         ensures stays { IfOk result (λ place. (i : ℕ) (row : NodeRow)
             → slice_get self.old.network i ≡ Some row → place ≢ Some i
             → relabels row.id turn ≡ false) }
@@ -128,10 +122,7 @@ impl<'n> Versions<'n> {
         requires { length self.old.turns < self.old.most }
         ensures taken { OnOk result
             (self.new ≡ turning (Turn.Plain (Event.Emit node port)) self.old) }
-        ensures holds { IfOk result (λ place. (i : ℕ) (row : NodeRow) (neighbour : ℕ)
-            → slice_get self.old.network i ≡ Some row → place ≢ Some i
-            → held self.old.network (self.old.turns ++ Turn.Plain (Event.Emit node port) ∷ []) row.id neighbour
-            ≡ held self.old.network self.old.turns row.id neighbour) }
+        ensures holds { IfOk result (HoldAsBefore self.old (Turn.Plain (Event.Emit node port))) }
         ensures within { IfOk result
             (λ place. IfSome place (λ at. at < length self.old.network)) }
         ensures applies { OnOk result
@@ -140,11 +131,12 @@ impl<'n> Versions<'n> {
             turn_refusal self.old (Turn.Plain (Event.Emit node port)) ≡ Some error) }
         ensures unchanged { OnErr result (self.new ≡ self.old) }
     {
-        self.sim.step(Event::Emit { node, port })?;
-        let (from, to) = ends_of(self.net, node, port);
+        let Some(from) = self.net.place_of(node) else {
+            return Err(EventError::NoNode);
+        };
+        self.sim.emit_at(from, node, port)?;
         let (version, label) = self.newest.get(from);
         self.carried.push_reserved(version, label);
-        self.ends.push_reserved(to);
         self.turns
             .push_reserved(Turn::Plain(Event::Emit { node, port }));
         Ok(None)
@@ -156,10 +148,7 @@ impl<'n> Versions<'n> {
         requires { length self.old.turns < self.old.most }
         ensures taken { OnOk result
             (self.new ≡ turning (Turn.Plain (Event.Arrive number)) self.old) }
-        ensures holds { IfOk result (λ place. (i : ℕ) (row : NodeRow) (neighbour : ℕ)
-            → slice_get self.old.network i ≡ Some row → place ≢ Some i
-            → held self.old.network (self.old.turns ++ Turn.Plain (Event.Arrive number) ∷ []) row.id neighbour
-            ≡ held self.old.network self.old.turns row.id neighbour) }
+        ensures holds { IfOk result (HoldAsBefore self.old (Turn.Plain (Event.Arrive number))) }
         ensures within { IfOk result
             (λ place. IfSome place (λ at. at < length self.old.network)) }
         ensures applies { OnOk result
@@ -172,8 +161,8 @@ impl<'n> Versions<'n> {
             return Err(EventError::NoEmit);
         }
         let place = number as usize - 1;
-        let to = self.ends[place] as usize;
         let at = self.sim.arrives_at(number);
+        let to = self.sim.owner(at);
         let heard = self.sim.heard_at(to, at);
         self.sim.step(Event::Arrive(number))?;
         let (old, old_label) = self.held.get(at);
@@ -190,10 +179,7 @@ impl<'n> Versions<'n> {
         requires { length self.old.turns < self.old.most }
         ensures taken { OnOk result
             (self.new ≡ turning (Turn.Plain (Event.Restart node)) self.old) }
-        ensures holds { IfOk result (λ place. (i : ℕ) (row : NodeRow) (neighbour : ℕ)
-            → slice_get self.old.network i ≡ Some row → place ≢ Some i
-            → held self.old.network (self.old.turns ++ Turn.Plain (Event.Restart node) ∷ []) row.id neighbour
-            ≡ held self.old.network self.old.turns row.id neighbour) }
+        ensures holds { IfOk result (HoldAsBefore self.old (Turn.Plain (Event.Restart node))) }
         ensures within { IfOk result
             (λ place. IfSome place (λ at. at < length self.old.network)) }
         ensures applies { OnOk result
@@ -210,10 +196,7 @@ impl<'n> Versions<'n> {
     fn relabel(&mut self, node: u32) -> Result<Option<usize>, EventError>
         requires { length self.old.turns < self.old.most }
         ensures taken { OnOk result (self.new ≡ turning (Turn.Relabel node) self.old) }
-        ensures holds { IfOk result (λ place. (i : ℕ) (row : NodeRow) (neighbour : ℕ)
-            → slice_get self.old.network i ≡ Some row → place ≢ Some i
-            → held self.old.network (self.old.turns ++ Turn.Relabel node ∷ []) row.id neighbour
-            ≡ held self.old.network self.old.turns row.id neighbour) }
+        ensures holds { IfOk result (HoldAsBefore self.old (Turn.Relabel node)) }
         ensures stays { IfOk result (λ place. (i : ℕ) (row : NodeRow)
             → slice_get self.old.network i ≡ Some row → place ≢ Some i
             → relabels row.id (Turn.Relabel node) ≡ false) }
@@ -256,6 +239,7 @@ impl<'n> Versions<'n> {
 
     /// What the node at place `i` holds at its port of this number: the version of the neighbour's
     /// label, and the number of that label; `None` where it has not heard there.
+    #[inline(always)]
     pub(crate) fn held_version(&self, i: usize, port: usize) -> Option<(u32, u32)>
         requires place { i < length self.now.network }
         requires port { IfSome (slice_get self.now.network i) (λ row. port < length row.ports) }
@@ -276,6 +260,7 @@ impl<'n> Versions<'n> {
 
     /// Whether what the node at place `i` holds at its port of this number is the newest, if it
     /// holds something.
+    #[inline(always)]
     pub(crate) fn is_fresh(&self, i: usize, port: usize) -> bool
         requires place { i < length self.now.network }
         requires port { IfSome (slice_get self.now.network i) (λ row. port < length row.ports) }
@@ -290,7 +275,41 @@ impl<'n> Versions<'n> {
         }
     }
 
+    /// Whether the neighbour at a port of the node at place `i` holds the last version of this
+    /// node's label before the newest.
+    #[inline(always)]
+    pub(crate) fn is_last_held(&self, i: usize, port: usize) -> bool
+        requires place { i < length self.now.network }
+        requires port { IfSome (slice_get self.now.network i) (λ row. port < length row.ports) }
+        ensures { (row : NodeRow) (at : Port) → slice_get self.now.network i ≡ Some row
+            → slice_get row.ports port ≡ Some at
+            → result ≡ holds_last self.now.network self.now.turns at.nbr row.id }
+    {
+        match self.held_back(i, port) {
+            Some(version) => version + 1 == self.newest.get(i).0,
+            None => false,
+        }
+    }
+
+    // The version of its label that the neighbour at a port of the node at place `i` holds.
+    #[inline(always)]
+    fn held_back(&self, i: usize, port: usize) -> Option<u32>
+        requires place { i < length self.now.network }
+        requires port { IfSome (slice_get self.now.network i) (λ row. port < length row.ports) }
+        ensures { (row : NodeRow) (at : Port) → slice_get self.now.network i ≡ Some row
+            → slice_get row.ports port ≡ Some at
+            → result ≡ held self.now.network self.now.turns at.nbr row.id }
+    {
+        let there = self.net.places(i)[port] as usize;
+        let back = self.sim.back(self.sim.number_of(i, port));
+        if !self.sim.heard_at(there, back) {
+            return None;
+        }
+        Some(self.held.get(back).0)
+    }
+
     /// The newest version of the label of the neighbour at a port.
+    #[inline(always)]
     pub(crate) fn newest_beside(&self, i: usize, port: usize) -> u32
         requires place { i < length self.now.network }
         requires port { IfSome (slice_get self.now.network i) (λ row. port < length row.ports) }
@@ -363,18 +382,4 @@ pub(crate) fn noughts(alloc: Global, count: usize) -> Result<Vec<u32>, NoMemory>
     ensures { IfOk result (λ list. list.items ≡ replicate count 0) }
 {
     Ok(vec![in alloc; 0; count]?)
-}
-
-// The places of the sender and the receiver.
-fn ends_of(net: &Network, node: u32, port: u32) -> (usize, u32)
-    requires node { names_no_node net.now (Event.Emit node port) ≡ false }
-    requires port { names_no_port net.now (Event.Emit node port) ≡ false }
-    ensures { AreBoth net.now node port result.0 result.1 }
-{
-    // A network is valid.
-    net.len();
-    match net.place_of(node) {
-        Some(place) => (place, net.places(place)[port as usize]),
-        None => (0, 0),
-    }
 }

@@ -9,7 +9,7 @@ ghost use Rattle.pls_watch_part.specs.WatchText.{watch_event};
 ghost use Rattle.pls_watch.specs.Labelled.{turn_of, turns_of};
 ghost use Rattle.pls_watch.specs.Turning.{IsNotBack, restarts_in};
 ghost use Rattle.pls_watch.specs.Versions.{held, newest};
-ghost use Rattle.pls_watch.specs.inner.Current.{KnowsSame};
+ghost use Rattle.pls_watch.specs.inner.Current.{KnowsSame, holds_last};
 ghost use Rattle.pls_watch.specs.Watching.{lacks_room, version_of_label, watch_refusal, watching};
 
 use crate::stock::stock_of;
@@ -94,7 +94,8 @@ impl<'n> Watch<'n> {
 
     /// The network on which messages are sent.
     pub(crate) fn network(&self) -> &'n Network
-        ensures { result.now ≡ self.now.network }
+        ensures network { result.now ≡ self.now.network }
+        ensures valid { IsNetwork self.now.network }
     {
         self.net
     }
@@ -232,6 +233,19 @@ impl<'n> Watch<'n> {
             Some((version, _)) => Some(version as u64),
             None => None,
         }
+    }
+
+    /// Whether the neighbour at a port of the node at place `i` holds the last version of this
+    /// node's label before the newest.
+    #[inline(always)]
+    pub(crate) fn is_last_held(&self, i: usize, port: usize) -> bool
+        requires place { i < length self.now.network }
+        requires port { IfSome (slice_get self.now.network i) (λ row. port < length row.ports) }
+        ensures { (row : NodeRow) (at : Port) → slice_get self.now.network i ≡ Some row
+            → slice_get row.ports port ≡ Some at → result
+            ≡ holds_last self.now.network (turns_of self.now.events) at.nbr row.id }
+    {
+        self.versions.is_last_held(i, port)
     }
 
     /// What is held at a port of the node at place `i` never goes back by an event that is no

@@ -1,5 +1,7 @@
 -- What is still true of the rows of the last look.
-use Rattle.std.specs.Prelude.{◌≡◌, ◌≢◌, ℕ, Bool, true, false, List, Option, length, slice_get, Some}
+use Rattle.std.specs.Prelude.{◌≡◌, ◌≢◌, ◌⊎◌, ℕ, ◌+◌, ◌==◌, Bool, true, false, List, Option, length, slice_get, slice_index_or, Some}
+use Rattle.std.specs.Option.{option_map_or}
+use Rattle.pls_configuration.specs.declared.row.Port.{Port}
 use Rattle.pls_configuration.specs.declared.row.NodeRow.{NodeRow}
 use Rattle.pls_configuration.specs.declared.verdict.Verdict.{Verdict}
 use Rattle.pls_graph.specs.Places.{beside}
@@ -10,7 +12,8 @@ use Rattle.pls_watch_part.specs.declared.watch_event.WatchEvent.TheVariants as W
 use Rattle.pls_watch.specs.declared.change.Change.{Change}
 use Rattle.pls_watch.specs.declared.change.Change.TheVariants.{Nothing, Beside, Held, Label}
 use Rattle.pls_watch.specs.Labelled.{turn_of, turns_of}
-use Rattle.pls_watch.specs.Versions.{held, relabels}
+use Rattle.pls_watch.specs.declared.turn.Turn.{Turn}
+use Rattle.pls_watch.specs.Versions.{held, newest, relabels}
 use Rattle.pls_watch.specs.Watching.{Watched, outcome_in, stale_in, watching}
 
 -- what a look shows of a node
@@ -52,16 +55,34 @@ with_beside Beside = Beside
 with_beside Held = Held
 with_beside Label = Label
 
--- of each neighbour of the node at a place something is noted
-abbrev pub IsNotedAround : List NodeRow → List Change → ℕ → Type 0
-IsNotedAround rows changes place =
-    (p there : ℕ) → slice_get (beside rows place) p ≡ Some there
-    → slice_get changes there ≢ Some Nothing
+-- a node holds the newest version of a neighbour's label
+abbrev pub holds_newest : List NodeRow → List Turn → ℕ → ℕ → Bool
+holds_newest rows turns node neighbour =
+    option_map_or (λ version. version == newest turns neighbour) (held rows turns node neighbour)
+    false
 
--- so it is around each node of which a label is noted
-abbrev pub AreLabelsNoted : List NodeRow → List Change → Type 0
-AreLabelsNoted rows changes =
-    (place : ℕ) → slice_get changes place ≡ Some Label → IsNotedAround rows changes place
+-- a node holds the version of a neighbour's label that is the last before its newest
+abbrev pub holds_last : List NodeRow → List Turn → ℕ → ℕ → Bool
+holds_last rows turns node neighbour =
+    option_map_or (λ version. version + 1 == newest turns neighbour)
+    (held rows turns node neighbour) false
+
+-- something is noted of each neighbour that holds the last label before the newest of the node at a
+-- place
+abbrev pub AreLastNoted : Watched → List Change → ℕ → Type 0
+AreLastNoted watched changes place =
+    (row : NodeRow) (p : ℕ) (at : Port) → slice_get watched.network place ≡ Some row
+    → slice_get row.ports p ≡ Some at
+    → holds_last watched.network (turns_of watched.events) at.nbr row.id ≡ true
+    → slice_get changes (slice_index_or (beside watched.network place) p 0) ≢ Some Nothing
+
+-- where a label of a node is noted, something is noted of each neighbour that holds the newest
+abbrev pub AreLabelsNoted : Watched → List Change → Type 0
+AreLabelsNoted watched changes =
+    (place p : ℕ) (row : NodeRow) (at : Port) → slice_get changes place ≡ Some Label
+    → slice_get watched.network place ≡ Some row → slice_get row.ports p ≡ Some at
+    → slice_get changes (slice_index_or (beside watched.network place) p 0) ≡ Some Nothing
+    → holds_newest watched.network (turns_of watched.events) at.nbr row.id ≡ false
 
 -- what was noted stays noted, and no outcome is kept that was not
 pub record IsMoreNoted (old new : List Change) : Type 0 where
@@ -72,13 +93,15 @@ pub record IsMoreNoted (old new : List Change) : Type 0 where
       → (before : Change) × (slice_get old i ≡ Some before) × (keeps_outcome before ≡ true)
 
 -- what an event leaves of the changes, where it changes something for the node at a place
-pub record IsNoted (rows : List NodeRow) (event : WatchEvent) (place : Option ℕ)
+pub record IsNoted (watched : Watched) (event : WatchEvent) (place : Option ℕ)
     (old new : List Change) : Type 0 where
   pub more : IsMoreNoted old new
-  pub labels : AreLabelsNoted rows new
+  pub labels : (i : ℕ) → slice_get new i ≡ Some Label
+      → (slice_get old i ≡ Some Label) ⊎ ((is_relabel event ≡ true) × (place ≡ Some i))
   pub here : (i : ℕ) → place ≡ Some i
       → (change : Change) × (slice_get new i ≡ Some change) × (keeps_outcome change ≡ false)
-  pub own : (i : ℕ) → is_relabel event ≡ true → place ≡ Some i → slice_get new i ≡ Some Label
+  pub around : (i : ℕ) → is_relabel event ≡ true → place ≡ Some i
+      → (slice_get old i ≡ Some Label) ⊎ AreLastNoted watched new i
 
 -- of each node of which nothing changed the row is that of the last look, and its outcome is where
 -- no more than a neighbour's label did
@@ -92,7 +115,7 @@ pub record IsCurrent (judge : Seen → Verdict) (watched : Watched) (changes : L
   pub stales : (i : ℕ) (row : NodeRow) → slice_get watched.network i ≡ Some row
       → slice_get changes i ≡ Some Nothing
       → slice_get rows i ≡ Some (look_row judge watched row)
-  pub labels : AreLabelsNoted watched.network changes
+  pub labels : AreLabelsNoted watched changes
 
 -- the row of the node at a place is as it is now, and the others are as they were
 pub record IsRenewed (judge : Seen → Verdict) (watched : Watched) (place : ℕ)

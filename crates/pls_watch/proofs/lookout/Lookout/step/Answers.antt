@@ -1,5 +1,4 @@
-use Rattle.std.proofs.Common.{◌∙◌, List, ap, sym, subst}
-use Rattle.pls_configuration.specs.declared.row.NodeRow.{NodeRow}
+use Rattle.std.proofs.Common.{sym, subst}
 use Rattle.pls_watch.specs.Watching.{Watched}
 use Rattle.pls_watch.specs.inner.Current.{IsCurrent, IsNoted}
 use Rattle.pls_watch.proofs.Current.{current_next}
@@ -14,8 +13,8 @@ invariant_of-self-2 g c =
     let change = c.in_ok-place.ensures in
     let new = c.note.new.changes.items in
     let taken = change.taken in
-    let noted = subst (λ (net : List NodeRow). IsNoted net event place old.changes.items new)
-    (c.network.ensures ∙ ap (λ (watched : Watched). watched.network) taken) c.note.ensures in
+    let noted = subst (λ (watched : Watched). IsNoted watched event place old.changes.items new)
+    taken c.note.ensures in
     subst (λ (watched : Watched). IsCurrent judge watched new old.shown.rows) (sym taken)
-    (current_next judge old.watch event place change.valid old.changes.items new old.shown.rows
-    c.self.invariant noted change.others)
+    (current_next judge old.watch event place change.valid change.applies old.changes.items new
+    old.shown.rows c.self.invariant noted change.others)

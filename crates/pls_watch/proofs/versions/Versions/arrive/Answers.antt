@@ -13,9 +13,22 @@ use Rattle.pls_watch.proofs.versions.Versions.arrive.Goals as goal
 pub arrives_at-at-requires-clause-emitted : goal.arrives_at-at-requires-clause-emitted
 arrives_at-at-requires-clause-emitted c =
     let old = c.self.inside in
-    few_emits old.net.now old.turns.items _ _ _ _ c.self.invariant.1 old.most old.sim
+    few_emits old.net.now old.turns.items _ _ _ c.self.invariant.1 old.most old.sim
     c.self.invariant.0
     c.args.number (omega (arith, c.if-number-len.false, c.len.ensures))
+
+pub owner-to-requires : goal.owner-to-requires
+owner-to-requires c =
+    let old = c.self.inside in
+    omega (
+      arith,
+      ap ports_in c.self.invariant.0.network,
+      at_within old.net.now old.turns.items _ _ _ c.self.invariant.1 old.most old.sim
+          c.self.invariant.0
+          c.args.number (omega (arith, c.if-number-len.false, c.len.ensures))
+          (c.args.number - 1) (omega (arith, c.if-number-eq0.false)) c.arrives_at-at.result
+          c.arrives_at-at.ensures,
+    )
 
 pub heard_at-heard-requires-clause-number : goal.heard_at-heard-requires-clause-number
 heard_at-heard-requires-clause-number c =
@@ -23,7 +36,7 @@ heard_at-heard-requires-clause-number c =
     omega (
       arith,
       ap ports_in c.self.invariant.0.network,
-      at_within old.net.now old.turns.items _ _ _ _ c.self.invariant.1 old.most old.sim
+      at_within old.net.now old.turns.items _ _ _ c.self.invariant.1 old.most old.sim
           c.self.invariant.0
           c.args.number (omega (arith, c.if-number-len.false, c.len.ensures))
           (c.args.number - 1) (omega (arith, c.if-number-eq0.false)) c.arrives_at-at.result
@@ -36,7 +49,7 @@ get-old-requires c =
     omega (
       arith,
       c.self.invariant.1.each_port,
-      at_within old.net.now old.turns.items _ _ _ _ c.self.invariant.1 old.most old.sim
+      at_within old.net.now old.turns.items _ _ _ c.self.invariant.1 old.most old.sim
           c.self.invariant.0
           c.args.number (omega (arith, c.if-number-len.false, c.len.ensures))
           (c.args.number - 1) (omega (arith, c.if-number-eq0.false)) c.arrives_at-at.result
@@ -49,7 +62,7 @@ set-requires c =
     omega (
       arith,
       c.self.invariant.1.each_port,
-      at_within old.net.now old.turns.items _ _ _ _ c.self.invariant.1 old.most old.sim
+      at_within old.net.now old.turns.items _ _ _ c.self.invariant.1 old.most old.sim
           c.self.invariant.0
           c.args.number (omega (arith, c.if-number-len.false, c.len.ensures))
           (c.args.number - 1) (omega (arith, c.if-number-eq0.false)) c.arrives_at-at.result
@@ -62,11 +75,11 @@ heard_at-heard-requires-clause-place c =
     omega (
       arith,
       ap length c.self.invariant.0.network,
-      end_within old.net.now old.turns.items _ _ _ _ c.self.invariant.1 old.most old.sim
+      end_within old.net.now old.turns.items _ _ _ c.self.invariant.1 old.most old.sim
           c.self.invariant.0
           c.args.number (omega (arith, c.if-number-len.false, c.len.ensures))
           (c.args.number - 1) (omega (arith, c.if-number-eq0.false)) c.arrives_at-at.result
-          c.arrives_at-at.ensures c.index.result.now c.index.ensures,
+          c.arrives_at-at.ensures c.owner-to.result c.owner-to.ensures,
     )
 
 pub invariant_of-self-2 : goal.invariant_of-self-2
@@ -88,19 +101,19 @@ invariant_of-self-2 c =
     ) (
       round_more rows old.most old.turns.items (Arrive c.args.number) old.sim c.step.new.self
           c.in_ok-step.ensures.taken c.self.invariant.0,
-      kept_now rows old.turns.items _ _ _ _ c.self.invariant.1 old.most old.sim c.self.invariant.0
+      kept_now rows old.turns.items _ _ _ c.self.invariant.1 old.most old.sim c.self.invariant.0
           c.args.number (omega (arith, c.if-number-len.false, c.len.ensures))
           (c.args.number - 1) (omega (arith, c.if-number-eq0.false)) c.arrives_at-at.result
-          c.arrives_at-at.ensures c.index.result.now c.index.ensures c.heard_at-heard.result
+          c.arrives_at-at.ensures c.owner-to.result c.owner-to.ensures c.heard_at-heard.result
           c.heard_at-heard.ensures c.get-old.result.0 c.get-came.result.0 c.later-version.result.0
           c.get-old.ensures.version c.get-came.ensures.version c.later-version.ensures.version,
-      rooms_more old.most _ _ _ old.turns.items _ room c.self.invariant.2,
-      numbered_now old.net.now old.turns.items _ _ _ _ c.self.invariant.1 old.most old.sim
+      rooms_more old.most _ _ old.turns.items _ room c.self.invariant.2,
+      numbered_now old.net.now old.turns.items _ _ _ c.self.invariant.1 old.most old.sim
           c.self.invariant.0 c.args.number
           (omega (arith, c.if-number-len.false, c.len.ensures)) (c.args.number -
           1)
           (omega (arith, c.if-number-eq0.false)) c.arrives_at-at.result c.arrives_at-at.ensures
-          c.index.result.now c.index.ensures c.heard_at-heard.result c.heard_at-heard.ensures _ _ _
+          c.owner-to.result c.owner-to.ensures c.heard_at-heard.result c.heard_at-heard.ensures _ _ _
           _
           c.self.invariant.3 c.get-old.result.0 c.get-old.result.1 c.get-came.result.0 c.get-came.result.1
           c.later-version.result.0 c.later-version.result.1 c.get-old.ensures.version c.get-old.ensures.label
@@ -139,20 +152,20 @@ returns-clause-holds c = λ i row neighbour stands differs.
     elim c.if-heard.branch [
       | then-heard+then-came-old w ↦
           rw (← c.self.view_is)
-          (held_still old.net.now old.turns.items _ _ _ _ c.self.invariant.1 old.most old.sim
+          (held_still old.net.now old.turns.items _ _ _ c.self.invariant.1 old.most old.sim
           c.self.invariant.0
           c.args.number (omega (arith, c.if-number-len.false, c.len.ensures))
           (c.args.number - 1) (omega (arith, c.if-number-eq0.false)) c.arrives_at-at.result
-          c.arrives_at-at.ensures c.index.result.now c.index.ensures c.heard_at-heard.result
+          c.arrives_at-at.ensures c.owner-to.result c.owner-to.ensures c.heard_at-heard.result
           c.heard_at-heard.ensures w.if-heard.true c.get-old.result.0 c.get-came.result.0
           w.if-came-old.true c.get-old.ensures.version c.get-came.ensures.version row.id neighbour)
       | else-heard w ↦
           rw (← c.self.view_is)
-          (held_elsewhere old.net.now old.turns.items _ _ _ _ c.self.invariant.1 old.most old.sim
+          (held_elsewhere old.net.now old.turns.items _ _ _ c.self.invariant.1 old.most old.sim
           c.self.invariant.0
           c.args.number (omega (arith, c.if-number-len.false, c.len.ensures))
           (c.args.number - 1) (omega (arith, c.if-number-eq0.false)) c.arrives_at-at.result
-          c.arrives_at-at.ensures c.index.result.now c.index.ensures c.heard_at-heard.result
+          c.arrives_at-at.ensures c.owner-to.result c.owner-to.ensures c.heard_at-heard.result
           c.heard_at-heard.ensures i row neighbour there
           (λ same. differs (w.changed-is ∙ ap Some same)))
     ]
@@ -160,15 +173,15 @@ returns-clause-holds c = λ i row neighbour stands differs.
 pub returns-clause-within : goal.returns-clause-within
 returns-clause-within c =
     let old = c.self.inside in
-    let within : c.index.result.now < length c.args.self.now.network =
+    let within : c.owner-to.result < length c.args.self.now.network =
     omega (
       arith,
       ap (λ (turned : Turned). length turned.network) c.self.view_is,
-      end_within old.net.now old.turns.items _ _ _ _ c.self.invariant.1 old.most old.sim
+      end_within old.net.now old.turns.items _ _ _ c.self.invariant.1 old.most old.sim
           c.self.invariant.0
           c.args.number (omega (arith, c.if-number-len.false, c.len.ensures))
           (c.args.number - 1) (omega (arith, c.if-number-eq0.false)) c.arrives_at-at.result
-          c.arrives_at-at.ensures c.index.result.now c.index.ensures,
+          c.arrives_at-at.ensures c.owner-to.result c.owner-to.ensures,
     ) in
     elim c.if-heard.branch [
       | then-heard+then-came-old w ↦ rw w.changed-is tt

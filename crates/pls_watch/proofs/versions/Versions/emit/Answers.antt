@@ -1,31 +1,46 @@
-use Rattle.std.proofs.Common.{◌≡◌, ◌<◌, length, get_or, ap, arith}
+use Rattle.std.proofs.Common.{◌≡◌, ◌∙◌, ◌<◌, ℕ, List, false, length, get_or, sym, ap, subst, arith}
+use Rattle.std.specs.Option.{is_none}
 use Rattle.std.proofs.lemmas.Option.{slice_get_within}
+use Rattle.pls_configuration.specs.declared.row.NodeRow.{NodeRow}
+use Rattle.pls_configuration.specs.Configuration.{row_of}
 use Rattle.pls_schedule.specs.declared.event.Event.TheVariants.{Emit}
+use Rattle.pls_sim.specs.Ways.{IsPlaceOf}
 use Rattle.pls_sim.proofs.Numbering.{value_at}
-use Rattle.pls_watch.specs.Turning.{Turned}
+use Rattle.pls_sim.proofs.Refusing.{found_at, no_node, none_found, not_full}
+use Rattle.pls_watch.specs.declared.turn.Turn.TheVariants.{Plain}
+use Rattle.pls_watch.specs.Turning.{Turned, round_of}
 use Rattle.pls_watch.proofs.Keep.{kept_emit, rooms_more, round_more}
 use Rattle.pls_watch.proofs.Numbered.{numbered_emit}
 use Rattle.pls_watch.proofs.More.{held_emit}
-use Rattle.pls_watch.proofs.Arrived.{names, few_carried}
+use Rattle.pls_watch.proofs.Arrived.{by_round, few_carried, room_in_round}
 use Rattle.pls_watch.proofs.versions.Versions.emit.Goals as goal
 
-pub ends_of-from-requires-clause-node : goal.ends_of-from-requires-clause-node
-ends_of-from-requires-clause-node c =
-    (names c.self.inside.net.now c.self.inside.sim c.self.invariant.0.network
-    (Emit c.args.node c.args.port) c.in_ok-step.ensures.applies).0
+pub returns-in_default-clause-refused : goal.returns-in_default-clause-refused
+returns-in_default-clause-refused c =
+    let none = none_found c.self.inside.net.now c.args.node
+    (sym c.place_of.ensures ∙ c.in_default.is) in
+    by_round c.args.self.now (Plain (Emit c.args.node c.args.port)) c.requires
+    ∙ no_node _ _ _ false
+    (not_full (round_of c.args.self.now) (room_in_round c.args.self.now c.requires))
+    (ap (λ (turned : Turned). is_none (row_of turned.network c.args.node)) (sym c.self.view_is)
+    ∙ ap is_none none)
 
-pub ends_of-from-requires-clause-port : goal.ends_of-from-requires-clause-port
-ends_of-from-requires-clause-port c =
-    (names c.self.inside.net.now c.self.inside.sim c.self.invariant.0.network
-    (Emit c.args.node c.args.port) c.in_ok-step.ensures.applies).1
+pub emit_at-requires-clause-place : goal.emit_at-requires-clause-place
+emit_at-requires-clause-place c =
+    subst (λ (rows : List NodeRow). IsPlaceOf rows c.args.node c.in-Some.from)
+    (sym c.self.invariant.0.network)
+    (found_at c.self.inside.net.now c.self.invariant.1.is_network c.args.node c.in-Some.from
+    (sym c.place_of.ensures ∙ c.in-Some.is))
 
-pub get-version-requires : goal.get-version-requires
-get-version-requires c =
-    let both = c.ends_of-from.ensures in
+pub emit_at-requires-clause-room : goal.emit_at-requires-clause-room
+emit_at-requires-clause-room c =
     omega (
       arith,
-      slice_get_within c.self.inside.net.now c.ends_of-from.result.0 both.row both.stands,
-      c.self.invariant.1.each_node,
+      room_in_round c.args.self.now c.requires,
+      ap (λ (turned : Turned). turned.most) c.self.view_is,
+      ap (λ (turned : Turned). length (round_of turned).events) c.self.view_is,
+      c.self.invariant.0.most_is,
+      ap length c.self.invariant.0.events,
     )
 
 pub push_reserved-requires : goal.push_reserved-requires
@@ -35,22 +50,8 @@ push_reserved-requires c =
       c.requires,
       ap (λ (turned : Turned). turned.most) c.self.view_is,
       ap (λ (turned : Turned). length turned.turns) c.self.view_is,
-      few_carried _ _ _ _ _ _ c.self.invariant.1,
+      few_carried _ _ _ _ _ c.self.invariant.1,
       c.self.invariant.2.for_sent,
-    )
-
-pub push_reserved-requires-2 : goal.push_reserved-requires-2
-push_reserved-requires-2 c =
-    let old = c.self.inside in
-    omega (
-      arith,
-      c.requires,
-      ap (λ (turned : Turned). turned.most) c.self.view_is,
-      ap (λ (turned : Turned). length turned.turns) c.self.view_is,
-      old.ends.ok.0,
-      few_carried _ _ _ _ _ _ c.self.invariant.1,
-      c.self.invariant.1.each_emit,
-      c.self.invariant.2.for_ends,
     )
 
 pub invariant_of-self-2 : goal.invariant_of-self-2
@@ -58,13 +59,15 @@ invariant_of-self-2 c =
     let old = c.self.inside in
     let rows = old.net.now in
     let kept = c.self.invariant.1 in
-    let both = c.ends_of-from.ensures in
-    let within = slice_get_within rows c.ends_of-from.result.0 both.row both.stands in
-    let version : get_or old.newest.versions c.ends_of-from.result.0 0 ≡ c.get-version.result.0 =
-    value_at old.newest.versions c.ends_of-from.result.0 c.get-version.result.0
+    let from : ℕ = c.in-Some.from in
+    let at = found_at rows kept.is_network c.args.node from
+    (sym c.place_of.ensures ∙ c.in-Some.is) in
+    let within = slice_get_within rows from at.row at.stands in
+    let version : get_or old.newest.versions from 0 ≡ c.get-version.result.0 =
+    value_at old.newest.versions from c.get-version.result.0
     (omega (arith, within, kept.each_node)) c.get-version.ensures.version in
-    let label : get_or old.newest.labels c.ends_of-from.result.0 0 ≡ c.get-version.result.1 =
-    value_at old.newest.labels c.ends_of-from.result.0 c.get-version.result.1
+    let label : get_or old.newest.labels from 0 ≡ c.get-version.result.1 =
+    value_at old.newest.labels from c.get-version.result.1
     (omega (arith, within, c.self.invariant.3.each_node)) c.get-version.ensures.label in
     let room : length old.turns.items < old.most =
     omega (
@@ -79,20 +82,15 @@ invariant_of-self-2 c =
       c.push_reserved.ensures.room,
       c.push_reserved-2.ensures.items,
       c.push_reserved-2.ensures.capacity,
-      c.push_reserved-3.ensures.items,
-      c.push_reserved-3.ensures.capacity,
       ← version,
       ← label,
     ) (
       round_more rows old.most old.turns.items (Emit c.args.node c.args.port) old.sim
-          c.step.new.self
-          c.in_ok-step.ensures.taken c.self.invariant.0,
-      kept_emit rows old.turns.items _ _ _ _ kept c.args.node c.args.port c.ends_of-from.result.0
-          c.ends_of-from.result.1 both,
-      rooms_more old.most _ _ _ old.turns.items _ room c.self.invariant.2,
-      numbered_emit rows old.turns.items _ _ _ _ c.self.invariant.3 _ _ _ _ kept c.args.node
-          c.args.port
-          c.ends_of-from.result.0 c.ends_of-from.result.1 both,
+          c.emit_at.new.self c.in_ok-emit_at.ensures.taken c.self.invariant.0,
+      kept_emit rows old.turns.items _ _ _ kept c.args.node c.args.port from at,
+      rooms_more old.most _ _ old.turns.items _ room c.self.invariant.2,
+      numbered_emit rows old.turns.items _ _ _ _ c.self.invariant.3 _ _ _ kept c.args.node
+          c.args.port from at,
       c.self.invariant.4,
     )
 

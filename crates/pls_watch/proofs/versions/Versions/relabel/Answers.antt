@@ -101,10 +101,10 @@ invariant_of-self c =
       ← number,
     ) (
       round_relabel rows old.most old.turns.items c.args.node old.sim c.self.invariant.0,
-      kept_relabel rows old.turns.items _ _ _ _ kept c.args.node c.in-Some.place at.row at.stands
+      kept_relabel rows old.turns.items _ _ _ kept c.args.node c.in-Some.place at.row at.stands
           at.is,
-      rooms_more old.most _ _ _ old.turns.items _ room c.self.invariant.2,
-      numbered_relabel rows old.turns.items _ _ _ _ c.self.invariant.3 _ _ _ _ kept c.args.node
+      rooms_more old.most _ _ old.turns.items _ room c.self.invariant.2,
+      numbered_relabel rows old.turns.items _ _ _ _ c.self.invariant.3 _ _ _ kept c.args.node
           c.in-Some.place at.row at.stands at.is,
       c.self.invariant.4,
     )

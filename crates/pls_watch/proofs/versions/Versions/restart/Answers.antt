@@ -20,9 +20,9 @@ invariant_of-self-2 c =
     rw (c.push_reserved.ensures.items, c.push_reserved.ensures.capacity) (
       round_more old.net.now old.most old.turns.items (Restart c.args.node) old.sim c.step.new.self
           c.in_ok-step.ensures.taken c.self.invariant.0,
-      kept_restart old.net.now old.turns.items _ _ _ _ c.self.invariant.1 c.args.node,
-      rooms_more old.most _ _ _ old.turns.items _ room c.self.invariant.2,
-      numbered_restart old.net.now old.turns.items _ _ _ _ c.self.invariant.3 _ _ _ _
+      kept_restart old.net.now old.turns.items _ _ _ c.self.invariant.1 c.args.node,
+      rooms_more old.most _ _ old.turns.items _ room c.self.invariant.2,
+      numbered_restart old.net.now old.turns.items _ _ _ _ c.self.invariant.3 _ _ _
           c.self.invariant.1
           c.args.node,
       c.self.invariant.4,

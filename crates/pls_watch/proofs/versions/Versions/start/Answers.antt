@@ -16,7 +16,6 @@ invariant_of-result-2 c =
       c.in_ok-with_room.ensures.versions,
       c.in_ok-with_room.ensures.labels,
       c.in_ok-with_capacity-2.ensures.items,
-      c.in_ok-with_capacity-3.ensures.items,
     ) (
       search rules,
       kept_start _ _ _ c.len.ensures.valid
