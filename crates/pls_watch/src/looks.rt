@@ -21,7 +21,7 @@ use pls_configuration::Verdict;
 use pls_labels::View;
 use pls_report::LookRow;
 use pls_scheme::Checker;
-use pls_sim::{Outcome, PortNumbers};
+use pls_sim::{Outcome, PortBuffer, PortNumbers};
 use pls_streams::{NoMemory, Steps};
 use std::alloc::Global;
 
@@ -165,8 +165,8 @@ impl<'n> Watch<'n> {
         ensures stale { IfOk result (λ ports. (row : NodeRow)
             → slice_get self.now.network i ≡ Some row → ports.1 ≡ stale_in self.now row) }
     {
-        let mut unheard = Vec::new(alloc);
-        let mut stale = Vec::new(alloc);
+        let mut unheard = PortBuffer::new(alloc);
+        let mut stale = PortBuffer::new(alloc);
         for port in 0..self.net.ports(i).len() {
             match self.know_port(i, port, table) {
                 PortState::Unheard => unheard.push(port as u32)?,
@@ -175,7 +175,10 @@ impl<'n> Watch<'n> {
             }
         }
         table[i] = self.versions.newest(i).1;
-        Ok((PortNumbers::from_vec(unheard), PortNumbers::from_vec(stale)))
+        Ok((
+            PortNumbers::from_buffer(unheard),
+            PortNumbers::from_buffer(stale),
+        ))
     }
 
     // Writes the label number, if one is held at the port, into `table` at the neighbour's place.

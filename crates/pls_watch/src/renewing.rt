@@ -10,7 +10,7 @@ use crate::change::Change;
 use crate::watch::Watch;
 use pls_report::LookRows;
 use pls_scheme::Checker;
-use pls_sim::PortNumbers;
+use pls_sim::{PortBuffer, PortNumbers};
 use pls_streams::{NoMemory, Steps};
 use std::alloc::Global;
 
@@ -88,7 +88,7 @@ impl<'n> Watch<'n> {
                 if stale == shown.rows()[i].stale() {
                     return Ok(());
                 }
-                let stale = PortNumbers::from_vec(stale.to_vec(alloc)?);
+                let stale = PortNumbers::from_buffer(PortBuffer::from_slice(alloc, stale)?);
                 shown.replace_stale(i, stale);
             }
             Change::Held | Change::Label => {
