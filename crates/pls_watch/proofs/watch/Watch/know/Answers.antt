@@ -108,7 +108,7 @@ loop-port-preserved c =
                 adds_one heard row.ports numbers p port.0 port.1 before
                 (is ∙ ap is_heard w.in-Unheard.is)
                 ∙ ap (λ (numbers : List ℕ). numbers ++ later)
-                (sym (ap (λ list. list.items) w.unheard-is ∙ w.in_ok-push-in-Unheard.ensures.items))
+                (sym (ap (λ list. list.items) w.unheard-is ∙ w.in_ok-push-in-Unheard.ensures.ok))
             | in-Stale+in_ok-push-in-Stale w ↦
                 passes_heard heard row.ports numbers p port.0 port.1 before
                 (is ∙ ap is_heard w.in-Stale.is)
@@ -138,7 +138,7 @@ loop-port-preserved c =
                 adds_one fresh row.ports numbers p port.0 port.1 before
                 (is ∙ ap is_newest w.in-Stale.is)
                 ∙ ap (λ (numbers : List ℕ). numbers ++ later)
-                (sym (ap (λ list. list.items) w.stale-is ∙ w.in_ok-push-in-Stale.ensures.items))
+                (sym (ap (λ list. list.items) w.stale-is ∙ w.in_ok-push-in-Stale.ensures.ok))
             | in-Fresh w ↦
                 passes_heard fresh row.ports numbers p port.0 port.1 before
                 (is ∙ ap is_newest w.in-Fresh.is)
@@ -147,8 +147,8 @@ loop-port-preserved c =
           ];
     }
 
-pub from_vec-requires : goal.from_vec-requires
-from_vec-requires c =
+pub from_buffer-requires : goal.from_buffer-requires
+from_buffer-requires c =
     let old = c.self.inside in
     let now = c.args.self.now in
     let row = item_at now.network c.args.i c.requires.place in
@@ -162,8 +162,8 @@ from_vec-requires c =
     (omega (arith, c.loop-port-test.false, ap length ports))
     (c.loop-port.invariant.unheard row.0 row.1)))
 
-pub from_vec-requires-2 : goal.from_vec-requires-2
-from_vec-requires-2 c =
+pub from_buffer-requires-2 : goal.from_buffer-requires-2
+from_buffer-requires-2 c =
     let old = c.self.inside in
     let now = c.args.self.now in
     let row = item_at now.network c.args.i c.requires.place in

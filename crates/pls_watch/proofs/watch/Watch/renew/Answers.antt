@@ -5,8 +5,8 @@ use Rattle.pls_watch.specs.declared.change.Change.TheVariants.{Nothing, Beside}
 use Rattle.pls_watch.proofs.Current.{renewed_as_shown, renewed_set, renewed_stale}
 use Rattle.pls_watch.proofs.watch.Watch.renew.Goals as goal
 
-pub returns-in_ok-to_vec-in-Beside-clause-renewed : goal.returns-in_ok-to_vec-in-Beside-clause-renewed
-returns-in_ok-to_vec-in-Beside-clause-renewed g c =
+pub returns-in_ok-from_slice-in-Beside-clause-renewed : goal.returns-in_ok-from_slice-in-Beside-clause-renewed
+returns-in_ok-from_slice-in-Beside-clause-renewed g c =
     let judge = g.K.Checker.judge c.args.checker.now in
     let changes = c.args.changes.now in
     let place = c.args.i in
@@ -15,9 +15,9 @@ returns-in_ok-to_vec-in-Beside-clause-renewed g c =
     let is : slice_get changes place ≡ Some Beside =
     slice_get-get_or changes place Nothing within ∙ ap Some c.in-Beside.is in
     renewed_stale judge c.args.self.now changes place c.args.shown.now.rows current
-    c.replace_stale.new.self.rows c.from_vec-stale.result c.requires.place is
-    (λ row stands. c.from_vec-stale.ensures
-    ∙ c.in_ok-to_vec-in-Beside.ensures.items_if_clones_equal (λ x y is. is)
+    c.replace_stale.new.self.rows c.from_buffer-stale.result c.requires.place is
+    (λ row stands. c.from_buffer-stale.ensures
+    ∙ c.in_ok-from_slice-in-Beside.ensures.ok
     ∙ c.as_slice-stale.ensures.value ∙ c.in_ok-list_stale-in-Beside.ensures.ports row stands)
     c.replace_stale.ensures.rows
 
