@@ -70,7 +70,7 @@ pub use pls_recheck::{Bench, BenchJudge, EditedNetwork, Judge, Monitor, Recheck,
 
 // Rounds of messages.
 pub use pls_schedule::Event;
-pub use pls_sim::{EventError, Outcome, PortNumbers, Sim};
+pub use pls_sim::{EventError, Outcome, PortBuffer, PortNumbers, Sim};
 pub use pls_watch::{LookRow, LookRows, Lookout, Turn, Watch};
 pub use pls_watch_part::{BoxedLabel, WatchEvent};
 

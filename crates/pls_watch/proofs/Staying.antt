@@ -133,6 +133,17 @@ module _ (watched : Watched) (event : WatchEvent) where
     outcome_stays judge = λ i. outcome_after (unheard_same i)
         (judge (seen (λ other. believed_same other i) row))
 
+    -- what is held is not the newest once there is another
+    not_newest : (nbr version : ℕ) → held rows turns row.id nbr ≡ Some version
+        → relabels nbr (turn_of event) ≡ true → (version == newest later nbr) ≡ false
+    not_newest nbr version is gives =
+        ne_eqb version (newest later nbr) (λ same. omega (
+          arith,
+          same,
+          held_few rows turns row.id nbr version is,
+          newest_next nbr gives,
+        ))
+
     -- a port stays as stale as it is where the neighbour gets no label, or none before was its newest
     fresh_same : (nbr : ℕ) → (relabels nbr (turn_of event) ≡ true
         → holds_newest rows turns row.id nbr ≡ false)
@@ -145,12 +156,7 @@ module _ (watched : Watched) (event : WatchEvent) where
             ≡ option_map_or (λ version. version == newest turns nbr) o true
         of None is gives = refl
         of (Some version) is gives =
-            ne_eqb version (newest later nbr) (λ same. omega (
-              arith,
-              same,
-              held_few rows turns row.id nbr version is,
-              newest_next nbr gives,
-            ))
+            not_newest nbr version is gives
             ∙ sym (sym (ap (λ (o : Option ℕ). option_map_or
             (λ version. version == newest turns nbr) o false) is) ∙ behind gives)
 
@@ -196,13 +202,7 @@ module _ (watched : Watched) (event : WatchEvent) where
             → relabels nbr (turn_of event) ≡ true
             → option_map_or (λ version. version == newest later nbr) o false ≡ false
         of None is gives = refl
-        of (Some version) is gives =
-            ne_eqb version (newest later nbr) (λ same. omega (
-              arith,
-              same,
-              held_few rows turns row.id nbr version is,
-              newest_next nbr gives,
-            ))
+        of (Some version) is gives = not_newest nbr version is gives
 
         by : (b : Bool) → relabels nbr (turn_of event) ≡ b
             → holds_newest rows later row.id nbr ≡ false

@@ -23,7 +23,7 @@ mod watch;
 
 pub use lookout::Lookout;
 pub use pls_report::{LookRow, LookRows};
-pub use pls_sim::{EventError, Outcome, PortNumbers};
+pub use pls_sim::{EventError, Outcome, PortBuffer, PortNumbers};
 pub use pls_streams::NoMemory;
 pub use pls_watch_part::{BoxedLabel, WatchEvent};
 pub use turn::Turn;

@@ -1,5 +1,4 @@
-use Rattle.std.proofs.Common.{◌≡◌, ◌∙◌, ◌+◌, ◌<◌, ℕ, false, nat_le, List, Some, length, get_or, slice_get, option_map, option_and_then, sym, ap, subst, refl, arith}
-use Rattle.std.specs.Option.{is_none, option_map_or}
+use Rattle.std.proofs.Common.{◌≡◌, ◌∙◌, ◌+◌, ◌<◌, ℕ, false, Some, length, get_or, slice_get, option_map, option_and_then, sym, ap, subst, refl, arith}
 use Rattle.std.proofs.lemmas.Bool.{le-leb, lt-leb}
 use Rattle.std.proofs.lemmas.Option.{get_or_from_slice_get, same_Some}
 use Rattle.pls_configuration.specs.declared.row.Port.{Port}
@@ -9,7 +8,7 @@ use Rattle.pls_sim.specs.Applying.{Played}
 use Rattle.pls_sim.specs.Ways.{IsSlot}
 use Rattle.pls_sim.proofs.Keeping.{few_sent, kept_emit, room_more}
 use Rattle.pls_sim.proofs.Numbering.{numbered}
-use Rattle.pls_sim.proofs.Refusing.{no_port, no_refusal, not_full, ports_at, row_there}
+use Rattle.pls_sim.proofs.Refusing.{no_port, no_refusal, node_named, not_full, port_named, ports_at, row_there}
 use Rattle.pls_sim.proofs.sim.Sim.emit_at.Goals as goal
 
 pub returns-then-port-ports-clause-refused : goal.returns-then-port-ports-clause-refused
@@ -21,11 +20,8 @@ returns-then-port-ports-clause-refused c =
     let ports : at.row.ports ≡ c.ports.result.now =
     ports_at rows c.args.place at.row c.ports.result.now at.stands c.ports.ensures in
     no_port _ _ _ false (not_full c.args.self.now c.requires.room)
-    (ap (λ (rows : List NodeRow). is_none (row_of rows c.args.node)) (sym network)
-    ∙ ap is_none at.found)
-    (ap (λ (rows : List NodeRow). option_map_or (λ (row : NodeRow). nat_le (length row.ports) c.args.port)
-    (row_of rows c.args.node) false) (sym network)
-    ∙ ap (λ o. option_map_or (λ (row : NodeRow). nat_le (length row.ports) c.args.port) o false) at.found
+    (node_named rows c.args.self.now.network network c.args.node c.args.place c.args.port at)
+    (port_named rows c.args.self.now.network network c.args.node c.args.place c.args.port at
     ∙ le-leb (length at.row.ports) c.args.port
     (omega (arith, c.if-port-ports.true, ap length ports)))
 
@@ -38,11 +34,8 @@ returns-clause-applies c =
     let ports : at.row.ports ≡ c.ports.result.now =
     ports_at rows c.args.place at.row c.ports.result.now at.stands c.ports.ensures in
     no_refusal _ _ _ false (not_full c.args.self.now c.requires.room)
-    (ap (λ (rows : List NodeRow). is_none (row_of rows c.args.node)) (sym network)
-    ∙ ap is_none at.found)
-    (ap (λ (rows : List NodeRow). option_map_or (λ (row : NodeRow). nat_le (length row.ports) c.args.port)
-    (row_of rows c.args.node) false) (sym network)
-    ∙ ap (λ o. option_map_or (λ (row : NodeRow). nat_le (length row.ports) c.args.port) o false) at.found
+    (node_named rows c.args.self.now.network network c.args.node c.args.place c.args.port at)
+    (port_named rows c.args.self.now.network network c.args.node c.args.place c.args.port at
     ∙ lt-leb (length at.row.ports) c.args.port
     (omega (arith, c.if-port-ports.false, ap length ports)))
     refl
