@@ -1,4 +1,5 @@
 pub mod Worked
+pub mod Woven
 pub mod More
 pub mod Keep
 pub mod Arrival

@@ -5,3 +5,4 @@ pub mod Numbers
 pub mod Stock
 pub mod Known
 pub mod Current
+pub mod Woven

@@ -10,6 +10,7 @@
 #![tactic(auto)]
 
 mod change;
+mod giving;
 mod known_labels;
 mod lookout;
 mod looks;

@@ -13,6 +13,7 @@ ghost use Rattle.pls_watch.specs.inner.Current.{holds_last};
 ghost use Rattle.pls_watch.specs.inner.Held.{HoldAsBefore};
 ghost use Rattle.pls_watch.specs.inner.Numbers.{IsLabel, IsOneOf};
 
+use crate::giving::Giving;
 use crate::turn::Turn;
 use crate::version_list::VersionList;
 use pls_graph::Network;
@@ -29,38 +30,42 @@ pub(crate) struct Versions<'n> {
     pub(crate) net: &'n Network,
     pub(crate) sim: Sim<'n>,
     most: usize,
-    turns: Vec<Turn>,
     // For each node its newest version.
     newest: VersionList,
     // For each emit the version that it carries.
     pub(crate) carried: VersionList,
     // For each port, numbered through, the version that is held, where something was heard.
     pub(crate) held: VersionList,
-    // For each label that was given the number of the one that its node had before.
-    earlier: Vec<u32>,
+    givings: Vec<Giving>,
 }
 
 impl<'n> Model for Versions<'n> {
+    ghost use Rattle.std.specs.Prelude.{map};
     ghost use Rattle.std.specs.Vec.{vec_capacity};
     ghost use Rattle.pls_watch.specs.Turning.{Turned};
     ghost use Rattle.pls_watch.specs.inner.Held.{AreKept, IsRound, Rooms};
     ghost use Rattle.pls_watch.specs.inner.Numbers.{AreNumbered, NumberRooms};
+    ghost use Rattle.pls_watch.specs.inner.Woven.{AreWoven, woven};
 
     ghost Value = { Turned };
 
     ghost view = { λ watch. record {
       network = watch.net.now;
       most = watch.most;
-      turns = watch.turns.items;
+      turns = woven watch.sim.events watch.givings.items;
     } };
 
-    ghost invariant = { λ watch. IsRound watch.net.now watch.most watch.turns.items watch.sim
-        × AreKept watch.net.now watch.turns.items watch.newest.versions watch.carried.versions
-        watch.held.versions
-        × Rooms watch.most watch.turns.items (vec_capacity watch.turns) watch.carried.room
-        × AreNumbered watch.net.now watch.turns.items watch.newest.labels watch.carried.labels
-        watch.held.labels watch.earlier.items
-        × NumberRooms watch.most (vec_capacity watch.earlier) };
+    ghost invariant = { λ watch. IsRound watch.net.now watch.most
+        (woven watch.sim.events watch.givings.items) watch.sim
+        × AreKept watch.net.now (woven watch.sim.events watch.givings.items) watch.newest.versions
+        watch.carried.versions watch.held.versions
+        × Rooms watch.most (woven watch.sim.events watch.givings.items)
+        (vec_capacity watch.givings) watch.carried.room
+        × AreNumbered watch.net.now (woven watch.sim.events watch.givings.items)
+        watch.newest.labels watch.carried.labels watch.held.labels
+        (map (λ giving. giving.earlier) watch.givings.items)
+        × NumberRooms watch.most (vec_capacity watch.givings)
+        × AreWoven watch.sim.events watch.givings.items };
 }
 
 impl<'n> Versions<'n> {
@@ -81,11 +86,10 @@ impl<'n> Versions<'n> {
             net,
             sim,
             most,
-            turns: Vec::with_capacity(alloc, most)?,
             newest: VersionList::first(alloc, net.len())?,
             carried: VersionList::with_room(alloc, most)?,
             held,
-            earlier: Vec::with_capacity(alloc, most)?,
+            givings: Vec::with_capacity(alloc, most)?,
         })
     }
 
@@ -106,7 +110,7 @@ impl<'n> Versions<'n> {
         ensures refused { IfErr result (λ error. turn_refusal self.old turn ≡ Some error) }
         ensures unchanged { OnErr result (self.new ≡ self.old) }
     {
-        if self.turns.len() >= self.most {
+        if self.sim.len() + self.givings.len() >= self.most {
             return Err(EventError::Full);
         }
         match turn {
@@ -137,8 +141,6 @@ impl<'n> Versions<'n> {
         self.sim.emit_at(from, node, port)?;
         let (version, label) = self.newest.get(from);
         self.carried.push_reserved(version, label);
-        self.turns
-            .push_reserved(Turn::Plain(Event::Emit { node, port }));
         Ok(None)
     }
 
@@ -170,7 +172,6 @@ impl<'n> Versions<'n> {
         let changed = if heard && came <= old { None } else { Some(to) };
         let (version, label) = later(heard, (old, old_label), (came, came_label));
         self.held.set(at, version, label);
-        self.turns.push_reserved(Turn::Plain(Event::Arrive(number)));
         Ok(changed)
     }
 
@@ -189,7 +190,6 @@ impl<'n> Versions<'n> {
         ensures unchanged { OnErr result (self.new ≡ self.old) }
     {
         self.sim.step(Event::Restart(node))?;
-        self.turns.push_reserved(Turn::Plain(Event::Restart(node)));
         Ok(self.net.place_of(node))
     }
 
@@ -210,11 +210,15 @@ impl<'n> Versions<'n> {
         let Some(place) = self.net.place_of(node) else {
             return Err(EventError::NoNode);
         };
-        let number = self.net.len() + self.earlier.len();
+        let number = self.net.len() + self.givings.len();
         let (version, label) = self.newest.get(place);
-        self.earlier.push_reserved(label);
+        let behind = self.sim.len() as u32;
+        self.givings.push_reserved(Giving {
+            node,
+            behind,
+            earlier: label,
+        });
         self.newest.set(place, version + 1, number as u32);
-        self.turns.push_reserved(Turn::Relabel(node));
         Ok(Some(place))
     }
 
@@ -234,7 +238,7 @@ impl<'n> Versions<'n> {
         ensures { AllByRecursion (NamesEmit (length (emits_of (plain_of self.now.turns))))
             (plain_of self.now.turns) }
     {
-        let _ = self.turns.len();
+        let _ = self.givings.len();
     }
 
     /// What the node at place `i` holds at its port of this number: the version of the neighbour's
@@ -363,7 +367,7 @@ impl<'n> Versions<'n> {
     {
         let (mut at, mut number) = self.newest(i);
         while at as u64 > version {
-            number = self.earlier[number as usize - self.net.len()];
+            number = self.givings[number as usize - self.net.len()].earlier;
             at -= 1;
         }
         number

@@ -3,13 +3,16 @@ use Rattle.std.specs.Option.{is_none}
 use Rattle.std.proofs.lemmas.Option.{slice_get_within}
 use Rattle.pls_configuration.specs.declared.row.NodeRow.{NodeRow}
 use Rattle.pls_configuration.specs.Configuration.{row_of}
+use Rattle.pls_schedule.specs.declared.event.Event.{Event}
 use Rattle.pls_schedule.specs.declared.event.Event.TheVariants.{Emit}
 use Rattle.pls_sim.specs.Ways.{IsPlaceOf}
 use Rattle.pls_sim.proofs.Numbering.{value_at}
 use Rattle.pls_sim.proofs.Refusing.{found_at, no_node, none_found, not_full}
 use Rattle.pls_watch.specs.declared.turn.Turn.TheVariants.{Plain}
-use Rattle.pls_watch.specs.Turning.{Turned, round_of}
+use Rattle.pls_watch.specs.inner.Woven.{woven}
+use Rattle.pls_watch.specs.Turning.{round_of, Turned, turning}
 use Rattle.pls_watch.proofs.Keep.{kept_emit, rooms_more, round_more}
+use Rattle.pls_watch.proofs.Woven.{turns_after, woven_after}
 use Rattle.pls_watch.proofs.Numbered.{numbered_emit}
 use Rattle.pls_watch.proofs.More.{held_emit}
 use Rattle.pls_watch.proofs.Arrived.{by_round, few_carried, room_in_round}
@@ -69,33 +72,48 @@ invariant_of-self-2 c =
     let label : get_or old.newest.labels from 0 ≡ c.get-version.result.1 =
     value_at old.newest.labels from c.get-version.result.1
     (omega (arith, within, c.self.invariant.3.each_node)) c.get-version.ensures.label in
-    let room : length old.turns.items < old.most =
+    let room : length (woven old.sim.events old.givings.items) < old.most =
     omega (
       arith,
       c.requires,
       ap (λ (turned : Turned). turned.most) c.self.view_is,
       ap (λ (turned : Turned). length turned.turns) c.self.view_is,
     ) in
+    let event : Event = Emit c.args.node c.args.port in
+    let grown = turns_after old.sim c.emit_at.new.self old.givings.items event
+    c.in_ok-emit_at.ensures.taken c.self.invariant.5 in
     rw (
       c.push_reserved.ensures.versions,
       c.push_reserved.ensures.labels,
       c.push_reserved.ensures.room,
-      c.push_reserved-2.ensures.items,
-      c.push_reserved-2.ensures.capacity,
+      grown,
       ← version,
       ← label,
     ) (
-      round_more rows old.most old.turns.items (Emit c.args.node c.args.port) old.sim
+      round_more rows old.most (woven old.sim.events old.givings.items) (Emit c.args.node c.args.port) old.sim
           c.emit_at.new.self c.in_ok-emit_at.ensures.taken c.self.invariant.0,
-      kept_emit rows old.turns.items _ _ _ kept c.args.node c.args.port from at,
-      rooms_more old.most _ _ old.turns.items _ room c.self.invariant.2,
-      numbered_emit rows old.turns.items _ _ _ _ c.self.invariant.3 _ _ _ kept c.args.node
+      kept_emit rows (woven old.sim.events old.givings.items) _ _ _ kept c.args.node c.args.port from at,
+      rooms_more old.most _ _ (woven old.sim.events old.givings.items) _ room c.self.invariant.2,
+      numbered_emit rows (woven old.sim.events old.givings.items) _ _ _ _ c.self.invariant.3 _ _ _ kept c.args.node
           c.args.port from at,
       c.self.invariant.4,
+      woven_after old.sim c.emit_at.new.self old.givings.items event c.in_ok-emit_at.ensures.taken
+          c.self.invariant.5,
     )
 
 pub returns-clause-holds : goal.returns-clause-holds
 returns-clause-holds c = λ i row neighbour stands differs.
     rw (← c.self.view_is)
-    (held_emit c.self.inside.net.now c.self.inside.turns.items c.args.node c.args.port row.id
+    (held_emit c.self.inside.net.now (woven c.self.inside.sim.events c.self.inside.givings.items) c.args.node c.args.port row.id
     neighbour c.self.invariant.1.numbered)
+
+pub returns-clause-taken : goal.returns-clause-taken
+returns-clause-taken c =
+    let old = c.self.inside in
+    let event : Event = Emit c.args.node c.args.port in
+    (λ i. record {
+      network = old.net.now;
+      most = old.most;
+      turns = turns_after old.sim c.emit_at.new.self old.givings.items event
+          c.in_ok-emit_at.ensures.taken c.self.invariant.5 i;
+    }) ∙ ap (turning (Plain event)) c.self.view_is

@@ -4,6 +4,7 @@ use Rattle.pls_configuration.specs.Configuration.{ports_in}
 use Rattle.pls_sim.proofs.Numbering.{slot_within}
 use Rattle.pls_watch.specs.Versions.{held}
 use Rattle.pls_watch.specs.Turning.{Turned}
+use Rattle.pls_watch.specs.inner.Woven.{woven}
 use Rattle.pls_watch.proofs.Arrived.{held_value, none_held, port_there}
 use Rattle.pls_watch.proofs.LedBack.{heard_led, slot_led}
 use Rattle.pls_watch.proofs.versions.Versions.held_back.Goals as goal
@@ -48,7 +49,7 @@ returns-then-not-heard_at c row at stands has =
     ap (λ (rows : List NodeRow). slice_get rows c.args.i) network ∙ stands in
     let numbered = c.number_of.ensures.number row at
     (ap (λ (rows : List NodeRow). slice_get rows c.args.i) same ∙ here) has in
-    none_held rows old.turns.items _ _ _ c.self.invariant.1 old.most old.sim c.self.invariant.0
+    none_held rows (woven old.sim.events old.givings.items) _ _ _ c.self.invariant.1 old.most old.sim c.self.invariant.0
     at.nbr row.id c.heard_at.result
     (heard_led rows net old.sim same c.args.i c.args.port row at here has c.number_of.result
     c.back-back.result numbered c.back-back.ensures c.places.result.now c.places.ensures.places
@@ -69,7 +70,7 @@ returns c row at stands has =
     (ap (λ (rows : List NodeRow). slice_get rows c.args.i) same ∙ here) has in
     let slot = slot_led rows net old.sim same c.args.i c.args.port row at here has
     c.number_of.result c.back-back.result numbered c.back-back.ensures in
-    held_value rows old.turns.items _ _ _ c.self.invariant.1 old.most old.sim c.self.invariant.0
+    held_value rows (woven old.sim.events old.givings.items) _ _ _ c.self.invariant.1 old.most old.sim c.self.invariant.0
     at.nbr row.id c.heard_at.result
     (heard_led rows net old.sim same c.args.i c.args.port row at here has c.number_of.result
     c.back-back.result numbered c.back-back.ensures c.places.result.now c.places.ensures.places

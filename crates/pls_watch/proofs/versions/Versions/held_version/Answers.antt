@@ -6,6 +6,7 @@ use Rattle.pls_sim.proofs.Numbering.{value_at}
 use Rattle.pls_watch.specs.Versions.{held}
 use Rattle.pls_watch.specs.Turning.{Turned}
 use Rattle.pls_watch.specs.inner.Numbers.{IsLabel}
+use Rattle.pls_watch.specs.inner.Woven.{woven}
 use Rattle.pls_watch.proofs.Arrived.{held_value, none_held}
 use Rattle.pls_watch.proofs.versions.Versions.held_version.Goals as goal
 
@@ -13,7 +14,7 @@ pub returns-then-not-heard-clause-version : goal.returns-then-not-heard-clause-v
 returns-then-not-heard-clause-version c = λ row at stands has.
     let old = c.self.inside in
     let network = ap (λ (turned : Turned). turned.network) c.self.view_is in
-    none_held old.net.now old.turns.items _ _ _ c.self.invariant.1 old.most old.sim
+    none_held old.net.now (woven old.sim.events old.givings.items) _ _ _ c.self.invariant.1 old.most old.sim
     c.self.invariant.0
     row.id at.nbr c.heard.result
     (c.heard.ensures row at (ap (λ (rows : List NodeRow). slice_get rows c.args.i)
@@ -37,7 +38,7 @@ returns-clause-version c = λ row at stands has.
     let there : slice_get old.sim.network c.args.i ≡ Some row =
     ap (λ (rows : List NodeRow). slice_get rows c.args.i)
     (c.self.invariant.0.network ∙ network) ∙ stands in
-    held_value old.net.now old.turns.items _ _ _ c.self.invariant.1 old.most old.sim
+    held_value old.net.now (woven old.sim.events old.givings.items) _ _ _ c.self.invariant.1 old.most old.sim
     c.self.invariant.0
     row.id at.nbr c.heard.result (c.heard.ensures row at there has)
     c.if-not-heard.false c.number_of-number.result c.get.result.0
@@ -65,7 +66,7 @@ returns-clause-label c = λ row at stands has.
     c.self.invariant.0.network (c.number_of-number.ensures.number row at there has) in
     let within = c.number_of-number.ensures.within in
     let version =
-    held_value rows old.turns.items _ _ _ c.self.invariant.1 old.most old.sim c.self.invariant.0
+    held_value rows (woven old.sim.events old.givings.items) _ _ _ c.self.invariant.1 old.most old.sim c.self.invariant.0
     row.id at.nbr c.heard.result (c.heard.ensures row at there has)
     c.if-not-heard.false c.number_of-number.result c.get.result.0 slot
     (omega (arith, within, ap ports_in c.self.invariant.0.network, c.self.invariant.1.each_port))
@@ -76,6 +77,6 @@ returns-clause-label c = λ row at stands has.
     c.get.ensures.label in
     subst (λ (turned : Turned). IsLabel turned.network turned.turns at.nbr c.get.result.0
     c.get.result.1) c.self.view_is
-    (subst (λ (l : ℕ). IsLabel rows old.turns.items at.nbr c.get.result.0 l) label
+    (subst (λ (l : ℕ). IsLabel rows (woven old.sim.events old.givings.items) at.nbr c.get.result.0 l) label
     (c.self.invariant.3.are_held c.number_of-number.result row.id at.nbr c.get.result.0 slot
     (sym version)))

@@ -20,7 +20,8 @@ overflow_add-result c =
       held_few c.args.self.now.network turns there.1.nbr there.0.id c.in-Some.version is,
       newest_few turns there.0.id,
       ap (λ (turned : Turned). length turned.turns) c.self.view_is,
-      c.self.inside.turns.ok,
+      c.self.invariant.2.few,
+      c.self.invariant.4.small,
     )
 
 pub returns-in-Some : goal.returns-in-Some

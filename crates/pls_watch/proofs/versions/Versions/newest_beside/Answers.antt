@@ -6,6 +6,7 @@ use Rattle.pls_sim.proofs.Ends.{beside_length, end_at}
 use Rattle.pls_sim.proofs.Numbering.{value_at}
 use Rattle.pls_watch.specs.Versions.{newest}
 use Rattle.pls_watch.specs.Turning.{Turned}
+use Rattle.pls_watch.specs.inner.Woven.{woven}
 use Rattle.pls_watch.proofs.Arrived.{port_there}
 use Rattle.pls_watch.proofs.versions.Versions.newest_beside.Goals as goal
 
@@ -42,6 +43,6 @@ returns c = λ row at stands has.
     value_at old.newest.versions place c.get.result.0
     (omega (arith, slice_get_within rows place end.other there, kept.each_node)) c.get.ensures.version in
     sym value ∙ kept.are_newest place end.other there
-    ∙ ap (newest old.turns.items) (sym end.leads ∙ ap (λ (port : Port). port.nbr)
+    ∙ ap (newest (woven old.sim.events old.givings.items)) (sym end.leads ∙ ap (λ (port : Port). port.nbr)
     (same_Some end.port at (sym end.has ∙ has)))
     ∙ ap (λ (turned : Turned). newest turned.turns at.nbr) c.self.view_is

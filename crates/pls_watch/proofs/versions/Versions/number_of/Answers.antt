@@ -1,6 +1,8 @@
-use Rattle.std.proofs.Common.{◌≡◌, ◌∙◌, ℕ, ◌-◌, ◌<◌, length, get_or, sym, ap, subst, arith}
+use Rattle.std.proofs.Common.{◌≡◌, ◌∙◌, ℕ, ◌-◌, ◌<◌, List, length, map, get_or, sym, ap, subst, arith}
+use Rattle.std.proofs.lemmas.List.{length-map}
 use Rattle.pls_graph.proofs.Finds.{item_at}
-use Rattle.pls_sim.proofs.Numbering.{value_at}
+use Rattle.pls_watch.specs.declared.giving.Giving.{Giving}
+use Rattle.pls_watch.proofs.Woven.{earlier_at}
 use Rattle.pls_watch.specs.Turning.{Turned}
 use Rattle.pls_watch.specs.inner.Numbers.{IsGiven, IsLabel, relabelled}
 use Rattle.pls_watch.proofs.Numbers.{later_label}
@@ -21,8 +23,8 @@ overflow_sub-number c =
           c.self.view_is,
     )
 
-pub index-number-requires : goal.index-number-requires
-index-number-requires c =
+pub index-requires : goal.index-requires
+index-requires c =
     let old = c.self.inside in
     let seen = c.args.self.now in
     let row = item_at seen.network c.args.i c.requires.place in
@@ -37,7 +39,8 @@ index-number-requires c =
       ap (λ (turned : Turned). length turned.network) c.self.view_is,
       ap (λ (turned : Turned). length (relabelled turned.turns)) c.self.view_is,
       c.self.invariant.3.each_given,
-      old.earlier.ok.0,
+      old.givings.ok.0,
+      length-map old.givings.items (λ (giving : Giving). giving.earlier),
     )
 
 pub loop-at-preserved : goal.loop-at-preserved
@@ -55,23 +58,26 @@ loop-at-preserved c = λ row stands.
       c.len.ensures,
       ap (λ (turned : Turned). length turned.network) c.self.view_is,
     ) in
-    let within : c.loop-at.number - c.len.result < length old.earlier.items =
+    let givings : List Giving = old.givings.items in
+    let earlier : List ℕ = map (λ (giving : Giving). giving.earlier) givings in
+    let within : c.loop-at.number - c.len.result < length givings =
     omega (
       arith,
+      length-map givings (λ (giving : Giving). giving.earlier),
       place,
       later.within,
       ap (λ (turned : Turned). length (relabelled turned.turns)) c.self.view_is,
       c.self.invariant.3.each_given,
     ) in
-    let value : get_or old.earlier.items later.place 0 ≡ c.index-number.result.now =
-    ap (λ (k : ℕ). get_or old.earlier.items k 0) (sym place)
-    ∙ value_at old.earlier.items (c.loop-at.number - c.len.result) c.index-number.result.now within
-    c.index-number.ensures in
+    let value : get_or earlier later.place 0 ≡ c.index.result.now.earlier =
+    ap (λ (k : ℕ). get_or earlier k 0) (sym place)
+    ∙ earlier_at givings (c.loop-at.number - c.len.result) c.index.result.now within
+    c.index.ensures in
     let given = subst (λ (turned : Turned). IsGiven turned.turns row.id (at - 1) later.place)
     (sym c.self.view_is) later.given in (
       subst (λ (l : ℕ). IsLabel seen.network seen.turns row.id (at - 1) l) value
           (subst (λ (turned : Turned). IsLabel turned.network turned.turns row.id (at - 1)
-          (get_or old.earlier.items later.place 0)) c.self.view_is
+          (get_or earlier later.place 0)) c.self.view_is
           (c.self.invariant.3.are_earlier later.place row.id (at - 1) given)),
       omega (arith, c.loop-at-test.true),
     )

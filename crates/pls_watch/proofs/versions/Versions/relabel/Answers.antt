@@ -1,4 +1,5 @@
-use Rattle.std.proofs.Common.{◌≡◌, ◌≢◌, ◌∙◌, ℕ, slice_get, subst, ◌<◌, ◌+◌, ◌==◌, length, get_or, position, Option, Some, is_none, sym, ap, arith}
+use Rattle.std.proofs.Common.{◌≡◌, ◌≢◌, ◌∙◌, ◌∷◌, [], List, map, ℕ, slice_get, subst, ◌<◌, ◌+◌, ◌==◌, length, get_or, position, Option, Some, is_none, sym, ap, arith}
+use Rattle.std.proofs.lemmas.List.{length-map, map-append}
 use Rattle.std.proofs.lemmas.Option.{slice_get_within}
 use Rattle.pls_configuration.specs.declared.row.NodeRow.{NodeRow}
 use Rattle.pls_configuration.specs.Configuration.{row_of}
@@ -6,12 +7,15 @@ use Rattle.pls_sim.specs.Applying.{refused_if}
 use Rattle.pls_sim.specs.declared.event_error.EventError.TheVariants.{NoNode}
 use Rattle.pls_sim.proofs.Numbering.{value_at}
 use Rattle.pls_sim.proofs.Refusing.{at_place, none_found, place_within}
+use Rattle.pls_watch.specs.declared.giving.Giving.{Giving}
 use Rattle.pls_watch.specs.declared.turn.Turn.TheVariants.{Relabel}
-use Rattle.pls_watch.specs.Turning.{Turned}
+use Rattle.pls_watch.specs.inner.Woven.{woven}
+use Rattle.pls_watch.specs.Turning.{Turned, turning}
 use Rattle.pls_watch.proofs.More.{held_relabel, newest_few}
 use Rattle.pls_watch.proofs.Keep.{kept_relabel, rooms_more, round_relabel}
 use Rattle.pls_watch.specs.inner.Numbers.{relabelled}
 use Rattle.pls_watch.proofs.Arrived.{by_round, not_there}
+use Rattle.pls_watch.proofs.Woven.{more_givings, woven_giving}
 use Rattle.pls_watch.proofs.Numbers.{few_given}
 use Rattle.pls_watch.proofs.Numbered.{numbered_relabel}
 use Rattle.pls_watch.proofs.versions.Versions.relabel.Goals as goal
@@ -54,8 +58,9 @@ overflow_add-version c =
       arith,
       value,
       kept.are_newest c.in-Some.place at.row at.stands,
-      newest_few old.turns.items at.row.id,
-      old.turns.ok,
+      newest_few (woven old.sim.events old.givings.items) at.row.id,
+      c.self.invariant.2.few,
+      c.self.invariant.4.small,
     )
 
 pub invariant_of-self : goal.invariant_of-self
@@ -71,7 +76,7 @@ invariant_of-self c =
     value_at old.newest.versions c.in-Some.place c.get-version.result.0
     (omega (arith, slice_get_within rows c.in-Some.place at.row at.stands, kept.each_node))
     c.get-version.ensures.version in
-    let room : length old.turns.items < old.most =
+    let room : length (woven old.sim.events old.givings.items) < old.most =
     omega (
       arith,
       c.requires,
@@ -86,27 +91,39 @@ invariant_of-self c =
       c.self.invariant.3.each_node,
     ))
     c.get-version.ensures.label in
-    let number : length rows + length (relabelled old.turns.items) ≡ c.len.result + c.len-2.result =
-    omega (arith, c.len.ensures, c.len-2.ensures, c.self.invariant.3.each_given, old.earlier.ok.0)
+    let many_earlier : length (map (λ (giving : Giving). giving.earlier) old.givings.items)
+    ≡ length old.givings.items =
+    length-map old.givings.items (λ (giving : Giving). giving.earlier) in
+    let number : length rows + length (relabelled (woven old.sim.events old.givings.items)) ≡ c.len.result + c.len-2.result =
+    omega (arith, c.len.ensures, c.len-2.ensures, c.self.invariant.3.each_given, many_earlier, old.givings.ok.0)
     in
+    let givings : List Giving = old.givings.items in
+    let giving : Giving = record {
+      node = c.args.node;
+      behind = c.len-behind.result;
+      earlier = c.get-version.result.1;
+    } in
+    let grown = woven_giving old.sim.events givings giving c.len-behind.ensures in
+    let known = map-append (λ (giving : Giving). giving.earlier) givings (giving ∷ []) in
     rw (
       c.push_reserved.ensures.items,
       c.push_reserved.ensures.capacity,
-      c.push_reserved-2.ensures.items,
-      c.push_reserved-2.ensures.capacity,
+      grown,
+      known,
       c.set.ensures.versions,
       c.set.ensures.labels,
       ← value,
       ← label,
       ← number,
     ) (
-      round_relabel rows old.most old.turns.items c.args.node old.sim c.self.invariant.0,
-      kept_relabel rows old.turns.items _ _ _ kept c.args.node c.in-Some.place at.row at.stands
+      round_relabel rows old.most (woven old.sim.events old.givings.items) c.args.node old.sim c.self.invariant.0,
+      kept_relabel rows (woven old.sim.events old.givings.items) _ _ _ kept c.args.node c.in-Some.place at.row at.stands
           at.is,
-      rooms_more old.most _ _ old.turns.items _ room c.self.invariant.2,
-      numbered_relabel rows old.turns.items _ _ _ _ c.self.invariant.3 _ _ _ kept c.args.node
+      rooms_more old.most _ _ (woven old.sim.events old.givings.items) _ room c.self.invariant.2,
+      numbered_relabel rows (woven old.sim.events old.givings.items) _ _ _ _ c.self.invariant.3 _ _ _ kept c.args.node
           c.in-Some.place at.row at.stands at.is,
       c.self.invariant.4,
+      more_givings old.sim.events givings _ c.len-behind.ensures c.self.invariant.5,
     )
 
 pub push_reserved-requires : goal.push_reserved-requires
@@ -117,9 +134,10 @@ push_reserved-requires c =
       c.requires,
       ap (λ (turned : Turned). turned.most) c.self.view_is,
       ap (λ (turned : Turned). length turned.turns) c.self.view_is,
-      old.earlier.ok.0,
+      old.givings.ok.0,
+      length-map old.givings.items (λ (giving : Giving). giving.earlier),
       c.self.invariant.3.each_given,
-      few_given old.turns.items,
+      few_given (woven old.sim.events old.givings.items),
       c.self.invariant.4.for_earlier,
     )
 
@@ -133,9 +151,10 @@ overflow_cast-number c =
       ap (λ (turned : Turned). length turned.turns) c.self.view_is,
       c.len.ensures,
       c.len-2.ensures,
-      old.earlier.ok.0,
+      old.givings.ok.0,
+      length-map old.givings.items (λ (giving : Giving). giving.earlier),
       c.self.invariant.3.each_given,
-      few_given old.turns.items,
+      few_given (woven old.sim.events old.givings.items),
       c.self.invariant.4.small,
       c.self.invariant.1.is_network.limits.few_nodes,
     )
@@ -152,3 +171,17 @@ returns-clause-stays c = λ i row stands differs.
     let elsewhere : position (λ row. c.args.node == row.id) old.net.now ≢ Some i =
     subst (λ (place : Option ℕ). place ≢ Some i) (sym (sym c.place_of.ensures ∙ c.in-Some.is)) differs in
     not_there old.net.now c.self.invariant.1.is_network i row there c.args.node elsewhere
+
+pub returns-clause-taken : goal.returns-clause-taken
+returns-clause-taken c =
+    let old = c.self.inside in
+    let giving : Giving = record {
+      node = c.args.node;
+      behind = c.len-behind.result;
+      earlier = c.get-version.result.1;
+    } in
+    let grown =
+    ap (λ (givings : List Giving). woven old.sim.events givings) c.push_reserved.ensures.items
+    ∙ woven_giving old.sim.events old.givings.items giving c.len-behind.ensures in
+    (λ i. record { network = old.net.now; most = old.most; turns = grown i })
+    ∙ ap (turning (Relabel c.args.node)) c.self.view_is
