@@ -194,7 +194,7 @@ pub splits_verified : (scheme : Expression) (bytes text : List ℕ) → IsSmall 
 splits_verified scheme bytes text small splits =
     let input : Input = record splits.input { network = Some splits.crossed } in
     let rings = splits.rings.2 in
-    verified_input scheme text input (rings.outer ∷ rings.inner ∷ []) small splits.read_back
+    verified_input scheme text input (rings.first ∷ rings.second ∷ []) small splits.read_back
     rings.components
     (accepted_all (judge_in (code_in input) scheme) splits.crossed (labels_in input)
     splits.accepted)
@@ -204,11 +204,11 @@ ring_alone : (rows : List NodeRow) → IsNetwork rows → (one other : ℕ)
     → AreTwoRings rows one other → (places : List ℕ) → IsComponent rows places
     → IsRing (items_at rows places)
 ring_alone rows net one other rings places is =
-    elim (Contains-cons_cases rings.outer (rings.inner ∷ []) places
-    (component_listed rows net (rings.outer ∷ rings.inner ∷ []) rings.components places is)) [
-      | inl e ↦ subst (λ (places : List ℕ). IsRing (items_at rows places)) e rings.outer_ring
-      | inr later ↦ elim (Contains-cons_cases rings.inner [] places later) [
-        | inl e ↦ subst (λ (places : List ℕ). IsRing (items_at rows places)) e rings.inner_ring
+    elim (Contains-cons_cases rings.first (rings.second ∷ []) places
+    (component_listed rows net (rings.first ∷ rings.second ∷ []) rings.components places is)) [
+      | inl e ↦ subst (λ (places : List ℕ). IsRing (items_at rows places)) e rings.first_ring
+      | inr later ↦ elim (Contains-cons_cases rings.second [] places later) [
+        | inl e ↦ subst (λ (places : List ℕ). IsRing (items_at rows places)) e rings.second_ring
         | inr none ↦ absurd (let inside = none.1 in omega arith)
       ]
     ]

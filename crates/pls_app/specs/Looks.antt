@@ -15,7 +15,8 @@ use Rattle.pls_inputs.specs.Parts.{Input, labels_in, rows_in, watch_in}
 use Rattle.pls_app.specs.Said.{Answer}
 use Rattle.pls_watch_part.specs.declared.watch_event.WatchLine.TheVariants.{Event, Look}
 
--- a network with these labels at the start, after these events, of as many as an input has at most
+-- a network with these labels at the start, after these events; it takes as many as an input may
+-- have, so that none of them is refused for want of room
 abbrev pub watched_after : List NodeRow → List (List Bool) → List WatchEvent → Watched
 watched_after rows labels events = record {
   network = rows;

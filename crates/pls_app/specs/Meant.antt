@@ -1,5 +1,6 @@
--- What a scheme means on a network, under a number code. Here alone this crate cites the property,
--- the labels, the verdicts and the bound of a scheme.
+-- What a scheme means on a network, under a number code. The clauses of `run` cite the property, the
+-- labels, the verdicts and the bound of a scheme by these words, but for what `splice` says of one
+-- leader.
 use Rattle.std.specs.Prelude.{◌≡◌, ℕ, Bool, List, length, Option}
 use Rattle.pls_configuration.specs.declared.row.NodeRow.{NodeRow}
 use Rattle.pls_configuration.specs.declared.verdict.Verdict.{Verdict}
@@ -31,7 +32,7 @@ takes_of Delta = delta_takes
 abbrev pub judge_in : CodeName → Expression → Seen → Verdict
 judge_in code scheme = judge_of (takes_of code) scheme
 
--- what becomes of a label in the delta code, where it is one
+-- the bits of a label under this code, rewritten in the delta code, where they are a label
 abbrev pub converted_in : CodeName → Expression → List Bool → Option (List Bool)
 converted_in code scheme = converted (takes_of code) delta_code scheme
 

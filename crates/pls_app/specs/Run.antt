@@ -91,8 +91,8 @@ IsUnread words due = (IsUsage words × (due ≡ Usage))
 abbrev pub Concerns : List (List ℕ) → Option (List ℕ) → List ℕ → Type 0
 Concerns words left bytes = (left ≡ Some bytes) ⊎ ((due : Status) × IsUnread words due)
 
--- the sink is sure of as many bytes as the text of the answer to these bytes has, which the source
--- tells, or the words read nothing
+-- where the source tells these bytes, or the words read nothing, the sink is sure of as many bytes as
+-- the text of the answer has
 abbrev pub IsSureOfAnswer : List (List ℕ) → Option (List ℕ) → (ℕ → Type 0) → Type 0
 IsSureOfAnswer words left sure =
     (bytes : List ℕ) × Concerns words left bytes

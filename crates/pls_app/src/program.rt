@@ -82,8 +82,8 @@ pub fn run<'w, S: Source, K: Sink, B: Bench>(
 
     // The status and the text are those of the answer to the words and the bytes. It comes, or want
     // of memory, where no call on the source failed, and none on the sink did or could. Bytes that
-    // nothing refuses are answered with `Done` or `No`, and `Usage` comes with words that are no
-    // command alone.
+    // nothing refuses are answered with `Done` or `No`, and `Usage` comes only with words that
+    // are no command.
     ensures text { (bytes : List ℕ) → Concerns (words_in words.now) (S.left source.old) bytes
         → IsAnswered result
         → TellsAnswer (words_in words.now) bytes result (K.taken sink.old) (K.taken sink.new) }

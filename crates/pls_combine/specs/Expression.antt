@@ -44,7 +44,7 @@ IsMapMarked code rows labels =
     IsMarkedBy (IsSpelled map_shape code) (map_says rows) rows labels
 
 -- each label says what is right for its node: a connected network with the property has one list of
--- such labels, and of a network without the property it says nothing
+-- such labels; without the property none may be such, or one, or any
 abbrev pub IsMarked : (ℕ → List Bool) → Expression → List NodeRow → List (List Bool) → Type 0
 IsMarked code (Of name) rows labels = IsNamedMarked code name rows labels
 IsMarked code (And first second) rows labels =

@@ -27,7 +27,7 @@ pub enum EditError {
     /// It is the only node.
     #[error("the last node stays")]
     Last,
-    /// There are as many nodes or ports as there may be.
+    /// There is no room for one more node, for two more ports, or for the bits of the label.
     #[error("the network is full")]
     Full,
     /// There was no memory.

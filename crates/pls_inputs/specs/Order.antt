@@ -44,7 +44,7 @@ rules_heading input = watch_heading input + length (lines_of watch_part_lines in
 abbrev pub over : Quantity → ℕ → ℕ → Option TextError
 over quantity most count = if nat_lt most count then Some (Limit quantity) else None
 
--- the limits on what the parts have; there is nothing of a part that is not there. The labels of
+-- the limits on what the parts have; a part that is not there counts as an empty one. The labels of
 -- the labels part and those that a watch gives count together
 abbrev pub limits : Input → List (Option TextError)
 limits input =

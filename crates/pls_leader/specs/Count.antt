@@ -82,7 +82,7 @@ count_rules view =
     agrees_on_count view ∷ names_itself_and_total view ∷ count_root_is_at_0 view ∷ is_below_or_whole view
     ∷ falls_to_parent view ∷ is_summed view ∷ []
 
--- one node is one edge nearer to the root than another
+-- the other node is one edge nearer to the root
 abbrev pub IsOneNearer : List NodeRow → ℕ → ℕ → ℕ → Type 0
 IsOneNearer rows root node other =
     (level : ℕ) × IsLevel (edges_of rows) root node (level + 1) × IsLevel (edges_of rows) root other level

@@ -127,13 +127,13 @@ module _ (rows : List NodeRow) (net : IsNetwork rows) (labels : List (List Bool)
 
   pub two_parts : AreTwoRings (crossed_rows rows order i j) (length rows - (j - i)) (j - i)
   two_parts = record {
-    outer = outer_places;
-    inner = inner_places;
+    first = outer_places;
+    second = inner_places;
     components = parts;
-    outer_ring = ring_alone (crossed_rows rows order i j) net' two' outer outer_round;
-    inner_ring = ring_alone (crossed_rows rows order i j) net' two' inner inner_round;
-    outer_size = size (crossed_rows rows order i j) net' two' outer outer_round
+    first_ring = ring_alone (crossed_rows rows order i j) net' two' outer outer_round;
+    second_ring = ring_alone (crossed_rows rows order i j) net' two' inner inner_round;
+    first_size = size (crossed_rows rows order i j) net' two' outer outer_round
         ∙ halves.outer_many rows net labels order of i j pair;
-    inner_size = size (crossed_rows rows order i j) net' two' inner inner_round
+    second_size = size (crossed_rows rows order i j) net' two' inner inner_round
         ∙ halves.inner_many rows net labels order of i j pair;
   }

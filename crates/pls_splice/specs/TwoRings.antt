@@ -9,13 +9,13 @@ use Rattle.pls_splice.specs.Ring.{IsRing}
 -- these two are the components of the network, each by itself is a ring, and they have so many
 -- nodes
 pub record AreTwoRings (rows : List NodeRow) (one other : ℕ) : Type 0 where
-  pub outer : List ℕ
-  pub inner : List ℕ
-  pub components : AreComponents rows (outer ∷ inner ∷ [])
-  pub outer_ring : IsRing (items_at rows outer)
-  pub inner_ring : IsRing (items_at rows inner)
-  pub outer_size : length outer ≡ one
-  pub inner_size : length inner ≡ other
+  pub first : List ℕ
+  pub second : List ℕ
+  pub components : AreComponents rows (first ∷ second ∷ [])
+  pub first_ring : IsRing (items_at rows first)
+  pub second_ring : IsRing (items_at rows second)
+  pub first_size : length first ≡ one
+  pub second_size : length second ≡ other
 
 -- some component has no node that is marked as a leader
 pub record IsLeaderlessIn (rows : List NodeRow) : Type 0 where

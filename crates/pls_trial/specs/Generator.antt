@@ -11,7 +11,7 @@ use Rattle.pls_graph_edits.specs.Edits.{lone_node, are_linked, in_state, linked}
 abbrev pub next : ℕ → ℕ
 next number = number * 48271 % 2147483647
 
--- the number that so many draws from one on end with
+-- the number after so many draws, where this one was the last before them
 abbrev pub draw : ℕ → ℕ → ℕ
 draw number zero = number
 draw number (suc count) = next (draw number count)

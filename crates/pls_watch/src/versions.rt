@@ -36,6 +36,7 @@ pub(crate) struct Versions<'n> {
     pub(crate) carried: VersionList,
     // For each port, numbered through, the version that is held, where something was heard.
     pub(crate) held: VersionList,
+    // The labels that were given: with the events of the round they tell the turns.
     givings: Vec<Giving>,
 }
 
