@@ -23,8 +23,8 @@ unreadable_label scheme input = option_map (λ id. Sense UNREADABLE id)
     (option_and_then (slice_get (ids_of (rows_in input)))
     (first_unreadable (converted_in (code_in input) scheme) (labels_in input)))
 
--- why labels are not converted: one of them cannot be read, or else they have too many bits together
--- in the delta code
+-- why labels are not converted: one of them cannot be read, or else they have too many bits
+-- together in the delta code
 abbrev pub convert_refusal : Expression → Input → Option TextError
 convert_refusal scheme input = first_of (unreadable_label scheme input
     ∷ over Bits MAX_BITS (bits_together (converted_labels scheme input)) ∷ [])

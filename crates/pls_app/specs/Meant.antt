@@ -1,6 +1,6 @@
--- What a scheme means on a network, under a number code. The clauses of `run` cite the property, the
--- labels, the verdicts and the bound of a scheme by these words, but for what `splice` says of one
--- leader.
+-- What a scheme means on a network, under a number code. The clauses of `run` cite the property,
+-- the labels, the verdicts and the bound of a scheme by these words, but for what `splice` says of
+-- one leader.
 use Rattle.std.specs.Prelude.{◌≡◌, ℕ, Bool, List, length, Option}
 use Rattle.pls_configuration.specs.declared.row.NodeRow.{NodeRow}
 use Rattle.pls_configuration.specs.declared.verdict.Verdict.{Verdict}
@@ -65,8 +65,8 @@ bound_in code scheme rows parts = bound_of_parts (longest_in code scheme) rows p
 abbrev pub room_in : CodeName → Expression → List NodeRow → List (List ℕ) → ℕ
 room_in code scheme rows parts = room_of_parts (longest_in code scheme) rows parts
 
--- labels that show the property of each component: there is one for each node, all nodes accept them,
--- and each is within the bound for its component
+-- labels that show the property of each component: there is one for each node, all nodes accept
+-- them, and each is within the bound for its component
 pub record Shows (code : CodeName) (scheme : Expression) (rows : List NodeRow)
     (labels : List (List Bool)) : Type 0 where
   pub holds : Holds scheme rows
@@ -74,8 +74,8 @@ pub record Shows (code : CodeName) (scheme : Expression) (rows : List NodeRow)
   pub accepted : AllAccept (judge_in code scheme) rows labels
   pub short : FitsInEach (AreWithinBound (longest_in code scheme)) rows labels
 
--- a connected network has the property, and these are its marked labels, which show it: there is one
--- for each node, all nodes accept them, and each is within the bound
+-- a connected network has the property, and these are its marked labels, which show it: there is
+-- one for each node, all nodes accept them, and each is within the bound
 pub record IsMarkedWhole (code : CodeName) (scheme : Expression) (rows : List NodeRow)
     (labels : List (List Bool)) : Type 0 where
   pub joined : IsConnected rows

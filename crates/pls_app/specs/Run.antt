@@ -91,8 +91,8 @@ IsUnread words due = (IsUsage words × (due ≡ Usage))
 abbrev pub Concerns : List (List ℕ) → Option (List ℕ) → List ℕ → Type 0
 Concerns words left bytes = (left ≡ Some bytes) ⊎ ((due : Status) × IsUnread words due)
 
--- where the source tells these bytes, or the words read nothing, the sink is sure of as many bytes as
--- the text of the answer has
+-- where the source tells these bytes, or the words read nothing, the sink is sure of as many bytes
+-- as the text of the answer has
 abbrev pub IsSureOfAnswer : List (List ℕ) → Option (List ℕ) → (ℕ → Type 0) → Type 0
 IsSureOfAnswer words left sure =
     (bytes : List ℕ) × Concerns words left bytes
@@ -144,17 +144,18 @@ pub record SomeRejects (command : Command) (bytes : List ℕ) : Type 0 where
   pub is : Reads command bytes input
   pub fails : SomeFails (outcomes_in command input)
 
--- the command reads an input from the bytes, and of each component that lacks the property the report
--- has a node that rejects what it sees, or still waits
+-- the command reads an input from the bytes, and of each component that lacks the property the
+-- report has a node that rejects what it sees, or still waits
 pub record Notices (scheme : Expression) (command : Command) (bytes : List ℕ) : Type 0 where
   pub input : Input
   pub is : Reads command bytes input
   pub notices : (places : List ℕ) → LacksAt scheme (rows_in input) places
       → SomeFails (items_at (outcomes_in command input) places)
 
--- the bytes are the text of a network with these components, and the text is that of labels which show
--- the property of each of them under the code; together they have no more bits than an input may have.
--- That `verify` ends with `Done` on the bytes with the text behind them is the law `marked_is_verified`
+-- the bytes are the text of a network with these components, and the text is that of labels which
+-- show the property of each of them under the code; together they have no more bits than an input
+-- may have. That `verify` ends with `Done` on the bytes with the text behind them is the law
+-- `marked_is_verified`
 pub record Certifies (code : CodeName) (scheme : Expression)
     (bytes text : List ℕ) : Type 0 where
   pub rows : List NodeRow
@@ -166,8 +167,9 @@ pub record Certifies (code : CodeName) (scheme : Expression)
   pub few : bits_together labels ≤ MAX_BITS
   pub text_is : text ≡ net_labels_text code rows labels
 
--- the text is that of labels in the delta code, and the network of the bytes followed by the text is
--- the same network with these labels, of which `verify` has the same outcomes as of those of the bytes
+-- the text is that of labels in the delta code, and the network of the bytes followed by the text
+-- is the same network with these labels, of which `verify` has the same outcomes as of those of the
+-- bytes
 pub record Converts (scheme : Expression) (bytes text : List ℕ) : Type 0 where
   pub input : Input
   pub labels : List (List Bool)
@@ -193,16 +195,16 @@ pub record Splits (scheme : Expression) (bytes text : List ℕ) : Type 0 where
   pub rings : (one other : ℕ) × AreTwoRings crossed one other
   pub leaderless : HasOneLeader (rows_in input) → IsLeaderlessIn crossed
 
--- the bytes are a network, labels and a rule set, and where the set is the one that has the name of a
--- scheme, each component of the network has the property of that scheme
+-- the bytes are a network, labels and a rule set, and where the set is the one that has the name of
+-- a scheme, each component of the network has the property of that scheme
 pub record ProvesByRules (bytes : List ℕ) : Type 0 where
   pub input : Input
   pub is : IsInput parts_with_rules bytes input
   pub holds : (name : SchemeName) → set_of_name name ≡ Some (set_in input)
       → Holds (Of name) (rows_in input)
 
--- exactly these components of the network of the bytes lack the property, and the text is `no`, which
--- names them where there is more than one component
+-- exactly these components of the network of the bytes lack the property, and the text is `no`,
+-- which names them where there is more than one component
 pub record Lacks (scheme : Expression) (bytes text : List ℕ) : Type 0 where
   pub rows : List NodeRow
   pub is : IsNetworkText bytes rows

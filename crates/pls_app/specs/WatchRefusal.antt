@@ -40,8 +40,8 @@ abbrev pub line_does_not_apply : List NodeRow → List WatchEvent → WatchLine 
 line_does_not_apply rows before (Event event) = watch_event_does_not_apply rows before event
 line_does_not_apply rows before Look = false
 
--- the number of the first line that says an event which does not apply; the first of these lines has
--- this number, each later one the next, and these events were before them
+-- the number of the first line that says an event which does not apply; the first of these lines
+-- has this number, each later one the next, and these events were before them
 abbrev pub first_refused_line : List NodeRow → List WatchEvent → ℕ → List WatchLine → Option ℕ
 first_refused_line rows before number [] = None
 first_refused_line rows before number (line ∷ later) = if line_does_not_apply rows before line

@@ -99,7 +99,8 @@ ArePutAt-end places put old now j past each so_far = record {
     all : take j places ≡ places
     all = take_all j places past
 
--- where there is room for the labels from one on, there is room for it, and then for those behind it
+-- where there is room for the labels from one on, there is room for it, and then for those behind
+-- it
 module _ (put : List (List Bool)) (j : ℕ) (label : List Bool) (at : slice_get put j ≡ Some label)
     (spare : ℕ) (room : room_for (drop j put) ≤ spare) where
   first-bits : bits_together (drop j put) ≡ length label + bits_together (drop (j + 1) put)

@@ -4,8 +4,8 @@ use Rattle.pls_configuration.specs.declared.row.NodeRow.{NodeRow}
 use Rattle.pls_configuration.specs.Walk.{AreJoined, edges_of}
 use Rattle.pls_graph.specs.Connected.{smallest_id}
 
--- what stands at these places of a list; of the rows of a network it is the part of the network that
--- has these nodes alone
+-- what stands at these places of a list; of the rows of a network it is the part of the network
+-- that has these nodes alone
 abbrev pub items_at : {X : Type 0} → List X → List ℕ → List X
 items_at items places = filter_map (slice_get items) places
 
@@ -22,8 +22,8 @@ pub record AreJoinedAt (rows : List NodeRow) (i j : ℕ) : Type 0 where
   pub here : slice_get rows j ≡ Some other
   pub walk : AreJoined (edges_of rows) one.id other.id
 
--- the places, rising, of one connected component: with some node of it exactly the nodes that a walk
--- joins to that one
+-- the places, rising, of one connected component: with some node of it exactly the nodes that a
+-- walk joins to that one
 pub record IsComponent (rows : List NodeRow) (places : List ℕ) : Type 0 where
   pub rising : NumbersRise places
   -- the place of that node

@@ -23,8 +23,8 @@ pub record LacksIn (holds : List NodeRow → Type 0) (rows : List NodeRow) (plac
   pub component : IsComponent rows places
   pub lacks : holds (items_at rows places) → ⊥
 
--- these are the smallest identities of the components that lack the property, rising, and there is at
--- least one such component
+-- these are the smallest identities of the components that lack the property, rising, and there is
+-- at least one such component
 pub record AreLacking (holds : List NodeRow → Type 0) (rows : List NodeRow) (ids : List ℕ)
     : Type 0 where
   pub some : ids ≢ []
@@ -38,8 +38,9 @@ abbrev pub AreWithinBound : (Size → ℕ) → List NodeRow → List (List Bool)
 AreWithinBound longest rows labels =
     All (λ label. length label ≤ capped (longest (size_of rows))) labels
 
--- each component has the property, and the labels of the network show it: there is one for each node,
--- those of each component are marked labels of it by itself and within its bound, and all nodes accept
+-- each component has the property, and the labels of the network show it: there is one for each
+-- node, those of each component are marked labels of it by itself and within its bound, and all
+-- nodes accept
 pub record AreShown (holds : List NodeRow → Type 0)
     (marked : List NodeRow → List (List Bool) → Type 0) (judge : Seen → Verdict)
     (longest : Size → ℕ) (rows : List NodeRow) (labels : List (List Bool)) : Type 0 where
@@ -59,8 +60,8 @@ abbrev pub IfLacking : (List ℕ → Type 0) → MarkResult → Type 0
 IfLacking lacking (Labels labels) = ⊤
 IfLacking lacking (Lacking ids) = lacking ids
 
--- how many bits a marked label has at most, where each component is marked by itself: the greatest of
--- the bounds for the components
+-- how many bits a marked label has at most, where each component is marked by itself: the greatest
+-- of the bounds for the components
 abbrev pub bound_of_parts : (Size → ℕ) → List NodeRow → List (List ℕ) → ℕ
 bound_of_parts longest rows parts =
     greatest (map (λ places. longest (size_of (items_at rows places))) parts)

@@ -21,7 +21,8 @@ pub(crate) struct Span {
 /// seen as a list of lists: for each component the places of its nodes, rising.
 #[derive(Drop)]
 pub struct Components {
-    // The places of all nodes, component by component, so that no component has a vector of its own.
+    // The places of all nodes, component by component, so that no component has a vector of its
+    // own.
     pub(crate) members: Vec<u32>,
     pub(crate) spans: Vec<Span>,
     // For each place the number of its component.

@@ -12,8 +12,8 @@ use pls_streams::NoMemory;
 use std::alloc::Global;
 
 /// The components of a network, in the order of their smallest identities. It takes time in nodes
-/// and ports, which are gone over once where the network is connected and twice where it is not. The
-/// one error is want of memory.
+/// and ports, which are gone over once where the network is connected and twice where it is not.
+/// The one error is want of memory.
 pub fn components(alloc: Global, net: &Network) -> Result<Components, NoMemory>
     ensures { IfOk result (λ parts. AreComponents net.now parts) }
 {

@@ -21,8 +21,8 @@ pub fn in_a_component(net: &Network, parts: &Components, i: usize)
 {}
 
 /// A node's view in its component by itself, with the labels there, is its view in the network, and
-/// so the verdicts on both are the same. The node is that at place `i`; it stands at place `j` of its
-/// component.
+/// so the verdicts on both are the same. The node is that at place `i`; it stands at place `j` of
+/// its component.
 pub fn local_parts<K: Checker>(
     checker: &K,
     net: &Network,

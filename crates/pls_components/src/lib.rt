@@ -2,9 +2,9 @@
 //!
 //! [`components`] finds them in their order, as [`Components`], seen as the list of their places;
 //! [`Components::part`] gives one by itself, as a network. The contract of a scheme stands on a
-//! connected network: [`mark_parts`], [`bound_parts`] and [`room_parts`] carry it to each component,
-//! and the laws [`local_parts`] and [`sound_parts`] say that a node sees the same in its component as
-//! in the network, and that a component whose nodes all accept has the property.
+//! connected network: [`mark_parts`], [`bound_parts`] and [`room_parts`] carry it to each
+//! component, and the laws [`local_parts`] and [`sound_parts`] say that a node sees the same in its
+//! component as in the network, and that a component whose nodes all accept has the property.
 //!
 //! Proofs above may cite `proofs/Items` (what stands at some places of a list), `proofs/Part` (a
 //! component by itself is a connected network), `proofs/Apart` (a network has one list of

@@ -13,8 +13,8 @@ use pls_streams::NoMemory;
 use std::alloc::Global;
 
 /// The greatest number of bits of a marked label, where each component is marked by itself: the
-/// greatest of the scheme's bounds for the components, or `u64::MAX` where it is greater. It takes no
-/// memory, so that there is no error.
+/// greatest of the scheme's bounds for the components, or `u64::MAX` where it is greater. It takes
+/// no memory, so that there is no error.
 pub fn bound_parts<S: Scheme>(
     alloc: Global,
     scheme: &S,

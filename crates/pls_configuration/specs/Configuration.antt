@@ -96,7 +96,7 @@ refusal_of rows = first_of (refusals_of rows)
 abbrev pub ports_in : List NodeRow → ℕ
 ports_in rows = sum_by (λ row. length row.ports) rows
 
--- the rows are as many, with as many ports and as great numbers, as the limits allow
+-- there is a row, and the rows, their ports and their numbers are within the limits
 pub record AreWithinLimits (rows : List NodeRow) : Type 0 where
   pub some : 1 ≤ length rows
   pub few_nodes : length rows ≤ MAX_NODES

@@ -1,4 +1,4 @@
-//! Why a list of rows is no network.
+//! Why no network was made of a list of rows.
 
 ghost use Rattle.std.specs.Prelude.{◌≡◌};
 ghost use Rattle.pls_configuration.specs.declared.refusal.BuildError.TheVariants.{NoMemory};
@@ -6,8 +6,8 @@ ghost use Rattle.pls_configuration.specs.declared.refusal.BuildError.TheVariants
 use std::alloc::{AllocError, AllocFailed};
 use thiserror::Error;
 
-/// Why a list of rows is no network: the first of these conditions that occurs somewhere, with the
-/// identity of the first row at which it does.
+/// Why no network was made of a list of rows: the first of these conditions that occurs somewhere,
+/// with the identity of the first row at which it does; or there was no memory to find out.
 #[derive(Clone, Copy, Debug, PartialEq, Eq, Error)]
 pub enum BuildError {
     /// The identity is not above the one in the row before.

@@ -10,7 +10,7 @@ use Rattle.pls_configuration.specs.Walk.{edges_of}
 use Rattle.pls_graph.specs.Levels.{AreLevels, IsFound}
 use Rattle.pls_graph.proofs.Members.{Contains-from_map, Contains-from_place, Contains-map, place_from_Contains}
 use Rattle.pls_facts.proofs.Lists.{item_at}
-use Rattle.pls_diameter_bridges.specs.Diameter.{AreWithin, HasDiameter}
+use Rattle.pls_diameter_bridges.specs.Diameter.{AreWithin, HasDiameterAtMost}
 use Rattle.pls_diameter_bridges.specs.inner.Reaching.{ReachesAll, is_within}
 
 module _ (rows : List NodeRow) (most place : ℕ) (found : List (Option ℕ))
@@ -60,7 +60,7 @@ module _ (rows : List NodeRow) (most : ℕ) where
     | inr late ↦ subst (ReachesAll most rows) (omega (arith, late, within)) here
   ]
 
-  pub all_reach : (count : ℕ) → length rows ≤ count → ReachSoFar count → HasDiameter most rows
+  pub all_reach : (count : ℕ) → length rows ≤ count → ReachSoFar count → HasDiameterAtMost most rows
   all_reach count long each u v in_u in_v =
       let (first, first_in, is_u) : (row : NodeRow) × Contains rows row × (row.id ≡ u) =
       Contains-from_map (λ (row : NodeRow). row.id) rows u in_u in
@@ -72,7 +72,7 @@ module _ (rows : List NodeRow) (most : ℕ) where
       (subst (λ (v : ℕ). AreWithin (edges_of rows) most first.id v) is_v
       (each place (omega (arith, long, slice_get_within rows place first at)) first row at row_in))
 
-  pub reaches_each : (place : ℕ) → HasDiameter most rows → ReachesAll most rows place
+  pub reaches_each : (place : ℕ) → HasDiameterAtMost most rows → ReachesAll most rows place
   reaches_each place holds first row at in' =
       holds first.id row.id
       (Contains-map (λ (row : NodeRow). row.id) rows first (Contains-from_place rows place first at))

@@ -9,7 +9,7 @@ abbrev pub AreWithin : List Edge → ℕ → ℕ → ℕ → Type 0
 AreWithin edges most u v = (nodes : List ℕ) × Walk edges u nodes v × (length nodes ≤ most)
 
 -- any two nodes are the ends of a walk of at most so many edges
-abbrev pub HasDiameter : ℕ → List NodeRow → Type 0
-HasDiameter most rows =
+abbrev pub HasDiameterAtMost : ℕ → List NodeRow → Type 0
+HasDiameterAtMost most rows =
     (u v : ℕ) → Contains (ids_of rows) u → Contains (ids_of rows) v
     → AreWithin (edges_of rows) most u v

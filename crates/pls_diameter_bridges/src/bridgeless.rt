@@ -1,10 +1,10 @@
-//! Whether the edges of a network join all nodes when any one of them is left out, decided in a time
-//! that grows with nodes and ports. A search in depth gives each edge a direction, and a second one
-//! finds the nodes from which the directions lead back to the first. Nothing is proved of what the
-//! two find, and it is checked: where the check passes, no edge is a bridge. Else an edge that leads
-//! to a node without a way back is judged, by a search from each of its ends; it is a bridge exactly
-//! where it alone leads from the nodes nearer to its one end to the others. Where that were no bridge
-//! either, each edge would be judged so.
+//! Whether the edges of a network join all nodes when any one of them is left out, decided in a
+//! time that grows with nodes and ports. A search in depth gives each edge a direction, and a
+//! second one finds the nodes from which the directions lead back to the first. Nothing is proved
+//! of what the two find, and it is checked: where the check passes, no edge is a bridge. Else an
+//! edge that leads to a node without a way back is judged, by a search from each of its ends; it is
+//! a bridge exactly where it alone leads from the nodes nearer to its one end to the others. Where
+//! that were no bridge either, each edge would be judged so.
 
 ghost use Rattle.std.specs.Prelude.{◌≡◌, ◌<◌, ◌==◌, ◌↔◌, length, Contains, IfOk, IsTrue};
 ghost use Rattle.std.specs.List.{list_any};

@@ -2,7 +2,7 @@
 
 ghost use Rattle.std.specs.Prelude.{◌≡◌, ◌<◌, ◌↔◌, length, IfOk, IsTrue};
 ghost use Rattle.std.specs.List.{list_all};
-ghost use Rattle.pls_diameter_bridges.specs.Diameter.{HasDiameter};
+ghost use Rattle.pls_diameter_bridges.specs.Diameter.{HasDiameterAtMost};
 ghost use Rattle.pls_diameter_bridges.specs.inner.Reaching.{ReachesAll, is_within};
 
 use pls_graph::Network;
@@ -28,7 +28,7 @@ impl Diameter {
 }
 
 impl Property for Diameter {
-    ghost holds = { λ property. HasDiameter property.most };
+    ghost holds = { λ property. HasDiameterAtMost property.most };
 
     fn decide(&self, alloc: Global, net: &Network) -> Result<bool, NoMemory> {
         has_diameter(alloc, net, self.most)
@@ -37,7 +37,7 @@ impl Property for Diameter {
 
 // Whether the diameter is at most `most`, not exactly that.
 fn has_diameter(alloc: Global, net: &Network, most: u32) -> Result<bool, NoMemory>
-    ensures { IfOk result (λ yes. IsTrue yes ↔ HasDiameter most net.now) }
+    ensures { IfOk result (λ yes. IsTrue yes ↔ HasDiameterAtMost most net.now) }
 {
     for place in 0..net.len() {
         if !reaches_all(alloc, net, place, most)? {

@@ -4,9 +4,9 @@
 //! few, whose outcome is checked.
 //!
 //! They have no scheme of their own here; any scheme over a [`Property`](pls_scheme::Property) can
-//! use them. Definitions stand in `specs/`, one file a property (`HasDiameter`, `IsBridgeless`).
-//! `Tests` there has each as a function from rows to a truth value (`diameter_test`,
-//! `bridgeless_test`); the laws in `specs/laws/`, and [`diameter_is_tested`] and
+//! use them. Definitions stand in `specs/`, one file a property (`HasDiameterAtMost`,
+//! `IsBridgeless`). `Tests` there has each as a function from rows to a truth value
+//! (`diameter_test`, `bridgeless_test`); the laws in `specs/laws/`, and [`diameter_is_tested`] and
 //! [`bridgeless_is_tested`], say that it gives true exactly where the property holds.
 #![tactic(auto)]
 

@@ -84,6 +84,6 @@ spt_says rows row label =
     × (label.dist ≡ walk_weight rows row.id chain.nodes)
 
 -- no numbers of a marked label are greater: the greatest identity, the number of nodes, and the
--- greatest weight for each of them
+-- greatest weight as many times
 abbrev pub spt_limits : Size → List ℕ
 spt_limits size = size.max_id ∷ size.nodes ∷ size.nodes * size.max_weight ∷ []

@@ -4,8 +4,8 @@
 //! [`Spt`] is the scheme, over any number code; [`SptRules`] what it states of its own, and
 //! [`SptLabel`] what its labels say. What they say of the tree is checked by the rules of
 //! `pls_pointer`'s trees. Weights may be 0, so it is the depth that shows that no chain of pointers
-//! returns. Definitions stand in `specs/Spt` (`spt_rules`, `spt_says`, `spt_limits`), the theorem in
-//! `specs/laws/SptLaws` (`spt_show`, `spt_met`, `spt_one_right`, `spt_fits`); what shortest-path
+//! returns. Definitions stand in `specs/Spt` (`spt_rules`, `spt_says`, `spt_limits`), the theorem
+//! in `specs/laws/SptLaws` (`spt_show`, `spt_met`, `spt_one_right`, `spt_fits`); what shortest-path
 //! trees and weights of walks are stands in `pls_facts`.
 #![tactic(auto)]
 

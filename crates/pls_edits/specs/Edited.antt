@@ -5,7 +5,7 @@ use Rattle.pls_configuration.specs.declared.row.NodeRow.{NodeRow}
 use Rattle.pls_configuration.specs.Configuration.{first_of}
 use Rattle.pls_graph_edits.specs.declared.edit_error.EditError.{EditError}
 use Rattle.pls_graph_edits.specs.declared.edit_error.EditError.TheVariants.{Absent, Full}
-use Rattle.pls_graph_edits.specs.Edits.{SaysEdit, are_linked, cause, is_absent, join_refusal, joined, leave_refusal, left, link_refusal, linked, state_refusal, unlink_refusal, unlinked, weight_refusal, with_state, with_weight}
+use Rattle.pls_graph_edits.specs.Edits.{SaysEdit, are_linked, cause, is_absent, join_refusal, joined, leave_refusal, left, link_refusal, linked, state_refusal, edge_refusal, unlinked, with_state, with_weight}
 use Rattle.pls_graph.specs.Places.{place_in}
 use Rattle.pls_labels.specs.Labels.{bits_together}
 use Rattle.pls_edits.specs.declared.edit.Edit.{Edit}
@@ -62,9 +62,9 @@ label_refusal rows labels id bits = first_of (
 -- why the edit is refused, in a network with these labels: the first cause that holds
 abbrev pub edit_refusal : Edit → List NodeRow → List (List Bool) → Option EditError
 edit_refusal (State id state) rows labels = state_refusal rows id state
-edit_refusal (Weight a b weight) rows labels = weight_refusal rows a b
+edit_refusal (Weight a b weight) rows labels = edge_refusal rows a b
 edit_refusal (Link a b weight) rows labels = link_refusal rows a b
-edit_refusal (Unlink a b) rows labels = unlink_refusal rows a b
+edit_refusal (Unlink a b) rows labels = edge_refusal rows a b
 edit_refusal (Join id mark num) rows labels = join_refusal rows id
 edit_refusal (Leave id) rows labels = leave_refusal rows id
 edit_refusal (Label id bits) rows labels = label_refusal rows labels id bits

@@ -13,8 +13,8 @@ use pls_streams::TextError;
 use std::alloc::Global;
 use std::marker::Model;
 
-/// The text of an edits part, and its edits and rounds where they were kept while it was passed. Seen
-/// as its text.
+/// The text of an edits part, and its edits and rounds where they were kept while it was passed.
+/// Seen as its text.
 #[derive(Drop)]
 pub struct ReadEdits<'a> {
     text: EditsText<'a>,

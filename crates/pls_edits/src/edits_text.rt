@@ -85,9 +85,10 @@ impl<'a> EditsText<'a> {
 
     /// The edits and rounds, in the order of their lines.
     ///
-    /// `Limit(Events)` where there are more lines than [`MAX_LINES`](pls_configuration::MAX_LINES), else
-    /// `Limit(Rounds)` where there are more rounds than [`MAX_ROUNDS`](pls_configuration::MAX_ROUNDS),
-    /// before any memory is taken; `NoMemory` for want of memory.
+    /// `Limit(Events)` where there are more lines than [`MAX_LINES`](pls_configuration::MAX_LINES),
+    /// else `Limit(Rounds)` where there are more rounds than
+    /// [`MAX_ROUNDS`](pls_configuration::MAX_ROUNDS), before any memory is taken; `NoMemory` for
+    /// want of memory.
     pub fn list(&self, alloc: Global) -> Result<Vec<EditLine>, TextError>
         ensures ok { (lines : List EditLine) → TellsEdits self.now.text lines
             → IfOk result (λ list. list.items ≡ lines) }

@@ -6,9 +6,9 @@
 //!
 //! An [`EditLine`] is an edit or asks for a round. `specs/EditsText` says how lists of them are
 //! written, one a line: [`scan_edits`] passes one edits part without memory, or names its first
-//! faulty line, and the [`EditsText`] that it gives lends the text, counts its lines and rounds, and
-//! reads them ([`EditsText::list`]). A [`ReadEdits`] has them too, where they were kept while the
-//! text was passed.
+//! faulty line, and the [`EditsText`] that it gives lends the text, counts its lines and rounds,
+//! and reads them ([`EditsText::list`]). A [`ReadEdits`] has them too, where they were kept while
+//! the text was passed.
 #![tactic(auto)]
 
 mod edit;

@@ -12,8 +12,8 @@ use pls_streams::NoMemory;
 use std::io;
 use std::process::ExitCode;
 
-// Five routers in a row, each of which points at the one before it. The last one was moved: it takes
-// itself to be nearer to the root than it is.
+// Five routers in a row, each of which points at the one before it. The last one was moved: it
+// takes itself to be nearer to the root than it is.
 const ROUTERS: [Node; 5] = [
     Node {
         up: false,

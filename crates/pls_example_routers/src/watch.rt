@@ -13,7 +13,8 @@ use pls_scheme::certifies;
 use pls_streams::{NoMemory, Steps};
 use std::alloc::Global;
 
-/// The verdict of the node at place i on what it sees: itself, its label and its neighbours' labels.
+/// The verdict of the node at place i on what it sees: itself, its label and its neighbours'
+/// labels.
 pub(crate) fn verdict_at(
     alloc: Global,
     net: &Network,

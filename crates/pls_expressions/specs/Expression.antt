@@ -3,7 +3,7 @@ use Rattle.std.specs.Prelude.{ℕ, ◌+◌, ◌<◌, ◌≤◌, ◌⊎◌, ◌&&
 use Rattle.pls_configuration.specs.declared.limits.TheConstants.{MAX_NODES}
 use Rattle.pls_configuration.specs.declared.row.NodeRow.{NodeRow}
 use Rattle.pls_diameter_bridges.specs.Bridgeless.{IsBridgeless}
-use Rattle.pls_diameter_bridges.specs.Diameter.{HasDiameter}
+use Rattle.pls_diameter_bridges.specs.Diameter.{HasDiameterAtMost}
 use Rattle.pls_diameter_bridges.specs.Tests.{bridgeless_test, diameter_test}
 use Rattle.pls_names.specs.declared.scheme_name.SchemeName.{SchemeName}
 use Rattle.pls_names.specs.Named.{HasNamed, test_named}
@@ -21,7 +21,7 @@ pub data Expression : Type 0 where
 -- the network of the rows has the property
 abbrev pub HasProperty : Expression → List NodeRow → Type 0
 HasProperty (Of name) rows = HasNamed name rows
-HasProperty (Diameter most) rows = HasDiameter most rows
+HasProperty (Diameter most) rows = HasDiameterAtMost most rows
 HasProperty Bridgeless rows = IsBridgeless rows
 HasProperty (Map property) rows = HasProperty property rows
 HasProperty (And first second) rows = HasProperty first rows × HasProperty second rows

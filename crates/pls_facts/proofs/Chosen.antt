@@ -1,5 +1,5 @@
--- What holds of each spanning tree of least weight: the two rules are met, and an edge that is first
--- to leave a set of nodes is one of its edges, where of equal weights tree edges come first.
+-- What holds of each spanning tree of least weight: the two rules are met, and an edge that is
+-- first to leave a set of nodes is one of its edges, where of equal weights tree edges come first.
 use Rattle.std.proofs.Common.{ℕ, ◌<◌, ◌≤◌, inl, inr, Bool, List, set, ap, subst, arith, Contains, remove}
 use Rattle.std.proofs.lemmas.List.Sums.{sum_by-set}
 use Rattle.std.proofs.lemmas.Bool.{cases_lt}

@@ -1,5 +1,5 @@
--- The cycle rule: a spanning tree is of least weight where the tree edges on the path between the ends
--- of each other edge are no heavier than that edge.
+-- The cycle rule: a spanning tree is of least weight where the tree edges on the path between the
+-- ends of each other edge are no heavier than that edge.
 use Rattle.std.proofs.Common.{◌≡◌, ◌≢◌, ℕ, ◌<◌, ◌≤◌, ◌⊎◌, inl, inr, true, nat_le, List, [], ◌∷◌, set, refl, ap, subst, arith, Contains, remove}
 use Rattle.std.specs.List.{filter}
 use Rattle.std.proofs.lemmas.Bool.{cases_eq, cases_lt, leb-true, le-leb}

@@ -12,7 +12,7 @@ use Rattle.pls_configuration.specs.declared.row.State.{State}
 use Rattle.pls_configuration.specs.declared.row.NodeRow.{NodeRow}
 use Rattle.pls_configuration.specs.Configuration.{IsNetwork, first_of, port_to, ports_in, row_of}
 use Rattle.pls_configuration.specs.declared.limits.TheConstants.{MAX_PORTS}
-use Rattle.pls_graph_edits.specs.Edits.{fits_state, leave_refusal, unlink_refusal, state_refusal, link_refusal, cause}
+use Rattle.pls_graph_edits.specs.Edits.{fits_state, leave_refusal, edge_refusal, state_refusal, link_refusal, cause}
 use Rattle.pls_graph_edits.specs.declared.edit_error.EditError.TheVariants.{Absent, Present, Pointer, SelfLink, HasPorts, Last, Full}
 use Rattle.pls_graph.proofs.Placed.{WayBack, way_back, row_of_place}
 use Rattle.pls_graph.proofs.Finds.{list_any-find, None-is_some, item_at, found_place}
@@ -166,11 +166,11 @@ some_find p xs i d is =
     ∙ any_passes_from_place p xs i (get_or xs i d) (slice_get-get_or xs i d facts.0) facts.1
 
 module _ (rows : List NodeRow) (a b : ℕ) where
-  pub unlink_absent_first : row_of rows a ≡ None → unlink_refusal rows a b ≡ Some Absent
+  pub unlink_absent_first : row_of rows a ≡ None → edge_refusal rows a b ≡ Some Absent
   unlink_absent_first none = rw none refl
 
   module _ (row : NodeRow) (found : row_of rows a ≡ Some row) where
-    pub unlink_apart : is_some (port_to row b) ≡ false → unlink_refusal rows a b ≡ Some Absent
+    pub unlink_apart : is_some (port_to row b) ≡ false → edge_refusal rows a b ≡ Some Absent
     unlink_apart free = rw (found, free) (by (is_none (row_of rows b)))
       where
         by : (absent : Bool) → cause (absent || true) Absent ≡ Some Absent
@@ -178,7 +178,7 @@ module _ (rows : List NodeRow) (a b : ℕ) where
         by false = refl
 
     module _ (other : NodeRow) (there : row_of rows b ≡ Some other) where
-      pub unlink_allowed : is_some (port_to row b) ≡ true → unlink_refusal rows a b ≡ None
+      pub unlink_allowed : is_some (port_to row b) ≡ true → edge_refusal rows a b ≡ None
       unlink_allowed names = rw (found, there, names) refl
 
 -- where one end does not name the other, nor does the other

@@ -111,9 +111,9 @@ state_refusal rows id state = first_of (
     cause (is_absent rows id) Absent
     ∷ cause (option_map_or (λ row. not (fits_state state row)) (row_of rows id) false) Pointer ∷ [])
 
--- why a weight is refused: the two are not linked nodes
-abbrev pub weight_refusal : List NodeRow → ℕ → ℕ → Option EditError
-weight_refusal rows a b =
+-- why an edge is neither changed nor taken away: the two are not linked nodes
+abbrev pub edge_refusal : List NodeRow → ℕ → ℕ → Option EditError
+edge_refusal rows a b =
     cause (is_absent rows a || is_absent rows b || not (are_linked rows a b)) Absent
 
 -- why a new edge is refused: one of the nodes is not there, or else they are one node, or are
@@ -124,11 +124,6 @@ link_refusal rows a b = first_of (
     ∷ cause (a == b) SelfLink
     ∷ cause (are_linked rows a b) Present
     ∷ cause (nat_lt (MAX_PORTS - 2) (ports_in rows)) Full ∷ [])
-
--- why an edge does not go: the two are not linked nodes
-abbrev pub unlink_refusal : List NodeRow → ℕ → ℕ → Option EditError
-unlink_refusal rows a b =
-    cause (is_absent rows a || is_absent rows b || not (are_linked rows a b)) Absent
 
 -- why a node does not join: its identity is there, or else there is no room for one more
 abbrev pub join_refusal : List NodeRow → ℕ → Option EditError

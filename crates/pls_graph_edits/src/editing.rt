@@ -4,7 +4,7 @@ ghost use Rattle.std.specs.Prelude.{◌≡◌, ◌≤◌, ◌==◌, position, sl
 ghost use Rattle.pls_configuration.specs.declared.row.NodeRow.{NodeRow};
 ghost use Rattle.pls_configuration.specs.declared.limits.TheConstants.{MAX_NUM};
 ghost use Rattle.pls_graph_edits.specs.inner.Ends.{AreEnds};
-ghost use Rattle.pls_graph_edits.specs.Edits.{with_state, state_refusal, fits_state, linked, link_refusal, left, leave_refusal, joined, join_refusal, unlinked, unlink_refusal, with_weight, weight_refusal, SaysEdit};
+ghost use Rattle.pls_graph_edits.specs.Edits.{with_state, state_refusal, fits_state, linked, link_refusal, left, leave_refusal, joined, join_refusal, unlinked, edge_refusal, with_weight, SaysEdit};
 
 use crate::edit_error::EditError;
 use crate::gap_seeking::gap_for;
@@ -36,8 +36,8 @@ pub fn set_state(net: &mut Network, id: u32, state: State) -> Result<(), EditErr
 /// is no node, or they are not linked.
 pub fn set_weight(net: &mut Network, a: u32, b: u32, weight: u32) -> Result<(), EditError>
     ensures ok { OnOk result (net.new ≡ with_weight net.old a b weight) }
-    ensures allowed { OnOk result (weight_refusal net.old a b ≡ None) }
-    ensures refused { IfErr result (λ error. weight_refusal net.old a b ≡ Some error) }
+    ensures allowed { OnOk result (edge_refusal net.old a b ≡ None) }
+    ensures refused { IfErr result (λ error. edge_refusal net.old a b ≡ Some error) }
     ensures unchanged { OnErr result (net.new ≡ net.old) }
 {
     let at = edge_at(net, a, b)?;
@@ -73,8 +73,8 @@ pub fn link(net: &mut Network, a: u32, b: u32, weight: u32) -> Result<(), EditEr
 /// `Absent`: one is no node, or they are not linked.
 pub fn unlink(net: &mut Network, a: u32, b: u32) -> Result<(), EditError>
     ensures ok { OnOk result (net.new ≡ unlinked net.old a b) }
-    ensures allowed { OnOk result (unlink_refusal net.old a b ≡ None) }
-    ensures refused { IfErr result (λ error. unlink_refusal net.old a b ≡ Some error) }
+    ensures allowed { OnOk result (edge_refusal net.old a b ≡ None) }
+    ensures refused { IfErr result (λ error. edge_refusal net.old a b ≡ Some error) }
     ensures unchanged { OnErr result (net.new ≡ net.old) }
 {
     let at = edge_at(net, a, b)?;
@@ -164,8 +164,8 @@ fn ends_to_link(net: &Network, a: u32, b: u32) -> Result<(usize, usize), EditErr
 
 fn edge_at(net: &Network, a: u32, b: u32) -> Result<EdgeAt, EditError>
     ensures ends { IfOk result (λ at. AreEnds net.now a b at.i at.j at.p at.q) }
-    ensures allowed { OnOk result (unlink_refusal net.now a b ≡ None) }
-    ensures refused { IfErr result (λ error. unlink_refusal net.now a b ≡ Some error) }
+    ensures allowed { OnOk result (edge_refusal net.now a b ≡ None) }
+    ensures refused { IfErr result (λ error. edge_refusal net.now a b ≡ Some error) }
 {
     // A network is valid.
     net.len();

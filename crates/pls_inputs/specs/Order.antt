@@ -58,8 +58,9 @@ limits input =
     ∷ over Rounds MAX_ROUNDS (length (looks_of (watch_in input)))
     ∷ []
 
--- what makes no sense: the first of 10 to 16 of the rows; then 20, the first line of the labels part
--- that does not fit the nodes; then 51 or 50, by the first line of the rules part that makes none
+-- what makes no sense: the first of 10 to 16 of the rows; then 20, the first line of the labels
+-- part that does not fit the nodes; then 51 or 50, by the first line of the rules part that makes
+-- none
 abbrev pub senses : Input → List (Option TextError)
 senses input =
     option_map text_error_of (refusal_of (rows_in input))

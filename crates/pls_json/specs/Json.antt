@@ -1,5 +1,5 @@
--- The text of a report in JSON: one line, with no space, and the keys of each object in the order of
--- the alphabet.
+-- The text of a report in JSON: one line, with no space, and the keys of each object in the order
+-- of the alphabet.
 use Rattle.std.specs.Prelude.{ℕ, List, [], ◌∷◌, ◌++◌, codes, decimal, map}
 use Rattle.pls_configuration.specs.declared.verdict.Verdict.TheVariants.{Accept, Reject}
 use Rattle.pls_sim.specs.declared.outcome.Outcome.{Outcome}

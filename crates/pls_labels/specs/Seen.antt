@@ -19,8 +19,8 @@ pub record Seen : Type 0 where
   pub own : List Bool
   pub ports : List SeenPort
 
--- a pointer and a number of ports that a node may have: the pointer is a port's number, and there are
--- at most as many ports as a node of a network may have
+-- a pointer and a number of ports that a node may have: the pointer is a port's number, and there
+-- are at most as many ports as a node of a network may have
 pub record IsProper (up : Option ℕ) (count : ℕ) : Type 0 where
   pub pointer : ForSome up (λ port. port < count)
   pub few : count ≤ MAX_DEGREE

@@ -98,8 +98,8 @@ impl<'a> View<'a> {
         }
     }
 
-    /// Becomes the view of the node at place `i`, under these labels, without a value of its own for
-    /// each node. For want of memory nothing is said of what it shows.
+    /// Becomes the view of the node at place `i`, under these labels, without a value of its own
+    /// for each node. For want of memory nothing is said of what it shows.
     #[inline(always)]
     pub fn turn_to<L: Labels>(
         &mut self,
@@ -124,8 +124,8 @@ impl<'a> View<'a> {
         Ok(())
     }
 
-    /// The number of ports, at most [`MAX_DEGREE`](pls_configuration::MAX_DEGREE). `pointer` says that the
-    /// state points at none but these.
+    /// The number of ports, at most [`MAX_DEGREE`](pls_configuration::MAX_DEGREE). `pointer` says
+    /// that the state points at none but these.
     #[inline(always)]
     pub fn degree(&self) -> usize
         ensures count { result ≡ length self.now.ports }

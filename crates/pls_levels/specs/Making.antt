@@ -19,8 +19,8 @@ pub record IsRightHead {S : Type 0} (rows : List NodeRow) (row : NodeRow) (label
   pub parent : (port : Port) → pointed_port row ≡ Some port → label.parent ≡ port.nbr
   pub own_parent : pointed_port row ≡ None → label.parent ≡ row.id
 
--- no numbers in front of so many levels of a marked label are greater: the greatest identity for the
--- root, the node and the parent, the number of nodes, and how many levels there are
+-- no numbers in front of so many levels of a marked label are greater: the greatest identity for
+-- the root, the node and the parent, the number of nodes, and how many levels there are
 abbrev pub head_limits : ℕ → Size → List ℕ
 head_limits count size =
     size.max_id ∷ size.max_id ∷ size.max_id ∷ size.nodes ∷ count ∷ []

@@ -18,15 +18,15 @@
 //! Most parts are lists of items. Such a part is written as its heading, its kind of item, and a
 //! [`ListTally`]: which lists are allowed, and what is counted while they are passed. The rest is
 //! here: the scan ([`ListText`], [`read_list`]), the items that the text says ([`next_item`]), the
-//! lines that are kept of them ([`Keep`], [`ListText::list`]), the number of an item's line, and the
-//! writer ([`write_list`]). [`keep_list`] keeps the lines while the part is passed, so that its text
-//! is read once: a part that does so is [`ReadOnce`].
+//! lines that are kept of them ([`Keep`], [`ListText::list`]), the number of an item's line, and
+//! the writer ([`write_list`]). [`keep_list`] keeps the lines while the part is passed, so that its
+//! text is read once: a part that does so is [`ReadOnce`].
 //!
 //! A part of any items under a heading of one word needs no tally of its own: [`Count`] counts
 //! them, and a [`HeadingWord`] is all that is said of the heading.
 //!
-//! `specs/Worded` is for kinds of line that are told by their words; `specs/laws` has its laws, which
-//! the laws of a part are made of.
+//! `specs/Worded` is for kinds of line that are told by their words; `specs/laws` has its laws,
+//! which the laws of a part are made of.
 #![tactic(auto)]
 
 mod both;

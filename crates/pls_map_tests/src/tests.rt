@@ -33,9 +33,9 @@ struct CountedDiameter {
 }
 
 impl Property for CountedDiameter {
-    ghost use Rattle.pls_diameter_bridges.specs.Diameter.{HasDiameter};
+    ghost use Rattle.pls_diameter_bridges.specs.Diameter.{HasDiameterAtMost};
 
-    ghost holds = { λ s. HasDiameter s.property.most };
+    ghost holds = { λ s. HasDiameterAtMost s.property.most };
 
     fn decide(&self, alloc: Global, net: &Network) -> Result<bool, NoMemory> {
         self.asked.set(self.asked.get().wrapping_add(1));
@@ -153,9 +153,9 @@ fn both(alloc: Global, text: &str) -> Result<Vec<LabelStore>, Fail> {
     Ok(stores)
 }
 
-// Another network, the greatest diameter, the numbers of the labels that the row gets, and the rules
-// by which its nodes reject: its own maps, too many edges between nodes, another mark, another degree,
-// two parts, another node's label, no label, two maps.
+// Another network, the greatest diameter, the numbers of the labels that the row gets, and the
+// rules by which its nodes reject: its own maps, too many edges between nodes, another mark,
+// another degree, two parts, another node's label, no label, two maps.
 const NAMED: &[(&str, u32, [usize; 4], [u8; 4])] = &[
     (ROW, 3, [0, 1, 2, 3], [0, 0, 0, 0]),
     (ROW, 2, [0, 1, 2, 3], [7, 7, 7, 7]),

@@ -1,4 +1,5 @@
--- Labels of combinations are accepted where those of their parts are, and are short where these are.
+-- Labels of combinations are accepted where those of their parts are, and are short where these
+-- are.
 use Rattle.std.proofs.Common.{◌≡◌, ◌∙◌, ℕ, ◌+◌, ◌-◌, ◌^◌, ◌<◌, ◌≤◌, ◌++◌, Bool, true, false, List, [], ◌∷◌, map, length, drop, get_or, All, Contains, Option, None, Some, if◌then◌else◌, nat_le, not, refl, sym, ap, subst, arith}
 use Rattle.std.specs.List.{list_all}
 use Rattle.std.specs.Option.{is_some}

@@ -62,8 +62,9 @@ fn both_verdict(own: bool, ports: bool, leaves: u8, first: Verdict, second: Verd
     }
 }
 
-/// The verdict of each node on a disjunction, whose first part has so many leaves, by the tags and by
-/// the verdicts on the parts. Where no label has the tag of a part, there may be no verdicts on it.
+/// The verdict of each node on a disjunction, whose first part has so many leaves, by the tags and
+/// by the verdicts on the parts. Where no label has the tag of a part, there may be no verdicts on
+/// it.
 pub fn one_of_verdicts(
     alloc: Global,
     net: &Network,

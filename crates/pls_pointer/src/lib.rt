@@ -4,8 +4,8 @@
 //! [`Tree`] and [`Forest`] are the schemes, over any number code; [`TreeRules`] and [`ForestRules`]
 //! what each states of its own, [`TreeLabel`] and [`DepthLabel`] what their labels say. Definitions
 //! stand in `specs/`, one file a scheme (`tree_rules`, `tree_says`, `tree_limits`, and so for
-//! forests), the theorems in `specs/laws/` (`tree_show`, `tree_met`, `tree_one_right`, `tree_fits`);
-//! what trees and chains of pointers are stands in `pls_facts`.
+//! forests), the theorems in `specs/laws/` (`tree_show`, `tree_met`, `tree_one_right`,
+//! `tree_fits`); what trees and chains of pointers are stands in `pls_facts`.
 #![tactic(auto)]
 
 mod deeper;

@@ -1,5 +1,5 @@
--- Where nodes come and go: each node is a new one, or it stood at a place and all that is kept of it
--- came along.
+-- Where nodes come and go: each node is a new one, or it stood at a place and all that is kept of
+-- it came along.
 use Rattle.std.proofs.Common.{◌≡◌, ◌≢◌, ◌∙◌, ◌⊎◌, inl, inr, ℕ, ◌≤◌, Bool, true, false, ◌==◌, ◌||◌, List, [], insert, remove, filter, length, slice_get, position, Some, None, option_map, refl, sym, ap, arith, get_or}
 use Rattle.std.proofs.lemmas.Bool.{cases_order, eq-eqb, ne_eqb}
 use Rattle.std.proofs.lemmas.List.{length-map, nil_from_length}

@@ -4,7 +4,7 @@ ghost use Rattle.std.specs.Prelude.{◌≡◌, ◌≤◌, ◌==◌, ◌||◌, le
 ghost use Rattle.pls_configuration.specs.declared.limits.TheConstants.{MAX_NUM};
 ghost use Rattle.pls_configuration.specs.declared.verdict.Verdict.{Verdict};
 ghost use Rattle.pls_configuration.specs.Configuration.{IsNetwork};
-ghost use Rattle.pls_graph_edits.specs.Edits.{SaysEdit, link_refusal, state_refusal, unlink_refusal, weight_refusal};
+ghost use Rattle.pls_graph_edits.specs.Edits.{SaysEdit, link_refusal, state_refusal, edge_refusal};
 ghost use Rattle.pls_labels.specs.Seen.{Seen};
 ghost use Rattle.pls_edits.specs.Edited.{FitsNum, RefusesWith, edit_refusal};
 ghost use Rattle.pls_edits.specs.declared.edit.Edit.{Edit};
@@ -73,9 +73,9 @@ impl EditedNetwork {
 
     fn set_weight(&mut self, a: u32, b: u32, weight: u32) -> Result<(), EditError>
         ensures ok { OnOk result (self.new ≡ watch_after (Weight a b weight) self.old) }
-        ensures allowed { OnOk result (weight_refusal self.old.network a b ≡ None) }
+        ensures allowed { OnOk result (edge_refusal self.old.network a b ≡ None) }
         ensures refused { IfErr result
-            (λ error. weight_refusal self.old.network a b ≡ Some error) }
+            (λ error. edge_refusal self.old.network a b ≡ Some error) }
         ensures unchanged { OnErr result (self.new ≡ self.old) }
         ensures current { OnOk result ((judge : Seen → Verdict)
             → IsCurrent judge self.old → IsCurrent judge self.new) }
@@ -103,9 +103,9 @@ impl EditedNetwork {
 
     fn unlink(&mut self, a: u32, b: u32) -> Result<(), EditError>
         ensures ok { OnOk result (self.new ≡ watch_after (Unlink a b) self.old) }
-        ensures allowed { OnOk result (unlink_refusal self.old.network a b ≡ None) }
+        ensures allowed { OnOk result (edge_refusal self.old.network a b ≡ None) }
         ensures refused { IfErr result
-            (λ error. unlink_refusal self.old.network a b ≡ Some error) }
+            (λ error. edge_refusal self.old.network a b ≡ Some error) }
         ensures unchanged { OnErr result (self.new ≡ self.old) }
         ensures current { OnOk result ((judge : Seen → Verdict)
             → IsCurrent judge self.old → IsCurrent judge self.new) }

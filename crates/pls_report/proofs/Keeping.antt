@@ -52,7 +52,8 @@ lines_more rows i row within is =
     ∙ map-append row_line (take i rows) (get_or rows i row ∷ [])
     ∙ (λ k. row_lines (take i rows) ++ row_line (sym is k) ∷ [])
 
--- the lines of the first rows are made of those of the look before, of which so many last bytes stay
+-- the lines of the first rows are made of those of the look before, of which so many last bytes
+-- stay
 pub record ArePassed (rows : List (ℕ × Outcome × List ℕ)) (lines : List (List ℕ)) (i : ℕ)
     (patches : List Patch) (stays : ℕ) (renewed : List ℕ) : Type 0 where
   pub front : List ℕ

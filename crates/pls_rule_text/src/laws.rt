@@ -11,8 +11,8 @@ ghost use Rattle.pls_rule_text.specs.inner.Said.{rule_said};
 
 use pls_rules::{BoolExpr, Field};
 
-/// A rule is what its text says, so that rules with one text are one; the text is not empty, and has
-/// neither a line feed nor a blank.
+/// A rule is what its text says, so that rules with one text are one; the text is not empty, and
+/// has neither a line feed nor a blank.
 pub fn one_rule()
     ensures said { (rule : RuleSaid) → FitsRule rule → rule_said (rule_text rule) ≡ rule }
     ensures one { (rule other : RuleSaid) → FitsRule rule → FitsRule other
@@ -24,8 +24,8 @@ pub fn one_rule()
         → AllByRecursion (λ character. character ≢ 32) (rule_text rule) }
 {}
 
-/// What is printed of a rule is the text of a rule, which is not refused, and from which the rule is
-/// read again.
+/// What is printed of a rule is the text of a rule, which is not refused, and from which the rule
+/// is read again.
 pub fn printed_rule(fields: &[Field], rule: &BoolExpr)
     requires names { All IsFieldName (names_of fields.now) }
     requires distinct { AreDistinct (names_of fields.now) }

@@ -80,10 +80,10 @@ fn is_formula(text: &[u8]) -> bool
 }
 
 /// The rule that a text says, over fields that it may name; a field stands by its place. The errors
-/// are `Refused` with the number by which the rule is refused (`specs/RuleText`: `rule_refusal`): 51
-/// where parentheses stand more than 31 deep, or more than 2 quantifiers inside one another, else 50
-/// where a name is none of the fields', or a neighbour is asked outside of all quantifiers; and
-/// `NoMemory`.
+/// are `Refused` with the number by which the rule is refused (`specs/RuleText`: `rule_refusal`):
+/// 51 where parentheses stand more than 31 deep, or more than 2 quantifiers inside one another,
+/// else 50 where a name is none of the fields', or a neighbour is asked outside of all quantifiers;
+/// and `NoMemory`.
 pub fn read_rule(alloc: Global, fields: &[Field], text: &[u8]) -> Result<BoolExpr, RuleError>
     requires rule { IsRuleText text.now }
     requires few { length fields.now ≤ 8 }

@@ -4,9 +4,9 @@
 //! what a part says is written (`rules_text`), by which of its lines it is refused
 //! (`rules_refusal`), and which rule set it says (`set_said`); `specs/RulesScan` how the part
 //! stands among the lines of an input. [`scan_rules`] passes one rules part without memory, or
-//! names its first faulty line, and the [`RulesText`] that it gives lends the text and reads the set
-//! ([`RulesText::build`]). [`read_rules`] reads a text that is one part, and [`print_rules`] writes
-//! one; `specs/Printable` says which sets are read back from what is printed of them.
+//! names its first faulty line, and the [`RulesText`] that it gives lends the text and reads the
+//! set ([`RulesText::build`]). [`read_rules`] reads a text that is one part, and [`print_rules`]
+//! writes one; `specs/Printable` says which sets are read back from what is printed of them.
 //! [`laws`] has what else holds of such texts.
 #![tactic(auto)]
 

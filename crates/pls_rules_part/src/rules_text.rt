@@ -68,9 +68,9 @@ impl<'a> RulesText<'a> {
     /// `Sense` names the first line that is refused: by
     /// [`DEPTH`](pls_streams::refusal_number::DEPTH) where parentheses in a rule stand more than 31
     /// deep, or more than 2 quantifiers inside one another; else by
-    /// [`FIELD`](pls_streams::refusal_number::FIELD) where a field has the name of an earlier one, or
-    /// a rule names no field or asks of a neighbour outside of all quantifiers. `NoMemory` for want
-    /// of memory.
+    /// [`FIELD`](pls_streams::refusal_number::FIELD) where a field has the name of an earlier one,
+    /// or a rule names no field or asks of a neighbour outside of all quantifiers. `NoMemory` for
+    /// want of memory.
     pub fn build(&self, alloc: Global) -> Result<RuleSet, TextError>
         ensures same { (said : RulesSaid) → TellsRules self.now.text said
             → IfOk result (λ set. set_of set ≡ set_said said) }

@@ -1,4 +1,5 @@
--- The sentence of a proof labelling scheme (Korman, Kutten and Peleg 2010, section 2), on a network.
+-- The sentence of a proof labelling scheme (Korman, Kutten and Peleg 2010, section 2), on a
+-- network.
 use Rattle.std.specs.Prelude.{◌≡◌, ◌≢◌, ℕ, ◌≤◌, Bool, List, length, All, Contains}
 use Rattle.pls_configuration.specs.declared.row.NodeRow.{NodeRow}
 use Rattle.pls_configuration.specs.declared.verdict.Verdict.{Verdict}

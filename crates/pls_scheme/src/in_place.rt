@@ -21,8 +21,8 @@ pub struct LabelGlance<'a, G> {
     pub glance: &'a G,
 }
 
-/// Rules that are tried without memory, in one pass over the ports, each label having been looked at
-/// once. [`Once`](crate::Once) makes them of [`Rules`](crate::Rules).
+/// Rules that are tried without memory, in one pass over the ports, each label having been looked
+/// at once. [`Once`](crate::Once) makes them of [`Rules`](crate::Rules).
 pub trait JudgesInPlace: Judgement {
     /// What is kept of a label at a glance. What does not fit there is read where it lies.
     type Glance: Drop;
@@ -96,8 +96,8 @@ pub trait JudgesInPlace: Judgement {
         None
     }
 
-    /// The verdict by what was gathered and by the label above, at the port that the node points at,
-    /// if it points at one: a rejection by the first rule that fails, or acceptance.
+    /// The verdict by what was gathered and by the label above, at the port that the node points
+    /// at, if it points at one: a rejection by the first rule that fails, or acceptance.
     fn close(
         &self,
         id: u32,

@@ -1,5 +1,5 @@
-//! What stands at the front of a text: what opens an expression of others, and a leaf. No call takes
-//! memory.
+//! What stands at the front of a text: what opens an expression of others, and a leaf. No call
+//! takes memory.
 
 ghost use Rattle.std.specs.Prelude.{◌≡◌, IfSome, option_map};
 ghost use Rattle.pls_fronts.specs.Front.{found_front};

@@ -1,9 +1,9 @@
 //! Expressions of schemes as texts.
 //!
-//! [`read_expression`] reads the text of an expression of schemes, and [`print_expression`] writes it
-//! (`specs/ExpressionText`: `expression_text`, by its cases). There is one grammar: inside of `map`
-//! stand properties, elsewhere schemes. Proofs may cite `specs/laws/TextLaws` (`one_expression`) and
-//! `proofs/Letters` (`first_letter`).
+//! [`read_expression`] reads the text of an expression of schemes, and [`print_expression`] writes
+//! it (`specs/ExpressionText`: `expression_text`, by its cases). There is one grammar: inside of
+//! `map` stand properties, elsewhere schemes. Proofs may cite `specs/laws/TextLaws`
+//! (`one_expression`) and `proofs/Letters` (`first_letter`).
 #![tactic(auto)]
 
 mod expression_fronts;

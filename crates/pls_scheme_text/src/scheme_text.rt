@@ -76,8 +76,8 @@ fn tree_in(alloc: Global, text: &[u8]) -> Result<ExpressionTree, NoMemory>
     }
 }
 
-/// The text of an expression, which [`read_expression`] reads back where the expression is small. The
-/// one error is want of memory.
+/// The text of an expression, which [`read_expression`] reads back where the expression is small.
+/// The one error is want of memory.
 pub fn print_expression(alloc: Global, tree: &ExpressionTree) -> Result<String, NoMemory>
     ensures { IfOk result (λ text. string_bytes text ≡ expression_text (expression_of tree.now)) }
 {

@@ -167,7 +167,8 @@ along_places rows net P passes i j joined here =
               here.holds next.4;
         }
 
--- a list of at least three nodes, none twice, each with an edge to the next and the last to the first
+-- a list of at least three nodes, none twice, each with an edge to the next and the last to the
+-- first
 pub record IsCycle (rows : List NodeRow) (cycle : List ℕ) : Type 0 where
   pub within : All (λ place. place < length rows) cycle
   pub distinct : AreDistinct cycle

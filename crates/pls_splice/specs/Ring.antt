@@ -27,7 +27,8 @@ abbrev pub head_of : List ℕ → ℕ → ℕ
 head_of order i = tail_of order (next_number (length order) i)
 
 -- these are the places of the nodes in the order of the ring: all of them, none twice, the node of
--- the smallest identity first and then the one behind its port 0, and each edge leads to a neighbour
+-- the smallest identity first and then the one behind its port 0, and each edge leads to a
+-- neighbour
 pub record IsOrder (rows : List NodeRow) (order : List ℕ) : Type 0 where
   pub all : length order ≡ length rows
   pub within : All (λ place. place < length rows) order

@@ -23,9 +23,10 @@ pub struct Pair {
     pub second: u32,
 }
 
-/// The first two edges that may be crossed: no smaller first edge goes with any other, and no smaller
-/// second edge with this first one. `None` where no two may be crossed. It takes time in the bits of
-/// all labels, and the logarithm of their number in looking them up. The one error is want of memory.
+/// The first two edges that may be crossed: no smaller first edge goes with any other, and no
+/// smaller second edge with this first one. `None` where no two may be crossed. It takes time in
+/// the bits of all labels, and the logarithm of their number in looking them up. The one error is
+/// want of memory.
 pub fn find(
     alloc: Global,
     ring: &Ring,

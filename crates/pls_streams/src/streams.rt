@@ -21,8 +21,8 @@ pub trait Source {
     ghost faults: { Self → ℕ };
 
     /// Puts the next bytes into the front of `into` and answers how many: at most its length, and 0
-    /// for room that is not empty only at the end. `StreamFailure` comes only where the count of faults
-    /// rose in this call.
+    /// for room that is not empty only at the end. `StreamFailure` comes only where the count of
+    /// faults rose in this call.
     fn read(&mut self, into: &mut [u8]) -> Result<usize, StreamFailure>
         ensures bound { ReadsAtMost result into.new }
         ensures bytes { ReadConsumes (left self.old) (left self.new) result into.new }
@@ -41,8 +41,8 @@ pub trait Sink {
     ghost IsSureOf: { Self → ℕ → Type 0 };
 
     /// Takes the first bytes of `piece` and answers how many: at least one of a piece that is not
-    /// empty. `StreamFailure` comes only where the count of faults rose in this call, and never for a
-    /// piece that the sink is sure of.
+    /// empty. `StreamFailure` comes only where the count of faults rose in this call, and never for
+    /// a piece that the sink is sure of.
     fn write(&mut self, piece: &[u8]) -> Result<usize, StreamFailure>
         ensures bound { WritesAtMost result piece.now }
         ensures some { IfOk result (λ n. 0 < length piece.now → 0 < n) }

@@ -1,5 +1,6 @@
--- What stands in the rows after the links of a tree and others were put between nodes without ports:
--- each port is that of a link, and the first port of each node of the tree is that of its link.
+-- What stands in the rows after the links of a tree and others were put between nodes without
+-- ports: each port is that of a link, and the first port of each node of the tree is that of its
+-- link.
 use Rattle.std.proofs.Common.{◌≡◌, ◌≢◌, ◌∙◌, ℕ, zero, suc, ◌+◌, ◌-◌, ◌<◌, inl, inr, Bool, true, false, cond, ◌==◌, is_some, List, [], ◌∷◌, ◌++◌, map, fold, Contains, Option, Some, None, option_and_then, refl, sym, ap, subst, arith, slice_get}
 use Rattle.std.specs.List.{range_with_len}
 use Rattle.std.proofs.lemmas.Bool.{eqb-false, eqb-true, ne_eqb}

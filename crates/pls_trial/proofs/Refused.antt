@@ -1,5 +1,5 @@
--- Two nodes that are there, with room for their ports, are not linked only where they are one or are
--- linked already; and a pointer to port 0 is allowed where there is one.
+-- Two nodes that are there, with room for their ports, are not linked only where they are one or
+-- are linked already; and a pointer to port 0 is allowed where there is one.
 use Rattle.std.proofs.Common.{◌≡◌, ◌∙◌, ℕ, ◌+◌, ◌≤◌, ◌-◌, ◌⊎◌, inl, inr, Bool, true, false, not, cond, ◌==◌, nat_lt, List, [], ◌∷◌, length, Contains, Option, Some, None, refl, sym, arith}
 use Rattle.std.specs.Option.{is_none, option_map_or}
 use Rattle.std.proofs.lemmas.Bool.{eqb-false, le-ltb}

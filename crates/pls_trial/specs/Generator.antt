@@ -1,6 +1,7 @@
--- Networks made from a number: a tree by random links to earlier nodes, and random links besides that
--- are no lighter than its edges. The draws are those of Park and Miller, "Random number generators:
--- good ones are hard to find", Communications of the ACM 31 (1988), with the multiplier 48271.
+-- Networks made from a number: a tree by random links to earlier nodes, and random links besides
+-- that are no lighter than its edges. The draws are those of Park and Miller, "Random number
+-- generators: good ones are hard to find", Communications of the ACM 31 (1988), with the multiplier
+-- 48271.
 use Rattle.std.specs.Prelude.{ℕ, zero, suc, ◌+◌, ◌-◌, ◌*◌, ◌%◌, ◌==◌, ◌||◌, List, ◌++◌, map, fold, Some, if◌then◌else◌}
 use Rattle.std.specs.List.{range_with_len}
 use Rattle.pls_configuration.specs.declared.row.State.{State}

@@ -15,7 +15,8 @@
 //! nodes of a connected network, each map states that network, and the network has the property;
 //! [`PropertyTest::right_maps_pass`] is its other half. Proofs above may cite `specs/laws/MapLaws`
 //! (`map_numbers`), `specs/laws/MapShow` (`map_show`, `each_map`) and `specs/laws/MapMet`
-//! (`map_met`, `map_one_right`); [`maps_are_short`] says that labels with maps are within the bound.
+//! (`map_met`, `map_one_right`); [`maps_are_short`] says that labels with maps are within the
+//! bound.
 #![tactic(auto)]
 
 mod bound;

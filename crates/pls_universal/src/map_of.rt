@@ -51,8 +51,8 @@ impl<P, C> MapOf<P, C> {
 }
 
 impl<P: PropertyTest, C: NumCode> MapOf<P, C> {
-    /// Where all nodes of a connected network accept some labels, each label has its node's identity
-    /// and the map of the network itself: the labels are those that are marked.
+    /// Where all nodes of a connected network accept some labels, each label has its node's
+    /// identity and the map of the network itself: the labels are those that are marked.
     pub fn accepted_are_marked(&self, net: &Network, labels: &LabelStore)
         requires connected { IsConnected net.now }
         requires each { length labels.now ≡ length net.now }

@@ -58,7 +58,8 @@ module _ (rows : List NodeRow) (turns : List Turn) (label : ℕ → ℕ → List
   abbrev latest : ℕ → List Bool
   latest other = label other (newest turns other)
 
-  -- what is known of the node itself is the newest, and of a neighbour too where it is heard and fresh
+  -- what is known of the node itself is the newest, and of a neighbour too where it is heard and
+  -- fresh
   own : believed node ≡ latest node
   own = ap (label node) (rw (eq-eqb node node refl) refl)
 

@@ -144,7 +144,8 @@ module _ (watched : Watched) (event : WatchEvent) where
           newest_next nbr gives,
         ))
 
-    -- a port stays as stale as it is where the neighbour gets no label, or none before was its newest
+    -- a port stays as stale as it is where the neighbour gets no label, or none before was its
+    -- newest
     fresh_same : (nbr : ℕ) → (relabels nbr (turn_of event) ≡ true
         → holds_newest rows turns row.id nbr ≡ false)
         → is_fresh rows later row.id nbr ≡ is_fresh rows turns row.id nbr

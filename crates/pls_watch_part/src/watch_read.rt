@@ -14,8 +14,8 @@ use pls_streams::TextError;
 use std::alloc::Global;
 use std::marker::Model;
 
-/// The text of a watch part, and its events and looks where they were kept while it was passed. Seen
-/// as its text.
+/// The text of a watch part, and its events and looks where they were kept while it was passed.
+/// Seen as its text.
 #[derive(Drop)]
 pub struct ReadWatch<'a> {
     text: WatchText<'a>,

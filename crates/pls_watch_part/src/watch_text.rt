@@ -93,9 +93,10 @@ impl<'a> WatchText<'a> {
 
     /// The events and looks, in the order of their lines.
     ///
-    /// `Limit(Events)` where there are more lines than [`MAX_LINES`](pls_configuration::MAX_LINES), else
-    /// `Limit(Rounds)` where there are more looks than [`MAX_ROUNDS`](pls_configuration::MAX_ROUNDS),
-    /// before any memory is taken; `NoMemory` for want of memory.
+    /// `Limit(Events)` where there are more lines than [`MAX_LINES`](pls_configuration::MAX_LINES),
+    /// else `Limit(Rounds)` where there are more looks than
+    /// [`MAX_ROUNDS`](pls_configuration::MAX_ROUNDS), before any memory is taken; `NoMemory` for
+    /// want of memory.
     pub fn list(&self, alloc: Global) -> Result<Vec<WatchLine>, TextError>
         ensures ok { (lines : List WatchLine) → TellsWatch self.now.text lines
             → IfOk result (λ list. list.items ≡ lines) }

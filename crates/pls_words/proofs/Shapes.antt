@@ -1,5 +1,5 @@
--- What `clap` finds in each shape of words: one or two that do not begin with `-`, and a flag at any
--- place.
+-- What `clap` finds in each shape of words: one or two that do not begin with `-`, and a flag at
+-- any place.
 use Rattle.std.proofs.Common.{◌≡◌, true, false, List, [], ◌∷◌, Option, Some, None, codes, refl}
 use Rattle.clap.specs.Words.{Text, first_of, one_of, matches_of, takes}
 use Rattle.clap.proofs.OnLiterals.{clap_on_literals}

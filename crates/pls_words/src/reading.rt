@@ -18,8 +18,8 @@ use std::alloc::{AllocError, Global};
 const MOST: usize = 4;
 
 /// What words say, or `None` where they are not of the form: one or two words, none of which begins
-/// with `-`, and at most one flag, at any place: `--json`, or `--code` with `gamma` or `delta` behind
-/// it. The one error is want of memory.
+/// with `-`, and at most one flag, at any place: `--json`, or `--code` with `gamma` or `delta`
+/// behind it. The one error is want of memory.
 pub fn read_words<'w>(
     alloc: Global,
     words: &'w [&'w str],

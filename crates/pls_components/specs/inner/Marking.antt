@@ -29,8 +29,8 @@ pub record ArePutAt (places : List ℕ) (put old new : List (List Bool)) : Type 
   pub others : (place : ℕ) → (Contains places place → ⊥) → slice_get new place ≡ slice_get old place
   pub here : items_at new places ≡ put
 
--- the component has the property, and its labels stand at its places now; or it lacks it, and no label
--- changed
+-- the component has the property, and its labels stand at its places now; or it lacks it, and no
+-- label changed
 abbrev pub IsPartMarked : (List NodeRow → Type 0) → (List NodeRow → List (List Bool) → Type 0)
     → (Seen → Verdict) → (Size → ℕ) → List NodeRow → List ℕ → List (List Bool) → List (List Bool)
     → Bool → Type 0
@@ -40,8 +40,8 @@ IsPartMarked holds marked judge longest rows places old new true =
 IsPartMarked holds marked judge longest rows places old new false =
     (new ≡ old) × (holds (items_at rows places) → ⊥)
 
--- of the components before this number: the labels show the property of each, or it lacks the property
--- and its smallest identity is listed; no other identity is
+-- of the components before this number: the labels show the property of each, or it lacks the
+-- property and its smallest identity is listed; no other identity is
 pub record AreMarkedBefore (holds : List NodeRow → Type 0)
     (marked : List NodeRow → List (List Bool) → Type 0) (judge : Seen → Verdict)
     (longest : Size → ℕ) (rows : List NodeRow) (parts : List (List ℕ)) (number : ℕ)

@@ -8,7 +8,7 @@ use Rattle.pls_configuration.specs.Walk.{Adjacent, Edge, JoinAll, Walk, edges_of
 use Rattle.pls_facts.specs.Classes.{class_of, joins_all}
 use Rattle.pls_facts.proofs.Classes.{class-joined, joined-class}
 use Rattle.pls_facts.proofs.Lists.{all_pass, any_passes, each_passes, passes_any}
-use Rattle.pls_diameter_bridges.specs.Diameter.{AreWithin, HasDiameter}
+use Rattle.pls_diameter_bridges.specs.Diameter.{AreWithin, HasDiameterAtMost}
 use Rattle.pls_diameter_bridges.specs.Bridgeless.{IsBridgeless, without}
 use Rattle.pls_diameter_bridges.specs.Tests.{any_two, bridgeless_test, diameter_test, leads_to, walks_within}
 
@@ -93,7 +93,7 @@ module _ (edges : List Edge) (v : ℕ) where
 
 -- the test of the diameter is right
 pub diameter_tested : (most : ℕ) (rows : List NodeRow)
-    → (diameter_test most rows ≡ true) ↔ HasDiameter most rows
+    → (diameter_test most rows ≡ true) ↔ HasDiameterAtMost most rows
 diameter_tested most rows = (
   λ passes u v in_u in_v. walk_found (edges_of rows) v most u
       (two_pass (λ u v. walks_within (edges_of rows) most v u) (ids_of rows) passes u v in_u in_v),

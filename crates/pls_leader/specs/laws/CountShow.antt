@@ -1,4 +1,5 @@
--- Where the rules of the number of nodes hold everywhere, each node's number is the number of nodes.
+-- Where the rules of the number of nodes hold everywhere, each node's number is the number of
+-- nodes.
 use Rattle.std.proofs.Common.{◌≡◌, ◌≢◌, ◌∙◌, ℕ, ◌+◌, ◌≤◌, ◌==◌, inl, inr, nat_lt, true, List, map, Contains, sym, ap, arith}
 use Rattle.std.proofs.lemmas.Bool.{and_parts, cases_eq, eqb-true, or_cases}
 use Rattle.pls_configuration.specs.declared.row.Port.{Port}

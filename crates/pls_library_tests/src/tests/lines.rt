@@ -34,8 +34,8 @@ fn numbers_are_read_up_to_their_end(rt: HostRuntime) {
     }
 }
 
-// Lines of a word and one number up to 9, or of another word and two, and the number that is read, or
-// the two as one of two digits.
+// Lines of a word and one number up to 9, or of another word and two, and the number that is read,
+// or the two as one of two digits.
 const LINES: &[(&str, Option<u64>)] = &[
     ("arrive 3\nrest", Some(3)),
     ("arrive 3 \nrest", None),

@@ -46,7 +46,8 @@ fn leave<J: Judge>(recheck: &mut Recheck<J>) -> Result<(), EditError> {
     recheck.apply(&Edit::Leave { id: 9 })
 }
 
-// Whether node 9 joins and leaves without a trace, with `touched_count` nodes touched before and after.
+// Whether node 9 joins and leaves without a trace, with `touched_count` nodes touched before and
+// after.
 fn joins_and_leaves<J: Judge>(
     alloc: Global,
     recheck: &mut Recheck<J>,

@@ -112,8 +112,8 @@ fn rotated_labels(alloc: Global, labels: &LabelStore) -> Result<LabelStore, Fail
     Ok(others)
 }
 
-// As `rejecting_rules`, over the labels as they are, moved, with each bit flipped, and emptied; restores
-// them.
+// As `rejecting_rules`, over the labels as they are, moved, with each bit flipped, and emptied;
+// restores them.
 fn rejecting_rules_when_changed<R: Checker, S: Checker>(
     alloc: Global,
     checker: &R,

@@ -1,5 +1,5 @@
--- What stands at the front of a text: an expression with so many levels of parentheses, whose fields
--- stand by their names.
+-- What stands at the front of a text: an expression with so many levels of parentheses, whose
+-- fields stand by their names.
 use Rattle.std.specs.Prelude.{ℕ, zero, suc, List, codes, Option, None, option_and_then}
 use Rattle.std.specs.Option.{option_map_or, option_or}
 use Rattle.pls_fronts.specs.Front.{Front, after, whole_item}

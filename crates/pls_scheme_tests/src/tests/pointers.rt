@@ -15,8 +15,8 @@ fn depths(alloc: Global, ups: [&str; 3]) -> Result<Option<Vec<u32>>, Fail> {
     Ok(pointer_depths(alloc, &network(alloc, &text)?)?)
 }
 
-// Pointers of the three nodes, and the depths of all four: no pointer, to the first, to the last, two
-// trees, a circle first and a circle last.
+// Pointers of the three nodes, and the depths of all four: no pointer, to the first, to the last,
+// two trees, a circle first and a circle last.
 const DEPTHS: &[([&str; 3], Option<[u32; 4]>)] = &[
     (["-", "-", "-"], Some([0, 0, 0, 0])),
     (["-", "0", "0"], Some([0, 1, 2, 0])),

@@ -136,8 +136,8 @@ fn pairs_of_pairs_judge(rt: HostRuntime) -> Result<(), Fail> {
     Ok(())
 }
 
-// The marks of three nodes in a row, and the bits of all labels where they are a maximal independent
-// set.
+// The marks of three nodes in a row, and the bits of all labels where they are a maximal
+// independent set.
 const MARKS: &[([u32; 3], Option<u64>)] = &[
     ([1, 0, 1], Some(7)),
     ([0, 1, 0], Some(5)),

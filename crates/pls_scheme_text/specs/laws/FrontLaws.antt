@@ -1,4 +1,5 @@
--- What stands at the front of a text: an expression is read where its text stands, and nowhere else.
+-- What stands at the front of a text: an expression is read where its text stands, and nowhere
+-- else.
 use Rattle.std.proofs.Common.{◌≡◌, ◌∙◌, inl, inr, ℕ, max, zero, suc, ◌+◌, ◌-◌, ◌≤◌, ◌++◌, Bool, true, false, List, codes, decimal, Option, Some, None, option_map, refl, sym, ap, subst, arith}
 use Rattle.std.specs.Option.{option_and_then, option_map_or}
 use Rattle.std.proofs.lemmas.List.{append_assoc}

@@ -1,6 +1,6 @@
 //! All networks of up to four nodes, connected or not, with all pointers: each scheme and each
-//! expression names just the components that plain programs find to lack its property, and labels of
-//! the others are accepted.
+//! expression names just the components that plain programs find to lack its property, and labels
+//! of the others are accepted.
 
 ghost use Rattle.std.specs.Prelude.{◌≡◌, length};
 ghost use Rattle.pls_components.specs.Components.{AreComponents};

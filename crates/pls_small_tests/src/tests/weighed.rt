@@ -168,8 +168,9 @@ fn trees_of_all_small_weighed_networks(rt: HostRuntime) -> Result<(), Fail> {
             }
         }
     }
-    // Choices of weights and of pointers: a node alone; a pair; 3 rows and the triangle. Of four nodes
-    // a root and a spanning tree, in 16 trees, 3 rings, 12 with a triangle, 6 of five edges, one of six.
+    // Choices of weights and of pointers: a node alone; a pair; 3 rows and the triangle. Of four
+    // nodes a root and a spanning tree, in 16 trees, 3 rings, 12 with a triangle, 6 of five edges,
+    // one of six.
     let small = 1 + 2 * 4 + 3 * 4 * 12 + 8 * 27;
     let four = 8 * 16 * 4 + 16 * (3 * 16 + 12 * 12) + 32 * 6 * 32 + 64 * 64;
     assert!(rt; all == small + four, "networks");

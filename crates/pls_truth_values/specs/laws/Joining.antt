@@ -1,5 +1,5 @@
--- Edges that join all nodes: where they are as few as a tree has they are distinct, and the lists of
--- such edges are the spanning trees.
+-- Edges that join all nodes: where they are as few as a tree has they are distinct, and the lists
+-- of such edges are the spanning trees.
 use Rattle.std.proofs.Common.{◌≡◌, ◌∙◌, ◌+◌, ◌-◌, ◌≤◌, ◌↔◌, ℕ, inl, inr, Bool, List, length, get_or, sym, subst, arith, Contains, remove}
 use Rattle.std.proofs.lemmas.List.{get_or_default}
 use Rattle.std.proofs.lemmas.List.Edits.{get_or-remove_below, length-remove}
