@@ -10,6 +10,10 @@ ghost use Rattle.pls_bits.specs.inner.Word.{bits_of_word};
 use crate::hex_bytes::eight_bytes;
 use crate::words::make_room;
 use pls_streams::NoMemory;
+use std::simd::prelude::*;
+
+// One lane of the first eight, then one of the second eight.
+const HALVES: [usize; 16] = [0, 8, 1, 9, 2, 10, 3, 11, 4, 12, 5, 13, 6, 14, 7, 15];
 
 /// Appends the `len` bits whose hex text `digits` is to some words, from a word of their own on.
 /// The digits are not tested. It takes no memory where there is room, and for want of memory the
@@ -59,12 +63,13 @@ fn word_of(digits: &[u8]) -> u64
     u64::from_be_bytes(eight_bytes(digits))
 }
 
+// All digits at once: the upper and the lower half of each byte in turn, 48 above the digits and 87
+// above the letters, which begin at 10.
 pub(crate) fn word_digits(word: u64) -> [u8; 16]
     ensures { result ≡ hex_digits (bits_of_word word) }
 {
-    let mut digits = [0; 16];
-    match hex::encode_to_slice(word.to_be_bytes(), &mut digits) {
-        Ok(()) => digits,
-        Err(_) => unreachable!(),
-    }
+    let bytes = u8x8::from_array(word.to_be_bytes());
+    let values = (bytes >> u8x8::splat(4)).shuffle(bytes & u8x8::splat(15), HALVES);
+    let letters = values.simd_ge(u8x16::splat(10));
+    (values + letters.select(u8x16::splat(87), u8x16::splat(48))).to_array()
 }
