@@ -1,31 +1,25 @@
-//! Hex digits as bytes, without branches, so that several digits are turned at once.
+//! Hex digits as bytes, all of a word at once.
 
-ghost use Rattle.std.specs.Prelude.{◌≡◌, ◌<◌, length, slice_index, true};
+ghost use Rattle.std.specs.Prelude.{◌≡◌, length, true};
+ghost use Rattle.std.specs.Int.Digits.{AllBelowBase};
 ghost use Rattle.std.specs.List.{list_all};
-ghost use Rattle.hex.specs.Hex.{IsBytes, encode_lower, lower_digits};
+ghost use Rattle.hex.specs.Hex.{encode_lower};
 ghost use Rattle.pls_bits.specs.Hex.{is_lower_digit};
 
-/// The eight bytes whose hex text the sixteen digits are.
-#[inline(always)]
-pub(crate) fn eight_bytes(digits: &[u8]) -> [u8; 8]
-    requires long { length digits.now ≡ 16 }
-    requires lower { list_all is_lower_digit digits.now ≡ true }
-    ensures small { IsBytes result }
-    ensures text { encode_lower result ≡ digits.now }
-{
-    let mut bytes = [0; 8];
-    for k in 0..8 {
-        bytes[k] = 16 * digit_value(digits[2 * k]) + digit_value(digits[2 * k + 1]);
-    }
-    bytes
-}
+use std::simd::prelude::*;
 
-// Lower case only: the codes of the letters begin at 97, which is 6 * 16 + 1.
+/// The eight bytes whose hex text the sixteen digits are. The codes of the letters begin at 97, which
+/// is 6 * 16 + 1, those of the others at 48, which is 3 * 16.
 #[inline(always)]
-fn digit_value(digit: u8) -> u8
-    requires { is_lower_digit digit ≡ true }
-    ensures small { result < 16 }
-    ensures digit { slice_index lower_digits result ≡ digit }
+pub(crate) fn eight_bytes(digits: u8x16) -> u8x8
+    requires long { length digits ≡ 16 }
+    requires lower { list_all is_lower_digit digits ≡ true }
+    ensures small { AllBelowBase 256 result }
+    ensures text { encode_lower result ≡ digits }
 {
-    digit % 16 + 9 * (digit / 64)
+    let letters = digits >> u8x16::splat(6);
+    let values = (digits & u8x16::splat(15)) + letters * u8x16::splat(9);
+    let high = values.shuffle(values, [0, 2, 4, 6, 8, 10, 12, 14]);
+    let low = values.shuffle(values, [1, 3, 5, 7, 9, 11, 13, 15]);
+    high * u8x8::splat(16) + low
 }

@@ -60,7 +60,7 @@ fn word_of(digits: &[u8]) -> u64
     requires lower { list_all is_lower_digit digits.now ≡ true }
     ensures { hex_digits (bits_of_word result) ≡ digits.now }
 {
-    u64::from_be_bytes(eight_bytes(digits))
+    u64::from_be_bytes(eight_bytes(u8x16::from_slice(digits)).to_array())
 }
 
 // All digits at once: the upper and the lower half of each byte in turn, 48 above the digits and 87

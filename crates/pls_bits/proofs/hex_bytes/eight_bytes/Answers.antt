@@ -1,36 +1,22 @@
-use Rattle.std.proofs.Common.{◌+◌, ◌*◌, refl, sym, ap, ◌∙◌, arith}
-use Rattle.std.proofs.lemmas.List.{length-set, take_all}
-use Rattle.hex.specs.Hex.{encode_lower, encode_with}
-use Rattle.pls_bits.proofs.Pairs.{bytes_set, pair_more, zeros}
+use Rattle.std.proofs.Common.{◌≡◌, List, ℕ, length, map, refl, slice_index}
+use Rattle.std.specs.List.{range_with_len}
+use Rattle.std.proofs.lemmas.List.FromFn.{fill_by_all}
+use Rattle.pls_bits.proofs.Lanes.{lanes_bytes}
 use Rattle.pls_bits.proofs.hex_bytes.eight_bytes.Goals as goal
 
-pub loop-k-init : goal.loop-k-init
-unfolding encode_with
-loop-k-init c = record { text = refl; small = zeros 8; long = refl }
+-- sixteen digits, one by one
+abbrev written : List ℕ → List ℕ
+written digits = map (slice_index digits) (range_with_len 0 16)
 
-pub loop-k-preserved : goal.loop-k-preserved
-loop-k-preserved c =
-    let was = c.loop-k.invariant in
-    let high = c.digit_value.result in
-    let low = c.digit_value-in-loop-k.result in
-    record {
-      text = pair_more c.loop-k.bytes c.args.digits.now c.loop-k.k high low
-          (omega (arith, was.long, c.loop-k-test.true))
-          (omega (arith, c.requires.long, c.loop-k-test.true)) c.digit_value.ensures.small
-          c.digit_value-in-loop-k.ensures.small c.digit_value.ensures.digit
-          c.digit_value-in-loop-k.ensures.digit was.text;
-      small = bytes_set c.loop-k.bytes c.loop-k.k (16 * high + low)
-          (omega (arith, was.long, c.loop-k-test.true))
-          (omega (arith, c.digit_value.ensures.small, c.digit_value-in-loop-k.ensures.small)) was.small;
-      long = length-set c.loop-k.bytes c.loop-k.k (16 * high + low) ∙ was.long;
-    }
+written_is : (digits : List ℕ) → length digits ≡ 16 → digits ≡ written digits
+written_is digits long = fill_by_all (slice_index digits) digits 16 0 long (λ k less. refl)
 
 pub returns-clause-small : goal.returns-clause-small
-returns-clause-small c = c.loop-k.invariant.small
+returns-clause-small c =
+    let one_by_one = written_is c.args.digits c.requires.long in
+    rw one_by_one (lanes_bytes 8 (written c.args.digits) refl (rw one_by_one at c.requires.lower)).0
 
 pub returns-clause-text : goal.returns-clause-text
 returns-clause-text c =
-    let was = c.loop-k.invariant in
-    ap encode_lower (sym (take_all c.loop-k.k c.loop-k.bytes (omega (arith, was.long, c.loop-k-test.false))))
-    ∙ was.text
-    ∙ take_all (2 * c.loop-k.k) c.args.digits.now (omega (arith, c.requires.long, c.loop-k-test.false))
+    let one_by_one = written_is c.args.digits c.requires.long in
+    rw one_by_one (lanes_bytes 8 (written c.args.digits) refl (rw one_by_one at c.requires.lower)).1

@@ -1,5 +1,5 @@
 use Rattle.pls_bits.specs.Hex.{hex_digits}
-use Rattle.pls_bits.proofs.Letters.{lanes_text}
+use Rattle.pls_bits.proofs.Lanes.{lanes_text}
 use Rattle.pls_bits.proofs.WordBytes.{bytes_of-word}
 use Rattle.pls_bits.proofs.hex_words.word_digits.Goals as goal
 
