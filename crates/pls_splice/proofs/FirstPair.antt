@@ -1,12 +1,9 @@
 -- How the first pair is found, one edge after another from the last one back.
-use Rattle.std.proofs.Common.{◌≡◌, ◌∙◌, ℕ, zero, suc, ◌+◌, ◌-◌, ◌<◌, ◌≤◌, inl, inr, true, false, cond, Bool, nat_le, List, [], ◌∷◌, ◌++◌, length, IfNone, IfSome, Option, Some, None, Ordering, Less, Equal, Greater, refl, sym, ap, subst, arith}
-use Rattle.std.specs.Ordering.{is_eq}
+use Rattle.std.proofs.Common.{◌≡◌, ◌↔◌, ◌∙◌, ℕ, zero, suc, ◌+◌, ◌-◌, ◌<◌, ◌≤◌, inl, inr, true, false, cond, Bool, nat_le, List, [], ◌∷◌, ◌++◌, length, IfNone, IfSome, Option, Some, None, refl, sym, ap, subst, arith}
 use Rattle.std.proofs.lemmas.Bool.{cases_order, leb-true, leb-false}
-use Rattle.std.proofs.lemmas.Cmp.{nat_list_cmp_total, tied_itself}
-use Rattle.std.proofs.lemmas.Map.Lookups.{exact_bytes}
+use Rattle.std.proofs.lemmas.Bool.Decides.{Decides-eqb}
 use Rattle.std.proofs.lemmas.Option.{same_Some}
-use Rattle.std.specs.Cmp.Lexicographic.{slice_cmp}
-use Rattle.std.specs.Ordering.{nat_cmp}
+use Rattle.std.proofs.lemmas.Slice.Eq.{slice_eq-Decides}
 use Rattle.pls_configuration.specs.declared.row.NodeRow.{NodeRow}
 use Rattle.pls_splice.specs.Crossing.{AreAlike, HasNoPair, IsFirstPair, IsPair, edge_weight, label_at}
 use Rattle.pls_splice.specs.Ring.{head_of, tail_of}
@@ -14,6 +11,10 @@ use Rattle.pls_splice.specs.declared.finding.Pair.{Pair}
 use Rattle.pls_splice.specs.inner.Finding.{IsFoundFrom, first_from, same_words, with_edge}
 use Rattle.pls_splice.specs.inner.Keys.{edge_key, words_from}
 use Rattle.pls_splice.proofs.KeyWords.{same_bits}
+
+-- two lists of words are the same exactly where a table takes them to be
+same_exactly : (one other : List ℕ) → (same_words one other ≡ true) ↔ (one ≡ other)
+same_exactly one other = slice_eq-Decides Decides-eqb one other (same_words one other) refl
 
 -- two lists of one length in front of others
 same_parts : (a b c d : List Bool) → length a ≡ length c → a ++ b ≡ c ++ d → (a ≡ c) × (b ≡ d)
@@ -50,18 +51,10 @@ module _ (rows : List NodeRow) (labels : List (List Bool)) (order : List ℕ) wh
   key_by_alike i j alike = rw (alike.weights, alike.tails, alike.heads) refl
 
   pub same_by_alike : (i j : ℕ) → AreAlike rows labels order i j → same_words (key j) (key i) ≡ true
-  same_by_alike i j alike =
-      ap (λ (words : List ℕ). same_words (key j) words) (key_by_alike i j alike)
-      ∙ ap is_eq (tied_itself nat_list_cmp_total (key j))
-
-  equal : (o : Ordering) → is_eq o ≡ true → o ≡ Equal
-  equal Less e = absurd (cc)
-  equal Equal e = refl
-  equal Greater e = absurd (cc)
+  same_by_alike i j alike = (same_exactly (key j) (key i)).1 (sym (key_by_alike i j alike))
 
   pub alike_by_same : (i j : ℕ) → same_words (key j) (key i) ≡ true → AreAlike rows labels order i j
-  alike_by_same i j same = alike_by_key i j
-      (sym (exact_bytes (key j) (key i) (equal (slice_cmp nat_cmp (key j) (key i)) same)))
+  alike_by_same i j same = alike_by_key i j (sym ((same_exactly (key j) (key i)).0 same))
 
 -- what is said of the first number that passes
 pub record IsFirst (passes : ℕ → Bool) (from count j : ℕ) : Type 0 where

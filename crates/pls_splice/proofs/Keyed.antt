@@ -1,12 +1,10 @@
 -- The keys of edges in a list, one after another.
-use Rattle.std.proofs.Common.{◌≡◌, ◌∙◌, ℕ, zero, suc, ◌+◌, ◌<◌, inl, inr, List, [], ◌∷◌, ◌++◌, length, get_or, slice_get, Some, BTreeMap, length-append, sym, ap, arith}
-use Rattle.std.specs.BTreeMap.{is_at}
+use Rattle.std.proofs.Common.{◌≡◌, ◌∙◌, ℕ, zero, suc, ◌+◌, ◌<◌, inl, inr, List, [], ◌∷◌, ◌++◌, length, get_or, slice_get, Some, length-append, sym, ap, arith}
+use Rattle.std.specs.HashMap.{HashMap}
 use Rattle.std.specs.Map.{lookup}
-use Rattle.std.specs.Cmp.Lexicographic.{slice_cmp}
-use Rattle.std.specs.Ordering.{nat_cmp}
 use Rattle.std.proofs.lemmas.Option.{slice_get-get_or}
 use Rattle.pls_graph.proofs.Ranged.{at_push_cases}
-use Rattle.pls_splice.specs.inner.Finding.{AreKeys, HasFirst}
+use Rattle.pls_splice.specs.inner.Finding.{AreKeys, HasFirst, same_words}
 
 module _ {X : Type 0} where
   kept_at : (xs ys : List X) (k : ℕ) (x : X) → slice_get xs k ≡ Some x
@@ -42,7 +40,7 @@ module _ {K : Type 0} (words : K → List ℕ) (key : ℕ → List ℕ) where
       ap words is ∙ are k (get_or keys k x) (slice_get-get_or keys k x less)
 
   -- a table without entries has no number
-  pub table_none : (table : BTreeMap K ℕ) (from count : ℕ) → table.entries ≡ [] → count ≡ 0
+  pub table_none : {S : Type 0} (table : HashMap K ℕ S) (from count : ℕ) → table.entries ≡ [] → count ≡ 0
       → HasFirst words table key from count
   table_none table from count empty none = rw none (λ q.
-      ap (lookup (is_at (λ y. slice_cmp nat_cmp (words q) (words y)))) empty)
+      ap (lookup (λ y. same_words (words q) (words y))) empty)

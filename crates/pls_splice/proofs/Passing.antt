@@ -1,8 +1,6 @@
 -- One edge more is looked at, from the last back to the first.
-use Rattle.std.proofs.Common.{◌≡◌, ◌∙◌, ℕ, suc, ◌+◌, ◌-◌, ◌<◌, cond, Bool, List, length, Option, Some, BTreeMap, sym, ap, subst, arith}
-use Rattle.std.specs.BTreeMap.{get}
-use Rattle.std.specs.Cmp.Lexicographic.{slice_cmp}
-use Rattle.std.specs.Ordering.{nat_cmp}
+use Rattle.std.proofs.Common.{◌≡◌, ◌∙◌, ℕ, suc, ◌+◌, ◌-◌, ◌<◌, cond, Bool, List, length, Option, Some, sym, ap, subst, arith}
+use Rattle.std.specs.HashMap.{HashMap, get}
 use Rattle.pls_configuration.specs.declared.row.NodeRow.{NodeRow}
 use Rattle.pls_splice.specs.declared.finding.Pair.{Pair}
 use Rattle.pls_splice.specs.inner.Finding.{HasFirst, IsFoundFrom, first_from, same_words, with_edge}
@@ -20,39 +18,39 @@ module _ (tails passed count i : ℕ) (less : passed < tails) (tails_is : tails 
   short : i + 3 < count
   short = omega arith
 
-  pub table_more : {K : Type 0} (words : K → List ℕ) (old new : BTreeMap K ℕ) (key : ℕ → List ℕ)
+  pub table_more : {K S : Type 0} (words : K → List ℕ) (old new : HashMap K ℕ S) (key : ℕ → List ℕ)
       (far : K) → words far ≡ key (i + 3)
-      → ((q : K) → get (λ x y. slice_cmp nat_cmp (words x) (words y)) new q
+      → ((q : K) → get (λ x y. same_words (words x) (words y)) new q
       ≡ cond (same_words (words far) (words q)) (Some (i + 3))
-      (get (λ x y. slice_cmp nat_cmp (words x) (words y)) old q))
+      (get (λ x y. same_words (words x) (words y)) old q))
       → HasFirst words old key (tails - passed + 3) (count - (tails - passed + 3))
       → HasFirst words new key (i + 3) (count - (i + 3))
-  table_more {K} words old new key far far_is puts has q =
+  table_more {K} {S} words old new key far far_is puts has q =
       let passes : ℕ → Bool = λ j. same_words (key j) (words q) in
       let from : tails - passed + 3 ≡ suc (i + 3) = let b = before in omega arith in
       let many : count - (i + 3) ≡ suc (count - (tails - passed + 3)) =
       let b = before in let s = short in omega arith in
       first_more passes (i + 3) (count - (tails - passed + 3))
-      (get (λ x y. slice_cmp nat_cmp (words x) (words y)) old q)
-      (get (λ x y. slice_cmp nat_cmp (words x) (words y)) new q)
+      (get (λ x y. same_words (words x) (words y)) old q)
+      (get (λ x y. same_words (words x) (words y)) new q)
       (puts q ∙ ap (λ (far : List ℕ). cond (same_words far (words q)) (Some (i + 3))
-      (get (λ x y. slice_cmp nat_cmp (words x) (words y)) old q)) far_is)
+      (get (λ x y. same_words (words x) (words y)) old q)) far_is)
       (has q ∙ ap (λ (from : ℕ). first_from passes from (count - (tails - passed + 3))) from)
       ∙ ap (first_from passes (i + 3)) (sym many)
 
-  pub table_now : {K : Type 0} (words : K → List ℕ) (new : BTreeMap K ℕ) (key : ℕ → List ℕ)
+  pub table_now : {K S : Type 0} (words : K → List ℕ) (new : HashMap K ℕ S) (key : ℕ → List ℕ)
       → HasFirst words new key (i + 3) (count - (i + 3))
       → HasFirst words new key (tails - (passed + 1) + 3) (count - (tails - (passed + 1) + 3))
   table_now words new key has q = has q
       ∙ ap (λ (i : ℕ). first_from (λ j. same_words (key j) (words q)) (i + 3) (count - (i + 3)))
       (sym here)
 
-  pub found_now : {K : Type 0} (words : K → List ℕ) (new : BTreeMap K ℕ) (rows : List NodeRow)
+  pub found_now : {K S : Type 0} (words : K → List ℕ) (new : HashMap K ℕ S) (rows : List NodeRow)
       (labels : List (List Bool)) (order : List ℕ) (found made : Option Pair) (q : K)
       (j : Option ℕ) → count ≡ length order
       → HasFirst words new (edge_key rows labels order) (i + 3) (count - (i + 3))
       → words q ≡ edge_key rows labels order i
-      → j ≡ get (λ x y. slice_cmp nat_cmp (words x) (words y)) new q
+      → j ≡ get (λ x y. same_words (words x) (words y)) new q
       → made ≡ with_edge found i j count
       → IsFoundFrom rows labels order (tails - passed) found
       → IsFoundFrom rows labels order (tails - (passed + 1)) made

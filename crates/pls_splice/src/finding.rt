@@ -12,7 +12,7 @@ use pls_graph::Network;
 use pls_labels::LabelStore;
 use pls_streams::NoMemory;
 use std::alloc::Global;
-use std::collections::BTreeMap;
+use std::collections::HashMap;
 
 /// Two edges of a ring, by their numbers.
 #[derive(Clone, Copy, Debug, PartialEq, Eq)]
@@ -25,8 +25,7 @@ pub struct Pair {
 
 /// The first two edges that may be crossed: no smaller first edge goes with any other, and no
 /// smaller second edge with this first one. `None` where no two may be crossed. It takes time in
-/// the bits of all labels, and the logarithm of their number in looking them up. The one error is
-/// want of memory.
+/// the bits of all labels, which are looked up by their hash. The one error is want of memory.
 pub fn find(
     alloc: Global,
     ring: &Ring,
@@ -44,7 +43,7 @@ pub fn find(
     let count = ring.order().len();
     let tails = count.saturating_sub(3);
     // For each key the first edge that has it, of those at least 3 behind the edge at hand.
-    let mut later = BTreeMap::new(alloc);
+    let mut later = HashMap::new(alloc);
     let mut found = None;
     let mut keys = edge_keys(alloc, ring, net, labels)?;
     for turn in 0..tails {

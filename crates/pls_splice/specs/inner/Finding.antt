@@ -1,8 +1,7 @@
 -- How the first pair of edges is found, from the last edge to the first.
-use Rattle.std.specs.Prelude.{◌≡◌, ℕ, zero, suc, ◌+◌, ◌<◌, ◌≤◌, ◌⊎◌, nat_le, Bool, if◌then◌else◌, List, IfNone, IfSome, slice_get, Option, Some, None}
-use Rattle.std.specs.BTreeMap.{BTreeMap, get}
-use Rattle.std.specs.Cmp.Lexicographic.{slice_cmp}
-use Rattle.std.specs.Ordering.{is_eq, nat_cmp}
+use Rattle.std.specs.Prelude.{◌≡◌, ℕ, zero, suc, ◌+◌, ◌<◌, ◌≤◌, ◌⊎◌, nat_eq, nat_le, Bool, if◌then◌else◌, List, IfNone, IfSome, slice_get, Option, Some, None}
+use Rattle.std.specs.HashMap.{HashMap, get}
+use Rattle.std.specs.Cmp.Lexicographic.{pointwise}
 use Rattle.pls_configuration.specs.declared.row.NodeRow.{NodeRow}
 use Rattle.pls_splice.specs.Crossing.{IsPair}
 use Rattle.pls_splice.specs.declared.finding.Pair.{Pair}
@@ -15,12 +14,12 @@ first_from passes from (suc count) =
 
 -- whether two lists of words are the same, as a table of them compares them
 abbrev pub same_words : List ℕ → List ℕ → Bool
-same_words one other = is_eq (slice_cmp nat_cmp one other)
+same_words = pointwise nat_eq
 
 -- the table has for each key the first number with that key, of so many from a number on
-abbrev pub HasFirst : {K : Type 0} → (K → List ℕ) → BTreeMap K ℕ → (ℕ → List ℕ) → ℕ → ℕ → Type 0
+abbrev pub HasFirst : {K S : Type 0} → (K → List ℕ) → HashMap K ℕ S → (ℕ → List ℕ) → ℕ → ℕ → Type 0
 HasFirst {K} words table key from count = (q : K)
-    → get (λ x y. slice_cmp nat_cmp (words x) (words y)) table q
+    → get (λ x y. same_words (words x) (words y)) table q
     ≡ first_from (λ j. same_words (key j) (words q)) from count
 
 -- these are the keys of the numbers from 0 on
