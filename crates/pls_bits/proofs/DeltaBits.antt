@@ -10,7 +10,7 @@ use Rattle.pls_bits.specs.Delta.{delta_code}
 use Rattle.pls_bits.specs.Gamma.{behind_one, digits, floor_log, gamma_code, number_from}
 use Rattle.pls_bits.specs.declared.num_code.TheConstants.{MAX_CODED}
 use Rattle.pls_bits.specs.laws.FloorLogLaws.{floor_log-bound, floor_log-le, floor_log-lt_suc}
-use Rattle.pls_bits.proofs.Peeked.{Shows, digits-both, digits-mod, digits-none, seen-number}
+use Rattle.pls_bits.proofs.Peeked.{Begins, digits-both, digits-mod, digits-none, seen-number}
 use Rattle.pls_bits.proofs.Windows.{front-lt}
 
 -- ---- what is read
@@ -25,7 +25,7 @@ number_from-power k front (digit ∷ rest) =
     let place : suc k + length rest ≡ k + suc (length rest) = omega arith in
     rw (next, ← place) (number_from-power (suc k) (2 * front + weigh digit) rest)
 
-module _ (v count : ℕ) (bits : List Bool) (small : v < 2 ^ 64) (shows : Shows v bits)
+module _ (v count : ℕ) (bits : List Bool) (small : v < 2 ^ 64) (begins : Begins v bits)
     (few : count ≤ 62) (within : count ≤ length bits) where
   -- the number that a one and the next digits show
   pub behind_one-seen : behind_one count bits
@@ -33,7 +33,7 @@ module _ (v count : ℕ) (bits : List Bool) (small : v < 2 ^ 64) (shows : Shows 
   behind_one-seen =
       let long = length-take-le count bits within in
       let power = number_from-power 0 0 (take count bits) in
-      let seen = seen-number v bits count small shows (omega (arith, few)) within in
+      let seen = seen-number v bits count small begins (omega (arith, few)) within in
       let most : 2 ^ count ≤ 2 ^ 62 = pow_mono {j = 62} few in
       let some : 1 ≤ 2 ^ count = pow_mono {i = 0} (omega arith) in
       let place : 0 + count ≡ count = omega arith in

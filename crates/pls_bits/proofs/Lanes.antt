@@ -53,7 +53,7 @@ value_by_lanes c = (bit_and c 15 + c / 64 * 9 % 256) % 256
 abbrev byte_by_lanes : ℕ → ℕ → ℕ
 byte_by_lanes high low = (value_by_lanes high * 16 % 256 + value_by_lanes low) % 256
 
-abbrev pub bytes_by_lanes : List ℕ → List ℕ
+abbrev bytes_by_lanes : List ℕ → List ℕ
 bytes_by_lanes [] = []
 bytes_by_lanes (high ∷ []) = []
 bytes_by_lanes (high ∷ low ∷ digits) = byte_by_lanes high low ∷ bytes_by_lanes digits

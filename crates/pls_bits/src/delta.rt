@@ -69,7 +69,7 @@ fn digits_behind_one(cursor: &mut Cursor<'_>, count: u64) -> Option<u64>
     if count == 0 {
         return Some(0);
     }
-    let ahead = cursor.peek();
+    let ahead = cursor.ahead();
     cursor.skip(count as usize);
     Some((1 << count) - 1 + (ahead >> (64 - count)))
 }

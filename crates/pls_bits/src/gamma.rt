@@ -30,16 +30,9 @@ impl NumCode for Gamma {
     // The next 64 bits mostly show the whole code; the cursor moves only where a code comes.
     #[inline(always)]
     fn read(cursor: &mut Cursor<'_>) -> Option<u64> {
-        let ahead = cursor.peek();
-        if ahead >> 63 == 1 {
-            cursor.skip(1);
-            return Some(0);
-        }
+        let ahead = cursor.ahead();
         let zeros = ahead.leading_zeros() as usize;
         let size = 2 * zeros + 1;
-        if zeros > 62 {
-            return None;
-        }
         if size > cursor.len() {
             return None;
         }
@@ -47,8 +40,11 @@ impl NumCode for Gamma {
             cursor.skip(size);
             return Some((ahead >> (64 - size)) - 1);
         }
+        if zeros > 62 {
+            return None;
+        }
         cursor.skip(zeros);
-        let behind = cursor.peek();
+        let behind = cursor.ahead();
         cursor.skip(zeros + 1);
         Some((behind >> (63 - zeros)) - 1)
     }

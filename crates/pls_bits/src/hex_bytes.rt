@@ -8,8 +8,8 @@ ghost use Rattle.pls_bits.specs.Hex.{is_lower_digit};
 
 use std::simd::prelude::*;
 
-/// The eight bytes whose hex text the sixteen digits are. The codes of the letters begin at 97, which
-/// is 6 * 16 + 1, those of the others at 48, which is 3 * 16.
+/// The eight bytes whose hex text the sixteen digits are. The codes of the letters begin at 97,
+/// which is 6 * 16 + 1, those of the others at 48, which is 3 * 16.
 #[inline(always)]
 pub(crate) fn eight_bytes(digits: u8x16) -> u8x8
     requires long { length digits ≡ 16 }

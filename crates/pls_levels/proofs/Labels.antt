@@ -17,7 +17,7 @@ module _ {S X : Type 0} (form : LevelForm S X) (exact : IsExactForm form) where
   with_levels front = option_and_then (label_behind form) front
 
   -- without what stands in front there is no label
-  no_head : (left : NumbersLeft) → head_off left.numbers ≡ None
+  pub no_head : (left : NumbersLeft) → head_off left.numbers ≡ None
       → if_clean (label_of form) left ≡ None
   no_head left none =
       ap (λ (front : Option (LevelHead × List ℕ)). if left.clean then with_levels front else None)
@@ -69,7 +69,7 @@ module _ {S X : Type 0} (form : LevelForm S X) (exact : IsExactForm form) where
               )
 
       -- and else there is none
-      no_label : are_levels form head.count new ≡ false → if_clean (label_of form) left ≡ None
+      pub no_label : are_levels form head.count new ≡ false → if_clean (label_of form) left ≡ None
       no_label there =
           by new.clean (items_in form.off head.count new.numbers) refl refl there
         where

@@ -14,7 +14,8 @@ use Rattle.pls_centroid.specs.declared.level.CentroidLevel.{CentroidLevel}
 use Rattle.pls_pathmax.specs.Labels.{PathMaxLabel}
 use Rattle.pls_levels.specs.Rules.{is_in_tree}
 use Rattle.pls_pathmax.specs.Rules.{has_way, has_ways_to_centroids, leads_on_at}
-use Rattle.pls_pathmax.specs.inner.OnePass.{is_led_on, is_own_level, leads_from}
+use Rattle.pls_pathmax.specs.inner.OnePass.{is_led_on, leads_from}
+use Rattle.pls_pathmax.specs.inner.Glance.{is_own_level}
 use Rattle.pls_levels.specs.laws.Levelwise.{passes_from_0}
 use Rattle.pls_pathmax.proofs.MorePorts.{led_more}
 

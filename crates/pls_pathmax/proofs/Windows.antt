@@ -9,7 +9,8 @@ use Rattle.pls_centroid.specs.declared.level.CentroidLevel.{CentroidLevel}
 use Rattle.pls_pathmax.specs.declared.gathering.TheConstants.{WINDOW}
 use Rattle.pls_pathmax.specs.Labels.{PathMaxLabel}
 use Rattle.pls_pathmax.specs.Rules.{has_way, has_ways_to_centroids, leads_on_at}
-use Rattle.pls_pathmax.specs.inner.OnePass.{has_ways_from, is_in_window, is_led_on, is_own_level, led_on_from}
+use Rattle.pls_pathmax.specs.inner.OnePass.{has_ways_from, is_in_window, is_led_on, led_on_from}
+use Rattle.pls_pathmax.specs.inner.Glance.{is_own_level}
 use Rattle.pls_levels.specs.laws.Levelwise.{all_from_0, passes_from_0}
 
 -- a number is in the window or not

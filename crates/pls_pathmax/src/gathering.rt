@@ -1,6 +1,6 @@
 //! What a node gathers of its ports, one after another.
 
-ghost use Rattle.std.specs.Prelude.{◌≡◌, ℕ, ◌<◌, ◌==◌, ◌++◌, ◌&&◌, ◌||◌, List, [], ◌∷◌, Some, false, length, slice_get, slice_index_or, true};
+ghost use Rattle.std.specs.Prelude.{◌≡◌, ℕ, ◌+◌, ◌<◌, ◌==◌, ◌++◌, ◌&&◌, ◌||◌, List, [], ◌∷◌, Some, false, length, slice_get, slice_index_or, true};
 ghost use Rattle.std.specs.List.{list_any, zip};
 ghost use Rattle.pls_configuration.specs.declared.row.State.{State};
 ghost use Rattle.pls_numbers.specs.Shape.{said_by};
@@ -9,12 +9,12 @@ ghost use Rattle.pls_centroid.specs.declared.level.CentroidLevel.{CentroidLevel}
 ghost use Rattle.pls_pathmax.specs.Labels.{PathMaxLabel, pathmax_shape};
 ghost use Rattle.pls_pathmax.specs.Rules.{meet_lightly};
 ghost use Rattle.pls_pathmax.specs.declared.gathering.TheConstants.{WINDOW};
-ghost use Rattle.pls_pathmax.specs.inner.Glance.{glance_said};
-ghost use Rattle.pls_pathmax.specs.inner.OnePass.{gathered_from, has_ways_from, is_own_level, led_on_from, with_leads};
+ghost use Rattle.pls_pathmax.specs.inner.Glance.{glance_said, is_own_level};
+ghost use Rattle.pls_pathmax.specs.inner.OnePass.{gathered_from, has_ways_from, led_on_from, with_leads};
 ghost use Rattle.pls_pathmax.specs.inner.Reading.{AreLeft};
 
 use crate::comparing::{meet_at_first, meet_somewhere, note_ways};
-use crate::glance::PathMaxGlance;
+use crate::glance::{PathMaxGlance, is_own_level};
 use crate::levels::PathMaxLevels;
 use crate::reading::read_level;
 use pls_bits::NumCode;
@@ -157,11 +157,27 @@ pub(crate) fn has_ways<C: NumCode>(
         → led_on.now ≡ led_on_from first (reading id state mine ports)
         → result ≡ has_ways_from first (reading id state mine ports) }
 {
+    if first == 0 && own.glance.ends_at_own && lead_on(led_on, own.glance.head.count) {
+        return true;
+    }
     let mut numbers = levels_of::<PathMaxLevels, C>(own.bits);
     if !pass_levels::<PathMaxLevels, C>(&mut numbers, first) {
         return true;
     }
     have_ways(&mut numbers, own.glance.head.own, led_on)
+}
+
+// Whether on each of `count` levels but the last a port leads on, as far as there are flags.
+fn lead_on(led_on: &[bool], count: u64) -> bool
+    ensures { result ≡ true → (k : ℕ) → k < length led_on.now → k + 1 < count
+        → slice_index_or led_on.now k false ≡ true }
+{
+    for number in 0..led_on.len() {
+        if !led_on[number] {
+            return number as u64 + 1 >= count;
+        }
+    }
+    true
 }
 
 // Whether on each next level, one a flag, the node `own` is the centroid or a port leads on.
@@ -189,5 +205,5 @@ pub(crate) fn have_ways<C: NumCode>(numbers: &mut Numbers<'_, C>, own: u64, led_
 fn has_way(own: u64, level: &CentroidLevel, led_on: bool) -> bool
     ensures { result ≡ (is_own_level own level.now || led_on) }
 {
-    (level.hops == 0 && level.centroid == own) || led_on
+    is_own_level(own, level) || led_on
 }

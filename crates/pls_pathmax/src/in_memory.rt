@@ -1,7 +1,7 @@
 //! Views of labels with more levels than one pass asks for, judged in one pass with memory for the
 //! flags of all levels.
 
-ghost use Rattle.std.specs.Prelude.{◌≡◌, ℕ, ◌<◌, ◌&&◌, ◌||◌, List, length, Some, false, slice_get, slice_index_or, IfOk};
+ghost use Rattle.std.specs.Prelude.{◌≡◌, ℕ, ◌<◌, ◌&&◌, ◌||◌, List, length, Some, false, slice_get, slice_index_or, true, IfOk};
 ghost use Rattle.pls_numbers.specs.Shape.{said_by};
 ghost use Rattle.pls_labels.specs.Seen.{Seen, views};
 ghost use Rattle.pls_scheme.specs.Basic.{verdict_by};
@@ -9,14 +9,15 @@ ghost use Rattle.pls_scheme.specs.Reading.{ReadPort, port_with, read_ports, read
 ghost use Rattle.pls_pathmax.specs.Labels.{PathMaxLabel, pathmax_shape};
 ghost use Rattle.pls_levels.specs.Rules.{is_in_tree};
 ghost use Rattle.pls_pathmax.specs.Rules.{pathmax_rules};
-ghost use Rattle.pls_pathmax.specs.inner.OnePass.{is_led_on, leads_from, one_pass_rules};
+ghost use Rattle.pls_pathmax.specs.inner.OnePass.{is_led_on, is_settled, leads_from, one_pass_rules};
 
 use crate::comparing::note_ways;
 use crate::gathering::{WINDOW, have_ways};
 use crate::levels::PathMaxLevels;
-use crate::pathmax::{head_of, is_settled};
+use crate::pathmax::{count_of, head_of, is_settled};
 use pls_bits::{Bits, NumCode};
 use pls_configuration::Verdict;
+use pls_facts::is_valid;
 use pls_graph::Network;
 use pls_labels::{Labels, View};
 use pls_levels::{is_in_tree, levels_of};
@@ -39,31 +40,41 @@ pub(crate) fn verdict_of_node<C: NumCode, L: Labels>(
         → slice_get (views net.now (L.listed labels.now)) i ≡ Some view
         → found ≡ verdict_by pathmax_shape pathmax_rules C.takes view) }
 {
+    is_valid(net);
+    if is_final::<C>(&labels.bits(i), &verdict) {
+        return Ok(verdict);
+    }
     let view = View::of(alloc, net, labels, i)?;
-    let found = verdict_of_view::<C>(alloc, &view, verdict)?;
+    let found = further_verdict::<C>(alloc, &view, verdict)?;
     Ok(found)
 }
 
+// Whether the verdict of the first pass stands whatever the ports show: it is settled, or that pass
+// asked rule 5 of all levels of `own`.
+fn is_final<C: NumCode>(own: &Bits<'_>, verdict: &Verdict) -> bool
+    ensures same { result ≡ true → (view : Seen) → view.own ≡ own.now
+        → verdict.now ≡ verdict_by pathmax_shape (one_pass_rules 0) C.takes view
+        → verdict.now ≡ verdict_by pathmax_shape pathmax_rules C.takes view }
+    ensures open { result ≡ false → is_settled verdict.now ≡ false }
+{
+    is_settled(verdict) || count_of::<C>(own) <= WINDOW as u64
+}
+
 // `verdict` is that of the first pass; the one error is want of memory.
-fn verdict_of_view<C: NumCode>(
+fn further_verdict<C: NumCode>(
     alloc: Global,
     view: &View<'_>,
     verdict: Verdict,
 ) -> Result<Verdict, NoMemory>
-    requires { verdict ≡ verdict_by pathmax_shape (one_pass_rules 0) C.takes view.now }
+    requires first { verdict ≡ verdict_by pathmax_shape (one_pass_rules 0) C.takes view.now }
+    requires open { is_settled verdict ≡ false }
     ensures { IfOk result (λ found.
         found ≡ verdict_by pathmax_shape pathmax_rules C.takes view.now) }
 {
-    if is_settled(&verdict) {
-        return Ok(verdict);
-    }
     let Some(own) = head_of::<C>(&view.own) else {
         // Else the verdict is settled.
         unreachable!()
     };
-    if own.count <= WINDOW as u64 {
-        return Ok(verdict);
-    }
     let mut flags = vec![in alloc; false; own.count as usize]?;
     let flags = flags.as_mut_slice();
     note_ports::<C>(view, own.own, flags);

@@ -58,10 +58,6 @@ with_leads first weight mine theirs before = map (λ k. slice_index_or before k 
     || leads_from weight (slice_get mine (first + k)) (slice_get theirs (first + k)))
     (range_with_len 0 WINDOW)
 
--- the level is the own one of the node with this name, its centroid, without a hop
-abbrev pub is_own_level : ℕ → CentroidLevel → Bool
-is_own_level own level = level.hops == 0 && level.centroid == own
-
 -- what is gathered of the ports
 abbrev pub gathered_from : ℕ → Read PathMaxLabel → PortTally
 gathered_from first view = record {

@@ -3,7 +3,7 @@ use Rattle.std.proofs.lemmas.Bool.{cases_lt}
 use Rattle.std.proofs.lemmas.List.{drop-drop}
 use Rattle.std.proofs.lemmas.Option.{same_Some}
 use Rattle.pls_centroid.specs.declared.level.CentroidLevel.{CentroidLevel}
-use Rattle.pls_pathmax.specs.inner.OnePass.{is_own_level}
+use Rattle.pls_pathmax.specs.inner.Glance.{is_own_level}
 use Rattle.pls_levels.proofs.LevelsLeft.{next_left, none_left}
 use Rattle.pls_pathmax.specs.Labels.{pathmax_levels}
 use Rattle.pls_pathmax.specs.inner.Reading.{AreLeft}

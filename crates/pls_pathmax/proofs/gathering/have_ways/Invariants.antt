@@ -1,6 +1,6 @@
 use Rattle.std.proofs.Common.{◌≡◌, ◌<◌, ◌||◌, ℕ, true, false, List, Some, drop, get_or, slice_get}
 use Rattle.pls_centroid.specs.declared.level.CentroidLevel.{CentroidLevel}
-use Rattle.pls_pathmax.specs.inner.OnePass.{is_own_level}
+use Rattle.pls_pathmax.specs.inner.Glance.{is_own_level}
 use Rattle.pls_pathmax.specs.inner.Reading.{AreLeft}
 use Rattle.pls_pathmax.proofs.gathering.have_ways.Given as goal
 

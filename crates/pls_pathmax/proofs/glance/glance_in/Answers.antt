@@ -1,9 +1,42 @@
-use Rattle.pls_numbers.specs.Shape.{said_by}
-use Rattle.pls_pathmax.specs.Labels.{pathmax_shape}
+use Rattle.std.proofs.Common.{◌∙◌, ap, sym}
+use Rattle.std.specs.Prelude.{option_map}
+use Rattle.pls_numbers.specs.Numbers.{NumbersLeft}
+use Rattle.pls_numbers.specs.Shape.{if_clean}
+use Rattle.pls_levels.specs.Labels.{label_of}
+use Rattle.pls_levels.specs.declared.label.LevelHead.{LevelHead}
+use Rattle.pls_levels.proofs.Labels.{a_label, no_head, no_label}
+use Rattle.pls_pathmax.specs.Labels.{pathmax_levels}
+use Rattle.pls_pathmax.specs.inner.Glance.{glance_said}
+use Rattle.pls_pathmax.specs.laws.LabelLaws.{exact_levels}
 use Rattle.pls_pathmax.proofs.Glances.{kept_of}
 use Rattle.pls_pathmax.proofs.glance.glance_in.Goals as goal
 
 pub returns : goal.returns
 returns g c =
-    kept_of (said_by pathmax_shape g.C.NumCode.takes c.args.bits.now) c.in_ok-head.head
-    c.first_level-first.result c.in_ok-head.ensures c.first_level-first.ensures
+    let (label, said, front, levels) = a_label pathmax_levels exact_levels c.of-numbers.result
+    c.read_head.new.numbers c.in_ok-head.head c.in_ok-head.ensures.found c.in_ok-ends.ensures.there
+    in
+    let ends = c.in_ok-ends.ensures.ends label.levels levels
+    (ap (λ (head : LevelHead). head.count) front) in
+    rw c.is_own.ensures
+    (kept_of (if_clean (label_of pathmax_levels) c.of-numbers.result) label c.in_ok-head.head
+    c.in_ok-ends.ends said front ends)
+    ∙ ap (λ (left : NumbersLeft). option_map glance_said (if_clean (label_of pathmax_levels) left))
+    c.of-numbers.ensures
+
+pub returns-in_err-head : goal.returns-in_err-head
+returns-in_err-head g c =
+    c.from_residual.ensures
+    ∙ ap (option_map glance_said) (sym (no_head pathmax_levels exact_levels c.of-numbers.result
+    c.in_err-head.ensures.none))
+    ∙ ap (λ (left : NumbersLeft). option_map glance_said (if_clean (label_of pathmax_levels) left))
+    c.of-numbers.ensures
+
+pub returns-in_err-ends : goal.returns-in_err-ends
+returns-in_err-ends g c =
+    c.from_residual-in_err-ends.ensures
+    ∙ ap (option_map glance_said) (sym (no_label pathmax_levels exact_levels c.of-numbers.result
+    c.read_head.new.numbers c.in_ok-head.head c.in_ok-head.ensures.found
+    c.in_err-ends.ensures.none))
+    ∙ ap (λ (left : NumbersLeft). option_map glance_said (if_clean (label_of pathmax_levels) left))
+    c.of-numbers.ensures

@@ -1,54 +1,33 @@
 use Rattle.std.proofs.Common.{◌≡◌, ◌∙◌, ◌<◌, ◌≤◌, ◌||◌, ℕ, Bool, false, List, Option, get_or, length, sym, ap, arith}
-use Rattle.std.proofs.lemmas.Option.{same_Some, slice_get_within}
+use Rattle.std.proofs.lemmas.Option.{same_Some}
 use Rattle.pls_labels.specs.Seen.{Seen}
 use Rattle.pls_numbers.specs.Shape.{said_by}
 use Rattle.pls_scheme.specs.Reading.{Read, reading}
 use Rattle.pls_centroid.specs.declared.level.CentroidLevel.{CentroidLevel}
 use Rattle.pls_levels.specs.declared.label.LevelHead.{LevelHead}
 use Rattle.pls_pathmax.specs.Labels.{PathMaxLabel, pathmax_shape}
-use Rattle.pls_pathmax.specs.inner.OnePass.{is_led_on, is_own_level, is_settled}
+use Rattle.pls_pathmax.specs.inner.OnePass.{is_led_on, is_settled}
+use Rattle.pls_pathmax.specs.inner.Glance.{is_own_level}
 use Rattle.pls_pathmax.specs.inner.Reading.{head_said}
 use Rattle.pls_pathmax.proofs.AllFlags.{all_hold, some_fails}
-use Rattle.pls_pathmax.proofs.Passes.{IsOpen, further_fail, further_hold, settled_same, unsettled_open}
-use Rattle.pls_pathmax.proofs.in_memory.verdict_of_view.Goals as goal
-
-pub returns-then-is_settled : goal.returns-then-is_settled
-returns-then-is_settled g c =
-    c.requires ∙ settled_same (said_by pathmax_shape g.C.NumCode.takes) c.args.view.now
-    (ap is_settled (sym c.requires) ∙ sym c.is_settled.ensures ∙ c.if-is_settled.true)
+use Rattle.pls_pathmax.proofs.Passes.{IsOpen, further_fail, further_hold, unsettled_open}
+use Rattle.pls_pathmax.proofs.in_memory.further_verdict.Goals as goal
 
 pub unreachable-requires : goal.unreachable-requires
 unreachable-requires g c =
     let read : List Bool → Option PathMaxLabel = said_by pathmax_shape g.C.NumCode.takes in
     let rest : IsOpen read c.args.view.now = unsettled_open read c.args.view.now
-    (ap is_settled (sym c.requires) ∙ sym c.is_settled.ensures ∙ c.if-is_settled.false) in
+    (ap is_settled (sym c.requires.first) ∙ c.requires.open) in
     let front = c.head_of.ensures rest.own
     (ap (λ (view : Seen). read view.own) c.view.view_is ∙ rest.through.own_read) in
     (let wrong = sym c.in_default.is ∙ front in cc)
-
-pub returns-then-own : goal.returns-then-own
-returns-then-own g c =
-    let read : List Bool → Option PathMaxLabel = said_by pathmax_shape g.C.NumCode.takes in
-    let view = c.args.view.now in
-    let rest : IsOpen read view = unsettled_open read view
-    (ap is_settled (sym c.requires) ∙ sym c.is_settled.ensures ∙ c.if-is_settled.false) in
-    let front = same_Some c.in-Some.own (head_said rest.own) (sym c.in-Some.is
-    ∙ c.head_of.ensures rest.own
-    (ap (λ (view : Seen). read view.own) c.view.view_is ∙ rest.through.own_read)) in
-    let count : c.in-Some.own.count ≡ length rest.own.levels =
-    ap (λ (head : LevelHead). head.count) front in
-    c.requires ∙ further_hold read view rest.own rest.ports rest.through rest.ways
-    (λ number level at later.
-    let within = slice_get_within rest.own.levels number level at in
-    let few = c.if-own.true in
-    absurd (omega (arith, within, few, count, later)))
 
 pub returns-then-have_ways : goal.returns-then-have_ways
 returns-then-have_ways g c =
     let read : List Bool → Option PathMaxLabel = said_by pathmax_shape g.C.NumCode.takes in
     let view = c.args.view.now in
     let rest : IsOpen read view = unsettled_open read view
-    (ap is_settled (sym c.requires) ∙ sym c.is_settled.ensures ∙ c.if-is_settled.false) in
+    (ap is_settled (sym c.requires.first) ∙ c.requires.open) in
     let own_read = ap (λ (view : Seen). read view.own) c.view.view_is ∙ rest.through.own_read in
     let front = same_Some c.in-Some.own (head_said rest.own)
     (sym c.in-Some.is ∙ c.head_of.ensures rest.own own_read) in
@@ -67,7 +46,7 @@ returns-then-have_ways g c =
     rest.through.ports_read named k (omega (arith, within, each)) in
     let way_by : CentroidLevel → ℕ → ℕ → Bool =
     λ level k name. is_own_level name level || get_or flags k false in
-    c.requires ∙ further_hold read view rest.own rest.ports rest.through rest.ways
+    c.requires.first ∙ further_hold read view rest.own rest.ports rest.through rest.ways
     (λ number level at later. all_hold seen flags many are
     (λ k level within at. ap (way_by level k) named
     ∙ c.have_ways.ensures.hold c.if-have_ways.true rest.own.levels
@@ -78,7 +57,7 @@ returns g c =
     let read : List Bool → Option PathMaxLabel = said_by pathmax_shape g.C.NumCode.takes in
     let view = c.args.view.now in
     let rest : IsOpen read view = unsettled_open read view
-    (ap is_settled (sym c.requires) ∙ sym c.is_settled.ensures ∙ c.if-is_settled.false) in
+    (ap is_settled (sym c.requires.first) ∙ c.requires.open) in
     let own_read = ap (λ (view : Seen). read view.own) c.view.view_is ∙ rest.through.own_read in
     let front = same_Some c.in-Some.own (head_said rest.own)
     (sym c.in-Some.is ∙ c.head_of.ensures rest.own own_read) in

@@ -1,0 +1,64 @@
+use Rattle.std.proofs.Common.{◌≡◌, ◌∙◌, ◌+◌, ◌-◌, ℕ, suc, ap, sym, subst, drop, arith}
+use Rattle.std.proofs.lemmas.List.{drop-drop}
+use Rattle.pls_numbers.specs.laws.TakingLaws.{are_items-end, are_items-next, are_items-none}
+use Rattle.pls_levels.specs.Labels.{are_levels}
+use Rattle.pls_levels.proofs.LevelsLeft.{next_left}
+use Rattle.pls_pathmax.specs.Labels.{level_off, pathmax_levels}
+use Rattle.pls_pathmax.specs.inner.Reading.{AreLeft}
+use Rattle.pls_pathmax.specs.laws.LabelLaws.{exact_levels}
+use Rattle.pls_pathmax.proofs.LevelsLeft.{drop_at}
+use Rattle.pls_pathmax.proofs.Glances.{ends_more, ends_of_all}
+use Rattle.pls_pathmax.proofs.glance.ends_in.Goals as goal
+
+pub loop-number-preserved : goal.loop-number-preserved
+loop-number-preserved g c =
+    let number : ℕ = c.loop-number.number in
+    let one : c.args.count - number ≡ suc (c.args.count - (number + 1)) =
+    omega (arith, c.loop-number-test.true) in
+    record {
+      all = c.loop-number.invariant.all
+          ∙ ap (λ (count : ℕ). are_levels pathmax_levels count c.loop-number.numbers) one
+          ∙ are_items-next level_off (c.args.count - (number + 1)) c.in_ok-level.level
+          c.loop-number.numbers c.read_level.new.numbers c.in_ok-level.ensures.found;
+      left = λ levels are. subst (AreLeft c.read_level.new.numbers) (drop-drop 1 number levels)
+          (next_left pathmax_levels exact_levels c.loop-number.numbers c.read_level.new.numbers
+          c.in_ok-level.level (drop number levels) c.in_ok-level.ensures.found
+          (c.loop-number.invariant.left levels are)).1;
+      ends = λ levels are. c.with_level-ends.ensures
+          ∙ ends_more levels number c.in_ok-level.level c.loop-number.ends
+          (drop_at levels number c.in_ok-level.level
+          (next_left pathmax_levels exact_levels c.loop-number.numbers c.read_level.new.numbers
+          c.in_ok-level.level (drop number levels) c.in_ok-level.ensures.found
+          (c.loop-number.invariant.left levels are)).0)
+          (c.loop-number.invariant.ends levels are);
+    }
+
+pub returns-then-is_end-clause-there : goal.returns-then-is_end-clause-there
+returns-then-is_end-clause-there g c =
+    let none : c.args.count - c.loop-number.number ≡ 0 = omega (arith, c.loop-number-test.false) in
+    c.loop-number.invariant.all
+    ∙ ap (λ (count : ℕ). are_levels pathmax_levels count c.loop-number.numbers) none
+    ∙ sym (are_items-end level_off c.loop-number.numbers) ∙ sym c.is_end.ensures ∙ c.if-is_end.true
+
+pub returns-then-is_end-clause-ends : goal.returns-then-is_end-clause-ends
+returns-then-is_end-clause-ends g c levels are many =
+    c.loop-number.invariant.ends levels are
+    ∙ ends_of_all levels c.loop-number.number
+    (omega (arith, many, c.loop-number-test.false, c.loop-number.auto.number-end))
+
+pub returns-else-is_end-clause-none : goal.returns-else-is_end-clause-none
+returns-else-is_end-clause-none g c =
+    let none : c.args.count - c.loop-number.number ≡ 0 = omega (arith, c.loop-number-test.false) in
+    c.loop-number.invariant.all
+    ∙ ap (λ (count : ℕ). are_levels pathmax_levels count c.loop-number.numbers) none
+    ∙ sym (are_items-end level_off c.loop-number.numbers) ∙ sym c.is_end.ensures ∙ c.if-is_end.false
+
+pub returns-in_err-level-clause-none : goal.returns-in_err-level-clause-none
+returns-in_err-level-clause-none g c =
+    let number : ℕ = c.loop-number.number in
+    let one : c.args.count - number ≡ suc (c.args.count - (number + 1)) =
+    omega (arith, c.loop-number-test.true) in
+    rw c.from_residual.ensures (c.loop-number.invariant.all
+    ∙ ap (λ (count : ℕ). are_levels pathmax_levels count c.loop-number.numbers) one
+    ∙ are_items-none level_off (c.args.count - (number + 1)) c.loop-number.numbers
+    c.in_err-level.ensures.none)
