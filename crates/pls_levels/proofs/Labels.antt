@@ -9,7 +9,7 @@ use Rattle.pls_numbers.specs.Taking.{IsTaken, items_in}
 use Rattle.pls_numbers.specs.laws.TakingLaws.{items_off-take, items_only}
 use Rattle.pls_levels.specs.declared.label.LevelHead.{LevelHead}
 use Rattle.pls_levels.specs.declared.label.LevelLabel.{LevelLabel}
-use Rattle.pls_levels.specs.Labels.{AreLevelsLeft, IsExactForm, LevelForm, are_levels, head_of, head_off, head_with, label_behind, label_listed, label_of, label_with, levels_off}
+use Rattle.pls_levels.specs.Labels.{AreLevelsLeft, IsExactForm, LevelForm, are_levels, head_of, head_off, head_with, label_behind, label_listed, label_of, label_with, levels_off, with_head}
 
 module _ {S X : Type 0} (form : LevelForm S X) (exact : IsExactForm form) where
   -- the label behind what was taken off
@@ -108,6 +108,36 @@ module _ {S X : Type 0} (form : LevelForm S X) (exact : IsExactForm form) where
                 subst (λ (label : LevelLabel S). (Some head ≡ Some (head_of form label))
                 × AreLevelsLeft form new (form.items label.levels))
                 (same_Some found label (sym said ∙ is)) (ap Some (sym front), levels)
+
+  -- the numbers of a label are those in front of its levels, and then these
+  pub label_parts : (left : NumbersLeft) (label : LevelLabel S)
+      → if_clean (label_of form) left ≡ Some label
+      → (rest : NumbersLeft) × (left ≡ with_head (head_of form label) rest)
+      × AreLevelsLeft form rest (form.items label.levels)
+  label_parts left label is = by left.numbers refl
+    where
+      short : head_off left.numbers ≡ None → ⊥
+      short none = let no : None ≡ Some label = sym (no_head left none) ∙ is in absurd (cc)
+
+      by : (numbers : List ℕ) → left.numbers ≡ numbers
+          → (rest : NumbersLeft) × (left ≡ with_head (head_of form label) rest)
+          × AreLevelsLeft form rest (form.items label.levels)
+      by [] are = absurd (short (ap head_off are))
+      by (a ∷ []) are = absurd (short (ap head_off are))
+      by (a ∷ b ∷ []) are = absurd (short (ap head_off are))
+      by (a ∷ b ∷ c ∷ []) are = absurd (short (ap head_off are))
+      by (a ∷ b ∷ c ∷ d ∷ []) are = absurd (short (ap head_off are))
+      by (a ∷ b ∷ c ∷ d ∷ e ∷ numbers) are =
+          let rest : NumbersLeft = record { numbers = numbers; clean = left.clean } in
+          let head : LevelHead = head_with a b c d e in
+          let (same, levels) = head_left left rest (Some head)
+          (record { front = ap head_off are; same = refl }) tt label is in
+          let front = same_Some head (head_of form label) same in (
+            rest,
+            ap (λ (numbers : List ℕ). let some : NumbersLeft = record { numbers = numbers; clean = left.clean } in some) are
+                ∙ ap (λ (head : LevelHead). with_head head rest) front,
+            levels,
+          )
 
   -- where there is something in front of levels, it is that of a label
   pub label_there : (said : Option (LevelLabel S)) (head : LevelHead)

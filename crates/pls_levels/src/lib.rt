@@ -3,7 +3,7 @@
 //!
 //! A [`LevelKind`] says how one level is numbers and how the levels of a node are held. By it
 //! labels ([`LevelLabel`]) are lists of numbers ([`LevelFormat`]), are read where they lie
-//! ([`head_in`], [`levels_of`], [`pass_levels`]) and are made of a root, depths and levels
+//! ([`head_in`], [`levels_of`], [`levels_behind`], [`pass_levels`]) and are made of a root, depths and levels
 //! ([`make_labels`]). What stands in front of the levels ([`LevelHead`]) places a node in the tree
 //! ([`is_placed`]) and tells which edges at its ports are in it ([`is_in_tree`]). Definitions stand
 //! in `specs/Labels` (`level_shape`), `specs/Rules` (`is_placed_in_tree`, `is_in_tree`) and
@@ -23,4 +23,6 @@ pub use label::{LevelHead, LevelLabel};
 pub use level_kind::LevelKind;
 pub use making::{floor_log, make_labels};
 pub use placing::{follows_above, is_in_tree, is_placed, is_pointer, is_root};
-pub use reading::{are_levels, head_in, levels_of, pass_levels, read_head, read_levels};
+pub use reading::{
+    are_levels, head_in, levels_behind, levels_of, pass_levels, read_head, read_levels,
+};

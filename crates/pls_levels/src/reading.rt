@@ -40,6 +40,25 @@ pub fn levels_of<'a, K: LevelKind, C: NumCode>(bits: &Bits<'a>) -> Numbers<'a, C
     numbers
 }
 
+/// As [`levels_of`], for a label in front of whose levels `head` stands, which is not read for that.
+pub fn levels_behind<'a, K: LevelKind, C: NumCode>(
+    bits: &Bits<'a>,
+    head: &LevelHead,
+) -> Numbers<'a, C>
+    ensures { (label : LevelLabel K.List)
+        → said_by (level_shape K.form) C.takes bits.now ≡ Some label
+        → head_of K.form label ≡ head.now
+        → AreLevelsLeft K.form result (items_of K.form label.levels) }
+{
+    let mut numbers = Numbers::of(bits);
+    numbers.pass(head.root);
+    numbers.pass(head.own);
+    numbers.pass(head.parent);
+    numbers.pass(head.depth);
+    numbers.pass(head.count);
+    numbers
+}
+
 /// The numbers that come next as what stands in front of levels, which are then left, or `None`
 /// where there are too few.
 #[inline]

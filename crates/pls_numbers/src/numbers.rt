@@ -2,9 +2,9 @@
 
 ghost use Rattle.std.specs.Prelude.{◌≡◌, ◌≤◌, [], IfNone, IfSome};
 ghost use Rattle.pls_bits.specs.declared.num_code.TheConstants.{MAX_CODED};
-ghost use Rattle.pls_numbers.specs.Numbers.{is_end, left_in, with_number};
+ghost use Rattle.pls_numbers.specs.Numbers.{NumbersLeft, is_end, left_in, with_number};
 
-use pls_bits::{Bits, Cursor, NumCode};
+use pls_bits::{Bits, Cursor, MAX_CODED, NumCode};
 use std::marker::{Model, PhantomData};
 
 /// A place in a range of bits, seen as the numbers that are left and whether nothing stands behind
@@ -45,6 +45,15 @@ impl<'a, C: NumCode> Numbers<'a, C> {
         ensures stays { IfNone result (self.new ≡ self.old) }
     {
         C::read(&mut self.cursor)
+    }
+
+    /// Passes the number that comes next where it is known to be `number`, which is not read for
+    /// that. Where another comes, or none, nothing is known of what is left.
+    #[inline(always)]
+    pub fn pass(&mut self, number: u64)
+        ensures { (left : NumbersLeft) → self.old ≡ with_number number left → self.new ≡ left }
+    {
+        self.cursor.take(C::length(number.min(MAX_CODED)));
     }
 
     /// Whether nothing is left.

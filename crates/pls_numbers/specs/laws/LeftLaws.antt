@@ -1,5 +1,7 @@
 -- Numbers are left in bits exactly where their codes stand there.
 use Rattle.std.proofs.Common.{◌≡◌, ◌∙◌, ℕ, zero, suc, ◌≤◌, ◌<◌, ◌++◌, Bool, true, false, List, [], ◌∷◌, length, Option, Some, None, IfSome, IfNone, refl, sym, ap, subst, arith, length-append}
+use Rattle.std.specs.Prelude.{IsNone, drop, min}
+use Rattle.std.proofs.lemmas.List.{drop_at}
 use Rattle.std.proofs.lemmas.Option.{same_Some}
 use Rattle.pls_bits.specs.declared.num_code.TheConstants.{MAX_CODED}
 use Rattle.pls_bits.specs.NumberCode.{Takes, TakesCodes, TakesOnly}
@@ -28,6 +30,13 @@ another_differs : (number : ℕ) → number ≡ another number → ⊥
 unfolding another
 another_differs zero is = omega (arith, is)
 another_differs (suc number) is = omega (arith, is)
+
+-- what is left is told by its numbers and what is behind them
+same_left : (one other : NumbersLeft) → one.numbers ≡ other.numbers → one.clean ≡ other.clean
+    → one ≡ other
+same_left one other numbers clean =
+    ap (λ (numbers : List ℕ). let some : NumbersLeft = record { numbers = numbers; clean = one.clean } in some) numbers
+    ∙ ap (λ (clean : Bool). let some : NumbersLeft = record { numbers = other.numbers; clean = clean } in some) clean
 
 -- what is left has these numbers
 left_is : (left : NumbersLeft) (numbers : List ℕ) → left.numbers ≡ numbers → left.clean ≡ true
@@ -228,6 +237,59 @@ module _ (code : ℕ → List Bool) (takes : List Bool → Option (ℕ × List B
   ended_none : (bits : List Bool) → (ended bits).numbers ≡ []
   ended_none [] = refl
   ended_none (bit ∷ bits) = refl
+
+  -- a number that comes next stands there as its code, and behind it what is left then
+  pub number_ahead : (bits : List Bool) (number : ℕ) (left : NumbersLeft)
+      → left_in takes [] bits ≡ with_number number left
+      → (rest : List Bool) × (number ≤ MAX_CODED) × (bits ≡ code number ++ rest)
+      × (left_in takes [] rest ≡ left)
+  number_ahead bits number left is = by (takes bits) refl
+    where
+      by : (found : Option (ℕ × List Bool)) → takes bits ≡ found
+          → (rest : List Bool) × (number ≤ MAX_CODED) × (bits ≡ code number ++ rest)
+          × (left_in takes [] rest ≡ left)
+      by None first =
+          let no : [] ≡ number ∷ left.numbers =
+          sym (ended_none bits)
+          ∙ ap (λ (left : NumbersLeft). left.numbers) (sym (left_none [] bits first) ∙ is) in
+          absurd (cc)
+      by (Some found) first =
+          let more = sym (left_next [] bits found.0 found.1 first) ∙ is in
+          let rest : NumbersLeft = left_in takes [] found.1 in
+          let all : found.0 ∷ rest.numbers ≡ number ∷ left.numbers =
+          ap (λ (left : NumbersLeft). left.numbers) more in
+          let clean : rest.clean ≡ left.clean = ap (λ (left : NumbersLeft). left.clean) more in
+          let same : found.0 ≡ number = cc in
+          let others : rest.numbers ≡ left.numbers = cc in
+          let front = only bits found.0 found.1 first in (
+            found.1,
+            subst (λ (number : ℕ). number ≤ MAX_CODED) same front.0,
+            front.1 ∙ ap (λ (number : ℕ). code number ++ found.1) same,
+            same_left rest left others clean,
+          )
+
+  -- a call that passes as many bits as its code has leaves what is behind it
+  pub passed : {X : Type 0} (result : Option X) (bits new : List Bool) (number many : ℕ)
+      (left : NumbersLeft) → many ≡ length (code (min number MAX_CODED))
+      → (IsNone result → length bits < many) → IfSome result (λ _. new ≡ drop many bits)
+      → left_in takes [] bits ≡ with_number number left → left_in takes [] new ≡ left
+  passed result bits new number many left long short past is =
+      let (rest, small, front, behind) = number_ahead bits number left is in
+      let same : min number MAX_CODED ≡ number = omega (arith, small) in
+      by result rest front behind (long ∙ ap (λ number. length (code number)) same) short past
+    where
+      by : {X : Type 0} (result : Option X) (rest : List Bool) → bits ≡ code number ++ rest
+          → left_in takes [] rest ≡ left → many ≡ length (code number)
+          → (IsNone result → length bits < many) → IfSome result (λ _. new ≡ drop many bits)
+          → left_in takes [] new ≡ left
+      by None rest front behind long short past =
+          let all = ap length front in
+          let parts = length-append (code number) rest in
+          let few = short refl in
+          absurd (omega (arith, few, long, all, parts))
+      by (Some x) rest front behind long short past =
+          ap (left_in takes [])
+          (past ∙ ap (drop many) front ∙ drop_at (code number) rest many (sym long)) ∙ behind
 
   -- what a call that reads a number leaves
   pub taken_next : (old new : List Bool) (result : Option ℕ) → Takes takes result old new
