@@ -19,7 +19,7 @@ use crate::levels::PathMaxLevels;
 use crate::reading::read_level;
 use pls_bits::NumCode;
 use pls_centroid::CentroidLevel;
-use pls_levels::{LevelHead, is_in_tree, levels_of, pass_levels};
+use pls_levels::{LevelHead, is_in_tree, levels_behind, pass_levels};
 use pls_numbers::Numbers;
 use pls_scheme::LabelGlance;
 
@@ -102,15 +102,26 @@ fn led_on_with<C: NumCode>(
 ) -> [bool; WINDOW]
     ensures { (mine theirs : PathMaxLabel)
         → said_by pathmax_shape C.takes own.now.bits.now ≡ Some mine
+        → glance_said mine ≡ own.now.glance.now
         → said_by pathmax_shape C.takes label.now.bits.now ≡ Some theirs
+        → glance_said theirs ≡ label.now.glance.now
         → length before ≡ WINDOW
         → result ≡ with_leads first weight mine.levels theirs.levels before }
 {
     let mut flags = before;
-    let mut mine = levels_of::<PathMaxLevels, C>(own.bits);
-    let mut theirs = levels_of::<PathMaxLevels, C>(label.bits);
+    let mut mine = levels_in::<C>(own);
+    let mut theirs = levels_in::<C>(label);
     note_ways(&mut mine, &mut theirs, weight, first, &mut flags);
     flags
+}
+
+// The numbers of the levels of a label that was looked at.
+fn levels_in<'a, C: NumCode>(seen: &LabelGlance<'a, PathMaxGlance>) -> Numbers<'a, C>
+    ensures { (label : PathMaxLabel)
+        → said_by pathmax_shape C.takes seen.now.bits.now ≡ Some label
+        → glance_said label ≡ seen.now.glance.now → AreLeft result label.levels }
+{
+    levels_behind::<PathMaxLevels, C>(seen.bits, &seen.glance.head)
 }
 
 #[inline(always)]
@@ -140,8 +151,8 @@ fn is_heavy_too<C: NumCode>(
     if meet_at_first(weight, &own.glance.first, &label.glance.first) {
         return true;
     }
-    let mut mine = levels_of::<PathMaxLevels, C>(own.bits);
-    let mut theirs = levels_of::<PathMaxLevels, C>(label.bits);
+    let mut mine = levels_in::<C>(own);
+    let mut theirs = levels_in::<C>(label);
     meet_somewhere(&mut mine, &mut theirs, own.glance.head.count, weight)
 }
 
@@ -160,7 +171,7 @@ pub(crate) fn has_ways<C: NumCode>(
     if first == 0 && own.glance.ends_at_own && lead_on(led_on, own.glance.head.count) {
         return true;
     }
-    let mut numbers = levels_of::<PathMaxLevels, C>(own.bits);
+    let mut numbers = levels_in::<C>(own);
     if !pass_levels::<PathMaxLevels, C>(&mut numbers, first) {
         return true;
     }

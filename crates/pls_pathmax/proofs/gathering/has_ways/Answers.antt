@@ -16,7 +16,7 @@ pub returns-then-not-pass_levels : goal.returns-then-not-pass_levels
 returns-then-not-pass_levels g c id state mine ports said front flags =
     let first : ℕ = c.args.first in
     let few = c.pass_levels.ensures.missing c.if-not-pass_levels.true mine.levels
-    (c.levels_of-numbers.ensures mine said) in
+    (c.levels_in-numbers.ensures mine said front) in
     sym (ways_hold (reading id state mine ports) first c.args.led_on.now flags
     (λ k level within at.
     let none = slice_get_past mine.levels (first + k) (omega (arith, few)) in
@@ -28,7 +28,7 @@ returns g c id state mine ports said front flags =
     let own : mine.own ≡ c.args.own.now.glance.now.head.own =
     ap (λ (glance : PathMaxGlance). glance.head.own) front in
     let left = c.pass_levels.ensures.passed c.if-not-pass_levels.false mine.levels
-    (c.levels_of-numbers.ensures mine said) in
+    (c.levels_in-numbers.ensures mine said front) in
     let many : length c.args.led_on.now ≡ WINDOW =
     ap length flags ∙ led_on_many first (reading id state mine ports) in
     let way_by : CentroidLevel → ℕ → ℕ → Bool =

@@ -28,7 +28,7 @@ returns-then-is_in_tree g c id state mine theirs ports up many own_read own_is t
       ap (λ (glance : PathMaxGlance). glance.head.root) theirs_is,
       ap (λ (glance : PathMaxGlance). glance.head.root) own_is,
     ) c.agrees_too-agrees.ensures)
-    (c.led_on_with-led_on.ensures mine theirs own_read theirs_read
+    (c.led_on_with-led_on.ensures mine theirs own_read own_is theirs_read theirs_is
     (ap (λ (was : PortTally). length was.led_on) before
     ∙ led_on_many first (reading id state mine ports))
     ∙ ap (λ (weight : ℕ). with_leads first weight mine.levels theirs.levels led_on)
