@@ -3,11 +3,11 @@
 //!
 //! A [`LevelKind`] says how one level is numbers and how the levels of a node are held. By it
 //! labels ([`LevelLabel`]) are lists of numbers ([`LevelFormat`]), are read where they lie
-//! ([`head_in`], [`levels_of`], [`levels_behind`], [`pass_levels`]) and are made of a root, depths and levels
-//! ([`make_labels`]). What stands in front of the levels ([`LevelHead`]) places a node in the tree
-//! ([`is_placed`]) and tells which edges at its ports are in it ([`is_in_tree`]). Definitions stand
-//! in `specs/Labels` (`level_shape`), `specs/Rules` (`is_placed_in_tree`, `is_in_tree`) and
-//! `specs/Making` (`IsRightHead`); what a scheme proves with them in `specs/laws`
+//! ([`head_in`], [`levels_of`], [`levels_behind`], [`pass_levels`]) and are made of a root, depths
+//! and levels ([`make_labels`]). What stands in front of the levels ([`LevelHead`]) places a node
+//! in the tree ([`is_placed`]) and tells which edges at its ports are in it ([`is_in_tree`]).
+//! Definitions stand in `specs/Labels` (`level_shape`), `specs/Rules` (`is_placed_in_tree`,
+//! `is_in_tree`) and `specs/Making` (`IsRightHead`); what a scheme proves with them in `specs/laws`
 //! (`level_numbers`, `IsPlaced`, `told_in`, `passes_from_0`).
 #![tactic(auto)]
 

@@ -40,7 +40,8 @@ pub fn levels_of<'a, K: LevelKind, C: NumCode>(bits: &Bits<'a>) -> Numbers<'a, C
     numbers
 }
 
-/// As [`levels_of`], for a label in front of whose levels `head` stands, which is not read for that.
+/// The numbers of the levels of a label in front of whose levels `head` stands, which is not read
+/// for that.
 pub fn levels_behind<'a, K: LevelKind, C: NumCode>(
     bits: &Bits<'a>,
     head: &LevelHead,

@@ -8,5 +8,6 @@ returns-then-is_final g c view at =
     let labels = g.L.Labels.listed c.args.labels.now in
     c.is_final.ensures.same c.if-is_final.true view
     (same_Some view.own c.bits.result
-    (sym (own_at c.args.net.now c.is_valid.ensures labels c.requires.each c.args.i view at) ∙ c.bits.ensures))
+    (sym (own_at c.args.net.now c.is_valid.ensures labels c.requires.each c.args.i view at)
+    ∙ c.bits.ensures))
     (c.requires.first view at)
