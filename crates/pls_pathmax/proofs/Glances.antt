@@ -7,7 +7,7 @@ use Rattle.pls_levels.specs.declared.label.LevelHead.{LevelHead}
 use Rattle.pls_pathmax.specs.declared.glance.Ends.{Ends}
 use Rattle.pls_pathmax.specs.declared.glance.PathMaxGlance.{PathMaxGlance}
 use Rattle.pls_pathmax.specs.Labels.{PathMaxLabel}
-use Rattle.pls_pathmax.specs.inner.Glance.{ends_of, ends_with, glance_said, glance_with, head_seen}
+use Rattle.pls_pathmax.specs.inner.Glance.{level_ends, ends_with, glance_said, glance_with, head_seen}
 use Rattle.pls_pathmax.specs.inner.Reading.{head_said}
 
 -- the first and the last of so many levels that stand first
@@ -27,7 +27,7 @@ ends_more levels (suc n) level before at is =
 
 -- and of all
 pub ends_of_all : (levels : List CentroidLevel) (n : ℕ) → length levels ≡ n
-    → ends_before levels n ≡ ends_of levels
+    → ends_before levels n ≡ level_ends levels
 ends_of_all [] zero all = refl
 ends_of_all (level ∷ levels) zero all = absurd (cc)
 ends_of_all levels (suc n) all =
@@ -46,6 +46,6 @@ head_kept above kept head is kept_is = is ∙ ap (option_map head_seen) kept_is 
 
 -- what is kept of a label: what stands in front of its levels, and their ends
 pub kept_of : (said : Option PathMaxLabel) (label : PathMaxLabel) (head : LevelHead) (ends : Ends)
-    → said ≡ Some label → head_said label ≡ head → ends ≡ ends_of label.levels
+    → said ≡ Some label → head_said label ≡ head → ends ≡ level_ends label.levels
     → Some (glance_with head ends) ≡ option_map glance_said said
 kept_of said label head ends there front is = rw (there, ← front, is) refl

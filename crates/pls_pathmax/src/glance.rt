@@ -6,7 +6,7 @@ ghost use Rattle.pls_numbers.specs.Shape.{said_by};
 ghost use Rattle.pls_centroid.specs.declared.level.CentroidLevel.{CentroidLevel};
 ghost use Rattle.pls_levels.specs.Labels.{are_levels};
 ghost use Rattle.pls_pathmax.specs.Labels.{pathmax_levels, pathmax_shape};
-ghost use Rattle.pls_pathmax.specs.inner.Glance.{ends_of, ends_with, glance_said, head_seen, is_own_level};
+ghost use Rattle.pls_pathmax.specs.inner.Glance.{level_ends, ends_with, glance_said, head_seen, is_own_level};
 ghost use Rattle.pls_pathmax.specs.inner.Reading.{AreLeft};
 
 use crate::reading::read_level;
@@ -51,7 +51,7 @@ pub(crate) fn glance_in<C: NumCode>(bits: &Bits<'_>) -> Option<PathMaxGlance>
 fn ends_in<C: NumCode>(numbers: &mut Numbers<'_, C>, count: u64) -> Option<Ends>
     ensures there { IfSome result (λ _. are_levels pathmax_levels count numbers.old ≡ true) }
     ensures ends { IfSome result (λ ends. (levels : List CentroidLevel)
-        → AreLeft numbers.old levels → length levels ≡ count → ends ≡ ends_of levels) }
+        → AreLeft numbers.old levels → length levels ≡ count → ends ≡ level_ends levels) }
     ensures none { IfNone result (are_levels pathmax_levels count numbers.old ≡ false) }
 {
     let mut ends = Ends {

@@ -13,8 +13,8 @@ abbrev pub is_own_level : ℕ → CentroidLevel → Bool
 is_own_level own level = level.hops == 0 && level.centroid == own
 
 -- the first and the last of levels, where there are any
-abbrev pub ends_of : List CentroidLevel → Ends
-ends_of levels =
+abbrev pub level_ends : List CentroidLevel → Ends
+level_ends levels =
     record { first = slice_get levels 0; last = slice_get levels (length levels - 1) }
 
 -- the ends of levels with one more behind so many
@@ -35,7 +35,7 @@ glance_with head ends = record {
 -- what is kept of a label: what stands in front of its levels, the first of them, and whether the
 -- last is the node's own
 abbrev pub glance_said : PathMaxLabel → PathMaxGlance
-glance_said label = glance_with (head_said label) (ends_of label.levels)
+glance_said label = glance_with (head_said label) (level_ends label.levels)
 
 -- what stands in front of the levels, of what is kept
 abbrev pub head_seen : PathMaxGlance → LevelHead
