@@ -1,13 +1,15 @@
 -- Numbers at the front of a text, whose digits end where no digit follows.
-use Rattle.std.proofs.Common.{◌≡◌, ◌≢◌, ℕ, ◌+◌, ◌*◌, ◌/◌, ◌%◌, ◌<◌, ◌≤◌, ◌^◌, ◌⊎◌, List, [], ◌∷◌, ◌++◌, length, get_or, decimal, refl, sym, ◌∙◌, ap, subst, inl, inr, length-append, append_assoc, arith}
+use Rattle.std.proofs.Common.{◌≡◌, ℕ, ◌+◌, ◌*◌, ◌%◌, ◌<◌, ◌≤◌, ◌^◌, List, [], ◌∷◌, ◌++◌, length, get_or, decimal, refl, sym, ◌∙◌, ap, subst, append_assoc, arith}
 use Rattle.std.specs.List.{AllByRecursion}
-use Rattle.std.specs.Str.Parse.{digits_value}
-use Rattle.std.proofs.Math.Seq.{take-append_seam}
-use Rattle.std.proofs.lemmas.Str.Parse.{digits_value-take-le}
-use Rattle.std.proofs.lemmas.Int.Digits.{digits_value_more}
-use Rattle.std.proofs.lemmas.Fmt.{decimal_by_steps, decimal_nonempty, decimal_digit, decimal_injective, decimal_step}
-use Rattle.pls_streams.proofs.Numerals.{numeral_from_decimal}
-use Rattle.pls_lines.specs.inner.Digits.{IsDigit, BeginsDigit}
+use Rattle.std.specs.Str.Parse.{AllDigits}
+use Rattle.std.proofs.Math.Nat.{pow-le-pow_right}
+use Rattle.std.proofs.lemmas.Str.{digit_value_digit}
+use Rattle.std.proofs.lemmas.Int.Digits.{digits_value-lt, digits_value_push}
+use Rattle.std.proofs.lemmas.Fmt.{decimal_by_steps, decimal_nonempty, decimal_injective, length-decimal-le}
+use Rattle.std.proofs.lemmas.List.{length_push}
+use Rattle.pls_streams.proofs.Numerals.{IsNumeralOf, decimal_from_numeral, numeral_from_decimal}
+use Rattle.pls_lines.specs.inner.Digits.{BeginsDigit, IsDigit, IsOfDigits}
+use Rattle.pls_lines.specs.declared.numbers.TheConstants.{MOST_DIGITS}
 use Rattle.pls_lines.specs.laws.Cuts.{each-append}
 
 -- each byte of a number's spelling is a digit
@@ -41,81 +43,101 @@ same_leading a b x y small_a small_b no_x no_y e =
     no_x no_y e in
     (decimal_injective a b small_a small_b same.0, same.1)
 
--- one more digit behind a number
-pub one_digit_more : (number digit : ℕ) → 0 < number → digit < 10
-    → number * 10 + digit < 2 ^ 64
-    → decimal (number * 10 + digit) ≡ decimal number ++ (48 + digit) ∷ []
-one_digit_more number digit some small fits =
-    let front : (number * 10 + digit) / 10 ≡ number = omega arith in
-    let last : (number * 10 + digit) % 10 ≡ digit = omega arith in
-    decimal_step (number * 10 + digit) (omega arith) fits
-    ∙ ap (λ n. decimal n ++ (48 + (number * 10 + digit) % 10) ∷ []) front
-    ∙ ap (λ d. decimal number ++ (48 + d) ∷ []) last
+-- digits, as the values of texts take them
+all_digits : (digits : List ℕ) → AllByRecursion IsDigit digits → AllDigits 10 digits
+all_digits [] all = tt
+all_digits (digit ∷ digits) all =
+    let value = digit_value_digit digit (all.0.0, omega (arith, all.0.1)) in
+    (omega (arith, value, all.0.1), all_digits digits all.1)
 
--- and in a text
-pub text_digit_more : (number digit : ℕ) (text rest behind : List ℕ) → 0 < number → digit < 10
-    → number * 10 + digit < 2 ^ 64 → text ≡ decimal number ++ rest → rest ≡ (48 + digit) ∷ behind
-    → text ≡ decimal (number * 10 + digit) ++ behind
-text_digit_more number digit text rest behind some small fits e d =
-    e ∙ ap (λ r. decimal number ++ r) d
-    ∙ sym (append_assoc (decimal number) ((48 + digit) ∷ []) behind)
-    ∙ ap (λ f. f ++ behind) (sym (one_digit_more number digit some small fits))
+-- a digit on its own
+pub one_digit : (digit : ℕ) (rest : List ℕ) → digit < 10
+    → IsOfDigits ((48 + digit) ∷ []) digit ((48 + digit) ∷ rest) rest
+one_digit digit rest small = record {
+  front = refl;
+  all = ((omega arith, omega (arith, small)), tt);
+  value = λ few.
+      omega (arith, digit_value_digit (48 + digit) (omega arith, omega (arith, small)));
+}
 
--- digits that are followed by one more begin a longer list of digits
-record Longer (a b : List ℕ) (d : ℕ) : Type 0 where
-  pub more : List ℕ
-  pub is : b ≡ a ++ d ∷ more
+-- one more digit
+pub digits_more : (digits text rest behind : List ℕ) (number digit : ℕ)
+    → IsOfDigits digits number text rest → rest ≡ (48 + digit) ∷ behind → digit < 10
+    → IsOfDigits (digits ++ (48 + digit) ∷ [])
+    ((number * 10 % 18446744073709551616 + digit) % 18446744073709551616) text behind
+digits_more digits text rest behind number digit is stands small = record {
+  front = is.front ∙ ap (λ rest. digits ++ rest) stands
+      ∙ sym (append_assoc digits ((48 + digit) ∷ []) behind);
+  all = each-append IsDigit digits ((48 + digit) ∷ []) is.all
+      ((omega arith, omega (arith, small)), tt);
+  value = λ few.
+      let few_before : length digits ≤ 18 = omega (arith, length_push digits (48 + digit), few) in
+      let below = digits_value-lt 10 digits (all_digits digits is.all) in
+      let most : 10 ^ length digits ≤ 10 ^ 18 = pow-le-pow_right (omega arith) few_before in
+      let last = digit_value_digit (48 + digit) (omega arith, omega (arith, small)) in
+      omega (
+        arith,
+        is.value (omega (arith, few_before)),
+        below,
+        most,
+        digits_value_push 10 digits (48 + digit),
+        last,
+        small,
+      );
+}
 
-longer : (a b x y : List ℕ) (d : ℕ) → AllByRecursion IsDigit a → IsDigit d → (BeginsDigit y → ⊥)
-    → a ++ d ∷ x ≡ b ++ y → Longer a b d
-longer [] [] x y d p q none_behind e = absurd (none_behind (subst BeginsDigit e q))
-longer [] (c ∷ b) x y d p q none_behind e = let same : c ≡ d = cc in record { more = b; is = cc }
-longer (c ∷ a) [] x y d p q none_behind e = absurd (none_behind (subst BeginsDigit e p.0))
-longer (c ∷ a) (k ∷ b) x y d p q none_behind e =
-    let head : c ≡ k = cc in
-    let tail : a ++ d ∷ x ≡ b ++ y = cc in
-    let w = longer a b x y d p.1 q none_behind tail in
-    let is = w.is in
-    record { more = w.more; is = cc }
+-- where a digit is in front, there are some
+pub some_digits : (digits text rest : List ℕ) (number digit : ℕ) → digit < 10
+    → IsOfDigits digits number ((48 + digit) ∷ text) rest → (BeginsDigit rest → ⊥)
+    → 0 < length digits
+some_digits [] text rest number digit small is none_behind =
+    absurd (none_behind (subst BeginsDigit is.front (omega arith, omega (arith, small))))
+some_digits (c ∷ digits) text rest number digit small is none_behind = omega arith
 
--- a number whose spelling goes on with a digit is no front of another one that is too small for it
-pub too_large : (number digit most other : ℕ) (rest behind text : List ℕ) → number < 2 ^ 64
-    → digit < 10 → most < 2 ^ 64 → (number ≡ 0) ⊎ (most / 10 < number)
-    → text ≡ decimal number ++ rest → rest ≡ (48 + digit) ∷ behind
-    → other ≤ most → (after : List ℕ) → (BeginsDigit after → ⊥) → text ≢ decimal other ++ after
-too_large number digit most other rest behind text small below few case e d within after none_behind f =
-    let w = longer (decimal number) (decimal other) behind after (48 + digit)
-    (decimal_digits number small) (omega arith, omega arith) none_behind
-    (ap (λ r. decimal number ++ r) (sym d) ∙ sym e ∙ f) in
-    by w case
-  where
-    by : Longer (decimal number) (decimal other) (48 + digit)
-        → (number ≡ 0) ⊎ (most / 10 < number) → ⊥
-    by w (inl none) =
-        let front : decimal number ≡ 48 ∷ [] = ap decimal none ∙ decimal_digit 0 (omega arith) in
-        let spelled : decimal other ≡ 48 ∷ (48 + digit) ∷ w.more =
-        w.is ∙ ap (λ f. f ++ (48 + digit) ∷ w.more) front in
-        let numeral = numeral_from_decimal (decimal other) other (omega arith) refl in
+module _ (digits text rest : List ℕ) (number : ℕ) (is : IsOfDigits digits number text rest) where
+  -- the first digit is the first byte of the text
+  pub first_digit : 0 < length digits → get_or text 0 0 ≡ get_or digits 0 0
+  first_digit some = ap (λ bytes. get_or bytes 0 0) is.front ∙ by digits some
+    where
+      by : (digits : List ℕ) → 0 < length digits
+          → get_or (digits ++ rest) 0 0 ≡ get_or digits 0 0
+      by [] some = absurd (omega (arith, some))
+      by (digit ∷ digits) some = refl
+
+  -- few digits without a leading zero spell their number
+  pub digits_spell : length digits ≤ MOST_DIGITS → 0 < length digits
+      → (get_or digits 0 0 ≡ 48 → length digits ≡ 1) → number < 2 ^ 64
+      → text ≡ decimal number ++ rest
+  digits_spell few some zero_alone small =
+      is.front ∙ ap (λ front. front ++ rest) (decimal_from_numeral digits number small (record {
+        digits = all_digits digits is.all;
+        value = sym (is.value few);
+        some = some;
+        zero_alone = zero_alone;
+      }))
+
+  -- where the text begins with a number below 2^63, the digits are its own
+  module _ (other : ℕ) (after : List ℕ) (small : other ≤ 2 ^ 63) (none_behind : BeginsDigit rest → ⊥)
+      (none_after : BeginsDigit after → ⊥) (spelled : text ≡ decimal other ++ after) where
+    pub own_numeral : IsNumeralOf digits other
+    own_numeral =
+        numeral_from_decimal digits other (omega (arith, small))
+        (same_digits digits (decimal other) rest after is.all
+        (decimal_digits other (omega (arith, small))) none_behind none_after
+        (sym is.front ∙ spelled)).0
+
+    -- they are few
+    pub own_few : length digits ≤ MOST_DIGITS
+    own_few =
         omega (
           arith,
-          numeral.zero_alone (ap (λ ds. get_or ds 0 0) spelled),
-          ap length spelled,
+          ap length (decimal_from_numeral digits other (omega (arith, small)) own_numeral),
+          length-decimal-le 19 other (omega arith) (omega (arith, small)) (omega (arith, small)),
         )
-    by w (inr large) =
-        let i = length (decimal number) in
-        let ds = decimal number ++ (48 + digit) ∷ w.more in
-        let long : i < length ds = omega (arith, length-append (decimal number) ((48 + digit) ∷ w.more)) in
-        let value = numeral_from_decimal (decimal other) other (omega arith) refl in
-        let own = numeral_from_decimal (decimal number) number small refl in
-        omega (
-          arith,
-          value.value,
-          own.value,
-          ap (digits_value 10) w.is,
-          digits_value-take-le 10 ds (i + 1) (omega arith),
-          digits_value_more 10 ds i long,
-          ap (digits_value 10) (take-append_seam (decimal number) ((48 + digit) ∷ w.more)),
-        )
+
+    -- and stand for it
+    pub own_number : number ≡ other
+    own_number = is.value own_few ∙ own_numeral.value
 
 -- a text that begins with a number begins with a digit
 pub decimal_begins : (number : ℕ) (rest : List ℕ) → number < 2 ^ 64

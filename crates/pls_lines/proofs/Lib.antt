@@ -11,4 +11,3 @@ pub mod BothPassed
 pub mod ListOfAll
 pub mod ListWritten
 pub mod FormTold
-mod FrontByByte

@@ -8,6 +8,7 @@ use crate::words::after_word;
 
 /// The number up to `most` of a line at the front of a text that is a word and this number, and
 /// what follows its line feed; `None` where no such line stands there.
+#[inline(always)]
 pub fn one_number<'a>(text: &'a [u8], word: &[u8], most: u64) -> Option<(u64, &'a [u8])>
     requires few { most ≤ 2 ^ 63 }
     ensures stands { IfSome result (λ read.
@@ -23,6 +24,7 @@ pub fn one_number<'a>(text: &'a [u8], word: &[u8], most: u64) -> Option<(u64, &'
 
 /// The numbers up to `most` each of a line at the front of a text that is a word and these numbers,
 /// and what follows its line feed; `None` where no such line stands there.
+#[inline(always)]
 pub fn two_numbers<'a>(text: &'a [u8], word: &[u8], most: u64) -> Option<(u64, u64, &'a [u8])>
     requires few { most ≤ 2 ^ 63 }
     ensures stands { IfSome result (λ read. text.now

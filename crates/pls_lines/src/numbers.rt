@@ -1,7 +1,7 @@
 //! Numbers at the front of a text, each read as its digits come.
 
 ghost use Rattle.std.specs.Prelude.{◌≡◌, ◌≢◌, ℕ, ◌+◌, ◌<◌, ◌≤◌, ◌^◌, List, ◌∷◌, ◌++◌, IfNone, IfSome, decimal};
-ghost use Rattle.pls_lines.specs.inner.Digits.{BeginsDigit};
+ghost use Rattle.pls_lines.specs.inner.Digits.{AreDigitsInFront, BeginsDigit};
 
 use crate::words::after_byte;
 use pls_configuration::MAX_WORD;
@@ -46,19 +46,35 @@ fn leading_number(text: &[u8], most: u64) -> Option<(u64, &[u8])>
     ensures none { IfNone result ((number : ℕ) (rest : List ℕ) → number ≤ most
         → (BeginsDigit rest → ⊥) → text.now ≢ decimal number ++ rest) }
 {
-    let (mut number, mut rest) = leading_digit(text)?;
+    let (first, behind) = leading_digit(text)?;
+    let (number, rest) = with_digits(first, behind);
+    let count = text.len() - rest.len();
+    if count > MOST_DIGITS || number > most {
+        return None;
+    }
+    if first == 0 && count > 1 {
+        return None;
+    }
+    Some((number, rest))
+}
+
+// No number below 2^63 has more digits, and none of so many digits reaches 2^64.
+const MOST_DIGITS: usize = 19;
+
+// The first digit of a number and all digits that follow it as a number, which counts only where
+// they are at most `MOST_DIGITS`, and what stands behind them.
+#[inline(always)]
+fn with_digits(first: u64, text: &[u8]) -> (u64, &[u8])
+    requires { first < 10 }
+    ensures { AreDigitsInFront ((48 + first) ∷ text.now) result.0 result.1.now }
+{
+    let mut number = first;
+    let mut rest = text;
     while let Some((digit, behind)) = leading_digit(rest) {
-        if number == 0 || number > most / 10 {
-            return None;
-        }
-        number = number * 10 + digit;
+        number = number.wrapping_mul(10).wrapping_add(digit);
         rest = behind;
     }
-    if number <= most {
-        Some((number, rest))
-    } else {
-        None
-    }
+    (number, rest)
 }
 
 #[inline(always)]
@@ -68,8 +84,10 @@ fn leading_digit(text: &[u8]) -> Option<(u64, &[u8])>
     ensures none { IfNone result (BeginsDigit text.now → ⊥) }
 {
     let (first, rest) = text.split_first()?;
-    match *first {
-        byte @ b'0'..=b'9' => Some(((byte - b'0') as u64, rest)),
-        _ => None,
+    let digit = u64::from(*first).wrapping_sub(u64::from(b'0'));
+    if digit < 10 {
+        Some((digit, rest))
+    } else {
+        None
     }
 }

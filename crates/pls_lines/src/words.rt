@@ -3,6 +3,7 @@
 ghost use Rattle.std.specs.Prelude.{◌≡◌, ◌≢◌, ◌↔◌, ℕ, List, ◌∷◌, ◌++◌, length, IfNone, IfSome, IsTrue, MatchOption};
 
 /// Whether two texts are one.
+#[inline(always)]
 pub fn is_same(text: &[u8], other: &[u8]) -> bool
     ensures { IsTrue result ↔ (text.now ≡ other.now) }
 {
@@ -64,9 +65,10 @@ fn after_front<'a>(text: &'a [u8], front: &[u8]) -> Option<&'a [u8]>
     ensures { MatchOption result ((rest : List ℕ) → text.now ≢ front.now ++ rest)
         (λ rest. text.now ≡ front.now ++ rest.now) }
 {
-    let mut rest = text;
-    for byte in front {
-        rest = after_byte(rest, *byte)?;
+    let (begin, rest) = text.split_at_checked(front.len())?;
+    if is_same(begin, front) {
+        Some(rest)
+    } else {
+        None
     }
-    Some(rest)
 }
