@@ -27,8 +27,9 @@ impl NumCode for Gamma {
         buf.push_digits(0, zeros, number + 1, zeros + 1)
     }
 
-    // The next 64 bits mostly show the whole code, and a code that bits behind the last would end
-    // is longer than what is left. The cursor moves only where a code comes.
+    // The next 64 bits mostly show the whole code. Some of them may lie behind the last bit: a code
+    // that would need them is longer than what is left, and none is read. The cursor moves only
+    // where a code comes.
     #[inline(always)]
     fn read(cursor: &mut Cursor<'_>) -> Option<u64> {
         let ahead = cursor.ahead();

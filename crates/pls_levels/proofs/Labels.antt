@@ -3,13 +3,18 @@ use Rattle.std.proofs.Common.{◌≡◌, ◌∙◌, ℕ, ◌&&◌, Bool, true, f
 use Rattle.std.specs.Option.{option_and_then}
 use Rattle.std.proofs.lemmas.List.{take_all}
 use Rattle.std.proofs.lemmas.Option.{same_Some}
-use Rattle.pls_numbers.specs.Numbers.{NumbersLeft}
+use Rattle.pls_numbers.specs.Numbers.{NumbersLeft, with_number}
 use Rattle.pls_numbers.specs.Shape.{if_clean}
 use Rattle.pls_numbers.specs.Taking.{IsTaken, items_in}
 use Rattle.pls_numbers.specs.laws.TakingLaws.{items_off-take, items_only}
 use Rattle.pls_levels.specs.declared.label.LevelHead.{LevelHead}
 use Rattle.pls_levels.specs.declared.label.LevelLabel.{LevelLabel}
-use Rattle.pls_levels.specs.Labels.{AreLevelsLeft, IsExactForm, LevelForm, are_levels, head_of, head_off, head_with, label_behind, label_listed, label_of, label_with, levels_off, with_head}
+use Rattle.pls_levels.specs.Labels.{AreLevelsLeft, IsExactForm, LevelForm, are_levels, head_of, head_off, head_with, label_behind, label_listed, label_of, label_with, levels_off}
+
+-- what is left with this in front
+abbrev pub with_head : LevelHead → NumbersLeft → NumbersLeft
+with_head head left = with_number head.root (with_number head.own
+    (with_number head.parent (with_number head.depth (with_number head.count left))))
 
 module _ {S X : Type 0} (form : LevelForm S X) (exact : IsExactForm form) where
   -- the label behind what was taken off

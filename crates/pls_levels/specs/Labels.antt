@@ -2,7 +2,7 @@
 -- follow, and then the numbers of each level.
 use Rattle.std.specs.Prelude.{◌≡◌, ℕ, ◌<◌, Bool, List, [], ◌∷◌, length, drop, All, Option, Some, None, option_map, option_and_then}
 use Rattle.std.specs.List.{flat_map}
-use Rattle.pls_numbers.specs.Numbers.{NumbersLeft, with_number}
+use Rattle.pls_numbers.specs.Numbers.{NumbersLeft}
 use Rattle.pls_numbers.specs.Shape.{Shape}
 use Rattle.pls_numbers.specs.Taking.{IsExact, IsTaken, are_items, items_in, items_off}
 use Rattle.pls_levels.specs.declared.label.LevelHead.{LevelHead}
@@ -44,11 +44,6 @@ level_form off numbers Proper = record {
 abbrev pub head_with : ℕ → ℕ → ℕ → ℕ → ℕ → LevelHead
 head_with root own parent depth count =
     record { root = root; own = own; parent = parent; depth = depth; count = count }
-
--- what is left with this in front
-abbrev pub with_head : LevelHead → NumbersLeft → NumbersLeft
-with_head head left = with_number head.root (with_number head.own
-    (with_number head.parent (with_number head.depth (with_number head.count left))))
 
 -- what stands in front of the levels, and the numbers behind it
 abbrev pub head_off : List ℕ → Option (LevelHead × List ℕ)

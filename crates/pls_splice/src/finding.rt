@@ -24,9 +24,9 @@ pub struct Pair {
 }
 
 /// The first two edges that may be crossed: no smaller first edge goes with any other, and no
-/// smaller second edge with this first one. `None` where no two may be crossed. It is expected to
-/// take time in the bits of all labels, which are looked up by their hash. The one error is want of
-/// memory.
+/// smaller second edge with this first one. `None` where no two may be crossed. Edges that agree in
+/// weight and labels are found by a hash of these, so the expected time is linear in the bits of
+/// all labels. The one error is want of memory.
 pub fn find(
     alloc: Global,
     ring: &Ring,

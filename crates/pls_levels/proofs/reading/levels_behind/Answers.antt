@@ -2,8 +2,8 @@ use Rattle.std.proofs.Common.{◌≡◌, ◌∙◌, sym, ap, subst}
 use Rattle.pls_numbers.specs.Numbers.{NumbersLeft}
 use Rattle.pls_numbers.specs.Shape.{if_clean}
 use Rattle.pls_levels.specs.declared.label.LevelHead.{LevelHead}
-use Rattle.pls_levels.specs.Labels.{AreLevelsLeft, label_of, with_head}
-use Rattle.pls_levels.proofs.Labels.{label_parts}
+use Rattle.pls_levels.specs.Labels.{AreLevelsLeft, label_of}
+use Rattle.pls_levels.proofs.Labels.{label_parts, with_head}
 use Rattle.pls_levels.proofs.reading.levels_behind.Goals as goal
 
 pub returns : goal.returns
