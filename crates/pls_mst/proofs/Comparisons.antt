@@ -14,12 +14,12 @@ use Rattle.pls_mst.specs.declared.comparing.Between.{Between}
 use Rattle.pls_mst.specs.declared.comparing.LevelComparison.{LevelComparison}
 use Rattle.pls_mst.specs.Labels.{level_off}
 use Rattle.pls_mst.specs.Rules.{chose_least, is_chosen_between, is_named_or_shared}
-use Rattle.pls_mst.specs.inner.Comparing.{both_compared, compared, edge_between}
+use Rattle.pls_mst.specs.inner.Comparing.{CountsAs, both_compared, compared, edge_between}
 use Rattle.pls_mst.specs.inner.Glance.{all_whole, front_of, kept_in}
 use Rattle.pls_mst.proofs.Fronts.{front_of-take, kept_in-few}
 
 -- of these three
-abbrev three : Bool → Bool → Bool → LevelComparison
+abbrev pub three : Bool → Bool → Bool → LevelComparison
 three shares least chosen = record { shares = shares; least = least; chosen = chosen }
 
 -- what is the same in each of the three is the same
@@ -50,6 +50,16 @@ or_assoc false b c = refl
 all_said : (found : LevelComparison) → found ≡ both_compared found (three true true false)
 all_said found = same_Compared found (both_compared found (three true true false))
     (and_true found.shares) (and_true found.least) (or_false found.chosen)
+
+-- what counts of those in front counts of all
+pub counts_behind : (pointer : Bool) (all found said behind : LevelComparison)
+    → all ≡ both_compared found behind → CountsAs pointer found said
+    → CountsAs pointer all (both_compared said behind)
+counts_behind pointer all found said behind all_is (least, same) = (
+  ap (λ (all : LevelComparison). all.least) all_is
+      ∙ ap (λ (b : Bool). b && behind.least) least,
+  λ here. all_is ∙ ap (λ (found : LevelComparison). both_compared found behind) (same here),
+)
 
 -- a number is itself
 one_number : (number : ℕ) → (number == number) ≡ true
@@ -257,7 +267,8 @@ module _ (between : Between) (own : ℕ) where
         by (level ∷ levels) = all_said found
 
     -- both have one
-    pub both_there : (with_it : LevelComparison) (here there : Level) (mine_left theirs_left : NumbersLeft)
+    pub both_there : (with_it : LevelComparison) (here there : Level)
+        (mine_left theirs_left : NumbersLeft)
         → IsTaken level_off here mine mine_left → IsTaken level_off there theirs theirs_left
         → with_it.shares ≡ (found.shares && is_named_or_shared own here there)
         → with_it.least ≡ (found.least

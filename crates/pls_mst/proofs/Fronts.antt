@@ -19,6 +19,7 @@ use Rattle.pls_levels.specs.declared.label.LevelHead.{LevelHead}
 use Rattle.pls_levels.specs.Labels.{head_off, label_of}
 use Rattle.pls_levels.proofs.Labels.{a_label}
 use Rattle.pls_mst.specs.Labels.{level_off, mst_levels}
+use Rattle.pls_mst.specs.Rules.{on_each_level}
 use Rattle.pls_mst.specs.laws.LabelLaws.{exact_levels}
 use Rattle.pls_mst.specs.inner.Glance.{IsFront, all_whole, front_of, glance_of, kept_in, no_level}
 use Rattle.pls_mst.specs.inner.KeptLevel.{fits, kept_of, whole}
@@ -144,6 +145,40 @@ pub all_whole-at : (front : List KeptLevel) (place : ℕ) → place < length fro
     → whole (get_or front place no_level) ≡ get_or (all_whole front) place blank
 all_whole-at front place within = sym (get_or-map whole front place no_level blank within)
 
+-- of the first `count` levels of a front, those from a place on
+abbrev pub kept_from : ℕ → ℕ → List KeptLevel → List Level
+kept_from place count front = drop place (take count (all_whole front))
+
+-- are the one there and those behind it
+kept_from-next : (place count : ℕ) (front : List KeptLevel) → place < count → count ≤ length front
+    → kept_from place count front
+    ≡ whole (get_or front place no_level) ∷ kept_from (place + 1) count front
+kept_from-next place count front less within =
+    let many : length (take count (all_whole front)) ≡ count =
+    length-take-le count (all_whole front) (omega (arith, within, length-map front whole)) in
+    drop_more (take count (all_whole front)) place blank (omega (arith, many, less))
+    ∙ ap (λ (level : Level). level ∷ kept_from (place + 1) count front)
+    (get_or-take count (all_whole front) place blank less
+    ∙ sym (all_whole-at front place (omega (arith, less, within))))
+
+-- a test of each of those of two nodes is the test of the first, and of those behind it
+pub on_each-next : (test : Level → Level → Bool) (place count : ℕ) (mine theirs : List KeptLevel)
+    (here there : Level) (passed : Bool) → place < count → count ≤ length mine
+    → count ≤ length theirs → here ≡ whole (get_or mine place no_level)
+    → there ≡ whole (get_or theirs place no_level) → passed ≡ test here there
+    → on_each_level test (kept_from place count mine) (kept_from place count theirs)
+    ≡ (passed
+    && on_each_level test (kept_from (place + 1) count mine) (kept_from (place + 1) count theirs))
+on_each-next test place count mine theirs here there passed less mine_has theirs_has here_is
+    there_is passed_is =
+    rw (
+      kept_from-next place count mine less mine_has,
+      kept_from-next place count theirs less theirs_has,
+      passed_is,
+      here_is,
+      there_is,
+    ) refl
+
 -- of the first that are kept so many are those of all
 pub front_of-take : (count : ℕ) (levels : List Level) → count ≤ kept_in levels
     → take count (all_whole (front_of levels)) ≡ take count levels
@@ -228,7 +263,8 @@ list_all-split test count items = ap (list_all test) (sym (take-append-drop coun
 
 -- a level that is read comes first of those that are left
 pub next_read : (place count : ℕ) (front : List KeptLevel) (levels : List Level)
-    (old : NumbersLeft) (level : Level) (new : NumbersLeft) → place < count → IsTaken level_off level old new
+    (old : NumbersLeft) (level : Level) (new : NumbersLeft) → place < count
+    → IsTaken level_off level old new
     → IsKept FRONT place front levels (items_off level_off (count - place) old.numbers)
     → IsKept FRONT place front levels
     (level ∷ items_off level_off (count - (place + 1)) new.numbers)

@@ -16,19 +16,20 @@ use Rattle.pls_mst.specs.declared.kept_level.KeptLevel.{KeptLevel}
 use Rattle.pls_levels.specs.Labels.{AreFewer, AreLevelsLeft, ArePassed}
 use Rattle.pls_mst.specs.Labels.{MstLabel, level_off, mst_levels}
 use Rattle.pls_mst.specs.Rules.{names_all_fragments}
-use Rattle.pls_mst.specs.inner.Comparing.{both_compared, compared}
+use Rattle.pls_mst.specs.inner.Comparing.{CountsAs, both_compared, compared}
 use Rattle.pls_mst.specs.inner.Glance.{all_whole, front_of, glance_of, kept_in}
 use Rattle.pls_mst.specs.inner.KeptLevel.{whole}
-use Rattle.pls_mst.proofs.Comparisons.{all_in_front, front_and_behind}
+use Rattle.pls_mst.proofs.Comparisons.{all_in_front, counts_behind, front_and_behind}
 use Rattle.pls_mst.proofs.Fronts.{front_of-take, kept_in-few, list_all-split}
 
 -- what the levels of two labels say together, by what is kept of them
-module _ (between : Between) (own other : MstLabel) (mine theirs : MstGlance) (shared first : ℕ)
-    (found : LevelComparison) (own_is : glance_of own ≡ mine) (other_is : glance_of other ≡ theirs)
+module _ (pointer : Bool) (between : Between) (own other : MstLabel) (mine theirs : MstGlance)
+    (shared first : ℕ) (found : LevelComparison) (own_is : glance_of own ≡ mine)
+    (other_is : glance_of other ≡ theirs)
     (shared_is : shared ≡ min mine.head.count theirs.head.count)
     (mine_kept : first ≤ mine.kept) (theirs_kept : first ≤ theirs.kept)
-    (found_is : found ≡ compared between mine.head.own (take first (all_whole mine.front))
-    (take first (all_whole theirs.front))) where
+    (found_is : CountsAs pointer found (compared between mine.head.own
+    (take first (all_whole mine.front)) (take first (all_whole theirs.front)))) where
   -- as many as both have
   both_have : shared ≡ min (length own.levels) (length other.levels)
   both_have =
@@ -50,20 +51,20 @@ module _ (between : Between) (own other : MstLabel) (mine theirs : MstGlance) (s
   kept_first levels = take first (all_whole (front_of levels))
 
   -- what those in front say
-  in_front : found
-      ≡ compared between own.own (kept_first own.levels) (kept_first other.levels)
-  in_front = found_is
-      ∙ ap (λ (glance : MstGlance). compared between glance.head.own
+  in_front : CountsAs pointer found
+      (compared between own.own (kept_first own.levels) (kept_first other.levels))
+  in_front = subst (CountsAs pointer found)
+      (ap (λ (glance : MstGlance). compared between glance.head.own
       (take first (all_whole glance.front)) (take first (all_whole theirs.front))) (sym own_is)
       ∙ ap (λ (glance : MstGlance). compared between own.own (kept_first own.levels)
-      (take first (all_whole glance.front))) (sym other_is)
+      (take first (all_whole glance.front))) (sym other_is)) found_is
 
   -- where there are no others
-  pub looked_in_front : shared ≤ first → found ≡ compared between own.own own.levels other.levels
-  looked_in_front few =
-      in_front
-      ∙ all_in_front between own.own own.levels other.levels shared first both_have own_kept
-      other_kept few
+  pub looked_in_front : shared ≤ first
+      → CountsAs pointer found (compared between own.own own.levels other.levels)
+  looked_in_front few = subst (CountsAs pointer found)
+      (all_in_front between own.own own.levels other.levels shared first both_have own_kept
+      other_kept few) in_front
 
   -- where others are read behind them
   pub looked_behind : (here there : List ℕ) (all : LevelComparison)
@@ -73,7 +74,7 @@ module _ (between : Between) (own other : MstLabel) (mine theirs : MstGlance) (s
       → items_in level_off (length other.levels - first) there ≡ Some (drop first other.levels))
       → all ≡ both_compared found (compared between mine.head.own
       (items_off level_off (shared - first) here) (items_off level_off (shared - first) there))
-      → all ≡ compared between own.own own.levels other.levels
+      → CountsAs pointer all (compared between own.own own.levels other.levels)
   looked_behind here there all here_is there_is all_is =
       let left : ℕ = shared - first in
       let mine_off : items_off level_off left here ≡ take left (drop first own.levels) =
@@ -85,17 +86,20 @@ module _ (between : Between) (own other : MstLabel) (mine theirs : MstGlance) (s
       (omega (arith, both_have)) in
       let front : LevelComparison =
       compared between own.own (kept_first own.levels) (kept_first other.levels) in
+      let behind : LevelComparison =
+      compared between own.own (take left (drop first own.levels))
+      (take left (drop first other.levels)) in
+      let with_behind : all ≡ both_compared found behind =
       all_is
       ∙ ap (λ (glance : MstGlance). both_compared found (compared between glance.head.own
       (items_off level_off left here) (items_off level_off left there))) (sym own_is)
-      ∙ ap (λ (found : LevelComparison). both_compared found (compared between own.own
-      (items_off level_off left here) (items_off level_off left there))) in_front
-      ∙ ap (λ (behind : List Level). both_compared front
+      ∙ ap (λ (behind : List Level). both_compared found
       (compared between own.own behind (items_off level_off left there))) mine_off
-      ∙ ap (λ (behind : List Level). both_compared front
-      (compared between own.own (take left (drop first own.levels)) behind)) theirs_off
-      ∙ front_and_behind between own.own own.levels other.levels shared first both_have own_kept
-      other_kept
+      ∙ ap (λ (behind : List Level). both_compared found
+      (compared between own.own (take left (drop first own.levels)) behind)) theirs_off in
+      subst (CountsAs pointer all)
+      (front_and_behind between own.own own.levels other.levels shared first both_have own_kept
+      other_kept) (counts_behind pointer all found front behind with_behind in_front)
 
 -- whether the fragments of a label have the node's name, by what is kept of it
 module _ (own : MstLabel) (glance : MstGlance) (first : ℕ) (first_has : Bool)

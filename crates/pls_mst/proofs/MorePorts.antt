@@ -13,10 +13,20 @@ use Rattle.pls_levels.specs.declared.label.LevelHead.{LevelHead}
 use Rattle.pls_levels.specs.Labels.{head_of}
 use Rattle.pls_mst.specs.Labels.{MstLabel, mst_levels}
 use Rattle.pls_mst.specs.Rules.{agrees_on_root_and_levels, names_root_and_levels, chose_least_at, chosen_edges_are_least, edge_to, is_chosen_between, is_named_or_shared, on_each_level, on_some_level}
-use Rattle.pls_mst.specs.inner.Comparing.{compared}
+use Rattle.pls_mst.specs.inner.Comparing.{CountsAs, compared}
 use Rattle.pls_mst.specs.inner.Gathering.{between, mst_tally, mst_tally_with}
 use Rattle.pls_mst.specs.inner.Glance.{glance_of}
 use Rattle.pls_mst.specs.inner.Reading.{head_said}
+use Rattle.pls_mst.proofs.Comparisons.{three}
+
+-- what does not count is not gathered
+gathered_alike : (pointer : Bool) (mine head : LevelHead) (both said : LevelComparison)
+    (was : PortTally) → CountsAs pointer both said
+    → mst_tally_with pointer mine head both was ≡ mst_tally_with pointer mine head said was
+gathered_alike true mine head both said was (least, same) =
+    ap (λ (both : LevelComparison). mst_tally_with true mine head both was) (same refl)
+gathered_alike false mine head both said was (least, same) =
+    ap (λ (b : Bool). mst_tally_with false mine head (three true b true) was) least
 
 module _ (id : ℕ) (state : State) (own : MstLabel) (ports : List (ReadPort MstLabel)) (weight : ℕ)
     (theirs : MstLabel) where
@@ -78,14 +88,17 @@ module _ (id : ℕ) (state : State) (own : MstLabel) (ports : List (ReadPort Mst
   pub is_gathered : (pointer : Bool) (mine head : LevelHead) (to : Between) (both : LevelComparison)
       (was is : PortTally) → pointer ≡ here → head_said own ≡ mine → head_said theirs ≡ head
       → was ≡ mst_tally before → to ≡ between pointer weight mine head
-      → both ≡ compared to own.own own.levels theirs.levels
+      → CountsAs pointer both (compared to own.own own.levels theirs.levels)
       → is ≡ mst_tally_with pointer mine head both was → is ≡ mst_tally after
   is_gathered pointer mine head to both was is pointer_is mine_is head_is was_is to_is both_is
       is_more =
       let edge_is : to ≡ edge = to_is ∙ rw (pointer_is, sym mine_is, sym head_is) refl in
-      let all : both ≡ compared edge own.own own.levels theirs.levels =
-      both_is ∙ ap (λ (to : Between). compared to own.own own.levels theirs.levels) edge_is in
-      is_more ∙ rw (pointer_is, sym mine_is, sym head_is, all, was_is) (sym more_gathered)
+      is_more
+      ∙ gathered_alike pointer mine head both (compared to own.own own.levels theirs.levels) was
+      both_is
+      ∙ ap (λ (to : Between). mst_tally_with pointer mine head
+      (compared to own.own own.levels theirs.levels) was) edge_is
+      ∙ rw (pointer_is, sym mine_is, sym head_is, was_is) (sym more_gathered)
 
 -- what stands in front of the levels in the label above, by what is kept of that label
 pub head_kept : (state : State) (ports : List (ReadPort MstLabel)) (glance : Option MstGlance)

@@ -7,8 +7,8 @@ ghost use Rattle.pls_numbers.specs.Shape.{said_by};
 ghost use Rattle.pls_numbers.specs.Taking.{items_off};
 ghost use Rattle.pls_mst.specs.declared.glance.TheConstants.{FRONT};
 ghost use Rattle.pls_mst.specs.Labels.{MstLabel, level_off, mst_shape};
-ghost use Rattle.pls_mst.specs.Rules.{chose_least, is_at_most, is_chosen_between, is_named_or_shared};
-ghost use Rattle.pls_mst.specs.inner.Comparing.{both_compared, compared, edge_between};
+ghost use Rattle.pls_mst.specs.Rules.{chose_least, is_at_most, is_chosen_between, is_named_or_shared, on_each_level};
+ghost use Rattle.pls_mst.specs.inner.Comparing.{CountsAs, both_compared, compared, edge_between};
 ghost use Rattle.pls_mst.specs.inner.Glance.{all_whole, glance_of};
 
 use crate::glance::{FRONT, MstGlance, behind_front, in_front};
@@ -42,8 +42,10 @@ pub struct LevelComparison {
     pub(crate) chosen: bool,
 }
 
-// Compares the kept levels first, then those in the bits, up to the end of the shorter label.
+// Compares the kept levels first, then those in the bits, up to the end of the shorter label. At a
+// port along which the node does not point `least` alone counts.
 pub(crate) fn compare_levels<C: NumCode>(
+    pointer: bool,
     mine: &LabelGlance<'_, MstGlance>,
     theirs: &LabelGlance<'_, MstGlance>,
     between: &Between,
@@ -52,11 +54,18 @@ pub(crate) fn compare_levels<C: NumCode>(
         → glance_of own ≡ mine.now.glance.now
         → said_by mst_shape C.takes theirs.now.bits.now ≡ Some other
         → glance_of other ≡ theirs.now.glance.now
-        → result ≡ compared between.now own.own own.levels other.levels }
+        → CountsAs pointer result (compared between.now own.own own.levels other.levels) }
 {
     let MstGlance { head, kept, front } = mine.glance;
     let first = in_front((*kept).min(theirs.glance.kept));
-    let found = compare_fronts(front, &theirs.glance.front, first, between, head.own);
+    let found = compare_fronts(
+        pointer,
+        front,
+        &theirs.glance.front,
+        first,
+        between,
+        head.own,
+    );
     let shared = head.count.min(theirs.glance.head.count);
     let past = first as u64;
     if shared <= past {
@@ -70,6 +79,7 @@ pub(crate) fn compare_levels<C: NumCode>(
 
 #[inline(always)]
 fn compare_fronts(
+    pointer: bool,
     mine: &[KeptLevel; FRONT],
     theirs: &[KeptLevel; FRONT],
     count: usize,
@@ -77,20 +87,44 @@ fn compare_fronts(
     own: u64,
 ) -> LevelComparison
     requires { count ≤ FRONT }
-    ensures { result ≡ compared between.now own (take count (all_whole mine.now))
-        (take count (all_whole theirs.now)) }
+    ensures { CountsAs pointer result (compared between.now own (take count (all_whole mine.now))
+        (take count (all_whole theirs.now))) }
 {
     let mut found = LevelComparison {
         shares: true,
         least: true,
         chosen: false,
     };
+    if !pointer {
+        found.least = fronts_chose_least(mine, theirs, count, between);
+        return found;
+    }
     for place in 0..count {
         let here = mine[place].whole();
         let there = theirs[place].whole();
         found = with_level(found, between, own, &here, &there);
     }
     found
+}
+
+// All that counts at most ports, apart from the rest: on most levels the weights alone settle it.
+#[inline(always)]
+fn fronts_chose_least(
+    mine: &[KeptLevel; FRONT],
+    theirs: &[KeptLevel; FRONT],
+    count: usize,
+    between: &Between,
+) -> bool
+    requires { count ≤ FRONT }
+    ensures { result ≡ on_each_level (chose_least (edge_between between.now) between.now.outside)
+        (take count (all_whole mine.now)) (take count (all_whole theirs.now)) }
+{
+    for place in 0..count {
+        if !chose_least(between, &mine[place].whole(), &theirs[place].whole()) {
+            return false;
+        }
+    }
+    true
 }
 
 // Adds up to `count` levels to `before`. Right labels agree behind the first shared fragment, so
@@ -185,9 +219,11 @@ fn comes_no_later(mine: &Level, between: &Between) -> bool
     ensures { result ≡ is_at_most (edge_key (chosen_edge mine.now) 0)
         (edge_key (edge_between between.now) between.now.outside) }
 {
+    if mine.weight < between.weight {
+        return true;
+    }
     let ends = is_less_or(mine.a, between.a, is_less_or(mine.b, between.b, true));
-    let tie = is_less_or(0, between.outside, ends);
-    is_less_or(mine.weight, between.weight, tie)
+    mine.weight == between.weight && is_less_or(0, between.outside, ends)
 }
 
 // One step of a lexicographic comparison.

@@ -1,6 +1,6 @@
 //! What a node gathers of its ports, one after another.
 
-ghost use Rattle.std.specs.Prelude.{◌≡◌, ℕ, ◌++◌, List, [], ◌∷◌, Some, length, if◌then◌else◌};
+ghost use Rattle.std.specs.Prelude.{◌≡◌, ℕ, ◌++◌, List, [], ◌∷◌, Some, length};
 ghost use Rattle.pls_configuration.specs.declared.row.State.{State};
 ghost use Rattle.pls_numbers.specs.Shape.{said_by};
 ghost use Rattle.pls_scheme.specs.Reading.{ReadPort, port_with, reading};
@@ -57,24 +57,21 @@ impl PortTally {
     ) -> PortTally
         ensures { result ≡ mst_tally_with pointer own.now theirs.now both self }
     {
-        let PortTally {
-            follows,
-            agrees,
-            shares,
-            least,
-            chosen,
-        } = self;
-        let LevelComparison {
-            shares: shared,
-            least: chose_least,
-            chosen: was_chosen,
-        } = both;
+        let agrees = self.agrees && (theirs.root == own.root && theirs.count == own.count);
+        let least = self.least && both.least;
+        if !pointer {
+            return PortTally {
+                agrees,
+                least,
+                ..self
+            };
+        }
         PortTally {
-            follows: one_of(pointer, follows_above(own, theirs), follows),
-            agrees: agrees && (theirs.root == own.root && theirs.count == own.count),
-            shares: one_of(pointer, shared, shares),
-            least: least && chose_least,
-            chosen: one_of(pointer, was_chosen, chosen),
+            follows: follows_above(own, theirs),
+            agrees,
+            shares: both.shares,
+            least,
+            chosen: both.chosen,
         }
     }
 
@@ -123,7 +120,7 @@ pub(crate) fn with_port<C: NumCode>(
 {
     let pointer = is_pointer(up, place);
     let between = edge_to(pointer, weight, &own.glance.head, &label.glance.head);
-    let both = compare_levels::<C>(own, label, &between);
+    let both = compare_levels::<C>(pointer, own, label, &between);
     before.with(pointer, &own.glance.head, &label.glance.head, both)
 }
 
@@ -139,11 +136,4 @@ pub(crate) fn edge_to(pointer: bool, weight: u32, mine: &LevelHead, theirs: &Lev
         a: mine.own.min(theirs.own),
         b: mine.own.max(theirs.own),
     }
-}
-
-#[inline(always)]
-fn one_of(first: bool, one: bool, other: bool) -> bool
-    ensures { result ≡ (if first then one else other) }
-{
-    if first { one } else { other }
 }

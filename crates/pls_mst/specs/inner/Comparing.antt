@@ -1,5 +1,5 @@
 -- What the levels of two neighbours say together.
-use Rattle.std.specs.Prelude.{ℕ, ◌&&◌, ◌||◌, List}
+use Rattle.std.specs.Prelude.{◌≡◌, ℕ, Bool, true, ◌&&◌, ◌||◌, List}
 use Rattle.pls_configuration.specs.Walk.{Edge}
 use Rattle.pls_boruvka.specs.declared.level.Level.{Level}
 use Rattle.pls_mst.specs.declared.comparing.Between.{Between}
@@ -25,3 +25,8 @@ both_compared front behind = record {
   least = front.least && behind.least;
   chosen = front.chosen || behind.chosen;
 }
+
+-- what is found is what is said, of which all counts at a port along which the node points, and at
+-- others only whether the chosen edges are least
+abbrev pub CountsAs : Bool → LevelComparison → LevelComparison → Type 0
+CountsAs pointer found said = (found.least ≡ said.least) × (pointer ≡ true → found ≡ said)

@@ -4,7 +4,7 @@ use Rattle.pls_mst.proofs.comparing.compare_levels.Goals as goal
 
 pub returns-then-shared-past : goal.returns-then-shared-past
 returns-then-shared-past g c own other own_read own_is other_read other_is =
-    looked_in_front c.args.between.now own other c.args.mine.now.glance.now
+    looked_in_front c.args.pointer c.args.between.now own other c.args.mine.now.glance.now
     c.args.theirs.now.glance.now c.min-shared.result c.in_front-first.result
     c.compare_fronts-found.result own_is other_is c.min-shared.ensures
     (omega (arith, c.in_front-first.ensures, c.min.ensures))
@@ -13,7 +13,7 @@ returns-then-shared-past g c own other own_read own_is other_read other_is =
 
 pub returns : goal.returns
 returns g c own other own_read own_is other_read other_is =
-    looked_behind c.args.between.now own other c.args.mine.now.glance.now
+    looked_behind c.args.pointer c.args.between.now own other c.args.mine.now.glance.now
     c.args.theirs.now.glance.now c.min-shared.result c.in_front-first.result
     c.compare_fronts-found.result own_is other_is c.min-shared.ensures
     (omega (arith, c.in_front-first.ensures, c.min.ensures))
