@@ -16,7 +16,7 @@ use Rattle.pls_schedule.specs.ScheduleText.{schedule_lines}
 use Rattle.pls_edits.specs.declared.edit_line.EditLine.{EditLine}
 use Rattle.pls_edits.specs.EditsText.{AreEdits, AreFew, edits_lines, rounds_of}
 use Rattle.pls_watch_part.specs.declared.watch_event.WatchLine.{WatchLine}
-use Rattle.pls_watch_part.specs.WatchText.{total_bits, watch_part_lines}
+use Rattle.pls_watch_part.specs.WatchText.{total_relabel_bits, watch_part_lines}
 use Rattle.pls_rules.specs.declared.rule_set.RuleSet.{RuleSet}
 use Rattle.pls_rules.specs.HeldTrees.{set_of}
 use Rattle.pls_rules.specs.RuleSet.{AreRules, rules_of}
@@ -187,9 +187,9 @@ module _ (parts : Parts) (bytes : List ℕ) (read : Read) (is : IsRead parts byt
     watch_few =
         omega (arith, (few parts bytes (said read) is.is).watch_lines, ap length same_watch)
 
-    pub watch_bits : total_bits list ≤ MAX_BITS
+    pub watch_bits : total_relabel_bits list ≤ MAX_BITS
     watch_bits =
-        omega (arith, (few parts bytes (said read) is.is).bits, ap total_bits same_watch)
+        omega (arith, (few parts bytes (said read) is.is).bits, ap total_relabel_bits same_watch)
 
   module _ (set : RuleSet) (rules : read.rules ≡ Some set) where
     sensible : IsSensible (Some set)

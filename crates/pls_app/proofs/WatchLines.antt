@@ -11,7 +11,7 @@ use Rattle.pls_labels.specs.Seen.{Seen}
 use Rattle.pls_sim.specs.declared.outcome.Outcome.{Outcome}
 use Rattle.pls_report.specs.Look.{look_is_well, look_text}
 use Rattle.pls_closing.specs.laws.ClosedLists.{closed_push}
-use Rattle.pls_watch_part.specs.WatchText.{bits_of, total_bits}
+use Rattle.pls_watch_part.specs.WatchText.{bits_of, total_relabel_bits}
 use Rattle.pls_watch_part.specs.declared.watch_event.WatchEvent.{WatchEvent}
 use Rattle.pls_watch_part.specs.declared.watch_event.WatchEvent.TheVariants.{Arrive, Emit, Relabel, Restart}
 use Rattle.pls_watch_part.specs.declared.watch_event.WatchLine.{WatchLine}
@@ -61,7 +61,7 @@ bits_more events later =
     ∙ sum_by-append (length {A = Bool}) (labels_given events) (labels_given later)
 
 -- the bits that lines give are those of the labels that their events give
-pub total_given : (lines : List WatchLine) → total_bits lines ≡ bits_given (events_of lines)
+pub total_given : (lines : List WatchLine) → total_relabel_bits lines ≡ bits_given (events_of lines)
 total_given [] = refl
 total_given (line ∷ lines) =
     omega (
@@ -81,7 +81,7 @@ total_given (line ∷ lines) =
 
 -- the bits of the labels before a line and those of its label are among those of all lines
 pub given_within : (lines : List WatchLine) (i : ℕ) (d : WatchLine) → i < length lines
-    → bits_given (events_of (take i lines)) + bits_of (get_or lines i d) ≤ total_bits lines
+    → bits_given (events_of (take i lines)) + bits_of (get_or lines i d) ≤ total_relabel_bits lines
 given_within lines i d within =
     omega (
       arith,

@@ -9,9 +9,10 @@ ghost use Rattle.pls_app.specs.inner.Tasks.{DoesWork, IsWorked};
 use crate::answer::{Answer, refuse};
 use crate::command::{Command, RuleTask};
 use crate::ruled::{judge, list_code, splice_by_rules};
+use crate::work::input_of;
 use pls_components::components;
 use pls_configuration::MAX_INPUT;
-use pls_inputs::{Input, read_input};
+use pls_inputs::Input;
 use pls_streams::NoMemory;
 use std::alloc::Global;
 
@@ -19,13 +20,13 @@ use std::alloc::Global;
 pub(crate) fn answer_by_rules(
     alloc: Global,
     task: RuleTask,
-    bytes: &[u8],
+    bytes: Vec<u8>,
 ) -> Result<Answer, NoMemory>
-    requires { length bytes.now ≤ MAX_INPUT }
-    ensures answer { IfOk result (λ answer. Answers (Command.ByRules task) bytes.now answer) }
+    requires { length bytes.items ≤ MAX_INPUT }
+    ensures answer { IfOk result (λ answer. Answers (Command.ByRules task) bytes.items answer) }
     ensures worked { IfOk result (λ answer. IsWorked answer.status) }
 {
-    match read_input(alloc, task.parts(), bytes) {
+    match input_of(alloc, task.parts(), bytes) {
         Ok(input) => do_rule_task(alloc, task, input),
         Err(error) => refuse(alloc, error),
     }

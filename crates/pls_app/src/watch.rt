@@ -3,7 +3,7 @@
 ghost use Rattle.std.specs.Prelude.{◌≡◌, ◌+◌, ◌++◌, ◌<◌, ◌≤◌, ◌^◌, ℕ, List, [], not, true, length, option_map, IfOk, IfSome, None};
 ghost use Rattle.pls_configuration.specs.declared.limits.TheConstants.{MAX_BITS, MAX_LINES};
 ghost use Rattle.pls_sim.specs.declared.outcome.Outcome.{Outcome};
-ghost use Rattle.pls_watch_part.specs.WatchText.{total_bits};
+ghost use Rattle.pls_watch_part.specs.WatchText.{total_relabel_bits};
 ghost use Rattle.pls_watch.specs.Labelled.{bits_given, labels_given};
 ghost use Rattle.pls_inputs.specs.Parts.{Input, code_in};
 ghost use Rattle.pls_app.specs.Looks.{look_after, looks_answer, looks_behind};
@@ -37,7 +37,7 @@ pub(crate) fn watch<C: NumCode>(
 ) -> Result<Answer, NoMemory>
     requires each { length labels.now ≡ length net.now }
     requires few { length lines.now ≤ MAX_LINES }
-    requires bits { total_bits lines.now ≤ MAX_BITS }
+    requires bits { total_relabel_bits lines.now ≤ MAX_BITS }
     requires line { first_line ≤ 2 ^ 63 }
     ensures does { IfOk result (λ answer. (input : Input)
         → IsWatchInput net.now labels.now lines.now first_line input
@@ -62,7 +62,7 @@ pub(crate) fn watch<C: NumCode>(
 // How many lines give a label, and the bits of these labels together.
 fn relabels_in(lines: &[WatchLine]) -> (usize, u64)
     requires few { length lines.now ≤ MAX_LINES }
-    requires bits { total_bits lines.now ≤ MAX_BITS }
+    requires bits { total_relabel_bits lines.now ≤ MAX_BITS }
     ensures count { result.0 ≡ length (labels_given (events_of lines.now)) }
     ensures bits { result.1 ≡ bits_given (events_of lines.now) }
 {

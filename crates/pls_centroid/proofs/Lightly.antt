@@ -18,7 +18,7 @@ use Rattle.pls_facts.proofs.PointedEdges.{pointed_among}
 use Rattle.pls_facts.proofs.PortEdges.{IsAtPort, ports_of_edge}
 use Rattle.pls_facts.proofs.Weights.{port_weighs}
 use Rattle.pls_centroid.specs.Centroid.{is_centroid, next_edges}
-use Rattle.pls_centroid.specs.Levels.{AreLevelsFrom, IsLevelOf, greatest_along}
+use Rattle.pls_centroid.specs.Levels.{AreLevelsFrom, IsCentroidLevelOf, greatest_along}
 use Rattle.pls_centroid.specs.declared.level.CentroidLevel.{CentroidLevel}
 use Rattle.pls_centroid.proofs.Mates.{one_path, path_inside}
 use Rattle.pls_centroid.proofs.Pieces.{left-among, one_centroid, passes_centroid, walk-left}
@@ -117,7 +117,7 @@ module _ (rows : List NodeRow) (net : IsNetwork rows) where
 
     -- where they join a node to its centroid, its greatest is light
     level_light : (edges : List Edge) (u : ℕ) (level : CentroidLevel)
-        → IsLevelOf rows edges u level → AreJoined light u level.centroid
+        → IsCentroidLevelOf rows edges u level → AreJoined light u level.centroid
         → level.greatest ≤ most
     level_light edges u level is (walked, walk) =
         let (path, leads) : (path : List ℕ) × IsPath light u path level.centroid =

@@ -13,7 +13,7 @@ use Rattle.pls_facts.proofs.OneWalk.{IsPath-one}
 use Rattle.pls_facts.proofs.Paths.{AreJoined-among, IsPath-rest, Walk-among, path_of}
 use Rattle.pls_facts.proofs.PortEdges.{IsGraph-network}
 use Rattle.pls_centroid.specs.Centroid.{centroid_of, is_centroid, next_edges}
-use Rattle.pls_centroid.specs.Levels.{AreLevelsFrom, IsLevelOf, greatest_along}
+use Rattle.pls_centroid.specs.Levels.{AreLevelsFrom, IsCentroidLevelOf, greatest_along}
 use Rattle.pls_centroid.specs.declared.level.CentroidLevel.{CentroidLevel}
 use Rattle.pls_centroid.proofs.Pieces.{centroid_known, centroid_passes, left-among, one_centroid, taken-alone}
 
@@ -36,10 +36,10 @@ module _ (rows : List NodeRow) where
   -- each of the levels is one of those edges
   pub level-at : (edges : List Edge) (u : ℕ) (levels : List CentroidLevel)
       → AreLevelsFrom rows edges u levels → (number : ℕ) (level : CentroidLevel)
-      → slice_get levels number ≡ Some level → IsLevelOf rows (edges_at edges number) u level
+      → slice_get levels number ≡ Some level → IsCentroidLevelOf rows (edges_at edges number) u level
   level-at edges u [] are number level at = absurd are
   level-at edges u (first ∷ levels) are zero level at =
-      subst (IsLevelOf rows edges u) (same_Some first level at) are.0
+      subst (IsCentroidLevelOf rows edges u) (same_Some first level at) are.0
   level-at edges u (first ∷ levels) are (suc number) level at = elim are.1 [
     | inl last ↦
         let none : None ≡ Some level =
@@ -49,8 +49,8 @@ module _ (rows : List NodeRow) where
   ]
 
   -- a centroid has no levels behind that on which it is one: it is joined to no other node there
-  stops : (edges : List Edge) (x u : ℕ) (m l : CentroidLevel) → IsLevelOf rows edges x m
-      → IsLevelOf rows edges u l → m.centroid ≡ x → l.centroid ≢ u
+  stops : (edges : List Edge) (x u : ℕ) (m l : CentroidLevel) → IsCentroidLevelOf rows edges x m
+      → IsCentroidLevelOf rows edges u l → m.centroid ≡ x → l.centroid ≢ u
       → AreJoined (next_edges nodes edges) x u → ⊥
   stops edges x u m l mine theirs own apart joined =
       let passes : is_centroid edges nodes x ≡ true =
@@ -88,7 +88,7 @@ module _ (rows : List NodeRow) where
     pub next : ℕ
     pub adjacent : Adjacent edges u next
     pub light : edge_weight rows u next ≤ level.greatest
-    pub leads : (other : CentroidLevel) → IsLevelOf rows edges next other
+    pub leads : (other : CentroidLevel) → IsCentroidLevelOf rows edges next other
         → (other.centroid ≡ level.centroid) × (level.hops ≡ other.hops + 1)
         × (other.greatest ≤ level.greatest)
 
@@ -117,7 +117,7 @@ module _ (rows : List NodeRow) where
           subst (λ (path : List ℕ). IsPath edges u path v) same leads
 
       -- a node is its centroid, without a hop, or the next node leads on
-      pub step_on : (u : ℕ) (level : CentroidLevel) → IsLevelOf rows edges u level
+      pub step_on : (u : ℕ) (level : CentroidLevel) → IsCentroidLevelOf rows edges u level
           → ((level.hops ≡ 0) × (level.centroid ≡ u)) ⊎ IsStepOn edges u level
       step_on u level is = by is.path is.hops is.greatest is.leads
         where

@@ -7,7 +7,7 @@ use Rattle.pls_configuration.specs.Walk.{Edge}
 use Rattle.pls_facts.specs.Path.{IsPath}
 use Rattle.pls_facts.specs.SpanningTree.{IsTree, pointed_edges}
 use Rattle.pls_centroid.specs.Centroid.{next_edges}
-use Rattle.pls_centroid.specs.Levels.{AreLevelsFrom, IsLevelOf, greatest_along}
+use Rattle.pls_centroid.specs.Levels.{AreLevelsFrom, IsCentroidLevelOf, greatest_along}
 use Rattle.pls_centroid.specs.declared.level.CentroidLevel.{CentroidLevel}
 use Rattle.pls_centroid.proofs.Mates.{one_path}
 
@@ -27,7 +27,7 @@ same_level one other = by one.centroid other.centroid one.hops other.hops one.gr
 module _ (rows : List NodeRow) (net : IsNetwork rows) (is_tree : IsTree rows) where
   -- there is one level of these edges
   pub one_level : (edges : List Edge) (u : ℕ) (one other : CentroidLevel)
-      → IsLevelOf rows edges u one → IsLevelOf rows edges u other → one ≡ other
+      → IsCentroidLevelOf rows edges u one → IsCentroidLevelOf rows edges u other → one ≡ other
   one_level edges u one other mine theirs =
       let same : one.centroid ≡ other.centroid = same_Some one.centroid other.centroid
       (sym mine.centroid ∙ theirs.centroid) in

@@ -18,7 +18,7 @@ greatest_along rows u (next ∷ nodes) = max (edge_weight rows u next)
 
 -- what a node has on a level whose pieces these edges hold together: the centroid of its piece, and
 -- how many edges its path in the tree to the centroid has, and the greatest weight of these
-pub record IsLevelOf (rows : List NodeRow) (edges : List Edge) (u : ℕ) (level : CentroidLevel)
+pub record IsCentroidLevelOf (rows : List NodeRow) (edges : List Edge) (u : ℕ) (level : CentroidLevel)
     : Type 0 where
   pub centroid : centroid_of edges (ids_of rows) u ≡ Some level.centroid
   pub path : List ℕ
@@ -30,7 +30,7 @@ pub record IsLevelOf (rows : List NodeRow) (edges : List Edge) (u : ℕ) (level 
 -- is that on which the node is the centroid
 abbrev pub AreLevelsFrom : List NodeRow → List Edge → ℕ → List CentroidLevel → Type 0
 AreLevelsFrom rows edges u [] = ⊥
-AreLevelsFrom rows edges u (level ∷ levels) = IsLevelOf rows edges u level
+AreLevelsFrom rows edges u (level ∷ levels) = IsCentroidLevelOf rows edges u level
     × (((level.centroid ≡ u) × (levels ≡ []))
     ⊎ ((level.centroid ≢ u) × AreLevelsFrom rows (next_edges (ids_of rows) edges) u levels))
 

@@ -27,20 +27,20 @@ place_for rows id = length (filter (λ row. nat_lt row.id id) rows)
 
 -- a list with one item for each node goes with the nodes: a node that joins gets this item, and a
 -- node that leaves takes its own along
-abbrev pub carried : {X : Type 0} → Edit → List NodeRow → X → List X → List X
-carried (State id state) rows new items = items
-carried (Weight a b weight) rows new items = items
-carried (Link a b weight) rows new items = items
-carried (Unlink a b) rows new items = items
-carried (Join id mark num) rows new items = insert items (place_for rows id) new
-carried (Leave id) rows new items = remove items (place_in rows id)
-carried (Label id bits) rows new items = items
+abbrev pub carried_over : {X : Type 0} → Edit → List NodeRow → X → List X → List X
+carried_over (State id state) rows new items = items
+carried_over (Weight a b weight) rows new items = items
+carried_over (Link a b weight) rows new items = items
+carried_over (Unlink a b) rows new items = items
+carried_over (Join id mark num) rows new items = insert items (place_for rows id) new
+carried_over (Leave id) rows new items = remove items (place_in rows id)
+carried_over (Label id bits) rows new items = items
 
 -- the labels after the edit: they go with the nodes, a new node has an empty one, and a node whose
 -- label the edit gives has this one
 abbrev pub relabelled : Edit → List NodeRow → List (List Bool) → List (List Bool)
 relabelled (Label id bits) rows labels = slice_set labels (place_in rows id) bits
-relabelled edit rows labels = carried edit rows [] labels
+relabelled edit rows labels = carried_over edit rows [] labels
 
 -- the nodes that the edit touches: the node, both ends of the edge, or the node and its
 -- neighbours; a node that leaves touches nobody

@@ -37,11 +37,11 @@ test_of (And first second) rows = test_of first rows && test_of second rows
 test_of (Or first second) rows = test_of first rows || test_of second rows
 
 -- how many names stand in an expression
-abbrev pub names_of : Expression → ℕ
-names_of (Map property) = names_of property
-names_of (And first second) = names_of first + names_of second
-names_of (Or first second) = names_of first + names_of second
-names_of name = 1
+abbrev pub count_of_names : Expression → ℕ
+count_of_names (Map property) = count_of_names property
+count_of_names (And first second) = count_of_names first + count_of_names second
+count_of_names (Or first second) = count_of_names first + count_of_names second
+count_of_names name = 1
 
 -- how deep an expression is: 1 for a name
 abbrev pub depth_of : Expression → ℕ
@@ -65,6 +65,6 @@ CanBeWritten inside (Or first second) = CanBeWritten inside first × CanBeWritte
 
 -- an expression of schemes that can be written, of at most 8 names and at most 8 deep
 pub record IsSmall (scheme : Expression) : Type 0 where
-  pub few : names_of scheme ≤ 8
+  pub few : count_of_names scheme ≤ 8
   pub shallow : depth_of scheme ≤ 8
   pub writable : CanBeWritten false scheme

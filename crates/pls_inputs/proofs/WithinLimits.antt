@@ -18,7 +18,7 @@ use Rattle.pls_schedule.specs.ScheduleText.{WrittenSchedule}
 use Rattle.pls_edits.specs.declared.edit_line.EditLine.{EditLine}
 use Rattle.pls_edits.specs.EditsText.{WrittenEdits, rounds_of}
 use Rattle.pls_watch_part.specs.declared.watch_event.WatchLine.{WatchLine}
-use Rattle.pls_watch_part.specs.WatchText.{WrittenWatch, looks_of, total_bits as relabelled_bits}
+use Rattle.pls_watch_part.specs.WatchText.{WrittenWatch, looks_of, total_relabel_bits as relabelled_bits}
 use Rattle.pls_inputs.specs.declared.parts.Parts.{Parts}
 use Rattle.pls_inputs.specs.declared.texts.Texts.{Texts}
 use Rattle.pls_inputs.specs.Parts.{Input, edits_in, events_in, named_in, rows_in, watch_in}

@@ -15,7 +15,7 @@ use Rattle.pls_labelfile.specs.Misfit.{misfit}
 use Rattle.pls_labelfile.specs.Refusal.{misfit_error}
 use Rattle.pls_schedule.specs.ScheduleText.{schedule_lines}
 use Rattle.pls_edits.specs.EditsText.{edits_lines, rounds_of}
-use Rattle.pls_watch_part.specs.WatchText.{looks_of, watch_part_lines, total_bits as relabelled_bits}
+use Rattle.pls_watch_part.specs.WatchText.{looks_of, total_relabel_bits as relabelled_bits, watch_part_lines}
 use Rattle.pls_rules_part.specs.RulesText.{rules_refusal}
 use Rattle.pls_inputs.specs.declared.parts.Parts.{Parts}
 use Rattle.pls_inputs.specs.Parts.{AreLines, Input, IsInputText, edits_in, events_in, lines_of, named_in, rows_in, watch_in}

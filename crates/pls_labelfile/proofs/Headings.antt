@@ -15,7 +15,7 @@ use Rattle.pls_lines.specs.ListPart.{AreItemLines}
 use Rattle.pls_lines.specs.laws.Frames.{fault_in_heading}
 use Rattle.pls_lines.specs.laws.LineWords.{same_head, stands_next}
 use Rattle.pls_lines.specs.laws.ListLaws.{headings_plain, items_are_body}
-use Rattle.pls_labelfile.specs.LabelsText.{FitsLabel, IsLabelsHeading, IsLabelsPart, MayHead, NamedLabel, label_line, labelling_of, labels_heading, labels_lines}
+use Rattle.pls_labelfile.specs.LabelsText.{FitsLabel, IsLabelsHeading, IsLabelsPart, MayHead, NamedLabel, label_line, labelling_of, labels_heading_text, labels_lines}
 use Rattle.pls_labelfile.specs.LabelsScan.{PassesPart, WrittenLabels}
 use Rattle.pls_labelfile.specs.laws.LabelLaws.{heading_plain, label_lines, labels_headings, labels_list, same_heading}
 use Rattle.pls_labelfile.proofs.LabelsPart.{either_may, is_labels_part}
@@ -25,10 +25,10 @@ pub no_heading : (text : List ℕ) → ((rest : List ℕ) → text ≢ codes "la
     → ((rest : List ℕ) → text ≢ codes "labels delta" ++ 10 ∷ rest)
     → Stands (IsLabelsHeading true) text → ⊥
 no_heading text no_gamma no_delta next =
-    let stands = stands_next (MayHead true) labels_heading text next in
+    let stands = stands_next (MayHead true) labels_heading_text text next in
     by stands.value stands.rest stands.is
   where
-    by : (code : CodeName) (rest : List ℕ) → text ≡ labels_heading code ++ 10 ∷ rest → ⊥
+    by : (code : CodeName) (rest : List ℕ) → text ≡ labels_heading_text code ++ 10 ∷ rest → ⊥
     by Gamma rest is = no_gamma rest is
     by Delta rest is = no_delta rest is
 
@@ -43,16 +43,16 @@ delta_fault true old new none passes = absurd (cc)
 delta_fault false old new none passes =
     fault_in_heading (IsLabelsHeading false) (AreItemLines label_line (All FitsLabel))
     (codes "labels") [] old
-    (headings_plain (MayHead false) labels_heading FitsLabel label_line (All FitsLabel)
+    (headings_plain (MayHead false) labels_heading_text FitsLabel label_line (All FitsLabel)
     (labels_headings false) label_lines (labels_list false))
-    (items_are_body (MayHead false) labels_heading FitsLabel label_line (All FitsLabel)
+    (items_are_body (MayHead false) labels_heading_text FitsLabel label_line (All FitsLabel)
     (labels_headings false) label_lines (labels_list false))
     (record { value = Gamma; fits = tt; is = refl })
     (record { items = []; are = All-nil FitsLabel; is = refl }) other
   where
     other : Stands (IsLabelsHeading false) old.rest → ⊥
     other next =
-        let stands = stands_next (MayHead false) labels_heading old.rest next in
+        let stands = stands_next (MayHead false) labels_heading_text old.rest next in
         subst (MayHead false)
         (sym (same_heading Delta stands.value new.rest stands.rest
         (sym passes.stands ∙ stands.is))) stands.fits
@@ -95,7 +95,7 @@ gamma_part lines is other = record {
   is = is.is;
 }
   where
-    by : (code : CodeName) → is.heading ≡ labels_heading code → IsLabelsHeading false is.heading
+    by : (code : CodeName) → is.heading ≡ labels_heading_text code → IsLabelsHeading false is.heading
     by Gamma e = record { value = Gamma; fits = tt; is = e }
     by Delta e = absurd (other e)
 

@@ -7,7 +7,7 @@ use Rattle.pls_lines.specs.laws.ListLaws.{is_list_part}
 use Rattle.pls_lines.proofs.ListRead.{one_list}
 use Rattle.pls_bits.specs.declared.code_name.CodeName.{CodeName}
 use Rattle.pls_bits.specs.declared.code_name.CodeName.TheVariants.{Delta, Gamma}
-use Rattle.pls_labelfile.specs.LabelsText.{AreLabels, FitsLabel, IsLabelsPart, Labelling, MayHead, NamedLabel, label_line, labelling_of, labels_heading, labels_lines, labels_text}
+use Rattle.pls_labelfile.specs.LabelsText.{AreLabels, FitsLabel, IsLabelsPart, Labelling, MayHead, NamedLabel, label_line, labelling_of, labels_heading_text, labels_lines, labels_text}
 use Rattle.pls_labelfile.specs.LabelsScan.{TellsLabels}
 use Rattle.pls_labelfile.specs.laws.LabelLaws.{label_lines, labels_headings, labels_list, labels_some_part}
 
@@ -19,7 +19,7 @@ labels_part delta = (labels_some_part delta).part
 pub is_labels_part : (delta : Bool) (said : Labelling) → AreLabels delta said
     → IsLabelsPart delta (labels_lines said)
 is_labels_part delta said are =
-    is_list_part (MayHead delta) labels_heading FitsLabel label_line (All FitsLabel)
+    is_list_part (MayHead delta) labels_heading_text FitsLabel label_line (All FitsLabel)
     (labels_headings delta) label_lines (labels_list delta) said.code said.labels are.code are.fits
 
 -- where the delta code may stand, each code may
@@ -32,7 +32,7 @@ pub one_labels : (a b : Labelling) (x y : List ℕ) → All FitsLabel a.labels �
     → labels_text a ++ x ≡ labels_text b ++ y → (a ≡ b) × (x ≡ y)
 one_labels a b x y p q e =
     let one =
-    one_list (MayHead true) labels_heading FitsLabel label_line (All FitsLabel)
+    one_list (MayHead true) labels_heading_text FitsLabel label_line (All FitsLabel)
     (labels_headings true) label_lines (labels_list true) a.code b.code a.labels b.labels x y
     (either_may a.code) (either_may b.code) p q e in
     let code = one.heading in

@@ -11,14 +11,14 @@ use Rattle.pls_lines.specs.Text.{text_of}
 use Rattle.pls_lines.specs.laws.Fronts.{text_of-append}
 use Rattle.pls_bits.specs.Hex.{hex_digits}
 use Rattle.pls_bits.specs.declared.code_name.CodeName.{CodeName}
-use Rattle.pls_labelfile.specs.LabelsText.{NamedLabel, hex_word, label_line, label_of_words, labelling_of, labels_heading, labels_text, named}
+use Rattle.pls_labelfile.specs.LabelsText.{NamedLabel, hex_word, label_line, label_of_words, labelling_of, labels_heading_text, labels_text, named}
 use Rattle.pls_labelfile.specs.laws.LabelLaws.{words_behind}
 use Rattle.pls_labelfile.proofs.Named.{named-none, named-split, named-take}
 
 -- the lines of a labels part up to the labels of the first nodes
 abbrev pub lines_so_far : CodeName → List NodeRow → List (List Bool) → ℕ → List (List ℕ)
 lines_so_far code rows labels count =
-    labels_heading code ∷ map label_line (named (take count (ids_of rows)) (take count labels))
+    labels_heading_text code ∷ map label_line (named (take count (ids_of rows)) (take count labels))
 
 -- the lines of a labels part behind those
 abbrev pub lines_behind : List NodeRow → List (List Bool) → ℕ → List (List ℕ)
@@ -59,7 +59,7 @@ one_line_more code rows labels place id bits id_at bits_at =
     let front = named (take place (ids_of rows)) (take place labels) in
     let lines : lines_so_far code rows labels place ++ label_line label ∷ []
     ≡ lines_so_far code rows labels (place + 1) =
-    ap (λ (lines : List (List ℕ)). labels_heading code ∷ lines)
+    ap (λ (lines : List (List ℕ)). labels_heading_text code ∷ lines)
     (sym (map_push label_line front label)
     ∙ ap (map label_line) (sym (named-take (ids_of rows) labels place id bits ids_at bits_at)
     ∙ ap (λ (n : ℕ). named (take n (ids_of rows)) (take n labels)) (sym (add-one place)))) in
@@ -74,7 +74,7 @@ whole_text code rows labels count =
     let front = named (take count ids) (take count labels) in
     let back = named (drop count ids) (drop count labels) in
     sym (text_of-append (lines_so_far code rows labels count) (lines_behind rows labels count))
-    ∙ ap (λ (lines : List (List ℕ)). text_of (labels_heading code ∷ lines))
+    ∙ ap (λ (lines : List (List ℕ)). text_of (labels_heading_text code ∷ lines))
     (sym (append_assoc (map label_line front) (map label_line back) (codes "end" ∷ []))
     ∙ ap (λ (lines : List (List ℕ)). lines ++ codes "end" ∷ [])
     (sym (map-append label_line front back)

@@ -1,7 +1,7 @@
 //! The heading of a labels part.
 
 ghost use Rattle.std.specs.Prelude.{◌≡◌, ◌++◌, [], ◌∷◌};
-ghost use Rattle.pls_labelfile.specs.LabelsText.{labels_heading};
+ghost use Rattle.pls_labelfile.specs.LabelsText.{labels_heading_text};
 
 use pls_bits::CodeName;
 use pls_lines::{LineKind, after_line};
@@ -24,10 +24,10 @@ impl Model for LabelsHeading {
 
 impl<'a> LineKind<'a> for LabelsHeading {
     ghost use Rattle.std.specs.Prelude.{true};
-    ghost use Rattle.pls_labelfile.specs.LabelsText.{MayHead, labels_heading};
+    ghost use Rattle.pls_labelfile.specs.LabelsText.{MayHead, labels_heading_text};
     ghost use Rattle.pls_labelfile.specs.laws.LabelLaws.{labels_headings};
 
-    ghost written = { labels_heading };
+    ghost written = { labels_heading_text };
 
     ghost Fits = { MayHead true };
 
@@ -54,7 +54,7 @@ impl<'a> LineKind<'a> for LabelsHeading {
 
 // Includes the line feed.
 pub(crate) fn heading_line(code: CodeName) -> &'static [u8]
-    ensures { result.now ≡ labels_heading code ++ 10 ∷ [] }
+    ensures { result.now ≡ labels_heading_text code ++ 10 ∷ [] }
 {
     match code {
         CodeName::Gamma => b"labels\n",

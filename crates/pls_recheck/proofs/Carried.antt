@@ -13,7 +13,7 @@ use Rattle.pls_graph_edits.specs.inner.Gaps.{place_with, place_without}
 use Rattle.pls_graph.proofs.Finds.{fails_where_none, from_option_map}
 use Rattle.pls_graph.proofs.Placed.{WayBack, ids_differ, place_of_row, row_of_place, way_back}
 use Rattle.pls_labels.specs.Seen.{Seen, label_of, seen, seen_port}
-use Rattle.pls_recheck.specs.Watch.{is_among}
+use Rattle.pls_recheck.specs.Watch.{is_number_among}
 use Rattle.pls_recheck.specs.inner.Flags.{AreAround, AreCurrent, marked}
 use Rattle.pls_recheck.proofs.Marked.{among_marked, flags_filter}
 use Rattle.pls_recheck.proofs.Relabelled.{map_at}
@@ -55,22 +55,22 @@ module _ (passes : ℕ → Bool) (before after : Kept) (carries : Carries passes
       (as_many : length after.flags ≡ length after.rows) where
     -- the nodes that are touched then
     pub carried_touched : marked (ids_of after.rows) after.flags
-        ≡ filter (λ node. is_among (marked (ids_of before.rows) before.flags) node || passes node)
+        ≡ filter (λ node. is_number_among (marked (ids_of before.rows) before.flags) node || passes node)
         (ids_of after.rows)
     carried_touched = flags_filter
-        (λ node. is_among (marked (ids_of before.rows) before.flags) node || passes node)
+        (λ node. is_number_among (marked (ids_of before.rows) before.flags) node || passes node)
         (ids_of after.rows) after.flags
         (let ids = length-map after.rows (λ (row : NodeRow). row.id) in omega (arith, as_many, ids))
         flag_at
       where
         flag_at : (k id : ℕ) → slice_get (ids_of after.rows) k ≡ Some id
             → slice_get after.flags k
-            ≡ Some (is_among (marked (ids_of before.rows) before.flags) id || passes id)
+            ≡ Some (is_number_among (marked (ids_of before.rows) before.flags) id || passes id)
         flag_at k id at =
             let row : (row : NodeRow) × (slice_get after.rows k ≡ Some row) × (row.id ≡ id) =
             from_option_map (λ (row : NodeRow). row.id) (slice_get after.rows k) id
             (sym (slice_get-map (λ (row : NodeRow). row.id) after.rows k) ∙ at) in
-            let among : Bool = is_among (marked (ids_of before.rows) before.flags) id in
+            let among : Bool = is_number_among (marked (ids_of before.rows) before.flags) id in
             let test : passes id ≡ passes row.0.id = ap passes (sym row.2) in
             elim (carries k row.0 row.1) [
               | inl fresh ↦ fresh.touched ∙ ap (λ (b : Bool). Some b)

@@ -12,7 +12,7 @@ use Rattle.pls_edits.specs.declared.edit.Edit.TheVariants.{Join, Leave}
 use Rattle.pls_edits.specs.Edited.{place_for}
 use Rattle.pls_labels.specs.Seen.{Seen}
 use Rattle.pls_recheck.specs.After.{watch_after}
-use Rattle.pls_recheck.specs.Watch.{IsCurrent, Snapshot, is_among}
+use Rattle.pls_recheck.specs.Watch.{IsCurrent, Snapshot, is_number_among}
 use Rattle.pls_recheck.specs.inner.Flags.{MatchRows, marked}
 use Rattle.pls_recheck.proofs.Carried.{Carries, Kept, after_join, after_leave, carried_around, carried_current, carried_touched, join_carries, leave_carries}
 use Rattle.pls_recheck.proofs.Cleared.{current_by_flags, current_by_ids}
@@ -44,7 +44,7 @@ module _ (before : Kept) (net : IsNetwork before.rows) (kept : IsKept before) (n
         kept.a_flag current))
 
     touched_are : marked (ids_of now.rows) now.flags
-        ≡ filter (λ node. is_among (marked (ids_of before.rows) before.flags) node || passes node)
+        ≡ filter (λ node. is_number_among (marked (ids_of before.rows) before.flags) node || passes node)
         (ids_of now.rows)
     touched_are = carried_touched passes before now carries net kept.a_flag many
 

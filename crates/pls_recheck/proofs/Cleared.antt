@@ -8,7 +8,7 @@ use Rattle.pls_configuration.specs.declared.verdict.Verdict.{Verdict}
 use Rattle.pls_configuration.specs.Configuration.{IsNetwork, ids_of}
 use Rattle.pls_labels.specs.Seen.{Seen, views}
 use Rattle.pls_graph.proofs.Placed.{ids_differ}
-use Rattle.pls_recheck.specs.Watch.{is_among}
+use Rattle.pls_recheck.specs.Watch.{is_number_among}
 use Rattle.pls_recheck.specs.inner.Flags.{AreCurrent, cleared, marked, set_among}
 use Rattle.pls_recheck.proofs.Marked.{among_marked, id_at_view}
 
@@ -167,7 +167,7 @@ module _ (judge : Seen → Verdict) (rows : List NodeRow) (labels : List (List B
   module _ (net : IsNetwork rows) (many : length flags ≡ length rows) where
     -- touched by identities, and by flags
     pub current_by_flags : ((k : ℕ) (view : Seen) → slice_get (views rows labels) k ≡ Some view
-        → is_among (marked (ids_of rows) flags) view.id ≡ false
+        → is_number_among (marked (ids_of rows) flags) view.id ≡ false
         → slice_get kept k ≡ Some (view.id, judge view)) → AreCurrent judge rows labels flags kept
     current_by_flags current k view at unset =
         current k view at (among_marked (ids_of rows) flags k view.id false (ids_differ rows net)
@@ -175,7 +175,7 @@ module _ (judge : Seen → Verdict) (rows : List NodeRow) (labels : List (List B
 
     pub current_by_ids : AreCurrent judge rows labels flags kept
         → (k : ℕ) (view : Seen) → slice_get (views rows labels) k ≡ Some view
-        → is_among (marked (ids_of rows) flags) view.id ≡ false
+        → is_number_among (marked (ids_of rows) flags) view.id ≡ false
         → slice_get kept k ≡ Some (view.id, judge view)
     current_by_ids current k view at untouched =
         let id_at = id_at_view rows labels k view at in

@@ -5,7 +5,7 @@ use Rattle.std.proofs.lemmas.Option.{same_Some}
 use Rattle.pls_configuration.specs.declared.verdict.Verdict.{Verdict}
 use Rattle.pls_labels.specs.Seen.{Seen, label_of, seen, views}
 use Rattle.pls_scheme.specs.Judging.{round_by}
-use Rattle.pls_recheck.specs.Watch.{IsCurrent, Snapshot, is_among}
+use Rattle.pls_recheck.specs.Watch.{IsCurrent, Snapshot, is_number_among}
 
 list_by_places : {X Y : Type 0} (f : X → Y) (xs : List X) (ys : List Y) → length ys ≡ length xs
     → ((k : ℕ) (x : X) → slice_get xs k ≡ Some x → slice_get ys k ≡ Some (f x)) → ys ≡ map f xs
@@ -24,7 +24,7 @@ pub full_round : (judge : Seen → Verdict) (now : Snapshot) → now.touched ≡
 full_round judge now none many current =
     list_by_places (λ view. (view.id, judge view)) (views now.network now.labels) now.kept
     (many ∙ sym (length-map now.network (seen (label_of now.network now.labels))))
-    (λ k view at. current k view at (ap (λ (all : List ℕ). is_among all view.id) none))
+    (λ k view at. current k view at (ap (λ (all : List ℕ). is_number_among all view.id) none))
 
 pub no_items : (xs : List ℕ) → length xs ≤ 0 → xs ≡ []
 no_items [] none = refl

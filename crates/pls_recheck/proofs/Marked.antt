@@ -8,7 +8,7 @@ use Rattle.pls_configuration.specs.Configuration.{IsNetwork, has_repeat, ids_of}
 use Rattle.pls_graph.proofs.Finds.{eqb_comm, fails_at, from_option_map}
 use Rattle.pls_graph.proofs.Placed.{ids_differ}
 use Rattle.pls_labels.specs.Seen.{Seen, label_of, seen, views}
-use Rattle.pls_recheck.specs.Watch.{is_among}
+use Rattle.pls_recheck.specs.Watch.{is_number_among}
 use Rattle.pls_recheck.specs.inner.Flags.{MarksMore, marked}
 
 pub marked_all : (ids : List ℕ) → marked ids (replicate (length ids) true) ≡ ids
@@ -16,13 +16,13 @@ marked_all [] = refl
 marked_all (id ∷ ids) = ap (λ (rest : List ℕ). id ∷ rest) (marked_all ids)
 
 -- what stands on a list is among its numbers
-pub among_itself : (ids : List ℕ) (k id : ℕ) → slice_get ids k ≡ Some id → is_among ids id ≡ true
+pub among_itself : (ids : List ℕ) (k id : ℕ) → slice_get ids k ≡ Some id → is_number_among ids id ≡ true
 among_itself [] k id at = absurd (cc)
 among_itself (first ∷ ids) zero id at =
     let same : first ≡ id = same_Some first id at in rw (eq-eqb id first (sym same)) refl
 among_itself (first ∷ ids) (suc k) id at = by (id == first) (among_itself ids k id at)
   where
-    by : (b : Bool) → is_among ids id ≡ true → b || is_among ids id ≡ true
+    by : (b : Bool) → is_number_among ids id ≡ true → b || is_number_among ids id ≡ true
     by true rest = refl
     by false rest = rest
 
@@ -49,16 +49,16 @@ flags_filter test (id ∷ ids) (flag ∷ flags) many say =
     by false rest = rest
 
 -- what is not on the list is not among the marked
-none_marked : (id : ℕ) (ids : List ℕ) (flags : List Bool) → is_among ids id ≡ false
-    → is_among (marked ids flags) id ≡ false
+none_marked : (id : ℕ) (ids : List ℕ) (flags : List Bool) → is_number_among ids id ≡ false
+    → is_number_among (marked ids flags) id ≡ false
 none_marked id [] flags none = refl
 none_marked id (first ∷ ids) [] none = refl
 none_marked id (first ∷ ids) (flag ∷ flags) none =
     by flag (id == first) refl none (none_marked id ids flags)
   where
-    by : (flag b : Bool) → (id == first) ≡ b → b || is_among ids id ≡ false
-        → (is_among ids id ≡ false → is_among (marked ids flags) id ≡ false)
-        → is_among (marked (first ∷ ids) (flag ∷ flags)) id ≡ false
+    by : (flag b : Bool) → (id == first) ≡ b → b || is_number_among ids id ≡ false
+        → (is_number_among ids id ≡ false → is_number_among (marked ids flags) id ≡ false)
+        → is_number_among (marked (first ∷ ids) (flag ∷ flags)) id ≡ false
     by flag true e none rest = absurd (cc)
     by true false e none rest = rw e (rest none)
     by false false e none rest = rest none
@@ -66,27 +66,27 @@ none_marked id (first ∷ ids) (flag ∷ flags) none =
 -- a node is marked where its flag is set
 pub among_marked : (ids : List ℕ) (flags : List Bool) (k id : ℕ) (flag : Bool)
     → has_repeat ids ≡ false → slice_get ids k ≡ Some id → slice_get flags k ≡ Some flag
-    → is_among (marked ids flags) id ≡ flag
+    → is_number_among (marked ids flags) id ≡ flag
 among_marked [] flags k id flag apart at has = absurd (cc)
 among_marked (first ∷ ids) [] k id flag apart at has = absurd (cc)
 among_marked (first ∷ ids) (mark ∷ flags) k id flag apart at has =
-    split (is_among ids first) refl apart k at has (λ k apart at has. among_marked ids flags k id flag apart at has)
+    split (is_number_among ids first) refl apart k at has (λ k apart at has. among_marked ids flags k id flag apart at has)
   where
-    here : (mark : Bool) → is_among ids first ≡ false
-        → is_among (marked (first ∷ ids) (mark ∷ flags)) first ≡ mark
+    here : (mark : Bool) → is_number_among ids first ≡ false
+        → is_number_among (marked (first ∷ ids) (mark ∷ flags)) first ≡ mark
     here true new = rw (eq-eqb first first refl) refl
     here false new = none_marked first ids flags new
 
-    later : (mark : Bool) → (id == first) ≡ false → is_among (marked ids flags) id ≡ flag
-        → is_among (marked (first ∷ ids) (mark ∷ flags)) id ≡ flag
+    later : (mark : Bool) → (id == first) ≡ false → is_number_among (marked ids flags) id ≡ flag
+        → is_number_among (marked (first ∷ ids) (mark ∷ flags)) id ≡ flag
     later true other rest = rw other rest
     later false other rest = rest
 
-    split : (b : Bool) → is_among ids first ≡ b → b || has_repeat ids ≡ false
+    split : (b : Bool) → is_number_among ids first ≡ b → b || has_repeat ids ≡ false
         → (k : ℕ) → slice_get (first ∷ ids) k ≡ Some id → slice_get (mark ∷ flags) k ≡ Some flag
         → ((k : ℕ) → has_repeat ids ≡ false → slice_get ids k ≡ Some id
-        → slice_get flags k ≡ Some flag → is_among (marked ids flags) id ≡ flag)
-        → is_among (marked (first ∷ ids) (mark ∷ flags)) id ≡ flag
+        → slice_get flags k ≡ Some flag → is_number_among (marked ids flags) id ≡ flag)
+        → is_number_among (marked (first ∷ ids) (mark ∷ flags)) id ≡ flag
     split true e apart k at has rest = absurd (cc)
     split false new apart zero at has rest =
         let same : first ≡ id = same_Some first id at in
@@ -101,14 +101,14 @@ module _ (rows : List NodeRow) (net : IsNetwork rows) (old new : List Bool)
     (more : MarksMore passes rows old new) where
   -- the marked nodes after some were touched
   pub marked_more : marked (ids_of rows) new
-      ≡ filter (λ id. is_among (marked (ids_of rows) old) id || passes id) (ids_of rows)
-  marked_more = flags_filter (λ id. is_among (marked (ids_of rows) old) id || passes id)
+      ≡ filter (λ id. is_number_among (marked (ids_of rows) old) id || passes id) (ids_of rows)
+  marked_more = flags_filter (λ id. is_number_among (marked (ids_of rows) old) id || passes id)
       (ids_of rows) new
       (let ids = length-map rows (λ (row : NodeRow). row.id) in omega (arith, more.as_many, many))
       (λ k id at. flag_at k id at)
     where
       flag_at : (k id : ℕ) → slice_get (ids_of rows) k ≡ Some id → slice_get new k
-          ≡ Some (is_among (marked (ids_of rows) old) id || passes id)
+          ≡ Some (is_number_among (marked (ids_of rows) old) id || passes id)
       flag_at k id at =
           let row : (row : NodeRow) × (slice_get rows k ≡ Some row) × (row.id ≡ id) =
           from_option_map (λ (row : NodeRow). row.id) (slice_get rows k) id
@@ -119,7 +119,7 @@ module _ (rows : List NodeRow) (net : IsNetwork rows) (old new : List Bool)
           more.each k row.0 flag row.1 has
           ∙ ap (λ (b : Bool). Some (b || passes row.0.id))
           (sym (among_marked (ids_of rows) old k id flag (ids_differ rows net) at has))
-          ∙ ap (λ (id' : ℕ). Some (is_among (marked (ids_of rows) old) id || passes id')) row.2
+          ∙ ap (λ (id' : ℕ). Some (is_number_among (marked (ids_of rows) old) id || passes id')) row.2
 
 pub marked_all_rows : (rows : List NodeRow) (flags : List Bool)
     → flags ≡ replicate (length rows) true → marked (ids_of rows) flags ≡ ids_of rows

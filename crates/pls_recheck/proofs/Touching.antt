@@ -11,10 +11,10 @@ use Rattle.pls_configuration.specs.Configuration.{IsNetwork, ids_of}
 use Rattle.pls_graph.proofs.Finds.{fails_where_no_position}
 use Rattle.pls_graph.proofs.Placed.{place_of_row}
 use Rattle.pls_labels.specs.Seen.{Seen}
-use Rattle.pls_edits.specs.Edited.{carried, edited, relabelled, touches}
+use Rattle.pls_edits.specs.Edited.{carried_over, edited, relabelled, touches}
 use Rattle.pls_recheck.specs.After.{watch_after, touched_after}
 use Rattle.pls_edits.specs.declared.edit.Edit.{Edit}
-use Rattle.pls_recheck.specs.Watch.{IsCurrent, Snapshot, is_among}
+use Rattle.pls_recheck.specs.Watch.{IsCurrent, Snapshot, is_number_among}
 use Rattle.pls_recheck.specs.inner.Flags.{MarksMore, marked}
 use Rattle.pls_recheck.proofs.Cleared.{current_by_flags, current_by_ids}
 use Rattle.pls_recheck.proofs.Marked.{marked_more}
@@ -94,9 +94,9 @@ module _ (rows after : List NodeRow) (was : IsNetwork rows) (valid : IsNetwork a
     (many : length old ≡ length rows) (as_many : length old ≡ length after) (passes : ℕ → Bool)
     (more : MarksMore passes after old new) (kept : List (ℕ × Verdict)) where
   pub touched_now : marked (ids_of after) new
-      ≡ filter (λ node. is_among (marked (ids_of rows) old) node || passes node) (ids_of after)
+      ≡ filter (λ node. is_number_among (marked (ids_of rows) old) node || passes node) (ids_of after)
   touched_now = marked_more after valid old new as_many passes more
-      ∙ ap (λ (all : List ℕ). filter (λ node. is_among (marked all old) node || passes node)
+      ∙ ap (λ (all : List ℕ). filter (λ node. is_number_among (marked all old) node || passes node)
       (ids_of after)) ids
 
   pub current_now : SeeAlike passes rows after labels then → (judge : Seen → Verdict)
@@ -120,10 +120,10 @@ module _ (rows after : List NodeRow) (was : IsNetwork rows) (valid : IsNetwork a
 -- what was watched is the one after the edit, part by part
 pub snapshot_after : (edit : Edit) (before : Snapshot) (network : List NodeRow)
     (labels : List (List Bool)) (touched : List ℕ)
-    → carried edit before.network (0, Accept) before.kept ≡ before.kept
+    → carried_over edit before.network (0, Accept) before.kept ≡ before.kept
     → network ≡ edited edit before.network
     → labels ≡ relabelled edit before.network before.labels
-    → touched ≡ filter (λ node. is_among before.touched node || touches edit before.network node)
+    → touched ≡ filter (λ node. is_number_among before.touched node || touches edit before.network node)
     (ids_of network)
     → record { network = network; labels = labels; touched = touched; kept = before.kept }
     ≡ watch_after edit before

@@ -16,14 +16,14 @@ pub record Snapshot : Type 0 where
   pub kept : List (ℕ × Verdict)
 
 -- the number is on the list
-abbrev pub is_among : List ℕ → ℕ → Bool
-is_among numbers number = list_any (λ other. number == other) numbers
+abbrev pub is_number_among : List ℕ → ℕ → Bool
+is_number_among numbers number = list_any (λ other. number == other) numbers
 
 -- for each node that is not touched its identity and its verdict on its present view are kept
 abbrev pub IsCurrent : (Seen → Verdict) → Snapshot → Type 0
 IsCurrent judge now =
     (place : ℕ) (view : Seen) → slice_get (views now.network now.labels) place ≡ Some view
-    → is_among now.touched view.id ≡ false → slice_get now.kept place ≡ Some (view.id, judge view)
+    → is_number_among now.touched view.id ≡ false → slice_get now.kept place ≡ Some (view.id, judge view)
 
 -- a round that lacked memory: the first nodes were checked, but not all, and the judge's count and
 -- the counter of steps rose by as many, or by one more

@@ -6,7 +6,7 @@ use Rattle.std.proofs.lemmas.Bool.{cases_lt, ltb-false, ltb-true}
 use Rattle.std.proofs.lemmas.Option.{same_Some}
 use Rattle.pls_scheme_text.specs.declared.scheme_error.SchemeError.{SchemeError}
 use Rattle.pls_scheme_text.specs.declared.scheme_error.SchemeError.TheVariants.{NoMemory, NotAScheme, TooDeep, TooMany}
-use Rattle.pls_expressions.specs.Expression.{Expression, IsSmall, CanBeWritten, depth_of, names_of}
+use Rattle.pls_expressions.specs.Expression.{CanBeWritten, Expression, IsSmall, count_of_names, depth_of}
 use Rattle.pls_scheme_text.specs.ExpressionText.{HasTooManyNames, IsNoExpression, IsNoScheme, IsTooDeep, expression_text}
 use Rattle.pls_fronts.specs.Depth.{deepest}
 use Rattle.pls_fronts.specs.Front.{Front, whole_item}
@@ -31,7 +31,7 @@ same_error one other same = cc
 
 -- how many names an expression has, counted up to 255
 abbrev names_counted : Expression → ℕ
-names_counted scheme = min (names_of scheme) 255
+names_counted scheme = min (count_of_names scheme) 255
 
 -- the names are those of the expression
 names_in-is : (text : List ℕ) → names_in text ≡ option_map names_counted (expression_in text)
@@ -162,7 +162,7 @@ many_cause text = by (case_of text)
       λ many.
           let same : scheme ≡ many.scheme =
           one_expression scheme many.scheme small.writable many.writable (sym written ∙ many.written) in
-          let more : 8 < names_of scheme = rw same many.many in
+          let more : 8 < count_of_names scheme = rw same many.many in
           absurd (omega (arith, small.few, more)),
     )
 
@@ -179,7 +179,7 @@ refused_text text error refused other small_other at = by (case_of text)
     by (Many many is) =
         let same : other ≡ many.scheme =
         one_expression other many.scheme small_other.writable many.writable (sym at ∙ many.written) in
-        let more : 8 < names_of other = rw same many.many in
+        let more : 8 < count_of_names other = rw same many.many in
         omega (arith, small_other.few, more)
     by (Small scheme written small found is) = no_other _ _ _ is refused (λ e. absurd (cc))
 

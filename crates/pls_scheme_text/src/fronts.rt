@@ -3,7 +3,7 @@
 
 ghost use Rattle.std.specs.Prelude.{◌≡◌, IfSome, option_map};
 ghost use Rattle.pls_fronts.specs.Front.{found_front};
-ghost use Rattle.pls_expressions.specs.Expression.{names_of};
+ghost use Rattle.pls_expressions.specs.Expression.{count_of_names};
 ghost use Rattle.pls_expressions.specs.Held.{expression_of};
 ghost use Rattle.pls_scheme_text.specs.inner.Fronts.{edges_front, join_front, leaf_front, map_front, property_front, found_tree};
 
@@ -45,7 +45,7 @@ pub(crate) fn map_front(text: &[u8], inside: bool) -> Option<&[u8]>
 #[tactic(auto, unfolding(crate::specs::inner::Fronts::leaf_front))]
 pub(crate) fn leaf_front(text: &[u8], inside: bool) -> Option<(ExpressionTree, &[u8])>
     ensures value { option_map found_tree result ≡ leaf_front inside text.now }
-    ensures one { IfSome result (λ found. names_of (expression_of found.0) ≡ 1) }
+    ensures one { IfSome result (λ found. count_of_names (expression_of found.0) ≡ 1) }
 {
     if let Some((name, rest)) = name_front(text) {
         Some((ExpressionTree::Of(name), rest))
@@ -59,7 +59,7 @@ pub(crate) fn leaf_front(text: &[u8], inside: bool) -> Option<(ExpressionTree, &
 // A property that has no scheme, and the rest.
 fn property_front(text: &[u8]) -> Option<(ExpressionTree, &[u8])>
     ensures value { option_map found_tree result ≡ property_front text.now }
-    ensures one { IfSome result (λ found. names_of (expression_of found.0) ≡ 1) }
+    ensures one { IfSome result (λ found. count_of_names (expression_of found.0) ≡ 1) }
 {
     if let Some(rest) = after(text, b"bridgeless") {
         return Some((ExpressionTree::Bridgeless, rest));

@@ -14,7 +14,7 @@ use Rattle.pls_graph.proofs.Placed.{WayBack, port_of_place, row_of_place, row_pl
 use Rattle.pls_graph.proofs.Sound.{IsSound, sound, sound_valid}
 use Rattle.pls_graph_edits.proofs.Changing.{All_here, AreSound-changed, IsFit, limits_changed, ports_in_changed, row_of_changed}
 use Rattle.pls_components.proofs.Apart.{beside_turned}
-use Rattle.pls_splice.specs.Crossing.{IsPair, cross_port, cross_row, crossed_rows, edge_weight, ends_of}
+use Rattle.pls_splice.specs.Crossing.{IsPair, cross_port, cross_row, crossed_rows, ends_of, ring_edge_weight}
 use Rattle.pls_splice.specs.declared.crossing.Ends.{Ends}
 use Rattle.pls_splice.specs.Ring.{IsRingOrder, head_of, tail_of}
 use Rattle.pls_splice.proofs.EdgeEnds.{Linked, behind_within, ends_apart, first_second, first_within, linked, no_edge, place_within, second_first}
@@ -182,7 +182,7 @@ module _ (rows : List NodeRow) (net : IsNetwork rows) (labels : List (List Bool)
       }
 
   abbrev w : ℕ
-  w = edge_weight rows order i
+  w = ring_edge_weight rows order i
 
   first_edge : Linked rows ends.tail ends.head w × Linked rows ends.head ends.tail w
   first_edge = linked rows net t1 h1 t1_in h1_in

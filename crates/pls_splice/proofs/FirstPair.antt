@@ -5,7 +5,7 @@ use Rattle.std.proofs.lemmas.Bool.Decides.{Decides-eqb}
 use Rattle.std.proofs.lemmas.Option.{same_Some}
 use Rattle.std.proofs.lemmas.Slice.Eq.{slice_eq-Decides}
 use Rattle.pls_configuration.specs.declared.row.NodeRow.{NodeRow}
-use Rattle.pls_splice.specs.Crossing.{AreAlike, HasNoPair, IsFirstPair, IsPair, edge_weight, label_at}
+use Rattle.pls_splice.specs.Crossing.{AreAlike, HasNoPair, IsFirstPair, IsPair, label_at, ring_edge_weight}
 use Rattle.pls_splice.specs.Ring.{head_of, tail_of}
 use Rattle.pls_splice.specs.declared.finding.Pair.{Pair}
 use Rattle.pls_splice.specs.inner.Finding.{IsFoundFrom, first_from, same_words, with_edge}
@@ -35,7 +35,7 @@ module _ (rows : List NodeRow) (labels : List (List Bool)) (order : List ℕ) wh
   -- edges with one key are alike
   pub alike_by_key : (i j : ℕ) → key i ≡ key j → AreAlike rows labels order i j
   alike_by_key i j e =
-      let weights : edge_weight rows order i ≡ edge_weight rows order j = cc in
+      let weights : ring_edge_weight rows order i ≡ ring_edge_weight rows order j = cc in
       let long : length (label_at labels (tail_of order i)) ≡ length (label_at labels (tail_of order j))
       = cc in
       let words : words_from 1 (label_at labels (tail_of order i) ++ label_at labels (head_of order i))

@@ -17,8 +17,8 @@ weight_between rows i j = option_map_or (λ port. port.weight)
     (option_and_then (λ row. port_to row (id_at rows j)) (slice_get rows i)) 0
 
 -- the weight of edge i
-abbrev pub edge_weight : List NodeRow → List ℕ → ℕ → ℕ
-edge_weight rows order i = weight_between rows (tail_of order i) (head_of order i)
+abbrev pub ring_edge_weight : List NodeRow → List ℕ → ℕ → ℕ
+ring_edge_weight rows order i = weight_between rows (tail_of order i) (head_of order i)
 
 -- the label of the node at a place
 abbrev pub label_at : List (List Bool) → ℕ → List Bool
@@ -27,7 +27,7 @@ label_at labels place = slice_index_or labels place []
 -- edges i and j agree in their weights, in the labels at their tails and in those at their heads
 pub record AreAlike (rows : List NodeRow) (labels : List (List Bool)) (order : List ℕ) (i j : ℕ)
     : Type 0 where
-  pub weights : edge_weight rows order i ≡ edge_weight rows order j
+  pub weights : ring_edge_weight rows order i ≡ ring_edge_weight rows order j
   pub tails : label_at labels (tail_of order i) ≡ label_at labels (tail_of order j)
   pub heads : label_at labels (head_of order i) ≡ label_at labels (head_of order j)
 

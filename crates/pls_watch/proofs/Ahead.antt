@@ -11,7 +11,7 @@ use Rattle.pls_schedule.specs.declared.event.Event.TheVariants.{Emit, Arrive, Re
 use Rattle.pls_sim.specs.Schedule.{Sent, brings, emits_of, goes, goes_to, since_restart}
 use Rattle.pls_watch.specs.declared.turn.Turn.{Turn}
 use Rattle.pls_watch.specs.declared.turn.Turn.TheVariants.{Plain, Relabel}
-use Rattle.pls_watch.specs.Versions.{brought, carried, carried_from, greatest, held, newest, plain_of, relabels, version_of}
+use Rattle.pls_watch.specs.Versions.{brought, carried, carried_from, greatest_in, held, newest, plain_of, relabels, version_of}
 
 -- a version stays one where turns come behind
 newest_grows : (before later : List Turn) (node : ℕ)
@@ -83,7 +83,7 @@ module _ (rows : List NodeRow) (turns : List Turn) (node neighbour : ℕ) where
           (from_there emit is) (carried_few [] turns place emit at)
 
   all_few : (events : List Event) (version : ℕ)
-      → greatest (flat_map (brought rows emits (carried turns) neighbour node) events)
+      → greatest_in (flat_map (brought rows emits (carried turns) neighbour node) events)
       ≡ Some version
       → version ≤ newest turns neighbour
   all_few [] version is = absurd (cc)
@@ -93,8 +93,8 @@ module _ (rows : List NodeRow) (turns : List Turn) (node neighbour : ℕ) where
       others : List ℕ
       others = flat_map (brought rows emits (carried turns) neighbour node) events
 
-      most : (o : Option ℕ) → greatest others ≡ o
-          → ((version : ℕ) → greatest others ≡ Some version → version ≤ newest turns neighbour)
+      most : (o : Option ℕ) → greatest_in others ≡ o
+          → ((version : ℕ) → greatest_in others ≡ Some version → version ≤ newest turns neighbour)
           → version_of (carried turns) event ≤ newest turns neighbour
           → option_map_or (max (version_of (carried turns) event)) o
           (version_of (carried turns) event) ≤ newest turns neighbour
@@ -102,14 +102,14 @@ module _ (rows : List NodeRow) (turns : List Turn) (node neighbour : ℕ) where
       most (Some other) at few here = omega (arith, few other at, here)
 
       by : (b : Bool) → brings rows emits neighbour node event ≡ b
-          → greatest (cond b (version_of (carried turns) event ∷ []) [] ++ others) ≡ Some version
-          → ((version : ℕ) → greatest others ≡ Some version → version ≤ newest turns neighbour)
+          → greatest_in (cond b (version_of (carried turns) event ∷ []) [] ++ others) ≡ Some version
+          → ((version : ℕ) → greatest_in others ≡ Some version → version ≤ newest turns neighbour)
           → version ≤ newest turns neighbour
       by false brings_it is few = few version is
       by true brings_it is few =
           subst (λ (version : ℕ). version ≤ newest turns neighbour)
           (same_Some _ version is)
-          (most (greatest others) refl few (event_few event brings_it))
+          (most (greatest_in others) refl few (event_few event brings_it))
 
   pub held_few : (version : ℕ) → held rows turns node neighbour ≡ Some version
       → version ≤ newest turns neighbour

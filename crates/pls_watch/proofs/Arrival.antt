@@ -14,7 +14,7 @@ use Rattle.pls_sim.proofs.Heard.{emit_kept}
 use Rattle.pls_sim.proofs.Numbering.{one_number, one_port}
 use Rattle.pls_watch.specs.declared.turn.Turn.{Turn}
 use Rattle.pls_watch.specs.declared.turn.Turn.TheVariants.{Plain}
-use Rattle.pls_watch.specs.Versions.{arrived, brought, carried, greatest, held, plain_of}
+use Rattle.pls_watch.specs.Versions.{arrived, brought, carried, greatest_in, held, plain_of}
 use Rattle.pls_watch.specs.inner.Held.{AreHeld, AreKept}
 use Rattle.pls_watch.proofs.More.{greatest_more, heard_held, held_more, with_one}
 use Rattle.pls_watch.proofs.Keep.{kept_quiet}
@@ -58,14 +58,14 @@ module _ (rows : List NodeRow) (turns : List Turn) (versions sent holds : List �
 
     held_now : (neighbour other : ℕ)
         → held rows (turns ++ Plain (Arrive (suc at)) ∷ []) other neighbour
-        ≡ greatest (arrived rows turns other neighbour
+        ≡ greatest_in (arrived rows turns other neighbour
         ++ cond ((one.node == neighbour) && (to == other)) (came ∷ []) [])
     held_now neighbour other =
         held_more rows turns (Arrive (suc at)) other neighbour kept.numbered
-        ∙ ap (λ (last : List ℕ). greatest (arrived rows turns other neighbour ++ last))
+        ∙ ap (λ (last : List ℕ). greatest_in (arrived rows turns other neighbour ++ last))
         (brought_is neighbour other)
 
-    -- what is written is the greatest with this one
+    -- what is written is the greatest_in with this one
     written : (held_before : Option ℕ) → held rows turns to one.node ≡ held_before
         → with_one held_before came ≡ now
     written None is =
@@ -82,9 +82,9 @@ module _ (rows : List NodeRow) (turns : List Turn) (versions sent holds : List �
         ≡ held rows turns other neighbour
     other_held neighbour other differs =
         held_now neighbour other
-        ∙ ap (λ (b : Bool). greatest (arrived rows turns other neighbour ++ cond b (came ∷ []) []))
+        ∙ ap (λ (b : Bool). greatest_in (arrived rows turns other neighbour ++ cond b (came ∷ []) []))
         (by (one.node == neighbour) (to == other) refl)
-        ∙ ap greatest (append-nil (arrived rows turns other neighbour))
+        ∙ ap greatest_in (append-nil (arrived rows turns other neighbour))
       where
         by : (a b : Bool) → (to == other) ≡ b → (a && b) ≡ false
         by a true is = absurd (differs (eqb-true to other is))
@@ -93,7 +93,7 @@ module _ (rows : List NodeRow) (turns : List Turn) (versions sent holds : List �
 
     -- nor there, where what arrives is no newer than what was heard
     module _ (has : heard ≡ true) (older : came ≤ get_or holds number 0) where
-      older_one : greatest (arrived rows turns to one.node ++ came ∷ [])
+      older_one : greatest_in (arrived rows turns to one.node ++ came ∷ [])
           ≡ held rows turns to one.node
       older_one =
           greatest_more (arrived rows turns to one.node) came
@@ -115,14 +115,14 @@ module _ (rows : List NodeRow) (turns : List Turn) (versions sent holds : List �
           held_now neighbour other ∙ by (one.node == neighbour) (to == other) refl refl
         where
           by : (a b : Bool) → (one.node == neighbour) ≡ a → (to == other) ≡ b
-              → greatest (arrived rows turns other neighbour ++ cond (a && b) (came ∷ []) [])
+              → greatest_in (arrived rows turns other neighbour ++ cond (a && b) (came ∷ []) [])
               ≡ held rows turns other neighbour
-          by false b is_a is_b = ap greatest (append-nil (arrived rows turns other neighbour))
-          by true false is_a is_b = ap greatest (append-nil (arrived rows turns other neighbour))
+          by false b is_a is_b = ap greatest_in (append-nil (arrived rows turns other neighbour))
+          by true false is_a is_b = ap greatest_in (append-nil (arrived rows turns other neighbour))
           by true true is_a is_b =
-              subst (λ (end : ℕ). greatest (arrived rows turns end neighbour ++ came ∷ [])
+              subst (λ (end : ℕ). greatest_in (arrived rows turns end neighbour ++ came ∷ [])
               ≡ held rows turns end neighbour) (eqb-true to other is_b)
-              (subst (λ (from : ℕ). greatest (arrived rows turns to from ++ came ∷ [])
+              (subst (λ (from : ℕ). greatest_in (arrived rows turns to from ++ came ∷ [])
               ≡ held rows turns to from) (eqb-true one.node neighbour is_a) older_one)
 
     -- what is held here now
@@ -139,9 +139,9 @@ module _ (rows : List NodeRow) (turns : List Turn) (versions sent holds : List �
         ≡ held rows turns other neighbour
     elsewhere_held k other neighbour differs s =
         held_now neighbour other
-        ∙ ap (λ (b : Bool). greatest (arrived rows turns other neighbour ++ cond b (came ∷ []) []))
+        ∙ ap (λ (b : Bool). greatest_in (arrived rows turns other neighbour ++ cond b (came ∷ []) []))
         (both (one.node == neighbour) (to == other) refl refl)
-        ∙ ap greatest (append-nil (arrived rows turns other neighbour))
+        ∙ ap greatest_in (append-nil (arrived rows turns other neighbour))
       where
         both : (a b : Bool) → (one.node == neighbour) ≡ a → (to == other) ≡ b
             → ((one.node == neighbour) && (to == other)) ≡ false

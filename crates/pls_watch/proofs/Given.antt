@@ -3,7 +3,7 @@ use Rattle.std.proofs.Common.{◌≡◌, ℕ, ◌==◌, Bool, true, false, cond,
 use Rattle.pls_watch.specs.declared.turn.Turn.TheVariants as Turns
 use Rattle.pls_watch_part.specs.declared.watch_event.WatchEvent.{WatchEvent}
 use Rattle.pls_watch_part.specs.declared.watch_event.WatchEvent.TheVariants.{Emit, Arrive, Restart, Relabel}
-use Rattle.pls_watch.specs.Labelled.{label_at, later_labels, turns_of}
+use Rattle.pls_watch.specs.Labelled.{label_in_version, later_labels, turns_of}
 use Rattle.pls_watch.specs.Versions.{newest, relabels}
 
 -- a node has as many later labels as its newest version says
@@ -23,5 +23,5 @@ many_labels (Relabel other bits ∷ events) node = by (other == node) (many_labe
     by false same = same
 
 -- the second version is the label of the first relabel
-second : label_at (λ node. []) (Relabel 1 (true ∷ []) ∷ Relabel 2 (false ∷ []) ∷ []) 1 1 ≡ true ∷ []
+second : label_in_version (λ node. []) (Relabel 1 (true ∷ []) ∷ Relabel 2 (false ∷ []) ∷ []) 1 1 ≡ true ∷ []
 second = refl

@@ -12,7 +12,7 @@ use Rattle.pls_sim.specs.Schedule.{brings, emits_of, has_heard, outcome_after, s
 use Rattle.pls_sim.specs.inner.Kept.{NamesEmit}
 use Rattle.pls_watch.specs.declared.turn.Turn.{Turn}
 use Rattle.pls_watch.specs.declared.turn.Turn.TheVariants.{Plain, Relabel}
-use Rattle.pls_watch.specs.Versions.{arrived, brought, carried, carried_by, greatest, held, is_fresh, known, newest, plain_of, stale, version_of, watched_outcome}
+use Rattle.pls_watch.specs.Versions.{arrived, brought, carried, carried_by, greatest_in, held, is_fresh, known, newest, plain_of, stale, version_of, watched_outcome}
 use Rattle.pls_watch.specs.Turning.{IsNotBack, restarts_in}
 use Rattle.pls_watch.proofs.More.{greatest_more, heard_held, held_more, held_relabel, with_one}
 
@@ -28,7 +28,7 @@ not_back rows turns (Plain event) node neighbour numbered stays version is =
     in (
       grown.0,
       held_more rows turns event node neighbour numbered
-          ∙ ap (λ (b : Bool). cond b None (greatest (before ++ brought rows (emits_of (plain_of
+          ∙ ap (λ (b : Bool). cond b None (greatest_in (before ++ brought rows (emits_of (plain_of
           turns)
           ++ sent_by event) (carried turns ++ carried_by turns (Plain event)) neighbour node
           event))) stays
@@ -42,14 +42,14 @@ not_back rows turns (Plain event) node neighbour numbered stays version is =
     came : ℕ
     came = version_of (carried turns ++ carried_by turns (Plain event)) event
 
-    by : (b : Bool) → (next : ℕ) × (greatest (before ++ cond b (came ∷ []) []) ≡ Some next)
+    by : (b : Bool) → (next : ℕ) × (greatest_in (before ++ cond b (came ∷ []) []) ≡ Some next)
         × (version ≤ next)
     by true = (
       max version came,
       greatest_more before came ∙ ap (λ (most : Option ℕ). Some (with_one most came)) is,
       omega arith,
     )
-    by false = (version, ap greatest (append-nil before) ∙ is, omega arith)
+    by false = (version, ap greatest_in (append-nil before) ∙ is, omega arith)
 
 module _ (rows : List NodeRow) (turns : List Turn) (label : ℕ → ℕ → List Bool) (node : ℕ) where
   abbrev believed : ℕ → List Bool

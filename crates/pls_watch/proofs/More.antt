@@ -13,7 +13,7 @@ use Rattle.pls_sim.specs.inner.Kept.{NamesEmit}
 use Rattle.pls_sim.proofs.Heard.{brings_kept, emits_more, since_all, since_more}
 use Rattle.pls_watch.specs.declared.turn.Turn.{Turn}
 use Rattle.pls_watch.specs.declared.turn.Turn.TheVariants.{Plain, Relabel}
-use Rattle.pls_watch.specs.Versions.{arrived, brought, carried, carried_by, carried_from, greatest, held, newest, plain, plain_of, relabels, version_at, version_of}
+use Rattle.pls_watch.specs.Versions.{arrived, brought, carried, carried_by, carried_from, greatest_in, held, newest, plain, plain_of, relabels, version_at, version_of}
 
 -- one more turn stands behind the others
 pub plain_more : (turns : List Turn) (turn : Turn)
@@ -96,28 +96,28 @@ many_from before (turn ∷ turns) =
 pub many_carried : (turns : List Turn) → length (carried turns) ≡ length (emits_of (plain_of turns))
 many_carried turns = many_from [] turns
 
--- the greatest with one more
+-- the greatest_in with one more
 abbrev pub with_one : Option ℕ → ℕ → ℕ
 with_one most number = option_map_or (λ most. max most number) most number
 
 pub greatest_more : (numbers : List ℕ) (number : ℕ)
-    → greatest (numbers ++ number ∷ []) ≡ Some (with_one (greatest numbers) number)
+    → greatest_in (numbers ++ number ∷ []) ≡ Some (with_one (greatest_in numbers) number)
 greatest_more [] number = refl
 greatest_more (first ∷ numbers) number =
     ap (λ (most : Option ℕ). Some (option_map_or (max first) most first)) (greatest_more numbers
     number)
-    ∙ ap Some (by (greatest numbers))
+    ∙ ap Some (by (greatest_in numbers))
   where
     by : (most : Option ℕ) → max first (with_one most number)
         ≡ max (option_map_or (max first) most first) number
     by None = refl
     by (Some most) = omega arith
 
--- there is a greatest exactly where there is one
+-- there is a greatest_in exactly where there is one
 pub some_greatest : (rows : List NodeRow) (emits : List Sent) (versions : List ℕ) (from to : ℕ)
     (events : List Event)
     → list_any (brings rows emits from to) events
-    ≡ is_some (greatest (flat_map (brought rows emits versions from to) events))
+    ≡ is_some (greatest_in (flat_map (brought rows emits versions from to) events))
 some_greatest rows emits versions from to [] = refl
 some_greatest rows emits versions from to (event ∷ events) =
     by (brings rows emits from to event) (some_greatest rows emits versions from to events)
@@ -128,9 +128,9 @@ some_greatest rows emits versions from to (event ∷ events) =
     later : List ℕ
     later = flat_map (brought rows emits versions from to) events
 
-    by : (b : Bool) → list_any test events ≡ is_some (greatest later)
+    by : (b : Bool) → list_any test events ≡ is_some (greatest_in later)
         → (b || list_any test events)
-        ≡ is_some (greatest (cond b (version_of versions event ∷ []) [] ++ later))
+        ≡ is_some (greatest_in (cond b (version_of versions event ∷ []) [] ++ later))
     by true is = refl
     by false is = is
 
@@ -192,7 +192,7 @@ pub held_more : (rows : List NodeRow) (turns : List Turn) (event : Event) (node 
     → AllByRecursion (NamesEmit (length (emits_of (plain_of turns)))) (plain_of turns)
     → held rows (turns ++ Plain event ∷ []) node neighbour
     ≡ cond (restarts node event) None
-    (greatest (arrived rows turns node neighbour
+    (greatest_in (arrived rows turns node neighbour
     ++ brought rows (emits_of (plain_of turns) ++ sent_by event)
     (carried turns ++ carried_by turns (Plain event)) neighbour node event))
 held_more rows turns event node neighbour numbered =
@@ -211,11 +211,11 @@ held_more rows turns event node neighbour numbered =
         brought rows (emits_of (plain_of turns) ++ sent_by event)
         (carried turns ++ carried_by turns (Plain event)) neighbour node
 
-    by : (b : Bool) → greatest (flat_map bring (cond b [] (since ++ event ∷ [])))
-        ≡ cond b None (greatest (arrived rows turns node neighbour ++ bring event))
+    by : (b : Bool) → greatest_in (flat_map bring (cond b [] (since ++ event ∷ [])))
+        ≡ cond b None (greatest_in (arrived rows turns node neighbour ++ bring event))
     by true = refl
     by false =
-        ap greatest (flat_map-append bring since (event ∷ [])
+        ap greatest_in (flat_map-append bring since (event ∷ [])
         ∙ rw (
           all_brought rows (emits_of (plain_of turns)) (sent_by event) (carried turns)
               (carried_by turns (Plain event)) neighbour node (many_carried turns) since
@@ -231,7 +231,7 @@ pub held_emit : (rows : List NodeRow) (turns : List Turn) (sender port node neig
     ≡ held rows turns node neighbour
 held_emit rows turns sender port node neighbour numbered =
     held_more rows turns (Emit sender port) node neighbour numbered
-    ∙ ap greatest (append-nil (arrived rows turns node neighbour))
+    ∙ ap greatest_in (append-nil (arrived rows turns node neighbour))
 
 pub held_restart : (rows : List NodeRow) (turns : List Turn) (other node neighbour : ℕ)
     → AllByRecursion (NamesEmit (length (emits_of (plain_of turns)))) (plain_of turns)
@@ -240,8 +240,8 @@ pub held_restart : (rows : List NodeRow) (turns : List Turn) (other node neighbo
     ≡ held rows turns node neighbour
 held_restart rows turns other node neighbour numbered differs =
     held_more rows turns (Restart other) node neighbour numbered
-    ∙ ap (λ (b : Bool). cond b None (greatest (arrived rows turns node neighbour ++ []))) differs
-    ∙ ap greatest (append-nil (arrived rows turns node neighbour))
+    ∙ ap (λ (b : Bool). cond b None (greatest_in (arrived rows turns node neighbour ++ []))) differs
+    ∙ ap greatest_in (append-nil (arrived rows turns node neighbour))
 
 -- what is held after a restart or an emit was held before it
 pub before_restart : (rows : List NodeRow) (turns : List Turn) (node other neighbour version : ℕ)
@@ -251,16 +251,16 @@ pub before_restart : (rows : List NodeRow) (turns : List Turn) (node other neigh
 before_restart rows turns node other neighbour version numbered is =
     by (node == other) (sym (held_more rows turns (Restart node) other neighbour numbered) ∙ is)
   where
-    by : (b : Bool) → cond b None (greatest (arrived rows turns other neighbour ++ [])) ≡ Some
+    by : (b : Bool) → cond b None (greatest_in (arrived rows turns other neighbour ++ [])) ≡ Some
         version
         → held rows turns other neighbour ≡ Some version
     by true is = absurd (cc)
-    by false is = ap greatest (sym (append-nil (arrived rows turns other neighbour))) ∙ is
+    by false is = ap greatest_in (sym (append-nil (arrived rows turns other neighbour))) ∙ is
 
 pub before_emit : (rows : List NodeRow) (turns : List Turn) (node port other neighbour version : ℕ)
     → AllByRecursion (NamesEmit (length (emits_of (plain_of turns)))) (plain_of turns)
     → held rows (turns ++ Plain (Emit node port) ∷ []) other neighbour ≡ Some version
     → held rows turns other neighbour ≡ Some version
 before_emit rows turns node port other neighbour version numbered is =
-    ap greatest (sym (append-nil (arrived rows turns other neighbour)))
+    ap greatest_in (sym (append-nil (arrived rows turns other neighbour)))
     ∙ sym (held_more rows turns (Emit node port) other neighbour numbered) ∙ is

@@ -67,14 +67,14 @@ arrived rows turns node neighbour =
     flat_map (brought rows (emits_of (plain_of turns)) (carried turns) neighbour node)
     (since_restart node (plain_of turns))
 
--- the greatest of some numbers
-abbrev pub greatest : List ℕ → Option ℕ
-greatest [] = None
-greatest (number ∷ numbers) = Some (option_map_or (max number) (greatest numbers) number)
+-- the greatest_in of some numbers
+abbrev pub greatest_in : List ℕ → Option ℕ
+greatest_in [] = None
+greatest_in (number ∷ numbers) = Some (option_map_or (max number) (greatest_in numbers) number)
 
 -- the version that a node holds of a neighbour's label
 abbrev pub held : List NodeRow → List Turn → ℕ → ℕ → Option ℕ
-held rows turns node neighbour = greatest (arrived rows turns node neighbour)
+held rows turns node neighbour = greatest_in (arrived rows turns node neighbour)
 
 -- what a node holds of a neighbour's label, if it holds anything, is the newest
 abbrev pub is_fresh : List NodeRow → List Turn → ℕ → ℕ → Bool

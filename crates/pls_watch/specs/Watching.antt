@@ -10,7 +10,7 @@ use Rattle.pls_sim.specs.declared.outcome.Outcome.{Outcome}
 use Rattle.pls_sim.specs.Applying.{refused_if}
 use Rattle.pls_watch_part.specs.declared.watch_event.WatchEvent.{WatchEvent}
 use Rattle.pls_watch_part.specs.declared.watch_event.WatchEvent.TheVariants.{Emit, Arrive, Restart, Relabel}
-use Rattle.pls_watch.specs.Labelled.{bits_given, label_at, labels_given, turn_of, turns_of}
+use Rattle.pls_watch.specs.Labelled.{bits_given, label_in_version, labels_given, turn_of, turns_of}
 use Rattle.pls_watch.specs.Turning.{Turned, turn_refusal}
 use Rattle.pls_watch.specs.Versions.{stale, watched_outcome}
 
@@ -54,7 +54,7 @@ watch_refusal watched event =
 -- a version of the label of a node
 abbrev pub version_of_label : Watched → ℕ → ℕ → List Bool
 version_of_label watched node version =
-    label_at (label_of watched.network watched.start) watched.events node version
+    label_in_version (label_of watched.network watched.start) watched.events node version
 
 -- the outcome of a node
 abbrev pub outcome_in : (Seen → Verdict) → Watched → NodeRow → Outcome

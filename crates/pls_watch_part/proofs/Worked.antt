@@ -5,7 +5,7 @@ use Rattle.pls_closing.specs.Closing.{is_closed}
 use Rattle.pls_watch_part.specs.declared.watch_event.WatchEvent.TheVariants.{Restart, Relabel}
 use Rattle.pls_watch_part.specs.declared.watch_event.WatchLine.{WatchLine}
 use Rattle.pls_watch_part.specs.declared.watch_event.WatchLine.TheVariants.{Event, Look}
-use Rattle.pls_watch_part.specs.WatchText.{is_look, looks_of, total_bits, watch_line}
+use Rattle.pls_watch_part.specs.WatchText.{is_look, looks_of, total_relabel_bits, watch_line}
 
 -- a label without bits, and a look
 empty_written : (node : ℕ) → watch_line (Event (Relabel node []))
@@ -26,7 +26,7 @@ lines_closed = refl
 lines_looks : looks_of lines ≡ Look ∷ Look ∷ []
 lines_looks = refl
 
-lines_bits : total_bits lines ≡ 3
+lines_bits : total_relabel_bits lines ≡ 3
 lines_bits = refl
 
 -- no line is no part, and neither are lines behind the last look

@@ -67,8 +67,8 @@ bits_of (Event (Relabel node bits)) = length bits
 bits_of Look = 0
 
 -- how many bits the labels have together that the lines give
-abbrev pub total_bits : List WatchLine → ℕ
-total_bits lines = sum_by bits_of lines
+abbrev pub total_relabel_bits : List WatchLine → ℕ
+total_relabel_bits lines = sum_by bits_of lines
 
 -- the lines of a watch part: there is one, and the last one asks for a look
 abbrev pub AreWatch : List WatchLine → Type 0
@@ -119,7 +119,7 @@ pub record HasWatch (written : WrittenWatch) : Type 0 where
   pub tells : TellsWatch written.text list
   pub events : written.events ≡ counted list
   pub looks : written.looks ≡ counted (looks_of list)
-  pub bits : written.bits ≡ capped (total_bits list)
+  pub bits : written.bits ≡ capped (total_relabel_bits list)
   pub within : written.number ≤ 2 ^ 63
 
 -- the reader has passed a watch part, and kept its text, its place and its counts
@@ -130,7 +130,7 @@ pub record PassesWatch (old new : Left) (written : WrittenWatch) : Type 0 where
   pub heading : written.number ≡ old.number
   pub events : written.events ≡ counted list
   pub looks : written.looks ≡ counted (looks_of list)
-  pub bits : written.bits ≡ capped (total_bits list)
+  pub bits : written.bits ≡ capped (total_relabel_bits list)
 
 -- why the lines of a text are refused: there are too many, or there was no memory
 abbrev pub IsWatchRefusal : List WatchLine → TextError → Type 0

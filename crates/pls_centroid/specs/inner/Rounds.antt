@@ -7,7 +7,7 @@ use Rattle.pls_configuration.specs.Walk.{Edge}
 use Rattle.pls_facts.specs.Pointer.{Falls}
 use Rattle.pls_facts.specs.SpanningTree.{IsTree, pointed_edges}
 use Rattle.pls_centroid.specs.Centroid.{is_centroid, next_edges}
-use Rattle.pls_centroid.specs.Levels.{IsLevelOf}
+use Rattle.pls_centroid.specs.Levels.{IsCentroidLevelOf}
 use Rattle.pls_centroid.specs.declared.level.CentroidLevel.{CentroidLevel}
 use Rattle.pls_centroid.specs.declared.reaching.Way.{Way}
 use Rattle.pls_centroid.specs.inner.Cut.{id_at}
@@ -27,7 +27,7 @@ is_taken rows (suc number) u = is_centroid (edges_in rows number) (ids_of rows) 
 abbrev pub IsSaid : List NodeRow → ℕ → ℕ → Option CentroidLevel → Type 0
 IsSaid rows number u None = is_taken rows number u ≡ true
 IsSaid rows number u (Some level) =
-    (is_taken rows number u ≡ false) × IsLevelOf rows (edges_in rows number) u level
+    (is_taken rows number u ≡ false) × IsCentroidLevelOf rows (edges_in rows number) u level
 
 -- the round of this number says so of each place
 pub record IsRound (rows : List NodeRow) (number : ℕ) (round : List (Option CentroidLevel))

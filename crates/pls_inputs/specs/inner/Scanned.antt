@@ -15,7 +15,7 @@ use Rattle.pls_schedule.specs.ScheduleText.{TellsSchedule, WrittenSchedule}
 use Rattle.pls_edits.specs.declared.edit_line.EditLine.{EditLine}
 use Rattle.pls_edits.specs.EditsText.{TellsEdits, WrittenEdits, rounds_of}
 use Rattle.pls_watch_part.specs.declared.watch_event.WatchLine.{WatchLine}
-use Rattle.pls_watch_part.specs.WatchText.{TellsWatch, WrittenWatch, looks_of, total_bits as relabelled_bits}
+use Rattle.pls_watch_part.specs.WatchText.{TellsWatch, WrittenWatch, looks_of, total_relabel_bits as relabelled_bits}
 use Rattle.pls_rules_part.specs.RulesScan.{TellsRules, WrittenRules}
 use Rattle.pls_rules_part.specs.RulesText.{RulesSaid}
 use Rattle.pls_inputs.specs.declared.parts.Parts.{Parts}

@@ -15,7 +15,7 @@ use Rattle.pls_lines.specs.ListPart.{IsListKind}
 use Rattle.pls_lines.specs.laws.NumberWords.{decimal_lacks, same_number, behind_word}
 use Rattle.pls_lines.specs.laws.LineWords.{first_word, line_lacks, same_head}
 use Rattle.pls_lines.specs.laws.ListLaws.{list_is_some_part}
-use Rattle.pls_labelfile.specs.LabelsText.{FitsLabel, IsLabelsPart, MayHead, NamedLabel, hex_word, label_line, label_of_words, labels_heading}
+use Rattle.pls_labelfile.specs.LabelsText.{FitsLabel, IsLabelsPart, MayHead, NamedLabel, hex_word, label_line, label_of_words, labels_heading_text}
 use Rattle.pls_labelfile.specs.inner.HexWord.{word_length}
 
 -- a byte below the digits is none of lower-case hex digits
@@ -126,7 +126,7 @@ label_lines = record {
 }
 
 -- no heading has a line feed
-pub heading_plain : (code : CodeName) → LacksItem 10 (labels_heading code)
+pub heading_plain : (code : CodeName) → LacksItem 10 (labels_heading_text code)
 heading_plain Gamma =
     (omega arith, (omega arith, (omega arith, (omega arith, (omega arith, (omega arith, tt))))))
 heading_plain Delta = (
@@ -168,20 +168,20 @@ heading_plain Delta = (
 )
 
 -- none is `end`
-heading_no_end : (code : CodeName) → labels_heading code ≢ codes "end"
+heading_no_end : (code : CodeName) → labels_heading_text code ≢ codes "end"
 heading_no_end Gamma e = omega (arith, same_head 108 101 _ _ e)
 heading_no_end Delta e = omega (arith, same_head 108 101 _ _ e)
 
 -- and a line that one of them begins tells which of them
 pub same_heading : (a b : CodeName) (x y : List ℕ)
-    → labels_heading a ++ 10 ∷ x ≡ labels_heading b ++ 10 ∷ y → a ≡ b
+    → labels_heading_text a ++ 10 ∷ x ≡ labels_heading_text b ++ 10 ∷ y → a ≡ b
 same_heading Gamma Gamma x y e = refl
 same_heading Gamma Delta x y e = absurd (omega (arith, same_head 10 32 _ _ (ap (drop 6) e)))
 same_heading Delta Gamma x y e = absurd (omega (arith, same_head 32 10 _ _ (ap (drop 6) e)))
 same_heading Delta Delta x y e = refl
 
 -- so the headings that may stand in a place are a kind of line
-pub labels_headings : (delta : Bool) → IsLineKind (MayHead delta) labels_heading
+pub labels_headings : (delta : Bool) → IsLineKind (MayHead delta) labels_heading_text
 labels_headings delta = record {
   plain = λ code may. heading_plain code;
   no_end = λ code may. heading_no_end code;
@@ -201,5 +201,5 @@ labels_list delta = record {
 -- so there is a labels part, and it tells where it ends
 pub labels_some_part : (delta : Bool) → IsSomePart (IsLabelsPart delta)
 labels_some_part delta =
-    list_is_some_part (MayHead delta) labels_heading FitsLabel label_line (All FitsLabel)
+    list_is_some_part (MayHead delta) labels_heading_text FitsLabel label_line (All FitsLabel)
     (labels_headings delta) label_lines (labels_list delta)

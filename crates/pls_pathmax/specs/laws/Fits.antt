@@ -29,7 +29,7 @@ use Rattle.pls_facts.proofs.Neighbours.{Leads, adjacent_known, leads}
 use Rattle.pls_facts.proofs.PointedEdges.{pointed_among}
 use Rattle.pls_facts.proofs.Weights.{port_weighs}
 use Rattle.pls_centroid.specs.Centroid.{next_edges}
-use Rattle.pls_centroid.specs.Levels.{AreLevelsFrom, IsLevelOf, greatest_along}
+use Rattle.pls_centroid.specs.Levels.{AreLevelsFrom, IsCentroidLevelOf, greatest_along}
 use Rattle.pls_centroid.specs.declared.level.CentroidLevel.{CentroidLevel}
 use Rattle.pls_levels.specs.laws.Fits.{limits_many, within_limits}
 use Rattle.pls_centroid.proofs.Lightly.{joined_at}
@@ -96,7 +96,7 @@ module _ (rows : List NodeRow) (net : IsNetwork rows) (words : AreWords (size_of
 
   -- what is known of a level
   level_within : (edges : List Edge) (u : ℕ) (level : CentroidLevel) → Contains (ids_of rows) u
-      → IsLevelOf rows edges u level
+      → IsCentroidLevelOf rows edges u level
       → (level.centroid ≤ size.max_id) × (level.hops ≤ size.nodes)
       × (level.greatest ≤ size.max_weight)
   level_within edges u level known is =

@@ -19,7 +19,7 @@ use Rattle.pls_facts.proofs.Pointed.{id_of_row}
 use Rattle.pls_facts.proofs.PointedEdges.{Joins-edge_at, edge_at_listed, pointed_among}
 use Rattle.pls_facts.proofs.PortEdges.{IsGraph-network}
 use Rattle.pls_facts.proofs.Weights.{port_weighs}
-use Rattle.pls_centroid.specs.Levels.{AreCentroidLevels, IsLevelOf}
+use Rattle.pls_centroid.specs.Levels.{AreCentroidLevels, IsCentroidLevelOf}
 use Rattle.pls_centroid.specs.declared.level.CentroidLevel.{CentroidLevel}
 use Rattle.pls_levels.specs.Making.{IsRightHead}
 use Rattle.pls_levels.specs.laws.InTree.{tells_in}
@@ -92,8 +92,8 @@ module _ (rows : List NodeRow) (net : IsNetwork rows) (is_tree : IsTree rows)
       × (slice_get (say port.nbr).levels number ≡ Some theirs) =
       goes_as_far rows tree row.id port.nbr (say row.id).levels (say port.nbr).levels
       (right row in').levels (levels_beside row port in' has) number mine at there in
-      let level : IsLevelOf rows (edges_at rows tree number) step.next theirs =
-      subst (λ (id : ℕ). IsLevelOf rows (edges_at rows tree number) id theirs) is
+      let level : IsCentroidLevelOf rows (edges_at rows tree number) step.next theirs =
+      subst (λ (id : ℕ). IsCentroidLevelOf rows (edges_at rows tree number) id theirs) is
       (level-at rows tree port.nbr (say port.nbr).levels (levels_beside row port in' has) number
       theirs also) in
       let leads = step.leads theirs level in

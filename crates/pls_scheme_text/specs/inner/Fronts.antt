@@ -10,7 +10,7 @@ use Rattle.pls_fronts.specs.NumberFront.{number_front}
 use Rattle.pls_names.specs.Front.{name_front}
 use Rattle.pls_expressions.specs.declared.expression_tree.ExpressionTree.{ExpressionTree}
 use Rattle.pls_expressions.specs.Held.{expression_of}
-use Rattle.pls_expressions.specs.Expression.{Expression, And, Bridgeless, Diameter, Map, Of, Or, names_of}
+use Rattle.pls_expressions.specs.Expression.{And, Bridgeless, Diameter, Expression, Map, Of, Or, count_of_names}
 use Rattle.pls_scheme_text.specs.declared.fronts.Join.{Join}
 use Rattle.pls_scheme_text.specs.declared.fronts.Join.TheVariants.{Both, Either}
 use Rattle.pls_scheme_text.specs.declared.scheme_error.SchemeError.{SchemeError}
@@ -86,7 +86,7 @@ found_tree found = followed (expression_of found.0) found.1.now
 
 -- how many names an expression has, counted up to 255
 abbrev pub count_front : Front Expression → Front ℕ
-count_front front = followed (min (names_of front.item) 255) front.rest
+count_front front = followed (min (count_of_names front.item) 255) front.rest
 
 -- the expression, at most 8 deep, that is the whole of a text
 abbrev pub expression_in : List ℕ → Option Expression

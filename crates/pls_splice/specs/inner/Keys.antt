@@ -2,7 +2,7 @@
 use Rattle.std.specs.Prelude.{ℕ, ◌+◌, ◌*◌, nat_lt, Bool, if◌then◌else◌, List, [], ◌∷◌, ◌++◌, length}
 use Rattle.pls_bits.specs.Bytes.{weigh}
 use Rattle.pls_configuration.specs.declared.row.NodeRow.{NodeRow}
-use Rattle.pls_splice.specs.Crossing.{edge_weight, label_at}
+use Rattle.pls_splice.specs.Crossing.{label_at, ring_edge_weight}
 use Rattle.pls_splice.specs.Ring.{head_of, tail_of}
 
 -- the words that get full while bits are put behind a word
@@ -26,6 +26,6 @@ words_from word bits = full_words word bits ++ last_word word bits ∷ []
 -- the words of edge i
 abbrev pub edge_key : List NodeRow → List (List Bool) → List ℕ → ℕ → List ℕ
 edge_key rows labels order i =
-    edge_weight rows order i
+    ring_edge_weight rows order i
     ∷ length (label_at labels (tail_of order i))
     ∷ words_from 1 (label_at labels (tail_of order i) ++ label_at labels (head_of order i))

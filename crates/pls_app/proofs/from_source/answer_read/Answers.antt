@@ -49,13 +49,13 @@ pub returns-in-Ok-clause-answer : goal.returns-in-Ok-clause-answer
 returns-in-Ok-clause-answer g c =
     let command : Command = c.args.command in
     let old = g.S.Source.left c.args.source.now in
-    let read = c.deref.result.now in
+    let read = c.in-Ok.bytes.items in
     ok_again c.answer_to.result c.or_no_memory.result _
     (λ answer. (bytes : List ℕ) → old ≡ Some bytes → Answers command bytes answer)
     (IfOk-weaker c.answer_to.result (λ answer. Answers command read answer)
     (λ answer. (bytes : List ℕ) → old ≡ Some bytes → Answers command bytes answer)
     (λ answer is bytes told. subst (λ (bytes : List ℕ). Answers command bytes answer)
-    (c.deref.ensures.value ∙ read_them old c.in-Ok.bytes.items bytes c.in-Ok.ensures.all told)
+    (read_them old c.in-Ok.bytes.items bytes c.in-Ok.ensures.all told)
     is) c.answer_to.ensures.answer)
     c.or_no_memory.ensures
 
@@ -63,7 +63,7 @@ pub returns-in-Ok-clause-certified : goal.returns-in-Ok-clause-certified
 returns-in-Ok-clause-certified g c =
     let command : Command = c.args.command in
     let old = g.S.Source.left c.args.source.now in
-    let read = c.deref.result.now in
+    let read = c.in-Ok.bytes.items in
     ok_again c.answer_to.result c.or_no_memory.result _
     (λ answer. (bytes : List ℕ) → old ≡ Some bytes → (code : CodeName)
     (scheme : Expression) → c.args.command ≡ With (Mark code) scheme → answer.status ≡ Done
@@ -76,7 +76,7 @@ returns-in-Ok-clause-certified g c =
     → Certifies code scheme bytes answer.text)
     (λ answer is bytes told code scheme mark done.
     subst (λ (bytes : List ℕ). Certifies code scheme bytes answer.text)
-    (c.deref.ensures.value ∙ read_them old c.in-Ok.bytes.items bytes c.in-Ok.ensures.all told)
+    (read_them old c.in-Ok.bytes.items bytes c.in-Ok.ensures.all told)
     (is code scheme mark done))
     c.answer_to.ensures.certified)
     c.or_no_memory.ensures
@@ -102,7 +102,7 @@ pub returns-in-Ok-clause-rechecked : goal.returns-in-Ok-clause-rechecked
 returns-in-Ok-clause-rechecked g c =
     let command : Command = c.args.command in
     let old = g.S.Source.left c.args.source.now in
-    let read = c.deref.result.now in
+    let read = c.in-Ok.bytes.items in
     let before = g.B.Bench.asked c.args.bench.now in
     let after = g.B.Bench.asked c.answer_to.new.bench in
     ok_again c.answer_to.result c.or_no_memory.result _
@@ -113,7 +113,7 @@ returns-in-Ok-clause-rechecked g c =
     → RecheckedOnBytes command bytes answer.status before after)
     (λ answer is bytes told.
     subst (λ (bytes : List ℕ). RecheckedOnBytes command bytes answer.status before after)
-    (c.deref.ensures.value ∙ read_them old c.in-Ok.bytes.items bytes c.in-Ok.ensures.all told)
+    (read_them old c.in-Ok.bytes.items bytes c.in-Ok.ensures.all told)
     is) c.answer_to.ensures.rechecked)
     c.or_no_memory.ensures
 

@@ -25,18 +25,18 @@ print_named-requires g c = printed_set c.in-Print.name (subst IsInWords c.in-Pri
 pub returns-in-Trial-clause-answer : goal.returns-in-Trial-clause-answer
 returns-in-Trial-clause-answer g c =
     IfOk-weaker c.trial.result (λ answer. IsTrialAnswer c.in-Trial.nodes c.in-Trial.seed answer)
-    (λ answer. Answers c.args.command c.args.bytes.now answer)
-    (λ answer tried. subst (λ (command : Command). Answers command c.args.bytes.now answer)
+    (λ answer. Answers c.args.command c.args.bytes.items answer)
+    (λ answer tried. subst (λ (command : Command). Answers command c.args.bytes.items answer)
     (sym c.in-Trial.is)
-    (trial_answers c.args.bytes.now c.in-Trial.nodes c.in-Trial.seed answer tried))
+    (trial_answers c.args.bytes.items c.in-Trial.nodes c.in-Trial.seed answer tried))
     c.trial.ensures.trial
 
 pub returns-in-Print-clause-answer : goal.returns-in-Print-clause-answer
 returns-in-Print-clause-answer g c =
     IfOk-weaker c.print_named.result (λ answer. answer ≡ rules_answer c.in-Print.name)
-    (λ answer. Answers c.args.command c.args.bytes.now answer)
-    (λ answer same. subst (λ (command : Command). Answers command c.args.bytes.now answer)
-    (sym c.in-Print.is) (print_answers c.args.bytes.now c.in-Print.name answer same))
+    (λ answer. Answers c.args.command c.args.bytes.items answer)
+    (λ answer same. subst (λ (command : Command). Answers command c.args.bytes.items answer)
+    (sym c.in-Print.is) (print_answers c.args.bytes.items c.in-Print.name answer same))
     c.print_named.ensures
 
 pub returns-in-With-clause-unasked : goal.returns-in-With-clause-unasked

@@ -3,7 +3,7 @@ use Rattle.pls_streams.specs.Gathered.{Writes, Wrote, WroteFront}
 use Rattle.pls_streams.proofs.Written.{both, failed, front_first, front_later, wrote_both}
 use Rattle.pls_lines.specs.Text.{text_of}
 use Rattle.pls_configuration.specs.Configuration.{ids_of}
-use Rattle.pls_labelfile.specs.LabelsText.{label_line, labelling_of, labels_heading, labels_text, named}
+use Rattle.pls_labelfile.specs.LabelsText.{label_line, labelling_of, labels_heading_text, labels_text, named}
 use Rattle.pls_labelfile.proofs.LabelsWritten.{lines_behind, lines_so_far, none_behind, one_line_more, whole_text}
 use Rattle.pls_labelfile.proofs.labels_write.put_lines.Goals as goal
 
@@ -38,8 +38,8 @@ returns-in_err-put g c =
     let rest : List ℕ = text_of (map label_line said.labels ++ codes "end" ∷ []) in
     failed _ _ c.from_residual.result (labels_text said) c.from_residual.ensures.0
     (subst (WroteFront _ _ _ _ _ _)
-    (append_assoc (labels_heading c.args.code) (10 ∷ []) rest)
-    (front_first (labels_heading c.args.code ++ 10 ∷ []) rest
+    (append_assoc (labels_heading_text c.args.code) (10 ∷ []) rest)
+    (front_first (labels_heading_text c.args.code ++ 10 ∷ []) rest
     (rw c.heading_line.ensures at c.in_err-put.ensures)))
 
 pub returns : goal.returns

@@ -1,5 +1,5 @@
 use Rattle.std.proofs.Common.{◌≡◌, ◌∙◌, ◌∷◌, ◌++◌, ℕ, List, Bool, ap}
-use Rattle.pls_splice.specs.Crossing.{edge_weight, label_at, weight_between}
+use Rattle.pls_splice.specs.Crossing.{label_at, ring_edge_weight, weight_between}
 use Rattle.pls_splice.specs.Ring.{head_of, tail_of}
 use Rattle.pls_splice.specs.inner.Keys.{words_from}
 use Rattle.pls_splice.proofs.KeyWords.{key_made, same_key}
@@ -13,7 +13,7 @@ returns c =
     let i = c.args.i in
     let tail : List Bool = c.label_at-tail_label.result in
     let head : List Bool = c.label_at.result in
-    let weight : c.weight_between.result ≡ edge_weight rows order i =
+    let weight : c.weight_between.result ≡ ring_edge_weight rows order i =
     c.weight_between.ensures
     ∙ ap (λ (tail : ℕ). weight_between rows tail c.head-head.result) c.tail-tail.ensures
     ∙ ap (λ (head : ℕ). weight_between rows (tail_of order i) head) c.head-head.ensures in
@@ -28,5 +28,5 @@ returns c =
     c.in_ok-word.ensures.last c.in_ok-word-2.ensures.words c.in_ok-word-2.ensures.last
     c.in_ok-push-3.ensures.items
     ∙ ap (λ (long : ℕ). c.weight_between.result ∷ long ∷ words_from 1 (tail ++ head)) c.len.ensures
-    ∙ same_key c.weight_between.result (edge_weight rows order i) tail head
+    ∙ same_key c.weight_between.result (ring_edge_weight rows order i) tail head
     (label_at labels (tail_of order i)) (label_at labels (head_of order i)) weight tail_is head_is
