@@ -127,7 +127,5 @@ fn with_held(before: Change) -> Change
 pub(crate) fn forget(changes: &mut Vec<Change>)
     ensures { changes.new.items ≡ replicate (length changes.old.items) Change.Nothing }
 {
-    for i in 0..changes.len() {
-        changes[i] = Change::Nothing;
-    }
+    changes.fill(Change::Nothing);
 }

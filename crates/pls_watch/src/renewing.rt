@@ -80,6 +80,34 @@ impl<'n> Watch<'n> {
         ensures unchanged { OnErr result (shown.new ≡ shown.old) }
         ensures few_steps { RoseByAtMost 1 steps.old steps.new }
     {
+        if changes[i] == Change::Nothing {
+            return Ok(());
+        }
+        self.renew_changed(alloc, i, changes, shown, room, checker, steps)
+    }
+
+    // Apart from `renew`, since nothing changed at most nodes.
+    #[inline(never)]
+    fn renew_changed<K: Checker>(
+        &self,
+        alloc: Global,
+        i: usize,
+        changes: &[Change],
+        shown: &mut LookRows,
+        room: &mut LookRoom,
+        checker: &K,
+        steps: &mut Steps,
+    ) -> Result<(), NoMemory>
+        requires place { i < length self.now.network }
+        requires current { IsCurrent (K.judge checker.now) self.now changes.now shown.old.rows }
+        requires table { IsTable self.now room.old.table.items }
+        ensures table { IsTable self.now room.new.table.items }
+        ensures renewed { OnOk result (IsRenewed (K.judge checker.now) self.now i
+            shown.old.rows shown.new.rows) }
+        ensures kept { shown.new.kept ≡ shown.old.kept }
+        ensures unchanged { OnErr result (shown.new ≡ shown.old) }
+        ensures few_steps { RoseByAtMost 1 steps.old steps.new }
+    {
         match changes[i] {
             Change::Nothing => {}
             Change::Beside => {
