@@ -6,9 +6,10 @@ use Rattle.pls_levels.proofs.LevelsLeft.{next_left}
 use Rattle.pls_pathmax.specs.Labels.{level_off, pathmax_levels}
 use Rattle.pls_pathmax.specs.inner.Reading.{AreLeft}
 use Rattle.pls_pathmax.specs.laws.LabelLaws.{exact_levels}
-use Rattle.pls_pathmax.proofs.LevelsLeft.{drop_at}
-use Rattle.pls_pathmax.proofs.Glances.{ends_more, ends_of_all}
-use Rattle.pls_pathmax.proofs.glance.ends_in.Goals as goal
+use Rattle.pls_pathmax.proofs.LevelsLeft.{drop_at, drop_split}
+use Rattle.pls_pathmax.proofs.Fronts.{all_so_far, none_so_far, one_more}
+use Rattle.pls_pathmax.proofs.Glances.{last_more, last_of_all}
+use Rattle.pls_pathmax.proofs.glance.levels_seen.Goals as goal
 
 pub loop-number-preserved : goal.loop-number-preserved
 loop-number-preserved g c =
@@ -24,13 +25,19 @@ loop-number-preserved g c =
           (next_left pathmax_levels exact_levels c.loop-number.numbers c.read_level.new.numbers
           c.in_ok-level.level (drop number levels) c.in_ok-level.ensures.found
           (c.loop-number.invariant.left levels are)).1;
-      ends = λ levels are. c.with_level-ends.ensures
-          ∙ ends_more levels number c.in_ok-level.level c.loop-number.ends
+      front = λ levels are. one_more levels number c.in_ok-level.level
+          (drop_split levels number c.in_ok-level.level
+          (next_left pathmax_levels exact_levels c.loop-number.numbers c.read_level.new.numbers
+          c.in_ok-level.level (drop number levels) c.in_ok-level.ensures.found
+          (c.loop-number.invariant.left levels are)).0) c.loop-number.kept c.loop-number.front
+          (c.loop-number.invariant.front levels are) c.keep_level-kept.result
+          c.keep_level-kept.new.front c.keep_level-kept.ensures.kept
+          c.keep_level-kept.ensures.front;
+      last = λ levels are. last_more levels number c.in_ok-level.level
           (drop_at levels number c.in_ok-level.level
           (next_left pathmax_levels exact_levels c.loop-number.numbers c.read_level.new.numbers
           c.in_ok-level.level (drop number levels) c.in_ok-level.ensures.found
-          (c.loop-number.invariant.left levels are)).0)
-          (c.loop-number.invariant.ends levels are);
+          (c.loop-number.invariant.left levels are)).0);
     }
 
 pub returns-then-is_end-clause-there : goal.returns-then-is_end-clause-there
@@ -40,10 +47,16 @@ returns-then-is_end-clause-there g c =
     ∙ ap (λ (count : ℕ). are_levels pathmax_levels count c.loop-number.numbers) none
     ∙ sym (are_items-end level_off c.loop-number.numbers) ∙ sym c.is_end.ensures ∙ c.if-is_end.true
 
-pub returns-then-is_end-clause-ends : goal.returns-then-is_end-clause-ends
-returns-then-is_end-clause-ends g c levels are many =
-    c.loop-number.invariant.ends levels are
-    ∙ ends_of_all levels c.loop-number.number
+pub returns-then-is_end-clause-front : goal.returns-then-is_end-clause-front
+returns-then-is_end-clause-front g c levels are many =
+    all_so_far levels c.loop-number.number c.loop-number.kept c.loop-number.front
+    (omega (arith, many, c.loop-number-test.false, c.loop-number.auto.number-end))
+    (c.loop-number.invariant.front levels are)
+
+pub returns-then-is_end-clause-last : goal.returns-then-is_end-clause-last
+returns-then-is_end-clause-last g c levels are many =
+    c.loop-number.invariant.last levels are
+    ∙ last_of_all levels c.loop-number.number
     (omega (arith, many, c.loop-number-test.false, c.loop-number.auto.number-end))
 
 pub returns-else-is_end-clause-none : goal.returns-else-is_end-clause-none
