@@ -1,10 +1,11 @@
 -- The first levels of a label, as they are kept at a glance.
-use Rattle.std.proofs.Common.{◌≡◌, ◌∙◌, ℕ, ◌+◌, ◌-◌, ◌≤◌, ◌<◌, ◌==◌, ◌&&◌, ◌⊎◌, nat_lt, [], ◌∷◌, ◌++◌, inl, inr, min, if◌then◌else◌, true, false, Bool, List, length, map, get_or, take, drop, replicate, set, refl, subst, sym, ap, arith}
+use Rattle.std.proofs.Common.{◌≡◌, ◌∙◌, ℕ, ◌+◌, ◌-◌, ◌≤◌, ◌<◌, ◌==◌, ◌&&◌, ◌⊎◌, nat_lt, [], ◌∷◌, ◌++◌, inl, inr, min, if◌then◌else◌, true, false, Bool, List, length, map, get_or, take, drop, replicate, set, slice_get, Some, refl, subst, sym, ap, arith}
 use Rattle.std.specs.List.{prefix_len}
 use Rattle.std.proofs.lemmas.Bool.{and_from, and_parts, cases_Bool, cases_lt, eq-eqb, eqb-true, lt-ltb, ltb-true, true≢false}
 use Rattle.std.proofs.lemmas.List.{drop-drop, drop-replicate, drop-set-lt, drop_all, drop_more, get_or-map, get_or-take, length-drop, length-map, length-replicate, length-set, length-take, length-take-le, map-id, map_more, take-append-drop, take-append-le, take-map, take-replicate, take-take, take_more_set}
 use Rattle.std.proofs.lemmas.List.Sums.{prefix_len-le-length, prefix_len_is}
 use Rattle.std.proofs.lemmas.Simd.{map-map}
+use Rattle.std.proofs.lemmas.Option.{slice_get-get_or}
 use Rattle.std.proofs.Math.Seq.{take-append-add}
 use Rattle.pls_centroid.specs.declared.level.CentroidLevel.{CentroidLevel}
 use Rattle.pls_pathmax.specs.declared.glance.TheConstants.{FRONT}
@@ -132,6 +133,35 @@ kept_in-few levels =
 pub all_whole-at : (front : List KeptLevel) (place : ℕ) → place < length front
     → whole (get_or front place no_level) ≡ get_or (all_whole front) place blank
 all_whole-at front place within = sym (get_or-map whole front place no_level blank within)
+
+-- a level among the first of a front
+module _ (count : ℕ) (front : List KeptLevel) (place : ℕ) (within : place < count)
+    (there : place < length front) where
+  -- there are more of them than its place
+  more : place < length (take count (all_whole front))
+  more = omega (
+    arith,
+    within,
+    there,
+    length-take count (all_whole front),
+    length-map front whole,
+  )
+
+  level_is : get_or (take count (all_whole front)) place blank ≡ whole (get_or front place no_level)
+  level_is = get_or-take count (all_whole front) place blank within
+      ∙ sym (all_whole-at front place there)
+
+  -- it stands there
+  pub kept_at : slice_get (take count (all_whole front)) place
+      ≡ Some (whole (get_or front place no_level))
+  kept_at = slice_get-get_or (take count (all_whole front)) place blank more ∙ ap Some level_is
+
+  -- it comes first of those that are left
+  pub kept_split : drop place (take count (all_whole front))
+      ≡ whole (get_or front place no_level) ∷ drop (place + 1) (take count (all_whole front))
+  kept_split = drop_more (take count (all_whole front)) place blank more
+      ∙ ap (λ (level : CentroidLevel). level ∷ drop (place + 1) (take count (all_whole front)))
+      level_is
 
 -- of the first that are kept so many are those of all
 pub front_of-take : (count : ℕ) (levels : List CentroidLevel) → count ≤ kept_in levels

@@ -9,7 +9,6 @@ ghost use Rattle.pls_pathmax.specs.inner.Glance.{all_whole};
 ghost use Rattle.pls_pathmax.specs.inner.OnePass.{leads_from};
 ghost use Rattle.pls_pathmax.specs.inner.Reading.{AreLeft};
 
-use crate::gathering::WINDOW;
 use crate::glance::FRONT;
 use crate::kept_level::KeptLevel;
 use crate::levels::PathMaxLevels;
@@ -83,9 +82,10 @@ pub(crate) fn note_front(
     theirs: &[KeptLevel; FRONT],
     count: usize,
     weight: u64,
-    flags: &mut [bool; WINDOW],
+    flags: &mut [bool],
 )
-    requires { count ≤ FRONT }
+    requires kept { count ≤ FRONT }
+    requires flags { count ≤ length flags.old }
     ensures { (k : ℕ) → slice_index_or flags.new k false ≡ (slice_index_or flags.old k false
         || leads_from weight (slice_get (take count (all_whole mine.now)) k)
         (slice_get (take count (all_whole theirs.now)) k)) }
