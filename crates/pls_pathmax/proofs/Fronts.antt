@@ -20,12 +20,12 @@ blank = whole no_level
 -- so many of these levels are kept in a front of so much room, and the rest stands behind them
 pub record IsKept (most place : ℕ) (front : List KeptLevel) (levels rest : List CentroidLevel)
     : Type 0 where
-    pub many : place ≤ length levels
-    pub long : length front ≡ most
-    pub kept : take place front ≡ map kept_of (take place levels)
-    pub empty : drop place front ≡ replicate (most - place) no_level
-    pub fit : (i : ℕ) → i < place → fits (get_or levels i blank) ≡ true
-    pub left : drop place levels ≡ rest
+  pub many : place ≤ length levels
+  pub long : length front ≡ most
+  pub kept : take place front ≡ map kept_of (take place levels)
+  pub empty : drop place front ≡ replicate (most - place) no_level
+  pub fit : (i : ℕ) → i < place → fits (get_or levels i blank) ≡ true
+  pub left : drop place levels ≡ rest
 
 module _ (most : ℕ) where
   -- so many levels, and behind them what stands where there is none
@@ -264,30 +264,30 @@ module _ (levels : List CentroidLevel) (number : ℕ) (level : CentroidLevel)
       | inr full ↦ none_left number front levels (drop number levels) is few
           (λ less. absurd (omega (arith, less, full)))
       | inl room ↦ elim (cases_Bool (fits level)) [
-          | inr wide ↦ none_fits number front levels level (drop (number + 1) levels) led few wide
-          | inl short ↦ absurd (true≢false (sym (and_from (number == number)
-              (nat_lt number FRONT && fits level) (eq-eqb number number refl)
-              (and_from (nat_lt number FRONT) (fits level) (lt-ltb number FRONT room) short))
-              ∙ not))
-        ]
+        | inr wide ↦ none_fits number front levels level (drop (number + 1) levels) led few wide
+        | inl short ↦ absurd (true≢false (sym (and_from (number == number)
+            (nat_lt number FRONT && fits level) (eq-eqb number number refl)
+            (and_from (nat_lt number FRONT) (fits level) (lt-ltb number FRONT room) short))
+            ∙ not))
+      ]
     ]
 
   module _ (kept : ℕ) (front : List KeptLevel) (so_far : AreKeptSoFar number kept front levels)
     where
-    -- with the next one, which is kept or not
-    abbrev IsSoWith : Bool → Type 0
-    IsSoWith too = AreKeptSoFar (number + 1) (if too then kept + 1 else kept)
-        (if too then set front kept (kept_of level) else front) levels
+      -- with the next one, which is kept or not
+      abbrev IsSoWith : Bool → Type 0
+      IsSoWith too = AreKeptSoFar (number + 1) (if too then kept + 1 else kept)
+          (if too then set front kept (kept_of level) else front) levels
 
-    with_it : is_kept_too kept number level ≡ true → IsSoWith true
-    with_it is =
-        let parts = and_parts (number == kept) (nat_lt number FRONT && fits level) is in
-        let here : number ≡ kept = eqb-true number kept parts.0 in
-        let more = and_parts (nat_lt number FRONT) (fits level) parts.1 in
-        let room : number < FRONT = ltb-true number FRONT more.0 in
-        elim so_far [
-          | inr stopped ↦ absurd (omega (arith, here, stopped.1))
-          | inl going ↦ inl (
+      with_it : is_kept_too kept number level ≡ true → IsSoWith true
+      with_it is =
+          let parts = and_parts (number == kept) (nat_lt number FRONT && fits level) is in
+          let here : number ≡ kept = eqb-true number kept parts.0 in
+          let more = and_parts (nat_lt number FRONT) (fits level) parts.1 in
+          let room : number < FRONT = ltb-true number FRONT more.0 in
+          elim so_far [
+            | inr stopped ↦ absurd (omega (arith, here, stopped.1))
+            | inl going ↦ inl (
               omega (arith, here),
               omega (arith, room),
               subst (λ (place : ℕ). IsKept FRONT (number + 1) (set front place (kept_of level))
@@ -295,25 +295,25 @@ module _ (levels : List CentroidLevel) (number : ℕ) (level : CentroidLevel)
                   (front-next number front levels level (drop (number + 1) levels) (kept_of level)
                   room (led front going.1 going.2) more.1 refl),
             )
-        ]
+          ]
 
-    without_it : is_kept_too kept number level ≡ false → IsSoWith false
-    without_it not = elim so_far [
-      | inr stopped ↦ inr (stopped.0, omega (arith, stopped.1))
-      | inl going ↦
-          let front_is : IsFront number front levels = not_one_more front going.1 going.2
-          (ap (λ (kept : ℕ). is_kept_too kept number level) (sym going.0) ∙ not) in
-          inr ((going.0 ∙ front_is.0, front_is.1), omega (arith, going.0))
-    ]
+      without_it : is_kept_too kept number level ≡ false → IsSoWith false
+      without_it not = elim so_far [
+        | inr stopped ↦ inr (stopped.0, omega (arith, stopped.1))
+        | inl going ↦
+            let front_is : IsFront number front levels = not_one_more front going.1 going.2
+            (ap (λ (kept : ℕ). is_kept_too kept number level) (sym going.0) ∙ not) in
+            inr ((going.0 ∙ front_is.0, front_is.1), omega (arith, going.0))
+      ]
 
-    pub one_more : (now : ℕ) (with_next : List KeptLevel) → now ≡ kept_with kept number level
-        → with_next ≡ front_with kept number level front
-        → AreKeptSoFar (number + 1) now with_next levels
-    one_more now with_next now_is front_is =
-        rw (now_is, front_is) (elim (cases_Bool (is_kept_too kept number level)) [
-          | inl too ↦ subst IsSoWith (sym too) (with_it too)
-          | inr not ↦ subst IsSoWith (sym not) (without_it not)
-        ])
+      pub one_more : (now : ℕ) (with_next : List KeptLevel) → now ≡ kept_with kept number level
+          → with_next ≡ front_with kept number level front
+          → AreKeptSoFar (number + 1) now with_next levels
+      one_more now with_next now_is front_is =
+          rw (now_is, front_is) (elim (cases_Bool (is_kept_too kept number level)) [
+            | inl too ↦ subst IsSoWith (sym too) (with_it too)
+            | inr not ↦ subst IsSoWith (sym not) (without_it not)
+          ])
 
 -- of all
 pub all_so_far : (levels : List CentroidLevel) (number kept : ℕ) (front : List KeptLevel)

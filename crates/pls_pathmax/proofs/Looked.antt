@@ -1,5 +1,5 @@
 -- What two labels say together, by the levels that are kept of both.
-use Rattle.std.proofs.Common.{◌≡◌, ◌∙◌, ◌<◌, ◌≤◌, ℕ, zero, suc, ◌+◌, ◌||◌, ◌⊎◌, inl, inr, min, nat_lt, Bool, true, false, List, [], ◌∷◌, get_or, length, slice_get, take, drop, refl, sym, ap, arith}
+use Rattle.std.proofs.Common.{◌≡◌, ◌∙◌, ◌<◌, ◌≤◌, ℕ, zero, suc, ◌+◌, ◌||◌, ◌⊎◌, inl, inr, nat_lt, Bool, true, false, List, [], ◌∷◌, get_or, length, slice_get, take, drop, refl, sym, ap, arith}
 use Rattle.std.specs.List.{list_any, zip}
 use Rattle.std.proofs.lemmas.Bool.{and_cases, cases_lt, ltb-false, or_left}
 use Rattle.std.proofs.lemmas.List.{length-take, take-append-drop, take_all}
@@ -8,10 +8,9 @@ use Rattle.std.proofs.lemmas.Option.{slice_get_past}
 use Rattle.std.proofs.lemmas.Slice.Zip.{length-zip}
 use Rattle.pls_centroid.specs.declared.level.CentroidLevel.{CentroidLevel}
 use Rattle.pls_pathmax.specs.declared.glance.PathMaxGlance.{PathMaxGlance}
-use Rattle.pls_pathmax.specs.declared.kept_level.KeptLevel.{KeptLevel}
 use Rattle.pls_pathmax.specs.Labels.{PathMaxLabel}
 use Rattle.pls_pathmax.specs.Rules.{meet_lightly}
-use Rattle.pls_pathmax.specs.inner.Glance.{all_whole, both_go_on, both_keep, glance_said, kept_in}
+use Rattle.pls_pathmax.specs.inner.Glance.{all_whole, both_go_on, both_keep, glance_said}
 use Rattle.pls_pathmax.specs.inner.OnePass.{leads_from}
 use Rattle.pls_pathmax.proofs.Compared.{leads_nothing, nothing_leads}
 use Rattle.pls_pathmax.proofs.Fronts.{front_of-take}

@@ -112,7 +112,13 @@ fn led_on_with<C: NumCode>(
     let mut flags = before;
     let count = both_keep(own.glance, label.glance);
     if first == 0 && !both_go_on(own.glance, label.glance, count) {
-        note_front(&own.glance.front, &label.glance.front, count, weight, &mut flags);
+        note_front(
+            &own.glance.front,
+            &label.glance.front,
+            count,
+            weight,
+            &mut flags,
+        );
         return flags;
     }
     let mut mine = levels_in::<C>(own);

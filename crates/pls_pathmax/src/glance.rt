@@ -94,12 +94,7 @@ fn levels_seen<C: NumCode>(numbers: &mut Numbers<'_, C>, count: u64) -> Option<L
 
 // Keeps a level of this number where all before it are kept, and it fits; gives how many are kept.
 #[inline(always)]
-fn keep_level(
-    front: &mut [KeptLevel; FRONT],
-    kept: u64,
-    number: u64,
-    level: &CentroidLevel,
-) -> u64
+fn keep_level(front: &mut [KeptLevel; FRONT], kept: u64, number: u64, level: &CentroidLevel) -> u64
     ensures kept { result ≡ kept_with kept number level.now }
     ensures front { front.new ≡ front_with kept number level.now front.old }
 {

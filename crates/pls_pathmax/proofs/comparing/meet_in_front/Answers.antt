@@ -1,4 +1,4 @@
-use Rattle.std.proofs.Common.{◌≡◌, ◌∙◌, ◌+◌, ◌<◌, ◌||◌, ℕ, Bool, List, ◌∷◌, drop, length, take, sym, ap, arith}
+use Rattle.std.proofs.Common.{◌∙◌, ◌+◌, ◌<◌, ◌||◌, ℕ, Bool, List, ◌∷◌, drop, length, take, sym, ap, arith}
 use Rattle.pls_centroid.specs.declared.level.CentroidLevel.{CentroidLevel}
 use Rattle.pls_pathmax.specs.inner.Glance.{all_whole}
 use Rattle.pls_pathmax.proofs.Compared.{meet_from, meet_next}

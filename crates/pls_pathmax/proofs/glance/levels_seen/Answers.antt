@@ -7,7 +7,7 @@ use Rattle.pls_pathmax.specs.Labels.{level_off, pathmax_levels}
 use Rattle.pls_pathmax.specs.inner.Reading.{AreLeft}
 use Rattle.pls_pathmax.specs.laws.LabelLaws.{exact_levels}
 use Rattle.pls_pathmax.proofs.LevelsLeft.{drop_at, drop_split}
-use Rattle.pls_pathmax.proofs.Fronts.{all_so_far, none_so_far, one_more}
+use Rattle.pls_pathmax.proofs.Fronts.{all_so_far, one_more}
 use Rattle.pls_pathmax.proofs.Glances.{last_more, last_of_all}
 use Rattle.pls_pathmax.proofs.glance.levels_seen.Goals as goal
 
