@@ -1,11 +1,13 @@
 -- What is kept of labels.
-use Rattle.std.proofs.Common.{◌≡◌, ◌∙◌, ℕ, zero, suc, ◌+◌, List, [], ◌∷◌, length, Option, Some, None, slice_get, refl, ap, add-one, arith}
+use Rattle.std.proofs.Common.{◌≡◌, ◌∙◌, ℕ, zero, suc, ◌+◌, ◌-◌, Bool, List, [], ◌∷◌, length, Option, Some, None, slice_get, refl, sym, ap, add-one, arith}
 use Rattle.std.specs.Prelude.{option_map}
 use Rattle.pls_centroid.specs.declared.level.CentroidLevel.{CentroidLevel}
+use Rattle.pls_numbers.specs.Numbers.{NumbersLeft}
+use Rattle.pls_levels.specs.Labels.{are_levels}
 use Rattle.pls_levels.specs.declared.label.LevelHead.{LevelHead}
 use Rattle.pls_pathmax.specs.declared.glance.PathMaxGlance.{PathMaxGlance}
 use Rattle.pls_pathmax.specs.declared.kept_level.KeptLevel.{KeptLevel}
-use Rattle.pls_pathmax.specs.Labels.{PathMaxLabel}
+use Rattle.pls_pathmax.specs.Labels.{PathMaxLabel, pathmax_levels}
 use Rattle.pls_pathmax.specs.inner.Glance.{IsFront, glance_said, glance_with, head_seen, last_level}
 use Rattle.pls_pathmax.specs.inner.Reading.{head_said}
 
@@ -25,6 +27,13 @@ pub last_of_all : (levels : List CentroidLevel) (n : ℕ) → length levels ≡ 
 last_of_all [] zero all = refl
 last_of_all (level ∷ levels) zero all = absurd (cc)
 last_of_all levels (suc n) all = ap (slice_get levels) (omega (arith, all))
+
+-- where so many levels were read, they are all that is left if nothing is left behind them
+pub all_read : (count number : ℕ) (start left : NumbersLeft) (at_end : Bool) → count - number ≡ 0
+    → are_levels pathmax_levels count start ≡ are_levels pathmax_levels (count - number) left
+    → at_end ≡ are_levels pathmax_levels 0 left → are_levels pathmax_levels count start ≡ at_end
+all_read count number start left at_end none so_far ends =
+    so_far ∙ ap (λ (count : ℕ). are_levels pathmax_levels count left) none ∙ sym ends
 
 -- what is kept of the label above has in it what stands in front of its levels
 pub head_kept : (above : Option PathMaxLabel) (kept : Option PathMaxGlance)

@@ -1,5 +1,6 @@
 pub mod LevelsLeft
 pub mod Fronts
+pub mod KeptSoFar
 pub mod Glances
 pub mod Compared
 pub mod Looked

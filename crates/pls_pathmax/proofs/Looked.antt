@@ -8,12 +8,14 @@ use Rattle.std.proofs.lemmas.Option.{slice_get_past}
 use Rattle.std.proofs.lemmas.Slice.Zip.{length-zip}
 use Rattle.pls_centroid.specs.declared.level.CentroidLevel.{CentroidLevel}
 use Rattle.pls_pathmax.specs.declared.glance.PathMaxGlance.{PathMaxGlance}
+use Rattle.pls_pathmax.specs.declared.kept_level.KeptLevel.{KeptLevel}
 use Rattle.pls_pathmax.specs.Labels.{PathMaxLabel}
 use Rattle.pls_pathmax.specs.Rules.{meet_lightly}
-use Rattle.pls_pathmax.specs.inner.Glance.{all_whole, both_go_on, both_keep, glance_said}
+use Rattle.pls_pathmax.specs.inner.Glance.{all_whole, both_go_on, both_keep, glance_said, no_level}
+use Rattle.pls_pathmax.specs.inner.KeptLevel.{whole}
 use Rattle.pls_pathmax.specs.inner.OnePass.{leads_from}
-use Rattle.pls_pathmax.proofs.Compared.{leads_nothing, nothing_leads}
-use Rattle.pls_pathmax.proofs.Fronts.{front_of-take}
+use Rattle.pls_pathmax.proofs.Compared.{leads_nothing, meet_from, meet_next, nothing_leads}
+use Rattle.pls_pathmax.proofs.Fronts.{front_of-take, kept_split}
 
 -- what stands at a place among the first items
 slice_get-take : {X : Type 0} (count : ℕ) (xs : List X) (k : ℕ) → k < count
@@ -32,6 +34,23 @@ zip-take (suc count) (x ∷ xs) [] = refl
 zip-take {X} {Y} (suc count) (x ∷ xs) (y ∷ ys) =
     let one : X × Y = (x, y) in
     ap (λ (rest : List (X × Y)). one ∷ rest) (zip-take count xs ys)
+
+-- of two fronts, whether nodes meet lightly on the next level or on those behind it
+pub front_meet_next : (weight count place : ℕ) (mine theirs : List KeptLevel)
+    (here there : CentroidLevel) → place < count → place < length mine → place < length theirs
+    → here ≡ whole (get_or mine place no_level) → there ≡ whole (get_or theirs place no_level)
+    → meet_from weight (take count (all_whole mine)) (take count (all_whole theirs)) place
+    ≡ (meet_lightly weight here there
+    || meet_from weight (take count (all_whole mine)) (take count (all_whole theirs)) (place + 1))
+front_meet_next weight count place mine theirs here there within mine_has theirs_has here_is
+    there_is =
+    let mine_first : List CentroidLevel = take count (all_whole mine) in
+    let theirs_first : List CentroidLevel = take count (all_whole theirs) in
+    meet_next weight mine_first theirs_first place here there
+    (kept_split count mine place within mine_has
+    ∙ ap (λ (level : CentroidLevel). level ∷ drop (place + 1) mine_first) (sym here_is))
+    (kept_split count theirs place within theirs_has
+    ∙ ap (λ (level : CentroidLevel). level ∷ drop (place + 1) theirs_first) (sym there_is))
 
 -- the levels of two labels, of which so many are kept of both
 module _ (weight : ℕ) (own other : PathMaxLabel) (mine theirs : PathMaxGlance) (count : ℕ)

@@ -3,7 +3,7 @@ use Rattle.pls_centroid.specs.declared.level.CentroidLevel.{CentroidLevel}
 use Rattle.pls_levels.specs.Labels.{are_levels}
 use Rattle.pls_pathmax.specs.Labels.{pathmax_levels}
 use Rattle.pls_pathmax.specs.inner.Reading.{AreLeft}
-use Rattle.pls_pathmax.proofs.Fronts.{AreKeptSoFar}
+use Rattle.pls_pathmax.proofs.KeptSoFar.{AreKeptSoFar}
 use Rattle.pls_pathmax.proofs.Glances.{last_before}
 use Rattle.pls_pathmax.proofs.glance.levels_seen.Given as goal
 
