@@ -64,8 +64,8 @@ module _ (most : ℕ) where
       ∙ ap (λ (count : ℕ). replicate count no_level) less
 
   -- one level more is kept
-  kept-next : (place : ℕ) (front : List KeptLevel) (levels : List CentroidLevel) (level : CentroidLevel)
-      (rest : List CentroidLevel) (short : KeptLevel) → place < most
+  kept-next : (place : ℕ) (front : List KeptLevel) (levels : List CentroidLevel)
+      (level : CentroidLevel) (rest : List CentroidLevel) (short : KeptLevel) → place < most
       → IsKept most place front levels (level ∷ rest) → fits level ≡ true → short ≡ kept_of level
       → IsKept most (place + 1) (set front place short) levels rest
   kept-next place front levels level rest short within was fit is =
@@ -190,8 +190,8 @@ front-none levels rest same = record {
 }
 
 -- one level more is kept
-pub front-next : (place : ℕ) (front : List KeptLevel) (levels : List CentroidLevel) (level : CentroidLevel)
-    (rest : List CentroidLevel) (short : KeptLevel) → place < FRONT
+pub front-next : (place : ℕ) (front : List KeptLevel) (levels : List CentroidLevel)
+    (level : CentroidLevel) (rest : List CentroidLevel) (short : KeptLevel) → place < FRONT
     → IsKept FRONT place front levels (level ∷ rest) → fits level ≡ true → short ≡ kept_of level
     → IsKept FRONT (place + 1) (set front place short) levels rest
 front-next place front levels level rest short = kept-next FRONT place front levels level rest short
@@ -229,8 +229,8 @@ none_left place front levels rest is within none =
     )))
 
 -- where the next does not fit
-pub none_fits : (place : ℕ) (front : List KeptLevel) (levels : List CentroidLevel) (level : CentroidLevel)
-    (rest : List CentroidLevel) → IsKept FRONT place front levels (level ∷ rest) → place ≤ FRONT
+pub none_fits : (place : ℕ) (front : List KeptLevel) (levels : List CentroidLevel)
+    (level : CentroidLevel) (rest : List CentroidLevel) → IsKept FRONT place front levels (level ∷ rest) → place ≤ FRONT
     → fits level ≡ false → IsFront place front levels
 none_fits place front levels level rest is within not =
     all_kept place front levels (level ∷ rest) is within (λ less there.

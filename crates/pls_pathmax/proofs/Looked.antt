@@ -23,7 +23,8 @@ slice_get-take : {X : Type 0} (count : ℕ) (xs : List X) (k : ℕ) → k < coun
 slice_get-take zero xs k within = absurd (omega (arith, within))
 slice_get-take (suc count) [] k within = refl
 slice_get-take (suc count) (x ∷ xs) zero within = refl
-slice_get-take (suc count) (x ∷ xs) (suc k) within = slice_get-take count xs k (omega (arith, within))
+slice_get-take (suc count) (x ∷ xs) (suc k) within =
+    slice_get-take count xs k (omega (arith, within))
 
 -- the first items of two lists side by side are the first that stand side by side
 zip-take : {X Y : Type 0} (count : ℕ) (xs : List X) (ys : List Y)
@@ -110,8 +111,8 @@ module _ (weight : ℕ) (own other : PathMaxLabel) (mine theirs : PathMaxGlance)
     pub noted_in_front : (first k : ℕ) (old flags : List Bool) → first ≡ 0
         → get_or flags k false ≡ (get_or old k false
         || leads_at (take count (all_whole mine.front)) (take count (all_whole theirs.front)) k)
-        → get_or flags k false ≡ (get_or old k false
-        || leads_from weight (slice_get own.levels (first + k)) (slice_get other.levels (first + k)))
+        → get_or flags k false
+        ≡ (get_or old k false || leads_at own.levels other.levels (first + k))
     noted_in_front first k old flags zero_is noted =
         let same : k ≡ first + k = omega (arith, zero_is) in
         noted

@@ -74,8 +74,8 @@ fn is_led_on(flag: bool, mine: &CentroidLevel, weight: u64, theirs: &CentroidLev
     flag || nearer
 }
 
-// Sets flag `k` where level `k` of the first `count` that are kept leads on; flags that are set stay
-// so.
+// Sets flag `k` where level `k` leads on, of the first `count`, which are kept of both; flags that
+// are set stay so.
 #[inline(always)]
 pub(crate) fn note_front(
     mine: &[KeptLevel; FRONT],

@@ -32,7 +32,8 @@ pub(crate) const WINDOW: usize = 64;
 pub(crate) struct PortTally {
     // The neighbours name the own root.
     pub(crate) agrees: bool,
-    // At each port outside of the tree so far, the node and the neighbour meet lightly on some level.
+    // At each port outside of the tree so far, the node and the neighbour meet lightly on some
+    // level.
     pub(crate) heavy: bool,
     // On which levels some port in the tree leads on to the centroid.
     pub(crate) led_on: [bool; WINDOW],
