@@ -4,7 +4,7 @@ use Rattle.std.specs.List.{list_any, zip}
 use Rattle.std.proofs.lemmas.Bool.{cases_eq, cases_lt}
 use Rattle.pls_centroid.specs.declared.level.CentroidLevel.{CentroidLevel}
 use Rattle.pls_pathmax.specs.Rules.{leads_on, meet_lightly}
-use Rattle.pls_pathmax.specs.inner.OnePass.{leads_from, meet_at_first}
+use Rattle.pls_pathmax.specs.inner.OnePass.{leads_from}
 
 -- nothing leads on without a level
 pub nothing_leads : (weight : ℕ) (mine theirs : Option CentroidLevel) → mine ≡ None
@@ -111,11 +111,3 @@ module _ (weight : ℕ) where
       ap (λ (here : List CentroidLevel). list_any beside (zip here (drop number there))) one
       ∙ ap (λ (there : List CentroidLevel).
       list_any beside (zip (mine ∷ drop (number + 1) here) there)) other
-
--- nodes that meet lightly on their first levels do so on some level
-pub meet_first : (weight : ℕ) (mine theirs : List CentroidLevel)
-    → meet_at_first weight (slice_get mine 0) (slice_get theirs 0) ≡ true
-    → list_any (λ both. meet_lightly weight both.0 both.1) (zip mine theirs) ≡ true
-meet_first weight [] theirs meets = absurd (cc)
-meet_first weight (mine ∷ others) [] meets = absurd (cc)
-meet_first weight (mine ∷ others) (theirs ∷ more) meets = rw meets refl

@@ -1,37 +1,39 @@
 -- What is kept of labels.
-use Rattle.std.proofs.Common.{◌≡◌, ◌∙◌, ℕ, zero, suc, ◌+◌, ◌-◌, List, [], ◌∷◌, length, Option, Some, None, slice_get, refl, ap, add-one, arith}
-use Rattle.std.specs.Prelude.{◌==◌, false, option_map}
-use Rattle.std.proofs.lemmas.Bool.{ne_eqb}
+use Rattle.std.proofs.Common.{◌≡◌, ◌∙◌, ℕ, zero, suc, ◌+◌, ◌-◌, Bool, List, [], ◌∷◌, length, Option, Some, None, slice_get, refl, sym, ap, add-one, arith}
+use Rattle.std.specs.Prelude.{option_map}
 use Rattle.pls_centroid.specs.declared.level.CentroidLevel.{CentroidLevel}
+use Rattle.pls_numbers.specs.Numbers.{NumbersLeft}
+use Rattle.pls_levels.specs.Labels.{are_levels}
 use Rattle.pls_levels.specs.declared.label.LevelHead.{LevelHead}
-use Rattle.pls_pathmax.specs.declared.glance.Ends.{Ends}
 use Rattle.pls_pathmax.specs.declared.glance.PathMaxGlance.{PathMaxGlance}
-use Rattle.pls_pathmax.specs.Labels.{PathMaxLabel}
-use Rattle.pls_pathmax.specs.inner.Glance.{level_ends, ends_with, glance_said, glance_with, head_seen}
+use Rattle.pls_pathmax.specs.declared.kept_level.KeptLevel.{KeptLevel}
+use Rattle.pls_pathmax.specs.Labels.{PathMaxLabel, pathmax_levels}
+use Rattle.pls_pathmax.specs.inner.Glance.{IsFront, glance_said, glance_with, head_seen, last_level}
 use Rattle.pls_pathmax.specs.inner.Reading.{head_said}
 
--- the first and the last of so many levels that stand first
-abbrev pub ends_before : List CentroidLevel → ℕ → Ends
-ends_before levels zero = record { first = None; last = None }
-ends_before levels (suc n) = record { first = slice_get levels 0; last = slice_get levels n }
+-- the last of so many levels that stand first
+abbrev pub last_before : List CentroidLevel → ℕ → Option CentroidLevel
+last_before levels zero = None
+last_before levels (suc n) = slice_get levels n
 
 -- with the next one
-pub ends_more : (levels : List CentroidLevel) (n : ℕ) (level : CentroidLevel) (before : Ends)
-    → slice_get levels n ≡ Some level → before ≡ ends_before levels n
-    → ends_with before n level ≡ ends_before levels (n + 1)
-ends_more levels zero level before at is = rw at refl
-ends_more levels (suc n) level before at is =
-    let later : (suc n == 0) ≡ false = ne_eqb (suc n) 0 (λ none. omega (arith, none)) in
-    rw (add-one (suc n), at, later) (ap (λ (before : Ends).
-    record { first = before.first; last = Some level }) is)
+pub last_more : (levels : List CentroidLevel) (n : ℕ) (level : CentroidLevel)
+    → slice_get levels n ≡ Some level → Some level ≡ last_before levels (n + 1)
+last_more levels n level at = rw (add-one n, at) refl
 
 -- and of all
-pub ends_of_all : (levels : List CentroidLevel) (n : ℕ) → length levels ≡ n
-    → ends_before levels n ≡ level_ends levels
-ends_of_all [] zero all = refl
-ends_of_all (level ∷ levels) zero all = absurd (cc)
-ends_of_all levels (suc n) all =
-    let last : length levels - 1 ≡ n = omega (arith, all) in rw last refl
+pub last_of_all : (levels : List CentroidLevel) (n : ℕ) → length levels ≡ n
+    → last_before levels n ≡ last_level levels
+last_of_all [] zero all = refl
+last_of_all (level ∷ levels) zero all = absurd (cc)
+last_of_all levels (suc n) all = ap (slice_get levels) (omega (arith, all))
+
+-- where so many levels were read, they are all that is left if nothing is left behind them
+pub all_read : (count number : ℕ) (start left : NumbersLeft) (at_end : Bool) → count - number ≡ 0
+    → are_levels pathmax_levels count start ≡ are_levels pathmax_levels (count - number) left
+    → at_end ≡ are_levels pathmax_levels 0 left → are_levels pathmax_levels count start ≡ at_end
+all_read count number start left at_end none so_far ends =
+    so_far ∙ ap (λ (count : ℕ). are_levels pathmax_levels count left) none ∙ sym ends
 
 -- what is kept of the label above has in it what stands in front of its levels
 pub head_kept : (above : Option PathMaxLabel) (kept : Option PathMaxGlance)
@@ -44,8 +46,10 @@ head_kept above kept head is kept_is = is ∙ ap (option_map head_seen) kept_is 
     by None = refl
     by (Some label) = refl
 
--- what is kept of a label: what stands in front of its levels, and their ends
-pub kept_of : (said : Option PathMaxLabel) (label : PathMaxLabel) (head : LevelHead) (ends : Ends)
-    → said ≡ Some label → head_said label ≡ head → ends ≡ level_ends label.levels
-    → Some (glance_with head ends) ≡ option_map glance_said said
-kept_of said label head ends there front is = rw (there, ← front, is) refl
+-- what is kept of a label, by what was read of it
+pub kept_of_label : (said : Option PathMaxLabel) (label : PathMaxLabel) (head : LevelHead)
+    (kept : ℕ) (front : List KeptLevel) (last : Option CentroidLevel) → said ≡ Some label
+    → head_said label ≡ head → IsFront kept front label.levels → last ≡ last_level label.levels
+    → Some (glance_with head kept front last) ≡ option_map glance_said said
+kept_of_label said label head kept front last there head_is front_is last_is =
+    rw (there, ← head_is, front_is.0, front_is.1, last_is) refl

@@ -1,6 +1,9 @@
 pub mod LevelsLeft
+pub mod Fronts
+pub mod KeptSoFar
 pub mod Glances
 pub mod Compared
+pub mod Looked
 pub mod Windows
 pub mod MorePorts
 pub mod Passes

@@ -1,12 +1,16 @@
 //! The levels of a node and those of a neighbour, side by side.
 
-ghost use Rattle.std.specs.Prelude.{◌≡◌, ℕ, ◌+◌, ◌<◌, ◌==◌, ◌&&◌, ◌||◌, List, length, false, slice_get, slice_index_or};
+ghost use Rattle.std.specs.Prelude.{◌≡◌, ℕ, ◌+◌, ◌<◌, ◌≤◌, ◌==◌, ◌&&◌, ◌||◌, List, length, take, false, slice_get, slice_index_or};
 ghost use Rattle.std.specs.List.{list_any, zip};
 ghost use Rattle.pls_centroid.specs.declared.level.CentroidLevel.{CentroidLevel};
 ghost use Rattle.pls_pathmax.specs.Rules.{leads_on, meet_lightly};
-ghost use Rattle.pls_pathmax.specs.inner.OnePass.{leads_from, meet_at_first};
+ghost use Rattle.pls_pathmax.specs.declared.glance.TheConstants.{FRONT};
+ghost use Rattle.pls_pathmax.specs.inner.Glance.{all_whole};
+ghost use Rattle.pls_pathmax.specs.inner.OnePass.{leads_from};
 ghost use Rattle.pls_pathmax.specs.inner.Reading.{AreLeft};
 
+use crate::glance::FRONT;
+use crate::kept_level::KeptLevel;
 use crate::levels::PathMaxLevels;
 use crate::reading::read_level;
 use pls_bits::NumCode;
@@ -70,19 +74,47 @@ fn is_led_on(flag: bool, mine: &CentroidLevel, weight: u64, theirs: &CentroidLev
     flag || nearer
 }
 
-// False where one of them has no level.
+// Sets flag `k` where level `k` leads on, of the first `count`, which are kept of both; flags that
+// are set stay so.
 #[inline(always)]
-pub(crate) fn meet_at_first(
+pub(crate) fn note_front(
+    mine: &[KeptLevel; FRONT],
+    theirs: &[KeptLevel; FRONT],
+    count: usize,
     weight: u64,
-    mine: &Option<CentroidLevel>,
-    theirs: &Option<CentroidLevel>,
-) -> bool
-    ensures { result ≡ meet_at_first weight mine.now theirs.now }
+    flags: &mut [bool],
+)
+    requires kept { count ≤ FRONT }
+    requires flags { count ≤ length flags.old }
+    ensures { (k : ℕ) → slice_index_or flags.new k false ≡ (slice_index_or flags.old k false
+        || leads_from weight (slice_get (take count (all_whole mine.now)) k)
+        (slice_get (take count (all_whole theirs.now)) k)) }
 {
-    match (mine, theirs) {
-        (Some(mine), Some(theirs)) => meet_lightly(weight, mine, theirs),
-        _ => false,
+    for place in 0..count {
+        let here = mine[place].whole();
+        let there = theirs[place].whole();
+        flags[place] = is_led_on(flags[place], &here, weight, &there);
     }
+}
+
+// Whether the two meet lightly on one of the first `count` levels, which are kept.
+#[inline(always)]
+pub(crate) fn meet_in_front(
+    mine: &[KeptLevel; FRONT],
+    theirs: &[KeptLevel; FRONT],
+    count: usize,
+    weight: u64,
+) -> bool
+    requires { count ≤ FRONT }
+    ensures { result ≡ list_any (λ both. meet_lightly weight both.0 both.1)
+        (zip (take count (all_whole mine.now)) (take count (all_whole theirs.now))) }
+{
+    for place in 0..count {
+        if meet_lightly(weight, &mine[place].whole(), &theirs[place].whole()) {
+            return true;
+        }
+    }
+    false
 }
 
 // Stops where one of the two has no further level.

@@ -13,8 +13,8 @@ ghost use Rattle.pls_pathmax.specs.inner.Glance.{glance_said, is_own_level};
 ghost use Rattle.pls_pathmax.specs.inner.OnePass.{gathered_from, has_ways_from, led_on_from, with_leads};
 ghost use Rattle.pls_pathmax.specs.inner.Reading.{AreLeft};
 
-use crate::comparing::{meet_at_first, meet_somewhere, note_ways};
-use crate::glance::{PathMaxGlance, is_own_level};
+use crate::comparing::{meet_in_front, meet_somewhere, note_front, note_ways};
+use crate::glance::{PathMaxGlance, both_go_on, both_keep, is_own_level};
 use crate::levels::PathMaxLevels;
 use crate::reading::read_level;
 use pls_bits::NumCode;
@@ -23,8 +23,8 @@ use pls_levels::{LevelHead, is_in_tree, levels_behind, pass_levels};
 use pls_numbers::Numbers;
 use pls_scheme::LabelGlance;
 
-// On how many levels rule 5 is asked in one pass over the ports. A right label has one level more
-// than the logarithm to the base 2 of the number of nodes says, so one pass is enough for it.
+// On how many levels rule 5 is asked in one pass over the ports. A right label has at most one
+// level more than the logarithm to the base 2 of the number of nodes, so one pass is enough for it.
 pub(crate) const WINDOW: usize = 64;
 
 // What is known of the ports so far.
@@ -32,7 +32,8 @@ pub(crate) const WINDOW: usize = 64;
 pub(crate) struct PortTally {
     // The neighbours name the own root.
     pub(crate) agrees: bool,
-    // On some level the node meets each neighbour lightly that is not beside it in the tree.
+    // At each port outside of the tree so far, the node and the neighbour meet lightly on some
+    // level.
     pub(crate) heavy: bool,
     // On which levels some port in the tree leads on to the centroid.
     pub(crate) led_on: [bool; WINDOW],
@@ -92,7 +93,8 @@ pub(crate) fn with_port<C: NumCode>(
     }
 }
 
-// Adds a port in the tree to `before`, whose flags start at level `first`.
+// Adds a port in the tree to `before`, whose flags start at level `first`. The bits are read only
+// where the levels that are kept are not all that both have.
 fn led_on_with<C: NumCode>(
     first: u64,
     own: &LabelGlance<'_, PathMaxGlance>,
@@ -109,6 +111,17 @@ fn led_on_with<C: NumCode>(
         → result ≡ with_leads first weight mine.levels theirs.levels before }
 {
     let mut flags = before;
+    let count = both_keep(own.glance, label.glance);
+    if first == 0 && !both_go_on(own.glance, label.glance, count) {
+        note_front(
+            &own.glance.front,
+            &label.glance.front,
+            count,
+            weight,
+            &mut flags,
+        );
+        return flags;
+    }
     let mut mine = levels_in::<C>(own);
     let mut theirs = levels_in::<C>(label);
     note_ways(&mut mine, &mut theirs, weight, first, &mut flags);
@@ -131,6 +144,7 @@ fn agrees_too(before: bool, own: &LevelHead, theirs: &LevelHead) -> bool
     before && theirs.root == own.root
 }
 
+// Adds a port outside of the tree to `before`.
 fn is_heavy_too<C: NumCode>(
     before: bool,
     own: &LabelGlance<'_, PathMaxGlance>,
@@ -148,8 +162,12 @@ fn is_heavy_too<C: NumCode>(
     if !before {
         return false;
     }
-    if meet_at_first(weight, &own.glance.first, &label.glance.first) {
+    let count = both_keep(own.glance, label.glance);
+    if meet_in_front(&own.glance.front, &label.glance.front, count, weight) {
         return true;
+    }
+    if !both_go_on(own.glance, label.glance, count) {
+        return false;
     }
     let mut mine = levels_in::<C>(own);
     let mut theirs = levels_in::<C>(label);

@@ -1,37 +1,56 @@
-//! What is kept of a label at a glance.
+//! What is kept of a label at a glance: what stands in front of its levels, and the first of them.
 
-ghost use Rattle.std.specs.Prelude.{◌≡◌, List, Some, IfNone, IfSome, false, length, option_map, true};
+ghost use Rattle.std.specs.Prelude.{◌≡◌, List, IfNone, IfSome, false, length, option_map, true};
 ghost use Rattle.std.specs.Option.{option_copied, option_map_or};
 ghost use Rattle.pls_numbers.specs.Shape.{said_by};
 ghost use Rattle.pls_centroid.specs.declared.level.CentroidLevel.{CentroidLevel};
 ghost use Rattle.pls_levels.specs.Labels.{are_levels};
 ghost use Rattle.pls_pathmax.specs.Labels.{pathmax_levels, pathmax_shape};
-ghost use Rattle.pls_pathmax.specs.inner.Glance.{level_ends, ends_with, glance_said, head_seen, is_own_level};
+ghost use Rattle.pls_pathmax.specs.inner.Glance.{IsFront, both_go_on, both_keep, front_with, glance_said, head_seen, is_own_level, kept_with, last_level};
 ghost use Rattle.pls_pathmax.specs.inner.Reading.{AreLeft};
 
+use crate::kept_level::KeptLevel;
 use crate::reading::read_level;
 use pls_bits::{Bits, NumCode};
 use pls_centroid::CentroidLevel;
 use pls_levels::{LevelHead, read_head};
 use pls_numbers::Numbers;
 
-/// What is kept of a label at a glance: all that most ports ask for.
+/// How many levels are kept at most. A right label has at most one level more than the logarithm
+/// to the base 2 of the number of nodes, so these are all of it wherever there are fewer than
+/// 65,536 nodes. Further levels are read where they lie.
+pub const FRONT: usize = 16;
+
+/// What is kept of a label at a glance: all that a port asks for where the label is right.
 #[derive(Clone, Copy, Debug, PartialEq, Eq)]
 pub struct PathMaxGlance {
     /// What stands in front of the levels.
     pub head: LevelHead,
-    /// The first level, where there is one. In a tree it has the same centroid at all nodes.
-    pub first: Option<CentroidLevel>,
+    /// How many of the first levels are kept: those before the first with a number of 2^32 or
+    /// more, which no right label has, and `FRONT` at most.
+    pub kept: u64,
+    /// These levels, and behind them, where there are fewer than `FRONT`, levels of zeros.
+    pub front: [KeptLevel; FRONT],
     /// Whether the last level is the node's own. The levels of a right label end so.
     pub ends_at_own: bool,
 }
 
-// The first and the last of levels, where there are any.
-#[derive(Clone, Copy, Debug, PartialEq, Eq)]
-struct Ends {
-    first: Option<CentroidLevel>,
+// What is kept of levels.
+struct LevelsSeen {
+    // How many of the first ones are kept.
+    kept: u64,
+    // These, and behind them levels of zeros.
+    front: [KeptLevel; FRONT],
+    // The last level, where there is one.
     last: Option<CentroidLevel>,
 }
+
+// What stands where there is no level.
+const NO_LEVEL: KeptLevel = KeptLevel {
+    centroid: 0,
+    hops: 0,
+    greatest: 0,
+};
 
 // `None` where the bits are no label, read to the last bit.
 pub(crate) fn glance_in<C: NumCode>(bits: &Bits<'_>) -> Option<PathMaxGlance>
@@ -39,47 +58,71 @@ pub(crate) fn glance_in<C: NumCode>(bits: &Bits<'_>) -> Option<PathMaxGlance>
 {
     let mut numbers = Numbers::<C>::of(bits);
     let head = read_head(&mut numbers)?;
-    let ends = ends_in(&mut numbers, head.count)?;
+    let LevelsSeen { kept, front, last } = levels_seen(&mut numbers, head.count)?;
     Some(PathMaxGlance {
         head,
-        first: ends.first,
-        ends_at_own: is_own(head.own, &ends.last),
+        kept,
+        front,
+        ends_at_own: is_own(head.own, &last),
     })
 }
 
 // Reads so many levels; `None` where they are not all that is left.
-fn ends_in<C: NumCode>(numbers: &mut Numbers<'_, C>, count: u64) -> Option<Ends>
+fn levels_seen<C: NumCode>(numbers: &mut Numbers<'_, C>, count: u64) -> Option<LevelsSeen>
     ensures there { IfSome result (λ _. are_levels pathmax_levels count numbers.old ≡ true) }
-    ensures ends { IfSome result (λ ends. (levels : List CentroidLevel)
-        → AreLeft numbers.old levels → length levels ≡ count → ends ≡ level_ends levels) }
+    ensures front { IfSome result (λ seen. (levels : List CentroidLevel)
+        → AreLeft numbers.old levels → length levels ≡ count
+        → IsFront seen.kept seen.front levels) }
+    ensures last { IfSome result (λ seen. (levels : List CentroidLevel)
+        → AreLeft numbers.old levels → length levels ≡ count → seen.last ≡ last_level levels) }
     ensures none { IfNone result (are_levels pathmax_levels count numbers.old ≡ false) }
 {
-    let mut ends = Ends {
-        first: None,
-        last: None,
-    };
+    let mut kept = 0;
+    let mut front = [NO_LEVEL; FRONT];
+    let mut last = None;
     for number in 0..count {
         let level = read_level(numbers)?;
-        ends = with_level(ends, number, level);
+        kept = keep_level(&mut front, kept, number, &level);
+        last = Some(level);
     }
-    if numbers.is_end() { Some(ends) } else { None }
+    if numbers.is_end() {
+        Some(LevelsSeen { kept, front, last })
+    } else {
+        None
+    }
 }
 
+// Keeps a level of this number where all before it are kept, and it fits; gives how many are kept.
 #[inline(always)]
-fn with_level(before: Ends, number: u64, level: CentroidLevel) -> Ends
-    ensures { result ≡ ends_with before number level }
+fn keep_level(front: &mut [KeptLevel; FRONT], kept: u64, number: u64, level: &CentroidLevel) -> u64
+    ensures kept { result ≡ kept_with kept number level.now }
+    ensures front { front.new ≡ front_with kept number level.now front.old }
 {
-    if number == 0 {
-        Ends {
-            first: Some(level),
-            last: Some(level),
-        }
-    } else {
-        Ends {
-            first: before.first,
-            last: Some(level),
-        }
+    if number != kept || number >= FRONT as u64 {
+        return kept;
     }
+    let Some(short) = KeptLevel::of(level) else {
+        return kept;
+    };
+    front[kept as usize] = short;
+    kept + 1
+}
+
+// How many levels are kept of both.
+#[inline(always)]
+pub(crate) fn both_keep(mine: &PathMaxGlance, theirs: &PathMaxGlance) -> usize
+    ensures { result ≡ both_keep mine.now theirs.now }
+{
+    mine.kept.min(theirs.kept).min(FRONT as u64) as usize
+}
+
+// Whether both have levels behind so many.
+#[inline(always)]
+pub(crate) fn both_go_on(mine: &PathMaxGlance, theirs: &PathMaxGlance, count: usize) -> bool
+    ensures { result ≡ both_go_on mine.now theirs.now count }
+{
+    let past = count as u64;
+    past < mine.head.count && past < theirs.head.count
 }
 
 fn is_own(own: u64, level: &Option<CentroidLevel>) -> bool

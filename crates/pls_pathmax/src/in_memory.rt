@@ -49,8 +49,8 @@ pub(crate) fn verdict_of_node<C: NumCode, L: Labels>(
     Ok(found)
 }
 
-// Whether the verdict of the first pass stands whatever the ports show: it is settled, or that pass
-// asked rule 5 of all levels of `own`.
+// Whether the first pass told the verdict by all rules: it stands whatever rule 5 says of further
+// levels, or that pass asked rule 5 of all levels of `own`.
 fn is_final<C: NumCode>(own: &Bits<'_>, verdict: &Verdict) -> bool
     ensures same { result ≡ true → (view : Seen) → view.own ≡ own.now
         → verdict.now ≡ verdict_by pathmax_shape (one_pass_rules 0) C.takes view
@@ -72,7 +72,7 @@ fn further_verdict<C: NumCode>(
         found ≡ verdict_by pathmax_shape pathmax_rules C.takes view.now) }
 {
     let Some(own) = head_of::<C>(&view.own) else {
-        // Else the verdict is settled.
+        // Bits that are no label are rejected by rule 1, and then the verdict would be settled.
         unreachable!()
     };
     let mut flags = vec![in alloc; false; own.count as usize]?;

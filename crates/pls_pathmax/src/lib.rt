@@ -22,6 +22,7 @@ mod comparing;
 mod gathering;
 mod glance;
 mod in_memory;
+mod kept_level;
 mod levels;
 mod marking;
 mod outside;

@@ -8,7 +8,7 @@ use crate::levels::{PathMaxFormat, PathMaxLevels};
 use pls_bits::{Bits, NumCode};
 use pls_configuration::{State, Verdict};
 use pls_levels::is_placed;
-use pls_scheme::{Judgement, JudgesInPlace, LabelGlance, judged_from};
+use pls_scheme::{BoxedGlance, Judgement, JudgesInPlace, LabelGlance, judged_from};
 use std::marker::PhantomData;
 
 // The rules of spanning trees of least weight by centroids, of which rule 5 is asked of up to 64
@@ -56,7 +56,7 @@ impl<C: NumCode> JudgesInPlace for PathMaxPass<C> {
 
     type Glance = PathMaxGlance;
 
-    type Memory = Option<PathMaxGlance>;
+    type Memory = BoxedGlance<PathMaxGlance>;
 
     type Tally = PortTally;
 

@@ -94,7 +94,7 @@ fn have_further_ways<C: NumCode>(view: &View<'_>, count: u64) -> bool
     true
 }
 
-// The number of levels that a label states, 0 where the bits are none.
+// The number of levels that a label states, 0 where no head comes first.
 pub(crate) fn count_of<C: NumCode>(bits: &Bits<'_>) -> u64
     ensures { (label : PathMaxLabel) → said_by pathmax_shape C.takes bits.now ≡ Some label
         → result ≡ length label.levels }

@@ -16,7 +16,9 @@ use pls_facts::is_valid;
 use pls_graph::{Network, Size};
 use pls_labels::{LabelStore, Labels, View};
 use pls_numbers::{Format, recode};
-use pls_scheme::{Checker, Marker, Property, Remembers, Scheme, labels_of};
+use pls_scheme::{
+    BoxedGlance, Checker, GlanceMemory, Marker, Property, Remembers, Scheme, labels_of,
+};
 use pls_streams::{NoMemory, Steps};
 use std::alloc::Global;
 
@@ -123,12 +125,16 @@ impl<C: NumCode> Remembers for PathMax<C> {
     ghost use Rattle.pls_pathmax.specs.Labels.{pathmax_shape};
     ghost use Rattle.pls_pathmax.specs.inner.Glance.{glance_said};
 
-    type Memory = Option<PathMaxGlance>;
+    type Memory = BoxedGlance<PathMaxGlance>;
 
     ghost told = { λ _ bits. seen_in (said_by pathmax_shape C.takes) glance_said bits };
 
-    fn remember(&self, _alloc: Global, bits: &Bits<'_>) -> Result<Option<PathMaxGlance>, NoMemory> {
-        Ok(glance_in::<C>(bits))
+    fn remember(
+        &self,
+        alloc: Global,
+        bits: &Bits<'_>,
+    ) -> Result<BoxedGlance<PathMaxGlance>, NoMemory> {
+        BoxedGlance::keep(alloc, glance_in::<C>(bits))
     }
 
     fn verdict_at(
@@ -136,7 +142,7 @@ impl<C: NumCode> Remembers for PathMax<C> {
         alloc: Global,
         net: &Network,
         labels: &LabelStore,
-        memories: &[Option<PathMaxGlance>],
+        memories: &[BoxedGlance<PathMaxGlance>],
         i: usize,
     ) -> Result<Verdict, NoMemory> {
         let verdict = pass_from::<C>(0).verdict_at(alloc, net, labels, memories, i)?;

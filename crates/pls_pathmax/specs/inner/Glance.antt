@@ -1,41 +1,81 @@
 -- What is kept of a label at a glance.
-use Rattle.std.specs.Prelude.{ℕ, ◌-◌, ◌==◌, Bool, false, ◌&&◌, if◌then◌else◌, List, length, Some, slice_get}
+use Rattle.std.specs.Prelude.{◌≡◌, ℕ, ◌+◌, ◌-◌, ◌==◌, ◌++◌, nat_lt, Bool, false, ◌&&◌, if◌then◌else◌, List, length, map, min, replicate, set, slice_get, take, Option}
+use Rattle.std.specs.List.{prefix_len}
 use Rattle.std.specs.Option.{option_map_or}
 use Rattle.pls_centroid.specs.declared.level.CentroidLevel.{CentroidLevel}
 use Rattle.pls_levels.specs.declared.label.LevelHead.{LevelHead}
-use Rattle.pls_pathmax.specs.declared.glance.Ends.{Ends}
 use Rattle.pls_pathmax.specs.declared.glance.PathMaxGlance.{PathMaxGlance}
+use Rattle.pls_pathmax.specs.declared.glance.TheConstants.{FRONT}
+use Rattle.pls_pathmax.specs.declared.kept_level.KeptLevel.{KeptLevel}
 use Rattle.pls_pathmax.specs.Labels.{PathMaxLabel}
+use Rattle.pls_pathmax.specs.inner.KeptLevel.{fits, kept_of, whole}
 use Rattle.pls_pathmax.specs.inner.Reading.{head_said}
 
 -- the level is the own one of the node with this name, its centroid, without a hop
 abbrev pub is_own_level : ℕ → CentroidLevel → Bool
 is_own_level own level = level.hops == 0 && level.centroid == own
 
--- the first and the last of levels, where there are any
-abbrev pub level_ends : List CentroidLevel → Ends
-level_ends levels =
-    record { first = slice_get levels 0; last = slice_get levels (length levels - 1) }
+-- what stands where there is no level
+abbrev pub no_level : KeptLevel
+no_level = record { centroid = 0; hops = 0; greatest = 0 }
 
--- the ends of levels with one more behind so many
-abbrev pub ends_with : Ends → ℕ → CentroidLevel → Ends
-ends_with before number level = record {
-  first = if number == 0 then Some level else before.first;
-  last = Some level;
-}
+-- how many levels are kept: the first ones that fit
+unfoldable pub kept_in : List CentroidLevel → ℕ
+kept_in levels = prefix_len fits (take FRONT levels)
 
--- what stands in front of levels, with the first of them, and whether the last is the node's own
-abbrev pub glance_with : LevelHead → Ends → PathMaxGlance
-glance_with head ends = record {
+-- the levels that are kept, and behind them, where there are fewer, what stands where there is none
+unfoldable pub front_of : List CentroidLevel → List KeptLevel
+front_of levels =
+    take FRONT (map kept_of (take (kept_in levels) levels) ++ replicate FRONT no_level)
+
+-- of these levels so many are kept, in this front
+abbrev pub IsFront : ℕ → List KeptLevel → List CentroidLevel → Type 0
+IsFront kept front levels = (kept ≡ kept_in levels) × (front ≡ front_of levels)
+
+-- where so many levels are kept of as many as this number, the next one is kept too
+abbrev pub is_kept_too : ℕ → ℕ → CentroidLevel → Bool
+is_kept_too kept number level = number == kept && (nat_lt number FRONT && fits level)
+
+-- how many are kept with it
+abbrev pub kept_with : ℕ → ℕ → CentroidLevel → ℕ
+kept_with kept number level = if is_kept_too kept number level then kept + 1 else kept
+
+-- the levels that are kept with it
+abbrev pub front_with : ℕ → ℕ → CentroidLevel → List KeptLevel → List KeptLevel
+front_with kept number level front =
+    if is_kept_too kept number level then set front kept (kept_of level) else front
+
+-- the levels that are kept, in full
+abbrev pub all_whole : List KeptLevel → List CentroidLevel
+all_whole front = map whole front
+
+-- how many levels are kept of both
+abbrev pub both_keep : PathMaxGlance → PathMaxGlance → ℕ
+both_keep mine theirs = min (min mine.kept theirs.kept) FRONT
+
+-- both have levels behind so many
+abbrev pub both_go_on : PathMaxGlance → PathMaxGlance → ℕ → Bool
+both_go_on mine theirs count = nat_lt count mine.head.count && nat_lt count theirs.head.count
+
+-- the last level, where there is one
+abbrev pub last_level : List CentroidLevel → Option CentroidLevel
+last_level levels = slice_get levels (length levels - 1)
+
+-- what is kept of levels with this in front, of which so many are kept in this front, and this is
+-- the last
+abbrev pub glance_with : LevelHead → ℕ → List KeptLevel → Option CentroidLevel → PathMaxGlance
+glance_with head kept front last = record {
   head = head;
-  first = ends.first;
-  ends_at_own = option_map_or (is_own_level head.own) ends.last false;
+  kept = kept;
+  front = front;
+  ends_at_own = option_map_or (is_own_level head.own) last false;
 }
 
 -- what is kept of a label: what stands in front of its levels, the first of them, and whether the
 -- last is the node's own
 abbrev pub glance_said : PathMaxLabel → PathMaxGlance
-glance_said label = glance_with (head_said label) (level_ends label.levels)
+glance_said label = glance_with (head_said label) (kept_in label.levels) (front_of label.levels)
+    (last_level label.levels)
 
 -- what stands in front of the levels, of what is kept
 abbrev pub head_seen : PathMaxGlance → LevelHead

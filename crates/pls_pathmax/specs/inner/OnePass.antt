@@ -12,19 +12,13 @@ use Rattle.pls_levels.specs.Rules.{is_placed_in_tree}
 use Rattle.pls_pathmax.specs.declared.gathering.PortTally.{PortTally}
 use Rattle.pls_pathmax.specs.declared.gathering.TheConstants.{WINDOW}
 use Rattle.pls_pathmax.specs.Labels.{PathMaxLabel}
-use Rattle.pls_pathmax.specs.Rules.{agrees_on_root, has_way, has_ways_to_centroids, leads_on, leads_on_at, meet_lightly, other_edges_are_heavy}
+use Rattle.pls_pathmax.specs.Rules.{agrees_on_root, has_way, has_ways_to_centroids, leads_on, leads_on_at, other_edges_are_heavy}
 
 -- the neighbour's level leads on from the own one, where there are both
 abbrev pub leads_from : ℕ → Option CentroidLevel → Option CentroidLevel → Bool
 leads_from weight None theirs = false
 leads_from weight (Some mine) None = false
 leads_from weight (Some mine) (Some theirs) = leads_on mine weight theirs
-
--- the two nodes meet lightly on these levels, where there are both
-abbrev pub meet_at_first : ℕ → Option CentroidLevel → Option CentroidLevel → Bool
-meet_at_first weight None theirs = false
-meet_at_first weight (Some mine) None = false
-meet_at_first weight (Some mine) (Some theirs) = meet_lightly weight mine theirs
 
 -- on the level of this number, if there is one, some port leads on
 abbrev pub is_led_on : Read PathMaxLabel → ℕ → Bool

@@ -1,19 +1,25 @@
-use Rattle.std.proofs.Common.{◌≡◌, ◌∙◌, true, slice_get, refl, sym, ap}
+use Rattle.std.proofs.Common.{◌≡◌, ◌∙◌, true, false, refl, sym}
 use Rattle.std.specs.List.{list_any, zip}
-use Rattle.pls_pathmax.specs.declared.glance.PathMaxGlance.{PathMaxGlance}
 use Rattle.pls_pathmax.specs.Rules.{meet_lightly}
-use Rattle.pls_pathmax.specs.inner.OnePass.{meet_at_first}
-use Rattle.pls_pathmax.proofs.Compared.{meet_first}
+use Rattle.pls_pathmax.proofs.Looked.{meets_in_front, meets_nowhere}
 use Rattle.pls_pathmax.proofs.gathering.is_heavy_too.Goals as goal
 
-pub returns-then-meet_at_first : goal.returns-then-meet_at_first
-returns-then-meet_at_first g c mine theirs own_read own_is theirs_read theirs_is =
+pub returns-then-meet_in_front : goal.returns-then-meet_in_front
+returns-then-meet_in_front g c mine theirs own_read own_is theirs_read theirs_is =
     let meets : list_any (λ both. meet_lightly c.args.weight both.0 both.1)
     (zip mine.levels theirs.levels) ≡ true =
-    meet_first c.args.weight mine.levels theirs.levels
-    (ap (λ (glance : PathMaxGlance).
-    meet_at_first c.args.weight glance.first (slice_get theirs.levels 0)) own_is
-    ∙ ap (λ (glance : PathMaxGlance).
-    meet_at_first c.args.weight c.args.own.now.glance.now.first glance.first) theirs_is
-    ∙ sym c.meet_at_first.ensures ∙ c.if-meet_at_first.true) in
+    meets_in_front c.args.weight mine theirs c.args.own.now.glance.now
+    c.args.label.now.glance.now c.both_keep-count.result own_is theirs_is
+    c.both_keep-count.ensures c.meet_in_front.result c.meet_in_front.ensures
+    c.if-meet_in_front.true in
+    rw (c.if-not-before.false, meets) refl
+
+pub returns-then-not-both_go_on : goal.returns-then-not-both_go_on
+returns-then-not-both_go_on g c mine theirs own_read own_is theirs_read theirs_is =
+    let meets : list_any (λ both. meet_lightly c.args.weight both.0 both.1)
+    (zip mine.levels theirs.levels) ≡ false =
+    sym (meets_nowhere c.args.weight mine theirs c.args.own.now.glance.now
+    c.args.label.now.glance.now c.both_keep-count.result own_is theirs_is
+    c.both_keep-count.ensures c.meet_in_front.result c.meet_in_front.ensures
+    (sym c.both_go_on.ensures ∙ c.if-not-both_go_on.true)) ∙ c.if-meet_in_front.false in
     rw (c.if-not-before.false, meets) refl

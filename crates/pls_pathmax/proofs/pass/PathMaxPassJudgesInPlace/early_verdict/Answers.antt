@@ -9,4 +9,6 @@ pub returns-else-is_placed : goal.returns-else-is_placed
 returns-else-is_placed g c label ports said glance above =
     let placed : is_placed_in_tree (reading c.args.id c.args.state label ports) ≡ false =
     sym (c.is_placed.ensures label ports (ap head_seen glance)
-    (head_kept (label_above ports c.args.state.up) _ _ c.head_above.ensures above)) ∙ c.if-is_placed.false in rw placed refl
+    (head_kept (label_above ports c.args.state.up) _ _ c.head_above.ensures above))
+    ∙ c.if-is_placed.false in
+    rw placed refl
