@@ -11,18 +11,18 @@ abbrev pub PathMaxLabel : Type 0
 PathMaxLabel = LevelLabel (List CentroidLevel)
 
 -- the numbers of a level
-abbrev pub numbers_of_level : CentroidLevel → List ℕ
-numbers_of_level level = level.centroid ∷ level.hops ∷ level.greatest ∷ []
+abbrev pub numbers_of_centroid_level : CentroidLevel → List ℕ
+numbers_of_centroid_level level = level.centroid ∷ level.hops ∷ level.greatest ∷ []
 
 -- the level that stands in front, and the numbers behind it
-abbrev pub level_off : List ℕ → Option (CentroidLevel × List ℕ)
-level_off (centroid ∷ hops ∷ greatest ∷ rest) =
+abbrev pub centroid_level_off : List ℕ → Option (CentroidLevel × List ℕ)
+centroid_level_off (centroid ∷ hops ∷ greatest ∷ rest) =
     Some (record { centroid = centroid; hops = hops; greatest = greatest }, rest)
-level_off list = None
+centroid_level_off list = None
 
 -- levels of these numbers, of which nothing else is asked
 abbrev pub pathmax_levels : LevelForm (List CentroidLevel) CentroidLevel
-pathmax_levels = level_form level_off numbers_of_level (λ _. Unit {0})
+pathmax_levels = level_form centroid_level_off numbers_of_centroid_level (λ _. Unit {0})
 
 -- labels of these levels, each number in code
 abbrev pub pathmax_shape : Shape PathMaxLabel

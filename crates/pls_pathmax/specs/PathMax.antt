@@ -16,11 +16,11 @@ pub record PathMaxSays (rows : List NodeRow) (row : NodeRow) (label : PathMaxLab
 
 -- no numbers of a level of a marked label are greater: the greatest identity, the number of nodes,
 -- and the greatest weight
-abbrev pub level_limits : Size → List ℕ
-level_limits size = size.max_id ∷ size.nodes ∷ size.max_weight ∷ []
+abbrev pub centroid_level_limits : Size → List ℕ
+centroid_level_limits size = size.max_id ∷ size.nodes ∷ size.max_weight ∷ []
 
 -- how many bits a marked label has at most: the codes of the limits in front of its levels, and
 -- those of a level's limits once more than the logarithm of the number of nodes says
 abbrev pub longest_pathmax : (ℕ → List Bool) → Size → ℕ
 longest_pathmax code size = codes_length code [] (head_limits (floor_log size.nodes + 1) size)
-    + (floor_log size.nodes + 1) * codes_length code [] (level_limits size)
+    + (floor_log size.nodes + 1) * codes_length code [] (centroid_level_limits size)

@@ -34,12 +34,12 @@ use Rattle.pls_centroid.specs.declared.level.CentroidLevel.{CentroidLevel}
 use Rattle.pls_levels.specs.laws.Fits.{limits_many, within_limits}
 use Rattle.pls_centroid.proofs.Lightly.{joined_at}
 use Rattle.pls_centroid.proofs.Pieces.{centroid_known}
-use Rattle.pls_pathmax.specs.Labels.{PathMaxLabel, numbers_of_level, pathmax_levels, pathmax_shape}
-use Rattle.pls_pathmax.specs.PathMax.{level_limits, longest_pathmax}
+use Rattle.pls_pathmax.specs.Labels.{PathMaxLabel, numbers_of_centroid_level, pathmax_levels, pathmax_shape}
+use Rattle.pls_pathmax.specs.PathMax.{centroid_level_limits, longest_pathmax}
 
 -- the limits of the numbers of so many levels
 abbrev pub limits_of : Size → ℕ → List ℕ
-limits_of size count = limits_many (level_limits size) count
+limits_of size count = limits_many (centroid_level_limits size) count
 
 -- twice as many as so many bits allow is one bit more than the logarithm says
 below_log : (count nodes : ℕ) → nodes < 2 ^ 63 → 2 ^ count ≤ 2 * nodes
@@ -116,28 +116,28 @@ module _ (rows : List NodeRow) (net : IsNetwork rows) (words : AreWords (size_of
   -- the numbers of levels are within their limits
   pub levels_within : (edges : List Edge) (u : ℕ) → Contains (ids_of rows) u
       → (levels : List CentroidLevel) → AreLevelsFrom rows edges u levels
-      → AreWithin (flat_map numbers_of_level levels) (limits_of size (length levels))
+      → AreWithin (flat_map numbers_of_centroid_level levels) (limits_of size (length levels))
   levels_within edges u known [] are = absurd are
   levels_within edges u known (level ∷ levels) are =
       let here = level_within edges u level known are.0 in
       let most : size.max_id ≤ 2 ^ 32 - 1 = words.max_id in
       let heavy : size.max_weight ≤ 2 ^ 32 - 1 = words.max_weight in
       let nodes : size.nodes ≤ 32768 = net.limits.few_nodes in
-      let rest : AreWithin (flat_map numbers_of_level levels) (limits_of size (length levels)) =
+      let rest : AreWithin (flat_map numbers_of_centroid_level levels) (limits_of size (length levels)) =
       elim are.1 [
         | inl last ↦ subst (λ (levels : List CentroidLevel).
-            AreWithin (flat_map numbers_of_level levels) (limits_of size (length levels)))
+            AreWithin (flat_map numbers_of_centroid_level levels) (limits_of size (length levels)))
             (sym last.1) tt
         | inr on ↦ levels_within (next_edges (ids_of rows) edges) u known levels on.1
       ] in
-      let three : AreWithin (numbers_of_level level ++ flat_map numbers_of_level levels)
+      let three : AreWithin (numbers_of_centroid_level level ++ flat_map numbers_of_centroid_level levels)
       (limits_of size (suc (length levels))) = (
         here.0,
         omega (arith, most),
         (here.1, omega (arith, nodes), (here.2, omega (arith, heavy), rest)),
       ) in
       subst (λ (numbers : List ℕ). AreWithin numbers (limits_of size (suc (length levels))))
-      (sym (flat_map-cons numbers_of_level level levels)) three
+      (sym (flat_map-cons numbers_of_centroid_level level levels)) three
 
   -- a label fits whose numbers are within their limits
   module _ (code : ℕ → List Bool) (grows : Grows code) (short : IsShort code)
@@ -148,11 +148,11 @@ module _ (rows : List NodeRow) (net : IsNetwork rows) (words : AreWords (size_of
 
     pub label_fits : label.root ≤ size.max_id → label.own ≤ size.max_id
         → label.parent ≤ size.max_id → label.depth ≤ size.nodes
-        → AreWithin (flat_map numbers_of_level label.levels)
+        → AreWithin (flat_map numbers_of_centroid_level label.levels)
         (limits_of size (length label.levels))
         → Fits pathmax_shape code (capped (longest_pathmax code size)) label
     label_fits root own parent depth levels =
-        within_limits pathmax_levels rows net words code grows short (level_limits size)
+        within_limits pathmax_levels rows net words code grows short (centroid_level_limits size)
         (floor_log size.nodes + 1) (omega (arith, floor_log-bound size.nodes))
         (λ level. omega arith) label count_within few root own parent depth levels
         (all_any label.levels)

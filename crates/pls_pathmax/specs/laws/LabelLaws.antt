@@ -5,11 +5,11 @@ use Rattle.pls_numbers.specs.laws.LeftLaws.{same_parts}
 use Rattle.pls_centroid.specs.declared.level.CentroidLevel.{CentroidLevel}
 use Rattle.pls_levels.specs.Labels.{IsExactForm}
 use Rattle.pls_levels.specs.laws.LabelLaws.{level_numbers}
-use Rattle.pls_pathmax.specs.Labels.{level_off, numbers_of_level, pathmax_levels, pathmax_shape}
+use Rattle.pls_pathmax.specs.Labels.{centroid_level_off, numbers_of_centroid_level, pathmax_levels, pathmax_shape}
 
 -- three numbers are a level
 level_only : (list : List ℕ) (level : CentroidLevel) (rest : List ℕ)
-    → level_off list ≡ Some (level, rest) → (list ≡ numbers_of_level level ++ rest) × Unit {0}
+    → centroid_level_off list ≡ Some (level, rest) → (list ≡ numbers_of_centroid_level level ++ rest) × Unit {0}
 level_only [] level rest is = absurd (cc)
 level_only (centroid ∷ []) level rest is = absurd (cc)
 level_only (centroid ∷ hops ∷ []) level rest is = absurd (cc)

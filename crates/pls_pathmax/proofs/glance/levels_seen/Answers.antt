@@ -4,7 +4,7 @@ use Rattle.pls_numbers.specs.laws.TakingLaws.{are_items-end, are_items-next, are
 use Rattle.pls_centroid.specs.declared.level.CentroidLevel.{CentroidLevel}
 use Rattle.pls_levels.specs.Labels.{are_levels}
 use Rattle.pls_levels.proofs.LevelsLeft.{next_left}
-use Rattle.pls_pathmax.specs.Labels.{level_off, pathmax_levels}
+use Rattle.pls_pathmax.specs.Labels.{centroid_level_off, pathmax_levels}
 use Rattle.pls_pathmax.specs.inner.Reading.{AreLeft}
 use Rattle.pls_pathmax.specs.laws.LabelLaws.{exact_levels}
 use Rattle.pls_pathmax.proofs.LevelsLeft.{drop_at, drop_split}
@@ -27,7 +27,7 @@ loop-number-preserved g c =
     record {
       all = c.loop-number.invariant.all
           ∙ ap (λ (count : ℕ). are_levels pathmax_levels count c.loop-number.numbers) one
-          ∙ are_items-next level_off (c.args.count - (number + 1)) level
+          ∙ are_items-next centroid_level_off (c.args.count - (number + 1)) level
           c.loop-number.numbers c.read_level.new.numbers c.in_ok-level.ensures.found;
       left = λ levels are. subst (AreLeft c.read_level.new.numbers) (drop-drop 1 number levels)
           (next levels are).1;
@@ -44,7 +44,7 @@ pub returns-then-is_end-clause-there : goal.returns-then-is_end-clause-there
 returns-then-is_end-clause-there g c =
     all_read c.args.count c.loop-number.number c.args.numbers.now c.loop-number.numbers
     c.is_end.result (omega (arith, c.loop-number-test.false)) c.loop-number.invariant.all
-    (c.is_end.ensures ∙ are_items-end level_off c.loop-number.numbers) ∙ c.if-is_end.true
+    (c.is_end.ensures ∙ are_items-end centroid_level_off c.loop-number.numbers) ∙ c.if-is_end.true
 
 pub returns-then-is_end-clause-front : goal.returns-then-is_end-clause-front
 returns-then-is_end-clause-front g c levels are many =
@@ -62,7 +62,7 @@ pub returns-else-is_end-clause-none : goal.returns-else-is_end-clause-none
 returns-else-is_end-clause-none g c =
     all_read c.args.count c.loop-number.number c.args.numbers.now c.loop-number.numbers
     c.is_end.result (omega (arith, c.loop-number-test.false)) c.loop-number.invariant.all
-    (c.is_end.ensures ∙ are_items-end level_off c.loop-number.numbers) ∙ c.if-is_end.false
+    (c.is_end.ensures ∙ are_items-end centroid_level_off c.loop-number.numbers) ∙ c.if-is_end.false
 
 pub returns-in_err-level-clause-none : goal.returns-in_err-level-clause-none
 returns-in_err-level-clause-none g c =
@@ -71,5 +71,5 @@ returns-in_err-level-clause-none g c =
     omega (arith, c.loop-number-test.true) in
     rw c.from_residual.ensures (c.loop-number.invariant.all
     ∙ ap (λ (count : ℕ). are_levels pathmax_levels count c.loop-number.numbers) one
-    ∙ are_items-none level_off (c.args.count - (number + 1)) c.loop-number.numbers
+    ∙ are_items-none centroid_level_off (c.args.count - (number + 1)) c.loop-number.numbers
     c.in_err-level.ensures.none)
