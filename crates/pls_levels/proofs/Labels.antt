@@ -9,7 +9,7 @@ use Rattle.pls_numbers.specs.Taking.{IsTaken, items_in}
 use Rattle.pls_numbers.specs.laws.TakingLaws.{items_off-take, items_only}
 use Rattle.pls_levels.specs.declared.label.LevelHead.{LevelHead}
 use Rattle.pls_levels.specs.declared.label.LevelLabel.{LevelLabel}
-use Rattle.pls_levels.specs.Labels.{AreLevelsLeft, IsExactForm, LevelForm, are_levels, head_of, head_off, head_with, label_behind, label_listed, label_of, label_with, levels_off}
+use Rattle.pls_levels.specs.Labels.{AreLevelsLeft, IsExactForm, LevelForm, are_levels, head_of, head_off, head_with, label_behind, label_listed, label_with, level_label_of, levels_off}
 
 -- what is left with this in front
 abbrev pub with_head : LevelHead → NumbersLeft → NumbersLeft
@@ -23,7 +23,7 @@ module _ {S X : Type 0} (form : LevelForm S X) (exact : IsExactForm form) where
 
   -- without what stands in front there is no label
   pub no_head : (left : NumbersLeft) → head_off left.numbers ≡ None
-      → if_clean (label_of form) left ≡ None
+      → if_clean (level_label_of form) left ≡ None
   no_head left none =
       ap (λ (front : Option (LevelHead × List ℕ)). if left.clean then with_levels front else None)
       none
@@ -36,7 +36,7 @@ module _ {S X : Type 0} (form : LevelForm S X) (exact : IsExactForm form) where
   module _ (left new : NumbersLeft) (head : LevelHead) (taken : IsTaken head_off head left new)
     where
       -- a label is what stands in front and the levels behind it
-      said_levels : if_clean (label_of form) left ≡ (if new.clean
+      said_levels : if_clean (level_label_of form) left ≡ (if new.clean
           then option_map (label_listed form head) (items_in form.off head.count new.numbers)
           else None)
       said_levels =
@@ -47,7 +47,7 @@ module _ {S X : Type 0} (form : LevelForm S X) (exact : IsExactForm form) where
 
       -- there is one where these are as many as it states
       pub a_label : are_levels form head.count new ≡ true
-          → (label : LevelLabel S) × (if_clean (label_of form) left ≡ Some label)
+          → (label : LevelLabel S) × (if_clean (level_label_of form) left ≡ Some label)
           × (head_of form label ≡ head)
           × AreLevelsLeft form new (form.items label.levels)
       a_label there =
@@ -56,7 +56,7 @@ module _ {S X : Type 0} (form : LevelForm S X) (exact : IsExactForm form) where
           by : (clean : Bool) (found : Option (List X)) → new.clean ≡ clean
               → items_in form.off head.count new.numbers ≡ found
               → (clean && is_some found) ≡ true
-              → (label : LevelLabel S) × (if_clean (label_of form) left ≡ Some label)
+              → (label : LevelLabel S) × (if_clean (level_label_of form) left ≡ Some label)
               × (head_of form label ≡ head)
               × AreLevelsLeft form new (form.items label.levels)
           by false found clean read there = absurd (cc)
@@ -74,13 +74,13 @@ module _ {S X : Type 0} (form : LevelForm S X) (exact : IsExactForm form) where
               )
 
       -- and else there is none
-      pub no_label : are_levels form head.count new ≡ false → if_clean (label_of form) left ≡ None
+      pub no_label : are_levels form head.count new ≡ false → if_clean (level_label_of form) left ≡ None
       no_label there =
           by new.clean (items_in form.off head.count new.numbers) refl refl there
         where
           by : (clean : Bool) (found : Option (List X)) → new.clean ≡ clean
               → items_in form.off head.count new.numbers ≡ found
-              → (clean && is_some found) ≡ false → if_clean (label_of form) left ≡ None
+              → (clean && is_some found) ≡ false → if_clean (level_label_of form) left ≡ None
           by false found clean read there = said_levels ∙ rw clean refl
           by true None clean read there = said_levels ∙ rw (clean, read) refl
           by true (Some levels) clean read there = absurd (cc)
@@ -88,7 +88,7 @@ module _ {S X : Type 0} (form : LevelForm S X) (exact : IsExactForm form) where
   module _ (old new : NumbersLeft) (result : Option LevelHead)
       (taken : IfSome result (λ head. IsTaken head_off head old new))
       (none : IfNone result (head_off old.numbers ≡ None)) (label : LevelLabel S)
-      (is : if_clean (label_of form) old ≡ Some label) where
+      (is : if_clean (level_label_of form) old ≡ Some label) where
     -- where there is a label, what stands in front was taken, and its levels are left
     pub head_left : (result ≡ Some (head_of form label))
         × AreLevelsLeft form new (form.items label.levels)
@@ -116,7 +116,7 @@ module _ {S X : Type 0} (form : LevelForm S X) (exact : IsExactForm form) where
 
   -- the numbers of a label are those in front of its levels, and then these
   pub label_parts : (left : NumbersLeft) (label : LevelLabel S)
-      → if_clean (label_of form) left ≡ Some label
+      → if_clean (level_label_of form) left ≡ Some label
       → (rest : NumbersLeft) × (left ≡ with_head (head_of form label) rest)
       × AreLevelsLeft form rest (form.items label.levels)
   label_parts left label is = by left.numbers refl

@@ -76,8 +76,8 @@ module _ {S X : Type 0} (form : LevelForm S X) where
       (length (form.items label.levels))
 
   -- the numbers of a label, in the order in which they are written
-  abbrev pub numbers_of_label : LevelLabel S → List ℕ
-  numbers_of_label label =
+  abbrev pub numbers_of_level_label : LevelLabel S → List ℕ
+  numbers_of_level_label label =
       label.root ∷ label.own ∷ label.parent ∷ label.depth ∷ length (form.items label.levels)
       ∷ flat_map form.numbers (form.items label.levels)
 
@@ -96,16 +96,16 @@ module _ {S X : Type 0} (form : LevelForm S X) where
   }) (items_in form.off front.0.count front.1)
 
   -- the label that has these numbers, if there is one
-  abbrev pub label_of : List ℕ → Option (LevelLabel S)
-  label_of list = option_and_then label_behind (head_off list)
+  abbrev pub level_label_of : List ℕ → Option (LevelLabel S)
+  level_label_of list = option_and_then label_behind (head_off list)
 
   -- labels of these numbers, each in code, with proper levels
   abbrev pub level_shape : Shape (LevelLabel S)
   level_shape = record {
     kinds = [];
-    numbers = numbers_of_label;
+    numbers = numbers_of_level_label;
     Proper = λ label. All form.Proper (form.items label.levels);
-    of_numbers = label_of;
+    of_numbers = level_label_of;
   }
 
   -- the level stood in front of what was left, and what is left now stands behind it

@@ -16,7 +16,7 @@ use Rattle.pls_mst.specs.declared.glance.MstGlance.{MstGlance}
 use Rattle.pls_mst.specs.declared.glance.TheConstants.{FRONT}
 use Rattle.pls_mst.specs.declared.kept_level.KeptLevel.{KeptLevel}
 use Rattle.pls_levels.specs.declared.label.LevelHead.{LevelHead}
-use Rattle.pls_levels.specs.Labels.{head_off, label_of}
+use Rattle.pls_levels.specs.Labels.{head_off, level_label_of}
 use Rattle.pls_levels.proofs.Labels.{a_label}
 use Rattle.pls_mst.specs.Labels.{level_off, mst_levels}
 use Rattle.pls_mst.specs.Rules.{on_each_level}
@@ -281,7 +281,7 @@ pub glance_there : (left : NumbersLeft) (head : LevelHead) (new : NumbersLeft) (
     → are_items level_off head.count new ≡ true
     → IsFront kept front (items_off level_off head.count new.numbers)
     → Some (record { head = head; kept = kept; front = front })
-    ≡ option_map glance_of (if_clean (label_of mst_levels) left)
+    ≡ option_map glance_of (if_clean (level_label_of mst_levels) left)
 glance_there left head new kept front taken there (kept_is, front_is) =
     let (label, read, said, levels) = a_label mst_levels exact_levels left new head taken
     there in

@@ -15,7 +15,7 @@ use Rattle.pls_scheme.specs.Marked.{Fits}
 use Rattle.pls_scheme.specs.Theorem.{AreWords}
 use Rattle.pls_scheme.proofs.Fitting.{AreWithin, within_fits}
 use Rattle.pls_levels.specs.declared.label.LevelLabel.{LevelLabel}
-use Rattle.pls_levels.specs.Labels.{LevelForm, level_shape, numbers_of_label}
+use Rattle.pls_levels.specs.Labels.{LevelForm, level_shape, numbers_of_level_label}
 
 -- the limits of the numbers of so many levels, of which each has these
 abbrev pub limits_many : List ℕ → ℕ → List ℕ
@@ -101,7 +101,7 @@ module _ {S X : Type 0} (form : LevelForm S X) (rows : List NodeRow) (net : IsNe
     short = omega (arith, fits.short, limits_short);
   }
     where
-      within : AreWithin (numbers_of_label form label) limits
+      within : AreWithin (numbers_of_level_label form label) limits
       within =
           let greatest : size.max_id ≤ 2 ^ 32 - 1 = words.max_id in
           let nodes : size.nodes ≤ 32768 = net.limits.few_nodes in (

@@ -3,7 +3,7 @@ use Rattle.std.specs.Option.{option_map}
 use Rattle.pls_numbers.specs.Shape.{if_clean}
 use Rattle.pls_numbers.specs.Numbers.{NumbersLeft}
 use Rattle.pls_numbers.specs.Taking.{are_items}
-use Rattle.pls_levels.specs.Labels.{label_of}
+use Rattle.pls_levels.specs.Labels.{level_label_of}
 use Rattle.pls_mst.specs.Labels.{level_off, mst_levels}
 use Rattle.pls_mst.specs.inner.Glance.{glance_of}
 use Rattle.pls_mst.proofs.Fronts.{glance_there}
@@ -16,5 +16,5 @@ returns-then-are_levels g c =
     glance_there c.of-numbers.result c.in_ok-head.head c.read_head.new.numbers
     c.in_ok-kept.field-0.kept c.in_ok-kept.field-0.levels c.in_ok-head.ensures.found there
     c.in_ok-kept.ensures.found
-    ∙ ap (λ (left : NumbersLeft). option_map glance_of (if_clean (label_of mst_levels) left))
+    ∙ ap (λ (left : NumbersLeft). option_map glance_of (if_clean (level_label_of mst_levels) left))
     c.of-numbers.ensures
