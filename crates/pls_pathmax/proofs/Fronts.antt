@@ -1,8 +1,8 @@
 -- The first levels of a label, as they are kept at a glance.
-use Rattle.std.proofs.Common.{◌≡◌, ◌∙◌, ℕ, ◌+◌, ◌-◌, ◌≤◌, ◌<◌, [], ◌∷◌, ◌++◌, inl, inr, min, true, false, List, length, map, get_or, take, drop, replicate, set, slice_get, Some, refl, sym, ap, arith}
+use Rattle.std.proofs.Common.{◌≡◌, ◌∙◌, ℕ, ◌+◌, ◌-◌, ◌≤◌, ◌<◌, [], ◌∷◌, ◌++◌, inl, inr, min, true, false, List, length, map, get_or, take, drop, replicate, set, slice_get, Some, sym, ap, arith}
 use Rattle.std.specs.List.{prefix_len}
 use Rattle.std.proofs.lemmas.Bool.{cases_lt}
-use Rattle.std.proofs.lemmas.List.{drop-drop, drop-replicate, drop-set-lt, drop_more, get_or-map, get_or-take, length-drop, length-map, length-replicate, length-set, length-take, length-take-le, map-id, map_more, take-append-drop, take-append-le, take-map, take-replicate, take-take, take_more_set}
+use Rattle.std.proofs.lemmas.List.{drop-drop, drop-replicate, drop-set-lt, drop_more, get_or-map, get_or-take, length-drop, length-map, length-set, length-take, length-take-le, map-id, map_more, take-append-drop, take-append-le, take-map, take-replicate, take-take, take_more_set}
 use Rattle.std.proofs.lemmas.List.Sums.{prefix_len-le-length, prefix_len_is}
 use Rattle.std.proofs.lemmas.Simd.{map-map}
 use Rattle.std.proofs.lemmas.Option.{slice_get-get_or}
@@ -118,19 +118,19 @@ whole-kept : (levels : List CentroidLevel) → map whole (map kept_of levels) �
 whole-kept levels = map-map whole kept_of levels ∙ map-id levels
 
 -- no more are kept than there is room for
-pub kept_in-most : (levels : List CentroidLevel) → kept_in levels ≤ FRONT
+kept_in-most : (levels : List CentroidLevel) → kept_in levels ≤ FRONT
 unfolding kept_in
 kept_in-most levels =
     omega (arith, prefix_len-le-length fits (take FRONT levels), length-take FRONT levels)
 
 -- nor more than there are
-pub kept_in-few : (levels : List CentroidLevel) → kept_in levels ≤ length levels
+kept_in-few : (levels : List CentroidLevel) → kept_in levels ≤ length levels
 unfolding kept_in
 kept_in-few levels =
     omega (arith, prefix_len-le-length fits (take FRONT levels), length-take FRONT levels)
 
 -- a level of a front in full
-pub all_whole-at : (front : List KeptLevel) (place : ℕ) → place < length front
+all_whole-at : (front : List KeptLevel) (place : ℕ) → place < length front
     → whole (get_or front place no_level) ≡ get_or (all_whole front) place blank
 all_whole-at front place within = sym (get_or-map whole front place no_level blank within)
 
@@ -176,18 +176,6 @@ front_of-take count levels few =
     ∙ ap (map whole) (filled-take FRONT count shorts (omega (arith, few, kept_in-most levels))
     (omega (arith, few, many)) ∙ take-map kept_of count (take kept levels))
     ∙ whole-kept (take count (take kept levels)) ∙ take-take count kept levels few
-
--- of levels that all are left none is kept
-pub front-none : (levels rest : List CentroidLevel) → levels ≡ rest
-    → IsKept FRONT 0 (replicate FRONT no_level) levels rest
-front-none levels rest same = record {
-  many = omega arith;
-  long = length-replicate FRONT no_level;
-  kept = refl;
-  empty = refl;
-  fit = λ i less. absurd (omega (arith, less));
-  left = same;
-}
 
 -- one level more is kept
 pub front-next : (place : ℕ) (front : List KeptLevel) (levels : List CentroidLevel)

@@ -1,24 +1,19 @@
 -- The levels that are kept while a label is read.
-use Rattle.std.proofs.Common.{◌≡◌, ◌∙◌, ℕ, ◌+◌, ◌≤◌, ◌<◌, ◌==◌, ◌&&◌, ◌⊎◌, nat_lt, ◌∷◌, inl, inr, if◌then◌else◌, true, false, Bool, List, length, drop, replicate, set, refl, subst, sym, ap, arith}
+use Rattle.std.proofs.Common.{◌≡◌, ◌∙◌, ℕ, ◌+◌, ◌≤◌, ◌<◌, ◌==◌, ◌&&◌, ◌⊎◌, nat_lt, ◌∷◌, inl, inr, if◌then◌else◌, true, false, Bool, List, length, drop, set, refl, subst, sym, ap, arith}
 use Rattle.std.proofs.lemmas.Bool.{and_from, and_parts, cases_Bool, cases_lt, eq-eqb, eqb-true, lt-ltb, ltb-true, true≢false}
 use Rattle.std.proofs.lemmas.List.{drop_all}
 use Rattle.pls_centroid.specs.declared.level.CentroidLevel.{CentroidLevel}
 use Rattle.pls_pathmax.specs.declared.glance.TheConstants.{FRONT}
 use Rattle.pls_pathmax.specs.declared.kept_level.KeptLevel.{KeptLevel}
-use Rattle.pls_pathmax.specs.inner.Glance.{IsFront, front_with, is_kept_too, kept_with, no_level}
+use Rattle.pls_pathmax.specs.inner.Glance.{IsFront, front_with, is_kept_too, kept_with}
 use Rattle.pls_pathmax.specs.inner.KeptLevel.{fits, kept_of}
-use Rattle.pls_pathmax.proofs.Fronts.{IsKept, front-next, front-none, none_fits, none_left}
+use Rattle.pls_pathmax.proofs.Fronts.{IsKept, front-next, none_fits, none_left}
 
 -- of so many levels that stand first all are kept, or of all levels those before one that is not
 abbrev pub AreKeptSoFar : ℕ → ℕ → List KeptLevel → List CentroidLevel → Type 0
 AreKeptSoFar number kept front levels =
     ((kept ≡ number) × (number ≤ FRONT) × IsKept FRONT number front levels (drop number levels))
     ⊎ (IsFront kept front levels × (kept < number))
-
--- before the first
-pub none_so_far : (levels : List CentroidLevel)
-    → AreKeptSoFar 0 0 (replicate FRONT no_level) levels
-none_so_far levels = inl (refl, omega arith, front-none levels levels refl)
 
 module _ (levels : List CentroidLevel) (number : ℕ) (level : CentroidLevel)
     (next : drop number levels ≡ level ∷ drop (number + 1) levels) where
