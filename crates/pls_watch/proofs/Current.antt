@@ -164,6 +164,15 @@ module _ (judge : Seen → Verdict) (watched : Watched) where
         let same : row ≡ other = same_Some row other (sym here.1 ∙ stands) in
         λ i. ((same i).id, outcome_in judge watched (same i), are other stands i)))
 
+    -- where nothing changed, the row stays
+    pub renewed_nothing : slice_get changes place ≡ Some Nothing
+        → IsRenewed judge watched place old old
+    renewed_nothing nothing = record {
+      as_many = refl;
+      here = λ row stands. current.stales place row stands nothing;
+      others = λ i differs. refl;
+    }
+
     -- where just those ports are stale that were shown, the row stays
     pub renewed_as_shown : (shown : ℕ × Outcome × List ℕ) → place < length old
         → slice_get changes place ≡ Some Beside → shown ≡ get_or old place shown

@@ -28,9 +28,9 @@ pub(crate) fn no_changes(alloc: Global, count: usize) -> Result<Vec<Change>, NoM
     Ok(vec![in alloc; Change::Nothing; count]?)
 }
 
-/// Notes that the node at a place, if there is one, knows something else after an event, and of a
-/// node that got a label, at its first one, that those neighbours are beside it that hold the last
-/// label before: other ports of theirs are stale now.
+/// Notes that the node at a place, if there is one, knows something else after an event. Where it
+/// got its first label since the last look, each neighbour that holds the label before it is noted
+/// besides: another port of that neighbour is stale now.
 pub(crate) fn note(
     watch: &Watch<'_>,
     changes: &mut Vec<Change>,

@@ -80,10 +80,10 @@ impl<'n> Watch<'n> {
         ensures unchanged { OnErr result (shown.new ≡ shown.old) }
         ensures few_steps { RoseByAtMost 1 steps.old steps.new }
     {
-        if changes[i] == Change::Nothing {
-            return Ok(());
+        match changes[i] {
+            Change::Nothing => Ok(()),
+            _ => self.renew_changed(alloc, i, changes, shown, room, checker, steps),
         }
-        self.renew_changed(alloc, i, changes, shown, room, checker, steps)
     }
 
     // Apart from `renew`, since nothing changed at most nodes.

@@ -103,8 +103,9 @@ impl<'n> Watch<'n> {
     /// Takes one more event, in constant time but for the search of an identity and the bits of a
     /// label, and without memory. An event that does not apply changes nothing.
     ///
-    /// `Full` where as many events were taken as are, or as many relabels, or more bits would be
-    /// taken than are; else the first of the other causes of [`EventError`] that occurs.
+    /// `Full` where all events that it takes in all were taken, or all relabels, or where there
+    /// would be more bits than it takes in all; else the first of the other causes of
+    /// [`EventError`] that occurs.
     pub fn step(&mut self, event: &WatchEvent) -> Result<(), EventError>
         ensures taken { OnOk result (self.new ≡ watching event.now self.old) }
         ensures applies { OnOk result (watch_refusal self.old event.now ≡ None) }
