@@ -103,7 +103,7 @@ rounds_answer reports = record {
   text = reports_text reports;
 }
 
--- the outcomes that a command reports
+-- the outcomes that `verify`, `simulate` or `judge` reports; of any other command none
 abbrev pub outcomes_in : Command → Input → List (ℕ × Outcome)
 outcomes_in (With (Verify json) scheme) input =
     decided_by (judge_in (code_in input) scheme) (rows_in input) (labels_in input)

@@ -153,8 +153,8 @@ pub record Notices (scheme : Expression) (command : Command) (bytes : List ℕ) 
       → SomeFails (items_at (outcomes_in command input) places)
 
 -- the bytes are the text of a network with these components, and the text is that of labels which
--- show the property of each of them under the code; together they have no more bits than an input
--- may have. That `verify` ends with `Done` on the bytes with the text behind them is the law
+-- show the property of each of them under the code; together they have no more bits than the labels
+-- of an input may have. That `verify` ends with `Done` on the bytes with the text behind them is the law
 -- `marked_is_verified`
 pub record Certifies (code : CodeName) (scheme : Expression)
     (bytes text : List ℕ) : Type 0 where

@@ -107,7 +107,8 @@ fn compare_fronts(
     found
 }
 
-// All that counts at most ports, apart from the rest: on most levels the weights alone settle it.
+// At most of the ports this alone counts, so it stands by itself: on most levels the weights
+// settle it.
 #[inline(always)]
 fn fronts_chose_least(
     mine: &[KeptLevel; FRONT],

@@ -1,6 +1,7 @@
 //! The names of basic schemes, and their types. A new name has a row in the four tables of this
-//! file, one in `specs/Named` and one in `specs/laws/NamedLaws`. Besides, `pls_builtin` says
-//! whether a rule set has the name, and `pls` how many rules the scheme has and what they ask.
+//! file, two in `specs/Named` (`meaning_of` and `all_names`) and one in `specs/laws/NamedLaws`.
+//! Besides, `pls_builtin` says whether a rule set has the name, and `pls` how many rules the scheme
+//! has and what they ask.
 
 ghost use Rattle.std.specs.Prelude.{◌≡◌};
 ghost use Rattle.pls_names.specs.Named.{all_names, name_of};

@@ -1,7 +1,7 @@
 //! Spanning trees of least weight by centroids: the property of `mst`, with other labels. A node
 //! checks how far away and behind how heavy an edge it stands from the centroid of each piece that
-//! it is in, and that no edge outside of the tree is lighter than what its two ends have to one
-//! centroid.
+//! it is in, and that no edge outside of the tree is lighter than the greatest weights on the ways
+//! from its two ends to one centroid.
 //!
 //! [`PathMax`] is the scheme, over any number code: a verifier that takes no memory, the property,
 //! a marker, and a layout of labels. [`PathMaxRules`] is what it states of its own,

@@ -26,7 +26,7 @@ use std::alloc::Global;
 /// number code `C`.
 #[derive(Clone, Copy, Debug, PartialEq, Eq)]
 pub struct PathMax<C> {
-    /// The rules, which the marker knows.
+    /// The rules, with what labels are right.
     pub rules: PathMaxRules<C>,
 }
 

@@ -33,18 +33,6 @@ set_elsewhere (first ∷ xs) (suc i) zero x differs = refl
 set_elsewhere (first ∷ xs) (suc i) (suc k) x differs =
     set_elsewhere xs i k x (λ same. differs (ap suc same))
 
--- changes of which each is none
-pub all_nothing : (changes : List Change) (count : ℕ) → length changes ≡ count
-    → ((k : ℕ) → k < count → get_or changes k Nothing ≡ Nothing) → changes ≡ replicate count Nothing
-all_nothing [] zero long none = refl
-all_nothing [] (suc count) long none = absurd (omega (arith, long))
-all_nothing (change ∷ changes) zero long none = absurd (omega (arith, long))
-all_nothing (change ∷ changes) (suc count) long none =
-    let first = none 0 (omega arith) in
-    let others = all_nothing changes count (omega (arith, long))
-    (λ k within. none (suc k) (omega (arith, within))) in
-    λ i. first i ∷ others i
-
 pub quiet_at : (count i : ℕ) (change : Change)
     → slice_get (replicate count Nothing) i ≡ Some change → change ≡ Nothing
 quiet_at zero i change at = absurd (cc)
