@@ -12,10 +12,10 @@ use std::marker::PhantomData;
 
 /// A word that is the heading of a part, alone in its line.
 pub trait HeadingWord: Drop {
-    /// The word.
+    /// The bytes of the word.
     ghost word: { List ℕ };
 
-    /// The word.
+    /// The word, as texts are read and written with it.
     fn word() -> &'static [u8]
         ensures { result.now ≡ word };
 

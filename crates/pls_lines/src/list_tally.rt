@@ -55,13 +55,13 @@ pub trait ListTally<'a>: Sized + Drop {
 
 /// Lists of which a line is kept for each item, that lends nothing of the text.
 pub trait Keep<'a>: ListTally<'a> {
-    /// What is kept of an item.
+    /// The form in which items are kept.
     type Line: Drop;
 
-    /// What is kept of an item.
+    /// What an item is kept as.
     ghost line: { Self.Item → Self.Line };
 
-    /// What is kept of an item. The one refusal is want of memory.
+    /// Turns an item into what is kept of it. The one refusal is want of memory.
     fn line_of(alloc: Global, item: Self::Item) -> Result<Self::Line, NoMemory>
         ensures { IfOk result (λ kept. kept ≡ line item) };
 }

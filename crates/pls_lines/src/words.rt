@@ -60,15 +60,15 @@ fn after_both<'a>(text: &'a [u8], front: &[u8], byte: u8) -> Option<&'a [u8]>
     after_byte(after_front(text, front)?, byte)
 }
 
+// Byte by byte: of a front whose length is known nothing is left but its bytes' tests.
 #[inline(always)]
 fn after_front<'a>(text: &'a [u8], front: &[u8]) -> Option<&'a [u8]>
     ensures { MatchOption result ((rest : List ℕ) → text.now ≢ front.now ++ rest)
         (λ rest. text.now ≡ front.now ++ rest.now) }
 {
-    let (begin, rest) = text.split_at_checked(front.len())?;
-    if is_same(begin, front) {
-        Some(rest)
-    } else {
-        None
+    let mut rest = text;
+    for byte in front {
+        rest = after_byte(rest, *byte)?;
     }
+    Some(rest)
 }

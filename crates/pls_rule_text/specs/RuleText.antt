@@ -51,7 +51,7 @@ pub record IsRuleText (text : List ℕ) : Type 0 where
 abbrev pub is_among : List (List ℕ) → List ℕ → Bool
 is_among names name = list_any (λ other. bytes_eq other name) names
 
--- the place of a name among some, from 0; their number where it is not among them
+-- the place of a name among some, from 0; where it is not among them, how many they are
 abbrev pub place_of_name : List (List ℕ) → List ℕ → ℕ
 place_of_name [] name = 0
 place_of_name (first ∷ others) name =

@@ -27,7 +27,7 @@ use std::alloc::Global;
 /// no memory, and a marker that writes the labels that are right.
 #[derive(Clone, Copy, Debug, PartialEq, Eq)]
 pub struct Basic<R> {
-    /// The rules, which the marker knows.
+    /// The rules by which a node is judged, and for which the marker writes labels.
     pub rules: R,
 }
 

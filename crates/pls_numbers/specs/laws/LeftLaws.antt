@@ -41,9 +41,7 @@ same_left one other numbers clean =
 -- what is left has these numbers
 left_is : (left : NumbersLeft) (numbers : List ℕ) → left.numbers ≡ numbers → left.clean ≡ true
     → left ≡ whole numbers
-left_is left numbers is clean =
-    ap (λ (numbers : List ℕ). let some : NumbersLeft = record { numbers = numbers; clean = left.clean } in some) is
-    ∙ ap (λ (clean : Bool). let some : NumbersLeft = record { numbers = numbers; clean = clean } in some) clean
+left_is left numbers is clean = same_left left (whole numbers) is clean
 
 module _ (code : ℕ → List Bool) (takes : List Bool → Option (ℕ × List Bool))
     (taken : TakesCodes code takes) (only : TakesOnly code takes) where
