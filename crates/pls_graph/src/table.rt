@@ -196,7 +196,7 @@ impl Table {
     }
 
     /// Puts a port, with the place of its neighbour, behind the others of the node at place i.
-    #[inline]
+    #[inline(always)]
     pub fn add_port(&mut self, i: usize, port: Port, place: u32) -> Result<(), AllocError>
         requires { i < length self.old.rows }
         ensures rows { OnOk result ((row : NodeRow) → slice_get self.old.rows i ≡ Some row
@@ -222,7 +222,7 @@ impl Table {
     }
 
     /// Puts a port, with the place of its neighbour, behind the others of the last node.
-    #[inline]
+    #[inline(always)]
     pub(crate) fn add_last_port(&mut self, port: Port, place: u32) -> Result<(), AllocError>
         requires { self.old.rows ≢ [] }
         ensures rows { OnOk result ((before : List NodeRow) (row : NodeRow)
@@ -258,7 +258,7 @@ impl Table {
     }
 }
 
-#[inline]
+#[inline(always)]
 fn set_range(nodes: &mut Vec<Node>, i: usize, start: usize, count: usize, room: usize)
     requires { i < length nodes.old.items }
     ensures { (node : Node) → slice_get nodes.old.items i ≡ Some node → nodes.new.items

@@ -2,12 +2,21 @@
 
 ghost use Rattle.std.specs.Prelude.{◌≡◌, ◌≢◌, ◌↔◌, ℕ, List, ◌∷◌, ◌++◌, length, IfNone, IfSome, IsTrue, MatchOption};
 
-/// Whether two texts are one.
+/// Whether a text is a word, which is short. Byte by byte: of a word whose length is known nothing
+/// is left but the tests of its bytes.
 #[inline(always)]
-pub fn is_same(text: &[u8], other: &[u8]) -> bool
-    ensures { IsTrue result ↔ (text.now ≡ other.now) }
+pub fn is_same(text: &[u8], word: &[u8]) -> bool
+    ensures { IsTrue result ↔ (text.now ≡ word.now) }
 {
-    text == other
+    if text.len() != word.len() {
+        return false;
+    }
+    for (place, byte) in word.iter().enumerate() {
+        if text[place] != *byte {
+            return false;
+        }
+    }
+    true
 }
 
 /// What follows a word and one space at the front of a text; `None` where they do not stand there.
@@ -60,15 +69,15 @@ fn after_both<'a>(text: &'a [u8], front: &[u8], byte: u8) -> Option<&'a [u8]>
     after_byte(after_front(text, front)?, byte)
 }
 
-// Byte by byte: of a front whose length is known nothing is left but its bytes' tests.
 #[inline(always)]
 fn after_front<'a>(text: &'a [u8], front: &[u8]) -> Option<&'a [u8]>
     ensures { MatchOption result ((rest : List ℕ) → text.now ≢ front.now ++ rest)
         (λ rest. text.now ≡ front.now ++ rest.now) }
 {
-    let mut rest = text;
-    for byte in front {
-        rest = after_byte(rest, *byte)?;
+    let (begin, rest) = text.split_at_checked(front.len())?;
+    if is_same(begin, front) {
+        Some(rest)
+    } else {
+        None
     }
-    Some(rest)
 }

@@ -121,6 +121,7 @@ impl Gathered {
     }
 
     /// Puts bytes and then a number behind them, as `put` does.
+    #[inline(always)]
     pub fn put_numbered<K: Sink>(
         &mut self,
         sink: &mut K,
