@@ -3,3 +3,4 @@ pub mod LevelsLeft
 mod Written
 mod Logarithm
 pub mod Made
+pub mod KeptFronts

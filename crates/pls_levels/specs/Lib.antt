@@ -1,4 +1,5 @@
 pub mod Labels
 pub mod Rules
 pub mod Making
+pub mod inner
 pub mod laws

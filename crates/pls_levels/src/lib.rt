@@ -7,8 +7,9 @@
 //! and levels ([`make_labels`]). What stands in front of the levels ([`LevelHead`]) places a node
 //! in the tree ([`is_placed`]) and tells which edges at its ports are in it ([`is_in_tree`]).
 //! Definitions stand in `specs/Labels` (`level_shape`), `specs/Rules` (`is_placed_in_tree`,
-//! `is_in_tree`) and `specs/Making` (`IsRightHead`); what a scheme proves with them in `specs/laws`
-//! (`level_numbers`, `IsPlaced`, `told_in`, `passes_from_0`).
+//! `is_in_tree`), `specs/Making` (`IsRightHead`) and `specs/inner/ShortForm` (`kept_front`: the
+//! first levels, as a scheme keeps them at a glance); what a scheme proves with them in
+//! `specs/laws` (`level_numbers`, `IsPlaced`, `told_in`, `passes_from_0`).
 #![tactic(auto)]
 
 mod format;

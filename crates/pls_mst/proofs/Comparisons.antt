@@ -15,8 +15,10 @@ use Rattle.pls_mst.specs.declared.comparing.LevelComparison.{LevelComparison}
 use Rattle.pls_mst.specs.Labels.{level_off}
 use Rattle.pls_mst.specs.Rules.{chose_least, is_chosen_between, is_named_or_shared}
 use Rattle.pls_mst.specs.inner.Comparing.{CountsAs, both_compared, compared, edge_between}
+use Rattle.pls_levels.proofs.KeptFronts.{kept_count-few, kept_front-take}
+use Rattle.pls_mst.specs.declared.glance.TheConstants.{FRONT}
 use Rattle.pls_mst.specs.inner.Glance.{all_whole, front_of, kept_in}
-use Rattle.pls_mst.proofs.Fronts.{front_of-take, kept_in-few}
+use Rattle.pls_mst.specs.inner.KeptLevel.{kept_form}
 
 -- of these three
 abbrev pub three : Bool → Bool → Bool → LevelComparison
@@ -183,7 +185,14 @@ module _ (between : Between) (own : ℕ) where
     -- no more are kept than both have
     within : first ≤ count
     within =
-        omega (arith, is, mine_kept, theirs_kept, kept_in-few mine, kept_in-few theirs)
+        omega (
+          arith,
+          is,
+          mine_kept,
+          theirs_kept,
+          kept_count-few kept_form FRONT mine,
+          kept_count-few kept_form FRONT theirs,
+        )
 
     -- of so many
     front_said : compared between own (take first (all_whole (front_of mine)))
@@ -192,8 +201,9 @@ module _ (between : Between) (own : ℕ) where
     front_said =
         ap (λ (mine : List Level).
         compared between own mine (take first (all_whole (front_of theirs))))
-        (front_of-take first mine mine_kept)
-        ∙ ap (compared between own (take first mine)) (front_of-take first theirs theirs_kept)
+        (kept_front-take kept_form FRONT (λ level. refl) first mine mine_kept)
+        ∙ ap (compared between own (take first mine))
+        (kept_front-take kept_form FRONT (λ level. refl) first theirs theirs_kept)
 
     -- where there are no others
     pub all_in_front : count ≤ first

@@ -1,6 +1,6 @@
 -- What two labels say together that were looked at, and what one of them says; and levels that are
 -- read behind the first.
-use Rattle.std.proofs.Common.{◌≡◌, ◌∙◌, ℕ, suc, ◌-◌, ◌≤◌, ◌==◌, ◌&&◌, inl, inr, min, Bool, true, false, List, length, take, drop, Some, sym, ap, subst, arith}
+use Rattle.std.proofs.Common.{◌≡◌, ◌∙◌, ℕ, suc, ◌-◌, ◌≤◌, ◌==◌, ◌&&◌, inl, inr, min, Bool, true, false, List, length, take, drop, Some, refl, sym, ap, subst, arith}
 use Rattle.std.specs.List.{list_all}
 use Rattle.std.proofs.lemmas.Bool.{cases_Bool, eq-eqb}
 use Rattle.std.proofs.lemmas.List.{length-drop, take-map, take_all}
@@ -12,15 +12,17 @@ use Rattle.pls_boruvka.specs.declared.level.Level.{Level}
 use Rattle.pls_mst.specs.declared.comparing.Between.{Between}
 use Rattle.pls_mst.specs.declared.comparing.LevelComparison.{LevelComparison}
 use Rattle.pls_mst.specs.declared.glance.MstGlance.{MstGlance}
+use Rattle.pls_mst.specs.declared.glance.TheConstants.{FRONT}
 use Rattle.pls_mst.specs.declared.kept_level.KeptLevel.{KeptLevel}
 use Rattle.pls_levels.specs.Labels.{AreFewer, AreLevelsLeft, ArePassed}
+use Rattle.pls_levels.proofs.KeptFronts.{kept_count-few, kept_front-take}
 use Rattle.pls_mst.specs.Labels.{MstLabel, level_off, mst_levels}
 use Rattle.pls_mst.specs.Rules.{names_all_fragments}
 use Rattle.pls_mst.specs.inner.Comparing.{CountsAs, both_compared, compared}
 use Rattle.pls_mst.specs.inner.Glance.{all_whole, front_of, glance_of, kept_in}
-use Rattle.pls_mst.specs.inner.KeptLevel.{whole}
+use Rattle.pls_mst.specs.inner.KeptLevel.{kept_form, whole}
 use Rattle.pls_mst.proofs.Comparisons.{all_in_front, counts_behind, front_and_behind}
-use Rattle.pls_mst.proofs.Fronts.{front_of-take, kept_in-few, list_all-split}
+use Rattle.pls_mst.proofs.Fronts.{list_all-split}
 
 -- what the levels of two labels say together, by what is kept of them
 module _ (pointer : Bool) (between : Between) (own other : MstLabel) (mine theirs : MstGlance)
@@ -79,10 +81,11 @@ module _ (pointer : Bool) (between : Between) (own other : MstLabel) (mine their
       let left : ℕ = shared - first in
       let mine_off : items_off level_off left here ≡ take left (drop first own.levels) =
       items_off-take level_off left (length own.levels - first) here (drop first own.levels)
-      (here_is (omega (arith, own_kept, kept_in-few own.levels))) (omega (arith, both_have)) in
+      (here_is (omega (arith, own_kept, kept_count-few kept_form FRONT own.levels)))
+      (omega (arith, both_have)) in
       let theirs_off : items_off level_off left there ≡ take left (drop first other.levels) =
       items_off-take level_off left (length other.levels - first) there (drop first other.levels)
-      (there_is (omega (arith, other_kept, kept_in-few other.levels)))
+      (there_is (omega (arith, other_kept, kept_count-few kept_form FRONT other.levels)))
       (omega (arith, both_have)) in
       let front : LevelComparison =
       compared between own.own (kept_first own.levels) (kept_first other.levels) in
@@ -124,7 +127,8 @@ module _ (own : MstLabel) (glance : MstGlance) (first : ℕ) (first_has : Bool)
       level.fragment == glance.head.own) (take first glance.front)) (sym is)
       ∙ sym (list_all-map named whole (take first (front_of own.levels)))
       ∙ ap (list_all named)
-      (sym (take-map whole first (front_of own.levels)) ∙ front_of-take first own.levels kept)
+      (sym (take-map whole first (front_of own.levels))
+      ∙ kept_front-take kept_form FRONT (λ level. refl) first own.levels kept)
 
   -- one in front has another
   pub none_named : first_has ≡ false → false ≡ names_all_fragments own
@@ -149,7 +153,7 @@ module _ (own : MstLabel) (glance : MstGlance) (first : ℕ) (first_has : Bool)
       let left : ℕ = length own.levels - first in
       let off : items_off level_off left rest ≡ drop first own.levels =
       items_off-take level_off left left rest (drop first own.levels)
-      (rest_is (omega (arith, kept, kept_in-few own.levels))) (omega arith)
+      (rest_is (omega (arith, kept, kept_count-few kept_form FRONT own.levels))) (omega arith)
       ∙ take_all left (drop first own.levels) (omega (arith, length-drop first own.levels)) in
       all_is
       ∙ ap (λ (glance : MstGlance). list_all (λ (level : Level). level.fragment == glance.head.own)

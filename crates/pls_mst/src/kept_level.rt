@@ -1,7 +1,8 @@
 //! Levels in as few bytes as the numbers of a right label need.
 
 ghost use Rattle.std.specs.Prelude.{◌≡◌, true, false, IfSome, IfNone};
-ghost use Rattle.pls_mst.specs.inner.KeptLevel.{fits, is_short, kept_of, whole};
+ghost use Rattle.pls_levels.specs.inner.ShortForm.{is_short};
+ghost use Rattle.pls_mst.specs.inner.KeptLevel.{fits, kept_of, whole};
 
 use pls_boruvka::Level;
 

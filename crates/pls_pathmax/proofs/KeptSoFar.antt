@@ -3,33 +3,35 @@ use Rattle.std.proofs.Common.{◌≡◌, ◌∙◌, ℕ, ◌+◌, ◌≤◌, ◌
 use Rattle.std.proofs.lemmas.Bool.{and_from, and_parts, cases_Bool, cases_lt, eq-eqb, eqb-true, lt-ltb, ltb-true, true≢false}
 use Rattle.std.proofs.lemmas.List.{drop_all}
 use Rattle.pls_centroid.specs.declared.level.CentroidLevel.{CentroidLevel}
+use Rattle.pls_levels.proofs.KeptFronts.{IsKept, front-next, none_fits, none_left}
 use Rattle.pls_pathmax.specs.declared.glance.TheConstants.{FRONT}
 use Rattle.pls_pathmax.specs.declared.kept_level.KeptLevel.{KeptLevel}
 use Rattle.pls_pathmax.specs.inner.Glance.{IsFront, front_with, is_kept_too, kept_with}
-use Rattle.pls_pathmax.specs.inner.KeptLevel.{fits, kept_of}
-use Rattle.pls_pathmax.proofs.Fronts.{IsKept, front-next, none_fits, none_left}
+use Rattle.pls_pathmax.specs.inner.KeptLevel.{fits, kept_form, kept_of}
 
 -- of so many levels that stand first all are kept, or of all levels those before one that is not
 abbrev pub AreKeptSoFar : ℕ → ℕ → List KeptLevel → List CentroidLevel → Type 0
 AreKeptSoFar number kept front levels =
-    ((kept ≡ number) × (number ≤ FRONT) × IsKept FRONT number front levels (drop number levels))
+    ((kept ≡ number) × (number ≤ FRONT)
+    × IsKept kept_form FRONT number front levels (drop number levels))
     ⊎ (IsFront kept front levels × (kept < number))
 
 module _ (levels : List CentroidLevel) (number : ℕ) (level : CentroidLevel)
     (next : drop number levels ≡ level ∷ drop (number + 1) levels) where
   -- where all so far are kept
   module _ (front : List KeptLevel) (few : number ≤ FRONT)
-      (is : IsKept FRONT number front levels (drop number levels)) where
-    led : IsKept FRONT number front levels (level ∷ drop (number + 1) levels)
-    led = subst (IsKept FRONT number front levels) next is
+      (is : IsKept kept_form FRONT number front levels (drop number levels)) where
+    led : IsKept kept_form FRONT number front levels (level ∷ drop (number + 1) levels)
+    led = subst (IsKept kept_form FRONT number front levels) next is
 
     -- the next one is not where there is no more room, or it does not fit
     not_one_more : is_kept_too number number level ≡ false → IsFront number front levels
     not_one_more not = elim (cases_lt number FRONT) [
-      | inr full ↦ none_left number front levels (drop number levels) is few
+      | inr full ↦ none_left kept_form FRONT number front levels (drop number levels) is few
           (λ less. absurd (omega (arith, less, full)))
       | inl room ↦ elim (cases_Bool (fits level)) [
-        | inr wide ↦ none_fits number front levels level (drop (number + 1) levels) led few wide
+        | inr wide ↦ none_fits kept_form FRONT number front levels level
+            (drop (number + 1) levels) led few wide
         | inl short ↦ absurd (true≢false (sym (and_from (number == number)
             (nat_lt number FRONT && fits level) (eq-eqb number number refl)
             (and_from (nat_lt number FRONT) (fits level) (lt-ltb number FRONT room) short))
@@ -55,10 +57,10 @@ module _ (levels : List CentroidLevel) (number : ℕ) (level : CentroidLevel)
             | inl going ↦ inl (
               omega (arith, here),
               omega (arith, room),
-              subst (λ (place : ℕ). IsKept FRONT (number + 1) (set front place (kept_of level))
-                  levels (drop (number + 1) levels)) here
-                  (front-next number front levels level (drop (number + 1) levels) (kept_of level)
-                  room (led front going.1 going.2) more.1 refl),
+              subst (λ (place : ℕ). IsKept kept_form FRONT (number + 1)
+                  (set front place (kept_of level)) levels (drop (number + 1) levels)) here
+                  (front-next kept_form FRONT number front levels level (drop (number + 1) levels)
+                  (kept_of level) room (led front going.1 going.2) more.1 refl),
             )
           ]
 
@@ -87,7 +89,7 @@ all_so_far levels number kept front all so_far = elim so_far [
   | inr stopped ↦ stopped.0
   | inl going ↦
       let front_is : IsFront number front levels =
-      none_left number front levels (drop number levels) going.2 going.1
+      none_left kept_form FRONT number front levels (drop number levels) going.2 going.1
       (λ less. drop_all number levels (omega (arith, all))) in
       (going.0 ∙ front_is.0, front_is.1)
 ]

@@ -1,5 +1,4 @@
 pub mod LevelsLeft
-pub mod Fronts
 pub mod KeptSoFar
 pub mod Glances
 pub mod Compared

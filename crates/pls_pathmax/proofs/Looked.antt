@@ -7,15 +7,16 @@ use Rattle.std.proofs.lemmas.List.Folds.{list_any-append}
 use Rattle.std.proofs.lemmas.Option.{slice_get_past}
 use Rattle.std.proofs.lemmas.Slice.Zip.{length-zip}
 use Rattle.pls_centroid.specs.declared.level.CentroidLevel.{CentroidLevel}
+use Rattle.pls_levels.proofs.KeptFronts.{kept_front-take, kept_split}
 use Rattle.pls_pathmax.specs.declared.glance.PathMaxGlance.{PathMaxGlance}
+use Rattle.pls_pathmax.specs.declared.glance.TheConstants.{FRONT}
 use Rattle.pls_pathmax.specs.declared.kept_level.KeptLevel.{KeptLevel}
 use Rattle.pls_pathmax.specs.Labels.{PathMaxLabel}
 use Rattle.pls_pathmax.specs.Rules.{meet_lightly}
-use Rattle.pls_pathmax.specs.inner.Glance.{all_whole, both_go_on, both_keep, glance_said, no_level}
-use Rattle.pls_pathmax.specs.inner.KeptLevel.{whole}
+use Rattle.pls_pathmax.specs.inner.Glance.{all_whole, both_go_on, both_keep, glance_said}
+use Rattle.pls_pathmax.specs.inner.KeptLevel.{kept_form, no_level, whole}
 use Rattle.pls_pathmax.specs.inner.OnePass.{leads_from}
 use Rattle.pls_pathmax.proofs.Compared.{leads_nothing, meet_from, meet_next, nothing_leads}
-use Rattle.pls_pathmax.proofs.Fronts.{front_of-take, kept_split}
 
 -- what stands at a place among the first items
 slice_get-take : {X : Type 0} (count : ℕ) (xs : List X) (k : ℕ) → k < count
@@ -48,9 +49,9 @@ front_meet_next weight count place mine theirs here there within mine_has theirs
     let mine_first : List CentroidLevel = take count (all_whole mine) in
     let theirs_first : List CentroidLevel = take count (all_whole theirs) in
     meet_next weight mine_first theirs_first place here there
-    (kept_split count mine place within mine_has
+    (kept_split kept_form count mine place within mine_has
     ∙ ap (λ (level : CentroidLevel). level ∷ drop (place + 1) mine_first) (sym here_is))
-    (kept_split count theirs place within theirs_has
+    (kept_split kept_form count theirs place within theirs_has
     ∙ ap (λ (level : CentroidLevel). level ∷ drop (place + 1) theirs_first) (sym there_is))
 
 -- the levels of two labels, of which so many are kept of both
@@ -59,12 +60,12 @@ module _ (weight : ℕ) (own other : PathMaxLabel) (mine theirs : PathMaxGlance)
     (count_is : count ≡ both_keep mine theirs) where
   own_front : take count (all_whole mine.front) ≡ take count own.levels
   own_front = ap (λ (glance : PathMaxGlance). take count (all_whole glance.front)) (sym own_is)
-      ∙ front_of-take count own.levels
+      ∙ kept_front-take kept_form FRONT (λ level. refl) count own.levels
       (omega (arith, count_is, ap (λ (glance : PathMaxGlance). glance.kept) own_is))
 
   other_front : take count (all_whole theirs.front) ≡ take count other.levels
   other_front = ap (λ (glance : PathMaxGlance). take count (all_whole glance.front)) (sym other_is)
-      ∙ front_of-take count other.levels
+      ∙ kept_front-take kept_form FRONT (λ level. refl) count other.levels
       (omega (arith, count_is, ap (λ (glance : PathMaxGlance). glance.kept) other_is))
 
   -- where not both go on behind these, one has no more

@@ -1,36 +1,23 @@
 -- What is kept of a label at a glance.
-use Rattle.std.specs.Prelude.{◌≡◌, ℕ, ◌+◌, ◌-◌, ◌==◌, ◌++◌, nat_lt, Bool, false, ◌&&◌, if◌then◌else◌, List, length, map, min, replicate, set, slice_get, take, Option}
-use Rattle.std.specs.List.{prefix_len}
+use Rattle.std.specs.Prelude.{ℕ, ◌+◌, ◌-◌, ◌==◌, nat_lt, Bool, false, ◌&&◌, if◌then◌else◌, List, length, min, set, slice_get, Option}
 use Rattle.std.specs.Option.{option_map_or}
 use Rattle.pls_centroid.specs.declared.level.CentroidLevel.{CentroidLevel}
 use Rattle.pls_levels.specs.declared.label.LevelHead.{LevelHead}
 use Rattle.pls_pathmax.specs.declared.glance.PathMaxGlance.{PathMaxGlance}
 use Rattle.pls_pathmax.specs.declared.glance.TheConstants.{FRONT}
 use Rattle.pls_pathmax.specs.declared.kept_level.KeptLevel.{KeptLevel}
+use Rattle.pls_levels.specs.inner.ShortForm.{IsKeptFront, in_full, kept_count, kept_front}
 use Rattle.pls_pathmax.specs.Labels.{PathMaxLabel}
-use Rattle.pls_pathmax.specs.inner.KeptLevel.{fits, kept_of, whole}
+use Rattle.pls_pathmax.specs.inner.KeptLevel.{fits, kept_form, kept_of}
 use Rattle.pls_pathmax.specs.inner.Reading.{head_said}
 
 -- the level is the own one of the node with this name, its centroid, without a hop
 abbrev pub is_own_level : ℕ → CentroidLevel → Bool
 is_own_level own level = level.hops == 0 && level.centroid == own
 
--- what stands where there is no level
-abbrev pub no_level : KeptLevel
-no_level = record { centroid = 0; hops = 0; greatest = 0 }
-
--- how many levels are kept: the first ones that fit
-unfoldable pub kept_in : List CentroidLevel → ℕ
-kept_in levels = prefix_len fits (take FRONT levels)
-
--- the levels that are kept, and behind them, where there are fewer, what stands where there is none
-unfoldable pub front_of : List CentroidLevel → List KeptLevel
-front_of levels =
-    take FRONT (map kept_of (take (kept_in levels) levels) ++ replicate FRONT no_level)
-
 -- of these levels so many are kept, in this front
 abbrev pub IsFront : ℕ → List KeptLevel → List CentroidLevel → Type 0
-IsFront kept front levels = (kept ≡ kept_in levels) × (front ≡ front_of levels)
+IsFront kept front levels = IsKeptFront kept_form FRONT kept front levels
 
 -- where so many levels are kept of as many as this number, the next one is kept too
 abbrev pub is_kept_too : ℕ → ℕ → CentroidLevel → Bool
@@ -47,7 +34,7 @@ front_with kept number level front =
 
 -- the levels that are kept, in full
 abbrev pub all_whole : List KeptLevel → List CentroidLevel
-all_whole front = map whole front
+all_whole front = in_full kept_form front
 
 -- how many levels are kept of both
 abbrev pub both_keep : PathMaxGlance → PathMaxGlance → ℕ
@@ -74,8 +61,8 @@ glance_with head kept front last = record {
 -- what is kept of a label: what stands in front of its levels, the first of them, and whether the
 -- last is the node's own
 abbrev pub glance_said : PathMaxLabel → PathMaxGlance
-glance_said label = glance_with (head_said label) (kept_in label.levels) (front_of label.levels)
-    (last_level label.levels)
+glance_said label = glance_with (head_said label) (kept_count kept_form FRONT label.levels)
+    (kept_front kept_form FRONT label.levels) (last_level label.levels)
 
 -- what stands in front of the levels, of what is kept
 abbrev pub head_seen : PathMaxGlance → LevelHead

@@ -2,9 +2,12 @@ use Rattle.std.proofs.Common.{◌≡◌, ◌∙◌, ◌+◌, ◌-◌, ◌<◌, �
 use Rattle.pls_boruvka.specs.declared.level.Level.{Level}
 use Rattle.pls_numbers.specs.Taking.{are_items, items_off}
 use Rattle.pls_numbers.specs.laws.BehindLaws.{behind_all, behind_more, behind_none, none_behind}
+use Rattle.pls_levels.proofs.KeptFronts.{front-next, front-none, none_fits, none_left}
+use Rattle.pls_mst.specs.declared.glance.TheConstants.{FRONT}
 use Rattle.pls_mst.specs.Labels.{level_off}
 use Rattle.pls_mst.specs.inner.Glance.{IsFront}
-use Rattle.pls_mst.proofs.Fronts.{front-next, front-none, next_read, none_fits, none_left}
+use Rattle.pls_mst.specs.inner.KeptLevel.{kept_form}
+use Rattle.pls_mst.proofs.Fronts.{next_read}
 use Rattle.pls_mst.proofs.glance.read_front.Goals as goal
 
 pub loop-place-init : goal.loop-place-init
@@ -13,7 +16,7 @@ loop-place-init g c =
     let all : c.args.count ≡ c.args.count - 0 = omega arith in
     record {
       within = omega arith;
-      kept = front-none (items_off level_off c.args.count old.numbers)
+      kept = front-none kept_form FRONT (items_off level_off c.args.count old.numbers)
           (items_off level_off (c.args.count - 0) old.numbers)
           (ap (λ (count : ℕ). items_off level_off count old.numbers) all);
       behind = behind_none level_off old;
@@ -31,7 +34,7 @@ returns-in_default-clause-found g c =
     let place : ℕ = c.loop-place.place in
     let levels : List Level = items_off level_off c.args.count c.args.numbers.now.numbers in
     let new = c.read_level.new.numbers in
-    none_fits place c.loop-place.levels levels c.in_ok-level.level
+    none_fits kept_form FRONT place c.loop-place.levels levels c.in_ok-level.level
     (items_off level_off (c.args.count - (place + 1)) new.numbers)
     (next_read place c.args.count c.loop-place.levels levels c.loop-place.numbers
     c.in_ok-level.level new (omega (arith, c.loop-place-test.true, c.in_front-first.ensures))
@@ -59,7 +62,7 @@ loop-place-preserved g c =
     omega (arith, c.loop-place-test.true, c.in_front-first.ensures) in
     record {
       within = omega (arith, c.loop-place-test.true);
-      kept = front-next place c.loop-place.levels levels c.in_ok-level.level
+      kept = front-next kept_form FRONT place c.loop-place.levels levels c.in_ok-level.level
           (items_off level_off (c.args.count - (place + 1)) new.numbers) c.in-Some.short
           (omega (arith, c.loop-place-test.true, c.in_front-first.ensures))
           (next_read place c.args.count c.loop-place.levels levels c.loop-place.numbers
@@ -78,7 +81,7 @@ returns-clause-found g c =
     let first : c.in_front-first.result ≡ place =
     omega (arith, c.loop-place.invariant.within, c.loop-place-test.false) in
     let front : IsFront place c.loop-place.levels levels =
-    none_left place c.loop-place.levels levels left c.loop-place.invariant.kept
+    none_left kept_form FRONT place c.loop-place.levels levels left c.loop-place.invariant.kept
     (omega (arith, first, c.in_front-first.ensures))
     (λ less. let none : c.args.count - place ≡ 0 =
     omega (arith, less, first, c.in_front-first.ensures) in

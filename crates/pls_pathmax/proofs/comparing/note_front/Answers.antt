@@ -2,9 +2,10 @@ use Rattle.std.proofs.Common.{◌∙◌, ◌<◌, ℕ, Bool, List, Some, length,
 use Rattle.std.proofs.lemmas.List.{length-take}
 use Rattle.std.proofs.lemmas.Option.{slice_get_past}
 use Rattle.pls_centroid.specs.declared.level.CentroidLevel.{CentroidLevel}
+use Rattle.pls_levels.proofs.KeptFronts.{kept_at}
 use Rattle.pls_pathmax.specs.inner.Glance.{all_whole}
+use Rattle.pls_pathmax.specs.inner.KeptLevel.{kept_form}
 use Rattle.pls_pathmax.proofs.Compared.{noted_all, noted_more, noted_rest, nothing_leads}
-use Rattle.pls_pathmax.proofs.Fronts.{kept_at}
 use Rattle.pls_pathmax.proofs.comparing.note_front.Goals as goal
 
 pub loop-place-preserved : goal.loop-place-preserved
@@ -25,8 +26,9 @@ loop-place-preserved c =
       done = noted_more c.args.weight (take count (all_whole mine))
           (take count (all_whole theirs)) place old flags c.loop-place.invariant.done
           c.loop-place.invariant.rest flag_has c.whole-here.result c.whole-there.result
-          (kept_at count mine place less mine_has ∙ ap Some (sym c.whole-here.ensures))
-          (kept_at count theirs place less theirs_has ∙ ap Some (sym c.whole-there.ensures))
+          (kept_at kept_form count mine place less mine_has ∙ ap Some (sym c.whole-here.ensures))
+          (kept_at kept_form count theirs place less theirs_has
+          ∙ ap Some (sym c.whole-there.ensures))
           c.is_led_on.result c.is_led_on.ensures;
       rest = λ k later. noted_rest place old flags c.loop-place.invariant.rest
           c.is_led_on.result k later;

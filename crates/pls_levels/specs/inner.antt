@@ -1,0 +1,2 @@
+-- What private functions of the schemes say to each other.
+pub mod ShortForm
