@@ -156,6 +156,7 @@ fn patches_of(
         stays = 0;
     }
     room = sum(room, stays)?;
+    patches.shrink();
     Ok((patches, room))
 }
 

@@ -74,6 +74,14 @@ impl Patches {
         Ok(length)
     }
 
+    /// Gives back the memory that no patch takes: patches are kept until all looks are written.
+    pub(crate) fn shrink(&mut self)
+        ensures { self.new ≡ self.old }
+    {
+        self.lines.shrink_to_fit();
+        self.places.shrink_to_fit();
+    }
+
     /// Makes the next text of one, in the place of what was in `after`, which has room for it.
     pub(crate) fn apply(&self, before: &[u8], after: &mut Vec<u8>)
         requires { length (patch_text self.now before.now) ≤ vec_capacity after.old }

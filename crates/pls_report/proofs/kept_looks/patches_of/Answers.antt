@@ -1,8 +1,8 @@
 use Rattle.std.proofs.Common.{◌≡◌, ◌∙◌, ◌++◌, ◌∷◌, [], ℕ, List, ap, arith, get_or, length, subst, sym}
 use Rattle.std.specs.List.{sum}
 use Rattle.std.proofs.lemmas.List.{get_or-set_other, length-set, take_all}
-use Rattle.pls_report.specs.inner.Kept.{row_line}
-use Rattle.pls_report.specs.inner.Patches.{Patch}
+use Rattle.pls_report.specs.inner.Kept.{joined_text, row_line}
+use Rattle.pls_report.specs.inner.Patches.{Patch, patch_text}
 use Rattle.pls_report.proofs.Keeping.{ArePassed, all_lengths, all_made, none_passed, number_within, passed_as_changed, passed_as_it_is, sum_more, sum_set}
 use Rattle.pls_report.proofs.Patching.{a_patch}
 use Rattle.pls_report.proofs.kept_looks.patches_of.Goals as goal
@@ -92,7 +92,8 @@ loop-i-preserved c =
 
 pub returns-clause-patches : goal.returns-clause-patches
 returns-clause-patches c lines are those =
-    all_made c.args.rows.now lines c.loop-i.i c.loop-i.patches c.loop-i.stays c.loop-i.renewed.items
+    (λ k. patch_text (c.shrink.ensures k) (joined_text lines))
+    ∙ all_made c.args.rows.now lines c.loop-i.i c.loop-i.patches c.loop-i.stays c.loop-i.renewed.items
     (c.loop-i.invariant.4 lines are those) c.loop-i-test.false are.as_many
 
 pub returns-clause-renewed : goal.returns-clause-renewed
