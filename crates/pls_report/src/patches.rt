@@ -11,32 +11,33 @@ use pls_streams::NoMemory;
 use std::alloc::Global;
 use std::marker::Model;
 
-/// How many bytes of a text stay, how many go behind them, and where the line stands that comes in
+/// How many bytes of a text stay, how many go behind them, and how long the line is that comes in
 /// their place, with its line feed.
 #[derive(Clone, Copy, Debug)]
 pub(crate) struct PatchPlace {
     stays: usize,
     goes: usize,
-    start: usize,
     length: usize,
 }
 
 /// Patches of a text, one behind another, seen as their list.
 #[derive(Drop)]
 pub(crate) struct Patches {
+    // The lines that come, one behind another.
     lines: Vec<u8>,
     places: Vec<PatchPlace>,
 }
 
 impl Model for Patches {
-    ghost use Rattle.std.specs.Prelude.{All, List, map};
-    ghost use Rattle.pls_report.specs.inner.Patches.{IsWithin, Patch, patch_at};
+    ghost use Rattle.std.specs.Prelude.{◌≡◌, List, length};
+    ghost use Rattle.pls_report.specs.inner.Patches.{Patch, length_placed, patches_at};
 
     ghost Value = { List Patch };
 
-    ghost view = { λ patches. map (patch_at patches.lines.items) patches.places.items };
+    ghost view = { λ patches. patches_at patches.places.items patches.lines.items };
 
-    ghost invariant = { λ patches. All (IsWithin patches.lines.items) patches.places.items };
+    ghost invariant = { λ patches. length_placed patches.places.items
+        ≡ length patches.lines.items };
 }
 
 impl Patches {
@@ -62,15 +63,16 @@ impl Patches {
             ++ record { stays = stays; goes = goes; comes = row_line row.now } ∷ []) }
         ensures length { IfOk result (λ count. count ≡ length (row_line row.now)) }
     {
+        // Asked for first: a line without a place would be taken for that of the next patch.
+        self.places.reserve(1)?;
         let start = self.lines.len();
         add_line(&mut self.lines, row.id(), row.outcome(), row.stale())?;
         let length = self.lines.len() - start;
-        self.places.push(PatchPlace {
+        self.places.push_reserved(PatchPlace {
             stays,
             goes,
-            start,
             length,
-        })?;
+        });
         Ok(length)
     }
 
@@ -89,17 +91,17 @@ impl Patches {
         ensures room { vec_capacity after.old ≤ vec_capacity after.new }
     {
         after.clear();
-        let mut left = before;
+        let (mut left, mut lines) = (before, self.lines.as_slice());
         for place in &self.places {
             let PatchPlace {
                 stays,
                 goes,
-                start,
                 length,
             } = *place;
             add(after, front(left, stays));
-            add(after, &self.lines[start..][..length]);
+            add(after, front(lines, length));
             left = behind(behind(left, stays), goes);
+            lines = behind(lines, length);
         }
         add(after, left);
     }

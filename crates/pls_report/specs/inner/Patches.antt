@@ -1,5 +1,5 @@
 -- A text by what is other than in the text before it.
-use Rattle.std.specs.Prelude.{ℕ, ◌+◌, ◌≤◌, List, [], ◌∷◌, ◌++◌, take, drop, length}
+use Rattle.std.specs.Prelude.{ℕ, List, [], ◌∷◌, ◌++◌, take, drop, sum_by}
 use Rattle.pls_report.specs.declared.patches.PatchPlace.{PatchPlace}
 
 -- so many bytes of a text stay, the next so many go, and others come in their place
@@ -15,14 +15,13 @@ patch_text (patch ∷ patches) text =
     take patch.stays text
     ++ (patch.comes ++ patch_text patches (drop patch.goes (drop patch.stays text)))
 
--- the patch of which the new bytes stand there
-abbrev pub patch_at : List ℕ → PatchPlace → Patch
-patch_at text place = record {
-  stays = place.stays;
-  goes = place.goes;
-  comes = take place.length (drop place.start text);
-}
+-- the patches of which the new bytes stand in a text, one behind another
+abbrev pub patches_at : List PatchPlace → List ℕ → List Patch
+patches_at [] text = []
+patches_at (place ∷ places) text =
+    record { stays = place.stays; goes = place.goes; comes = take place.length text }
+    ∷ patches_at places (drop place.length text)
 
--- the whole of it stands in the text
-abbrev pub IsWithin : List ℕ → PatchPlace → Type 0
-IsWithin text place = place.start + place.length ≤ length text
+-- how many new bytes they have together
+abbrev pub length_placed : List PatchPlace → ℕ
+length_placed places = sum_by (λ place. place.length) places
