@@ -3,7 +3,7 @@ use Rattle.std.proofs.Common.{◌≡◌, ◌≢◌, ◌∙◌, ℕ, suc, ◌+◌
 use Rattle.std.specs.Option.{is_none}
 use Rattle.std.proofs.lemmas.Bool.{eq-eqb}
 use Rattle.std.proofs.lemmas.List.{length-map, length-replicate, length-set}
-use Rattle.std.proofs.lemmas.Option.{same_Some, slice_get-map, slice_get-get_or, slice_get_within}
+use Rattle.std.proofs.lemmas.Option.{same_Some, slice_get-map, slice_get_within}
 use Rattle.pls_configuration.specs.declared.row.Port.{Port}
 use Rattle.pls_configuration.specs.declared.row.NodeRow.{NodeRow}
 use Rattle.pls_configuration.specs.declared.verdict.Verdict.{Verdict}
@@ -124,8 +124,8 @@ module _ (judge : Seen → Verdict) (watched : Watched) where
       labels = current.labels;
     }
 
-  -- a row that is set
-  pub renewed_set : (place : ℕ) (old : List (ℕ × Outcome × List ℕ)) (shown : ℕ × Outcome × List ℕ)
+  -- a row that is put in the place of the one before
+  renewed_set : (place : ℕ) (old : List (ℕ × Outcome × List ℕ)) (shown : ℕ × Outcome × List ℕ)
       → place < length old
       → ((row : NodeRow) → slice_get rows place ≡ Some row → shown ≡ look_row judge watched row)
       → IsRenewed judge watched place old (set old place shown)
@@ -135,35 +135,8 @@ module _ (judge : Seen → Verdict) (watched : Watched) where
     others = λ i differs. set_elsewhere old place i shown differs;
   }
 
-  -- a row of which nothing changed, and one that has other stale ports alone
   module _ (changes : List Change) (place : ℕ) (old : List (ℕ × Outcome × List ℕ))
       (current : IsCurrent judge watched changes old) where
-    pub renewed_same : slice_get changes place ≡ Some Nothing
-        → IsRenewed judge watched place old old
-    renewed_same quiet = record {
-      as_many = refl;
-      here = λ row stands. current.stales place row stands quiet;
-      others = λ i differs. refl;
-    }
-
-    pub renewed_stale : (new : List (ℕ × Outcome × List ℕ)) (stale : List ℕ)
-        → place < length rows → slice_get changes place ≡ Some Beside
-        → ((row : NodeRow) → slice_get rows place ≡ Some row → stale ≡ stale_in watched row)
-        → ((id : ℕ) (outcome : Outcome) (before : List ℕ)
-        → slice_get old place ≡ Some (id, outcome, before)
-        → new ≡ set old place (id, outcome, stale))
-        → IsRenewed judge watched place old new
-    renewed_stale new stale within beside are is =
-        let here = item_at rows place within in
-        let row = here.0 in
-        let was = current.outcomes place row Beside here.1 beside refl in
-        let outcome = outcome_in judge watched row in
-        subst (IsRenewed judge watched place old) (sym (is row.id outcome was.0 was.1))
-        (renewed_set place old (row.id, outcome, stale) (omega (arith, within, current.all))
-        (λ other stands.
-        let same : row ≡ other = same_Some row other (sym here.1 ∙ stands) in
-        λ i. ((same i).id, outcome_in judge watched (same i), are other stands i)))
-
     -- where nothing changed, the row stays
     pub renewed_nothing : slice_get changes place ≡ Some Nothing
         → IsRenewed judge watched place old old
@@ -173,29 +146,30 @@ module _ (judge : Seen → Verdict) (watched : Watched) where
       others = λ i differs. refl;
     }
 
-    -- where just those ports are stale that were shown, the row stays
-    pub renewed_as_shown : (shown : ℕ × Outcome × List ℕ) → place < length old
-        → slice_get changes place ≡ Some Beside → shown ≡ get_or old place shown
-        → ((row : NodeRow) → slice_get rows place ≡ Some row → shown.2 ≡ stale_in watched row)
-        → IsRenewed judge watched place old old
-    renewed_as_shown shown within beside is are = record {
-      as_many = refl;
-      here = λ row stands.
-          let was = current.outcomes place row Beside stands beside refl in
-          let same : shown ≡ (row.id, outcome_in judge watched row, was.0) =
-          same_Some shown (row.id, outcome_in judge watched row, was.0)
-          (ap Some is ∙ sym (slice_get-get_or old place shown within) ∙ was.1) in
-          slice_get-get_or old place shown within ∙ ap Some (sym is)
-          ∙ ap Some (λ i. ((same i).0, (same i).1, are row stands i));
-      others = λ i differs. refl;
-    }
+    module _ (new : List (ℕ × Outcome × List ℕ)) (within : place < length rows) where
+      abbrev here : (row : NodeRow) × (slice_get rows place ≡ Some row)
+      here = item_at rows place within
 
--- the change that is read at a place
-pub change_here : (changes : List Change) (place : ℕ) (read change : Change)
-    → place < length changes → read ≡ get_or changes place read → read ≡ change
-    → slice_get changes place ≡ Some change
-change_here changes place read change within at is =
-    slice_get-get_or changes place read within ∙ ap Some (sym at ∙ is)
+      -- where the row is made anew
+      pub renewed_row : ((row : NodeRow) → slice_get rows place ≡ Some row
+          → new ≡ set old place (look_row judge watched row))
+          → IsRenewed judge watched place old new
+      renewed_row is =
+          subst (IsRenewed judge watched place old) (sym (is here.0 here.1))
+          (renewed_set place old (look_row judge watched here.0) (omega (arith, within, current.all))
+          (λ row stands.
+          ap (look_row judge watched) (same_Some here.0 row (sym here.1 ∙ stands))))
+
+      -- where its stale ports are, and no more than a neighbour's label changed
+      pub renewed_stale : slice_get changes place ≡ Some Beside
+          → ((row : NodeRow) (id : ℕ) (outcome : Outcome) (before : List ℕ)
+          → slice_get rows place ≡ Some row → slice_get old place ≡ Some (id, outcome, before)
+          → new ≡ set old place (id, outcome, stale_in watched row))
+          → IsRenewed judge watched place old new
+      renewed_stale beside is =
+          renewed_row (λ row stands.
+          let was = current.outcomes place row Beside stands beside refl in
+          is row row.id (outcome_in judge watched row) was.0 stands was.1)
 
 -- the place is this one where it is no other
 is_place : (o : Option ℕ) (i : ℕ) → (o ≢ Some i → ⊥) → o ≡ Some i

@@ -1,9 +1,11 @@
 //! The rows of a look, renewed as far as something changed.
 
-ghost use Rattle.std.specs.Prelude.{◌≡◌, ◌<◌, length, OnErr, OnOk};
+ghost use Rattle.std.specs.Prelude.{◌≡◌, ◌<◌, ℕ, List, length, slice_get, slice_set, OnErr, OnOk, Some};
+ghost use Rattle.pls_configuration.specs.declared.row.NodeRow.{NodeRow};
 ghost use Rattle.pls_scheme.specs.Judging.{RoseByAtMost};
-ghost use Rattle.pls_watch.specs.Watching.{look_of};
-ghost use Rattle.pls_watch.specs.inner.Current.{IsCurrent, IsRenewed};
+ghost use Rattle.pls_sim.specs.declared.outcome.Outcome.{Outcome};
+ghost use Rattle.pls_watch.specs.Watching.{look_of, stale_in};
+ghost use Rattle.pls_watch.specs.inner.Current.{IsCurrent, IsRenewed, look_row};
 ghost use Rattle.pls_watch.specs.inner.Known.{IsTable};
 
 use crate::change::Change;
@@ -58,7 +60,8 @@ impl<'n> Watch<'n> {
         Ok(())
     }
 
-    // Renews the row of the node at place `i` only as far as the node changed.
+    // Renews the row of the node at place `i` only as far as the node changed. What it calls stands
+    // apart, since nothing changed at most nodes.
     #[inline(always)]
     fn renew<K: Checker>(
         &self,
@@ -82,48 +85,65 @@ impl<'n> Watch<'n> {
     {
         match changes[i] {
             Change::Nothing => Ok(()),
-            _ => self.renew_changed(alloc, i, changes, shown, room, checker, steps),
+            Change::Beside => self.renew_stale(alloc, i, shown, &mut room.stale),
+            Change::Held | Change::Label => {
+                self.renew_row(alloc, i, shown, &mut room.table, checker, steps)
+            }
         }
     }
 
-    // Apart from `renew`, since nothing changed at most nodes.
+    // Shows the ports of the node at place `i` as stale that are: what else is shown is as it was.
     #[inline(never)]
-    fn renew_changed<K: Checker>(
+    fn renew_stale(
         &self,
         alloc: Global,
         i: usize,
-        changes: &[Change],
         shown: &mut LookRows,
-        room: &mut LookRoom,
+        stale: &mut Vec<u32>,
+    ) -> Result<(), NoMemory>
+        requires place { i < length self.now.network }
+        requires shown { i < length shown.old.rows }
+        ensures stale { OnOk result ((row : NodeRow) (id : ℕ) (outcome : Outcome)
+            (before : List ℕ) → slice_get self.now.network i ≡ Some row
+            → slice_get shown.old.rows i ≡ Some (id, outcome, before)
+            → shown.new.rows ≡ slice_set shown.old.rows i (id, outcome, stale_in self.now row)) }
+        ensures kept { shown.new.kept ≡ shown.old.kept }
+        ensures unchanged { OnErr result (shown.new ≡ shown.old) }
+    {
+        self.list_stale(i, stale)?;
+        let stale = stale.as_slice();
+        if stale == shown.rows()[i].stale() {
+            return Ok(());
+        }
+        let stale = PortNumbers::from_buffer(PortBuffer::from_slice(alloc, stale)?);
+        shown.replace_stale(i, stale);
+        Ok(())
+    }
+
+    // Shows what is now true of the node at place `i`.
+    #[inline(never)]
+    fn renew_row<K: Checker>(
+        &self,
+        alloc: Global,
+        i: usize,
+        shown: &mut LookRows,
+        table: &mut Vec<u32>,
         checker: &K,
         steps: &mut Steps,
     ) -> Result<(), NoMemory>
         requires place { i < length self.now.network }
-        requires current { IsCurrent (K.judge checker.now) self.now changes.now shown.old.rows }
-        requires table { IsTable self.now room.old.table.items }
-        ensures table { IsTable self.now room.new.table.items }
-        ensures renewed { OnOk result (IsRenewed (K.judge checker.now) self.now i
-            shown.old.rows shown.new.rows) }
+        requires shown { i < length shown.old.rows }
+        requires table { IsTable self.now table.old.items }
+        ensures table { IsTable self.now table.new.items }
+        ensures row { OnOk result ((row : NodeRow) → slice_get self.now.network i ≡ Some row
+            → shown.new.rows ≡ slice_set shown.old.rows i
+            (look_row (K.judge checker.now) self.now row)) }
         ensures kept { shown.new.kept ≡ shown.old.kept }
         ensures unchanged { OnErr result (shown.new ≡ shown.old) }
         ensures few_steps { RoseByAtMost 1 steps.old steps.new }
     {
-        match changes[i] {
-            Change::Nothing => {}
-            Change::Beside => {
-                self.list_stale(i, &mut room.stale)?;
-                let stale = room.stale.as_slice();
-                if stale == shown.rows()[i].stale() {
-                    return Ok(());
-                }
-                let stale = PortNumbers::from_buffer(PortBuffer::from_slice(alloc, stale)?);
-                shown.replace_stale(i, stale);
-            }
-            Change::Held | Change::Label => {
-                let row = self.look_at(alloc, i, &mut room.table, checker, steps)?;
-                shown.replace(i, row);
-            }
-        }
+        let row = self.look_at(alloc, i, table, checker, steps)?;
+        shown.replace(i, row);
         Ok(())
     }
 }
