@@ -1,6 +1,6 @@
 -- A watch as it is played, with one line more.
-use Rattle.std.proofs.Common.{◌≡◌, ◌∙◌, ℕ, ◌+◌, ◌<◌, Bool, true, false, not, List, [], ◌∷◌, ◌++◌, length, take, drop, get_or, refl, sym, ap, subst, add-one, append-nil}
-use Rattle.std.proofs.lemmas.List.{take_more}
+use Rattle.std.proofs.Common.{◌≡◌, ◌∙◌, ℕ, ◌+◌, ◌<◌, ◌≤◌, Bool, true, false, not, List, [], ◌∷◌, ◌++◌, length, take, drop, get_or, refl, sym, ap, subst, arith, add-one, append-nil}
+use Rattle.std.proofs.lemmas.List.{drop_more, length-drop, take_more}
 use Rattle.std.proofs.Math.Seq.{drop-cons}
 use Rattle.pls_configuration.specs.declared.row.NodeRow.{NodeRow}
 use Rattle.pls_configuration.specs.declared.verdict.Verdict.{Verdict}
@@ -101,6 +101,26 @@ module _ (lines : List WatchLine) (place : ℕ) (d : WatchLine) (within : place 
         fits_there
         ∙ ap (λ (before : List WatchEvent). first_refused_line rows before (number + (place + 1))
         (drop (place + 1) lines)) events_here
+
+-- where a line comes first of those that are left, it is the next
+pub next_left : (lines : List WatchLine) (place : ℕ) (line : WatchLine) (rest : List WatchLine)
+    → drop place lines ≡ line ∷ rest
+    → (place < length lines) × (line ≡ get_or lines place line) × (rest ≡ drop (place + 1) lines)
+next_left lines place line rest left =
+    let within : place < length lines =
+    omega (arith, length-drop place lines, ap (length {A = WatchLine}) left) in
+    let both : get_or lines place line ∷ drop (place + 1) lines ≡ line ∷ rest =
+    sym (drop_more lines place line within) ∙ left in (
+      within,
+      sym (ap (λ (list : List WatchLine). get_or list 0 line) both),
+      sym (ap (drop 1) both),
+    )
+
+-- where none is left, all were taken
+pub none_left : (lines : List WatchLine) (place : ℕ) → drop place lines ≡ []
+    → length lines ≤ place
+none_left lines place left =
+    omega (arith, length-drop place lines, ap (length {A = WatchLine}) left)
 
 -- what is not refused applies
 pub applies_so : (refused : Bool) → not refused ≡ true → refused ≡ false

@@ -23,7 +23,7 @@ use pls_scheme::Checker;
 use pls_streams::refusal_number::WATCH_EVENT;
 use pls_streams::{NoMemory, Status, Steps, TextError};
 use pls_watch::{LookRows, Lookout, Watch, WatchEvent};
-use pls_watch_part::WatchLine;
+use pls_watch_part::{LineQueue, WatchLine};
 use std::alloc::Global;
 
 // Shows each look, or refuses the first event that does not apply.
@@ -32,24 +32,24 @@ pub(crate) fn watch<C: NumCode>(
     scheme: &AnyScheme<C>,
     net: &Network,
     labels: &LabelStore,
-    lines: &[WatchLine],
+    lines: Vec<WatchLine>,
     first_line: u64,
 ) -> Result<Answer, NoMemory>
     requires each { length labels.now ≡ length net.now }
-    requires few { length lines.now ≤ MAX_LINES }
-    requires bits { total_relabel_bits lines.now ≤ MAX_BITS }
+    requires few { length lines.items ≤ MAX_LINES }
+    requires bits { total_relabel_bits lines.items ≤ MAX_BITS }
     requires line { first_line ≤ 2 ^ 63 }
     ensures does { IfOk result (λ answer. (input : Input)
-        → IsWatchInput net.now labels.now lines.now first_line input
+        → IsWatchInput net.now labels.now lines.items first_line input
         → C.takes ≡ takes_of (code_in input) → (parts : List (List ℕ))
         → Does (Command.With Task.Watch scheme.now) input parts answer) }
     ensures worked { IfOk result (λ answer. IsWorked answer.status) }
 {
-    let (relabels, bits) = relabels_in(lines);
+    let (relabels, bits) = relabels_in(&lines);
     let watch = Watch::start(alloc, net, labels, lines.len(), relabels, bits)?;
     let mut lookout = Lookout::over(alloc, watch, scheme, &mut Steps::new())?;
     let mut well = true;
-    match play(alloc, &mut lookout, lines, &mut well)? {
+    match play(alloc, &mut lookout, LineQueue::of(lines), &mut well)? {
         Some(place) => {
             let place = first_line + place as u64;
             let number = WATCH_EVENT;
@@ -84,24 +84,27 @@ fn relabels_in(lines: &[WatchLine]) -> (usize, u64)
 fn play<K: Checker>(
     alloc: Global,
     lookout: &mut Lookout<'_, '_, K>,
-    lines: &[WatchLine],
+    mut lines: LineQueue,
     well: &mut bool,
 ) -> Result<Option<usize>, NoMemory>
     requires start { lookout.old.watched.events ≡ [] }
-    requires room { HasRoomForEvents lookout.old.watched (events_of lines.now) }
+    requires room { HasRoomForEvents lookout.old.watched (events_of lines) }
+    requires few { length lines ≤ MAX_LINES }
     requires none { AreShown lookout.old.kept well.old [] }
     ensures place { IfOk result (λ found. (number : ℕ)
-        → first_refused_line lookout.old.watched.network [] number lines.now
+        → first_refused_line lookout.old.watched.network [] number lines
         ≡ option_map (λ place. number + place) found) }
-    ensures within { IfOk result (λ found. IfSome found (λ place. place < length lines.now)) }
+    ensures within { IfOk result (λ found. IfSome found (λ place. place < length lines)) }
     ensures shown { IfOk result (λ found. found ≡ None → AreShown lookout.new.kept well.new
         (looks_behind (look_after (K.judge lookout.old.checker) lookout.old.watched.network
-        lookout.old.watched.start) [] lines.now)) }
+        lookout.old.watched.start) [] lines)) }
 {
-    for (place, line) in lines.iter().enumerate() {
-        if !take_line(alloc, lookout, line, well)? {
+    let mut place = 0;
+    while let Some(line) = lines.take() {
+        if !take_line(alloc, lookout, &line, well)? {
             return Ok(Some(place));
         }
+        place += 1;
     }
     Ok(None)
 }

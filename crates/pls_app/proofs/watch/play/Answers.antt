@@ -1,25 +1,25 @@
-use Rattle.std.proofs.Common.{◌≡◌, ◌∙◌, ◌++◌, ℕ, List, [], false, get_or, take, ap, subst, sym}
+use Rattle.std.proofs.Common.{◌≡◌, ◌∙◌, ◌++◌, ◌<◌, ℕ, List, [], ◌∷◌, false, drop, get_or, take, ap, arith, subst, sym}
 use Rattle.pls_configuration.specs.declared.verdict.Verdict.{Verdict}
 use Rattle.pls_labels.specs.Seen.{Seen}
 use Rattle.pls_watch_part.specs.declared.watch_event.WatchLine.{WatchLine}
 use Rattle.pls_app.specs.Looks.{look_after, looks_behind}
 use Rattle.pls_app.specs.WatchRefusal.{line_does_not_apply}
 use Rattle.pls_app.specs.inner.Watching.{AreShown, shown_at, watched_behind}
-use Rattle.pls_app.proofs.WatchPlay.{applies_so, first_on, network_on, room_on, shown_on, start_on, taken_on}
+use Rattle.pls_app.proofs.WatchPlay.{applies_so, first_on, next_left, network_on, room_on, shown_on, start_on, taken_on}
 use Rattle.pls_app.proofs.watch.play.Goals as goal
 
-pub loop-place-preserved : goal.loop-place-preserved
-loop-place-preserved g c =
+pub loop-line-preserved : goal.loop-line-preserved
+loop-line-preserved g c =
     let start = c.args.lookout.now.watched in
-    let old = c.loop-place.lookout.watched in
+    let old = c.loop-line.lookout.watched in
     let new = c.take_line.new.lookout.watched in
-    let lines : List WatchLine = c.args.lines.now in
-    let place : ℕ = c.loop-place.place in
-    let line : WatchLine = c.index-lines-place.result in
-    let before = c.loop-place.invariant in
+    let lines : List WatchLine = c.args.lines in
+    let place : ℕ = c.loop-line.place in
+    let line : WatchLine = c.in-Some.line in
+    let before = c.loop-line.invariant in
     let step = c.in_ok-take_line.ensures in
-    let within = c.loop-place-test.true in
-    let at : line ≡ get_or lines place line = c.index-lines-place.is in
+    let left : drop place lines ≡ line ∷ c.take.new.self = sym before.left ∙ c.in-Some.ensures.line in
+    let (within, at, behind) = next_left lines place line c.take.new.self left in
     let is : new ≡ watched_behind (get_or lines place line) old =
     step.taken c.if-not-branch.false ∙ ap (λ (line : WatchLine). watched_behind line old) at in
     let fits : line_does_not_apply old.network old.events (get_or lines place line) ≡ false =
@@ -32,6 +32,8 @@ loop-place-preserved g c =
           before.network before.start before.taken is;
       start = start_on lines place line within start.network start.start old new
           before.network before.start before.taken is;
+      left = behind;
+      within = omega (arith, within);
       taken = taken_on lines place line within start.network start.start old new
           before.network before.start before.taken is;
       room = room_on lines place line within old before.room new is;

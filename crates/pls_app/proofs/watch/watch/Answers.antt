@@ -25,8 +25,8 @@ start-requires-clause-relabels g c =
     omega (
       arith,
       c.relabels_in-relabels.ensures.count,
-      few_labels (events_of c.args.lines.now),
-      few_events c.args.lines.now,
+      few_labels (events_of c.args.lines.items),
+      few_events c.args.lines.items,
       c.requires.few,
     )
 
@@ -35,13 +35,13 @@ start-requires-clause-bits g c =
     omega (
       arith,
       c.relabels_in-relabels.ensures.bits,
-      total_given c.args.lines.now,
+      total_given c.args.lines.items,
       c.requires.bits,
     )
 
 pub play-requires-clause-room : goal.play-requires-clause-room
 play-requires-clause-room g c =
-    let lines = c.args.lines.now in
+    let lines = c.args.lines.items in
     let start = c.in_ok-watch.ensures in
     let same = c.in_ok-lookout.ensures.watched in record {
       few_events = omega (
@@ -74,7 +74,7 @@ pub returns-in-Some-clause-does : goal.returns-in-Some-clause-does
 returns-in-Some-clause-does g c =
     let place = c.in-Some.place in
     let net = c.args.net.now in
-    let lines = c.args.lines.now in
+    let lines = c.args.lines.items in
     let first = c.args.first_line in
     let command = With Watch c.args.scheme.now in
     let error : TextError = Sense WATCH_EVENT (first + place) in
@@ -97,7 +97,7 @@ returns-in-Some-clause-does g c =
 pub returns-in-None-clause-does : goal.returns-in-None-clause-does
 returns-in-None-clause-does g c input is takes parts =
     let net = c.args.net.now in
-    let lines = c.args.lines.now in
+    let lines = c.args.lines.items in
     let first = c.args.first_line in
     let start = c.in_ok-watch.ensures in
     let same = c.in_ok-lookout.ensures.watched in

@@ -245,13 +245,12 @@ returns-in-Watch-clause-does g c =
     let list = c.unwrap-in-Watch-2.result in
     let takes = c.requires.named.takes_so
     ∙ ap (λ (task : Task). takes_of (working_code task input)) c.in-Watch.is in
-    let read : IsWatchInput net store c.deref-in-Watch.result.now c.args.input.first_line input =
+    let read : IsWatchInput net store list.items c.args.input.first_line input =
     record {
       net = rows_are c.args.input net c.unwrap-net.ensures;
       store = labels_are _ _ c.args.input is net c.unwrap-net.ensures store
           c.unwrap-in-Watch.ensures;
-      list = items_are c.args.input.watch list (λ list. list.items) c.unwrap-in-Watch-2.ensures
-          ∙ sym c.deref-in-Watch.ensures.value;
+      list = items_are c.args.input.watch list (λ list. list.items) c.unwrap-in-Watch-2.ensures;
       at = watch_at _ _ c.args.input is list.items
           (ap (option_map (λ list. list.items)) c.unwrap-in-Watch-2.ensures)
           (ap (λ (task : Task). (input_parts_of (With task scheme)).schedule) c.in-Watch.is)
