@@ -116,6 +116,56 @@ next_left lines place line rest left =
       sym (ap (drop 1) both),
     )
 
+-- so many of these lines were played and the others are left, of a watch over these rows with these
+-- labels at the start; this is what is watched now, and what was shown
+pub record IsPlayed (judge : Seen → Verdict) (rows : List NodeRow) (labels : List (List Bool))
+    (lines : List WatchLine) (place : ℕ) (left : List WatchLine) (watched : Watched)
+    (texts : List (List ℕ)) (well : Bool) : Type 0 where
+  pub network : watched.network ≡ rows
+  pub start : watched.start ≡ labels
+  pub behind : left ≡ drop place lines
+  pub within : place ≤ length lines
+  pub taken : watched.events ≡ events_of (take place lines)
+  pub room : HasRoomForEvents watched (events_of (drop place lines))
+  pub shown : AreShown texts well
+      (looks_behind (look_after judge rows labels) [] (take place lines))
+  pub so_far : (number : ℕ) → first_refused_line rows [] number lines
+      ≡ first_refused_line rows (events_of (take place lines)) (number + place) (drop place lines)
+
+-- so one more is played, where it applies
+pub played_on : (judge : Seen → Verdict) (rows : List NodeRow) (labels : List (List Bool))
+    (lines : List WatchLine) (place : ℕ) (line : WatchLine) (left later : List WatchLine)
+    (old new : Watched) (texts new_texts : List (List ℕ)) (well new_well : Bool)
+    → IsPlayed judge rows labels lines place left old texts well → left ≡ line ∷ later
+    → new ≡ watched_behind line old → line_does_not_apply old.network old.events line ≡ false
+    → ((looks : List (List (ℕ × Outcome × List ℕ))) → AreShown texts well looks
+    → AreShown new_texts new_well (looks ++ shown_at judge old line))
+    → IsPlayed judge rows labels lines (place + 1) later new new_texts new_well
+played_on judge rows labels lines place line left later old new texts new_texts well new_well was
+    next is fits shows =
+    let (within, at, behind) = next_left lines place line later (sym was.behind ∙ next) in
+    let is_there : new ≡ watched_behind (get_or lines place line) old =
+    is ∙ ap (λ (line : WatchLine). watched_behind line old) at in
+    record {
+      network = network_on lines place line within rows labels old new was.network was.start
+          was.taken is_there;
+      start = start_on lines place line within rows labels old new was.network was.start was.taken
+          is_there;
+      behind = behind;
+      within = omega (arith, within);
+      taken = taken_on lines place line within rows labels old new was.network was.start was.taken
+          is_there;
+      room = room_on lines place line within old was.room new is_there;
+      shown = shown_on lines place line within rows labels old new was.network was.start was.taken
+          judge new_texts new_well
+          (subst (λ (line : WatchLine). AreShown new_texts new_well
+          (looks_behind (look_after judge rows labels) [] (take place lines)
+          ++ shown_at judge old line)) at (shows _ was.shown));
+      so_far = λ number. first_on lines place line within rows labels old new was.network was.start
+          was.taken number (ap (line_does_not_apply old.network old.events) (sym at) ∙ fits)
+          (was.so_far number);
+    }
+
 -- where none is left, all were taken
 pub none_left : (lines : List WatchLine) (place : ℕ) → drop place lines ≡ []
     → length lines ≤ place

@@ -101,7 +101,9 @@ fn play<K: Checker>(
 {
     let mut place = 0;
     while let Some(line) = lines.take() {
-        if !take_line(alloc, lookout, &line, well)? {
+        let applies = take_line(alloc, lookout, &line, well)?;
+        drop(line);
+        if !applies {
             return Ok(Some(place));
         }
         place += 1;

@@ -6,6 +6,7 @@ use Rattle.pls_streams.specs.declared.text_error.TextError.TheVariants.{Sense}
 use Rattle.pls_sim.specs.declared.outcome.Outcome.{Outcome}
 use Rattle.pls_combine.specs.Expression.{judge_of}
 use Rattle.pls_watch_part.specs.declared.watch_event.WatchEvent.{WatchEvent}
+use Rattle.pls_watch_part.specs.declared.watch_event.WatchLine.{WatchLine}
 use Rattle.pls_watch.specs.Labelled.{bits_given, labels_given}
 use Rattle.pls_watch.specs.Watching.{Watched}
 use Rattle.pls_inputs.specs.Parts.{Input, code_in}
@@ -25,6 +26,7 @@ start-requires-clause-relabels g c =
     omega (
       arith,
       c.relabels_in-relabels.ensures.count,
+      ap (λ (lines : List WatchLine). length (labels_given (events_of lines))) c.deref.ensures.value,
       few_labels (events_of c.args.lines.items),
       few_events c.args.lines.items,
       c.requires.few,
@@ -35,6 +37,7 @@ start-requires-clause-bits g c =
     omega (
       arith,
       c.relabels_in-relabels.ensures.bits,
+      ap (λ (lines : List WatchLine). bits_given (events_of lines)) c.deref.ensures.value,
       total_given c.args.lines.items,
       c.requires.bits,
     )
@@ -51,6 +54,7 @@ play-requires-clause-room g c =
         ap (λ (watched : Watched). watched.most) same,
         start.most,
         few_events lines,
+        ap (λ (lines : List WatchLine). length (events_of lines)) c.of.ensures,
       );
       few_relabels = omega (
         arith,
@@ -59,6 +63,8 @@ play-requires-clause-room g c =
         ap (λ (watched : Watched). watched.relabels) same,
         start.relabels,
         c.relabels_in-relabels.ensures.count,
+        ap (λ (lines : List WatchLine). length (labels_given (events_of lines))) c.deref.ensures.value,
+        ap (λ (lines : List WatchLine). length (labels_given (events_of lines))) c.of.ensures,
       );
       few_bits = omega (
         arith,
@@ -67,6 +73,8 @@ play-requires-clause-room g c =
         ap (λ (watched : Watched). watched.bits) same,
         start.bits,
         c.relabels_in-relabels.ensures.bits,
+        ap (λ (lines : List WatchLine). bits_given (events_of lines)) c.deref.ensures.value,
+        ap (λ (lines : List WatchLine). bits_given (events_of lines)) c.of.ensures,
       );
     }
 
@@ -82,7 +90,7 @@ returns-in-Some-clause-does g c =
     ∙ c.in_ok-watch.ensures.network in
     let some : watch_lines_refusal net first lines ≡ Some error =
     ap (option_map (λ line. Sense WATCH_EVENT line))
-    ((λ i. first_refused_line (sym network i) [] first lines)
+    ((λ i. first_refused_line (sym network i) [] first (sym c.of.ensures i))
     ∙ c.in_ok-place.ensures.place first ∙ ap (option_map (λ place. first + place)) c.in-Some.is) in
     IfOk-weaker c.refuse.result (λ answer. answer ≡ refusal error)
     (λ answer. (input : Input) → IsWatchInput net c.args.labels.now lines first input
@@ -105,19 +113,19 @@ returns-in-None-clause-does g c input is takes parts =
     let network = ap (λ (watched : Watched). watched.network) same ∙ start.network in
     let none : watch_lines_refusal net first lines ≡ None =
     ap (option_map (λ line. Sense WATCH_EVENT line))
-    ((λ i. first_refused_line (sym network i) [] first lines)
+    ((λ i. first_refused_line (sym network i) [] first (sym c.of.ensures i))
     ∙ c.in_ok-place.ensures.place first ∙ ap (option_map (λ place. first + place)) c.in-None.is) in
     let networks = network ∙ sym is.net in
     let labels = ap (λ (watched : Watched). watched.start) same ∙ start.labels ∙ sym is.store in
     let lookout = c.in_ok-lookout.lookout in
     let looks : List (List (ℕ × Outcome × List ℕ)) =
     looks_behind (look_after (judge_of g.C.NumCode.takes lookout.checker) lookout.watched.network
-    lookout.watched.start) [] lines in
+    lookout.watched.start) [] c.of.result in
     inr (
       (λ i. watch_lines_refusal (is.net i) (sym is.at i) (is.list i)) ∙ none,
       c.looks_answer.ensures.says looks
           (subst (λ (texts : List (List ℕ)). AreShown texts c.play.new.well looks) (sym c.into_shown.ensures.kept)
           (c.in_ok-place.ensures.shown c.in-None.is))
           ∙ (λ i. looks_answer (looks_behind (look_after (judge_of (takes i) (checker i))
-          (networks i) (labels i)) [] (sym is.list i))),
+          (networks i) (labels i)) [] ((c.of.ensures ∙ sym is.list) i))),
     )
