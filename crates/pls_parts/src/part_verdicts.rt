@@ -1,6 +1,6 @@
 //! Verdicts of combinations by those on their parts.
 
-ghost use Rattle.std.specs.Prelude.{◌≡◌, ◌-◌, Bool, List, All, Some, true, false, drop, if◌then◌else◌, length, map, slice_get, unwrap_or, IfOk};
+ghost use Rattle.std.specs.Prelude.{◌≡◌, ◌-◌, ◌↔◌, Bool, List, All, Some, true, false, drop, if◌then◌else◌, length, map, slice_get, unwrap_or, IfOk, IsTrue};
 ghost use Rattle.pls_labels.specs.Seen.{Seen};
 ghost use Rattle.pls_scheme.specs.Judging.{LeafWithin, verdicts_by};
 ghost use Rattle.pls_parts.specs.Combined.{judge_both, judge_one_of, raised};
@@ -168,7 +168,7 @@ fn is_true_at(marks: &[bool], place: u32) -> bool
 
 /// Whether there is a true one.
 pub fn some_true(marks: &[bool]) -> bool
-    ensures { result ≡ false → SomeTrue marks.now → ⊥ }
+    ensures { IsTrue result ↔ SomeTrue marks.now }
 {
     !marks.iter().all(|mark| !*mark)
 }

@@ -4,7 +4,7 @@ use Rattle.pls_scheme.specs.Judging.{verdicts_by}
 use Rattle.pls_combine.specs.Expression.{judge_of}
 use Rattle.pls_parts.specs.inner.Rounds.{SomeTrue}
 use Rattle.pls_expressions.specs.Held.{expression_of}
-use Rattle.pls_combine.proofs.JudgedParts.{all_within, and_verdicts, is_asked, or_verdicts}
+use Rattle.pls_combine.proofs.JudgedParts.{all_within, and_verdicts, or_verdicts}
 use Rattle.pls_combine.proofs.rounds.+round_tree.Goals.{in-Of+in_ok-verdicts-in-Of, in-Diameter+in_ok-verdicts-in-Diameter, in-Bridgeless+in_ok-verdicts-in-Bridgeless, in-Map+in_ok-verdicts-in-Map, in-And+in_ok-parted-in-And+in_ok-firsts-in-And+in_ok-seconds-in-And+in_ok-verdicts-in-And, in-Or+in_ok-tags-in-Or+in_ok-rests-in-Or+in_ok-firsts-in-Or+in_ok-seconds-in-Or+in_ok-verdicts-in-Or}
 use Rattle.pls_combine.proofs.rounds.+round_tree.Goals as goal
 
@@ -50,14 +50,12 @@ returns-clause-verdicts g t c asked =
           (rw w.verdicts-is (w.in_ok-verdicts-in-Or.ensures labels (judge_of takes one)
           (judge_of takes two) c.requires.each w.in_ok-tags-in-Or.ensures
           (λ some. w.deref-in-Or-6.ensures.value
-          ∙ w.in_ok-firsts-in-Or.ensures.verdicts (is_asked w.some_true.result
-          (λ none. w.some_true.ensures none
-          (subst SomeTrue (sym w.deref-in-Or-2.ensures.value) some)))
+          ∙ w.in_ok-firsts-in-Or.ensures.verdicts
+          (w.some_true.ensures.1 (subst SomeTrue (sym w.deref-in-Or-2.ensures.value) some))
           ∙ ap (verdicts_by (judge_of takes one) rows) w.in_ok-rests-in-Or.ensures)
           (λ some. w.deref-in-Or-7.ensures.value
-          ∙ w.in_ok-seconds-in-Or.ensures.verdicts (is_asked w.some_true-in-Or.result
-          (λ none. w.some_true-in-Or.ensures none
-          (subst SomeTrue (sym w.deref-in-Or-4.ensures.value) some)))
+          ∙ w.in_ok-seconds-in-Or.ensures.verdicts
+          (w.some_true-in-Or.ensures.1 (subst SomeTrue (sym w.deref-in-Or-4.ensures.value) some))
           ∙ ap (verdicts_by (judge_of takes two) rows) w.in_ok-rests-in-Or.ensures)))
     ]
 
