@@ -25,5 +25,5 @@ pub mod Reached
 pub mod LeftParents
 pub mod Staged
 pub mod OneRound
-pub mod Listing
 pub mod Saying
+pub mod Listing

@@ -4,8 +4,9 @@ use Rattle.std.proofs.Common.{◌≡◌, ◌∙◌, ℕ, zero, suc, ◌+◌, ◌
 use Rattle.std.proofs.lemmas.Bool.{cases_Bool, true≢false}
 use Rattle.std.specs.List.{list_all}
 use Rattle.std.proofs.lemmas.List.{length-map}
+use Rattle.std.proofs.lemmas.List.FromFn.{length-map-range_with_len}
 use Rattle.std.proofs.lemmas.List.Sums.{count_by-le-length, length-filter}
-use Rattle.std.proofs.lemmas.Option.{slice_get-get_or, slice_get_within}
+use Rattle.std.proofs.lemmas.Option.{get_or_from_slice_get, slice_get-get_or, slice_get_within}
 use Rattle.pls_configuration.specs.declared.row.NodeRow.{NodeRow}
 use Rattle.pls_configuration.specs.Configuration.{IsNetwork, ids_of}
 use Rattle.pls_graph.proofs.Finds.{item_at}
@@ -16,12 +17,13 @@ use Rattle.pls_centroid.specs.Centroid.{are_together, centroid_of, is_centroid, 
 use Rattle.pls_centroid.specs.Levels.{AreCentroidLevels, AreCentroidLists}
 use Rattle.pls_centroid.specs.declared.level.CentroidLevel.{CentroidLevel}
 use Rattle.pls_centroid.specs.inner.Cut.{id_at}
-use Rattle.pls_centroid.specs.inner.Rounds.{AreAllRounds, AreListsOf, AreRoundsFrom, AreTaken, IsRound, edges_in, entries_at, is_taken}
+use Rattle.pls_centroid.specs.inner.Rounds.{AreAllRounds, AreRoundsFrom, AreTaken, IsRound, edges_in, entries_at, is_taken, lists_said, said_on}
 use Rattle.pls_centroid.proofs.Below.{id_at-row, place_of_id}
 use Rattle.pls_centroid.proofs.Central.{has_centroid}
 use Rattle.pls_centroid.proofs.Few.{few_of_tree, piece-halved}
 use Rattle.pls_centroid.proofs.Pieces.{centroid_passes, joined-piece}
 use Rattle.pls_centroid.proofs.Rounds.{AreSaid, in-among, said_levels, taken_stays}
+use Rattle.pls_centroid.proofs.Saying.{lists_said-there}
 
 -- a number is less than its power of 2
 pub below_power : (n : ℕ) → n < 2 ^ n
@@ -134,18 +136,20 @@ module _ (rows : List NodeRow) (place : ℕ) (within : place < length rows) wher
 -- what all rounds say of the nodes are their levels
 pub lists_right : (rows : List NodeRow) → IsNetwork rows → IsTree rows
     → (rounds : List (List (Option CentroidLevel))) → AreAllRounds rows rounds
-    → (lists : List (List CentroidLevel)) → AreListsOf rounds (length rows) lists
-    → AreCentroidLists rows lists
-lists_right rows net is_tree rounds all lists are = record {
-  each = are.each;
+    → AreCentroidLists rows (lists_said rounds (length rows))
+lists_right rows net is_tree rounds all = record {
+  each = length-map-range_with_len (λ place. said_on (entries_at rounds place)) 0 (length rows);
   levels = λ place row list at stands.
       let within = slice_get_within rows place row at in
       let named : id_at rows place ≡ row.id = id_at-row rows place row at in
       let known : Contains (ids_of rows) (id_at rows place) =
       subst (Contains (ids_of rows)) (sym named)
       (Contains-map (λ (row : NodeRow). row.id) rows row (Contains-from_place rows place row at)) in
+      let is : said_on (entries_at rounds place) ≡ list =
+      sym (lists_said-there rounds (length rows) place within)
+      ∙ get_or_from_slice_get (lists_said rounds (length rows)) place list [] stands in
       subst (λ (id : ℕ). AreCentroidLevels rows id list) named
-      (subst (AreCentroidLevels rows (id_at rows place)) (sym (are.list place list stands))
+      (subst (AreCentroidLevels rows (id_at rows place)) is
       (said_levels rows 0 (id_at rows place) (entries_at rounds place)
       (said_from rows place within 0 (length rounds) rounds (omega arith) all.are
       (all.all (id_at rows place) known)) refl));

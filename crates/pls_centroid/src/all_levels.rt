@@ -1,16 +1,15 @@
 //! Level upon level, until each node has been a centroid.
 
-ghost use Rattle.std.specs.Prelude.{◌≡◌, ◌≤◌, ◌*◌, ◌^◌, All, None, length, map, slice_index_or, IfOk};
+ghost use Rattle.std.specs.Prelude.{◌≡◌, ◌≤◌, ◌*◌, ◌^◌, All, length, map, IfOk};
 ghost use Rattle.std.specs.List.{list_all};
 ghost use Rattle.pls_facts.specs.Parents.{NoParentsReturn};
 ghost use Rattle.pls_facts.specs.SpanningTree.{IsTree};
 ghost use Rattle.pls_search.specs.SubtreeSizes.{AreParentsWithin, HasParentAt};
 ghost use Rattle.pls_centroid.specs.Levels.{AreCentroidLists};
 ghost use Rattle.pls_centroid.specs.inner.Rooted.{AreBehindParents};
-ghost use Rattle.pls_centroid.specs.inner.Rounds.{AreAllRounds, AreListsOf, IsRooted, entries_at, said_on};
+ghost use Rattle.pls_centroid.specs.inner.Rounds.{AreAllRounds, IsRooted};
 
-use crate::centroid_list::CentroidList;
-use crate::level::CentroidLevel;
+use crate::centroid_lists::CentroidLists;
 use crate::level_entry::LevelEntry;
 use crate::rooted::{order_of, parents_of, weights_of};
 use crate::round::round_of;
@@ -21,11 +20,11 @@ use std::alloc::Global;
 
 /// The centroid levels of each node, in the order of the nodes, of a network whose pointers make a
 /// tree. A node of n has at most log2 n + 1 of them, rounded down. The one error is want of memory.
-pub fn centroid_levels(alloc: Global, net: &Network) -> Result<Vec<CentroidList>, NoMemory>
+pub fn centroid_levels(alloc: Global, net: &Network) -> Result<CentroidLists, NoMemory>
     requires tree { IsTree net.now }
-    ensures levels { IfOk result (λ lists. AreCentroidLists net.now lists.items) }
+    ensures levels { IfOk result (λ lists. AreCentroidLists net.now lists) }
     ensures few { IfOk result (λ lists.
-        All (λ list. 2 ^ length list ≤ 2 * length net.now) lists.items) }
+        All (λ list. 2 ^ length list ≤ 2 * length net.now) lists) }
 {
     let count = net.len();
     let Some(depths) = pointer_depths(alloc, net)? else {
@@ -40,8 +39,7 @@ pub fn centroid_levels(alloc: Global, net: &Network) -> Result<Vec<CentroidList>
     let weights = weights_of(alloc, net)?;
     let weights = weights.as_slice();
     let rounds = all_rounds(alloc, net, order, parents, weights)?;
-    let rounds = rounds.as_slice();
-    let lists = lists_of(alloc, rounds, count)?;
+    let lists = CentroidLists::of_rounds(alloc, rounds, count)?;
     Ok(lists)
 }
 
@@ -80,48 +78,4 @@ fn are_all(taken: &[bool]) -> bool
     ensures { result ≡ list_all (λ flag. flag) taken.now }
 {
     taken.iter().all(|flag| *flag)
-}
-
-fn lists_of(
-    alloc: Global,
-    rounds: &[Vec<LevelEntry>],
-    count: usize,
-) -> Result<Vec<CentroidList>, NoMemory>
-    ensures { IfOk result (λ lists. AreListsOf (map (λ round. round.items) rounds.now) count
-        lists.items) }
-{
-    let mut lists = Vec::with_capacity(alloc, count)?;
-    for place in 0..count {
-        lists.push(list_at(alloc, rounds, place)?)?;
-    }
-    Ok(lists)
-}
-
-// Up to the first round that says nothing of the place.
-fn list_at(
-    alloc: Global,
-    rounds: &[Vec<LevelEntry>],
-    place: usize,
-) -> Result<CentroidList, NoMemory>
-    ensures { IfOk result (λ list.
-        list ≡ said_on (entries_at (map (λ round. round.items) rounds.now) place)) }
-{
-    let mut levels = Vec::with_capacity(alloc, rounds.len())?;
-    for round in rounds {
-        let Some(level) = level_at(round.as_slice(), place) else {
-            return Ok(CentroidList::from_vec(levels));
-        };
-        levels.push(level)?;
-    }
-    Ok(CentroidList::from_vec(levels))
-}
-
-// `None` also where there is no such place.
-fn level_at(round: &[LevelEntry], place: usize) -> Option<CentroidLevel>
-    ensures { result ≡ slice_index_or round.now place None }
-{
-    match round.get(place) {
-        Some(entry) => entry.level(),
-        None => None,
-    }
 }

@@ -2,7 +2,7 @@
 //! one piece; each piece has its centroid, and the parts that it falls into without it are the
 //! pieces of the next level. [`centroid_levels`] gives for each node the centroid of each piece
 //! that it is in, and how far away and behind how heavy an edge it stands ([`CentroidLevel`],
-//! [`CentroidList`]).
+//! [`CentroidLists`]).
 //!
 //! `specs/Centroid` says what a centroid is, `specs/Levels` what levels are. All pieces of a level
 //! are gone through together, in a few passes over the nodes, so that n nodes take n log n steps,
@@ -13,6 +13,7 @@
 
 mod all_levels;
 mod centroid_list;
+mod centroid_lists;
 mod level;
 mod level_entry;
 mod reaching;
@@ -22,4 +23,5 @@ mod splitting;
 
 pub use all_levels::centroid_levels;
 pub use centroid_list::CentroidList;
+pub use centroid_lists::CentroidLists;
 pub use level::CentroidLevel;

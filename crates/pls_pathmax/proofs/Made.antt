@@ -28,14 +28,12 @@ made_right rows root depths lists net only deep are labels made = record {
         (λ row levels. AreCentroidLevels rows row.id levels)
         (λ place row levels. are.levels place row levels) labels made
 
--- so they are, of depths and lists that are the same
+-- so they are, of depths that are the same
 pub made_of_same : (rows : List NodeRow) (root : ℕ) (depths given : List ℕ)
-    (lists found : List (List CentroidLevel)) → IsNetwork rows → IsOnly points_at_none rows root
-    → AreDepths rows depths → AreCentroidLists rows lists → given ≡ depths → found ≡ lists
-    → (labels : List PathMaxLabel) → AreMade rows root given found (length rows) labels
+    (lists : List (List CentroidLevel)) → IsNetwork rows → IsOnly points_at_none rows root
+    → AreDepths rows depths → AreCentroidLists rows lists → given ≡ depths
+    → (labels : List PathMaxLabel) → AreMade rows root given lists (length rows) labels
     → AreRight (PathMaxSays rows) rows labels
-made_of_same rows root depths given lists found net only deep are given_is found_is labels made =
+made_of_same rows root depths given lists net only deep are given_is labels made =
     made_right rows root depths lists net only deep are labels
-    (subst (λ (found : List (List CentroidLevel)). AreMade rows root depths found (length rows)
-    labels) found_is
-    (subst (λ (given : List ℕ). AreMade rows root given found (length rows) labels) given_is made))
+    (subst (λ (given : List ℕ). AreMade rows root given lists (length rows) labels) given_is made)

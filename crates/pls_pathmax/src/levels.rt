@@ -1,15 +1,14 @@
 //! How the levels of labels of `pathmax` are numbers, and how they are held.
 
-ghost use Rattle.std.specs.Prelude.{◌≡◌, ◌<◌, length, slice_get, Some, IfOk};
+ghost use Rattle.std.specs.Prelude.{◌≡◌};
 
 use crate::reading::read_level;
 use pls_bits::{BitBuf, NumCode};
-use pls_centroid::{CentroidLevel, CentroidList};
+use pls_centroid::{CentroidLevel, CentroidList, CentroidLists};
 use pls_levels::{LevelFormat, LevelKind, LevelLabel};
 use pls_numbers::{Numbers, append_numbers};
 use pls_streams::NoMemory;
 use std::alloc::Global;
-use std::marker::Model;
 
 /// What a label says: where the node stands in the tree, and for each level the centroid of the
 /// node's piece, and the way to it.
@@ -62,51 +61,12 @@ impl LevelKind for PathMaxLevels {
     }
 
     fn list_at(
-        alloc: Global,
+        _alloc: Global,
         lists: &CentroidLists,
         place: usize,
     ) -> Result<CentroidList, NoMemory> {
-        copy_of(alloc, lists.at(place))
+        lists.at(place)
     }
 
     ghost form_law = { exact_levels };
-}
-
-/// The levels of each node, in the order of the nodes, seen as the list of their lists.
-#[derive(Drop)]
-pub struct CentroidLists {
-    lists: Vec<CentroidList>,
-}
-
-impl Model for CentroidLists {
-    ghost use Rattle.std.specs.Prelude.{List};
-    ghost use Rattle.pls_centroid.specs.declared.level.CentroidLevel.{CentroidLevel};
-
-    ghost Value = { List (List CentroidLevel) };
-
-    ghost view = { λ lists. lists.lists.items };
-}
-
-impl CentroidLists {
-    // Takes no memory.
-    pub(crate) fn from_vec(lists: Vec<CentroidList>) -> CentroidLists
-        ensures { result ≡ lists.items }
-    {
-        CentroidLists { lists }
-    }
-
-    fn at(&self, place: usize) -> &[CentroidLevel]
-        requires { place < length self.now }
-        ensures { slice_get self.now place ≡ Some result.now }
-    {
-        self.lists[place].as_slice()
-    }
-}
-
-fn copy_of(alloc: Global, levels: &[CentroidLevel]) -> Result<CentroidList, NoMemory>
-    ensures { IfOk result (λ list. list ≡ levels.now) }
-{
-    let mut copy = Vec::with_capacity(alloc, levels.len())?;
-    copy.extend_from_slice(levels)?;
-    Ok(CentroidList::from_vec(copy))
 }

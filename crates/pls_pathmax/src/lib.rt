@@ -31,7 +31,7 @@ mod pathmax;
 mod reading;
 mod scheme;
 
-pub use levels::{CentroidLists, PathMaxFormat, PathMaxLabel, PathMaxLevels};
+pub use levels::{PathMaxFormat, PathMaxLabel, PathMaxLevels};
 pub use pathmax::PathMaxRules;
 pub use pls_centroid::{CentroidLevel, CentroidList, centroid_levels};
 pub use scheme::PathMax;

@@ -1,6 +1,6 @@
 //! How networks whose pointers make a spanning tree of least weight are labelled.
 
-use crate::levels::{CentroidLists, PathMaxLabel, PathMaxLevels};
+use crate::levels::{PathMaxLabel, PathMaxLevels};
 use crate::outside::other_edges_are_heavy;
 use crate::pathmax::PathMaxRules;
 use pls_bits::NumCode;
@@ -40,7 +40,6 @@ impl<C: NumCode> Marker for PathMaxRules<C> {
             return Ok(None);
         };
         let lists = centroid_levels(alloc, net)?;
-        let lists = CentroidLists::from_vec(lists);
         let labels = make_labels::<PathMaxLevels>(alloc, net, root, &depths, &lists)?;
         // The other rules hold of these labels in any tree.
         if other_edges_are_heavy(net, labels.as_slice()) {

@@ -1,5 +1,6 @@
 -- What the rounds say that find one level after another, by places.
 use Rattle.std.specs.Prelude.{◌≡◌, ℕ, zero, suc, ◌==◌, ◌||◌, Bool, true, false, if◌then◌else◌, List, [], ◌∷◌, length, map, slice_get, slice_index_or, Contains, Option, Some, None}
+use Rattle.std.specs.List.{range_with_len}
 use Rattle.std.specs.Option.{option_map_or}
 use Rattle.pls_configuration.specs.declared.row.NodeRow.{NodeRow}
 use Rattle.pls_configuration.specs.Configuration.{IsNetwork, ids_of}
@@ -111,9 +112,6 @@ said_on (Some level ∷ entries) = level ∷ said_on entries
 abbrev pub entries_at : List (List (Option CentroidLevel)) → ℕ → List (Option CentroidLevel)
 entries_at rounds place = map (λ round. slice_index_or round place None) rounds
 
--- for each of so many places what the rounds say of it
-pub record AreListsOf (rounds : List (List (Option CentroidLevel))) (count : ℕ)
-    (lists : List (List CentroidLevel)) : Type 0 where
-  pub each : length lists ≡ count
-  pub list : (place : ℕ) (list : List CentroidLevel) → slice_get lists place ≡ Some list
-      → list ≡ said_on (entries_at rounds place)
+-- what the rounds say of each of so many places
+abbrev pub lists_said : List (List (Option CentroidLevel)) → ℕ → List (List CentroidLevel)
+lists_said rounds count = map (λ place. said_on (entries_at rounds place)) (range_with_len 0 count)

@@ -1,10 +1,11 @@
-use Rattle.std.proofs.Common.{ℕ, List, get_or, sym, subst}
+use Rattle.std.proofs.Common.{◌≡◌, ◌∙◌, ◌≤◌, ◌*◌, ◌^◌, ℕ, All, List, length, get_or, sym, ap, subst}
 use Rattle.pls_graph.specs.Places.{place_in}
 use Rattle.pls_facts.proofs.Trees.{NoneReturns-IsTree}
 use Rattle.pls_search.specs.Depths.{AreDepths}
+use Rattle.pls_centroid.specs.Levels.{AreCentroidLists}
 use Rattle.pls_centroid.specs.declared.level.CentroidLevel.{CentroidLevel}
 use Rattle.pls_centroid.specs.inner.Rooted.{ArePointed, AreWeightsUp, IsByDepth}
-use Rattle.pls_centroid.specs.inner.Rounds.{AreAllRounds, AreListsOf}
+use Rattle.pls_centroid.specs.inner.Rounds.{lists_said}
 use Rattle.pls_centroid.proofs.Listing.{lists_few, lists_right}
 use Rattle.pls_centroid.proofs.Saying.{lists_in}
 use Rattle.pls_centroid.proofs.Staged.{by_depth_behind, depths_fall, pointed_returns, pointed_within}
@@ -64,21 +65,17 @@ all_rounds-requires-clause-order c =
 pub returns-clause-levels : goal.returns-clause-levels
 returns-clause-levels c =
     let rows = c.args.net.now in
-    let lists : List (List CentroidLevel) = c.in_ok-lists.lists.items in
-    lists_right rows c.len-count.ensures.valid c.requires.tree
-    (lists_in c.as_slice-rounds.result.now)
-    (subst (λ rounds. AreAllRounds rows (lists_in rounds)) (sym c.as_slice-rounds.ensures.value)
-    c.in_ok-rounds.ensures) lists
-    (subst (λ (count : ℕ). AreListsOf (lists_in c.as_slice-rounds.result.now) count lists)
-    c.len-count.ensures.len c.in_ok-lists.ensures)
+    subst (AreCentroidLists rows) (sym (c.in_ok-lists.ensures
+    ∙ ap (lists_said (lists_in c.in_ok-rounds.rounds.items)) c.len-count.ensures.len))
+    (lists_right rows c.len-count.ensures.valid c.requires.tree
+    (lists_in c.in_ok-rounds.rounds.items) c.in_ok-rounds.ensures)
 
 pub returns-clause-few : goal.returns-clause-few
 returns-clause-few c =
     let rows = c.args.net.now in
-    let lists : List (List CentroidLevel) = c.in_ok-lists.lists.items in
-    lists_few rows lists (lists_right rows c.len-count.ensures.valid c.requires.tree
-    (lists_in c.as_slice-rounds.result.now)
-    (subst (λ rounds. AreAllRounds rows (lists_in rounds)) (sym c.as_slice-rounds.ensures.value)
-    c.in_ok-rounds.ensures) lists
-    (subst (λ (count : ℕ). AreListsOf (lists_in c.as_slice-rounds.result.now) count lists)
-    c.len-count.ensures.len c.in_ok-lists.ensures))
+    subst (All (λ (list : List CentroidLevel). 2 ^ length list ≤ 2 * length rows))
+    (sym (c.in_ok-lists.ensures
+    ∙ ap (lists_said (lists_in c.in_ok-rounds.rounds.items)) c.len-count.ensures.len))
+    (lists_few rows (lists_said (lists_in c.in_ok-rounds.rounds.items) (length rows))
+    (lists_right rows c.len-count.ensures.valid c.requires.tree
+    (lists_in c.in_ok-rounds.rounds.items) c.in_ok-rounds.ensures))

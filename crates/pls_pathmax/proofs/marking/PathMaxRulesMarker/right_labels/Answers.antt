@@ -13,9 +13,9 @@ returns-then-other_edges_are_heavy-clause-right g c =
     let only = rw c.in-Some.is at (c.in_ok-root.ensures.root) in
     let deep = rw c.in-Some.is at (c.in_ok-root.ensures.depths) in
     let labels = c.in_ok-labels.labels.items in
-    made_of_same rows c.in-Some.root c.in-Some.depths.items _ c.in_ok-lists.lists.items _
+    made_of_same rows c.in-Some.root c.in-Some.depths.items _ c.in_ok-lists.lists
     c.root_and_depths.ensures.valid only deep c.in_ok-lists.ensures.levels c.deref.ensures.value
-    c.from_vec-lists.ensures labels c.in_ok-labels.ensures
+    labels c.in_ok-labels.ensures
 
 pub returns-then-other_edges_are_heavy-clause-holds :
     goal.returns-then-other_edges_are_heavy-clause-holds
@@ -26,9 +26,9 @@ returns-then-other_edges_are_heavy-clause-holds g c =
     let is_tree = rw c.in-Some.is at (c.in_ok-root.ensures.holds) in
     let labels = c.in_ok-labels.labels.items in
     let told : Bool = c.other_edges_are_heavy.result in
-    let right = made_of_same rows c.in-Some.root c.in-Some.depths.items _ c.in_ok-lists.lists.items
-    _ c.root_and_depths.ensures.valid only deep c.in_ok-lists.ensures.levels c.deref.ensures.value
-    c.from_vec-lists.ensures labels c.in_ok-labels.ensures in
+    let right = made_of_same rows c.in-Some.root c.in-Some.depths.items _ c.in_ok-lists.lists
+    c.root_and_depths.ensures.valid only deep c.in_ok-lists.ensures.levels c.deref.ensures.value
+    labels c.in_ok-labels.ensures in
     let law : IsTrue told ↔ IsMinimumSpanningTree rows =
     decided rows c.root_and_depths.ensures.valid c.requires is_tree labels right told
     (subst (λ (labels : List PathMaxLabel). TellsRule6 rows labels told)
@@ -42,9 +42,9 @@ returns-clause-lacking g c holds =
     let deep = rw c.in-Some.is at (c.in_ok-root.ensures.depths) in
     let labels = c.in_ok-labels.labels.items in
     let told : Bool = c.other_edges_are_heavy.result in
-    let right = made_of_same rows c.in-Some.root c.in-Some.depths.items _ c.in_ok-lists.lists.items
-    _ c.root_and_depths.ensures.valid only deep c.in_ok-lists.ensures.levels c.deref.ensures.value
-    c.from_vec-lists.ensures labels c.in_ok-labels.ensures in
+    let right = made_of_same rows c.in-Some.root c.in-Some.depths.items _ c.in_ok-lists.lists
+    c.root_and_depths.ensures.valid only deep c.in_ok-lists.ensures.levels c.deref.ensures.value
+    labels c.in_ok-labels.ensures in
     let law : IsTrue told ↔ IsMinimumSpanningTree rows =
     decided rows c.root_and_depths.ensures.valid c.requires holds.tree labels right told
     (subst (λ (labels : List PathMaxLabel). TellsRule6 rows labels told)
