@@ -1,8 +1,8 @@
 -- Items behind the first ones.
 use Rattle.std.proofs.Common.{◌≡◌, ◌∙◌, ℕ, ◌+◌, ◌≤◌, inl, inr, List, [], ◌∷◌, length, drop, Some, None, slice_get, sym, ap, arith}
 use Rattle.std.proofs.lemmas.Bool.{cases_lt}
-use Rattle.std.proofs.lemmas.List.{drop-drop, get_or-drop, length-drop}
-use Rattle.std.proofs.lemmas.Option.{slice_get-get_or, slice_get_past}
+use Rattle.std.proofs.lemmas.List.{drop-drop, drop_more, get_or-drop, length-drop}
+use Rattle.std.proofs.lemmas.Option.{get_or_from_slice_get, slice_get-get_or, slice_get_past, slice_get_within}
 use Rattle.pls_facts.proofs.Lists.{item_at}
 
 -- what stands at a place behind the first items
@@ -36,3 +36,9 @@ drop_at xs n x is =
     let same : n + 0 ≡ n = omega arith in
     ap (slice_get xs) (sym same) ∙ sym (slice_get-behind xs n 0)
     ∙ ap (λ items. slice_get items 0) is
+
+-- and what stands there is the first of those
+pub drop_from : {X : Type 0} (xs : List X) (n : ℕ) (x : X) → slice_get xs n ≡ Some x
+    → drop n xs ≡ x ∷ drop (n + 1) xs
+drop_from xs n x at = drop_more xs n x (slice_get_within xs n x at)
+    ∙ ap (λ first. first ∷ drop (n + 1) xs) (get_or_from_slice_get xs n x x at)

@@ -13,7 +13,7 @@ ghost use Rattle.pls_pathmax.specs.Rules.{meet_lightly, other_edges_are_heavy};
 
 use crate::comparing::meet_lightly;
 use crate::levels::PathMaxLabel;
-use pls_centroid::CentroidLevel;
+use pls_centroid::CentroidList;
 use pls_configuration::{Port, State};
 use pls_facts::is_valid;
 use pls_graph::Network;
@@ -80,19 +80,15 @@ fn is_heavy(
         (zip own.now.levels theirs.now.levels)) }
 {
     is_in_tree(up, number, own.own, theirs.parent)
-        || meet_on_some(
-            own.levels.as_slice(),
-            theirs.levels.as_slice(),
-            u64::from(weight),
-        )
+        || meet_on_some(&own.levels, &theirs.levels, u64::from(weight))
 }
 
-fn meet_on_some(mine: &[CentroidLevel], theirs: &[CentroidLevel], weight: u64) -> bool
+fn meet_on_some(mine: &CentroidList, theirs: &CentroidList, weight: u64) -> bool
     ensures { result ≡ list_any (λ both. meet_lightly weight both.0 both.1)
         (zip mine.now theirs.now) }
 {
     for i in 0..mine.len().min(theirs.len()) {
-        if meet_lightly(weight, &mine[i], &theirs[i]) {
+        if meet_lightly(weight, &mine.at(i), &theirs.at(i)) {
             return true;
         }
     }

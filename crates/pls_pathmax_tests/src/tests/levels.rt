@@ -2,7 +2,7 @@
 
 use super::connected_network;
 use pls_bits::Gamma;
-use pls_centroid::{CentroidList, centroid_levels};
+use pls_centroid::{CentroidLists, centroid_levels};
 use pls_pointer::Tree;
 use pls_scheme::Property;
 use std::alloc::Global;
@@ -123,7 +123,7 @@ const LEVELS: &[(&str, &str)] = &[
     ),
 ];
 
-fn levels_of(alloc: Global, text: &str) -> Result<Vec<CentroidList>, Fail> {
+fn levels_of(alloc: Global, text: &str) -> Result<CentroidLists, Fail> {
     let net = connected_network(alloc, text)?;
     let tree = Tree::<Gamma>::new();
     if !tree.decide(alloc, &net)? {
@@ -133,10 +133,12 @@ fn levels_of(alloc: Global, text: &str) -> Result<Vec<CentroidList>, Fail> {
 }
 
 // One line a node; each level is centroid, hops and greatest weight, then a bar.
-fn text_of(alloc: Global, lists: &[CentroidList]) -> Result<String, Fail> {
+fn text_of(alloc: Global, lists: &CentroidLists) -> Result<String, Fail> {
     let mut text = String::new(alloc);
-    for list in lists {
-        for level in list.as_slice() {
+    for place in 0..lists.len() {
+        let list = lists.at(place)?;
+        for number in 0..list.len() {
+            let level = list.at(number);
             let part = format!(in alloc; "{} {} {}|", level.centroid, level.hops, level.greatest)?;
             text.push_str(&part)?;
         }
@@ -149,7 +151,7 @@ fn text_of(alloc: Global, lists: &[CentroidList]) -> Result<String, Fail> {
 fn levels_of_small_trees(rt: HostRuntime) -> Result<(), Fail> {
     for (text, due) in LEVELS {
         let lists = levels_of(rt.alloc(), text)?;
-        let found = text_of(rt.alloc(), lists.as_slice())?;
+        let found = text_of(rt.alloc(), &lists)?;
         assert!(rt; found.as_str() == *due, "levels of {text}: {found}");
     }
     Ok(())
@@ -191,22 +193,22 @@ fn star(alloc: Global, count: u32) -> Result<String, Fail> {
 }
 
 // How many levels the nodes have together, and at most.
-fn sizes_of(lists: &[CentroidList]) -> (usize, usize) {
+fn sizes_of(lists: &CentroidLists) -> Result<(usize, usize), Fail> {
     let mut all = 0_usize;
     let mut most = 0_usize;
-    for list in lists {
-        let count = list.as_slice().len();
+    for place in 0..lists.len() {
+        let count = lists.at(place)?.len();
         all = all.saturating_add(count);
         most = most.max(count);
     }
-    (all, most)
+    Ok((all, most))
 }
 
 #[test]
 fn a_long_path(rt: HostRuntime) -> Result<(), Fail> {
     let text = path(rt.alloc(), MANY)?;
     let lists = levels_of(rt.alloc(), text.as_str())?;
-    let (all, most) = sizes_of(lists.as_slice());
+    let (all, most) = sizes_of(&lists)?;
     assert!(rt; all == 458769 && most == 16, "{all} {most}");
     Ok(())
 }
@@ -215,7 +217,7 @@ fn a_long_path(rt: HostRuntime) -> Result<(), Fail> {
 fn a_large_star(rt: HostRuntime) -> Result<(), Fail> {
     let text = star(rt.alloc(), MANY)?;
     let lists = levels_of(rt.alloc(), text.as_str())?;
-    let (all, most) = sizes_of(lists.as_slice());
+    let (all, most) = sizes_of(&lists)?;
     assert!(rt; all == 65535 && most == 2, "{all} {most}");
     Ok(())
 }
