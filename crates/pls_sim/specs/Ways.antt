@@ -28,11 +28,10 @@ pub record IsPlaceOf (rows : List NodeRow) (node place : ℕ) : Type 0 where
   pub is : row.id ≡ node
 
 -- the number of the first port of each node, and for each port the number of the one that leads
--- back and the place of its node
+-- back
 pub record Numbers : Type 0 where
   pub firsts : List ℕ
   pub back : List ℕ
-  pub owners : List ℕ
 
 -- the numbers of the first ports of all nodes
 pub record AreFirsts (rows : List NodeRow) (firsts : List ℕ) : Type 0 where
@@ -46,16 +45,9 @@ LeadBack rows back =
     (number node neighbour : ℕ) → number < length back → IsSlot rows number node neighbour
     → IsSlot rows (slice_index_or back number 0) neighbour node
 
--- for each port of the first nodes, of which there are so many, the place of its node
-pub record AreOwners (rows : List NodeRow) (nodes : ℕ) (owners : List ℕ) : Type 0 where
-  pub long : length owners ≡ ports_in (take nodes rows)
-  pub each : (place at : ℕ) (row : NodeRow) → place < nodes → slice_get rows place ≡ Some row
-      → at < length row.ports → slice_index_or owners (slot rows place at) 0 ≡ place
-
 -- the rows are a network, and these the numbers of its ports
 pub record ArePortNumbers (rows : List NodeRow) (ways : Numbers) : Type 0 where
   pub network : IsNetwork rows
   pub are_firsts : AreFirsts rows ways.firsts
   pub long : length ways.back ≡ ports_in rows
   pub lead_back : LeadBack rows ways.back
-  pub are_owners : AreOwners rows (length rows) ways.owners

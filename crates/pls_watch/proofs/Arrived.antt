@@ -16,7 +16,7 @@ use Rattle.pls_sim.specs.declared.event_error.EventError.{EventError}
 use Rattle.pls_sim.specs.declared.event_error.EventError.TheVariants.{Full, NoEmit}
 use Rattle.pls_sim.specs.Schedule.{Sent, emit_number, emits_of, goes_to, has_heard}
 use Rattle.pls_sim.specs.Applying.{Played, is_full, refused_if}
-use Rattle.pls_sim.specs.Arriving.{ArrivesAt}
+use Rattle.pls_sim.specs.Arriving.{ArrivesAt, GoesToPlace}
 use Rattle.pls_sim.specs.Ways.{IsPlaceOf, IsSlot}
 use Rattle.pls_sim.proofs.Keeping.{few_sent}
 use Rattle.pls_sim.proofs.Numbering.{slot_within, value_at}
@@ -84,26 +84,28 @@ module _ (rows : List NodeRow) (turns : List Turn) (versions sent holds : List �
     one = item_at emits place
         (omega (arith, is, few, ap length kept.are_carried, many_carried turns))
 
+    names : emit_number (emits_of played.events) number ≡ Some one.0
+    names =
+        ap (λ (events : List Event). emit_number (emits_of events) number) round.events
+        ∙ ap (emit_number emits) is ∙ one.1
+
     module _ (at : ℕ) (goes : (emit : Sent) → emit_number (emits_of played.events) number ≡ Some
         emit
         → ArrivesAt played.network emit at) where
       to : (to : ℕ) × (goes_to rows one.0 ≡ Some to) × IsSlot rows at to one.0.node
       to = subst (λ (rows : List NodeRow). ArrivesAt rows one.0 at) round.network
-          (goes one.0 (ap (λ (events : List Event). emit_number (emits_of events) number)
-          round.events
-          ∙ ap (emit_number emits) is ∙ one.1))
+          (goes one.0 names)
 
       pub at_within : at < ports_in rows
       at_within = slot_within rows at to.0 one.0.node to.2
 
-      module _ (end : ℕ) (end_is : (node neighbour : ℕ) → IsSlot played.network at node neighbour
-          → IsPlaceOf played.network node end) where
+      module _ (end : ℕ) (end_is : (emit : Sent)
+          → emit_number (emits_of played.events) number ≡ Some emit
+          → GoesToPlace played.network emit end) where
         receiver : IsPlaceOf rows to.0 end
         receiver =
-            subst (λ (rows : List NodeRow). IsPlaceOf rows to.0 end) round.network
-            (end_is to.0 one.0.node
-            (subst (λ (rows : List NodeRow). IsSlot rows at to.0 one.0.node) (sym round.network)
-            to.2))
+            subst (λ (rows : List NodeRow). GoesToPlace rows one.0 end) round.network
+            (end_is one.0 names) to.0 to.1
 
         pub end_within : end < length rows
         end_within = slice_get_within rows end receiver.row receiver.stands

@@ -164,8 +164,7 @@ impl<'n> Versions<'n> {
             return Err(EventError::NoEmit);
         }
         let place = number as usize - 1;
-        let at = self.sim.arrives_at(number);
-        let to = self.sim.owner(at);
+        let (at, to) = self.sim.arrives_at(number);
         let heard = self.sim.heard_at(to, at);
         self.sim.step(Event::Arrive(number))?;
         let (old, old_label) = self.held.get(at);

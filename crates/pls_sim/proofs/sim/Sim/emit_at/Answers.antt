@@ -6,6 +6,7 @@ use Rattle.pls_configuration.specs.declared.row.NodeRow.{NodeRow}
 use Rattle.pls_configuration.specs.Configuration.{row_of}
 use Rattle.pls_sim.specs.Applying.{Played}
 use Rattle.pls_sim.specs.Ways.{IsSlot}
+use Rattle.pls_sim.proofs.Ends.{end_stands}
 use Rattle.pls_sim.proofs.Keeping.{few_sent, kept_emit, room_more}
 use Rattle.pls_sim.proofs.Numbering.{numbered}
 use Rattle.pls_sim.proofs.Refusing.{no_port, no_refusal, node_named, not_full, port_named, ports_at, row_there}
@@ -97,6 +98,8 @@ invariant_of-self c =
     let goes = ap (λ o. option_map (λ (port : Port). port.nbr)
     (option_and_then (λ (row : NodeRow). slice_get row.ports c.args.port) o)) found
     ∙ ap (λ o. option_map (λ (port : Port). port.nbr) o) one.has in
+    let stands = end_stands rows net c.args.place c.args.port one.row one.at one.stands one.has
+    c.places.result.now c.places.ensures.places in
     let put = c.push_reserved.ensures in
     let noted = c.push_reserved-2.ensures in
     let room : length old.events.items < old.most =
@@ -109,8 +112,7 @@ invariant_of-self c =
       c.self.invariant.0,
       rw (put.items, noted.items)
           (kept_emit rows net old.events.items old.sent.items old.restarted.items
-          old.arrived.items c.self.invariant.1 node c.args.port one.at.nbr
-          c.back.result goes arrives),
+          old.arrived.items c.self.invariant.1 node c.args.port one.at.nbr _ goes arrives stands),
       rw (put.capacity, noted.items, noted.capacity)
           (room_more old.most _ _ old.events.items _ room c.self.invariant.2),
     )

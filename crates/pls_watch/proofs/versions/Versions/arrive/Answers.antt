@@ -21,19 +21,6 @@ arrives_at-at-requires-clause-emitted c =
     c.self.invariant.0
     c.args.number (omega (arith, c.if-number-len.false, c.len.ensures))
 
-pub owner-to-requires : goal.owner-to-requires
-owner-to-requires c =
-    let old = c.self.inside in
-    omega (
-      arith,
-      ap ports_in c.self.invariant.0.network,
-      at_within old.net.now (woven old.sim.events old.givings.items) _ _ _ c.self.invariant.1 old.most old.sim
-          c.self.invariant.0
-          c.args.number (omega (arith, c.if-number-len.false, c.len.ensures))
-          (c.args.number - 1) (omega (arith, c.if-number-eq0.false)) c.arrives_at-at.result
-          c.arrives_at-at.ensures,
-    )
-
 pub heard_at-heard-requires-clause-number : goal.heard_at-heard-requires-clause-number
 heard_at-heard-requires-clause-number c =
     let old = c.self.inside in
@@ -43,8 +30,8 @@ heard_at-heard-requires-clause-number c =
       at_within old.net.now (woven old.sim.events old.givings.items) _ _ _ c.self.invariant.1 old.most old.sim
           c.self.invariant.0
           c.args.number (omega (arith, c.if-number-len.false, c.len.ensures))
-          (c.args.number - 1) (omega (arith, c.if-number-eq0.false)) c.arrives_at-at.result
-          c.arrives_at-at.ensures,
+          (c.args.number - 1) (omega (arith, c.if-number-eq0.false)) c.arrives_at-at.result.0
+          c.arrives_at-at.ensures.port,
     )
 
 pub get-old-requires : goal.get-old-requires
@@ -56,8 +43,8 @@ get-old-requires c =
       at_within old.net.now (woven old.sim.events old.givings.items) _ _ _ c.self.invariant.1 old.most old.sim
           c.self.invariant.0
           c.args.number (omega (arith, c.if-number-len.false, c.len.ensures))
-          (c.args.number - 1) (omega (arith, c.if-number-eq0.false)) c.arrives_at-at.result
-          c.arrives_at-at.ensures,
+          (c.args.number - 1) (omega (arith, c.if-number-eq0.false)) c.arrives_at-at.result.0
+          c.arrives_at-at.ensures.port,
     )
 
 pub set-requires : goal.set-requires
@@ -69,8 +56,8 @@ set-requires c =
       at_within old.net.now (woven old.sim.events old.givings.items) _ _ _ c.self.invariant.1 old.most old.sim
           c.self.invariant.0
           c.args.number (omega (arith, c.if-number-len.false, c.len.ensures))
-          (c.args.number - 1) (omega (arith, c.if-number-eq0.false)) c.arrives_at-at.result
-          c.arrives_at-at.ensures,
+          (c.args.number - 1) (omega (arith, c.if-number-eq0.false)) c.arrives_at-at.result.0
+          c.arrives_at-at.ensures.port,
     )
 
 pub heard_at-heard-requires-clause-place : goal.heard_at-heard-requires-clause-place
@@ -82,8 +69,8 @@ heard_at-heard-requires-clause-place c =
       end_within old.net.now (woven old.sim.events old.givings.items) _ _ _ c.self.invariant.1 old.most old.sim
           c.self.invariant.0
           c.args.number (omega (arith, c.if-number-len.false, c.len.ensures))
-          (c.args.number - 1) (omega (arith, c.if-number-eq0.false)) c.arrives_at-at.result
-          c.arrives_at-at.ensures c.owner-to.result c.owner-to.ensures,
+          (c.args.number - 1) (omega (arith, c.if-number-eq0.false)) c.arrives_at-at.result.0
+          c.arrives_at-at.ensures.port c.arrives_at-at.result.1 c.arrives_at-at.ensures.place,
     )
 
 pub invariant_of-self-2 : goal.invariant_of-self-2
@@ -108,8 +95,9 @@ invariant_of-self-2 c =
           c.in_ok-step.ensures.taken c.self.invariant.0,
       kept_now rows (woven old.sim.events old.givings.items) _ _ _ c.self.invariant.1 old.most old.sim c.self.invariant.0
           c.args.number (omega (arith, c.if-number-len.false, c.len.ensures))
-          (c.args.number - 1) (omega (arith, c.if-number-eq0.false)) c.arrives_at-at.result
-          c.arrives_at-at.ensures c.owner-to.result c.owner-to.ensures c.heard_at-heard.result
+          (c.args.number - 1) (omega (arith, c.if-number-eq0.false)) c.arrives_at-at.result.0
+          c.arrives_at-at.ensures.port c.arrives_at-at.result.1 c.arrives_at-at.ensures.place
+          c.heard_at-heard.result
           c.heard_at-heard.ensures c.get-old.result.0 c.get-came.result.0 c.later-version.result.0
           c.get-old.ensures.version c.get-came.ensures.version c.later-version.ensures.version,
       rooms_more old.most _ _ (woven old.sim.events old.givings.items) _ room c.self.invariant.2,
@@ -117,9 +105,9 @@ invariant_of-self-2 c =
           c.self.invariant.0 c.args.number
           (omega (arith, c.if-number-len.false, c.len.ensures)) (c.args.number -
           1)
-          (omega (arith, c.if-number-eq0.false)) c.arrives_at-at.result c.arrives_at-at.ensures
-          c.owner-to.result c.owner-to.ensures c.heard_at-heard.result c.heard_at-heard.ensures _ _ _
-          _
+          (omega (arith, c.if-number-eq0.false)) c.arrives_at-at.result.0 c.arrives_at-at.ensures.port
+          c.arrives_at-at.result.1 c.arrives_at-at.ensures.place c.heard_at-heard.result
+          c.heard_at-heard.ensures _ _ _ _
           c.self.invariant.3 c.get-old.result.0 c.get-old.result.1 c.get-came.result.0 c.get-came.result.1
           c.later-version.result.0 c.later-version.result.1 c.get-old.ensures.version c.get-old.ensures.label
           c.get-came.ensures.version c.get-came.ensures.label c.later-version.ensures.version
@@ -162,8 +150,9 @@ returns-clause-holds c = λ i row neighbour stands differs.
           (held_still old.net.now (woven old.sim.events old.givings.items) _ _ _ c.self.invariant.1 old.most old.sim
           c.self.invariant.0
           c.args.number (omega (arith, c.if-number-len.false, c.len.ensures))
-          (c.args.number - 1) (omega (arith, c.if-number-eq0.false)) c.arrives_at-at.result
-          c.arrives_at-at.ensures c.owner-to.result c.owner-to.ensures c.heard_at-heard.result
+          (c.args.number - 1) (omega (arith, c.if-number-eq0.false)) c.arrives_at-at.result.0
+          c.arrives_at-at.ensures.port c.arrives_at-at.result.1 c.arrives_at-at.ensures.place
+          c.heard_at-heard.result
           c.heard_at-heard.ensures w.if-heard.true c.get-old.result.0 c.get-came.result.0
           w.if-came-old.true c.get-old.ensures.version c.get-came.ensures.version row.id neighbour)
       | else-heard w ↦
@@ -171,8 +160,9 @@ returns-clause-holds c = λ i row neighbour stands differs.
           (held_elsewhere old.net.now (woven old.sim.events old.givings.items) _ _ _ c.self.invariant.1 old.most old.sim
           c.self.invariant.0
           c.args.number (omega (arith, c.if-number-len.false, c.len.ensures))
-          (c.args.number - 1) (omega (arith, c.if-number-eq0.false)) c.arrives_at-at.result
-          c.arrives_at-at.ensures c.owner-to.result c.owner-to.ensures c.heard_at-heard.result
+          (c.args.number - 1) (omega (arith, c.if-number-eq0.false)) c.arrives_at-at.result.0
+          c.arrives_at-at.ensures.port c.arrives_at-at.result.1 c.arrives_at-at.ensures.place
+          c.heard_at-heard.result
           c.heard_at-heard.ensures i row neighbour there
           (λ same. differs (w.changed-is ∙ ap Some same)))
     ]
@@ -180,15 +170,15 @@ returns-clause-holds c = λ i row neighbour stands differs.
 pub returns-clause-within : goal.returns-clause-within
 returns-clause-within c =
     let old = c.self.inside in
-    let within : c.owner-to.result < length c.args.self.now.network =
+    let within : c.arrives_at-at.result.1 < length c.args.self.now.network =
     omega (
       arith,
       ap (λ (turned : Turned). length turned.network) c.self.view_is,
       end_within old.net.now (woven old.sim.events old.givings.items) _ _ _ c.self.invariant.1 old.most old.sim
           c.self.invariant.0
           c.args.number (omega (arith, c.if-number-len.false, c.len.ensures))
-          (c.args.number - 1) (omega (arith, c.if-number-eq0.false)) c.arrives_at-at.result
-          c.arrives_at-at.ensures c.owner-to.result c.owner-to.ensures,
+          (c.args.number - 1) (omega (arith, c.if-number-eq0.false)) c.arrives_at-at.result.0
+          c.arrives_at-at.ensures.port c.arrives_at-at.result.1 c.arrives_at-at.ensures.place,
     ) in
     elim c.if-heard.branch [
       | then-heard+then-came-old w ↦ rw w.changed-is tt
