@@ -36,20 +36,20 @@ all_read count number start left at_end none so_far ends =
     so_far ∙ ap (λ (count : ℕ). are_levels pathmax_levels count left) none ∙ sym ends
 
 -- what is kept of the label above has in it what stands in front of its levels
-pub head_kept : (above : Option PathMaxLabel) (kept : Option PathMaxGlance)
-    (head : Option LevelHead) → head ≡ option_map head_seen kept
-    → kept ≡ option_map glance_said above → head ≡ option_map head_said above
-head_kept above kept head is kept_is = is ∙ ap (option_map head_seen) kept_is ∙ by above
+pub head_kept : (N : ℕ) (above : Option PathMaxLabel) (kept : Option (PathMaxGlance N))
+    (head : Option LevelHead) → head ≡ option_map (head_seen N) kept
+    → kept ≡ option_map (glance_said N) above → head ≡ option_map head_said above
+head_kept N above kept head is kept_is = is ∙ ap (option_map (head_seen N)) kept_is ∙ by above
   where
     by : (above : Option PathMaxLabel)
-        → option_map head_seen (option_map glance_said above) ≡ option_map head_said above
+        → option_map (head_seen N) (option_map (glance_said N) above) ≡ option_map head_said above
     by None = refl
     by (Some label) = refl
 
 -- what is kept of a label, by what was read of it
-pub kept_of_label : (said : Option PathMaxLabel) (label : PathMaxLabel) (head : LevelHead)
+pub kept_of_label : (N : ℕ) (said : Option PathMaxLabel) (label : PathMaxLabel) (head : LevelHead)
     (kept : ℕ) (front : List KeptLevel) (last : Option CentroidLevel) → said ≡ Some label
-    → head_said label ≡ head → IsFront kept front label.levels → last ≡ last_level label.levels
-    → Some (glance_with head kept front last) ≡ option_map glance_said said
-kept_of_label said label head kept front last there head_is front_is last_is =
+    → head_said label ≡ head → IsFront N kept front label.levels → last ≡ last_level label.levels
+    → Some (glance_with N head kept front last) ≡ option_map (glance_said N) said
+kept_of_label N said label head kept front last there head_is front_is last_is =
     rw (there, ← head_is, front_is.0, front_is.1, last_is) refl

@@ -9,7 +9,6 @@ use Rattle.std.proofs.lemmas.Slice.Zip.{length-zip}
 use Rattle.pls_centroid.specs.declared.level.CentroidLevel.{CentroidLevel}
 use Rattle.pls_levels.proofs.KeptFronts.{kept_front-take, kept_split}
 use Rattle.pls_pathmax.specs.declared.glance.PathMaxGlance.{PathMaxGlance}
-use Rattle.pls_pathmax.specs.declared.glance.TheConstants.{FRONT}
 use Rattle.pls_pathmax.specs.declared.kept_level.KeptLevel.{KeptLevel}
 use Rattle.pls_pathmax.specs.Labels.{PathMaxLabel}
 use Rattle.pls_pathmax.specs.Rules.{meet_lightly}
@@ -55,34 +54,34 @@ front_meet_next weight count place mine theirs here there within mine_has theirs
     ∙ ap (λ (level : CentroidLevel). level ∷ drop (place + 1) theirs_first) (sym there_is))
 
 -- the levels of two labels, of which so many are kept of both
-module _ (weight : ℕ) (own other : PathMaxLabel) (mine theirs : PathMaxGlance) (count : ℕ)
-    (own_is : glance_said own ≡ mine) (other_is : glance_said other ≡ theirs)
-    (count_is : count ≡ both_keep mine theirs) where
+module _ (N weight : ℕ) (own other : PathMaxLabel) (mine theirs : PathMaxGlance N) (count : ℕ)
+    (own_is : glance_said N own ≡ mine) (other_is : glance_said N other ≡ theirs)
+    (count_is : count ≡ both_keep N mine theirs) where
   own_front : take count (all_whole mine.front) ≡ take count own.levels
-  own_front = ap (λ (glance : PathMaxGlance). take count (all_whole glance.front)) (sym own_is)
-      ∙ kept_front-take kept_form FRONT (λ level. refl) count own.levels
-      (omega (arith, count_is, ap (λ (glance : PathMaxGlance). glance.kept) own_is))
+  own_front = ap (λ (glance : PathMaxGlance N). take count (all_whole glance.front)) (sym own_is)
+      ∙ kept_front-take kept_form N (λ level. refl) count own.levels
+      (omega (arith, count_is, ap (λ (glance : PathMaxGlance N). glance.kept) own_is))
 
   other_front : take count (all_whole theirs.front) ≡ take count other.levels
-  other_front = ap (λ (glance : PathMaxGlance). take count (all_whole glance.front)) (sym other_is)
-      ∙ kept_front-take kept_form FRONT (λ level. refl) count other.levels
-      (omega (arith, count_is, ap (λ (glance : PathMaxGlance). glance.kept) other_is))
+  other_front = ap (λ (glance : PathMaxGlance N). take count (all_whole glance.front)) (sym other_is)
+      ∙ kept_front-take kept_form N (λ level. refl) count other.levels
+      (omega (arith, count_is, ap (λ (glance : PathMaxGlance N). glance.kept) other_is))
 
   -- where not both go on behind these, one has no more
-  ends : both_go_on mine theirs count ≡ false
+  ends : both_go_on N mine theirs count ≡ false
       → (length own.levels ≤ count) ⊎ (length other.levels ≤ count)
   ends none =
       let own_count : length own.levels ≡ mine.head.count =
-      ap (λ (glance : PathMaxGlance). glance.head.count) own_is in
+      ap (λ (glance : PathMaxGlance N). glance.head.count) own_is in
       let other_count : length other.levels ≡ theirs.head.count =
-      ap (λ (glance : PathMaxGlance). glance.head.count) other_is in
+      ap (λ (glance : PathMaxGlance N). glance.head.count) other_is in
       elim (and_cases (nat_lt count mine.head.count) (nat_lt count theirs.head.count) none) [
         | inl here ↦ inl (omega (arith, own_count, ltb-false count mine.head.count here))
         | inr there ↦ inr (omega (arith, other_count, ltb-false count theirs.head.count there))
       ]
 
   -- what leads on among them leads on
-  module _ (none : both_go_on mine theirs count ≡ false) where
+  module _ (none : both_go_on N mine theirs count ≡ false) where
     abbrev leads_at : List CentroidLevel → List CentroidLevel → ℕ → Bool
     leads_at here there k = leads_from weight (slice_get here k) (slice_get there k)
 
@@ -151,7 +150,7 @@ module _ (weight : ℕ) (own other : PathMaxLabel) (mine theirs : PathMaxGlance)
         (sym met_in_front ∙ meet)
 
     -- where they do on none of these, and not both go on
-    pub meets_nowhere : both_go_on mine theirs count ≡ false → met ≡ meets
+    pub meets_nowhere : both_go_on N mine theirs count ≡ false → met ≡ meets
     meets_nowhere none = met_in_front
         ∙ ap (list_any beside) (take_all count (zip own.levels other.levels)
         (let many = length-zip own.levels other.levels in elim (ends none) [

@@ -4,12 +4,10 @@ ghost use Rattle.std.specs.Prelude.{◌≡◌, ℕ, ◌+◌, ◌<◌, ◌≤◌,
 ghost use Rattle.std.specs.List.{list_any, zip};
 ghost use Rattle.pls_centroid.specs.declared.level.CentroidLevel.{CentroidLevel};
 ghost use Rattle.pls_pathmax.specs.Rules.{leads_on, meet_lightly};
-ghost use Rattle.pls_pathmax.specs.declared.glance.TheConstants.{FRONT};
 ghost use Rattle.pls_pathmax.specs.inner.Glance.{all_whole};
 ghost use Rattle.pls_pathmax.specs.inner.OnePass.{leads_from};
 ghost use Rattle.pls_pathmax.specs.inner.Reading.{AreLeft};
 
-use crate::glance::FRONT;
 use crate::kept_level::KeptLevel;
 use crate::levels::PathMaxLevels;
 use crate::reading::read_level;
@@ -77,14 +75,14 @@ fn is_led_on(flag: bool, mine: &CentroidLevel, weight: u64, theirs: &CentroidLev
 // Sets flag `k` where level `k` leads on, of the first `count`, which are kept of both; flags that
 // are set stay so.
 #[inline(always)]
-pub(crate) fn note_front(
-    mine: &[KeptLevel; FRONT],
-    theirs: &[KeptLevel; FRONT],
+pub(crate) fn note_front<const N: usize>(
+    mine: &[KeptLevel; N],
+    theirs: &[KeptLevel; N],
     count: usize,
     weight: u64,
     flags: &mut [bool],
 )
-    requires kept { count ≤ FRONT }
+    requires kept { count ≤ N }
     requires flags { count ≤ length flags.old }
     ensures { (k : ℕ) → slice_index_or flags.new k false ≡ (slice_index_or flags.old k false
         || leads_from weight (slice_get (take count (all_whole mine.now)) k)
@@ -99,13 +97,13 @@ pub(crate) fn note_front(
 
 // Whether the two meet lightly on one of the first `count` levels, which are kept.
 #[inline(always)]
-pub(crate) fn meet_in_front(
-    mine: &[KeptLevel; FRONT],
-    theirs: &[KeptLevel; FRONT],
+pub(crate) fn meet_in_front<const N: usize>(
+    mine: &[KeptLevel; N],
+    theirs: &[KeptLevel; N],
     count: usize,
     weight: u64,
 ) -> bool
-    requires { count ≤ FRONT }
+    requires { count ≤ N }
     ensures { result ≡ list_any (λ both. meet_lightly weight both.0 both.1)
         (zip (take count (all_whole mine.now)) (take count (all_whole theirs.now))) }
 {

@@ -54,21 +54,21 @@ impl PortTally {
 }
 
 // Rule 5 is asked of the levels from `first` on.
-pub(crate) fn with_port<C: NumCode>(
+pub(crate) fn with_port<C: NumCode, const N: usize>(
     first: u64,
     up: Option<u32>,
-    own: &LabelGlance<'_, PathMaxGlance>,
+    own: &LabelGlance<'_, PathMaxGlance<N>>,
     before: PortTally,
     place: usize,
     weight: u32,
-    label: &LabelGlance<'_, PathMaxGlance>,
+    label: &LabelGlance<'_, PathMaxGlance<N>>,
 ) -> PortTally
     ensures { (id : ℕ) (state : State) (mine theirs : PathMaxLabel)
         (ports : List (ReadPort PathMaxLabel)) → state.up ≡ up → length ports ≡ place
         → said_by pathmax_shape C.takes own.now.bits.now ≡ Some mine
-        → glance_said mine ≡ own.now.glance.now
+        → glance_said N mine ≡ own.now.glance.now
         → said_by pathmax_shape C.takes label.now.bits.now ≡ Some theirs
-        → glance_said theirs ≡ label.now.glance.now
+        → glance_said N theirs ≡ label.now.glance.now
         → before ≡ gathered_from first (reading id state mine ports)
         → result ≡ gathered_from first
         (reading id state mine (ports ++ port_with weight theirs ∷ [])) }
@@ -77,14 +77,14 @@ pub(crate) fn with_port<C: NumCode>(
     let agrees = agrees_too(before.agrees, &own.glance.head, &label.glance.head);
     let led_on = before.led_on;
     if is_in_tree(up, place, own.glance.head.own, label.glance.head.parent) {
-        let led_on = led_on_with::<C>(first, own, weight, label, led_on);
+        let led_on = led_on_with::<C, N>(first, own, weight, label, led_on);
         PortTally {
             agrees,
             heavy: before.heavy,
             led_on,
         }
     } else {
-        let heavy = is_heavy_too::<C>(before.heavy, own, weight, label);
+        let heavy = is_heavy_too::<C, N>(before.heavy, own, weight, label);
         PortTally {
             agrees,
             heavy,
@@ -95,18 +95,18 @@ pub(crate) fn with_port<C: NumCode>(
 
 // Adds a port in the tree to `before`, whose flags start at level `first`. The bits are read only
 // where the levels that are kept are not all that both have.
-fn led_on_with<C: NumCode>(
+fn led_on_with<C: NumCode, const N: usize>(
     first: u64,
-    own: &LabelGlance<'_, PathMaxGlance>,
+    own: &LabelGlance<'_, PathMaxGlance<N>>,
     weight: u64,
-    label: &LabelGlance<'_, PathMaxGlance>,
+    label: &LabelGlance<'_, PathMaxGlance<N>>,
     before: [bool; WINDOW],
 ) -> [bool; WINDOW]
     ensures { (mine theirs : PathMaxLabel)
         → said_by pathmax_shape C.takes own.now.bits.now ≡ Some mine
-        → glance_said mine ≡ own.now.glance.now
+        → glance_said N mine ≡ own.now.glance.now
         → said_by pathmax_shape C.takes label.now.bits.now ≡ Some theirs
-        → glance_said theirs ≡ label.now.glance.now
+        → glance_said N theirs ≡ label.now.glance.now
         → length before ≡ WINDOW
         → result ≡ with_leads first weight mine.levels theirs.levels before }
 {
@@ -122,17 +122,19 @@ fn led_on_with<C: NumCode>(
         );
         return flags;
     }
-    let mut mine = levels_in::<C>(own);
-    let mut theirs = levels_in::<C>(label);
+    let mut mine = levels_in::<C, N>(own);
+    let mut theirs = levels_in::<C, N>(label);
     note_ways(&mut mine, &mut theirs, weight, first, &mut flags);
     flags
 }
 
 // The numbers of the levels of a label that was looked at.
-fn levels_in<'a, C: NumCode>(seen: &LabelGlance<'a, PathMaxGlance>) -> Numbers<'a, C>
+fn levels_in<'a, C: NumCode, const N: usize>(
+    seen: &LabelGlance<'a, PathMaxGlance<N>>,
+) -> Numbers<'a, C>
     ensures { (label : PathMaxLabel)
         → said_by pathmax_shape C.takes seen.now.bits.now ≡ Some label
-        → glance_said label ≡ seen.now.glance.now → AreLeft result label.levels }
+        → glance_said N label ≡ seen.now.glance.now → AreLeft result label.levels }
 {
     levels_behind::<PathMaxLevels, C>(seen.bits, &seen.glance.head)
 }
@@ -145,17 +147,17 @@ fn agrees_too(before: bool, own: &LevelHead, theirs: &LevelHead) -> bool
 }
 
 // Adds a port outside of the tree to `before`.
-fn is_heavy_too<C: NumCode>(
+fn is_heavy_too<C: NumCode, const N: usize>(
     before: bool,
-    own: &LabelGlance<'_, PathMaxGlance>,
+    own: &LabelGlance<'_, PathMaxGlance<N>>,
     weight: u64,
-    label: &LabelGlance<'_, PathMaxGlance>,
+    label: &LabelGlance<'_, PathMaxGlance<N>>,
 ) -> bool
     ensures { (mine theirs : PathMaxLabel)
         → said_by pathmax_shape C.takes own.now.bits.now ≡ Some mine
-        → glance_said mine ≡ own.now.glance.now
+        → glance_said N mine ≡ own.now.glance.now
         → said_by pathmax_shape C.takes label.now.bits.now ≡ Some theirs
-        → glance_said theirs ≡ label.now.glance.now
+        → glance_said N theirs ≡ label.now.glance.now
         → result ≡ (before && list_any (λ both. meet_lightly weight both.0 both.1)
         (zip mine.levels theirs.levels)) }
 {
@@ -169,27 +171,27 @@ fn is_heavy_too<C: NumCode>(
     if !both_go_on(own.glance, label.glance, count) {
         return false;
     }
-    let mut mine = levels_in::<C>(own);
-    let mut theirs = levels_in::<C>(label);
+    let mut mine = levels_in::<C, N>(own);
+    let mut theirs = levels_in::<C, N>(label);
     meet_somewhere(&mut mine, &mut theirs, own.glance.head.count, weight)
 }
 
 // Whether rule 5 holds on `WINDOW` levels from `first` on.
-pub(crate) fn has_ways<C: NumCode>(
+pub(crate) fn has_ways<C: NumCode, const N: usize>(
     first: u64,
-    own: &LabelGlance<'_, PathMaxGlance>,
+    own: &LabelGlance<'_, PathMaxGlance<N>>,
     led_on: &[bool; WINDOW],
 ) -> bool
     ensures { (id : ℕ) (state : State) (mine : PathMaxLabel) (ports : List (ReadPort PathMaxLabel))
         → said_by pathmax_shape C.takes own.now.bits.now ≡ Some mine
-        → glance_said mine ≡ own.now.glance.now
+        → glance_said N mine ≡ own.now.glance.now
         → led_on.now ≡ led_on_from first (reading id state mine ports)
         → result ≡ has_ways_from first (reading id state mine ports) }
 {
     if first == 0 && own.glance.ends_at_own && lead_on(led_on, own.glance.head.count) {
         return true;
     }
-    let mut numbers = levels_in::<C>(own);
+    let mut numbers = levels_in::<C, N>(own);
     if !pass_levels::<PathMaxLevels, C>(&mut numbers, first) {
         return true;
     }

@@ -9,6 +9,7 @@ ghost use Rattle.pls_pathmax.specs.Labels.{pathmax_levels, pathmax_shape};
 ghost use Rattle.pls_pathmax.specs.inner.Glance.{IsFront, both_go_on, both_keep, front_with, glance_said, head_seen, is_own_level, kept_with, last_level};
 ghost use Rattle.pls_pathmax.specs.inner.Reading.{AreLeft};
 
+use crate::gathering::WINDOW;
 use crate::kept_level::KeptLevel;
 use crate::reading::read_level;
 use pls_bits::{Bits, NumCode};
@@ -16,31 +17,36 @@ use pls_centroid::CentroidLevel;
 use pls_levels::{LevelHead, read_head};
 use pls_numbers::Numbers;
 
-/// How many levels are kept at most. A right label has at most one level more than the logarithm
-/// to the base 2 of the number of nodes, so these are all of it wherever there are fewer than
-/// 65,536 nodes. Further levels are read where they lie.
-pub const FRONT: usize = 16;
+/// How many levels are kept of a long label at most. A right label has at most one level more than
+/// the logarithm to the base 2 of the number of nodes, so these are all of it wherever there are
+/// fewer than 65,536 nodes. Further levels are read where they lie.
+pub const LONG_FRONT: usize = 16;
 
-/// What is kept of a label at a glance: all that a port asks for where the label is right.
+/// How many levels are kept where labels are short, so that glances at many labels take less
+/// memory: a tree without long paths has no more.
+pub const SHORT_FRONT: usize = 4;
+
+/// What is kept of a label at a glance, with `N` levels at most: all that a port asks for where the
+/// label is right and has no more levels.
 #[derive(Clone, Copy, Debug, PartialEq, Eq)]
-pub struct PathMaxGlance {
+pub struct PathMaxGlance<const N: usize> {
     /// What stands in front of the levels.
     pub head: LevelHead,
     /// How many of the first levels are kept: those before the first with a number of 2^32 or
-    /// more, which no right label has, and `FRONT` at most.
+    /// more, which no right label has, and `N` at most.
     pub kept: u64,
-    /// These levels, and behind them, where there are fewer than `FRONT`, levels of zeros.
-    pub front: [KeptLevel; FRONT],
+    /// These levels, and behind them, where there are fewer than `N`, levels of zeros.
+    pub front: [KeptLevel; N],
     /// Whether the last level is the node's own. The levels of a right label end so.
     pub ends_at_own: bool,
 }
 
 // What is kept of levels.
-struct LevelsSeen {
+struct LevelsSeen<const N: usize> {
     // How many of the first ones are kept.
     kept: u64,
     // These, and behind them levels of zeros.
-    front: [KeptLevel; FRONT],
+    front: [KeptLevel; N],
     // The last level, where there is one.
     last: Option<CentroidLevel>,
 }
@@ -53,8 +59,8 @@ const NO_LEVEL: KeptLevel = KeptLevel {
 };
 
 // `None` where the bits are no label, read to the last bit.
-pub(crate) fn glance_in<C: NumCode>(bits: &Bits<'_>) -> Option<PathMaxGlance>
-    ensures { result ≡ option_map glance_said (said_by pathmax_shape C.takes bits.now) }
+pub(crate) fn glance_in<C: NumCode, const N: usize>(bits: &Bits<'_>) -> Option<PathMaxGlance<N>>
+    ensures { result ≡ option_map (glance_said N) (said_by pathmax_shape C.takes bits.now) }
 {
     let mut numbers = Numbers::<C>::of(bits);
     let head = read_head(&mut numbers)?;
@@ -68,17 +74,20 @@ pub(crate) fn glance_in<C: NumCode>(bits: &Bits<'_>) -> Option<PathMaxGlance>
 }
 
 // Reads so many levels; `None` where they are not all that is left.
-fn levels_seen<C: NumCode>(numbers: &mut Numbers<'_, C>, count: u64) -> Option<LevelsSeen>
+fn levels_seen<C: NumCode, const N: usize>(
+    numbers: &mut Numbers<'_, C>,
+    count: u64,
+) -> Option<LevelsSeen<N>>
     ensures there { IfSome result (λ _. are_levels pathmax_levels count numbers.old ≡ true) }
     ensures front { IfSome result (λ seen. (levels : List CentroidLevel)
         → AreLeft numbers.old levels → length levels ≡ count
-        → IsFront seen.kept seen.front levels) }
+        → IsFront N seen.kept seen.front levels) }
     ensures last { IfSome result (λ seen. (levels : List CentroidLevel)
         → AreLeft numbers.old levels → length levels ≡ count → seen.last ≡ last_level levels) }
     ensures none { IfNone result (are_levels pathmax_levels count numbers.old ≡ false) }
 {
     let mut kept = 0;
-    let mut front = [NO_LEVEL; FRONT];
+    let mut front = [NO_LEVEL; N];
     let mut last = None;
     for number in 0..count {
         let level = read_level(numbers)?;
@@ -94,11 +103,16 @@ fn levels_seen<C: NumCode>(numbers: &mut Numbers<'_, C>, count: u64) -> Option<L
 
 // Keeps a level of this number where all before it are kept, and it fits; gives how many are kept.
 #[inline(always)]
-fn keep_level(front: &mut [KeptLevel; FRONT], kept: u64, number: u64, level: &CentroidLevel) -> u64
-    ensures kept { result ≡ kept_with kept number level.now }
-    ensures front { front.new ≡ front_with kept number level.now front.old }
+fn keep_level<const N: usize>(
+    front: &mut [KeptLevel; N],
+    kept: u64,
+    number: u64,
+    level: &CentroidLevel,
+) -> u64
+    ensures kept { result ≡ kept_with N kept number level.now }
+    ensures front { front.new ≡ front_with N kept number level.now front.old }
 {
-    if number != kept || number >= FRONT as u64 {
+    if number != kept || number >= N as u64 {
         return kept;
     }
     let Some(short) = KeptLevel::of(level) else {
@@ -110,16 +124,20 @@ fn keep_level(front: &mut [KeptLevel; FRONT], kept: u64, number: u64, level: &Ce
 
 // How many levels are kept of both.
 #[inline(always)]
-pub(crate) fn both_keep(mine: &PathMaxGlance, theirs: &PathMaxGlance) -> usize
-    ensures { result ≡ both_keep mine.now theirs.now }
+pub(crate) fn both_keep<const N: usize>(mine: &PathMaxGlance<N>, theirs: &PathMaxGlance<N>) -> usize
+    ensures { result ≡ both_keep N mine.now theirs.now }
 {
-    mine.kept.min(theirs.kept).min(FRONT as u64) as usize
+    mine.kept.min(theirs.kept).min(N.min(WINDOW) as u64) as usize
 }
 
 // Whether both have levels behind so many.
 #[inline(always)]
-pub(crate) fn both_go_on(mine: &PathMaxGlance, theirs: &PathMaxGlance, count: usize) -> bool
-    ensures { result ≡ both_go_on mine.now theirs.now count }
+pub(crate) fn both_go_on<const N: usize>(
+    mine: &PathMaxGlance<N>,
+    theirs: &PathMaxGlance<N>,
+    count: usize,
+) -> bool
+    ensures { result ≡ both_go_on N mine.now theirs.now count }
 {
     let past = count as u64;
     past < mine.head.count && past < theirs.head.count
@@ -143,8 +161,8 @@ pub(crate) fn is_own_level(own: u64, level: &CentroidLevel) -> bool
 }
 
 #[inline(always)]
-pub(crate) fn head_above(above: Option<&PathMaxGlance>) -> Option<&LevelHead>
-    ensures { option_copied result ≡ option_map head_seen (option_copied above.entry) }
+pub(crate) fn head_above<const N: usize>(above: Option<&PathMaxGlance<N>>) -> Option<&LevelHead>
+    ensures { option_copied result ≡ option_map (head_seen N) (option_copied above.entry) }
 {
     match above {
         Some(above) => Some(&above.head),

@@ -14,14 +14,14 @@ use std::marker::PhantomData;
 // The rules of spanning trees of least weight by centroids, of which rule 5 is asked of up to 64
 // levels: what can be told without memory in one pass over the ports.
 #[derive(Clone, Copy, Debug, PartialEq, Eq)]
-pub(crate) struct PathMaxPass<C> {
+pub(crate) struct PathMaxPass<C, const N: usize> {
     code: PhantomData<C>,
     format: PathMaxFormat,
     // The number of the first of these levels.
     first: u64,
 }
 
-impl<C> PathMaxPass<C> {
+impl<C, const N: usize> PathMaxPass<C, N> {
     // Asks rule 5 of the levels from `first` on.
     pub(crate) fn from_level(first: u64) -> Self
         ensures { result.first ≡ first }
@@ -34,7 +34,7 @@ impl<C> PathMaxPass<C> {
     }
 }
 
-impl<C: NumCode> Judgement for PathMaxPass<C> {
+impl<C: NumCode, const N: usize> Judgement for PathMaxPass<C, N> {
     ghost use Rattle.pls_pathmax.specs.inner.OnePass.{one_pass_rules};
 
     type Code = C;
@@ -50,46 +50,46 @@ impl<C: NumCode> Judgement for PathMaxPass<C> {
     }
 }
 
-impl<C: NumCode> JudgesInPlace for PathMaxPass<C> {
+impl<C: NumCode, const N: usize> JudgesInPlace for PathMaxPass<C, N> {
     ghost use Rattle.pls_pathmax.specs.inner.OnePass.{gathered_from};
     ghost use Rattle.pls_pathmax.specs.inner.Glance.{glance_said};
 
-    type Glance = PathMaxGlance;
+    type Glance = PathMaxGlance<N>;
 
-    type Memory = BoxedGlance<PathMaxGlance>;
+    type Memory = BoxedGlance<PathMaxGlance<N>>;
 
     type Tally = PortTally;
 
-    ghost glance = { λ _ label. glance_said label };
+    ghost glance = { λ _ label. glance_said N label };
 
     ghost tally_of = { λ s view. gathered_from s.first view };
 
-    fn look(&self, bits: &Bits<'_>) -> Option<PathMaxGlance> {
-        glance_in::<C>(bits)
+    fn look(&self, bits: &Bits<'_>) -> Option<PathMaxGlance<N>> {
+        glance_in::<C, N>(bits)
     }
 
-    fn open(&self, _own: &PathMaxGlance) -> PortTally {
+    fn open(&self, _own: &PathMaxGlance<N>) -> PortTally {
         PortTally::before()
     }
 
     fn pass(
         &self,
         up: Option<u32>,
-        own: &LabelGlance<'_, PathMaxGlance>,
+        own: &LabelGlance<'_, PathMaxGlance<N>>,
         tally: PortTally,
         place: usize,
         weight: u32,
-        label: &LabelGlance<'_, PathMaxGlance>,
+        label: &LabelGlance<'_, PathMaxGlance<N>>,
     ) -> PortTally {
-        with_port::<C>(self.first, up, own, tally, place, weight, label)
+        with_port::<C, N>(self.first, up, own, tally, place, weight, label)
     }
 
     fn early_verdict(
         &self,
         id: u32,
         state: State,
-        own: &LabelGlance<'_, PathMaxGlance>,
-        above: Option<&PathMaxGlance>,
+        own: &LabelGlance<'_, PathMaxGlance<N>>,
+        above: Option<&PathMaxGlance<N>>,
     ) -> Option<Verdict> {
         if is_placed::<PathMaxLevels>(id, state, &own.glance.head, head_above(above)) {
             None
@@ -102,12 +102,12 @@ impl<C: NumCode> JudgesInPlace for PathMaxPass<C> {
         &self,
         id: u32,
         state: State,
-        own: &LabelGlance<'_, PathMaxGlance>,
-        above: Option<&PathMaxGlance>,
+        own: &LabelGlance<'_, PathMaxGlance<N>>,
+        above: Option<&PathMaxGlance<N>>,
         tally: PortTally,
     ) -> Verdict {
         let placed = is_placed::<PathMaxLevels>(id, state, &own.glance.head, head_above(above));
-        let ways = has_ways::<C>(self.first, own, &tally.led_on);
+        let ways = has_ways::<C, N>(self.first, own, &tally.led_on);
         judged_from(3, &[placed, tally.agrees, ways, tally.heavy])
     }
 }

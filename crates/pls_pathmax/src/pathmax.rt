@@ -10,11 +10,14 @@ ghost use Rattle.pls_pathmax.specs.inner.Reading.{head_said};
 ghost use Rattle.pls_pathmax.specs.inner.OnePass.{HaveFurtherWays, IsReadThrough, is_by_rule_5, is_settled, one_pass_rules};
 
 use crate::gathering::WINDOW;
+use crate::glance::{LONG_FRONT, SHORT_FRONT};
 use crate::levels::PathMaxFormat;
 use crate::pass::PathMaxPass;
 use pls_bits::{Bits, NumCode};
 use pls_configuration::Verdict;
-use pls_labels::View;
+use pls_facts::is_valid;
+use pls_graph::Network;
+use pls_labels::{Labels, View};
 use pls_levels::{LevelHead, read_head};
 use pls_numbers::Numbers;
 use pls_scheme::{Basic, Judgement};
@@ -53,7 +56,7 @@ impl<C: NumCode> Judgement for PathMaxRules<C> {
     }
 }
 
-pub(crate) fn pass_from<C>(first: u64) -> Basic<PathMaxPass<C>>
+pub(crate) fn pass_from<C, const N: usize>(first: u64) -> Basic<PathMaxPass<C, N>>
     ensures { result.rules.first ≡ first }
 {
     Basic {
@@ -65,7 +68,7 @@ pub(crate) fn pass_from<C>(first: u64) -> Basic<PathMaxPass<C>>
 pub(crate) fn judge_view<C: NumCode>(view: &View<'_>) -> Verdict
     ensures { result ≡ verdict_by pathmax_shape pathmax_rules C.takes view.now }
 {
-    let verdict = pass_from::<C>(0).judge(view);
+    let verdict = pass_from::<C, LONG_FRONT>(0).judge(view);
     if is_settled(&verdict) {
         return verdict;
     }
@@ -85,13 +88,22 @@ fn have_further_ways<C: NumCode>(view: &View<'_>, count: u64) -> bool
 {
     let mut first = WINDOW as u64;
     while first < count {
-        let verdict = pass_from::<C>(first).judge(view);
+        let verdict = pass_from::<C, LONG_FRONT>(first).judge(view);
         if is_by_rule_5(&verdict) {
             return false;
         }
         first = first.saturating_add(WINDOW as u64);
     }
     true
+}
+
+// Whether the label of the node in the middle has no more levels than a short front takes: then
+// most labels have none. What is told changes no verdict.
+pub(crate) fn are_short<C: NumCode, L: Labels>(net: &Network, labels: &L) -> bool
+    requires { length (L.listed labels.now) ≡ length net.now }
+{
+    is_valid(net);
+    count_of::<C>(&labels.bits(net.len() / 2)) <= SHORT_FRONT as u64
 }
 
 // The number of levels that a label states, 0 where no head comes first.

@@ -6,10 +6,10 @@ ghost use Rattle.pls_scheme.specs.Basic.{verdict_by};
 ghost use Rattle.pls_pathmax.specs.Labels.{pathmax_shape};
 ghost use Rattle.pls_pathmax.specs.Rules.{pathmax_rules};
 
-use crate::glance::{PathMaxGlance, glance_in};
+use crate::glance::{LONG_FRONT, PathMaxGlance, SHORT_FRONT, glance_in};
 use crate::in_memory::verdict_of_node;
 use crate::levels::{PathMaxFormat, PathMaxLabel};
-use crate::pathmax::{PathMaxRules, judge_view, pass_from};
+use crate::pathmax::{PathMaxRules, are_short, judge_view, pass_from};
 use pls_bits::{BitBuf, Bits, NumCode};
 use pls_configuration::Verdict;
 use pls_facts::is_valid;
@@ -104,7 +104,11 @@ impl<C: NumCode> Checker for PathMax<C> {
         labels: &L,
         steps: &mut Steps,
     ) -> Result<Vec<Verdict>, NoMemory> {
-        let first = pass_from::<C>(0).round(alloc, net, labels, steps)?;
+        let first = if are_short::<C, L>(net, labels) {
+            pass_from::<C, SHORT_FRONT>(0).round(alloc, net, labels, steps)?
+        } else {
+            pass_from::<C, LONG_FRONT>(0).round(alloc, net, labels, steps)?
+        };
         let first = first.as_slice();
         let mut verdicts = Vec::with_capacity(alloc, net.len())?;
         for i in 0..net.len() {
@@ -123,18 +127,19 @@ impl<C: NumCode> Remembers for PathMax<C> {
     ghost use Rattle.pls_numbers.specs.Shape.{said_by};
     ghost use Rattle.pls_scheme.specs.inner.Looks.{seen_in};
     ghost use Rattle.pls_pathmax.specs.Labels.{pathmax_shape};
+    ghost use Rattle.pls_pathmax.specs.declared.glance.TheConstants.{LONG_FRONT};
     ghost use Rattle.pls_pathmax.specs.inner.Glance.{glance_said};
 
-    type Memory = BoxedGlance<PathMaxGlance>;
+    type Memory = BoxedGlance<PathMaxGlance<LONG_FRONT>>;
 
-    ghost told = { λ _ bits. seen_in (said_by pathmax_shape C.takes) glance_said bits };
+    ghost told = { λ _ bits. seen_in (said_by pathmax_shape C.takes) (glance_said LONG_FRONT) bits };
 
     fn remember(
         &self,
         alloc: Global,
         bits: &Bits<'_>,
-    ) -> Result<BoxedGlance<PathMaxGlance>, NoMemory> {
-        BoxedGlance::keep(alloc, glance_in::<C>(bits))
+    ) -> Result<BoxedGlance<PathMaxGlance<LONG_FRONT>>, NoMemory> {
+        BoxedGlance::keep(alloc, glance_in::<C, LONG_FRONT>(bits))
     }
 
     fn verdict_at(
@@ -142,10 +147,10 @@ impl<C: NumCode> Remembers for PathMax<C> {
         alloc: Global,
         net: &Network,
         labels: &LabelStore,
-        memories: &[BoxedGlance<PathMaxGlance>],
+        memories: &[BoxedGlance<PathMaxGlance<LONG_FRONT>>],
         i: usize,
     ) -> Result<Verdict, NoMemory> {
-        let verdict = pass_from::<C>(0).verdict_at(alloc, net, labels, memories, i)?;
+        let verdict = pass_from::<C, LONG_FRONT>(0).verdict_at(alloc, net, labels, memories, i)?;
         verdict_of_node::<C, LabelStore>(alloc, net, labels, i, verdict)
     }
 }

@@ -6,7 +6,7 @@ use Rattle.pls_pathmax.proofs.Looked.{front_meet_next}
 use Rattle.pls_pathmax.proofs.comparing.meet_in_front.Goals as goal
 
 pub returns-then-meet_lightly : goal.returns-then-meet_lightly
-returns-then-meet_lightly c =
+returns-then-meet_lightly g c =
     let place : ℕ = c.loop-place.place in
     let less : place < c.args.count = c.loop-place-test.true in
     let here : List CentroidLevel = take c.args.count (all_whole c.args.mine.now) in
@@ -19,7 +19,7 @@ returns-then-meet_lightly c =
     (sym c.meet_lightly.ensures ∙ c.if-meet_lightly.true))
 
 pub loop-place-preserved : goal.loop-place-preserved
-loop-place-preserved c =
+loop-place-preserved g c =
     let place : ℕ = c.loop-place.place in
     let less : place < c.args.count = c.loop-place-test.true in
     let here : List CentroidLevel = take c.args.count (all_whole c.args.mine.now) in

@@ -9,7 +9,7 @@ use Rattle.pls_pathmax.proofs.Compared.{noted_all, noted_more, noted_rest, nothi
 use Rattle.pls_pathmax.proofs.comparing.note_front.Goals as goal
 
 pub loop-place-preserved : goal.loop-place-preserved
-loop-place-preserved c =
+loop-place-preserved g c =
     let place : ℕ = c.loop-place.place in
     let count : ℕ = c.args.count in
     let mine = c.args.mine.now in
@@ -35,7 +35,7 @@ loop-place-preserved c =
     }
 
 pub returns : goal.returns
-returns c k =
+returns g c k =
     let count : ℕ = c.args.count in
     let here : List CentroidLevel = take count (all_whole c.args.mine.now) in
     let there : List CentroidLevel = take count (all_whole c.args.theirs.now) in

@@ -5,7 +5,7 @@ use Rattle.pls_pathmax.proofs.comparing.note_front.Given as goal
 
 -- the flags of the levels so far are noted
 abbrev pub invariant-loop-place : goal.invariant-loop-place
-invariant-loop-place l = record {
+invariant-loop-place g l = record {
   within : l.place ≤ l.count;
   done : (k : ℕ) → k < l.place → get_or l.flags k false ≡ (get_or l.initial.flags k false
       || leads_from l.weight (slice_get (take l.count (all_whole l.mine)) k)

@@ -26,7 +26,7 @@ pub returns : goal.returns
 returns g c id state mine ports said front flags =
     let first : ℕ = c.args.first in
     let own : mine.own ≡ c.args.own.now.glance.now.head.own =
-    ap (λ (glance : PathMaxGlance). glance.head.own) front in
+    ap (λ (glance : PathMaxGlance g.row.N). glance.head.own) front in
     let left = c.pass_levels.ensures.passed c.if-not-pass_levels.false mine.levels
     (c.levels_in-numbers.ensures mine said front) in
     let many : length c.args.led_on.now ≡ WINDOW =
@@ -50,10 +50,10 @@ returns-then-lead_on g c id state mine ports said front flags =
     let first : ℕ = c.args.first in
     let levels : List CentroidLevel = mine.levels in
     let count : length levels ≡ c.args.own.now.glance.now.head.count =
-    ap (λ (glance : PathMaxGlance). glance.head.count) front in
+    ap (λ (glance : PathMaxGlance g.row.N). glance.head.count) front in
     let at_own : CentroidLevel → Bool = is_own_level mine.own in
     let ends : option_map_or at_own (slice_get levels (length levels - 1)) false ≡ true =
-    ap (λ (glance : PathMaxGlance). glance.ends_at_own) front ∙ c.if-own.true in
+    ap (λ (glance : PathMaxGlance g.row.N). glance.ends_at_own) front ∙ c.if-own.true in
     sym (ways_hold (reading id state mine ports) first c.args.led_on.now flags
     (λ k level within at. elim (cases_lt (k + 1) (length levels)) [
       | inl before ↦ or_right (at_own level) (get_or c.args.led_on.now k false)

@@ -4,4 +4,4 @@ use Rattle.pls_pathmax.proofs.gathering.levels_in.Goals as goal
 
 pub returns : goal.returns
 returns g c label said seen =
-    c.levels_behind.ensures label said (ap (λ (glance : PathMaxGlance). glance.head) seen)
+    c.levels_behind.ensures label said (ap (λ (glance : PathMaxGlance g.row.N). glance.head) seen)

@@ -18,15 +18,15 @@ returns-then-is_in_tree g c id state mine theirs ports up many own_read own_is t
     rw (
       up,
       many,
-      ap (λ (glance : PathMaxGlance). glance.head.parent) theirs_is,
-      ap (λ (glance : PathMaxGlance). glance.head.own) own_is,
+      ap (λ (glance : PathMaxGlance g.row.N). glance.head.parent) theirs_is,
+      ap (λ (glance : PathMaxGlance g.row.N). glance.head.own) own_is,
     ) (sym c.is_in_tree.ensures
     ∙ c.if-is_in_tree.true) in
     gathered_inside first id state mine ports c.args.weight theirs c.args.before before inside
     c.agrees_too-agrees.result c.led_on_with-led_on.result
     (rw (
-      ap (λ (glance : PathMaxGlance). glance.head.root) theirs_is,
-      ap (λ (glance : PathMaxGlance). glance.head.root) own_is,
+      ap (λ (glance : PathMaxGlance g.row.N). glance.head.root) theirs_is,
+      ap (λ (glance : PathMaxGlance g.row.N). glance.head.root) own_is,
     ) c.agrees_too-agrees.ensures)
     (c.led_on_with-led_on.ensures mine theirs own_read own_is theirs_read theirs_is
     (ap (λ (was : PortTally). length was.led_on) before
@@ -42,15 +42,15 @@ returns-else-is_in_tree g c id state mine theirs ports up many own_read own_is t
     rw (
       up,
       many,
-      ap (λ (glance : PathMaxGlance). glance.head.parent) theirs_is,
-      ap (λ (glance : PathMaxGlance). glance.head.own) own_is,
+      ap (λ (glance : PathMaxGlance g.row.N). glance.head.parent) theirs_is,
+      ap (λ (glance : PathMaxGlance g.row.N). glance.head.own) own_is,
     ) (sym c.is_in_tree.ensures ∙ c.if-is_in_tree.false)
     in
     gathered_outside first id state mine ports c.args.weight theirs c.args.before before outside
     c.agrees_too-agrees.result c.is_heavy_too-heavy.result
     (rw (
-      ap (λ (glance : PathMaxGlance). glance.head.root) theirs_is,
-      ap (λ (glance : PathMaxGlance). glance.head.root) own_is,
+      ap (λ (glance : PathMaxGlance g.row.N). glance.head.root) theirs_is,
+      ap (λ (glance : PathMaxGlance g.row.N). glance.head.root) own_is,
     ) c.agrees_too-agrees.ensures)
     (c.is_heavy_too-heavy.ensures mine theirs own_read own_is theirs_read theirs_is
     ∙ ap (λ (weight : ℕ). c.args.before.heavy

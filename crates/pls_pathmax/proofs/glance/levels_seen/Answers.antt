@@ -31,7 +31,7 @@ loop-number-preserved g c =
           c.loop-number.numbers c.read_level.new.numbers c.in_ok-level.ensures.found;
       left = λ levels are. subst (AreLeft c.read_level.new.numbers) (drop-drop 1 number levels)
           (next levels are).1;
-      front = λ levels are. one_more levels number level
+      front = λ levels are. one_more g.row.N levels number level
           (drop_split levels number level (next levels are).0) c.loop-number.kept
           c.loop-number.front (c.loop-number.invariant.front levels are) c.keep_level-kept.result
           c.keep_level-kept.new.front c.keep_level-kept.ensures.kept
@@ -48,7 +48,7 @@ returns-then-is_end-clause-there g c =
 
 pub returns-then-is_end-clause-front : goal.returns-then-is_end-clause-front
 returns-then-is_end-clause-front g c levels are many =
-    all_so_far levels c.loop-number.number c.loop-number.kept c.loop-number.front
+    all_so_far g.row.N levels c.loop-number.number c.loop-number.kept c.loop-number.front
     (omega (arith, many, c.loop-number-test.false, c.loop-number.auto.number-end))
     (c.loop-number.invariant.front levels are)
 

@@ -15,7 +15,7 @@ invariant-loop-number g l = record {
   left : (levels : List CentroidLevel) → AreLeft l.initial.numbers levels
       → AreLeft l.numbers (drop l.number levels);
   front : (levels : List CentroidLevel) → AreLeft l.initial.numbers levels
-      → AreKeptSoFar l.number l.kept l.front levels;
+      → AreKeptSoFar g.row.N l.number l.kept l.front levels;
   last : (levels : List CentroidLevel) → AreLeft l.initial.numbers levels
       → l.last ≡ last_before levels l.number;
 }

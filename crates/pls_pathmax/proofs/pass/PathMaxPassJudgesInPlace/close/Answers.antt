@@ -9,8 +9,8 @@ pub returns : goal.returns
 returns g c label ports said glance above tally =
     c.judged_from.ensures
     ∙ rw (
-      c.is_placed-placed.ensures label ports (ap head_seen glance)
-          (head_kept (label_above ports c.args.state.up) _ _ c.head_above.ensures above),
+      c.is_placed-placed.ensures label ports (ap (head_seen g.row.N) glance)
+          (head_kept g.row.N (label_above ports c.args.state.up) _ _ c.head_above.ensures above),
       ap (λ (tally : PortTally). tally.agrees) tally,
       c.has_ways-ways.ensures c.args.id c.args.state label ports said glance
           (ap (λ (tally : PortTally). tally.led_on) tally),

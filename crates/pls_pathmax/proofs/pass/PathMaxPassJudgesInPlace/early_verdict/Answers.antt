@@ -8,7 +8,7 @@ use Rattle.pls_pathmax.proofs.pass.PathMaxPassJudgesInPlace.early_verdict.Goals 
 pub returns-else-is_placed : goal.returns-else-is_placed
 returns-else-is_placed g c label ports said glance above =
     let placed : is_placed_in_tree (reading c.args.id c.args.state label ports) ≡ false =
-    sym (c.is_placed.ensures label ports (ap head_seen glance)
-    (head_kept (label_above ports c.args.state.up) _ _ c.head_above.ensures above))
+    sym (c.is_placed.ensures label ports (ap (head_seen g.row.N) glance)
+    (head_kept g.row.N (label_above ports c.args.state.up) _ _ c.head_above.ensures above))
     ∙ c.if-is_placed.false in
     rw placed refl
