@@ -166,12 +166,6 @@ played_on judge rows labels lines place line left later old new texts new_texts 
           (was.so_far number);
     }
 
--- where none is left, all were taken
-pub none_left : (lines : List WatchLine) (place : ℕ) → drop place lines ≡ []
-    → length lines ≤ place
-none_left lines place left =
-    omega (arith, length-drop place lines, ap (length {A = WatchLine}) left)
-
 -- what is not refused applies
 pub applies_so : (refused : Bool) → not refused ≡ true → refused ≡ false
 applies_so true is = absurd (cc)

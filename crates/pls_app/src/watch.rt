@@ -102,6 +102,7 @@ fn play<K: Checker>(
     let mut place = 0;
     while let Some(line) = lines.take() {
         let applies = take_line(alloc, lookout, &line, well)?;
+        // What it has is let go in one place, whether it applies or not.
         drop(line);
         if !applies {
             return Ok(Some(place));

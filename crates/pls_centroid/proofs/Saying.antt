@@ -62,17 +62,17 @@ module _ (rounds : List (Vec (Option CentroidLevel) Global)) (place number : ℕ
       (entry_here ∙ sym is)
 
   module _ (so_far : length (said_on entries) ≡ number + length (said_on (drop number entries)))
-      where
-    -- a round that says nothing is the end
-    pub count-end : None ≡ get_or round.items place None → number ≡ length (said_on entries)
-    count-end is = let rest = ap length (next_entry None is) in omega (arith, so_far, rest)
+    where
+      -- a round that says nothing is the end
+      pub count-end : None ≡ get_or round.items place None → number ≡ length (said_on entries)
+      count-end is = let rest = ap length (next_entry None is) in omega (arith, so_far, rest)
 
-    -- one that says a level counts
-    pub count-more : (level : CentroidLevel) → Some level ≡ get_or round.items place None
-        → length (said_on entries)
-        ≡ number + 1 + length (said_on (drop (number + 1) entries))
-    count-more level is =
-        let rest = ap length (next_entry (Some level) is) in omega (arith, so_far, rest)
+      -- one that says a level counts
+      pub count-more : (level : CentroidLevel) → Some level ≡ get_or round.items place None
+          → length (said_on entries)
+          ≡ number + 1 + length (said_on (drop (number + 1) entries))
+      count-more level is =
+          let rest = ap length (next_entry (Some level) is) in omega (arith, so_far, rest)
 
 -- the level of a number is what the round of that number says
 pub level_here : (rounds : List (Vec (Option CentroidLevel) Global)) (place number : ℕ)
@@ -113,6 +113,9 @@ pub lists_said-at : (rounds : List (List (Option CentroidLevel))) (count place :
     → slice_get (lists_said rounds count) place ≡ Some (said_on (entries_at rounds place))
 lists_said-at rounds count place within =
     slice_get-get_or (lists_said rounds count) place []
-    (omega (arith, within,
-    length-map-range_with_len (λ place. said_on (entries_at rounds place)) 0 count))
+    (omega (
+      arith,
+      within,
+      length-map-range_with_len (λ place. said_on (entries_at rounds place)) 0 count,
+    ))
     ∙ ap Some (lists_said-there rounds count place within)

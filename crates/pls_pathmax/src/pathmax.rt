@@ -7,7 +7,7 @@ ghost use Rattle.pls_scheme.specs.Reading.{ReadPort, reading};
 ghost use Rattle.pls_pathmax.specs.Labels.{PathMaxLabel, pathmax_shape};
 ghost use Rattle.pls_pathmax.specs.Rules.{pathmax_rules};
 ghost use Rattle.pls_pathmax.specs.inner.Reading.{head_said};
-ghost use Rattle.pls_pathmax.specs.inner.OnePass.{HaveFurtherWays, IsReadThrough, is_by_rule_5, is_settled, one_pass_rules};
+ghost use Rattle.pls_pathmax.specs.inner.OnePass.{HaveFurtherWays, IsReadThrough, is_by_rule_5, is_settled};
 
 use crate::gathering::WINDOW;
 use crate::glance::{LONG_FRONT, SHORT_FRONT};

@@ -1,4 +1,4 @@
-use Rattle.std.proofs.Common.{◌≡◌, ◌∙◌, ◌≤◌, ◌*◌, ◌^◌, ℕ, All, List, length, get_or, sym, ap, subst}
+use Rattle.std.proofs.Common.{◌∙◌, ◌≤◌, ◌*◌, ◌^◌, All, List, length, get_or, sym, ap, subst}
 use Rattle.pls_graph.specs.Places.{place_in}
 use Rattle.pls_facts.proofs.Trees.{NoneReturns-IsTree}
 use Rattle.pls_search.specs.Depths.{AreDepths}

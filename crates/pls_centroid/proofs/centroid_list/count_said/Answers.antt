@@ -1,4 +1,4 @@
-use Rattle.std.proofs.Common.{◌≡◌, ◌∙◌, List, Option, None, get_or, sym, ap}
+use Rattle.std.proofs.Common.{◌∙◌, List, Option, None, get_or, sym, ap}
 use Rattle.pls_centroid.specs.declared.level.CentroidLevel.{CentroidLevel}
 use Rattle.pls_centroid.proofs.Saying.{count-end, count-more}
 use Rattle.pls_centroid.proofs.centroid_list.count_said.Goals as goal
