@@ -1,45 +1,87 @@
 //! The rule sets that have names, as trees.
 
-ghost use Rattle.std.specs.Prelude.{◌≡◌, IfOk};
-ghost use Rattle.pls_rules.specs.Formula.{Add, Any, Both, Either, Eq, Id, Lt, My, Nb, Num, Number, Same, Sum};
+ghost use Rattle.std.specs.Prelude.{◌≡◌, ◌∷◌, [], IfOk, codes};
+ghost use Rattle.pls_rules.specs.Formula.{Add, All, Any, Both, Either, Eq, Id, Le, Lt, Mark, My, Nb, NbWeight, Num, Number, Pointed, Same, Sum, Up, UpWeight};
 ghost use Rattle.pls_rules.specs.HeldTrees.{formula_of, set_of};
-ghost use Rattle.pls_builtin.specs.Builtin.{acyclic_set, bipartite_set, count_set, forest_set, leader_set, spt_set, tree_set};
+ghost use Rattle.pls_builtin.specs.Builtin.{acyclic_set, bipartite_set, count_fields, count_set, forest_set, leader_set, number, spt_set, tree_set};
 
 use crate::fields::{field, number};
 use crate::parts::{is_deeper, is_nearer, is_shared, is_zero, points_nowhere_or, points_or};
 use crate::trees::{at_most, both, either, equal, every, less, no, plus, same, some, sum};
-use pls_rules::{BoolExpr, FieldKind, NumExpr, RuleSet};
+use pls_rules::{BoolExpr, Field, FieldKind, NumExpr, RuleSet};
 use pls_streams::NoMemory;
 use std::alloc::Global;
 
 pub(crate) fn leader(alloc: Global) -> Result<RuleSet, NoMemory>
     ensures { IfOk result (λ set. set_of set ≡ leader_set) }
 {
-    let fields = vec![in alloc; number(alloc, "root")?, number(alloc, "depth")?]?;
-    let is_root = equal(alloc, NumExpr::Id, NumExpr::My(0))?;
-    let nearer = some(alloc, is_nearer(alloc, 1)?)?;
-    let marked = equal(alloc, NumExpr::Mark, NumExpr::Number(1))?;
-    let rules = vec![in alloc;
-        every(alloc, is_shared(alloc, 0)?)?,
-        same(alloc, is_zero(alloc, 1)?, is_root)?,
-        either(alloc, is_zero(alloc, 1)?, nearer)?,
-        same(alloc, marked, is_zero(alloc, 1)?)?,
-    ]?;
+    let mut rules = Vec::with_capacity(alloc, 4)?;
+    rules.push(shares_root(alloc)?)?;
+    rules.push(is_root_at_0(alloc)?)?;
+    rules.push(is_nearer_or_at_0(alloc)?)?;
+    rules.push(is_marked_at_0(alloc)?)?;
+    let fields = root_and_depth(alloc)?;
     Ok(RuleSet { fields, rules })
+}
+
+fn root_and_depth(alloc: Global) -> Result<Vec<Field>, NoMemory>
+    ensures { IfOk result (λ fields.
+        fields.items ≡ number (codes "root") ∷ number (codes "depth") ∷ []) }
+{
+    Ok(vec![in alloc; number(alloc, "root")?, number(alloc, "depth")?]?)
+}
+
+fn shares_root(alloc: Global) -> Result<BoolExpr, NoMemory>
+    ensures { IfOk result (λ made. formula_of made ≡ All (Eq (Nb 0) (My 0))) }
+{
+    every(alloc, is_shared(alloc, 0)?)
+}
+
+fn is_root(alloc: Global) -> Result<BoolExpr, NoMemory>
+    ensures { IfOk result (λ made. formula_of made ≡ Eq Id (My 0)) }
+{
+    equal(alloc, NumExpr::Id, NumExpr::My(0))
+}
+
+fn is_root_at_0(alloc: Global) -> Result<BoolExpr, NoMemory>
+    ensures { IfOk result (λ made. formula_of made ≡ Same (Eq (My 1) (Number 0)) (Eq Id (My 0))) }
+{
+    same(alloc, is_zero(alloc, 1)?, is_root(alloc)?)
+}
+
+fn is_nearer_or_at_0(alloc: Global) -> Result<BoolExpr, NoMemory>
+    ensures { IfOk result (λ made. formula_of made
+        ≡ Either (Eq (My 1) (Number 0)) (Any (Eq (Add (Nb 1) (Number 1)) (My 1)))) }
+{
+    let nearer = some(alloc, is_nearer(alloc, 1)?)?;
+    either(alloc, is_zero(alloc, 1)?, nearer)
+}
+
+fn is_marked_at_0(alloc: Global) -> Result<BoolExpr, NoMemory>
+    ensures { IfOk result (λ made. formula_of made
+        ≡ Same (Eq Mark (Number 1)) (Eq (My 1) (Number 0))) }
+{
+    let marked = equal(alloc, NumExpr::Mark, NumExpr::Number(1))?;
+    same(alloc, marked, is_zero(alloc, 1)?)
 }
 
 pub(crate) fn tree(alloc: Global) -> Result<RuleSet, NoMemory>
     ensures { IfOk result (λ set. set_of set ≡ tree_set) }
 {
-    let fields = vec![in alloc; number(alloc, "root")?, number(alloc, "depth")?]?;
-    let is_root = equal(alloc, NumExpr::Id, NumExpr::My(0))?;
-    let is_top = both(alloc, is_zero(alloc, 1)?, is_root)?;
-    let rules = vec![in alloc;
-        every(alloc, is_shared(alloc, 0)?)?,
-        points_or(alloc, is_top)?,
-        points_nowhere_or(alloc, is_deeper(alloc, 1)?)?,
-    ]?;
+    let mut rules = Vec::with_capacity(alloc, 3)?;
+    rules.push(shares_root(alloc)?)?;
+    rules.push(points_or_is_top(alloc)?)?;
+    rules.push(points_nowhere_or(alloc, is_deeper(alloc, 1)?)?)?;
+    let fields = root_and_depth(alloc)?;
     Ok(RuleSet { fields, rules })
+}
+
+fn points_or_is_top(alloc: Global) -> Result<BoolExpr, NoMemory>
+    ensures { IfOk result (λ made. formula_of made
+        ≡ Either (Eq Pointed (Number 1)) (Both (Eq (My 1) (Number 0)) (Eq Id (My 0)))) }
+{
+    let is_top = both(alloc, is_zero(alloc, 1)?, is_root(alloc)?)?;
+    points_or(alloc, is_top)
 }
 
 pub(crate) fn forest(alloc: Global) -> Result<RuleSet, NoMemory>
@@ -56,23 +98,50 @@ pub(crate) fn forest(alloc: Global) -> Result<RuleSet, NoMemory>
 pub(crate) fn spt(alloc: Global) -> Result<RuleSet, NoMemory>
     ensures { IfOk result (λ set. set_of set ≡ spt_set) }
 {
-    let fields = vec![in alloc;
+    let mut rules = Vec::with_capacity(alloc, 4)?;
+    rules.push(shares_root(alloc)?)?;
+    rules.push(points_or_is_start(alloc)?)?;
+    rules.push(points_nowhere_or_is_farther(alloc)?)?;
+    rules.push(has_no_shorter_way(alloc)?)?;
+    let fields = root_depth_and_distance(alloc)?;
+    Ok(RuleSet { fields, rules })
+}
+
+fn root_depth_and_distance(alloc: Global) -> Result<Vec<Field>, NoMemory>
+    ensures { IfOk result (λ fields. fields.items
+        ≡ number (codes "root") ∷ number (codes "depth") ∷ number (codes "dist") ∷ []) }
+{
+    Ok(vec![in alloc;
         number(alloc, "root")?,
         number(alloc, "depth")?,
         number(alloc, "dist")?,
-    ]?;
-    let is_root = equal(alloc, NumExpr::Id, NumExpr::My(0))?;
-    let is_start = both(alloc, is_zero(alloc, 1)?, is_zero(alloc, 2)?)?;
+    ]?)
+}
+
+fn points_or_is_start(alloc: Global) -> Result<BoolExpr, NoMemory>
+    ensures { IfOk result (λ made. formula_of made ≡ Either (Eq Pointed (Number 1))
+        (Both (Both (Eq (My 1) (Number 0)) (Eq (My 2) (Number 0))) (Eq Id (My 0)))) }
+{
+    let at_0 = both(alloc, is_zero(alloc, 1)?, is_zero(alloc, 2)?)?;
+    let is_start = both(alloc, at_0, is_root(alloc)?)?;
+    points_or(alloc, is_start)
+}
+
+fn points_nowhere_or_is_farther(alloc: Global) -> Result<BoolExpr, NoMemory>
+    ensures { IfOk result (λ made. formula_of made ≡ Either (Eq Pointed (Number 0))
+        (Both (Eq (My 1) (Add (Up 1) (Number 1))) (Eq (My 2) (Add (Up 2) UpWeight)))) }
+{
     let by_target = plus(alloc, NumExpr::Up(2), NumExpr::UpWeight)?;
     let is_farther = equal(alloc, NumExpr::My(2), by_target)?;
+    let is_below = both(alloc, is_deeper(alloc, 1)?, is_farther)?;
+    points_nowhere_or(alloc, is_below)
+}
+
+fn has_no_shorter_way(alloc: Global) -> Result<BoolExpr, NoMemory>
+    ensures { IfOk result (λ made. formula_of made ≡ All (Le (My 2) (Add (Nb 2) NbWeight))) }
+{
     let by_port = plus(alloc, NumExpr::Nb(2), NumExpr::NbWeight)?;
-    let rules = vec![in alloc;
-        every(alloc, is_shared(alloc, 0)?)?,
-        points_or(alloc, both(alloc, is_start, is_root)?)?,
-        points_nowhere_or(alloc, both(alloc, is_deeper(alloc, 1)?, is_farther)?)?,
-        every(alloc, at_most(alloc, NumExpr::My(2), by_port)?)?,
-    ]?;
-    Ok(RuleSet { fields, rules })
+    every(alloc, at_most(alloc, NumExpr::My(2), by_port)?)
 }
 
 pub(crate) fn bipartite(alloc: Global) -> Result<RuleSet, NoMemory>
@@ -87,37 +156,61 @@ pub(crate) fn acyclic(alloc: Global) -> Result<RuleSet, NoMemory>
     ensures { IfOk result (λ set. set_of set ≡ acyclic_set) }
 {
     let fields = vec![in alloc; number(alloc, "depth")?]?;
+    let rules = vec![in alloc; is_deeper_or_nearer(alloc)?, is_nearer_at_most_once(alloc)?]?;
+    Ok(RuleSet { fields, rules })
+}
+
+fn is_deeper_or_nearer(alloc: Global) -> Result<BoolExpr, NoMemory>
+    ensures { IfOk result (λ made. formula_of made
+        ≡ All (Either (Eq (Nb 0) (Add (My 0) (Number 1)))
+        (Eq (Add (Nb 0) (Number 1)) (My 0)))) }
+{
     let next = plus(alloc, NumExpr::My(0), NumExpr::Number(1))?;
     let deeper = equal(alloc, NumExpr::Nb(0), next)?;
+    every(alloc, either(alloc, deeper, is_nearer(alloc, 0)?)?)
+}
+
+fn is_nearer_at_most_once(alloc: Global) -> Result<BoolExpr, NoMemory>
+    ensures { IfOk result (λ made. formula_of made
+        ≡ Le (Sum (Eq (Add (Nb 0) (Number 1)) (My 0)) (Number 1)) (Number 1)) }
+{
     let nearer = sum(alloc, is_nearer(alloc, 0)?, NumExpr::Number(1))?;
-    let rules = vec![in alloc;
-        every(alloc, either(alloc, deeper, is_nearer(alloc, 0)?)?)?,
-        at_most(alloc, nearer, NumExpr::Number(1))?,
-    ]?;
-    Ok(RuleSet { fields, rules })
+    at_most(alloc, nearer, NumExpr::Number(1))
 }
 
 pub(crate) fn count(alloc: Global) -> Result<RuleSet, NoMemory>
     ensures { IfOk result (λ set. set_of set ≡ count_set) }
 {
-    let fields = vec![in alloc;
-        number(alloc, "root")?,
-        number(alloc, "own")?,
-        number(alloc, "parent")?,
-        number(alloc, "depth")?,
-        number(alloc, "size")?,
-        number(alloc, "total")?,
-    ]?;
-    let are_shared = both(alloc, is_shared(alloc, 0)?, is_shared(alloc, 5)?)?;
-    let rules = vec![in alloc;
-        every(alloc, are_shared)?,
-        names_itself_and_total(alloc)?,
-        root_is_at_0(alloc)?,
-        is_below_or_whole(alloc)?,
-        falls_to_parent(alloc)?,
-        is_summed(alloc)?,
-    ]?;
+    let mut rules = Vec::with_capacity(alloc, 6)?;
+    rules.push(shares_root_and_total(alloc)?)?;
+    rules.push(names_itself_and_total(alloc)?)?;
+    rules.push(root_is_at_0(alloc)?)?;
+    rules.push(is_below_or_whole(alloc)?)?;
+    rules.push(falls_to_parent(alloc)?)?;
+    rules.push(is_summed(alloc)?)?;
+    let fields = fields_of_count(alloc)?;
     Ok(RuleSet { fields, rules })
+}
+
+fn fields_of_count(alloc: Global) -> Result<Vec<Field>, NoMemory>
+    ensures { IfOk result (λ fields. fields.items ≡ count_fields) }
+{
+    let mut fields = Vec::with_capacity(alloc, 6)?;
+    fields.push(number(alloc, "root")?)?;
+    fields.push(number(alloc, "own")?)?;
+    fields.push(number(alloc, "parent")?)?;
+    fields.push(number(alloc, "depth")?)?;
+    fields.push(number(alloc, "size")?)?;
+    fields.push(number(alloc, "total")?)?;
+    Ok(fields)
+}
+
+fn shares_root_and_total(alloc: Global) -> Result<BoolExpr, NoMemory>
+    ensures { IfOk result (λ made. formula_of made
+        ≡ All (Both (Eq (Nb 0) (My 0)) (Eq (Nb 5) (My 5)))) }
+{
+    let are_shared = both(alloc, is_shared(alloc, 0)?, is_shared(alloc, 5)?)?;
+    every(alloc, are_shared)
 }
 
 fn names_itself_and_total(alloc: Global) -> Result<BoolExpr, NoMemory>
