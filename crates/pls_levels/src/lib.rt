@@ -8,8 +8,8 @@
 //! in the tree ([`is_placed`]) and tells which edges at its ports are in it ([`is_in_tree`]).
 //! Definitions stand in `specs/Labels` (`level_shape`), `specs/Rules` (`is_placed_in_tree`,
 //! `is_in_tree`), `specs/Making` (`IsRightHead`) and `specs/inner/ShortForm` (`kept_front`: the
-//! first levels, as a scheme keeps them at a glance); what a scheme proves with them in
-//! `specs/laws` (`level_numbers`, `IsPlaced`, `told_in`, `passes_from_0`).
+//! first levels, as a scheme keeps them at a glance, where [`is_short`] says so); what a scheme
+//! proves with them in `specs/laws` (`level_numbers`, `IsPlaced`, `told_in`, `passes_from_0`).
 #![tactic(auto)]
 
 mod format;
@@ -18,6 +18,7 @@ mod level_kind;
 mod making;
 mod placing;
 mod reading;
+mod short;
 
 pub use format::LevelFormat;
 pub use label::{LevelHead, LevelLabel};
@@ -27,3 +28,4 @@ pub use placing::{follows_above, is_in_tree, is_placed, is_pointer, is_root};
 pub use reading::{
     are_levels, head_in, levels_behind, levels_of, pass_levels, read_head, read_levels,
 };
+pub use short::is_short;

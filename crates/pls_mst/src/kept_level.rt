@@ -1,10 +1,10 @@
 //! Levels in as few bytes as the numbers of a right label need.
 
 ghost use Rattle.std.specs.Prelude.{◌≡◌, true, false, IfSome, IfNone};
-ghost use Rattle.pls_levels.specs.inner.ShortForm.{is_short};
 ghost use Rattle.pls_mst.specs.inner.KeptLevel.{fits, kept_of, whole};
 
 use pls_boruvka::Level;
+use pls_levels::is_short;
 
 /// A level whose numbers are all below 2^32, in half of its bytes.
 #[derive(Clone, Copy, Debug, PartialEq, Eq)]
@@ -48,12 +48,4 @@ impl KeptLevel {
             b: u64::from(self.b),
         }
     }
-}
-
-// Whether a number is below 2^32.
-#[inline(always)]
-fn is_short(number: u64) -> bool
-    ensures { result ≡ is_short number }
-{
-    number < 1 << 32
 }

@@ -23,7 +23,7 @@ use pls_numbers::Numbers;
 pub const LONG_FRONT: usize = 16;
 
 /// How many levels are kept where labels are short, so that glances at many labels take less
-/// memory: a tree without long paths has no more.
+/// memory. Further levels are read where they lie, so no verdict rests on it.
 pub const SHORT_FRONT: usize = 4;
 
 /// What is kept of a label at a glance, with `N` levels at most: all that a port asks for where the

@@ -1,10 +1,10 @@
 //! Levels in as few bytes as the numbers of a right label need.
 
 ghost use Rattle.std.specs.Prelude.{◌≡◌, true, false, IfSome, IfNone};
-ghost use Rattle.pls_levels.specs.inner.ShortForm.{is_short};
 ghost use Rattle.pls_pathmax.specs.inner.KeptLevel.{fits, kept_of, whole};
 
 use pls_centroid::CentroidLevel;
+use pls_levels::is_short;
 
 /// A level whose numbers are all below 2^32, in half of its bytes.
 #[derive(Clone, Copy, Debug, PartialEq, Eq)]
@@ -43,12 +43,4 @@ impl KeptLevel {
             greatest: u64::from(self.greatest),
         }
     }
-}
-
-// Whether a number is below 2^32.
-#[inline(always)]
-fn is_short(number: u64) -> bool
-    ensures { result ≡ is_short number }
-{
-    number < 1 << 32
 }

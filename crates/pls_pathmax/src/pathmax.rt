@@ -97,8 +97,8 @@ fn have_further_ways<C: NumCode>(view: &View<'_>, count: u64) -> bool
     true
 }
 
-// Whether the label of the node in the middle has no more levels than a short front takes: then
-// most labels have none. What is told changes no verdict.
+// Whether the label of the node in the middle has no more levels than a short front takes. That
+// others have no more either is a guess, and changes no verdict.
 pub(crate) fn are_short<C: NumCode, L: Labels>(net: &Network, labels: &L) -> bool
     requires { length (L.listed labels.now) ≡ length net.now }
 {
