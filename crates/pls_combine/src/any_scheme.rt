@@ -114,13 +114,8 @@ impl<C: NumCode> Checker for AnyScheme<C> {
         view: &View<'_>,
         steps: &mut Steps,
     ) -> Result<Verdict, NoMemory> {
-        match self.tree() {
-            ExpressionTree::Of(name) => SchemeByName::<C>::new(*name).verify(alloc, view, steps),
-            tree => {
-                steps.tick();
-                verify_tree::<C>(alloc, tree, view)
-            }
-        }
+        steps.tick();
+        verify_tree::<C>(alloc, self.tree(), view)
     }
 
     fn round<L: Labels>(
