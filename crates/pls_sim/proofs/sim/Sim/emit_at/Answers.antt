@@ -57,6 +57,14 @@ back-requires c =
     c.if-port-ports.false c.first.ensures in
     omega (arith, one.within, c.self.invariant.0.long)
 
+pub emit-requires : goal.emit-requires
+emit-requires c =
+    let ways = c.self.inside.ways in
+    let one = numbered c.self.inside.net.now ways c.self.invariant.0
+    c.args.place c.args.port c.first.result c.ports.result.now c.ports.ensures
+    c.if-port-ports.false c.first.ensures in
+    omega (arith, one.small)
+
 pub push_reserved-requires : goal.push_reserved-requires
 push_reserved-requires c =
     let old = c.self.inside in
@@ -110,7 +118,7 @@ invariant_of-self c =
       ap (λ (played : Played). length played.events) c.self.view_is,
     ) in (
       c.self.invariant.0,
-      rw (put.items, noted.items)
+      rw (put.items, noted.items, c.emit.ensures)
           (kept_emit rows net old.events.items old.sent.items old.restarted.items
           old.arrived.items c.self.invariant.1 node c.args.port one.at.nbr _ goes arrives stands),
       rw (put.capacity, noted.items, noted.capacity)
