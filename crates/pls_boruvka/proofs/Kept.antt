@@ -1,5 +1,5 @@
 -- The levels of a node among those of all nodes.
-use Rattle.std.proofs.Common.{◌≡◌, ◌∙◌, ℕ, ◌<◌, List, Vec, Global, Some, map, length, get_or, slice_get, option_map, refl, ap, arith}
+use Rattle.std.proofs.Common.{◌≡◌, ◌∙◌, ℕ, ◌<◌, List, Some, length, get_or, slice_get, option_map, refl, ap, arith}
 use Rattle.std.proofs.lemmas.List.{length-map}
 use Rattle.std.proofs.lemmas.Option.{slice_get_read, slice_get-map}
 use Rattle.pls_boruvka.specs.declared.joining.ChosenEnd.{ChosenEnd}
@@ -7,21 +7,15 @@ use Rattle.pls_boruvka.specs.declared.level.Level.{Level}
 use Rattle.pls_boruvka.specs.inner.Chosen.{no_chosen, said_at}
 
 -- the level of a number is what the round of that number says
-pub said_at-round : (rounds : List (Vec ChosenEnd Global)) (place number : ℕ) (all : Vec ChosenEnd Global)
-    → number < length (said_at (map (λ all. all.items) rounds) place)
-    → all ≡ get_or rounds number all
-    → slice_get (said_at (map (λ all. all.items) rounds) place) number
-    ≡ Some (get_or all.items place no_chosen).level
+pub said_at-round : (rounds : List (List ChosenEnd)) (place number : ℕ) (all : List ChosenEnd)
+    → number < length (said_at rounds place) → all ≡ get_or rounds number all
+    → slice_get (said_at rounds place) number ≡ Some (get_or all place no_chosen).level
 said_at-round rounds place number all within is =
-    slice_get-map say (map items rounds) number ∙ ap (option_map say)
-    (slice_get-map items rounds number ∙ ap (option_map items)
-    (slice_get_read rounds (length rounds) number all refl here is))
+    slice_get-map say rounds number ∙ ap (option_map say)
+    (slice_get_read rounds (length rounds) number all refl here is)
   where
-    items : Vec ChosenEnd Global → List ChosenEnd
-    items all = all.items
-
     say : List ChosenEnd → Level
     say all = (get_or all place no_chosen).level
 
     here : number < length rounds
-    here = omega (arith, within, length-map (map items rounds) say, length-map rounds items)
+    here = omega (arith, within, length-map rounds say)

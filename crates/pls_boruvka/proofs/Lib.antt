@@ -1,4 +1,6 @@
 pub mod Listed
+pub mod Numbers
+pub mod SaidOnce
 pub mod Climbing
 pub mod ChainLengths
 pub mod Placing

@@ -2,4 +2,5 @@
 pub mod Tops
 pub mod Choices
 pub mod Chosen
+pub mod Round
 pub mod Kept

@@ -9,8 +9,8 @@ ghost use Rattle.pls_boruvka.specs.Boruvka.{AreLevelLists};
 ghost use Rattle.pls_boruvka.specs.inner.Chosen.{AreOne, SomeApart};
 
 use crate::choosing::{choices_of, no_choices};
-use crate::joining::{chosen_of, join};
 use crate::level_lists::LevelLists;
+use crate::round::Round;
 use crate::tops::{none_noted, parents_of, tops_with};
 use pls_graph::Network;
 use pls_streams::NoMemory;
@@ -48,11 +48,11 @@ pub fn boruvka_levels(alloc: Global, net: &Network) -> Result<Option<LevelLists>
             return Ok(Some(lists));
         }
         choices_of(net, parents, tops, choices);
-        let Some(all) = chosen_of(alloc, net, tops, choices)? else {
+        let Some(round) = Round::of(alloc, net, tops, choices, noted)? else {
             return Ok(None);
         };
-        join(joined, all.as_slice());
-        rounds.push(all)?;
+        round.join(joined);
+        rounds.push(round)?;
     }
 }
 

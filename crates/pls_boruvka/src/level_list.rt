@@ -1,10 +1,10 @@
 //! The list of the levels of a node.
 
-ghost use Rattle.std.specs.Prelude.{◌≡◌, ◌<◌, length, map, slice_get, slice_index_or, Some};
-ghost use Rattle.pls_boruvka.specs.inner.Chosen.{no_chosen, said_at};
+ghost use Rattle.std.specs.Prelude.{◌≡◌, ◌<◌, length, slice_get, Some};
+ghost use Rattle.pls_boruvka.specs.inner.Chosen.{said_at};
 
-use crate::joining::ChosenEnd;
 use crate::level::Level;
+use crate::round::Round;
 use std::marker::Model;
 use std::rc::Rc;
 
@@ -19,7 +19,7 @@ pub struct LevelList {
 #[derive(Drop)]
 pub(crate) enum KeptLevels {
     Own(Vec<Level>),
-    Shared(Rc<Vec<Vec<ChosenEnd>>>, usize),
+    Shared(Rc<Vec<Round>>, usize),
 }
 
 impl Model for LevelList {
@@ -42,8 +42,8 @@ impl LevelList {
         }
     }
 
-    pub(crate) fn of_rounds(rounds: Rc<Vec<Vec<ChosenEnd>>>, place: usize) -> LevelList
-        ensures { result ≡ said_at (map (λ all. all.items) rounds.value.items) place }
+    pub(crate) fn of_rounds(rounds: Rc<Vec<Round>>, place: usize) -> LevelList
+        ensures { result ≡ said_at rounds.value.items place }
     {
         LevelList {
             kept: KeptLevels::Shared(rounds, place),
@@ -67,22 +67,7 @@ impl LevelList {
     {
         match &self.kept {
             KeptLevels::Own(levels) => levels[number],
-            KeptLevels::Shared(rounds, place) => said_of(&rounds[number], *place),
+            KeptLevels::Shared(rounds, place) => rounds[number].level_at(*place),
         }
-    }
-}
-
-// All zeros where the round says nothing of the place.
-fn said_of(all: &[ChosenEnd], place: usize) -> Level
-    ensures { result ≡ (slice_index_or all.now place no_chosen).level }
-{
-    match all.get(place) {
-        Some(chosen) => chosen.level.whole(),
-        None => Level {
-            fragment: 0,
-            weight: 0,
-            a: 0,
-            b: 0,
-        },
     }
 }

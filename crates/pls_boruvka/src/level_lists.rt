@@ -1,10 +1,10 @@
 //! The levels of all nodes.
 
-ghost use Rattle.std.specs.Prelude.{◌≡◌, ◌<◌, length, map, slice_get, IfOk, Some};
+ghost use Rattle.std.specs.Prelude.{◌≡◌, ◌<◌, length, slice_get, IfOk, Some};
 ghost use Rattle.pls_boruvka.specs.inner.Chosen.{levels_said};
 
-use crate::joining::ChosenEnd;
 use crate::level_list::LevelList;
+use crate::round::Round;
 use pls_streams::NoMemory;
 use std::alloc::Global;
 use std::marker::Model;
@@ -14,30 +14,29 @@ use std::rc::Rc;
 #[derive(Drop)]
 pub struct LevelLists {
     // What each round said of every node.
-    rounds: Rc<Vec<Vec<ChosenEnd>>>,
+    rounds: Rc<Vec<Round>>,
     // How many nodes there are.
     count: usize,
 }
 
 impl Model for LevelLists {
-    ghost use Rattle.std.specs.Prelude.{List, map};
+    ghost use Rattle.std.specs.Prelude.{List};
     ghost use Rattle.pls_boruvka.specs.declared.level.Level.{Level};
     ghost use Rattle.pls_boruvka.specs.inner.Chosen.{levels_said};
 
     ghost Value = { List (List Level) };
 
-    ghost view = { λ lists. levels_said (map (λ all. all.items) lists.rounds.value.items) lists.count };
+    ghost view = { λ lists. levels_said lists.rounds.value.items lists.count };
 }
 
 impl LevelLists {
     // `count` is the number of nodes.
     pub(crate) fn of_rounds(
         alloc: Global,
-        rounds: Vec<Vec<ChosenEnd>>,
+        rounds: Vec<Round>,
         count: usize,
     ) -> Result<LevelLists, NoMemory>
-        ensures { IfOk result (λ lists.
-            lists ≡ levels_said (map (λ all. all.items) rounds.items) count) }
+        ensures { IfOk result (λ lists. lists ≡ levels_said rounds.items count) }
     {
         match Rc::new(alloc, rounds) {
             Ok(rounds) => Ok(LevelLists { rounds, count }),

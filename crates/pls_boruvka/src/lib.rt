@@ -16,6 +16,7 @@ mod level;
 mod level_laws;
 mod level_list;
 mod level_lists;
+mod round;
 mod short_level;
 mod tops;
 

@@ -1,5 +1,4 @@
-use Rattle.std.proofs.Common.{◌≡◌, ◌∙◌, ◌++◌, ◌∷◌, ◌≤◌, ◌^◌, ℕ, Bool, false, List, [], Vec, Global, Option, IfSome, IfNone, All, length, map, replicate, refl, sym, ap, subst}
-use Rattle.std.proofs.lemmas.List.{map-append}
+use Rattle.std.proofs.Common.{◌≡◌, ◌∙◌, ◌∷◌, ◌≤◌, ◌^◌, ℕ, Bool, false, List, [], Option, IfSome, IfNone, All, length, replicate, refl, sym, ap, subst}
 use Rattle.std.proofs.lemmas.List.Elements.{All-append, All-cons, All-nil}
 use Rattle.pls_configuration.specs.declared.row.NodeRow.{NodeRow}
 use Rattle.pls_boruvka.specs.declared.joining.ChosenEnd.{ChosenEnd}
@@ -14,8 +13,8 @@ use Rattle.pls_boruvka.proofs.Rounds.{AddLevel, said_by-more, said_by-none}
 use Rattle.pls_boruvka.proofs.boruvka.boruvka_levels.Goals as goal
 
 -- what the rounds so far say
-abbrev lists_by : List NodeRow → List (Vec ChosenEnd Global) → List (List Level)
-lists_by rows rounds = levels_said (map (λ all. all.items) rounds) (length rows)
+abbrev lists_by : List NodeRow → List (List ChosenEnd) → List (List Level)
+lists_by rows rounds = levels_said rounds (length rows)
 
 pub loop-choices-init : goal.loop-choices-init
 loop-choices-init c =
@@ -26,8 +25,8 @@ loop-choices-init c =
     let lists : lists_by rows c.new-rounds.result.items ≡ replicate (length rows) [] =
     ap (lists_by rows) c.new-rounds.ensures.items ∙ said_by-none (length rows) in
     record {
-      each = subst (All (λ all. length all.items ≡ length rows)) (sym c.new-rounds.ensures.items)
-          (All-nil (λ all. length all.items ≡ length rows));
+      each = subst (All (λ all. length all ≡ length rows)) (sym c.new-rounds.ensures.items)
+          (All-nil (λ all. length all ≡ length rows));
       begun = subst (λ (flags : List Bool). IsBegun rows flags
           (lists_by rows c.new-rounds.result.items)) (sym falses)
           (subst (IsBegun rows (replicate (length rows) false)) (sym lists)
@@ -55,7 +54,7 @@ returns-then-are_one-clause-levels c =
     let tops = c.as_slice-tops.result.now in
     subst (AreLevelLists rows)
     (sym (c.in_ok-lists.ensures
-    ∙ ap (λ (count : ℕ). levels_said (map (λ (all : Vec ChosenEnd Global). all.items) c.loop-choices.rounds.items) count) c.len-then-are_one.ensures.len))
+    ∙ ap (λ (count : ℕ). levels_said c.loop-choices.rounds.items count) c.len-then-are_one.ensures.len))
     (AreLevelLists-begun rows c.len.ensures.valid parents flags tops
     (subst (AreParents rows) (sym c.as_slice-parents.ensures.value) c.in_ok-parents.ensures)
     (subst (AreTops parents flags) (sym c.as_slice-tops.ensures.value) c.in_ok-tops.ensures.tops)
@@ -70,7 +69,7 @@ returns-then-are_one-clause-few c =
     let tops = c.as_slice-tops.result.now in
     subst (λ (lists : List (List Level)). All (λ list. 2 ^ length list ≤ length rows) lists)
     (sym (c.in_ok-lists.ensures
-    ∙ ap (λ (count : ℕ). levels_said (map (λ (all : Vec ChosenEnd Global). all.items) c.loop-choices.rounds.items) count) c.len-then-are_one.ensures.len))
+    ∙ ap (λ (count : ℕ). levels_said c.loop-choices.rounds.items count) c.len-then-are_one.ensures.len))
     (few_begun rows c.len.ensures.valid parents flags tops
     (subst (AreParents rows) (sym c.as_slice-parents.ensures.value) c.in_ok-parents.ensures)
     (subst (AreTops parents flags) (sym c.as_slice-tops.ensures.value) c.in_ok-tops.ensures.tops)
@@ -98,8 +97,8 @@ choices_of-requires-clause-within c =
     (subst (AreParents rows) (sym c.as_slice-parents.ensures.value) c.in_ok-parents.ensures)
     (subst (AreTops parents flags) (sym c.as_slice-tops.ensures.value) c.in_ok-tops.ensures.tops)
 
-pub chosen_of-requires-clause-within : goal.chosen_of-requires-clause-within
-chosen_of-requires-clause-within c =
+pub of-requires-clause-within : goal.of-requires-clause-within
+of-requires-clause-within c =
     let rows = c.args.net.now in
     let parents = c.as_slice-parents.result.now in
     let flags = c.loop-choices.joined in
@@ -119,8 +118,8 @@ returns-in_default-clause-lighter c =
     (subst (AreTops parents flags) (sym c.as_slice-tops.ensures.value) c.in_ok-tops.ensures.tops)
     (c.if-are_one.ensures.apart refl) choices
     c.choices_of.ensures (lists_by rows c.loop-choices.rounds.items) c.loop-choices.invariant.begun
-    (subst (λ (found : Option (Vec ChosenEnd Global)). IfNone found (SomeUnpointed tops choices))
-    c.in_default.is c.in_ok-all.ensures.unpointed)
+    (subst (λ (found : Option (List ChosenEnd)). IfNone found (SomeUnpointed tops choices))
+    c.in_default.is c.in_ok-round.ensures.unpointed)
 
 pub join-requires : goal.join-requires
 join-requires c =
@@ -129,11 +128,10 @@ join-requires c =
     let flags = c.loop-choices.joined in
     let tops = c.as_slice-tops.result.now in
     let choices = c.choices_of.new.choices in
-    let all = c.as_slice.result.now in
-    let chosen : AreChosen rows tops choices all = subst (AreChosen rows tops choices)
-    (sym c.as_slice.ensures.value)
-    (subst (λ (found : Option (Vec ChosenEnd Global)). IfSome found
-    (λ all. AreChosen rows tops choices all.items)) c.in-Some.is c.in_ok-all.ensures.chosen) in
+    let all = c.in-Some.round in
+    let chosen : AreChosen rows tops choices all =
+    subst (λ (found : Option (List ChosenEnd)). IfSome found (AreChosen rows tops choices))
+    c.in-Some.is c.in_ok-round.ensures.chosen in
     record {
       within = children_begun rows c.len.ensures.valid c.requires.tree parents flags tops
           (subst (AreParents rows) (sym c.as_slice-parents.ensures.value) c.in_ok-parents.ensures)
@@ -149,11 +147,10 @@ loop-choices-smaller c =
     let flags = c.loop-choices.joined in
     let tops = c.as_slice-tops.result.now in
     let choices = c.choices_of.new.choices in
-    let all = c.as_slice.result.now in
-    let chosen : AreChosen rows tops choices all = subst (AreChosen rows tops choices)
-    (sym c.as_slice.ensures.value)
-    (subst (λ (found : Option (Vec ChosenEnd Global)). IfSome found
-    (λ all. AreChosen rows tops choices all.items)) c.in-Some.is c.in_ok-all.ensures.chosen) in
+    let all = c.in-Some.round in
+    let chosen : AreChosen rows tops choices all =
+    subst (λ (found : Option (List ChosenEnd)). IfSome found (AreChosen rows tops choices))
+    c.in-Some.is c.in_ok-round.ensures.chosen in
     fewer_unjoined rows c.len.ensures.valid c.requires.tree parents flags tops
     (subst (AreParents rows) (sym c.as_slice-parents.ensures.value) c.in_ok-parents.ensures)
     (subst (AreTops parents flags) (sym c.as_slice-tops.ensures.value) c.in_ok-tops.ensures.tops)
@@ -169,35 +166,27 @@ loop-choices-preserved c =
     let flags = c.loop-choices.joined in
     let tops = c.as_slice-tops.result.now in
     let choices = c.choices_of.new.choices in
-    let all = c.as_slice.result.now in
-    let chosen : AreChosen rows tops choices all = subst (AreChosen rows tops choices)
-    (sym c.as_slice.ensures.value)
-    (subst (λ (found : Option (Vec ChosenEnd Global)). IfSome found
-    (λ all. AreChosen rows tops choices all.items)) c.in-Some.is c.in_ok-all.ensures.chosen) in
+    let all = c.in-Some.round in
+    let chosen : AreChosen rows tops choices all =
+    subst (λ (found : Option (List ChosenEnd)). IfSome found (AreChosen rows tops choices))
+    c.in-Some.is c.in_ok-round.ensures.chosen in
     let rounds = c.loop-choices.rounds.items in
-    let vec_items : Vec ChosenEnd Global → List ChosenEnd = λ all. all.items in
     let each = c.loop-choices.invariant.each in
-    let many : length c.in-Some.all.items ≡ length rows =
-    sym (ap length c.as_slice.ensures.value) ∙ chosen.each in
-    let is : all ≡ c.in-Some.all.items = c.as_slice.ensures.value in
     let added : AddLevel all (lists_by rows rounds) (lists_by rows c.push.new.self.items) =
     subst (λ (new : List (List ChosenEnd)). AddLevel all (lists_by rows rounds)
-    (levels_said new (length rows)))
-    (sym (ap (map vec_items) c.in_ok-push.ensures.items
-    ∙ map-append vec_items rounds (c.in-Some.all ∷ [])
-    ∙ ap (λ (last : List ChosenEnd). map vec_items rounds ++ last ∷ []) (sym is)))
-    (said_by-more (map vec_items rounds) all (length rows) chosen.each) in
+    (levels_said new (length rows))) (sym c.in_ok-push.ensures.items)
+    (said_by-more rounds all (length rows) chosen.each) in
     record {
-      each = subst (All (λ all. length all.items ≡ length rows)) (sym c.in_ok-push.ensures.items)
-          (All-append (λ all. length all.items ≡ length rows) rounds (c.in-Some.all ∷ []) each
-          (All-cons (λ all. length all.items ≡ length rows) c.in-Some.all [] many
-          (All-nil (λ all. length all.items ≡ length rows))));
+      each = subst (All (λ all. length all ≡ length rows)) (sym c.in_ok-push.ensures.items)
+          (All-append (λ all. length all ≡ length rows) rounds (all ∷ []) each
+          (All-cons (λ all. length all ≡ length rows) all [] chosen.each
+          (All-nil (λ all. length all ≡ length rows))));
       begun = IsBegun-more rows c.len.ensures.valid c.requires.tree parents flags tops
           (subst (AreParents rows) (sym c.as_slice-parents.ensures.value) c.in_ok-parents.ensures)
           (subst (AreTops parents flags) (sym c.as_slice-tops.ensures.value) c.in_ok-tops.ensures.tops)
           (c.if-are_one.ensures.apart refl) choices
           c.choices_of.ensures (lists_by rows rounds) c.loop-choices.invariant.begun all chosen
           c.join.new.joined c.join.ensures _ added;
-      noted = c.in_ok-tops.ensures.room ∙ c.loop-choices.invariant.noted;
+      noted = c.of.ensures.room ∙ c.in_ok-tops.ensures.room ∙ c.loop-choices.invariant.noted;
       choices = c.choices_of.ensures.each;
     }

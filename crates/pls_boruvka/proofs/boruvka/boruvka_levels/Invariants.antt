@@ -1,4 +1,4 @@
-use Rattle.std.proofs.Common.{◌≡◌, All, length, map}
+use Rattle.std.proofs.Common.{◌≡◌, All, length}
 use Rattle.pls_boruvka.specs.inner.Chosen.{levels_said}
 use Rattle.pls_boruvka.proofs.Begun.{IsBegun}
 use Rattle.pls_boruvka.proofs.Unjoined.{unjoined}
@@ -6,8 +6,8 @@ use Rattle.pls_boruvka.proofs.boruvka.boruvka_levels.Given as goal
 
 abbrev pub invariant-loop-choices : goal.invariant-loop-choices
 invariant-loop-choices l = record {
-  each : All (λ all. length all.items ≡ length l.net) l.rounds.items;
-  begun : IsBegun l.net l.joined (levels_said (map (λ all. all.items) l.rounds.items) (length l.net));
+  each : All (λ all. length all ≡ length l.net) l.rounds.items;
+  begun : IsBegun l.net l.joined (levels_said l.rounds.items (length l.net));
   noted : length l.noted ≡ length l.net;
   choices : length l.choices ≡ length l.net;
 }

@@ -1,4 +1,4 @@
-use Rattle.std.proofs.Common.{◌∙◌, ◌<◌, ℕ, List, Vec, Global, Some, length, map, slice_get, sym, ap, subst}
+use Rattle.std.proofs.Common.{◌∙◌, ◌<◌, ℕ, List, Vec, Global, Some, length, slice_get, sym, ap, subst}
 use Rattle.std.proofs.lemmas.List.FromFn.{length-map-range_with_len}
 use Rattle.pls_boruvka.specs.declared.joining.ChosenEnd.{ChosenEnd}
 use Rattle.pls_boruvka.specs.declared.level.Level.{Level}
@@ -8,7 +8,7 @@ use Rattle.pls_boruvka.proofs.level_lists.LevelLists.at.Goals as goal
 
 pub returns : goal.returns
 returns c =
-    let rounds : List (List ChosenEnd) = map (λ all. all.items) c.self.inside.rounds.value.items in
+    let rounds : List (List ChosenEnd) = c.self.inside.rounds.value.items in
     let count : ℕ = c.self.inside.count in
     let place : ℕ = c.args.place in
     let within : place < count =
@@ -16,6 +16,5 @@ returns c =
     (subst (λ (lists : List (List Level)). place < length lists) (sym c.self.view_is) c.requires) in
     ap (λ (lists : List (List Level)). slice_get lists place) (sym c.self.view_is)
     ∙ said_by-at rounds count place within
-    ∙ ap (λ (all : Vec (Vec ChosenEnd Global) Global).
-    Some (said_at (map (λ all. all.items) all.items) place)) (sym c.in_ok-rounds.ensures.cases)
+    ∙ ap (λ (all : Vec (List ChosenEnd) Global). Some (said_at all.items place)) (sym c.in_ok-rounds.ensures.cases)
     ∙ ap Some (sym c.of_rounds.ensures)
