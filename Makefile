@@ -2,7 +2,8 @@
 #
 #   make run    runs an example: five routers with labels, of which one was moved, and who notices
 #   make pls    proves all that the program stands on, builds it, and leaves it as ./pls
-#   make test   the gate: every proof, every edit that must be refused, every test and the program
+#   make test   the gate: every proof, every edit that must be refused, every test, the program
+#               and the desk
 #   make believed   writes the definitions that the clauses of `run` rest on to out/believed.md, and
 #                   prints how many lines each clause has of them
 #   make examples   runs each command that the documents show, and compares what it writes
