@@ -11,7 +11,7 @@ use Rattle.pls_boruvka.specs.declared.choice.Choice.{Choice}
 use Rattle.pls_boruvka.specs.declared.joining.ChosenEnd.{ChosenEnd}
 use Rattle.pls_boruvka.specs.inner.Choices.{top_at}
 use Rattle.pls_boruvka.specs.inner.Chosen.{AreChosen, IsChosen, choice_of_place, no_chosen}
-use Rattle.pls_boruvka.specs.inner.Round.{AreNotedNumbers, AreNumbers, IsNumberOf, IsOldOrNext, said_by_number}
+use Rattle.pls_boruvka.specs.inner.Round.{AreFragmentNumbers, AreNotedNumbers, IsFragmentNumber, IsOldOrNext, said_by_number}
 use Rattle.pls_boruvka.specs.inner.Tops.{Each}
 use Rattle.pls_boruvka.proofs.Listed.{Each-at, Each-none, Each-push}
 
@@ -22,34 +22,34 @@ Contains-last xs x =
 
 module _ (rows : List NodeRow) (choices : List (Option Choice)) where
   -- a number stays right where more is put behind
-  IsNumberOf-more : (chosen : List ChosenEnd) (one : ChosenEnd) (top number : ℕ)
-      → IsNumberOf rows choices chosen top number
-      → IsNumberOf rows choices (chosen ++ one ∷ []) top number
-  IsNumberOf-more chosen one top number is = record {
+  IsFragmentNumber-more : (chosen : List ChosenEnd) (one : ChosenEnd) (top number : ℕ)
+      → IsFragmentNumber rows choices chosen top number
+      → IsFragmentNumber rows choices (chosen ++ one ∷ []) top number
+  IsFragmentNumber-more chosen one top number is = record {
     within = omega (arith, is.within, length-append chosen (one ∷ []));
     right = subst (IsChosen rows top (get_or choices top None))
         (sym (get_or_append_left chosen (one ∷ []) no_chosen number is.within)) is.right;
   }
 
   -- the next number is that of what is put behind
-  IsNumberOf-next : (chosen : List ChosenEnd) (one : ChosenEnd) (top : ℕ)
+  IsFragmentNumber-next : (chosen : List ChosenEnd) (one : ChosenEnd) (top : ℕ)
       → IsChosen rows top (get_or choices top None) one
-      → IsNumberOf rows choices (chosen ++ one ∷ []) top (length chosen)
-  IsNumberOf-next chosen one top is = record {
+      → IsFragmentNumber rows choices (chosen ++ one ∷ []) top (length chosen)
+  IsFragmentNumber-next chosen one top is = record {
     within = omega (arith, length-append chosen (one ∷ []));
     right = subst (IsChosen rows top (get_or choices top None))
         (sym (get_or-append_seam chosen one [] no_chosen)) is;
   }
 
   -- a number stays right where another is given
-  IsNumberOf-kept : (old new : List ChosenEnd) (given top number : ℕ)
-      → IsOldOrNext old new given → IsNumberOf rows choices old top number
-      → IsNumberOf rows choices new top number
-  IsNumberOf-kept old new given top number (inl same) is =
-      subst (λ (all : List ChosenEnd). IsNumberOf rows choices all top number) (sym same) is
-  IsNumberOf-kept old new given top number (inr (one, more, next)) is =
-      subst (λ (all : List ChosenEnd). IsNumberOf rows choices all top number) (sym more)
-      (IsNumberOf-more old one top number is)
+  IsFragmentNumber-kept : (old new : List ChosenEnd) (given top number : ℕ)
+      → IsOldOrNext old new given → IsFragmentNumber rows choices old top number
+      → IsFragmentNumber rows choices new top number
+  IsFragmentNumber-kept old new given top number (inl same) is =
+      subst (λ (all : List ChosenEnd). IsFragmentNumber rows choices all top number) (sym same) is
+  IsFragmentNumber-kept old new given top number (inr (one, more, next)) is =
+      subst (λ (all : List ChosenEnd). IsFragmentNumber rows choices all top number) (sym more)
+      (IsFragmentNumber-more old one top number is)
 
   AreNotedNumbers-none : AreNotedNumbers rows choices [] (replicate (length rows) None)
   AreNotedNumbers-none = record {
@@ -82,10 +82,10 @@ module _ (rows : List NodeRow) (choices : List (Option Choice)) where
               (omega (arith, inside, same))) in
               let number : length chosen ≡ found =
               same_Some (length chosen) found (sym stands ∙ here) in
-              subst (λ (p : ℕ). IsNumberOf rows choices (chosen ++ one ∷ []) p found) (sym same)
-              (subst (IsNumberOf rows choices (chosen ++ one ∷ []) top) number
-              (IsNumberOf-next chosen one top is))
-          | inr apart ↦ IsNumberOf-more chosen one other found (old.number other found
+              subst (λ (p : ℕ). IsFragmentNumber rows choices (chosen ++ one ∷ []) p found) (sym same)
+              (subst (IsFragmentNumber rows choices (chosen ++ one ∷ []) top) number
+              (IsFragmentNumber-next chosen one top is))
+          | inr apart ↦ IsFragmentNumber-more chosen one other found (old.number other found
               (slice_get-get_or noted other None inside
               ∙ ap Some (sym (get_or-set_other noted top other (Some (length chosen)) None apart)
               ∙ here)))
@@ -99,7 +99,7 @@ module _ (rows : List NodeRow) (choices : List (Option Choice)) where
       pub many : length numbers ≡ count
       pub few : length chosen ≤ count
       pub notes : AreNotedNumbers rows choices chosen noted
-      pub right : Each (λ place. IsNumberOf rows choices chosen (top_at tops place)) numbers
+      pub right : Each (λ place. IsFragmentNumber rows choices chosen (top_at tops place)) numbers
       pub used : (number : ℕ) → number < length chosen → Contains numbers number
 
     pub AreNumbered-none : AreNumbered [] (replicate (length rows) None) [] 0
@@ -107,7 +107,7 @@ module _ (rows : List NodeRow) (choices : List (Option Choice)) where
       many = refl;
       few = omega arith;
       notes = AreNotedNumbers-none;
-      right = Each-none (λ place. IsNumberOf rows choices [] (top_at tops place));
+      right = Each-none (λ place. IsFragmentNumber rows choices [] (top_at tops place));
       used = λ number none. absurd (omega (arith, none));
     }
 
@@ -143,25 +143,25 @@ module _ (rows : List NodeRow) (choices : List (Option Choice)) where
     pub AreNumbered-more : (old new : List ChosenEnd) (before after : List (Option ℕ))
         (numbers : List ℕ) (number count : ℕ) → AreNumbered old before numbers count
         → IsOldOrNext old new number → AreNotedNumbers rows choices new after
-        → IsNumberOf rows choices new (top_at tops count) number
+        → IsFragmentNumber rows choices new (top_at tops count) number
         → AreNumbered new after (numbers ++ number ∷ []) (count + 1)
     AreNumbered-more old new before after numbers number count given next notes is = record {
       many = omega (arith, given.many, length-append numbers (number ∷ []));
       few = few_more old new number count next given.few;
       notes = notes;
-      right = Each-push (λ place. IsNumberOf rows choices new (top_at tops place)) numbers count
+      right = Each-push (λ place. IsFragmentNumber rows choices new (top_at tops place)) numbers count
           number given.many
-          (λ place other at. IsNumberOf-kept old new number (top_at tops place) other next
+          (λ place other at. IsFragmentNumber-kept old new number (top_at tops place) other next
           (given.right place other at)) is;
       used = used_more old new numbers number next given.used;
     }
 
     module _ (chosen : List ChosenEnd) (noted : List (Option ℕ)) (numbers : List ℕ) (count : ℕ)
         (given : AreNumbered chosen noted numbers count) where
-      pub AreNumbers-numbered : AreNumbers numbers (length chosen)
-      AreNumbers-numbered = record {
+      pub AreFragmentNumbers-numbered : AreFragmentNumbers numbers (length chosen)
+      AreFragmentNumbers-numbered = record {
         within = λ place d within. (Each-at
-            (λ place. IsNumberOf rows choices chosen (top_at tops place)) numbers place d
+            (λ place. IsFragmentNumber rows choices chosen (top_at tops place)) numbers place d
             given.right within).within;
         used = given.used;
       }

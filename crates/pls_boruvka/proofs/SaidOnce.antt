@@ -5,10 +5,10 @@ use Rattle.pls_graph.proofs.Finds.{from_option_map}
 use Rattle.pls_graph.proofs.Members.{place_from_Contains}
 use Rattle.pls_boruvka.specs.declared.joining.ChosenEnd.{ChosenEnd}
 use Rattle.pls_boruvka.specs.inner.Chosen.{AreChildrenWithin, IsChild, JoinChildren, no_chosen}
-use Rattle.pls_boruvka.specs.inner.Round.{AreNumbers, said_by_number}
+use Rattle.pls_boruvka.specs.inner.Round.{AreFragmentNumbers, said_by_number}
 
 module _ (numbers : List ℕ) (chosen : List ChosenEnd)
-    (are : AreNumbers numbers (length chosen)) where
+    (are : AreFragmentNumbers numbers (length chosen)) where
   -- what stands under a number
   abbrev under : ℕ → ChosenEnd
   under number = get_or chosen number no_chosen

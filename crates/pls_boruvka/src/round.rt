@@ -3,7 +3,7 @@
 ghost use Rattle.std.specs.Prelude.{◌≡◌, ◌<◌, ◌≤◌, All, None, length, slice_index_or, IfOk, IfSome, IfNone};
 ghost use Rattle.pls_configuration.specs.declared.limits.TheConstants.{MAX_NODES};
 ghost use Rattle.pls_boruvka.specs.inner.Chosen.{AreChildrenWithin, AreChosen, IsUnpointed, JoinChildren, SomeUnpointed, no_chosen};
-ghost use Rattle.pls_boruvka.specs.inner.Round.{AreNotedNumbers, IsNumberOf, IsOldOrNext};
+ghost use Rattle.pls_boruvka.specs.inner.Round.{AreNotedNumbers, IsFragmentNumber, IsOldOrNext};
 
 use crate::choice::Choice;
 use crate::joining::{ChosenEnd, chosen_at, join};
@@ -26,13 +26,13 @@ pub(crate) struct Round {
 impl Model for Round {
     ghost use Rattle.std.specs.Prelude.{List, length};
     ghost use Rattle.pls_boruvka.specs.declared.joining.ChosenEnd.{ChosenEnd};
-    ghost use Rattle.pls_boruvka.specs.inner.Round.{AreNumbers, said_by_number};
+    ghost use Rattle.pls_boruvka.specs.inner.Round.{AreFragmentNumbers, said_by_number};
 
     ghost Value = { List ChosenEnd };
 
     ghost view = { λ round. said_by_number round.numbers.items round.chosen.items };
 
-    ghost invariant = { λ round. AreNumbers round.numbers.items (length round.chosen.items) };
+    ghost invariant = { λ round. AreFragmentNumbers round.numbers.items (length round.chosen.items) };
 }
 
 impl Round {
@@ -106,7 +106,6 @@ fn fragment_count(tops: &[u32]) -> usize {
 
 // The number that is noted at a top. Where none is, the next number is noted, and what is said of
 // the fragment goes behind the others; `None` where its edge is not a pointed one.
-#[inline(always)]
 fn number_of(
     net: &Network,
     top: usize,
@@ -119,7 +118,7 @@ fn number_of(
     requires choices { length choices.now ≡ length net.now }
     requires noted { AreNotedNumbers net.now choices.now chosen.old.items noted.old }
     ensures number { IfOk result (λ found. IfSome found (λ number.
-        IsNumberOf net.now choices.now chosen.new.items top number)) }
+        IsFragmentNumber net.now choices.now chosen.new.items top number)) }
     ensures next { IfOk result (λ found. IfSome found (λ number.
         IsOldOrNext chosen.old.items chosen.new.items number)) }
     ensures noted { IfOk result (λ found. IfSome found (λ number.

@@ -4,7 +4,8 @@
 //! else; [`listing`] is the code as a text, and [`Machine`] runs it, one [`Instr`] a step. A
 //! machine is never stuck on the code of a set that makes sense: 40 numbers of 128 bits and 2 ports
 //! are room for all of them. [`RuleChecker`] is a set as a [`Checker`](pls_scheme::Checker): it
-//! reads labels by the set's fields, runs the code at each node, and takes no memory.
+//! reads labels by the set's fields and runs the code at each node. It judges a view without
+//! memory; a round reads all labels into a table first.
 //!
 //! Definitions stand in `specs/`: `RuleMeaning` has what a set means (`meaning`), `Code` the code
 //! of expressions, `RuleMachine` what a step does, `Listing` the text, `ReadLabels` what a node

@@ -1,4 +1,4 @@
-//! The tests of bits, networks, texts, views and rechecks, one file a crate that they speak of.
+//! The tests of bits, networks, texts, views and rechecks, one file a subject.
 #![tactic(auto)]
 
 #[cfg(test)]

@@ -5,8 +5,8 @@
 //! its property, the property as a test, the verdict, the labels and their length.
 //!
 //! [`SchemeByName`] is the scheme of a name: its calls are those of the scheme that it names.
-//! [`by_name`] does anything with that scheme, so that nobody else lists the names. Proofs may cite
-//! `specs/laws/NamedLaws`, a table with one row for each name too.
+//! [`by_name`] does anything with that scheme, so that what is done with each alike is written
+//! once. Proofs may cite `specs/laws/NamedLaws`, a table with one row for each name too.
 #![tactic(auto)]
 
 mod front;

@@ -10,12 +10,12 @@ abbrev pub said_by_number : List ℕ → List ChosenEnd → List ChosenEnd
 said_by_number numbers chosen = map (λ number. slice_index_or chosen number no_chosen) numbers
 
 -- the numbers of fragments, of so many, each of which has a node
-pub record AreNumbers (numbers : List ℕ) (count : ℕ) : Type 0 where
+pub record AreFragmentNumbers (numbers : List ℕ) (count : ℕ) : Type 0 where
   pub within : All (λ number. number < count) numbers
   pub used : (number : ℕ) → number < count → Contains numbers number
 
 -- under this number stands what is said of the fragment with this top
-pub record IsNumberOf (rows : List NodeRow) (choices : List (Option Choice))
+pub record IsFragmentNumber (rows : List NodeRow) (choices : List (Option Choice))
     (chosen : List ChosenEnd) (top number : ℕ) : Type 0 where
   pub within : number < length chosen
   pub right : IsChosen rows top (slice_index_or choices top None)
@@ -26,7 +26,7 @@ pub record AreNotedNumbers (rows : List NodeRow) (choices : List (Option Choice)
     (chosen : List ChosenEnd) (noted : List (Option ℕ)) : Type 0 where
   pub each : length noted ≡ length rows
   pub number : (top number : ℕ) → slice_get noted top ≡ Some (Some number)
-      → IsNumberOf rows choices chosen top number
+      → IsFragmentNumber rows choices chosen top number
 
 -- the number stands for what was there, or for what was put behind it
 abbrev pub IsOldOrNext : List ChosenEnd → List ChosenEnd → ℕ → Type 0

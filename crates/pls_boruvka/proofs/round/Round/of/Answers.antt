@@ -1,7 +1,7 @@
 use Rattle.std.proofs.Common.{◌+◌, ℕ, List, Option, IfSome, sym, subst, arith}
 use Rattle.pls_boruvka.specs.inner.Choices.{top_at}
-use Rattle.pls_boruvka.specs.inner.Round.{AreNotedNumbers, IsNumberOf, IsOldOrNext}
-use Rattle.pls_boruvka.proofs.Numbers.{AreChosen-numbered, AreNumbered, AreNumbered-more, AreNumbers-numbered}
+use Rattle.pls_boruvka.specs.inner.Round.{AreNotedNumbers, IsFragmentNumber, IsOldOrNext}
+use Rattle.pls_boruvka.proofs.Numbers.{AreChosen-numbered, AreNumbered, AreNumbered-more, AreFragmentNumbers-numbered}
 use Rattle.pls_boruvka.proofs.round.Round.of.Goals as goal
 
 pub loop-top-preserved : goal.loop-top-preserved
@@ -20,12 +20,12 @@ loop-top-preserved c =
     (subst (λ (found : Option ℕ). IfSome found (λ number.
     AreNotedNumbers rows choices new c.number_of.new.noted))
     c.in-Some.is c.in_ok-number.ensures.noted)
-    (subst (λ (found : Option ℕ). IfSome found (IsNumberOf rows choices new
+    (subst (λ (found : Option ℕ). IfSome found (IsFragmentNumber rows choices new
     (top_at tops c.loop-top.top-index))) c.in-Some.is c.in_ok-number.ensures.number))
 
 pub invariant_of-result : goal.invariant_of-result
 invariant_of-result c =
-    AreNumbers-numbered c.args.net.now c.args.choices.now c.args.tops.now c.loop-top.chosen.items
+    AreFragmentNumbers-numbered c.args.net.now c.args.choices.now c.args.tops.now c.loop-top.chosen.items
     c.loop-top.noted c.loop-top.numbers.items c.loop-top.top-index c.loop-top.invariant
 
 pub returns-clause-chosen : goal.returns-clause-chosen
