@@ -1,9 +1,7 @@
 -- The port that names a node among those of a neighbour is the way back.
-use Rattle.std.proofs.Common.{◌≡◌, ◌∙◌, ℕ, ◌+◌, ◌<◌, ◌++◌, ◌∷◌, [], List, inl, inr, length, get_or, take, option_map, Some, slice_get, refl, sym, ap, subst, arith, length-append}
-use Rattle.std.proofs.lemmas.Bool.{cases_lt}
-use Rattle.std.proofs.lemmas.List.{get_or_append_left}
-use Rattle.std.proofs.lemmas.Option.{same_Some, slice_get_within}
-use Rattle.std.proofs.Math.Seq.{get_or-append_seam}
+use Rattle.std.proofs.Common.{◌≡◌, ◌∙◌, ℕ, ◌+◌, ◌<◌, ◌++◌, ◌∷◌, [], List, length, get_or, map, take, option_map, Some, slice_get, refl, sym, ap, subst, arith}
+use Rattle.std.proofs.lemmas.List.{length-map, map-append}
+use Rattle.std.proofs.lemmas.Option.{same_Some, slice_get-get_or, slice_get_within}
 use Rattle.pls_configuration.specs.declared.row.Port.{Port}
 use Rattle.pls_configuration.specs.declared.row.NodeRow.{NodeRow}
 use Rattle.pls_configuration.specs.Configuration.{IsNetwork, ports_in}
@@ -11,8 +9,11 @@ use Rattle.pls_graph.specs.Places.{beside}
 use Rattle.pls_graph.proofs.Beside.{one_place}
 use Rattle.pls_graph.proofs.Finds.{from_option_map, item_at}
 use Rattle.pls_configuration.specs.declared.limits.TheConstants.{MAX_PORTS}
-use Rattle.pls_sim.specs.Ways.{AreFirsts, IsSlot, LeadBack, slot}
-use Rattle.pls_sim.proofs.Ends.{beside_length, end_at, slot_back}
+use Rattle.pls_sim.specs.declared.target.Target.{Target}
+use Rattle.pls_sim.specs.Ways.{AreFirsts, IsPlaceOf, IsSlot, slot}
+use Rattle.pls_sim.specs.inner.Targets.{AreTargets}
+use Rattle.pls_sim.proofs.Behind.{each_more}
+use Rattle.pls_sim.proofs.Ends.{End, beside_length, end_at, slot_back}
 use Rattle.pls_sim.proofs.Numbering.{one_port, ports_more, slot_within}
 use Rattle.pls_sim.proofs.Refusing.{ports_at}
 
@@ -21,11 +22,6 @@ abbrev pub Names : List Port → ℕ → ℕ → Type 0
 Names ports nbr number =
     (k : ℕ) (port : Port) → slice_get ports k ≡ Some port → port.nbr ≡ nbr
     → option_map (λ port. port.nbr) (slice_get ports number) ≡ Some nbr
-
--- the item behind all others
-pub item_behind : (xs : List ℕ) (x k : ℕ) → k ≡ length xs → get_or (xs ++ x ∷ []) k 0 ≡ x
-item_behind xs x k is =
-    ap (λ (k : ℕ). get_or (xs ++ x ∷ []) k 0) is ∙ get_or-append_seam xs x [] 0
 
 module _ (rows : List NodeRow) (net : IsNetwork rows) (i p : ℕ) (row : NodeRow)
     (at : slice_get rows i ≡ Some row) (within : p < length row.ports) where
@@ -61,39 +57,78 @@ module _ (rows : List NodeRow) (net : IsNetwork rows) (i p : ℕ) (row : NodeRow
         leads = found.2;
       }
 
-  -- one way more
-  pub way_more : (back : List ℕ) → length back ≡ slot rows i p → LeadBack rows back → (way : ℕ)
-      → IsSlot rows way (end_at rows net i p row at within).port.nbr row.id
-      → LeadBack rows (back ++ way ∷ [])
-  way_more back long leads way s number node neighbour few t =
-      let end = end_at rows net i p row at within in elim (cases_lt number (length back)) [
-        | inl below ↦
-            rw (get_or_append_left back (way ∷ []) 0 number below) (leads number node neighbour below t)
-        | inr above ↦
-            let last : number ≡ length back =
-            omega (arith, above, few, length-append back (way ∷ [])) in
-            let own : IsSlot rows number row.id end.port.nbr = record {
-              place = i;
-              at = p;
-              row = row;
-              port = end.port;
-              stands = at;
-              has = end.has;
-              is = last ∙ long;
-              owner = refl;
-              leads = refl;
-            } in
-            let ends = one_port rows number row.id end.port.nbr node neighbour own t in
-            rw (item_behind back way number last)
-            (subst (λ (u : ℕ). IsSlot rows way u node) ends.1
-            (subst (λ (v : ℕ). IsSlot rows way end.port.nbr v) ends.0 s))
-      ]
+  -- where one more port leads
+  pub one_more : (targets : List Target) → length targets ≡ slot rows i p
+      → AreTargets rows targets → (target : Target)
+      → IsSlot rows target.port (end_at rows net i p row at within).port.nbr row.id
+      → target.place ≡ get_or (beside rows i) p 0 → AreTargets rows (targets ++ target ∷ [])
+  one_more targets long are target s there = record {
+    lead_back = rw (map-append (λ (target : Target). target.port) targets (target ∷ []))
+        (λ number node neighbour other read. each_more LeadsBack ports_back target.port
+        (λ number other read node neighbour. are.lead_back number node neighbour other read)
+        (λ node neighbour t.
+        let ends = own_ends (length ports_back) (length-map targets (λ target. target.port))
+        node neighbour t in
+        subst (λ (u : ℕ). IsSlot rows target.port u node) ends.1
+        (subst (λ (v : ℕ). IsSlot rows target.port end.port.nbr v) ends.0 s))
+        number other read node neighbour);
+    are_ends = rw (map-append (λ (target : Target). target.place) targets (target ∷ []))
+        (λ number node neighbour place read. each_more IsEnd places target.place
+        (λ number place read node neighbour. are.are_ends number node neighbour place read)
+        (λ node neighbour t.
+        let ends = own_ends (length places) (length-map targets (λ target. target.place))
+        node neighbour t in
+        subst (λ (u : ℕ). IsPlaceOf rows u target.place) ends.1 own_place)
+        number place read node neighbour);
+  }
+    where
+      end : End rows i p row
+      end = end_at rows net i p row at within
+
+      ports_back : List ℕ
+      ports_back = map (λ target. target.port) targets
+
+      places : List ℕ
+      places = map (λ target. target.place) targets
+
+      LeadsBack : ℕ → ℕ → Type 0
+      LeadsBack number other =
+          (node neighbour : ℕ) → IsSlot rows number node neighbour
+          → IsSlot rows other neighbour node
+
+      IsEnd : ℕ → ℕ → Type 0
+      IsEnd number place =
+          (node neighbour : ℕ) → IsSlot rows number node neighbour
+          → IsPlaceOf rows neighbour place
+
+      own_place : IsPlaceOf rows end.port.nbr target.place
+      own_place = record {
+        row = end.other;
+        stands = ap (slice_get rows) there ∙ end.there;
+        is = sym end.leads;
+      }
+
+      own_ends : (count : ℕ) → count ≡ length targets → (node neighbour : ℕ)
+          → IsSlot rows count node neighbour
+          → (row.id ≡ node) × (end.port.nbr ≡ neighbour)
+      own_ends count is node neighbour t =
+          one_port rows count row.id end.port.nbr node neighbour (record {
+            place = i;
+            at = p;
+            row = row;
+            port = end.port;
+            stands = at;
+            has = end.has;
+            is = is ∙ long;
+            owner = refl;
+            leads = refl;
+          }) t
 
 -- what the number of a way back, made of the neighbour's first number, is good for
-pub record IsStep (rows : List NodeRow) (i p way : ℕ) : Type 0 where
+pub record IsStep (rows : List NodeRow) (i p way place : ℕ) : Type 0 where
   pub small : way < MAX_PORTS
-  pub more : (back : List ℕ) → length back ≡ slot rows i p → LeadBack rows back
-      → LeadBack rows (back ++ way ∷ [])
+  pub more : (targets : List Target) → length targets ≡ slot rows i p → AreTargets rows targets
+      → AreTargets rows (targets ++ (record { port = way; place = place }) ∷ [])
 
 pub step : (rows : List NodeRow) → IsNetwork rows → (i p id : ℕ) (places firsts : List ℕ)
     (ports : List Port) (number : ℕ) → i < length rows
@@ -101,30 +136,42 @@ pub step : (rows : List NodeRow) → IsNetwork rows → (i p id : ℕ) (places f
     → p < length places → AreFirsts rows firsts
     → option_map (λ row. row.ports) (slice_get rows (get_or places p 0)) ≡ Some ports
     → Names ports id number
-    → IsStep rows i p (get_or firsts (get_or places p 0) 0 + number)
+    → IsStep rows i p (get_or firsts (get_or places p 0) 0 + number) (get_or places p 0)
 step rows net i p id places firsts ports number inside named places_are within are_firsts read names =
     let row : (row : NodeRow) × (slice_get rows i ≡ Some row) × (row.id ≡ id) =
     from_option_map (λ (row : NodeRow). row.id) (slice_get rows i) id named in
     let few : p < length row.0.ports =
     omega (arith, within, ap length places_are, beside_length rows net i row.0 row.1) in
     let j : ℕ = get_or places p 0 in
+    let same : j ≡ get_or (beside rows i) p 0 =
+    ap (λ (places : List ℕ). get_or places p 0) places_are in
     let other : (other : NodeRow) × (slice_get rows j ≡ Some other) × (other.ports ≡ ports) =
     from_option_map (λ (row : NodeRow). row.ports) (slice_get rows j) ports read in
-    let s = way_found rows net i p row.0 row.1 few j (ap (λ (places : List ℕ). get_or places p 0) places_are)
-    ports read number (subst (λ (id : ℕ). Names ports id number) (sym row.2) names) in
+    let s = way_found rows net i p row.0 row.1 few j same ports read number
+    (subst (λ (id : ℕ). Names ports id number) (sym row.2) names) in
+    let there : j < length firsts =
+    omega (arith, slice_get_within rows j other.0 other.1, are_firsts.count) in
     let is : slot rows j number ≡ get_or firsts j 0 + number =
     ap (λ (first : ℕ). first + number)
-    (sym (are_firsts.each j (slice_get_within rows j other.0 other.1))) in record {
+    (sym (are_firsts.each j (get_or firsts j 0) (slice_get-get_or firsts j 0 there))) in record {
       small = omega (
         arith,
         is,
         slot_within rows (slot rows j number) _ _ s,
         net.limits.few_ports,
       );
-      more = λ back long leads. way_more rows net i p row.0 row.1 few back long leads
-          (get_or firsts j 0 + number) (subst (λ (way : ℕ). IsSlot rows way
-          (end_at rows net i p row.0 row.1 few).port.nbr row.0.id) is s);
+      more = λ targets long are. one_more rows net i p row.0 row.1 few targets long are
+          (record { port = get_or firsts j 0 + number; place = j })
+          (subst (λ (way : ℕ). IsSlot rows way
+          (end_at rows net i p row.0 row.1 few).port.nbr row.0.id) is s) same;
     }
+
+-- where no port is, none leads anywhere
+pub no_targets : (rows : List NodeRow) → AreTargets rows []
+no_targets rows = record {
+  lead_back = λ number node neighbour other read. absurd (cc);
+  are_ends = λ number node neighbour place read. absurd (cc);
+}
 
 -- as many ways as ports up to those of the next node
 pub long_more : (rows : List NodeRow) → IsNetwork rows → (i count p : ℕ) (places : List ℕ)

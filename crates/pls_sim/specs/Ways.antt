@@ -1,9 +1,9 @@
 -- The ports of all nodes, numbered through in the order of the nodes, and which leads back from
--- each.
-use Rattle.std.specs.Prelude.{◌≡◌, ℕ, ◌+◌, ◌<◌, List, take, length, slice_get, slice_index_or, Some}
+-- each, to which node.
+use Rattle.std.specs.Prelude.{◌≡◌, ℕ, ◌+◌, List, take, length, slice_get, Some}
 use Rattle.pls_configuration.specs.declared.row.Port.{Port}
 use Rattle.pls_configuration.specs.declared.row.NodeRow.{NodeRow}
-use Rattle.pls_configuration.specs.Configuration.{IsNetwork, ports_in}
+use Rattle.pls_configuration.specs.Configuration.{IsNetwork, ids_of, ports_in}
 
 -- the number of a port of the node at a place
 abbrev pub slot : List NodeRow → ℕ → ℕ → ℕ
@@ -27,27 +27,39 @@ pub record IsPlaceOf (rows : List NodeRow) (node place : ℕ) : Type 0 where
   pub stands : slice_get rows place ≡ Some row
   pub is : row.id ≡ node
 
--- the number of the first port of each node, and for each port the number of the one that leads
--- back
+-- the identities of all nodes; for each node, and behind the last one, how many ports the nodes
+-- before it have; for each port the number of the one that leads back, and the place of the node
+-- that has that one
 pub record Numbers : Type 0 where
+  pub ids : List ℕ
   pub firsts : List ℕ
   pub back : List ℕ
+  pub ends : List ℕ
 
--- the numbers of the first ports of all nodes
+-- for each node, and behind the last one, how many ports the nodes before it have
 pub record AreFirsts (rows : List NodeRow) (firsts : List ℕ) : Type 0 where
-  pub count : length firsts ≡ length rows
-  pub each : (place : ℕ) → place < length rows
-      → slice_index_or firsts place 0 ≡ ports_in (take place rows)
+  pub count : length firsts ≡ length rows + 1
+  pub each : (place first : ℕ) → slice_get firsts place ≡ Some first
+      → first ≡ ports_in (take place rows)
 
 -- for each port that the list has, the number of the one that leads back
 abbrev pub LeadBack : List NodeRow → List ℕ → Type 0
 LeadBack rows back =
-    (number node neighbour : ℕ) → number < length back → IsSlot rows number node neighbour
-    → IsSlot rows (slice_index_or back number 0) neighbour node
+    (number node neighbour other : ℕ) → slice_get back number ≡ Some other
+    → IsSlot rows number node neighbour → IsSlot rows other neighbour node
+
+-- for each port that the list has, the place of the node that it leads to
+abbrev pub AreEnds : List NodeRow → List ℕ → Type 0
+AreEnds rows ends =
+    (number node neighbour place : ℕ) → slice_get ends number ≡ Some place
+    → IsSlot rows number node neighbour → IsPlaceOf rows neighbour place
 
 -- the rows are a network, and these the numbers of its ports
 pub record ArePortNumbers (rows : List NodeRow) (ways : Numbers) : Type 0 where
   pub network : IsNetwork rows
+  pub are_ids : ways.ids ≡ ids_of rows
   pub are_firsts : AreFirsts rows ways.firsts
   pub long : length ways.back ≡ ports_in rows
   pub lead_back : LeadBack rows ways.back
+  pub as_many : length ways.ends ≡ ports_in rows
+  pub are_ends : AreEnds rows ways.ends

@@ -11,7 +11,7 @@ use Rattle.pls_schedule.specs.declared.event.Event.{Event}
 use Rattle.pls_schedule.specs.declared.event.Event.TheVariants.{Emit, Restart}
 use Rattle.pls_sim.specs.Schedule.{Sent, emits_of, sent_by}
 use Rattle.pls_sim.specs.Ways.{IsPlaceOf, IsSlot}
-use Rattle.pls_sim.proofs.Heard.{get_kept}
+use Rattle.pls_sim.proofs.Behind.{get_kept}
 use Rattle.pls_watch.specs.declared.turn.Turn.{Turn}
 use Rattle.pls_watch.specs.declared.turn.Turn.TheVariants.{Plain, Relabel}
 use Rattle.pls_watch.specs.Versions.{carried, held, newest, plain_of}

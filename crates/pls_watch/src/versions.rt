@@ -136,7 +136,7 @@ impl<'n> Versions<'n> {
             turn_refusal self.old (Turn.Plain (Event.Emit node port)) ≡ Some error) }
         ensures unchanged { OnErr result (self.new ≡ self.old) }
     {
-        let Some(from) = self.net.place_of(node) else {
+        let Some(from) = self.sim.place_of(node) else {
             return Err(EventError::NoNode);
         };
         self.sim.emit_at(from, node, port)?;

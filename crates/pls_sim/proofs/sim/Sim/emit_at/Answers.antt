@@ -1,69 +1,80 @@
-use Rattle.std.proofs.Common.{◌≡◌, ◌∙◌, ◌+◌, ◌<◌, ℕ, false, Some, length, get_or, slice_get, option_map, option_and_then, sym, ap, subst, refl, arith}
+use Rattle.std.proofs.Common.{◌∙◌, ◌+◌, ◌<◌, ℕ, false, length, ap, refl, arith}
 use Rattle.std.proofs.lemmas.Bool.{le-leb, lt-leb}
-use Rattle.std.proofs.lemmas.Option.{get_or_from_slice_get, same_Some}
-use Rattle.pls_configuration.specs.declared.row.Port.{Port}
-use Rattle.pls_configuration.specs.declared.row.NodeRow.{NodeRow}
-use Rattle.pls_configuration.specs.Configuration.{row_of}
 use Rattle.pls_sim.specs.Applying.{Played}
-use Rattle.pls_sim.specs.Ways.{IsSlot}
-use Rattle.pls_sim.proofs.Ends.{end_stands}
+use Rattle.pls_sim.proofs.Emitting.{among, emits, emitter, next_few, next_is_behind, next_within, port_within}
 use Rattle.pls_sim.proofs.Keeping.{few_sent, kept_emit, room_more}
-use Rattle.pls_sim.proofs.Numbering.{numbered}
-use Rattle.pls_sim.proofs.Refusing.{no_port, no_refusal, node_named, not_full, port_named, ports_at, row_there}
+use Rattle.pls_sim.proofs.Refusing.{no_port, no_refusal, node_named, not_full, port_named}
 use Rattle.pls_sim.proofs.sim.Sim.emit_at.Goals as goal
 
-pub returns-then-port-ports-clause-refused : goal.returns-then-port-ports-clause-refused
-returns-then-port-ports-clause-refused c =
+pub first-requires : goal.first-requires
+first-requires c =
+    let network = ap (λ (played : Played). played.network) c.self.view_is in
+    let within = next_within c.self.inside.net.now c.args.self.now.network c.self.inside.ways
+    c.self.invariant.0 network c.args.node c.args.place c.requires.place in
+    omega (arith, within)
+
+pub overflow_add-place : goal.overflow_add-place
+overflow_add-place c =
+    let network = ap (λ (played : Played). played.network) c.self.view_is in
+    let within = next_within c.self.inside.net.now c.args.self.now.network c.self.inside.ways
+    c.self.invariant.0 network c.args.node c.args.place c.requires.place in
+    omega (
+      arith,
+      within,
+      c.self.invariant.0.are_firsts.count,
+      c.self.invariant.0.network.limits.few_nodes,
+    )
+
+pub first-2-requires : goal.first-2-requires
+first-2-requires c =
+    let network = ap (λ (played : Played). played.network) c.self.view_is in
+    let within = next_within c.self.inside.net.now c.args.self.now.network c.self.inside.ways
+    c.self.invariant.0 network c.args.node c.args.place c.requires.place in
+    omega (arith, within)
+
+pub returns-then-number-first-clause-refused : goal.returns-then-number-first-clause-refused
+returns-then-number-first-clause-refused c =
     let network = ap (λ (played : Played). played.network) c.self.view_is in
     let rows = c.self.inside.net.now in
-    let at = row_there rows c.args.self.now.network c.self.invariant.0.network network c.args.node
-    c.args.place c.requires.place in
-    let ports : at.row.ports ≡ c.ports.result.now =
-    ports_at rows c.args.place at.row c.ports.result.now at.stands c.ports.ensures in
+    let seen = c.args.self.now.network in
+    let at = emitter rows seen c.self.inside.ways c.self.invariant.0 network c.args.node c.args.place
+    c.requires.place in
+    let behind = next_is_behind rows seen c.self.inside.ways c.self.invariant.0 network c.args.node
+    c.args.place c.requires.place c.first.result c.first-2.result c.first.ensures c.first-2.ensures in
     no_port _ _ _ false (not_full c.args.self.now c.requires.room)
-    (node_named rows c.args.self.now.network network c.args.node c.args.place c.args.port at)
-    (port_named rows c.args.self.now.network network c.args.node c.args.place c.args.port at
-    ∙ le-leb (length at.row.ports) c.args.port
-    (omega (arith, c.if-port-ports.true, ap length ports)))
+    (node_named rows seen network c.args.node c.args.place c.args.port at)
+    (port_named rows seen network c.args.node c.args.place c.args.port at
+    ∙ le-leb (length at.row.ports) c.args.port (omega (arith, c.if-number-first.true, behind)))
 
 pub returns-clause-applies : goal.returns-clause-applies
 returns-clause-applies c =
     let network = ap (λ (played : Played). played.network) c.self.view_is in
     let rows = c.self.inside.net.now in
-    let at = row_there rows c.args.self.now.network c.self.invariant.0.network network c.args.node
-    c.args.place c.requires.place in
-    let ports : at.row.ports ≡ c.ports.result.now =
-    ports_at rows c.args.place at.row c.ports.result.now at.stands c.ports.ensures in
+    let seen = c.args.self.now.network in
+    let at = emitter rows seen c.self.inside.ways c.self.invariant.0 network c.args.node c.args.place
+    c.requires.place in
+    let behind = next_is_behind rows seen c.self.inside.ways c.self.invariant.0 network c.args.node
+    c.args.place c.requires.place c.first.result c.first-2.result c.first.ensures c.first-2.ensures in
     no_refusal _ _ _ false (not_full c.args.self.now c.requires.room)
-    (node_named rows c.args.self.now.network network c.args.node c.args.place c.args.port at)
-    (port_named rows c.args.self.now.network network c.args.node c.args.place c.args.port at
-    ∙ lt-leb (length at.row.ports) c.args.port
-    (omega (arith, c.if-port-ports.false, ap length ports)))
+    (node_named rows seen network c.args.node c.args.place c.args.port at)
+    (port_named rows seen network c.args.node c.args.place c.args.port at
+    ∙ lt-leb (length at.row.ports) c.args.port (omega (arith, c.if-number-first.false, behind)))
     refl
 
-pub overflow_add-number : goal.overflow_add-number
-overflow_add-number c =
-    let ways = c.self.inside.ways in
-    let one = numbered c.self.inside.net.now ways c.self.invariant.0
-    c.args.place c.args.port c.first.result c.ports.result.now c.ports.ensures
-    c.if-port-ports.false c.first.ensures in
-    omega (arith, one.small)
-
-pub back-requires : goal.back-requires
-back-requires c =
-    let ways = c.self.inside.ways in
-    let one = numbered c.self.inside.net.now ways c.self.invariant.0
-    c.args.place c.args.port c.first.result c.ports.result.now c.ports.ensures
-    c.if-port-ports.false c.first.ensures in
-    omega (arith, one.within, c.self.invariant.0.long)
+pub target-requires : goal.target-requires
+target-requires c =
+    let network = ap (λ (played : Played). played.network) c.self.view_is in
+    among c.self.inside.net.now c.args.self.now.network c.self.inside.ways c.self.invariant.0 network
+    c.args.node c.args.place c.requires.place c.first.result c.first-2.result c.first.ensures
+    c.first-2.ensures c.args.port (omega (arith, c.if-number-first.false))
 
 pub emit-requires : goal.emit-requires
 emit-requires c =
-    let ways = c.self.inside.ways in
-    let one = numbered c.self.inside.net.now ways c.self.invariant.0
-    c.args.place c.args.port c.first.result c.ports.result.now c.ports.ensures
-    c.if-port-ports.false c.first.ensures in
-    omega (arith, one.small)
+    let network = ap (λ (played : Played). played.network) c.self.view_is in
+    let few = next_few c.self.inside.net.now c.args.self.now.network c.self.inside.ways
+    c.self.invariant.0 network c.args.node c.args.place c.requires.place c.first.result
+    c.first-2.result c.first.ensures c.first-2.ensures in
+    omega (arith, few, c.if-number-first.false)
 
 pub push_reserved-requires : goal.push_reserved-requires
 push_reserved-requires c =
@@ -83,31 +94,11 @@ pub invariant_of-self : goal.invariant_of-self
 invariant_of-self c =
     let old = c.self.inside in
     let rows = old.net.now in
-    let ways = old.ways in
-    let net = c.self.invariant.0.network in
-    let node : ℕ = c.args.node in
-    let at = row_there rows c.args.self.now.network net
-    (ap (λ (played : Played). played.network) c.self.view_is) node c.args.place c.requires.place in
-    let one = numbered rows ways c.self.invariant.0
-    c.args.place c.args.port c.first.result c.ports.result.now c.ports.ensures
-    c.if-port-ports.false c.first.ensures in
-    let number : ℕ = c.first.result + c.args.port in
-    let among : number < length ways.back =
-    omega (arith, one.within, c.self.invariant.0.long) in
-    let same : one.row ≡ at.row = same_Some one.row at.row (sym one.stands ∙ at.stands) in
-    let id : one.row.id ≡ node = ap (λ (row : NodeRow). row.id) same ∙ at.is in
-    let found : row_of rows node ≡ Some one.row = at.found ∙ ap Some (sym same) in
-    let value : get_or ways.back number 0 ≡ c.back.result =
-    get_or_from_slice_get ways.back number c.back.result 0 c.back.ensures in
-    let arrives : IsSlot rows c.back.result one.at.nbr node =
-    subst (λ (t : ℕ). IsSlot rows t one.at.nbr node) value
-    (subst (λ (id : ℕ). IsSlot rows (get_or ways.back number 0) one.at.nbr id) id
-    (c.self.invariant.0.lead_back number one.row.id one.at.nbr among one.slot_is)) in
-    let goes = ap (λ o. option_map (λ (port : Port). port.nbr)
-    (option_and_then (λ (row : NodeRow). slice_get row.ports c.args.port) o)) found
-    ∙ ap (λ o. option_map (λ (port : Port). port.nbr) o) one.has in
-    let stands = end_stands rows net c.args.place c.args.port one.row one.at one.stands one.has
-    c.places.result.now c.places.ensures.places in
+    let network = ap (λ (played : Played). played.network) c.self.view_is in
+    let one = emits rows c.args.self.now.network old.ways c.self.invariant.0 network c.args.node
+    c.args.place c.requires.place c.first.result c.first-2.result c.first.ensures c.first-2.ensures
+    c.args.port (omega (arith, c.if-number-first.false)) c.target.result c.target.ensures.port
+    c.target.ensures.place in
     let put = c.push_reserved.ensures in
     let noted = c.push_reserved-2.ensures in
     let room : length old.events.items < old.most =
@@ -119,8 +110,9 @@ invariant_of-self c =
     ) in (
       c.self.invariant.0,
       rw (put.items, noted.items, c.emit.ensures)
-          (kept_emit rows net old.events.items old.sent.items old.restarted.items
-          old.arrived.items c.self.invariant.1 node c.args.port one.at.nbr _ goes arrives stands),
+          (kept_emit rows c.self.invariant.0.network old.events.items old.sent.items
+          old.restarted.items old.arrived.items c.self.invariant.1 c.args.node c.args.port one.to
+          c.target.result one.goes one.arrives one.stands),
       rw (put.capacity, noted.items, noted.capacity)
           (room_more old.most _ _ old.events.items _ room c.self.invariant.2),
     )

@@ -1,11 +1,10 @@
-use Rattle.std.proofs.Common.{◌≡◌, ◌∙◌, ◌<◌, ℕ, List, false, length, get_or, sym, ap, subst, arith}
+use Rattle.std.proofs.Common.{◌≡◌, ◌∙◌, ◌<◌, ◌==◌, ℕ, List, Option, false, length, get_or, position, sym, ap, arith}
 use Rattle.std.specs.Option.{is_none}
 use Rattle.std.proofs.lemmas.Option.{slice_get_within}
 use Rattle.pls_configuration.specs.declared.row.NodeRow.{NodeRow}
 use Rattle.pls_configuration.specs.Configuration.{row_of}
 use Rattle.pls_schedule.specs.declared.event.Event.{Event}
 use Rattle.pls_schedule.specs.declared.event.Event.TheVariants.{Emit}
-use Rattle.pls_sim.specs.Ways.{IsPlaceOf}
 use Rattle.pls_sim.proofs.Numbering.{value_at}
 use Rattle.pls_sim.proofs.Refusing.{found_at, no_node, none_found, not_full}
 use Rattle.pls_watch.specs.declared.turn.Turn.TheVariants.{Plain}
@@ -18,10 +17,17 @@ use Rattle.pls_watch.proofs.More.{held_emit}
 use Rattle.pls_watch.proofs.Arrived.{by_round, few_carried, room_in_round}
 use Rattle.pls_watch.proofs.versions.Versions.emit.Goals as goal
 
+-- a place among the rows that are seen
+place_there : (rows seen : List NodeRow) (node : ℕ) (place : Option ℕ) → seen ≡ rows
+    → place ≡ position (λ row. node == row.id) seen → position (λ row. node == row.id) rows ≡ place
+place_there rows seen node place same is =
+    ap (position (λ (row : NodeRow). node == row.id)) (sym same) ∙ sym is
+
 pub returns-in_default-clause-refused : goal.returns-in_default-clause-refused
 returns-in_default-clause-refused c =
     let none = none_found c.self.inside.net.now c.args.node
-    (sym c.place_of.ensures ∙ c.in_default.is) in
+    (place_there _ _ c.args.node _ c.self.invariant.0.network c.place_of.ensures.place
+    ∙ c.in_default.is) in
     by_round c.args.self.now (Plain (Emit c.args.node c.args.port)) c.requires
     ∙ no_node _ _ _ false
     (not_full (round_of c.args.self.now) (room_in_round c.args.self.now c.requires))
@@ -30,10 +36,8 @@ returns-in_default-clause-refused c =
 
 pub emit_at-requires-clause-place : goal.emit_at-requires-clause-place
 emit_at-requires-clause-place c =
-    subst (λ (rows : List NodeRow). IsPlaceOf rows c.args.node c.in-Some.from)
-    (sym c.self.invariant.0.network)
-    (found_at c.self.inside.net.now c.self.invariant.1.is_network c.args.node c.in-Some.from
-    (sym c.place_of.ensures ∙ c.in-Some.is))
+    found_at c.self.inside.sim.network c.place_of.ensures.valid c.args.node c.in-Some.from
+    (sym c.place_of.ensures.place ∙ c.in-Some.is)
 
 pub emit_at-requires-clause-room : goal.emit_at-requires-clause-room
 emit_at-requires-clause-room c =
@@ -64,7 +68,8 @@ invariant_of-self-2 c =
     let kept = c.self.invariant.1 in
     let from : ℕ = c.in-Some.from in
     let at = found_at rows kept.is_network c.args.node from
-    (sym c.place_of.ensures ∙ c.in-Some.is) in
+    (place_there _ _ c.args.node _ c.self.invariant.0.network c.place_of.ensures.place
+    ∙ c.in-Some.is) in
     let within = slice_get_within rows from at.row at.stands in
     let version : get_or old.newest.versions from 0 ≡ c.get-version.result.0 =
     value_at old.newest.versions from c.get-version.result.0

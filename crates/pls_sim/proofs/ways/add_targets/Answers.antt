@@ -1,6 +1,6 @@
 use Rattle.std.proofs.Common.{◌∙◌, ap, arith, length, length-append}
 use Rattle.pls_sim.proofs.WayFound.{long_more, step}
-use Rattle.pls_sim.proofs.ways.add_ways.Goals as goal
+use Rattle.pls_sim.proofs.ways.add_targets.Goals as goal
 
 pub overflow_add-firsts : goal.overflow_add-firsts
 overflow_add-firsts c =
@@ -24,9 +24,9 @@ loop-place-preserved c =
     c.requires.firsts c.ports.ensures c.port_to-port.ensures in
     let pushed = c.in_ok-push.ensures.items in
     let so_far = c.loop-place.invariant.so_far in record {
-      so_far = ap length pushed ∙ length-append c.loop-place.back.items _
+      so_far = ap length pushed ∙ length-append c.loop-place.targets.items _
           ∙ (omega arith);
-      back = rw pushed (way.more c.loop-place.back.items so_far c.loop-place.invariant.back);
+      targets = rw pushed (way.more c.loop-place.targets.items so_far c.loop-place.invariant.targets);
     }
 
 pub returns-clause-long : goal.returns-clause-long
