@@ -1,10 +1,9 @@
 -- What an emit asks for, and where it goes.
-use Rattle.std.proofs.Common.{◌≡◌, ◌∙◌, ℕ, ◌+◌, ◌<◌, ◌≤◌, List, length, Some, slice_get, option_map, option_and_then, sym, ap, subst, arith}
+use Rattle.std.proofs.Common.{◌≡◌, ◌∙◌, ℕ, ◌+◌, ◌<◌, ◌≤◌, List, length, Some, slice_get, option_map, option_and_then, ap, subst, arith}
 use Rattle.std.proofs.lemmas.Option.{slice_get_within}
 use Rattle.pls_configuration.specs.declared.row.Port.{Port}
 use Rattle.pls_configuration.specs.declared.row.NodeRow.{NodeRow}
 use Rattle.pls_configuration.specs.declared.limits.TheConstants.{MAX_PORTS}
-use Rattle.pls_configuration.specs.Configuration.{ports_in}
 use Rattle.pls_graph.proofs.Finds.{item_at}
 use Rattle.pls_sim.specs.declared.target.Target.{Target}
 use Rattle.pls_sim.specs.Schedule.{goes_to}

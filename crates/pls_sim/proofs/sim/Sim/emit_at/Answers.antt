@@ -1,8 +1,9 @@
-use Rattle.std.proofs.Common.{◌∙◌, ◌+◌, ◌<◌, ℕ, false, length, ap, refl, arith}
+use Rattle.std.proofs.Common.{◌∙◌, ◌<◌, false, length, ap, refl, arith}
 use Rattle.std.proofs.lemmas.Bool.{le-leb, lt-leb}
 use Rattle.pls_sim.specs.Applying.{Played}
-use Rattle.pls_sim.proofs.Emitting.{among, emits, emitter, next_few, next_is_behind, next_within, port_within}
+use Rattle.pls_sim.proofs.Emitting.{among, emits, emitter, next_few, next_is_behind, next_within}
 use Rattle.pls_sim.proofs.Keeping.{few_sent, kept_emit, room_more}
+use Rattle.pls_sim.proofs.Numbering.{first_few}
 use Rattle.pls_sim.proofs.Refusing.{no_port, no_refusal, node_named, not_full, port_named}
 use Rattle.pls_sim.proofs.sim.Sim.emit_at.Goals as goal
 
@@ -12,6 +13,15 @@ first-requires c =
     let within = next_within c.self.inside.net.now c.args.self.now.network c.self.inside.ways
     c.self.invariant.0 network c.args.node c.args.place c.requires.place in
     omega (arith, within)
+
+pub overflow_add-number : goal.overflow_add-number
+overflow_add-number c =
+    let network = ap (λ (played : Played). played.network) c.self.view_is in
+    let at = emitter c.self.inside.net.now c.args.self.now.network c.self.inside.ways
+    c.self.invariant.0 network c.args.node c.args.place c.requires.place in
+    let few = first_few c.self.inside.net.now c.self.inside.ways c.self.invariant.0 c.args.place
+    c.first.result at.row at.stands c.first.ensures in
+    omega (arith, few)
 
 pub overflow_add-place : goal.overflow_add-place
 overflow_add-place c =
@@ -25,8 +35,8 @@ overflow_add-place c =
       c.self.invariant.0.network.limits.few_nodes,
     )
 
-pub first-2-requires : goal.first-2-requires
-first-2-requires c =
+pub first-requires-2 : goal.first-requires-2
+first-requires-2 c =
     let network = ap (λ (played : Played). played.network) c.self.view_is in
     let within = next_within c.self.inside.net.now c.args.self.now.network c.self.inside.ways
     c.self.invariant.0 network c.args.node c.args.place c.requires.place in
