@@ -19,11 +19,11 @@ use Rattle.pls_app.specs.declared.command.RuleTask.TheVariants.{Code, Judge, Spl
 use Rattle.pls_names.specs.declared.scheme_name.SchemeName.{SchemeName}
 use Rattle.pls_app.specs.Ruled.{rules_answer}
 use Rattle.pls_app.specs.Command.{IsCommand, IsUsage, input_parts_of, read_by, reads}
-use Rattle.pls_app.specs.Reports.{ends_well}
-use Rattle.pls_app.specs.Looks.{ends_in_well, looks_in}
+use Rattle.pls_app.specs.Reports.{rounds_end_well}
+use Rattle.pls_app.specs.Looks.{looks_end_well, looks_in}
 use Rattle.pls_app.specs.Meant.{judge_in}
 use Rattle.pls_app.specs.Said.{Answer}
-use Rattle.pls_app.specs.Answer.{Answers, IsAnswer, IsRefused, Reads, RefusesInput, Yields, outcomes_in, refusal, usage}
+use Rattle.pls_app.specs.Answer.{Answers, IsAnswer, IsInputTo, IsRefused, RefusesInput, Yields, outcomes_in, refusal, usage}
 use Rattle.pls_app.specs.Trial.{IsTrialAnswer}
 use Rattle.pls_app.specs.Run.{IsAnswered, IsJudged, IsRefusalStatus, TellsAnswer, TellsRefusal}
 use Rattle.pls_app.specs.inner.Tasks.{DoesWork}
@@ -184,7 +184,7 @@ answer_of_command words bytes command answer is answers = elim answers [
 
 -- a command answers what its refusal or its work says
 pub does_answer : (command : Command) (bytes : List ℕ) (input : Input) (answer : Answer)
-    → Reads command bytes input → DoesWork command input answer → Answers command bytes answer
+    → IsInputTo command bytes input → DoesWork command input answer → Answers command bytes answer
 does_answer command bytes input answer is work = elim work.does [
   | inl refused ↦
       let refuses : RefusesInput command input refused.0 = record {
@@ -226,12 +226,12 @@ yields_end (With (Simulate json) scheme) input parts answer yields =
     ends_so answer _ yields
     (report_ends (all_accept (outcomes_in (With (Simulate json) scheme) input)))
 yields_end (With Recheck scheme) input parts answer yields =
-    ends_so answer _ yields.2 (report_ends (ends_well yields.0))
+    ends_so answer _ yields.2 (report_ends (rounds_end_well yields.0))
 yields_end (With (Bound code) scheme) input parts answer yields =
     inl (ap (λ (answer : Answer). answer.status) yields)
 yields_end (With Watch scheme) input parts answer yields =
     ends_so answer _ yields
-    (report_ends (ends_in_well (looks_in (judge_in (code_in input) scheme) input)))
+    (report_ends (looks_end_well (looks_in (judge_in (code_in input) scheme) input)))
 yields_end (With Convert scheme) input parts answer yields =
     inl (ap (λ (answer : Answer). answer.status) yields)
 yields_end (With Splice scheme) input parts answer yields =

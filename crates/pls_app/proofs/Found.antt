@@ -19,7 +19,7 @@ use Rattle.pls_streams.specs.declared.refusal_number.TheConstants.{EDIT}
 use Rattle.pls_app.specs.EditsRefusal.{first_refused_edit, edits_refusal}
 use Rattle.pls_app.specs.Said.{Answer}
 use Rattle.pls_app.specs.Answer.{refusal, rounds_answer}
-use Rattle.pls_app.specs.Reports.{Report, ReportInput, Situation, first_situation, checked_in, edited_by, ends_well}
+use Rattle.pls_app.specs.Reports.{Report, ReportInput, Situation, checked_in, edited_by, first_situation, rounds_end_well}
 use Rattle.pls_app.specs.inner.Rechecking.{AddsReports, AddsReport, behind_all}
 use Rattle.pls_app.specs.inner.Tasks.{RecheckedIn}
 use Rattle.pls_app.proofs.Proved.{refused_not_done, refused_not_judged, round_holds}
@@ -61,7 +61,7 @@ module _ (scheme : Expression) (input : Input) (now : Situation) (reports : List
 
   -- where all is well in the last, the network has the property after all edits
   pub all_well : AreEdits (edits_in input) → IsNetwork now.rows → length now.labels ≡ length now.rows
-      → ends_well reports ≡ true → Holds scheme (edited_by (edits_in input) (rows_in input))
+      → rounds_end_well reports ≡ true → Holds scheme (edited_by (edits_in input) (rows_in input))
   all_well edits network each well =
       let judge = judge_in (code_in input) scheme in
       let ends : EndsIn judge (behind_all (Round ∷ (edits_in input)) (first_situation input)) =
@@ -77,7 +77,7 @@ module _ (scheme : Expression) (input : Input) (now : Situation) (reports : List
   pub all_found : AreEdits (edits_in input) → IsNetwork now.rows → length now.labels ≡ length now.rows
       → RecheckedIn scheme input (rounds_answer reports).status old new
   all_found edits network each = record {
-    held = λ done. all_well edits network each (done_well (ends_well reports) done);
+    held = λ done. all_well edits network each (done_well (rounds_end_well reports) done);
     asked = λ judged. are_asked;
   }
     where

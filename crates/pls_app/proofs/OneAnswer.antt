@@ -25,7 +25,7 @@ use Rattle.pls_app.specs.Command.{input_parts_of, read_by}
 use Rattle.pls_app.specs.Meant.{number_code_of, judge_in}
 use Rattle.pls_app.specs.Reports.{first_situation}
 use Rattle.pls_app.specs.Said.{Answer}
-use Rattle.pls_app.specs.Answer.{Answers, IsAnswer, Marks, Reads, Works, Yields, labels_answer, no, refusal, rounds_answer}
+use Rattle.pls_app.specs.Answer.{Answers, IsAnswer, IsInputTo, Marks, Works, Yields, labels_answer, no, refusal, rounds_answer}
 use Rattle.pls_app.specs.Trial.{IsTrialAnswer, trial_line, tried_scheme}
 use Rattle.pls_app.proofs.Commands.{one_command}
 use Rattle.pls_app.proofs.OneRefusal.{one_parts, one_refusal, refused_untaken}
@@ -78,7 +78,7 @@ one_tried nodes seed answer other one two =
 
 -- a command answers an input in one way
 one_yield : (command : Command) (bytes : List ℕ) (input : Input) (parts : List (List ℕ))
-    (answer other : Answer) → Reads command bytes input → AreComponents (rows_in input) parts
+    (answer other : Answer) → IsInputTo command bytes input → AreComponents (rows_in input) parts
     → Yields command input parts answer → Yields command input parts other → answer ≡ other
 one_yield (With (Mark code) scheme) bytes input parts answer other is are one two =
     one_mark code scheme (rows_in input) parts answer other

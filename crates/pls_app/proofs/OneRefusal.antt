@@ -14,7 +14,7 @@ use Rattle.pls_app.specs.declared.command.Command.TheVariants.{With}
 use Rattle.pls_app.specs.declared.command.Task.{Task}
 use Rattle.pls_app.specs.declared.command.Task.TheVariants.{Mark, Verify, Simulate, Recheck, Watch, Bound, Convert, Splice}
 use Rattle.pls_app.specs.Command.{input_parts_of, read_by}
-use Rattle.pls_app.specs.Answer.{IsRefused, Reads, RefusesInput, TakesInput, work_refusal}
+use Rattle.pls_app.specs.Answer.{IsInputTo, IsRefused, RefusesInput, TakesInput, work_refusal}
 use Rattle.pls_app.proofs.Values.{no_rows}
 
 -- a task with a scheme reads a network
@@ -31,7 +31,7 @@ wants_network Splice scheme = refl
 
 -- the components of an input are one list; where no network is read, there are none
 pub one_parts : (command : Command) (bytes : List ℕ) (input : Input) (parts others : List (List ℕ))
-    → Reads command bytes input → AreComponents (rows_in input) parts
+    → IsInputTo command bytes input → AreComponents (rows_in input) parts
     → AreComponents (rows_in input) others → parts ≡ others
 one_parts command bytes input parts others is are too = by (input_parts_of command).network refl
   where
@@ -48,7 +48,7 @@ one_parts command bytes input parts others is are too = by (input_parts_of comma
 
 -- a command refuses an input in one way
 one_asked : (command : Command) (bytes : List ℕ) (input : Input) (error other : TextError)
-    → Reads command bytes input → RefusesInput command input error
+    → IsInputTo command bytes input → RefusesInput command input error
     → RefusesInput command input other → error ≡ other
 one_asked command bytes input error other is one two =
     let parts : one.parts ≡ two.parts =
@@ -59,7 +59,7 @@ one_asked command bytes input error other is one two =
 
 -- an input that it takes it does not refuse
 taken : (command : Command) (bytes : List ℕ) (input : Input) (parts : List (List ℕ))
-    (error : TextError) → Reads command bytes input → TakesInput command input parts
+    (error : TextError) → IsInputTo command bytes input → TakesInput command input parts
     → RefusesInput command input error → ⊥
 taken command bytes input parts error is takes refuses =
     let same : parts ≡ refuses.parts =
@@ -90,7 +90,7 @@ one_refusal command bytes error other one two = elim one [
 
 -- bytes that are refused are no input that the command takes
 pub refused_untaken : (command : Command) (bytes : List ℕ) (error : TextError) (input : Input)
-    (parts : List (List ℕ)) → IsRefused command bytes error → Reads command bytes input
+    (parts : List (List ℕ)) → IsRefused command bytes error → IsInputTo command bytes input
     → TakesInput command input parts → ⊥
 refused_untaken command bytes error input parts refused is takes = elim refused [
   | inl none ↦ no_refusal (input_parts_of command) (read_by command bytes) input error is none

@@ -39,7 +39,7 @@ use Rattle.pls_app.specs.Command.{Checks, input_parts_of, read_by, reads}
 use Rattle.pls_app.specs.Meant.{Holds, LacksAt, judge_in, number_code_of, takes_of}
 use Rattle.pls_app.specs.Reports.{decided_by}
 use Rattle.pls_app.specs.Said.{Answer}
-use Rattle.pls_app.specs.Answer.{Answers, Reads, Yields, outcomes_in, refusal_status}
+use Rattle.pls_app.specs.Answer.{Answers, IsInputTo, Yields, outcomes_in, refusal_status}
 use Rattle.pls_app.specs.Run.{IsJudged, Lacks, Notices, Proves, SomeFails, SomeRejects}
 use Rattle.pls_app.specs.Spelled.{BeginsWithNetwork}
 use Rattle.pls_app.proofs.Spelled.{begins_with_network, whole_network}
@@ -218,7 +218,7 @@ accepted_holds code scheme rows labels network each accepted = λ places is.
 
 -- a component whose outcomes all accept has the property
 component_holds : (scheme : Expression) (command : Command) (bytes : List ℕ) (input : Input)
-    (places : List ℕ) → Checks scheme command → Reads command bytes input
+    (places : List ℕ) → Checks scheme command → IsInputTo command bytes input
     → IsComponent (rows_in input) places
     → all_accept (items_at (outcomes_in command input) places) ≡ true
     → HasProperty scheme (items_at (rows_in input) places)
@@ -289,7 +289,7 @@ no_rejects scheme command bytes answer checks answers ends = elim answers [
 
 -- of a component that lacks the property some node fails
 notice_one : (scheme : Expression) (command : Command) (bytes : List ℕ) (input : Input)
-    (places : List ℕ) → Checks scheme command → Reads command bytes input
+    (places : List ℕ) → Checks scheme command → IsInputTo command bytes input
     → LacksAt scheme (rows_in input) places → (all : Bool)
     → all_accept (items_at (outcomes_in command input) places) ≡ all
     → SomeFails (items_at (outcomes_in command input) places)

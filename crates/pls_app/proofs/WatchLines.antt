@@ -11,7 +11,7 @@ use Rattle.pls_labels.specs.Seen.{Seen}
 use Rattle.pls_sim.specs.declared.outcome.Outcome.{Outcome}
 use Rattle.pls_report.specs.Look.{look_is_well, look_text}
 use Rattle.pls_closing.specs.laws.ClosedLists.{closed_push}
-use Rattle.pls_watch_part.specs.WatchText.{bits_of, total_relabel_bits}
+use Rattle.pls_watch_part.specs.WatchText.{relabel_bits, total_relabel_bits}
 use Rattle.pls_watch_part.specs.declared.watch_event.WatchEvent.{WatchEvent}
 use Rattle.pls_watch_part.specs.declared.watch_event.WatchEvent.TheVariants.{Arrive, Emit, Relabel, Restart}
 use Rattle.pls_watch_part.specs.declared.watch_event.WatchLine.{WatchLine}
@@ -66,13 +66,13 @@ total_given [] = refl
 total_given (line ∷ lines) =
     omega (
       arith,
-      sum_by-cons bits_of line lines,
+      sum_by-cons relabel_bits line lines,
       bits_more (event_of line) (events_of lines),
       one line,
       total_given lines,
     )
   where
-    one : (line : WatchLine) → bits_of line ≡ bits_given (event_of line)
+    one : (line : WatchLine) → relabel_bits line ≡ bits_given (event_of line)
     one (Event (Emit node port)) = refl
     one (Event (Arrive number)) = refl
     one (Event (Restart node)) = refl
@@ -81,13 +81,13 @@ total_given (line ∷ lines) =
 
 -- the bits of the labels before a line and those of its label are among those of all lines
 pub given_within : (lines : List WatchLine) (i : ℕ) (d : WatchLine) → i < length lines
-    → bits_given (events_of (take i lines)) + bits_of (get_or lines i d) ≤ total_relabel_bits lines
+    → bits_given (events_of (take i lines)) + relabel_bits (get_or lines i d) ≤ total_relabel_bits lines
 given_within lines i d within =
     omega (
       arith,
       total_given (take i lines),
-      sum_by-take-drop bits_of lines i,
-      sum_by-drop_more bits_of lines i d within,
+      sum_by-take-drop relabel_bits lines i,
+      sum_by-drop_more relabel_bits lines i d within,
     )
 
 module _ (rows : List NodeRow) (before : List WatchEvent) (lines : List WatchLine)

@@ -41,7 +41,7 @@ use Rattle.pls_inputs.proofs.Facts.{readable}
 use Rattle.pls_app.specs.declared.command.Command.TheVariants.{With}
 use Rattle.pls_app.specs.declared.command.Task.TheVariants.{Watch}
 use Rattle.pls_app.specs.Answer.{Answers}
-use Rattle.pls_app.specs.Looks.{ends_in_well, look_after, looks_behind, looks_in, watched_after}
+use Rattle.pls_app.specs.Looks.{look_after, looks_behind, looks_end_well, looks_in, watched_after}
 use Rattle.pls_app.specs.Meant.{judge_in}
 use Rattle.pls_app.specs.Run.{Proves}
 use Rattle.pls_app.specs.Said.{Answer}
@@ -63,7 +63,7 @@ module _ (shown : List WatchEvent → List (ℕ × Outcome × List ℕ)) where
   -- and the last one comes behind all events
   last_look : (before : List WatchEvent) (lines : List WatchLine)
       → is_closed is_look false lines ≡ true
-      → ends_in_well (looks_behind shown before lines)
+      → looks_end_well (looks_behind shown before lines)
       ≡ look_is_well (shown (before ++ events_of lines))
   last_look before [] closed = absurd (cc)
   last_look before (Event event ∷ []) closed = absurd (cc)
@@ -78,7 +78,7 @@ module _ (shown : List WatchEvent → List (ℕ × Outcome × List ℕ)) where
       ∙ last_look before (next ∷ lines) closed
     where
       skip : (looks : List (List (ℕ × Outcome × List ℕ))) → (looks ≡ [] → ⊥)
-          → ends_in_well (shown before ∷ looks) ≡ ends_in_well looks
+          → looks_end_well (shown before ∷ looks) ≡ looks_end_well looks
       skip [] some = absurd (some refl)
       skip (look ∷ looks) some = refl
 
@@ -207,7 +207,7 @@ watch_proves scheme bytes answer answers done = elim answers [
       let watched : Watched =
       watched_after rows (labels_in input) (events_of (watch_in input)) in
       let network : IsNetwork rows = (readable parts_with_watch bytes input works.is refl).network in
-      let ends = done_all (ends_in_well (looks_in judge input))
+      let ends = done_all (looks_end_well (looks_in judge input))
       (sym (ap (λ (answer : Answer). answer.status) works.yields) ∙ done) in
       let well : look_is_well (look_of judge watched) ≡ true =
       sym (last_look (look_after judge rows (labels_in input)) [] (watch_in input)

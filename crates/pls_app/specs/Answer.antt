@@ -36,7 +36,7 @@ use Rattle.pls_app.specs.EditsRefusal.{edits_refusal}
 use Rattle.pls_bits.specs.Gamma.{gamma_takes}
 use Rattle.pls_compile.specs.RuleMeaning.{meaning}
 use Rattle.pls_app.specs.Ruled.{code_answer, rules_answer, set_in}
-use Rattle.pls_app.specs.Reports.{Report, ReportInput, decided_by, ends_well, reports_text}
+use Rattle.pls_app.specs.Reports.{Report, ReportInput, decided_by, reports_text, rounds_end_well}
 use Rattle.pls_app.specs.Looks.{looks_answer, looks_in}
 use Rattle.pls_app.specs.Said.{Answer}
 use Rattle.pls_app.specs.Trial.{IsTrialAnswer}
@@ -99,7 +99,7 @@ labels_answer code rows labels =
 -- the answer with the reports of rounds
 abbrev pub rounds_answer : List Report → Answer
 rounds_answer reports = record {
-  status = if ends_well reports then Done else No;
+  status = if rounds_end_well reports then Done else No;
   text = reports_text reports;
 }
 
@@ -192,18 +192,18 @@ pub record TakesInput (command : Command) (input : Input) (parts : List (List �
   pub accepted : work_refusal command input parts ≡ None
 
 -- what the command reads of the bytes is the input
-abbrev pub Reads : Command → List ℕ → Input → Type 0
-Reads command bytes input = IsInput (input_parts_of command) (read_by command bytes) input
+abbrev pub IsInputTo : Command → List ℕ → Input → Type 0
+IsInputTo command bytes input = IsInput (input_parts_of command) (read_by command bytes) input
 
 -- the command refuses the bytes: they are no input, or it refuses the input that they are
 abbrev pub IsRefused : Command → List ℕ → TextError → Type 0
 IsRefused command bytes error = IsNoInput (input_parts_of command) (read_by command bytes) error
-    ⊎ ((input : Input) × Reads command bytes input × RefusesInput command input error)
+    ⊎ ((input : Input) × IsInputTo command bytes input × RefusesInput command input error)
 
 -- the command takes the input that the bytes are, and this is its answer to it
 pub record Works (command : Command) (bytes : List ℕ) (answer : Answer) : Type 0 where
   pub input : Input
-  pub is : Reads command bytes input
+  pub is : IsInputTo command bytes input
   pub parts : List (List ℕ)
   pub takes : TakesInput command input parts
   pub yields : Yields command input parts answer

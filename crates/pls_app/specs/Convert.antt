@@ -15,7 +15,8 @@ use Rattle.pls_app.specs.Meant.{converted_in}
 
 -- the labels of an input in the delta code
 abbrev pub converted_labels : Expression → Input → List (List Bool)
-converted_labels scheme input = all_converted (converted_in (code_in input) scheme) (labels_in input)
+converted_labels scheme input =
+    all_converted (converted_in (code_in input) scheme) (labels_in input)
 
 -- 60: the first node whose label cannot be read
 abbrev pub unreadable_label : Expression → Input → Option TextError

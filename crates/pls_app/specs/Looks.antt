@@ -51,12 +51,12 @@ looks_text number [] = []
 looks_text number (look ∷ later) = look_text number look ++ looks_text (number + 1) later
 
 -- at the last look all nodes accept, and no port is stale; there is always one
-abbrev pub ends_in_well : List (List (ℕ × Outcome × List ℕ)) → Bool
-ends_in_well looks = is_closed look_is_well true looks
+abbrev pub looks_end_well : List (List (ℕ × Outcome × List ℕ)) → Bool
+looks_end_well looks = is_closed look_is_well true looks
 
 -- the answer with looks
 abbrev pub looks_answer : List (List (ℕ × Outcome × List ℕ)) → Answer
 looks_answer looks = record {
-  status = if ends_in_well looks then Done else No;
+  status = if looks_end_well looks then Done else No;
   text = looks_text 1 looks;
 }

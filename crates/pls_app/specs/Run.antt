@@ -36,7 +36,7 @@ use Rattle.pls_app.specs.Spelled.{BeginsWithNetwork, EndsWithEdits, IsNetworkTex
 use Rattle.pls_edits.specs.declared.edit_line.EditLine.{EditLine}
 use Rattle.pls_configuration.specs.declared.limits.TheConstants.{MAX_BITS}
 use Rattle.pls_labels.specs.Labels.{bits_together}
-use Rattle.pls_app.specs.Answer.{IsAnswer, IsRefused, Reads, no, outcomes_in, refusal, refusal_status}
+use Rattle.pls_app.specs.Answer.{IsAnswer, IsInputTo, IsRefused, no, outcomes_in, refusal, refusal_status}
 
 -- the words are this command, and the source tells these bytes
 pub record Asks (words : List (List ℕ)) (left : Option (List ℕ)) (command : Command)
@@ -73,7 +73,7 @@ HasItsCause ReadFault old_reads new_reads old_writes new_writes = Rose old_reads
 HasItsCause WriteFault old_reads new_reads old_writes new_writes = Rose old_writes new_writes
 HasItsCause other old_reads new_reads old_writes new_writes = ⊤
 
--- a source that tells its bytes was read to its end, or up to the first byte past the limit
+-- a source that tells its bytes was read to its end, or by one byte more than the limit
 abbrev pub HasRead : Option (List ℕ) → Option (List ℕ) → Type 0
 HasRead None new = ⊤
 HasRead (Some bytes) new =
@@ -102,8 +102,8 @@ IsSureOfAnswer words left sure =
 abbrev pub EndsAs : Status → Status → Type 0
 EndsAs due status = (status ≡ due) ⊎ ((status ≡ WriteFault) ⊎ (status ≡ NoMemory))
 
--- what a run takes from its source: one that answers a command has read it to its end, or up to the
--- first byte past the limit, and none takes more
+-- what a run takes from its source: one that answers a command has read it to its end, or by one
+-- byte more than the limit, and none takes more
 pub record Consumes (words : List (List ℕ)) (status : Status)
     (old new : Option (List ℕ)) : Type 0 where
   pub read : (command : Command) → IsCommand words command → reads command ≡ true
@@ -141,21 +141,21 @@ SomeFails outcomes =
 -- the command reads an input from the bytes, and some node rejects what it sees, or still waits
 pub record SomeRejects (command : Command) (bytes : List ℕ) : Type 0 where
   pub input : Input
-  pub is : Reads command bytes input
+  pub is : IsInputTo command bytes input
   pub fails : SomeFails (outcomes_in command input)
 
 -- the command reads an input from the bytes, and of each component that lacks the property the
 -- report has a node that rejects what it sees, or still waits
 pub record Notices (scheme : Expression) (command : Command) (bytes : List ℕ) : Type 0 where
   pub input : Input
-  pub is : Reads command bytes input
+  pub is : IsInputTo command bytes input
   pub notices : (places : List ℕ) → LacksAt scheme (rows_in input) places
       → SomeFails (items_at (outcomes_in command input) places)
 
 -- the bytes are the text of a network with these components, and the text is that of labels which
 -- show the property of each of them under the code; together they have no more bits than the labels
--- of an input may have. That `verify` ends with `Done` on the bytes with the text behind them is the law
--- `marked_is_verified`
+-- of an input may have. That `verify` ends with `Done` on the bytes with the text behind them is
+-- the law `marked_is_verified`
 pub record Certifies (code : CodeName) (scheme : Expression)
     (bytes text : List ℕ) : Type 0 where
   pub rows : List NodeRow

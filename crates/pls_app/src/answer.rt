@@ -7,7 +7,7 @@ ghost use Rattle.pls_report.specs.Report.{all_accept};
 ghost use Rattle.pls_report.specs.PartLines.{if_several};
 ghost use Rattle.pls_report.specs.inner.Pieces.{spaced};
 ghost use Rattle.pls_app.specs.Answer.{no, refusal, refusal_status, report, rounds_answer, usage};
-ghost use Rattle.pls_app.specs.Reports.{ends_well};
+ghost use Rattle.pls_app.specs.Reports.{rounds_end_well};
 ghost use Rattle.pls_app.specs.inner.Tasks.{IsWorked};
 
 use crate::part_rows::part_rows;
@@ -160,7 +160,7 @@ pub(crate) fn rounds_answer(reports: Vec<RoundReport>) -> Answer
 
 // Whether all is well in the last report; true where there is none.
 fn ends_well(reports: &[RoundReport]) -> bool
-    ensures { result ≡ ends_well reports.now }
+    ensures { result ≡ rounds_end_well reports.now }
 {
     match reports.last() {
         Some(last) => last.is_well(),

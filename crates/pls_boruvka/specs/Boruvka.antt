@@ -41,8 +41,9 @@ AreBoruvkaLevelsFrom edges Before nodes depth joined (level ∷ levels) =
 -- the levels of a configuration whose pointers are a spanning tree: edges are ordered by weight, at
 -- one weight those of the tree first, then by their ends; at first no edge joins
 abbrev pub AreBoruvkaLevels : List NodeRow → (ℕ → ℕ) → List (ℕ → Level) → Type 0
-AreBoruvkaLevels rows depth levels = AreBoruvkaLevelsFrom (edges_of rows) (ComesBefore (pointed_edges rows))
-    (ids_of rows) depth [] levels
+AreBoruvkaLevels rows depth levels =
+    AreBoruvkaLevelsFrom (edges_of rows) (ComesBefore (pointed_edges rows)) (ids_of rows) depth []
+    levels
 
 -- the depth of each node is the number of pointers of its chain
 abbrev pub AreChainLengths : List NodeRow → (ℕ → ℕ) → Type 0

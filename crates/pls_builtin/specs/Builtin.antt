@@ -2,7 +2,7 @@
 use Rattle.std.specs.Prelude.{ℕ, if◌then◌else◌, List, [], ◌∷◌, Option, Some, None, codes, bytes_eq, option_and_then}
 use Rattle.pls_rules.specs.declared.field.Field.{Field}
 use Rattle.pls_numbers.specs.declared.kind.FieldKind.{FieldKind}
-use Rattle.pls_numbers.specs.declared.kind.FieldKind.TheVariants.{Num as Coded, Bit}
+use Rattle.pls_numbers.specs.declared.kind.FieldKind.TheVariants.{Num as InCode, Bit}
 use Rattle.pls_names.specs.declared.scheme_name.SchemeName.{SchemeName}
 use Rattle.pls_names.specs.declared.scheme_name.SchemeName.TheVariants.{Acyclic, Bipartite, Count, Forest, Leader, MinimumSpanningTree, PathMax, ShortestPathTree, Tree}
 use Rattle.pls_rules.specs.Formula.{Eq, Lt, Le, Same, Both, Either, Not, All, Any, Number, Id, Mark, Num, Pointed, My, Up, UpWeight, Nb, NbWeight, Add, Sum}
@@ -14,7 +14,7 @@ field name kind = record { name = name; kind = kind }
 
 -- a field with this name, written in the number code
 abbrev pub number : List ℕ → Field
-number name = field name Coded
+number name = field name InCode
 
 -- `leader`, of root and depth: the neighbours name the own root; the depth is 0 exactly at the
 -- root; it is 0, or some neighbour is one less deep; the mark is 1 exactly where the depth is 0

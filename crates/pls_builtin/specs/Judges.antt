@@ -21,4 +21,5 @@ JudgesAs set shape rules view =
 -- every number code
 abbrev pub JudgesAsNamed : SchemeName → Seen → Type 0
 JudgesAsNamed name view = (set : Rules) → set_of_name name ≡ Some set
-    → (takes : List Bool → Option (ℕ × List Bool)) → meaning takes set view ≡ judge_named takes name view
+    → (takes : List Bool → Option (ℕ × List Bool))
+    → meaning takes set view ≡ judge_named takes name view

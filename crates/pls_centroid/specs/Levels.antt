@@ -18,8 +18,8 @@ greatest_along rows u (next ∷ nodes) = max (edge_weight rows u next)
 
 -- what a node has on a level whose pieces these edges hold together: the centroid of its piece, and
 -- how many edges its path in the tree to the centroid has, and the greatest weight of these
-pub record IsCentroidLevelOf (rows : List NodeRow) (edges : List Edge) (u : ℕ) (level : CentroidLevel)
-    : Type 0 where
+pub record IsCentroidLevelOf (rows : List NodeRow) (edges : List Edge) (u : ℕ)
+    (level : CentroidLevel) : Type 0 where
   pub centroid : centroid_of edges (ids_of rows) u ≡ Some level.centroid
   pub path : List ℕ
   pub leads : IsPath (pointed_edges rows) u path level.centroid

@@ -47,4 +47,5 @@ all_converted to labels = map (λ bits. unwrap_or (to bits) []) labels
 abbrev pub first_unreadable : (List Bool → Option (List Bool)) → List (List Bool) → Option ℕ
 first_unreadable to [] = None
 first_unreadable to (bits ∷ labels) =
-    if is_some (to bits) then option_map (λ place. place + 1) (first_unreadable to labels) else Some 0
+    if is_some (to bits) then option_map (λ place. place + 1) (first_unreadable to labels)
+    else Some 0

@@ -96,4 +96,5 @@ IsNoInput parts bytes error =
 -- the bytes are an input, or are refused
 abbrev pub IsInputOrNot : Parts → List ℕ → Type 0
 IsInputOrNot parts bytes =
-    ((input : Input) × IsInput parts bytes input) ⊎ ((error : TextError) × IsNoInput parts bytes error)
+    ((input : Input) × IsInput parts bytes input)
+    ⊎ ((error : TextError) × IsNoInput parts bytes error)

@@ -39,7 +39,7 @@ IsFirstLine None (Some edits) watch input line = line ≡ edits_heading input + 
 IsFirstLine None None (Some watch) input line = line ≡ watch_heading input + 1
 IsFirstLine None None None input line = ⊤
 
--- the rule set makes sense, and is the one that the part says which is written of it
+-- the rule set makes sense, and the part that is written of it says this set again
 abbrev pub IsSensible : Option RuleSet → Type 0
 IsSensible None = ⊤
 IsSensible (Some set) = AreRules (set_of set) × (set_said (said_of_set (set_of set)) ≡ set_of set)

@@ -45,8 +45,12 @@ pub struct Input {
     pub first_line: u64,
 }
 
-/// What bytes say that are to be an input with these parts, or why they are none. Labels stand
-/// behind a network alone.
+/// Reads bytes, at most 2^27 of them, as an input with these parts. Labels stand behind a network
+/// alone.
+///
+/// The error is the first faulty line, counted from 1 over the whole input; else the first limit
+/// that is passed; else why the rows are no network, or the labels, edits or rules do not fit; or
+/// want of memory.
 pub fn read_input(alloc: Global, parts: Parts, bytes: &[u8]) -> Result<Input, TextError>
     requires short { length bytes.now ≤ MAX_INPUT }
     requires behind { parts.labels ≡ true → parts.network ≡ true }

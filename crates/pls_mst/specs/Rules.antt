@@ -16,7 +16,8 @@ use Rattle.pls_mst.specs.Labels.{MstLabel}
 
 -- the neighbour names the own root, and has as many levels
 abbrev pub names_root_and_levels : MstLabel → ReadPort MstLabel → Bool
-names_root_and_levels own port = port.label.root == own.root && length port.label.levels == length own.levels
+names_root_and_levels own port =
+    port.label.root == own.root && length port.label.levels == length own.levels
 
 -- rule 4: every neighbour names the own root, and has as many levels
 abbrev pub agrees_on_root_and_levels : Read MstLabel → Bool

@@ -8,7 +8,8 @@ use Rattle.pls_names.specs.Named.{all_names, name_of}
 -- the first of some names that is in front
 abbrev pub first_name : List SchemeName → List ℕ → Option (Front SchemeName)
 first_name [] text = None
-first_name (name ∷ names) text = option_or (word_front name (name_of name) text) (first_name names text)
+first_name (name ∷ names) text =
+    option_or (word_front name (name_of name) text) (first_name names text)
 
 -- the name of a scheme at the front of a text
 abbrev pub name_front : List ℕ → Option (Front SchemeName)

@@ -6,14 +6,14 @@
 use Rattle.std.specs.Prelude.{ℕ, ◌+◌, ◌==◌, nat_le, Bool, false, ◌&&◌, ◌||◌, List, [], ◌∷◌, slice_get}
 use Rattle.std.specs.List.{enumerate_from, list_all, list_any, zip}
 use Rattle.std.specs.Option.{option_map_or}
-use Rattle.pls_scheme.specs.Reading.{Read, ReadPort}
+use Rattle.pls_scheme.specs.Reading.{Read, ReadPort, agrees_on}
 use Rattle.pls_centroid.specs.declared.level.CentroidLevel.{CentroidLevel}
 use Rattle.pls_levels.specs.Rules.{is_in_tree, is_placed_in_tree}
 use Rattle.pls_pathmax.specs.Labels.{PathMaxLabel}
 
 -- rule 4: every neighbour names the own root
 abbrev pub agrees_on_root : Read PathMaxLabel → Bool
-agrees_on_root view = list_all (λ port. port.label.root == view.own.root) view.ports
+agrees_on_root view = agrees_on (λ label. label.root) view
 
 -- what the neighbour has on a level leads on from what the node has: it has the same centroid, one
 -- hop nearer, and neither its greatest weight nor the edge to it is above the own greatest

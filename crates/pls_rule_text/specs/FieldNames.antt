@@ -6,10 +6,10 @@ use Rattle.pls_rules.specs.declared.field.Field.{Field}
 abbrev pub names_of : List Field → List (List ℕ)
 names_of fields = map (λ field. field.name) fields
 
--- the name of the field with this number, and none where there is no such field
+-- the name of the field with this number, and an empty one where there is no such field
 abbrev pub name_at : List (List ℕ) → ℕ → List ℕ
 name_at names number = get_or names number []
 
 -- no two names are one
-abbrev pub AreDistinct : List (List ℕ) → Type 0
-AreDistinct names = AllPairs (λ one other. one ≢ other) names
+abbrev pub NamesDiffer : List (List ℕ) → Type 0
+NamesDiffer names = AllPairs (λ one other. one ≢ other) names

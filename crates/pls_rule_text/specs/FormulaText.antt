@@ -48,15 +48,14 @@ pub record IsName (name : List ℕ) : Type 0 where
   pub few : length name ≤ 16
   pub letters : All (λ letter. (97 ≤ letter) × (letter ≤ 122)) name
 
--- the name of a field: what is told of ports has words of its own
+-- the name of a field, which is none of the words `weight` and `up`
 pub record IsFieldName (name : List ℕ) : Type 0 where
   pub name_of : IsName name
   pub no_weight : name ≢ codes "weight"
   pub no_up : name ≢ codes "up"
 
 abbrev mutual
-  -- a formula whose fields stand by their names is one of the grammar: its numbers are at most
-  -- 2^63 - 2, and where a port has a word of its own, that is what the word says
+  -- a formula whose fields stand by their names is one of the grammar: each term in it is
   pub FormulaIsWritten : Formula (List ℕ) → Type 0
   FormulaIsWritten (Eq a b) = TermIsWritten a × TermIsWritten b
   FormulaIsWritten (Lt a b) = TermIsWritten a × TermIsWritten b
@@ -69,7 +68,7 @@ abbrev mutual
   FormulaIsWritten (Any a) = FormulaIsWritten a
 
   -- a term whose fields stand by their names is one of the grammar: its numbers are at most
-  -- 2^63 - 2, and where a port has a word of its own, that is what the word says
+  -- 2^63 - 2, and `up.weight`, `nb.weight` and `nb.up`, which are told of ports, name no field
   pub TermIsWritten : Term (List ℕ) → Type 0
   TermIsWritten (Number n) = n ≤ MAX_CODED
   TermIsWritten Id = Unit {0}

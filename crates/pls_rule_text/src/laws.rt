@@ -4,7 +4,7 @@ ghost use Rattle.std.specs.Prelude.{◌≡◌, ◌≢◌, ◌≤◌, All, None, 
 ghost use Rattle.std.specs.List.{AllByRecursion};
 ghost use Rattle.pls_rules.specs.HeldTrees.{formula_of};
 ghost use Rattle.pls_rules.specs.RuleSet.{IsRule};
-ghost use Rattle.pls_rule_text.specs.FieldNames.{AreDistinct, name_at, names_of};
+ghost use Rattle.pls_rule_text.specs.FieldNames.{NamesDiffer, name_at, names_of};
 ghost use Rattle.pls_rule_text.specs.FormulaText.{IsFieldName, formula_text};
 ghost use Rattle.pls_rule_text.specs.RuleText.{FitsRule, RuleSaid, Shallow, formula_with, place_of_name, rule_refusal, rule_text};
 ghost use Rattle.pls_rule_text.specs.inner.Said.{rule_said};
@@ -28,7 +28,7 @@ pub fn one_rule()
 /// is read again.
 pub fn printed_rule(fields: &[Field], rule: &BoolExpr)
     requires names { All IsFieldName (names_of fields.now) }
-    requires distinct { AreDistinct (names_of fields.now) }
+    requires distinct { NamesDiffer (names_of fields.now) }
     requires rule { IsRule (length (names_of fields.now)) (formula_of rule.now) }
     requires few { length (formula_text (name_at (names_of fields.now)) (formula_of rule.now)) ≤ 4096 }
     ensures text { formula_text (name_at (names_of fields.now)) (formula_of rule.now)

@@ -21,7 +21,7 @@ use Rattle.pls_rules.specs.declared.rule_set.RuleSet.{RuleSet}
 use Rattle.pls_rule_text.specs.FieldNames.{names_of}
 use Rattle.pls_rule_text.specs.Refused.{IsTreeOf}
 use Rattle.pls_rule_text.specs.RuleText.{Deep, RuleSaid, Shallow, is_among, rule_refusal}
-use Rattle.pls_rules_part.specs.Refusal.{IsRefusal}
+use Rattle.pls_rules_part.specs.Refusal.{SaysTextRefusal}
 use Rattle.pls_rules_part.specs.RulesScan.{FitsWords, LineWords, words_line, words_of}
 use Rattle.pls_rules_part.specs.RulesText.{FitsRuleLine, OfField, OfRule, RuleLine, RulesSaid, field_refusals, refusals_from, set_said}
 use Rattle.pls_rules_part.specs.inner.Adding.{AddsField, AddsLine, AddsRule, at_line, line_refusal}
@@ -31,7 +31,7 @@ use Rattle.pls_rules_part.specs.laws.LineLaws.{lines_of_rules}
 -- the first of the refusals that are left
 refused_first : (line : ℕ) (refusal : Option ℕ) (others : List (Option ℕ)) (whole : Option TextError)
     (error : TextError) → whole ≡ first_of (refusals_from line (refusal ∷ others))
-    → IsRefusal (at_line line refusal) error → IsRefusal whole error
+    → SaysTextRefusal (at_line line refusal) error → SaysTextRefusal whole error
 refused_first line None others whole (Form k) is at = absurd (cc at)
 refused_first line None others whole (Limit quantity) is at = absurd (cc at)
 refused_first line None others whole (Sense number place) is at = absurd (cc at)
@@ -216,7 +216,7 @@ module _ (said : RulesSaid) (refusal : Option TextError) (old : Left) (set : Rul
   abbrev pub RefusesNext : LineWords → TextError → Type 0
   RefusesNext words error =
       (line : RuleLine) → FitsRuleLine line → words ≡ words_of line
-      → IsRefusal (at_line old.number (line_refusal (names_of set.fields.items) line)) error
+      → SaysTextRefusal (at_line old.number (line_refusal (names_of set.fields.items) line)) error
 
   -- so the set comes further
   pub progress_step : (new : Left) (words : LineWords) (after : RuleSet) → FitsWords words
@@ -241,19 +241,19 @@ module _ (said : RulesSaid) (refusal : Option TextError) (old : Left) (set : Rul
 
   -- or the part is refused by the line
   pub progress_refusal : (new : Left) (words : LineWords) (error : TextError) → FitsWords words
-      → Passes old new (words_line words ∷ []) → RefusesNext words error → IsRefusal refusal error
+      → Passes old new (words_line words ∷ []) → RefusesNext words error → SaysTextRefusal refusal error
   progress_refusal new words error fits passes refuses =
       by progress.fields progress.rules (one_line new words fits passes)
     where
       by : (fields : List Field) (rules : List RuleSaid) → OneLine fields rules new words
-          → IsRefusal refusal error
+          → SaysTextRefusal refusal error
       by [] [] one = absurd (cc one.next.are)
       by [] (rule ∷ rules) one =
           let is : words ≡ words_of (OfRule rule) = let are = one.next.are in cc in
           let fits = All-head FitsRuleLine (OfRule rule) (lines_of [] rules) one.fits in
           refused_first old.number (rule_refusal names rule) (map (rule_refusal names) rules) refusal
           error one.later
-          (subst (λ (names : List (List ℕ)). IsRefusal (at_line old.number (rule_refusal names rule))
+          (subst (λ (names : List (List ℕ)). SaysTextRefusal (at_line old.number (rule_refusal names rule))
           error) (field_names one.fields_are) (refuses (OfRule rule) fits is))
       by (field ∷ fields) rules one =
           let is : words ≡ words_of (OfField field) = let are = one.next.are in cc in
@@ -261,6 +261,6 @@ module _ (said : RulesSaid) (refusal : Option TextError) (old : Left) (set : Rul
           refused_first old.number (if is_among progress.seen field.name then Some FIELD else None)
           (field_refusals (field.name ∷ progress.seen) fields ++ map (rule_refusal names) rules)
           refusal error one.later
-          (subst (λ (known : Bool). IsRefusal (at_line old.number
+          (subst (λ (known : Bool). SaysTextRefusal (at_line old.number
           (if known then Some FIELD else None)) error) (sym (progress.seen_are field.name))
           (refuses (OfField field) fits is))

@@ -11,13 +11,13 @@ use Rattle.pls_configuration.specs.Configuration.{first_of}
 use Rattle.pls_rules.specs.Formula.{Formula}
 use Rattle.pls_rules.specs.RuleSet.{IsRule, Rules, rules_of}
 use Rattle.pls_rules.specs.declared.field.Field.{Field}
-use Rattle.pls_rule_text.specs.FieldNames.{AreDistinct, name_at, names_of}
+use Rattle.pls_rule_text.specs.FieldNames.{NamesDiffer, name_at, names_of}
 use Rattle.pls_rule_text.specs.FormulaText.{IsFieldName, formula_text}
 use Rattle.pls_rule_text.specs.RuleText.{RuleSaid, Shallow, formula_with, is_among, rule_refusal}
 use Rattle.pls_rule_text.specs.laws.NameLaws.{other_word}
 use Rattle.pls_rule_text.specs.laws.PrintLaws.{named_again, named_fits, named_refusal}
 use Rattle.pls_rules_part.specs.Printable.{IsPrintable}
-use Rattle.pls_rules_part.specs.Refusal.{IsRefusal}
+use Rattle.pls_rules_part.specs.Refusal.{SaysTextRefusal}
 use Rattle.pls_rules_part.specs.RulesScan.{IsRulesPart, TellsRules}
 use Rattle.pls_rules_part.specs.RulesText.{AreRulesSaid, FitsRuleLine, OfField, OfRule, field_refusals, line_refusals, refusals_from, rules_lines, rules_text, said_of_set, set_said}
 use Rattle.pls_rules_part.specs.inner.Adding.{refusal_from}
@@ -35,7 +35,7 @@ first_none line (Some number ∷ others) none = let no = none.0 in absurd (cc no
 
 -- fields with other names than those before
 fields_accepted : (seen : List (List ℕ)) (fields : List Field)
-    → All (λ name. is_among seen name ≡ false) (names_of fields) → AreDistinct (names_of fields)
+    → All (λ name. is_among seen name ≡ false) (names_of fields) → NamesDiffer (names_of fields)
     → NoneOf (field_refusals seen fields)
 fields_accepted seen [] other distinct = tt
 fields_accepted seen (field ∷ fields) other distinct =
@@ -59,7 +59,7 @@ field_lines (field ∷ fields) names =
     (All-head IsFieldName field.name (names_of fields) names)
     (field_lines fields (All-tail IsFieldName field.name (names_of fields) names))
 
-module _ (names : List (List ℕ)) (distinct : AreDistinct names) (are : All IsFieldName names) where
+module _ (names : List (List ℕ)) (distinct : NamesDiffer names) (are : All IsFieldName names) where
   abbrev said : List (Formula ℕ) → List RuleSaid
   said rules = map (λ rule. Shallow (formula_with (name_at names) rule)) rules
 
@@ -145,7 +145,7 @@ module _ (set : Rules) (printable : IsPrintable set) where
 
   -- and no refused one
   pub printed_memory : (line : ℕ) (error : TextError)
-      → IsRefusal (refusal_from line (said_of_set set)) error → error ≡ NoMemory
+      → SaysTextRefusal (refusal_from line (said_of_set set)) error → error ≡ NoMemory
   printed_memory line (Form k) is = absurd (cc (sym (printable_accepted line) ∙ is))
   printed_memory line (Limit quantity) is = absurd (cc (sym (printable_accepted line) ∙ is))
   printed_memory line (Sense number place) is = absurd (cc (sym (printable_accepted line) ∙ is))

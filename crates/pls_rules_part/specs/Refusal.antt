@@ -7,14 +7,14 @@ use Rattle.pls_rules_part.specs.RulesScan.{IsRulesPart, TellsRules}
 use Rattle.pls_rules_part.specs.RulesText.{RulesSaid, rules_refusal}
 
 -- the error is this refusal, or there was no memory
-abbrev pub IsRefusal : Option TextError → TextError → Type 0
-IsRefusal refusal NoMemory = Unit {0}
-IsRefusal refusal error = refusal ≡ Some error
+abbrev pub SaysTextRefusal : Option TextError → TextError → Type 0
+SaysTextRefusal refusal NoMemory = Unit {0}
+SaysTextRefusal refusal error = refusal ≡ Some error
 
 -- the error is that of the first line by which a part is refused whose heading is in this line, or
 -- there was no memory
 abbrev pub IsRulesRefusal : ℕ → RulesSaid → TextError → Type 0
-IsRulesRefusal heading said error = IsRefusal (rules_refusal heading said) error
+IsRulesRefusal heading said error = SaysTextRefusal (rules_refusal heading said) error
 
 -- why a text is refused that is to be one rules part: its first faulty line, or the refusal of what
 -- it says

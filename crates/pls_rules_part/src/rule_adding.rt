@@ -7,7 +7,7 @@ ghost use Rattle.pls_rule_text.specs.FieldNames.{names_of};
 ghost use Rattle.pls_rule_text.specs.FormulaText.{IsFieldName};
 ghost use Rattle.pls_rule_text.specs.Refused.{IsTreeOf};
 ghost use Rattle.pls_rule_text.specs.RuleText.{FitsRule, IsRuleText, RuleSaid, is_among, rule_refusal, rule_text};
-ghost use Rattle.pls_rules_part.specs.Refusal.{IsRefusal};
+ghost use Rattle.pls_rules_part.specs.Refusal.{SaysTextRefusal};
 ghost use Rattle.pls_rules_part.specs.inner.Adding.{at_line};
 
 use pls_rule_text::{RuleError, read_rule};
@@ -29,7 +29,7 @@ pub(crate) fn add_field(
     ensures added { OnOk result (fields.new.items
         ≡ fields.old.items ++ (record { name = name.now; kind = kind }) ∷ []) }
     ensures other { OnOk result (is_among (names_of fields.old.items) name.now ≡ false) }
-    ensures refused { IfErr result (IsRefusal (at_line place
+    ensures refused { IfErr result (SaysTextRefusal (at_line place
         (if is_among (names_of fields.old.items) name.now then Some FIELD else None))) }
 {
     if has_name(fields, name) {
@@ -79,7 +79,7 @@ pub(crate) fn rule_at(
     ensures sense { (rule : RuleSaid) → FitsRule rule → text.now ≡ rule_text rule
         → OnOk result (rule_refusal (names_of fields.now) rule ≡ None) }
     ensures refused { (rule : RuleSaid) → FitsRule rule → text.now ≡ rule_text rule
-        → IfErr result (IsRefusal (at_line place (rule_refusal (names_of fields.now) rule))) }
+        → IfErr result (SaysTextRefusal (at_line place (rule_refusal (names_of fields.now) rule))) }
 {
     match read_rule(alloc, fields, text) {
         Ok(rule) => Ok(rule),

@@ -2,7 +2,7 @@
 
 ghost use Rattle.std.specs.Prelude.{◌≡◌, ◌+◌, List, IfErr, IfOk, None, OnOk};
 ghost use Rattle.pls_rules.specs.HeldTrees.{set_of};
-ghost use Rattle.pls_rules_part.specs.Refusal.{IsRefusal};
+ghost use Rattle.pls_rules_part.specs.Refusal.{SaysTextRefusal};
 ghost use Rattle.pls_rules_part.specs.RulesText.{RulesSaid, set_said};
 ghost use Rattle.pls_rules_part.specs.inner.Adding.{StandsBehind, refusal_from};
 
@@ -21,7 +21,7 @@ pub(crate) fn set_of_lines(alloc: Global, mut lines: Lines<'_>) -> Result<RuleSe
     ensures accepted { (said : RulesSaid) → StandsBehind said lines.entry.rest
         → OnOk result (refusal_from lines.entry.number said ≡ None) }
     ensures refused { (said : RulesSaid) → StandsBehind said lines.entry.rest
-        → IfErr result (IsRefusal (refusal_from lines.entry.number said)) }
+        → IfErr result (SaysTextRefusal (refusal_from lines.entry.number said)) }
 {
     let mut set = RuleSet {
         fields: Vec::new(alloc),

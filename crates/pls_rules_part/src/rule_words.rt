@@ -4,7 +4,7 @@ ghost use Rattle.std.specs.Prelude.{◌≡◌, ◌≢◌, ◌≤◌, ℕ, List, 
 ghost use Rattle.pls_lines.specs.Text.{line_of};
 ghost use Rattle.pls_rule_text.specs.RuleText.{IsRuleText};
 ghost use Rattle.pls_rule_text.specs.FieldNames.{names_of};
-ghost use Rattle.pls_rules_part.specs.Refusal.{IsRefusal};
+ghost use Rattle.pls_rules_part.specs.Refusal.{SaysTextRefusal};
 ghost use Rattle.pls_rules_part.specs.RulesScan.{FitsWords, words_of};
 ghost use Rattle.pls_rules_part.specs.RulesText.{FitsRuleLine, RuleLine};
 ghost use Rattle.pls_rules_part.specs.inner.Adding.{AddsLine, at_line, line_refusal};
@@ -88,7 +88,7 @@ impl<'a> RuleWords<'a> {
         ensures sense { (line : RuleLine) → FitsRuleLine line → self.now ≡ words_of line
             → OnOk result (line_refusal (names_of set.old.fields.items) line ≡ None) }
         ensures refused { (line : RuleLine) → FitsRuleLine line → self.now ≡ words_of line
-            → IfErr result (IsRefusal (at_line place
+            → IfErr result (SaysTextRefusal (at_line place
             (line_refusal (names_of set.old.fields.items) line))) }
     {
         match &self.words {

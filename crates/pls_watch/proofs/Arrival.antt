@@ -65,7 +65,7 @@ module _ (rows : List NodeRow) (turns : List Turn) (versions sent holds : List �
         ∙ ap (λ (last : List ℕ). greatest_in (arrived rows turns other neighbour ++ last))
         (brought_is neighbour other)
 
-    -- what is written is the greatest_in with this one
+    -- what is written is the greatest with this one
     written : (held_before : Option ℕ) → held rows turns to one.node ≡ held_before
         → with_one held_before came ≡ now
     written None is =

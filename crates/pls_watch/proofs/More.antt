@@ -96,7 +96,7 @@ many_from before (turn ∷ turns) =
 pub many_carried : (turns : List Turn) → length (carried turns) ≡ length (emits_of (plain_of turns))
 many_carried turns = many_from [] turns
 
--- the greatest_in with one more
+-- the greatest with one number more
 abbrev pub with_one : Option ℕ → ℕ → ℕ
 with_one most number = option_map_or (λ most. max most number) most number
 
@@ -113,7 +113,7 @@ greatest_more (first ∷ numbers) number =
     by None = refl
     by (Some most) = omega arith
 
--- there is a greatest_in exactly where there is one
+-- there is a greatest exactly where some event brings a version
 pub some_greatest : (rows : List NodeRow) (emits : List Sent) (versions : List ℕ) (from to : ℕ)
     (events : List Event)
     → list_any (brings rows emits from to) events

@@ -30,8 +30,8 @@ later_labels events node = flat_map (given_to node) events
 
 -- a version of the label of a node, where the first labels are these
 abbrev pub label_in_version : (ℕ → List Bool) → List WatchEvent → ℕ → ℕ → List Bool
-label_in_version first events node version = slice_index_or (first node ∷ later_labels events node) version
-    []
+label_in_version first events node version =
+    slice_index_or (first node ∷ later_labels events node) version []
 
 -- the label that the event gives
 abbrev pub given_by : WatchEvent → List (List Bool)

@@ -67,7 +67,7 @@ arrived rows turns node neighbour =
     flat_map (brought rows (emits_of (plain_of turns)) (carried turns) neighbour node)
     (since_restart node (plain_of turns))
 
--- the greatest_in of some numbers
+-- the greatest of some numbers, or none where there are none
 abbrev pub greatest_in : List ℕ → Option ℕ
 greatest_in [] = None
 greatest_in (number ∷ numbers) = Some (option_map_or (max number) (greatest_in numbers) number)

@@ -59,16 +59,16 @@ is_look (Event event) = false
 is_look Look = true
 
 -- how many bits the label has that the line gives
-abbrev pub bits_of : WatchLine → ℕ
-bits_of (Event (Emit node port)) = 0
-bits_of (Event (Arrive number)) = 0
-bits_of (Event (Restart node)) = 0
-bits_of (Event (Relabel node bits)) = length bits
-bits_of Look = 0
+abbrev pub relabel_bits : WatchLine → ℕ
+relabel_bits (Event (Emit node port)) = 0
+relabel_bits (Event (Arrive number)) = 0
+relabel_bits (Event (Restart node)) = 0
+relabel_bits (Event (Relabel node bits)) = length bits
+relabel_bits Look = 0
 
 -- how many bits the labels have together that the lines give
 abbrev pub total_relabel_bits : List WatchLine → ℕ
-total_relabel_bits lines = sum_by bits_of lines
+total_relabel_bits lines = sum_by relabel_bits lines
 
 -- the lines of a watch part: there is one, and the last one asks for a look
 abbrev pub AreWatch : List WatchLine → Type 0

@@ -2,7 +2,7 @@
 
 ghost use Rattle.std.specs.Prelude.{◌≡◌, ◌≢◌, ℕ, false, List, ◌∷◌, ◌++◌, IfNone, IfSome};
 ghost use Rattle.pls_labelfile.specs.LabelsText.{FitsLabel, NamedLabel, label_line};
-ghost use Rattle.pls_watch_part.specs.WatchText.{FitsWatch, bits_of, is_look, watch_line};
+ghost use Rattle.pls_watch_part.specs.WatchText.{FitsWatch, is_look, relabel_bits, watch_line};
 
 use crate::boxed_label::BoxedLabel;
 use crate::watch_event::{WatchEvent, WatchLine};
@@ -85,12 +85,12 @@ impl<'a> LineKind<'a> for WatchWords<'a> {
 
 impl<'a> ClosingLine<'a> for WatchWords<'a> {
     ghost use Rattle.std.specs.Prelude.{false};
-    ghost use Rattle.pls_watch_part.specs.WatchText.{bits_of, is_look};
+    ghost use Rattle.pls_watch_part.specs.WatchText.{is_look, relabel_bits};
     ghost use Rattle.pls_watch_part.specs.laws.WatchLaws.{some_look};
 
     ghost closes = { is_look };
 
-    ghost bits = { bits_of };
+    ghost bits = { relabel_bits };
 
     ghost may_lack = { false };
 
@@ -103,7 +103,7 @@ impl<'a> ClosingLine<'a> for WatchWords<'a> {
     }
 
     fn bits(&self) -> u64
-        ensures { result ≡ bits_of self.now }
+        ensures { result ≡ relabel_bits self.now }
     {
         match &self.words {
             Words::Relabel(label) => label.len() as u64,

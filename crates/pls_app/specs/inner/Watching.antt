@@ -12,7 +12,7 @@ use Rattle.pls_watch.specs.Labelled.{bits_given, labels_given}
 use Rattle.pls_watch.specs.Watching.{Watched, look_of, watching}
 use Rattle.pls_inputs.specs.Parts.{Input, labels_in, rows_in, watch_in}
 use Rattle.pls_inputs.specs.Order.{watch_heading}
-use Rattle.pls_app.specs.Looks.{ends_in_well, looks_text}
+use Rattle.pls_app.specs.Looks.{looks_end_well, looks_text}
 
 -- an input with these rows, labels and lines of a watch, the first in this line
 pub record IsWatchInput (rows : List NodeRow) (labels : List (List Bool)) (lines : List WatchLine)
@@ -44,4 +44,4 @@ pub record AreShown (texts : List (List ℕ)) (well : Bool)
     (looks : List (List (ℕ × Outcome × List ℕ))) : Type 0 where
   pub says : flat_map (λ text. text) texts ≡ looks_text 1 looks
   pub count : length texts ≡ length looks
-  pub ends : well ≡ ends_in_well looks
+  pub ends : well ≡ looks_end_well looks

@@ -4,7 +4,7 @@ use Rattle.std.proofs.lemmas.Bool.{and_from, lt-ltb, ltb-true}
 use Rattle.std.proofs.lemmas.Slice.Eq.{bytes_eq-Decides}
 use Rattle.pls_rules.specs.Formula.{Formula, Term, Eq, Lt, Le, Same, Both, Either, Not, All as Each, Any, Number, Id, Mark, Num, Degree, Pointed, My, Up, UpWeight, Nb, NbWeight, NbUp, Add, Sum, formula_nesting}
 use Rattle.pls_rules.specs.RuleSet.{FormulaFits, IsRule, TermFits}
-use Rattle.pls_rule_text.specs.FieldNames.{AreDistinct, name_at}
+use Rattle.pls_rule_text.specs.FieldNames.{NamesDiffer, name_at}
 use Rattle.pls_rule_text.specs.FormulaText.{FormulaIsWritten, IsFieldName, TermIsWritten, formula_text, term_text}
 use Rattle.pls_rule_text.specs.RuleText.{FitsRule, Shallow, formula_with, is_known, place_of_name, rule_refusal, term_with}
 use Rattle.pls_rule_text.specs.inner.Places.{is_placed, is_term_placed}
@@ -45,7 +45,7 @@ module _ {F : Type 0} (name : F → List ℕ) where
     term_text-with (Sum a b) = rw (text-with a, term_text-with b) refl
 
 -- the place of a name is the number that it has
-pub place_at : (names : List (List ℕ)) → AreDistinct names → (number : ℕ) → number < length names
+pub place_at : (names : List (List ℕ)) → NamesDiffer names → (number : ℕ) → number < length names
     → place_of_name names (name_at names number) ≡ number
 place_at [] distinct number within = absurd (omega (arith, within))
 place_at (first ∷ others) distinct zero within = rw ((bytes_eq-Decides first first).1 refl) refl
@@ -104,7 +104,7 @@ mutual
       (fits_placed count true a fits.0) (term_fits_placed count true b fits.1)
 
 -- names in the place of numbers can be taken back
-module _ (names : List (List ℕ)) (distinct : AreDistinct names) where
+module _ (names : List (List ℕ)) (distinct : NamesDiffer names) where
   abbrev again : Formula ℕ → Formula ℕ
   again formula = formula_with (place_of_name names) (formula_with (name_at names) formula)
 

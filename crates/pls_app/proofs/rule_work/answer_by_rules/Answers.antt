@@ -4,7 +4,7 @@ use Rattle.pls_inputs.specs.declared.parts.Parts.{Parts}
 use Rattle.pls_inputs.specs.Order.{IsInput, IsNoInput}
 use Rattle.pls_inputs.specs.Read.{IsRead, said}
 use Rattle.pls_app.specs.declared.command.Command.TheVariants.{ByRules}
-use Rattle.pls_app.specs.Answer.{Answers, Reads}
+use Rattle.pls_app.specs.Answer.{Answers, IsInputTo}
 use Rattle.pls_app.specs.inner.Tasks.{DoesWork}
 use Rattle.pls_app.proofs.Answered.{answered_by_refusal, does_answer}
 use Rattle.pls_app.proofs.rule_work.answer_by_rules.Goals as goal
@@ -20,7 +20,7 @@ pub returns-in-Ok-clause-answer : goal.returns-in-Ok-clause-answer
 returns-in-Ok-clause-answer c =
     let command = ByRules c.args.task in
     let input = said c.in-Ok.input in
-    let is : Reads command c.args.bytes.items input =
+    let is : IsInputTo command c.args.bytes.items input =
     subst (λ (parts : Parts). IsInput parts c.args.bytes.items input) c.parts.ensures.parts
     c.in-Ok.ensures.input.is in
     IfOk-weaker c.do_rule_task.result (λ answer. DoesWork command input answer)

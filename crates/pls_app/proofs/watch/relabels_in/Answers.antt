@@ -1,6 +1,6 @@
 use Rattle.std.proofs.Common.{◌≡◌, ◌∙◌, ℕ, Bool, List, length, take, get_or, ap, arith, sym}
 use Rattle.std.proofs.lemmas.List.{length-take}
-use Rattle.pls_watch_part.specs.WatchText.{bits_of}
+use Rattle.pls_watch_part.specs.WatchText.{relabel_bits}
 use Rattle.pls_watch_part.specs.declared.watch_event.WatchLine.{WatchLine}
 use Rattle.pls_watch_part.specs.declared.watch_event.WatchLine.TheVariants.{Event}
 use Rattle.pls_app.specs.WatchRefusal.{events_of}
@@ -25,9 +25,9 @@ pub overflow_add-total : goal.overflow_add-total
 overflow_add-total c =
     let lines : List WatchLine = c.args.lines.now in
     let i : ℕ = c.loop-line.line-index in
-    let same : bits_of (get_or lines i c.line-item.result) ≡ length c.in-Relabel.bits =
-    ap bits_of (sym c.line-item.is ∙ c.in-Event.is)
-    ∙ ap (λ event. bits_of (Event event)) c.in-Relabel.is in
+    let same : relabel_bits (get_or lines i c.line-item.result) ≡ length c.in-Relabel.bits =
+    ap relabel_bits (sym c.line-item.is ∙ c.in-Event.is)
+    ∙ ap (λ event. relabel_bits (Event event)) c.in-Relabel.is in
     omega (
       arith,
       c.loop-line.invariant.sum,

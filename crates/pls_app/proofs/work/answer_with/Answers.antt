@@ -8,7 +8,7 @@ use Rattle.pls_inputs.specs.Parts.{rows_in}
 use Rattle.pls_inputs.specs.Read.{IsRead, said}
 use Rattle.pls_app.specs.declared.command.Command.TheVariants.{With}
 use Rattle.pls_app.specs.declared.command.Task.TheVariants.{Mark, Recheck}
-use Rattle.pls_app.specs.Answer.{Answers, Reads, refusal}
+use Rattle.pls_app.specs.Answer.{Answers, IsInputTo, refusal}
 use Rattle.pls_app.specs.Run.{Certifies}
 use Rattle.pls_app.specs.inner.Tasks.{DoesWork, RecheckedIn, RecheckedOnBytes, ShowsIn}
 use Rattle.pls_app.specs.Said.{Answer}
@@ -30,7 +30,7 @@ pub returns-in-Ok-clause-answer : goal.returns-in-Ok-clause-answer
 returns-in-Ok-clause-answer g c =
     let command = With c.args.task c.args.scheme in
     let input = said c.in-Ok.input in
-    let is : Reads (With c.args.task c.args.scheme) c.args.bytes.items input =
+    let is : IsInputTo (With c.args.task c.args.scheme) c.args.bytes.items input =
     subst (λ (parts : Parts). IsInput parts c.args.bytes.items input)
     (c.parts.ensures.parts c.args.scheme) c.in-Ok.ensures.input.is in
     IfOk-weaker c.work.result (λ answer. DoesWork command input answer)
@@ -43,7 +43,7 @@ returns-in-Ok-clause-certified g c =
     let scheme = c.args.scheme in
     let task = c.args.task in
     let input = said c.in-Ok.input in
-    let is : Reads (With c.args.task c.args.scheme) c.args.bytes.items input =
+    let is : IsInputTo (With c.args.task c.args.scheme) c.args.bytes.items input =
     subst (λ (parts : Parts). IsInput parts c.args.bytes.items input)
     (c.parts.ensures.parts c.args.scheme) c.in-Ok.ensures.input.is in
     IfOk-weaker c.work.result
@@ -64,7 +64,7 @@ returns-in-Ok-clause-rechecked g c =
     let scheme = c.args.scheme in
     let task = c.args.task in
     let input = said c.in-Ok.input in
-    let is : Reads (With c.args.task c.args.scheme) c.args.bytes.items input =
+    let is : IsInputTo (With c.args.task c.args.scheme) c.args.bytes.items input =
     subst (λ (parts : Parts). IsInput parts c.args.bytes.items input)
     (c.parts.ensures.parts c.args.scheme) c.in-Ok.ensures.input.is in
     let old = g.B.Bench.asked c.args.bench.now in

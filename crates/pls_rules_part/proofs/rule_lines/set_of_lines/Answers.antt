@@ -2,7 +2,7 @@ use Rattle.std.proofs.Common.{ℕ, subst}
 use Rattle.pls_rules_part.specs.inner.Adding.{refusal_from}
 use Rattle.pls_rules_part.proofs.Additions.{progress_end, progress_refusal, progress_step}
 use Rattle.pls_rules_part.proofs.Errors.{if_refusal}
-use Rattle.pls_rules_part.specs.Refusal.{IsRefusal}
+use Rattle.pls_rules_part.specs.Refusal.{SaysTextRefusal}
 use Rattle.pls_rules_part.specs.inner.Adding.{at_line, line_refusal}
 use Rattle.pls_rule_text.specs.FieldNames.{names_of}
 use Rattle.pls_rules_part.proofs.rule_lines.set_of_lines.Goals as goal
@@ -17,7 +17,7 @@ returns-in_err-add_to-clause-refused c = λ said behind.
     c.next_of.new.lines c.in-Some.line c.in_err-add_to.field-0.0 c.in-Some.ensures.fits
     c.in-Some.ensures.passed
     (λ line fits is. subst
-    (λ (place : ℕ). IsRefusal (at_line place (line_refusal names line)) c.in_err-add_to.field-0.0)
+    (λ (place : ℕ). SaysTextRefusal (at_line place (line_refusal names line)) c.in_err-add_to.field-0.0)
     c.loop-line.invariant.0 (c.in_err-add_to.ensures.refused line fits is)))
 
 pub loop-line-preserved : goal.loop-line-preserved
