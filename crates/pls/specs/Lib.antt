@@ -5,7 +5,7 @@ pub mod RuleNumbers
 pub mod inner
 -- networks
 pub use Rattle.pls_configuration.specs.Configuration
-pub use Rattle.pls_configuration.specs.Path
+pub use Rattle.pls_configuration.specs.WalkBy
 pub use Rattle.pls_configuration.specs.Walk
 pub use Rattle.pls_configuration.specs.declared.limits
 pub use Rattle.pls_configuration.specs.declared.refusal.BuildError

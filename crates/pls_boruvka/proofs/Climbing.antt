@@ -5,8 +5,8 @@ use Rattle.std.proofs.lemmas.Bool.{cases_eq, cond-false, cond-true}
 use Rattle.std.proofs.lemmas.List.{length-set, length-replicate}
 use Rattle.std.proofs.lemmas.Option.{get_or_from_slice_get, same_Some, slice_get-get_or, slice_get_within}
 use Rattle.pls_graph.proofs.Finds.{None-replicate}
-use Rattle.pls_configuration.proofs.Paths.{Path-append}
-use Rattle.pls_configuration.specs.Path.{Path}
+use Rattle.pls_configuration.proofs.Walks.{WalkBy-append}
+use Rattle.pls_configuration.specs.WalkBy.{WalkBy}
 use Rattle.pls_boruvka.specs.inner.Tops.{AreNotedTops, HasDepths, IsTop, parent_at, joined_parent}
 
 -- how many parents can be followed from a place, but no more than so many
@@ -70,7 +70,7 @@ module _ (parents : List (Option ℕ)) (joined : List Bool) where
 
   -- joined parents lead from one place to another
   abbrev pub Leads : ℕ → ℕ → Type 0
-  Leads start place = (nodes : List ℕ) × Path Follows start nodes place
+  Leads start place = (nodes : List ℕ) × WalkBy Follows start nodes place
 
   pub Leads-none : (start : ℕ) → Leads start start
   Leads-none start = ([], refl)
@@ -89,7 +89,7 @@ module _ (parents : List (Option ℕ)) (joined : List Bool) where
 
   pub Leads-more : (start place to : ℕ) → Leads start place → up place ≡ Some to → Leads start to
   Leads-more start place to (nodes, chain) points =
-      (nodes ++ to ∷ [], Path-append Follows start place to nodes (to ∷ []) chain (points, refl))
+      (nodes ++ to ∷ [], WalkBy-append Follows start place to nodes (to ∷ []) chain (points, refl))
 
   -- where no joined parent leads on, a place is its own top
   pub IsTop-here : (place : ℕ) → place < length parents → up place ≡ None
@@ -102,7 +102,7 @@ module _ (parents : List (Option ℕ)) (joined : List Bool) where
       → IsTop parents joined start top
   IsTop-before start place top (nodes, chain) is = record {
     nodes = nodes ++ is.nodes;
-    chain = Path-append Follows start place top nodes is.nodes chain is.chain;
+    chain = WalkBy-append Follows start place top nodes is.nodes chain is.chain;
     ends = is.ends;
     inside = is.inside;
   }
@@ -112,12 +112,12 @@ module _ (parents : List (Option ℕ)) (joined : List Bool) where
       → IsTop parents joined to top
   IsTop-after place to top points is = by is.nodes is.chain
     where
-      by : (nodes : List ℕ) → Path Follows place nodes top → IsTop parents joined to top
+      by : (nodes : List ℕ) → WalkBy Follows place nodes top → IsTop parents joined to top
       by [] same =
           let no : None ≡ Some to = sym is.ends ∙ ap up (sym same) ∙ points in absurd (cc)
       by (x ∷ nodes) chain = record {
         nodes = nodes;
-        chain = subst (λ (u : ℕ). Path Follows u nodes top)
+        chain = subst (λ (u : ℕ). WalkBy Follows u nodes top)
             (same_Some x to (sym chain.0 ∙ points)) chain.1;
         ends = is.ends;
         inside = is.inside;

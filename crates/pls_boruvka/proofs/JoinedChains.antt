@@ -8,7 +8,7 @@ use Rattle.pls_configuration.specs.Walk.{Edge, Adjacent, AreJoined, JoinAll, Joi
 use Rattle.pls_graph.specs.Places.{place_in}
 use Rattle.pls_graph.proofs.Joined.{AreJoined-adjacent, AreJoined-through, AreJoined-turned, along}
 use Rattle.pls_graph.proofs.Members.{Contains-from_place}
-use Rattle.pls_configuration.specs.Path.{Path}
+use Rattle.pls_configuration.specs.WalkBy.{WalkBy}
 use Rattle.pls_facts.specs.Pointer.{Falls, pointed_node, pointed_port}
 use Rattle.pls_facts.specs.SpanningTree.{edge_at, pointed_edge, pointed_edges}
 use Rattle.pls_facts.proofs.Filtered.{Contains-from_filter_map}
@@ -80,8 +80,8 @@ module _ (rows : List NodeRow) (net : IsNetwork rows) (depth : ℕ → ℕ) (fal
       → JoinedChainEnds rows flags u other → last ≡ other
   one_end u last other one two = by u one.nodes two.nodes one.chain two.chain
     where
-      by : (u : ℕ) (nodes others : List ℕ) → Path Follows u nodes last
-          → Path Follows u others other → last ≡ other
+      by : (u : ℕ) (nodes others : List ℕ) → WalkBy Follows u nodes last
+          → WalkBy Follows u others other → last ≡ other
       by u [] [] same also = sym same ∙ also
       by u [] (y ∷ others) same on =
           let no : None ≡ Some y = sym one.ends ∙ ap (next_joined rows flags) (sym same) ∙ on.0 in
@@ -90,11 +90,11 @@ module _ (rows : List NodeRow) (net : IsNetwork rows) (depth : ℕ → ℕ) (fal
           let no : None ≡ Some x = sym two.ends ∙ ap (next_joined rows flags) (sym same) ∙ on.0 in
           absurd (cc)
       by u (x ∷ nodes) (y ∷ others) on also = by y nodes others
-          (subst (λ (x : ℕ). Path Follows x nodes last)
+          (subst (λ (x : ℕ). WalkBy Follows x nodes last)
           (same_Some x y (sym on.0 ∙ also.0)) on.1) also.1
 
   -- a chain falls as it goes
-  chain_falls : (u last : ℕ) (nodes : List ℕ) → Path Follows u nodes last
+  chain_falls : (u last : ℕ) (nodes : List ℕ) → WalkBy Follows u nodes last
       → depth u ≡ depth last + length nodes
   chain_falls u last [] same = let e = ap depth same in omega arith
   chain_falls u last (x ∷ nodes) chain =
@@ -158,14 +158,14 @@ module _ (rows : List NodeRow) (net : IsNetwork rows) (depth : ℕ → ℕ) (fal
             )
       ]
 
-      reaches : (u last : ℕ) (nodes : List ℕ) → Path Follows u nodes last
+      reaches : (u last : ℕ) (nodes : List ℕ) → WalkBy Follows u nodes last
           → AreJoined joined u last
       reaches u last [] same = ([], same)
       reaches u last (x ∷ nodes) chain = AreJoined-through joined u x last
           (AreJoined-adjacent joined u x (Adjacent-joined u x chain.0))
           (reaches x last nodes chain.1)
 
-      lower : (u last : ℕ) (nodes : List ℕ) → Path Follows u nodes last
+      lower : (u last : ℕ) (nodes : List ℕ) → WalkBy Follows u nodes last
           → (last ≡ u) ⊎ (depth last < depth u)
       lower u last [] same = inl (sym same)
       lower u last (x ∷ nodes) chain =

@@ -7,7 +7,7 @@ use Rattle.pls_configuration.specs.declared.row.NodeRow.{NodeRow}
 use Rattle.pls_configuration.specs.Configuration.{IsNetwork}
 use Rattle.pls_graph.proofs.Finds.{item_at}
 use Rattle.pls_graph.proofs.Members.{Contains-from_place}
-use Rattle.pls_configuration.specs.Path.{Path}
+use Rattle.pls_configuration.specs.WalkBy.{WalkBy}
 use Rattle.pls_facts.specs.Pointer.{Falls, pointed_node}
 use Rattle.pls_facts.proofs.NamedPlaces.{place_named}
 use Rattle.pls_search.specs.PointedPlace.{PointsTo}
@@ -115,9 +115,9 @@ module _ (rows : List NodeRow) (net : IsNetwork rows) (parents : List (Option �
     }
       where
         walk : (place : ℕ) (row : NodeRow) (nodes : List ℕ) → slice_get rows place ≡ Some row
-            → Path (λ one other. joined_parent parents joined one ≡ Some other) place nodes top
+            → WalkBy (λ one other. joined_parent parents joined one ≡ Some other) place nodes top
             → (ids : List ℕ)
-            × Path (λ one other. next_joined rows joined one ≡ Some other) row.id ids last.id
+            × WalkBy (λ one other. next_joined rows joined one ≡ Some other) row.id ids last.id
         walk place row [] at same = (
           [],
           ap (λ (row : NodeRow). row.id)
@@ -128,6 +128,6 @@ module _ (rows : List NodeRow) (net : IsNetwork rows) (parents : List (Option �
             × (next_joined rows joined row.id ≡ Some other.id) =
             up-some place x row at chain.0 in
             let (ids, rest) : (ids : List ℕ)
-            × Path (λ one other. next_joined rows joined one ≡ Some other) other.id ids
+            × WalkBy (λ one other. next_joined rows joined one ≡ Some other) other.id ids
             last.id = walk x other nodes stands chain.1 in
             (other.id ∷ ids, (step, rest))

@@ -5,7 +5,7 @@ use Rattle.std.specs.List.{filter_map}
 use Rattle.pls_configuration.specs.declared.row.NodeRow.{NodeRow}
 use Rattle.pls_configuration.specs.Walk.{Edge, AreJoined}
 use Rattle.pls_graph.specs.Places.{place_in}
-use Rattle.pls_configuration.specs.Path.{Path}
+use Rattle.pls_configuration.specs.WalkBy.{WalkBy}
 use Rattle.pls_facts.specs.Pointer.{pointed_node}
 use Rattle.pls_facts.specs.SpanningTree.{pointed_edge}
 
@@ -32,7 +32,7 @@ joined_edges rows joined =
 -- the pointers of nodes whose entries are true lead from u to `last`, and no further
 pub record JoinedChainEnds (rows : List NodeRow) (joined : List Bool) (u last : ℕ) : Type 0 where
   pub nodes : List ℕ
-  pub chain : Path (λ one other. next_joined rows joined one ≡ Some other) u nodes last
+  pub chain : WalkBy (λ one other. next_joined rows joined one ≡ Some other) u nodes last
   pub ends : next_joined rows joined last ≡ None
 
 -- for each node, in the order of the rows, where the pointers of nodes whose entries are true lead

@@ -10,7 +10,7 @@ use Rattle.pls_configuration.specs.Walk.{Edge, Adjacent, AreJoined}
 use Rattle.pls_graph.proofs.Finds.{item_at}
 use Rattle.pls_graph.proofs.Joined.{Adjacent-turned, AreJoined-adjacent, AreJoined-through, along}
 use Rattle.pls_graph.proofs.Members.{place_from_Contains}
-use Rattle.pls_configuration.specs.Path.{Path}
+use Rattle.pls_configuration.specs.WalkBy.{WalkBy}
 use Rattle.pls_facts.specs.Parents.{ChainMeets}
 use Rattle.pls_facts.proofs.NamedPlaces.{place_named}
 use Rattle.pls_facts.proofs.Pointed.{row_from_id}
@@ -66,7 +66,7 @@ module _ (rows : List NodeRow) (net : IsNetwork rows) (edges : List Edge)
       same_Some one other same
 
   -- along a chain the depth falls
-  pub chain_falls : (place last : ℕ) (nodes : List ℕ) → Path Up place nodes last
+  pub chain_falls : (place last : ℕ) (nodes : List ℕ) → WalkBy Up place nodes last
       → cut.depth last ≤ cut.depth place
   chain_falls place last [] same = let e = ap cut.depth same in omega arith
   chain_falls place last (x ∷ nodes) chain =
@@ -82,7 +82,7 @@ module _ (rows : List NodeRow) (net : IsNetwork rows) (edges : List Edge)
 
     -- what leads up to the place, edges join that avoid what is taken away
     pub chain_joins : (place : ℕ) (nodes : List ℕ) → place < length rows
-        → Path Up place nodes top → AreJoined left (id place) (id top)
+        → WalkBy Up place nodes top → AreJoined left (id place) (id top)
     chain_joins place [] within same = ([], ap id same)
     chain_joins place (x ∷ nodes) within chain =
         let step = cut.to place x chain.0 in
@@ -119,7 +119,7 @@ module _ (rows : List NodeRow) (net : IsNetwork rows) (edges : List Edge)
               (sym (stopped place (subst (λ (other : ℕ). Up other place) same down)) ∙ out))
           by other (y ∷ nodes, chain) (inr down) out = (
             nodes,
-            subst (λ (y : ℕ). Path Up y nodes top) (one_parent other y place chain.0 down)
+            subst (λ (y : ℕ). WalkBy Up y nodes top) (one_parent other y place chain.0 down)
                 chain.1,
           )
 

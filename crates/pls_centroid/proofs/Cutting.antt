@@ -10,7 +10,7 @@ use Rattle.pls_configuration.specs.Walk.{Edge, Adjacent, AreJoined}
 use Rattle.pls_graph.proofs.Finds.{item_at}
 use Rattle.pls_graph.proofs.Joined.{AreJoined-through, AreJoined-turned}
 use Rattle.pls_graph.proofs.Members.{Contains-from_place}
-use Rattle.pls_configuration.specs.Path.{Path}
+use Rattle.pls_configuration.specs.WalkBy.{WalkBy}
 use Rattle.pls_facts.specs.Parents.{ChainMeets}
 use Rattle.pls_facts.specs.Pointer.{Falls}
 use Rattle.pls_facts.specs.SpanningTree.{IsTree, pointed_edges}
@@ -201,15 +201,15 @@ module _ (rows : List NodeRow) (net : IsNetwork rows) (edges : List Edge)
   one_top place one other first second =
       by place first.meets.0 second.meets.0 first.meets.1 second.meets.1
     where
-      by : (place : ℕ) (nodes others : List ℕ) → Path (HasParentAt left) place nodes one
-          → Path (HasParentAt left) place others other → one ≡ other
+      by : (place : ℕ) (nodes others : List ℕ) → WalkBy (HasParentAt left) place nodes one
+          → WalkBy (HasParentAt left) place others other → one ≡ other
       by place [] [] here there = sym here ∙ there
       by place [] (x ∷ others) here there = absurd (first.ends x
           (subst (λ (p : ℕ). HasParentAt left p x) here there.0))
       by place (x ∷ nodes) [] here there = absurd (second.ends x
           (subst (λ (p : ℕ). HasParentAt left p x) there here.0))
       by place (x ∷ nodes) (y ∷ others) here there = by x nodes others here.1
-          (subst (λ (x : ℕ). Path (HasParentAt left) x others other)
+          (subst (λ (x : ℕ). WalkBy (HasParentAt left) x others other)
           (sym (one_parent rows net edges known left cut place x y here.0 there.0)) there.1)
 
   -- so places of one piece are those of one top

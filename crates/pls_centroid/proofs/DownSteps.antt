@@ -7,7 +7,7 @@ use Rattle.std.proofs.lemmas.Option.{same_Some, slice_get-get_or, slice_get_with
 use Rattle.pls_configuration.specs.declared.row.NodeRow.{NodeRow}
 use Rattle.pls_configuration.specs.Configuration.{ids_of}
 use Rattle.pls_configuration.specs.Walk.{Edge, Adjacent, AreJoined}
-use Rattle.pls_configuration.specs.Path.{Path}
+use Rattle.pls_configuration.specs.WalkBy.{WalkBy}
 use Rattle.pls_facts.specs.Parents.{ChainMeets}
 use Rattle.pls_facts.specs.Weight.{edge_weight}
 use Rattle.pls_search.specs.SubtreeSizes.{HasParentAt}
@@ -55,7 +55,7 @@ module _ (rows : List NodeRow) (edges : List Edge) (left : List (Option ℕ)) (t
   -- where all parents of noted places are noted, so is what the chain of a centroid meets
   chain_noted : (order : List ℕ) → AreBehindParents left order → (ways : List (Option Way))
       → AreUpNoted left order ways 0 → (u v : ℕ) (nodes : List ℕ) → u < length left
-      → Path (HasParentAt left) u nodes v → IsNoted ways u → IsNoted ways v
+      → WalkBy (HasParentAt left) u nodes v → IsNoted ways u → IsNoted ways v
   chain_noted order behind_parents ways noted u v [] within same is = subst (IsNoted ways) same is
   chain_noted order behind_parents ways noted u v (x ∷ nodes) within chain is =
       let (number, stands) : (number : ℕ) × (slice_get order number ≡ Some u) =

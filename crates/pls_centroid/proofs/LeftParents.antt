@@ -3,7 +3,7 @@
 use Rattle.std.proofs.Common.{◌≡◌, ◌∙◌, ℕ, ◌<◌, ◌||◌, Bool, true, false, cond, List, [], ◌∷◌, length, get_or, Option, Some, None, refl, sym, ap, arith}
 use Rattle.std.specs.Option.{option_and_then}
 use Rattle.std.proofs.lemmas.Option.{same_Some, slice_get-get_or, slice_get_within}
-use Rattle.pls_configuration.specs.Path.{Path}
+use Rattle.pls_configuration.specs.WalkBy.{WalkBy}
 use Rattle.pls_facts.specs.Parents.{NoParentsReturn}
 use Rattle.pls_search.specs.SubtreeSizes.{AreParentsWithin, HasParentAt}
 use Rattle.pls_centroid.specs.inner.Rooted.{AreBehindParents, AreLeft}
@@ -40,8 +40,8 @@ module _ (parents : List (Option ℕ)) (taken : List Bool) (left : List (Option 
       let within = inside place parent (up_too place parent up) in omega (arith, each, within)
 
   -- a chain that is left is a chain
-  chain_too : (u v : ℕ) (nodes : List ℕ) → Path (HasParentAt left) u nodes v
-      → Path (HasParentAt parents) u nodes v
+  chain_too : (u v : ℕ) (nodes : List ℕ) → WalkBy (HasParentAt left) u nodes v
+      → WalkBy (HasParentAt parents) u nodes v
   chain_too u v [] same = same
   chain_too u v (x ∷ nodes) chain = (up_too u x chain.0, chain_too x v nodes chain.1)
 

@@ -7,7 +7,7 @@ use Rattle.pls_configuration.specs.declared.row.NodeRow.{NodeRow}
 use Rattle.pls_configuration.specs.Configuration.{ids_of}
 use Rattle.pls_configuration.specs.Walk.{Edge, Adjacent, AreJoined}
 use Rattle.pls_graph.proofs.Joined.{along}
-use Rattle.pls_configuration.specs.Path.{Path}
+use Rattle.pls_configuration.specs.WalkBy.{WalkBy}
 use Rattle.pls_facts.specs.Parents.{ChainMeets}
 use Rattle.pls_facts.specs.SpanningTree.{pointed_edges}
 use Rattle.pls_facts.specs.Weight.{edge_weight}
@@ -26,7 +26,7 @@ use Rattle.pls_centroid.proofs.Noting.{set_cases}
 use Rattle.pls_centroid.proofs.Pieces.{centroid_known}
 
 -- a chain goes on to the parent of its last
-pub chain_more : (Up : ℕ → ℕ → Type 0) (u v w : ℕ) (nodes : List ℕ) → Path Up u nodes v → Up v w
+pub chain_more : (Up : ℕ → ℕ → Type 0) (u v w : ℕ) (nodes : List ℕ) → WalkBy Up u nodes v → Up v w
     → ChainMeets Up u w
 chain_more Up u v w [] same up = (w ∷ [], (subst (λ (v : ℕ). Up v w) (sym same) up, refl))
 chain_more Up u v w (x ∷ nodes) chain up =

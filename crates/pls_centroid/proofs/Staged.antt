@@ -8,7 +8,7 @@ use Rattle.pls_configuration.specs.Configuration.{IsNetwork, ids_of}
 use Rattle.pls_graph.specs.Places.{place_in}
 use Rattle.pls_graph.proofs.Finds.{item_at}
 use Rattle.pls_graph.proofs.Members.{place_from_Contains}
-use Rattle.pls_configuration.specs.Path.{Path}
+use Rattle.pls_configuration.specs.WalkBy.{WalkBy}
 use Rattle.pls_facts.specs.Parents.{NoParentsReturn}
 use Rattle.pls_facts.specs.Pointer.{Falls, IsChainOf}
 use Rattle.pls_facts.specs.SpanningTree.{IsTree}
@@ -48,7 +48,7 @@ module _ (rows : List NodeRow) (parents : List (Option ℕ)) (pointed : ArePoint
 
   -- a depth that falls along pointers falls along chains of parents
   deep : (depth : ℕ → ℕ) → Falls rows depth → (u v : ℕ) (nodes : List ℕ)
-      → Path (HasParentAt parents) u nodes v → depth (id_at rows v) ≤ depth (id_at rows u)
+      → WalkBy (HasParentAt parents) u nodes v → depth (id_at rows v) ≤ depth (id_at rows u)
   deep depth falls u v [] same =
       let e = ap (λ (p : ℕ). depth (id_at rows p)) same in omega (arith, e)
   deep depth falls u v (x ∷ nodes) chain =

@@ -1,6 +1,6 @@
 -- Configurations, as lists of rows, one a node; here is which lists are networks, by one test for
 -- each refusal over the whole list (Korman, Kutten and Peleg 2010, "Proof labeling schemes").
-use Rattle.std.specs.Prelude.{◌≡◌, ℕ, ◌≤◌, Bool, false, not, ◌||◌, ◌==◌, nat_le, List, [], ◌∷◌, map, drop, length, zip, find, sum_by, All, Option, Some, None, option_map, option_and_then}
+use Rattle.std.specs.Prelude.{◌≡◌, ℕ, ◌≤◌, Bool, false, not, ◌||◌, ◌==◌, nat_le, List, [], ◌∷◌, map, drop, length, zip, find, sum_by, All, Option, Some, None, option_map, option_and_then, if◌then◌else◌}
 use Rattle.std.specs.List.{list_any}
 use Rattle.std.specs.Option.{is_none, option_map_or}
 use Rattle.pls_configuration.specs.declared.row.Port.{Port}
@@ -74,6 +74,10 @@ abbrev pub first_of : {X : Type 0} → List (Option X) → Option X
 first_of [] = None
 first_of (Some answer ∷ later) = Some answer
 first_of (None ∷ later) = first_of later
+
+-- the refusal, where the test says so
+abbrev pub refused_if : {E : Type 0} → Bool → E → Option E
+refused_if test refusal = if test then Some refusal else None
 
 -- each condition under which rows are no network, in the order in which they are tried, with the
 -- identity of the first row at which it occurs

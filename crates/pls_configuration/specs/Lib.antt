@@ -1,5 +1,6 @@
 pub mod Status
 pub mod Verdict
 pub mod Configuration
-pub mod Path
+pub mod Rising
+pub mod WalkBy
 pub mod Walk

@@ -3,7 +3,7 @@
 use Rattle.std.specs.Prelude.{◌≡◌, ℕ, nat_lt, ◌⊎◌, List, map, filter, flat_map, Contains}
 use Rattle.pls_configuration.specs.declared.row.NodeRow.{NodeRow}
 use Rattle.pls_configuration.specs.Configuration.{ids_of}
-use Rattle.pls_configuration.specs.Path.{Path}
+use Rattle.pls_configuration.specs.WalkBy.{WalkBy}
 
 -- an unordered pair of nodes with a weight; `a` is the smaller identity
 pub record Edge : Type 0 where
@@ -31,7 +31,7 @@ Adjacent edges u v = (edge : Edge) × Contains edges edge × Joins edge u v
 
 -- from u along the listed nodes each two in turn are adjacent, and the last is v
 abbrev pub Walk : List Edge → ℕ → List ℕ → ℕ → Type 0
-Walk edges u nodes v = Path (Adjacent edges) u nodes v
+Walk edges u nodes v = WalkBy (Adjacent edges) u nodes v
 
 -- some walk begins at one node and ends at the other
 abbrev pub AreJoined : List Edge → ℕ → ℕ → Type 0

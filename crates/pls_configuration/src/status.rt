@@ -6,7 +6,8 @@ ghost use Rattle.pls_configuration.specs.Status.{code_of};
 /// How a run of the program ends. The status of the process is its [`code`](Status::code).
 #[derive(Clone, Copy, Debug, PartialEq, Eq)]
 pub enum Status {
-    /// The command did what it says: the labels are written, or all nodes accept.
+    /// The command did what it says. Where it judges nodes all accept: `recheck` in the last round,
+    /// `watch` at the last look, where no port is stale either.
     Done,
     /// A component of the network lacks the property, some node rejects or waits, some port is
     /// stale, or no two edges may be crossed.

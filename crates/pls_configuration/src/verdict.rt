@@ -10,8 +10,8 @@ pub enum Verdict {
     /// A rule fails.
     Reject {
         /// Which scheme name of an expression rejects, counted from 1 from the left, where a `map`
-        /// counts as one; 0 where a rule of an `and` or an `or` fails, on labels without two parts
-        /// or without one tag.
+        /// counts as one; 0 where a rule of an `and` or an `or` fails: a label without two parts or
+        /// without a tag, or two tags that differ.
         leaf: u8,
         /// The number of the first rule that fails, from 1.
         rule: u8,

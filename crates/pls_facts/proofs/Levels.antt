@@ -11,7 +11,7 @@ use Rattle.std.proofs.lemmas.Option.{slice_get-get_or, slice_get_within}
 use Rattle.pls_configuration.specs.declared.row.NodeRow.{NodeRow}
 use Rattle.pls_configuration.specs.Walk.{Edge, Adjacent, AreJoined, IsConnected, Walk, edges_of}
 use Rattle.pls_graph.specs.Levels.{AreLevels, IsLevel}
-use Rattle.pls_configuration.proofs.Paths.{Path-append}
+use Rattle.pls_configuration.proofs.Walks.{WalkBy-append}
 use Rattle.pls_graph.proofs.Joined.{Adjacent-turned}
 use Rattle.pls_graph.proofs.Members.{Contains-from_place, Contains-map}
 use Rattle.pls_facts.specs.Cycle.{AreSearched}
@@ -68,7 +68,7 @@ module _ (edges : List Edge) (nodes : List ℕ) (first : ℕ) (depth : ℕ → �
       let there : IsLevel edges first v (depth v) = is_level v (known u v adjacent) in
       let short =
       there.fewest (here.nodes ++ v ∷ [])
-      (Path-append (Adjacent edges) first u v here.nodes (v ∷ []) here.walk (adjacent, refl)) in
+      (WalkBy-append (Adjacent edges) first u v here.nodes (v ∷ []) here.walk (adjacent, refl)) in
       omega (arith, short, here.many, length-append here.nodes (v ∷ []))
 
   -- each node but the first is adjacent to one of the level before

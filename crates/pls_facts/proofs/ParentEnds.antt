@@ -4,7 +4,7 @@ use Rattle.std.specs.List.{sum_by}
 use Rattle.std.proofs.lemmas.Bool.{cases_eq, eqb-true}
 use Rattle.std.proofs.lemmas.List.Sums.{sum_by-cons}
 use Rattle.pls_graph.proofs.Members.{Contains-cons_cases, Contains-first, Contains-later}
-use Rattle.pls_configuration.specs.Path.{Path}
+use Rattle.pls_configuration.specs.WalkBy.{WalkBy}
 use Rattle.pls_facts.specs.Parents.{NoParentsReturn}
 use Rattle.pls_facts.proofs.ParentLines.{Ended, hits, line_from}
 use Rattle.pls_facts.proofs.Sums.{AreApart, eqb_turned, sum-add, sum-at, sum-same, sum-zero, when, when-none}
@@ -21,7 +21,7 @@ module _ (HasParent : ℕ → ℕ → Type 0) (up : ℕ → Option ℕ) (nodes :
 
   -- what stands behind a node is reached from it
   reaches : (u v : ℕ) (line : List ℕ) → Contains nodes u → Steps u line → 1 ≤ hits v line
-      → (x : ℕ) × (onward : List ℕ) × Path HasParent u (x ∷ onward) v
+      → (x : ℕ) × (onward : List ℕ) × WalkBy HasParent u (x ∷ onward) v
   reaches u v [] in' steps some = absurd (omega (arith, some))
   reaches u v (x ∷ line) in' steps some = elim (cases_eq x v) [
     | inl same ↦ (x, [], (back u x in' steps.0, same))
@@ -29,7 +29,7 @@ module _ (HasParent : ℕ → ℕ → Type 0) (up : ℕ → Option ℕ) (nodes :
         let none : when (x == v) 1 ≡ 0 =
         when-none (x == v) 1 (λ is. absurd (differs (eqb-true x v is))) in
         let (y, onward, chain) : (y : ℕ) × (onward : List ℕ)
-        × Path HasParent x (y ∷ onward) v =
+        × WalkBy HasParent x (y ∷ onward) v =
         reaches x v line (within u x in' steps.0) steps.1 (omega (arith, some, none)) in
         (x, y ∷ onward, (back u x in' steps.0, chain))
   ]
@@ -49,10 +49,10 @@ module _ (HasParent : ℕ → ℕ → Type 0) (up : ℕ → Option ℕ) (nodes :
       by true is few = elim (cases_eq (hits v (x ∷ line)) 0) [
         | inl none ↦ omega (arith, none)
         | inr some ↦
-            let round : (y : ℕ) × (onward : List ℕ) × Path HasParent u (y ∷ onward) v =
+            let round : (y : ℕ) × (onward : List ℕ) × WalkBy HasParent u (y ∷ onward) v =
             reaches u v (x ∷ line) in' steps (grind (arith)) in
             absurd (never u round.0 round.1
-            (subst (Path HasParent u (round.0 ∷ round.1)) (sym (eqb-true u v is)) round.2))
+            (subst (WalkBy HasParent u (round.0 ∷ round.1)) (sym (eqb-true u v is)) round.2))
       ]
 
   -- all hits together are the length

@@ -7,7 +7,7 @@ use Rattle.std.proofs.lemmas.List.Kept.{AllPairs-filter}
 use Rattle.std.proofs.lemmas.List.Sums.{sum_by-cons}
 use Rattle.std.proofs.lemmas.Option.{same_Some}
 use Rattle.pls_graph.proofs.Members.{Contains-filter, Contains-first, Contains-from_filter, Contains-later}
-use Rattle.pls_configuration.specs.Path.{Path}
+use Rattle.pls_configuration.specs.WalkBy.{WalkBy}
 use Rattle.pls_facts.specs.Parents.{AreSoMany, ChainMeets}
 use Rattle.pls_facts.specs.SpanningTree.{AreDistinct}
 use Rattle.pls_facts.proofs.Sums.{AreApart, AreApart-from_pairs, eqb_turned, same_many, sum-add, sum-at, sum-filter, sum-one, sum-same, sum-swap, sum-when, sum-zero, when, when-add, when-none, when-swap}
@@ -200,7 +200,7 @@ module _ (HasParent : ℕ → ℕ → Type 0) (nodes : List ℕ) (up : ℕ → O
 
   -- and what a chain leads to the whole chain meets
   hits_meets : (v u : ℕ) (line chain : List ℕ) → Contains nodes u → Ended up u line
-      → Path HasParent u chain v → 1 ≤ hits v (u ∷ line)
+      → WalkBy HasParent u chain v → 1 ≤ hits v (u ∷ line)
   hits_meets v u line [] in' ended same =
       let one : when (u == v) 1 ≡ 1 = ap (λ (b : Bool). when b 1) (eq-eqb u v same) in
       omega (arith, one)
@@ -209,7 +209,7 @@ module _ (HasParent : ℕ → ℕ → Type 0) (nodes : List ℕ) (up : ℕ → O
   hits_meets v u (y ∷ line) (x ∷ chain) in' ended path =
       let same : y ≡ x = same_Some y x (sym ended.0 ∙ are.named u x in' path.0) in
       let later = hits_meets v y line chain (are.within u y in' ended.0) ended.1
-      (subst (λ (x : ℕ). Path HasParent x chain v) (sym same) path.1) in
+      (subst (λ (x : ℕ). WalkBy HasParent x chain v) (sym same) path.1) in
       omega (arith, later)
 
   -- so that is how many chains meet it

@@ -6,7 +6,7 @@ use Rattle.pls_configuration.specs.declared.row.NodeRow.{NodeRow}
 use Rattle.pls_configuration.specs.Configuration.{IsNetwork}
 use Rattle.pls_configuration.specs.Walk.{Adjacent, Walk, edges_of}
 use Rattle.pls_graph.proofs.Adjacent.{Adjacent-port}
-use Rattle.pls_configuration.proofs.Paths.{Path-append}
+use Rattle.pls_configuration.proofs.Walks.{WalkBy-append}
 use Rattle.pls_graph.proofs.Joined.{Adjacent-turned}
 use Rattle.pls_graph.proofs.Members.{place_from_Contains}
 use Rattle.pls_graph.proofs.Placed.{WayBack, port_of_place, row_of_place, way_back}
@@ -100,7 +100,7 @@ module _ (rows : List NodeRow) where
         × (walk_weight rows v back ≡ walk_weight rows x nodes) =
         Walk-turned x v nodes walk.1 in (
           back ++ u ∷ [],
-          Path-append (Adjacent (edges_of rows)) v x u back (u ∷ []) turned
+          WalkBy-append (Adjacent (edges_of rows)) v x u back (u ∷ []) turned
               (Adjacent-turned (edges_of rows) u x walk.0, refl),
           omega
               (arith, walk_weight-step v x u back turned, weighs, edge_weight-turned u x walk.0),
@@ -130,6 +130,6 @@ module _ (rows : List NodeRow) where
         let there : IsDistance rows root v (value v) =
         are v u (Adjacent-turned (edges_of rows) u v adjacent) in
         let walk : Walk (edges_of rows) root (here.nodes ++ v ∷ []) v =
-        Path-append (Adjacent (edges_of rows)) root u v here.nodes (v ∷ []) here.walk (adjacent, refl) in
+        WalkBy-append (Adjacent (edges_of rows)) root u v here.nodes (v ∷ []) here.walk (adjacent, refl) in
         let least = there.least (here.nodes ++ v ∷ []) walk in
         omega (arith, least, walk_weight-step root u v here.nodes here.walk, here.weighs)

@@ -15,7 +15,7 @@ use Rattle.pls_graph.specs.Places.{beside}
 use Rattle.pls_graph.proofs.Beside.{Adjacent-beside, beside-Adjacent, beside_within}
 use Rattle.pls_graph.proofs.Members.{Contains-from_map, Contains-from_place, Contains-map, place_from_Contains}
 use Rattle.pls_graph.proofs.Placed.{ids_rise, place_of_row}
-use Rattle.pls_configuration.specs.Path.{Path}
+use Rattle.pls_configuration.specs.WalkBy.{WalkBy}
 use Rattle.pls_facts.specs.Parents.{AreSoMany, ChainMeets, NoParentsReturn}
 use Rattle.pls_facts.specs.SpanningTree.{AreDistinct}
 use Rattle.pls_facts.proofs.Levels.{one_level}
@@ -207,7 +207,7 @@ module _ (rows : List NodeRow) (net : IsNetwork rows) (levels : List ℕ)
       omega (arith, within, each)
 
   -- a chain of parents goes down in levels
-  chain_falls : (u v : ℕ) (nodes : List ℕ) → Path (HasParentAt parents) u nodes v
+  chain_falls : (u v : ℕ) (nodes : List ℕ) → WalkBy (HasParentAt parents) u nodes v
       → level u ≡ level v + length nodes
   chain_falls u v [] same = let is = ap level same in omega (arith, is)
   chain_falls u v (x ∷ nodes) chain =
@@ -225,7 +225,7 @@ module _ (rows : List NodeRow) (net : IsNetwork rows) (levels : List ℕ)
 
   -- chains from place to place are chains from node to node
   chain_there : (u v : ℕ) (row target : NodeRow) (nodes : List ℕ) → IsRow u row → IsRow v target
-      → Path (HasParentAt parents) u nodes v
+      → WalkBy (HasParentAt parents) u nodes v
       → ChainMeets (IsParent rows root) row.id target.id
   chain_there u v row target [] at there same =
       let one : row ≡ target = same_Some row target (sym at ∙ ap (slice_get rows) same ∙ there) in
@@ -237,14 +237,14 @@ module _ (rows : List NodeRow) (net : IsNetwork rows) (levels : List ℕ)
       (node.id ∷ onward, (is, rest))
 
   chain_back : (u v : ℕ) (row target : NodeRow) (nodes : List ℕ) → IsRow u row → IsRow v target
-      → Path (IsParent rows root) row.id nodes target.id
+      → WalkBy (IsParent rows root) row.id nodes target.id
       → ChainMeets (HasParentAt parents) u v
   chain_back u v row target [] at there same = ([], same_place u v row target at there same)
   chain_back u v row target (id ∷ nodes) at there chain =
       let (x, node, at_x, named, has) = up_back u row id at chain.0 in
       let (onward, rest) : ChainMeets (HasParentAt parents) x v =
       chain_back x v node target nodes at_x there
-      (subst (λ (id : ℕ). Path (IsParent rows root) id nodes target.id) (sym named) chain.1)
+      (subst (λ (id : ℕ). WalkBy (IsParent rows root) id nodes target.id) (sym named) chain.1)
       in
       (x ∷ onward, (has, rest))
 
@@ -332,7 +332,7 @@ module _ (rows : List NodeRow) (net : IsNetwork rows) (levels : List ℕ)
           omega (arith, each, slice_get_within rows other node node_at)) in
           let chain : ChainMeets (HasParentAt parents) other place =
           chain_back other place node row such.1.0 node_at at
-          (subst (λ (id : ℕ). Path (IsParent rows root) id such.1.0 row.id) (sym named)
+          (subst (λ (id : ℕ). WalkBy (IsParent rows root) id such.1.0 row.id) (sym named)
           such.1.1) in
           subst (Contains (map id_at so.all)) (id_of other node node_at ∙ named)
           (Contains-map id_at so.all other ((so.are other).1 (within, chain)))

@@ -13,7 +13,7 @@ use Rattle.pls_configuration.specs.Configuration.{IsNetwork}
 use Rattle.pls_configuration.specs.Walk.{Adjacent, edges_of}
 use Rattle.pls_graph.specs.Places.{place_in}
 use Rattle.pls_graph.proofs.Finds.{None-is_some}
-use Rattle.pls_configuration.proofs.Paths.{Path-append}
+use Rattle.pls_configuration.proofs.Walks.{WalkBy-append}
 use Rattle.pls_graph.proofs.Members.{Contains-cons_cases, Contains-from_map, Contains-from_place, Contains-map}
 use Rattle.pls_facts.specs.Weight.{edge_weight}
 use Rattle.pls_facts.proofs.NamedPlaces.{port_named}
@@ -159,7 +159,7 @@ module _ (rows : List NodeRow) (net : IsNetwork rows) (root : ℕ) (found : List
         subst (λ (v : ℕ). edge_weight rows row.id v ≡ port.weight) is
         (port_weighs rows net row port in_rows has) in (
           nodes ++ other.id ∷ [],
-          Path-append (Adjacent (edges_of rows)) start.id row.id other.id nodes (other.id ∷ []) walk
+          WalkBy-append (Adjacent (edges_of rows)) start.id row.id other.id nodes (other.id ∷ []) walk
               (adjacent, refl),
           omega (arith, walk_weight-step rows start.id row.id other.id nodes walk, weighs, edge),
         )

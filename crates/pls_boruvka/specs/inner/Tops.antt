@@ -1,7 +1,7 @@
 -- The places where chains of joined pointers end.
 use Rattle.std.specs.Prelude.{◌≡◌, ℕ, ◌+◌, ◌<◌, ◌≤◌, Bool, false, if◌then◌else◌, IfSome, List, length, Option, Some, None, slice_get, slice_index_or}
 use Rattle.pls_configuration.specs.declared.row.NodeRow.{NodeRow}
-use Rattle.pls_configuration.specs.Path.{Path}
+use Rattle.pls_configuration.specs.WalkBy.{WalkBy}
 use Rattle.pls_search.specs.PointedPlace.{PointsTo}
 
 -- what stands at each place of a list is right for that place
@@ -37,7 +37,7 @@ joined_parent parents joined place =
 -- the chain of joined parents of a place ends at this one
 pub record IsTop (parents : List (Option ℕ)) (joined : List Bool) (place top : ℕ) : Type 0 where
   pub nodes : List ℕ
-  pub chain : Path (λ one other. joined_parent parents joined one ≡ Some other) place nodes top
+  pub chain : WalkBy (λ one other. joined_parent parents joined one ≡ Some other) place nodes top
   pub ends : joined_parent parents joined top ≡ None
   pub inside : top < length parents
 
