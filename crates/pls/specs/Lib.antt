@@ -56,7 +56,7 @@ pub use Rattle.pls_edits.specs.declared.edit.Edit
 pub use Rattle.pls_graph_edits.specs.Edits
 pub use Rattle.pls_recheck.specs.After
 pub use Rattle.pls_recheck.specs.Rechecked
-pub use Rattle.pls_recheck.specs.Watch as Watched
+pub use Rattle.pls_recheck.specs.Snapshot
 -- rounds of messages
 pub use Rattle.pls_schedule.specs.declared.event.Event
 pub use Rattle.pls_sim.specs.Applying

@@ -6,16 +6,17 @@ use Rattle.std.proofs.lemmas.Option.{get_or_from_slice_get, same_Some, slice_get
 use Rattle.pls_configuration.specs.declared.row.NodeRow.{NodeRow}
 use Rattle.pls_configuration.specs.Configuration.{IsNetwork, ids_of}
 use Rattle.pls_configuration.specs.Walk.{AreJoined, IsConnected, edges_of}
+use Rattle.pls_configuration.specs.Rising.{IsRising}
 use Rattle.pls_graph.specs.Connected.{IsFirstApart, smallest_id}
 use Rattle.pls_graph.proofs.Finds.{item_at}
 use Rattle.pls_graph.proofs.Members.{Contains-cons_cases, Contains-first, Contains-from_map, Contains-from_place, Contains-later, Contains-map, place_from_Contains}
 use Rattle.pls_graph.proofs.Placed.{ids_rise, smallest_first}
-use Rattle.pls_components.specs.Components.{AreComponents, AreJoinedAt, IsComponent, NumbersRise, least_id}
+use Rattle.pls_components.specs.Components.{AreComponents, AreJoinedAt, IsComponent, least_id}
 use Rattle.pls_components.proofs.Apart.{joined_through, joined_turned, joined_within, least_first, same_component}
 use Rattle.pls_components.proofs.Whole.{whole_connected}
 
 -- the first of numbers that rise is at most each other
-first_at_most : (numbers : List ℕ) → NumbersRise numbers → (k x y : ℕ)
+first_at_most : (numbers : List ℕ) → IsRising numbers → (k x y : ℕ)
     → slice_get numbers 0 ≡ Some x → slice_get numbers k ≡ Some y → x ≤ y
 first_at_most numbers rise zero x y first at =
     let same : x ≡ y = same_Some x y (sym first ∙ at) in omega arith

@@ -2,12 +2,12 @@
 use Rattle.std.proofs.Common.{◌≡◌, ◌∙◌, ℕ, ◌+◌, ◌<◌, nat_le, nat_lt, Bool, true, false, not, List, [], ◌∷◌, ◌++◌, length, Option, Some, None, Result, Ok, Err, OnOk, IfErr, is_ok, is_some, is_none, refl, sym, ap, subst, arith, length-append}
 use Rattle.std.proofs.lemmas.Bool.{lt-leb, le-ltb}
 use Rattle.std.proofs.lemmas.List.{length-map}
-use Rattle.pls_configuration.specs.Configuration.{first_of, row_of}
+use Rattle.pls_configuration.specs.Configuration.{first_of, row_of, refused_if}
 use Rattle.pls_schedule.specs.declared.event.Event.{Event as Played}
 use Rattle.pls_schedule.specs.declared.event.Event.TheVariants as Plays
 use Rattle.pls_sim.specs.declared.event_error.EventError.{EventError}
 use Rattle.pls_sim.specs.declared.event_error.EventError.TheVariants.{Full, NoNode}
-use Rattle.pls_sim.specs.Applying.{Played as Round, event_refusal, refused_if}
+use Rattle.pls_sim.specs.Applying.{Played as Round, event_refusal}
 use Rattle.pls_watch_part.specs.declared.watch_event.WatchEvent.{WatchEvent}
 use Rattle.pls_watch_part.specs.declared.watch_event.WatchEvent.TheVariants.{Arrive, Emit, Relabel, Restart}
 use Rattle.pls_watch_part.specs.declared.watch_event.WatchLine.{WatchLine}

@@ -4,7 +4,7 @@ ghost use Rattle.std.specs.Prelude.{◌≡◌, ◌<◌, ◌^◌, All, length};
 ghost use Rattle.pls_labels.specs.Seen.{IsProper};
 
 use crate::field_table::{FieldTable, number_of};
-use crate::in_view::is_word;
+use crate::in_view::fits_64_bits;
 use crate::sees::Sees;
 use pls_configuration::{Port, State};
 
@@ -72,7 +72,7 @@ pub(crate) fn node_fits(id: u32, state: &State, ports: &[Port])
     ensures num { state.now.num < 2 ^ 64 }
     ensures weights { All (λ port. port.weight < 2 ^ 64) ports.now }
 {
-    is_word(id);
+    fits_64_bits(id);
     let _mark = state.mark;
     let _num = state.num;
     weights_fit(ports);
@@ -83,6 +83,6 @@ fn weights_fit(ports: &[Port])
     ensures { All (λ port. port.weight < 2 ^ 64) ports.now }
 {
     for p in 0..ports.len() {
-        is_word(ports[p].weight);
+        fits_64_bits(ports[p].weight);
     }
 }

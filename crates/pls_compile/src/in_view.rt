@@ -81,13 +81,13 @@ fn weights_fit(ports: &[PortView<'_>])
     ensures { All (λ port. port.weight < 2 ^ 64) ports.now }
 {
     for p in 0..ports.len() {
-        is_word(ports[p].weight);
+        fits_64_bits(ports[p].weight);
     }
 }
 
 // A number of 32 bits is one of 64.
 #[inline(always)]
-pub(crate) fn is_word(number: u32)
+pub(crate) fn fits_64_bits(number: u32)
     ensures { number < 2 ^ 64 }
 {
     let _number = number;

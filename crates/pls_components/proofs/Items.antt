@@ -5,9 +5,10 @@ use Rattle.std.proofs.lemmas.List.{take_more, take-take}
 use Rattle.std.proofs.lemmas.List.Elements.{All-cons, All-contains, All-head, All-nil, All-tail, filter_map-append}
 use Rattle.std.proofs.lemmas.List.Sums.{sum_by-cons, sum_by-take-le, sum_by_more}
 use Rattle.std.proofs.lemmas.Option.{get_or_from_slice_get, same_Some, slice_get-map, slice_get_within}
+use Rattle.pls_configuration.specs.Rising.{IsRising}
 use Rattle.pls_graph.proofs.Finds.{item_at}
 use Rattle.pls_graph.proofs.Members.{Contains-from_place}
-use Rattle.pls_components.specs.Components.{NumbersRise, items_at}
+use Rattle.pls_components.specs.Components.{items_at}
 
 module _ {X : Type 0} (xs : List X) where
   abbrev Within : ℕ → Type 0
@@ -84,21 +85,21 @@ items-map {X} f xs (place ∷ places) =
     by (Some x) = refl
 
 -- where numbers rise, those behind the first are above it, and rise
-pub rising-head : (first : ℕ) (numbers : List ℕ) → NumbersRise (first ∷ numbers)
+pub rising-head : (first : ℕ) (numbers : List ℕ) → IsRising (first ∷ numbers)
     → All (λ (later : ℕ). first < later) numbers
 rising-head first numbers rising = λ k d inside. rising 0 (suc k) d (omega arith) (omega arith)
 
-pub rising-tail : (first : ℕ) (numbers : List ℕ) → NumbersRise (first ∷ numbers) → NumbersRise numbers
+pub rising-tail : (first : ℕ) (numbers : List ℕ) → IsRising (first ∷ numbers) → IsRising numbers
 rising-tail first numbers rising = λ i j d less inside.
     rising (suc i) (suc j) d (omega arith) (omega arith)
 
-above : (first : ℕ) (numbers : List ℕ) → NumbersRise (first ∷ numbers)
+above : (first : ℕ) (numbers : List ℕ) → IsRising (first ∷ numbers)
     → All (λ (later : ℕ). first + 1 ≤ later) numbers
 above first numbers rising = λ k d inside.
     let less = rising-head first numbers rising k d inside in omega arith
 
 -- there are no more rising numbers between two than numbers between them
-pub rising-few : (n base : ℕ) (numbers : List ℕ) → NumbersRise numbers
+pub rising-few : (n base : ℕ) (numbers : List ℕ) → IsRising numbers
     → All (λ (number : ℕ). base ≤ number) numbers → All (λ (number : ℕ). number < n) numbers
     → base ≤ n → length numbers + base ≤ n
 rising-few n base [] rising from within fits = omega arith
@@ -112,7 +113,7 @@ rising-few n base (first ∷ numbers) rising from within fits =
 
 -- the sum over the items at rising places is at most the sum over all
 pub items-sum : {X : Type 0} (f : X → ℕ) (xs : List X) (base : ℕ) (places : List ℕ)
-    → NumbersRise places → All (λ (place : ℕ). base ≤ place) places
+    → IsRising places → All (λ (place : ℕ). base ≤ place) places
     → All (λ (place : ℕ). place < length xs) places
     → sum_by f (items_at xs places) + sum_by f (take base xs) ≤ sum_by f xs
 items-sum f xs base [] rising from within = omega (arith, sum_by-take-le f xs base)

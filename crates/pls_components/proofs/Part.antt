@@ -8,6 +8,7 @@ use Rattle.pls_configuration.specs.declared.row.Port.{Port}
 use Rattle.pls_configuration.specs.declared.row.NodeRow.{NodeRow}
 use Rattle.pls_configuration.specs.Configuration.{IsNetwork, has_repeat, ids_of, links_itself, points_nowhere, row_of}
 use Rattle.pls_configuration.specs.Walk.{Adjacent, AreJoined, Edge, IsConnected, Walk, edges_of}
+use Rattle.pls_configuration.specs.Rising.{IsRising}
 use Rattle.pls_graph.proofs.Adjacent.{Adjacent-port, Names, Names-Adjacent}
 use Rattle.pls_graph.proofs.Finds.{fails_where_none, find-placed, found_place, item_at}
 use Rattle.pls_graph.proofs.Beside.{one_place}
@@ -17,12 +18,12 @@ use Rattle.pls_graph.proofs.Placed.{WayBack, ids_rise, ports_differ, row_place, 
 use Rattle.pls_graph.proofs.Rising.{RiseFrom, ids_apart}
 use Rattle.pls_graph.proofs.Sound.{AreSound, sound_valid}
 use Rattle.pls_graph.proofs.Valid.{NothingRefused, nothing_refused}
-use Rattle.pls_components.specs.Components.{AreJoinedAt, IsComponent, NumbersRise, items_at}
+use Rattle.pls_components.specs.Components.{AreJoinedAt, IsComponent, items_at}
 use Rattle.pls_components.proofs.Items.{All-items, from-items, items-at, items-sum, length-items, rising-few, rising-head, rising-tail}
 
 module _ (rows : List NodeRow) (net : IsNetwork rows) where
   -- rows at rising places rise
-  rise : (low : ℕ) (places : List ℕ) → NumbersRise places
+  rise : (low : ℕ) (places : List ℕ) → IsRising places
       → All (λ (place : ℕ). place < length rows) places
       → ((place : ℕ) (row : NodeRow) → Contains places place → slice_get rows place ≡ Some row
       → low ≤ row.id)
@@ -41,7 +42,7 @@ module _ (rows : List NodeRow) (net : IsNetwork rows) where
       let both : (low ≤ row.id) × RiseFrom (suc row.id) (items_at rows places) = (least, rest) in
       rw at both
     where
-      later : (first : ℕ) (places : List ℕ) → NumbersRise (first ∷ places) → (place : ℕ)
+      later : (first : ℕ) (places : List ℕ) → IsRising (first ∷ places) → (place : ℕ)
           → Contains places place → first < place
       later first places rising place in' =
           let less = rising-head first places rising in'.0 place in'.1 in

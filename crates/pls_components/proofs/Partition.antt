@@ -8,9 +8,10 @@ use Rattle.std.proofs.lemmas.List.Sums.{sum_by-cons, sum_by_more}
 use Rattle.std.proofs.lemmas.Option.{get_or_from_slice_get, slice_get_past}
 use Rattle.pls_configuration.specs.declared.row.NodeRow.{NodeRow}
 use Rattle.pls_configuration.specs.Configuration.{IsNetwork}
+use Rattle.pls_configuration.specs.Rising.{IsRising}
 use Rattle.pls_graph.proofs.Finds.{item_at}
 use Rattle.pls_graph.proofs.Members.{Contains-cons_cases, Contains-first, Contains-later}
-use Rattle.pls_components.specs.Components.{AreComponents, IsComponent, NumbersRise, items_at, least_id}
+use Rattle.pls_components.specs.Components.{AreComponents, IsComponent, items_at, least_id}
 use Rattle.pls_components.proofs.Apart.{same_component}
 use Rattle.pls_components.proofs.Items.{rising-head, rising-tail}
 use Rattle.pls_components.proofs.Putting.{items-agree}
@@ -47,7 +48,7 @@ module _ {X : Type 0} (f : X → ℕ) (xs : List X) (i : ℕ) (x : X) (at : slic
       ]))
 
   -- one item more at one of the places is added once
-  part-more : (places : List ℕ) → NumbersRise places → Contains places i
+  part-more : (places : List ℕ) → IsRising places → Contains places i
       → next places ≡ now places + f x
   part-more [] rising in' = absurd (let inside = in'.1 in omega arith)
   part-more (first ∷ places) rising in' = elim (Contains-cons_cases first places i in') [
@@ -94,7 +95,7 @@ module _ {X : Type 0} (f : X → ℕ) (xs : List X) (i : ℕ) (x : X) (at : slic
       omega arith
 
   parts-more : (parts : List (List ℕ))
-      → ((places : List ℕ) → Contains parts places → NumbersRise places)
+      → ((places : List ℕ) → Contains parts places → IsRising places)
       → AllPairs (λ places others. (p : ℕ) → Contains places p → Contains others p → ⊥) parts
       → (places : List ℕ) → Contains parts places → Contains places i
       → sum_by next parts ≡ sum_by now parts + f x

@@ -4,9 +4,10 @@ use Rattle.std.proofs.lemmas.List.{get_or_default, length-set, take_all, take_mo
 use Rattle.std.proofs.lemmas.List.Elements.{Contains-append_left, Contains-push}
 use Rattle.std.proofs.lemmas.List.Sums.{sum_by-drop_more}
 use Rattle.std.proofs.lemmas.Option.{get_or_from_slice_get, slice_get_within}
+use Rattle.pls_configuration.specs.Rising.{IsRising}
 use Rattle.pls_labels.specs.Labels.{bits_together}
 use Rattle.pls_labels.specs.Stored.{cost}
-use Rattle.pls_components.specs.Components.{NumbersRise, items_at}
+use Rattle.pls_components.specs.Components.{items_at}
 use Rattle.pls_components.specs.inner.Marking.{ArePutAt, room_for}
 use Rattle.pls_components.proofs.Items.{items-more}
 
@@ -36,7 +37,7 @@ module _ {X : Type 0} where
       ) refl
 
 -- of rising places, an earlier one is below
-earlier : (places : List ℕ) → NumbersRise places → (j d place : ℕ) → j < length places
+earlier : (places : List ℕ) → IsRising places → (j d place : ℕ) → j < length places
     → Contains (take j places) place → place < get_or places j d
 earlier places rising j d place inside in' =
     let (k, within, at) : (k : ℕ) × (k < length (take j places)) × (get_or (take j places) k place ≡ place) =
@@ -59,7 +60,7 @@ pub Putting-first : (places : List ℕ) (put old : List (List Bool)) → Putting
 Putting-first places put old = record { size = refl; others = λ place apart. refl; here = refl }
 
 pub Putting-more : (places : List ℕ) (put old now : List (List Bool)) (j place : ℕ)
-    (label : List Bool) → NumbersRise places → j < length places → place ≡ get_or places j place
+    (label : List Bool) → IsRising places → j < length places → place ≡ get_or places j place
     → slice_get put j ≡ Some label → place < length now → Putting places put old now j
     → Putting places put old (set now place label) (j + 1)
 Putting-more places put old now j place label rising inside is at within so_far = record {

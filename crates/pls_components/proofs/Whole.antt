@@ -6,13 +6,14 @@ use Rattle.pls_configuration.specs.declared.row.NodeRow.{NodeRow}
 use Rattle.pls_configuration.specs.declared.verdict.Verdict.{Verdict}
 use Rattle.pls_configuration.specs.Configuration.{IsNetwork}
 use Rattle.pls_configuration.specs.Walk.{IsConnected}
+use Rattle.pls_configuration.specs.Rising.{IsRising}
 use Rattle.pls_graph.specs.declared.size.Size.{Size}
 use Rattle.pls_graph.specs.Connected.{smallest_id}
 use Rattle.pls_graph.proofs.Members.{Contains-cons_cases, Contains-first}
 use Rattle.pls_graph.proofs.Placed.{smallest_first}
 use Rattle.pls_labels.specs.Seen.{Seen}
 use Rattle.pls_scheme.specs.Judging.{AllAccept}
-use Rattle.pls_components.specs.Components.{AreComponents, IsComponent, NumbersRise, items_at, least_id}
+use Rattle.pls_components.specs.Components.{AreComponents, IsComponent, items_at, least_id}
 use Rattle.pls_components.specs.Parts.{AreLacking, AreShown, AreWithinBound, bound_of_parts, room_of_parts}
 use Rattle.pls_graph.specs.Size.{size_of}
 use Rattle.pls_components.proofs.Apart.{component_listed}
@@ -26,7 +27,7 @@ at_seam [] x xs = refl
 at_seam (first ∷ front) x xs = at_seam front x xs
 
 -- rising places that are all those behind a front have the items behind it
-all_from : {X : Type 0} (front xs : List X) (places : List ℕ) → NumbersRise places
+all_from : {X : Type 0} (front xs : List X) (places : List ℕ) → IsRising places
     → All (λ (place : ℕ). length front ≤ place) places
     → All (λ (place : ℕ). place < length front + length xs) places
     → ((place : ℕ) → length front ≤ place → place < length front + length xs → Contains places place)
@@ -74,7 +75,7 @@ all_from {X} front (x ∷ xs) (place ∷ places) rising from within all =
     later other past (inl same) = let here = first in absurd (omega arith)
     later other past (inr in') = in'
 
-pub all_items : {X : Type 0} (xs : List X) (places : List ℕ) → NumbersRise places
+pub all_items : {X : Type 0} (xs : List X) (places : List ℕ) → IsRising places
     → All (λ (place : ℕ). place < length xs) places
     → ((place : ℕ) → place < length xs → Contains places place) → items_at xs places ≡ xs
 all_items xs places rising within all =

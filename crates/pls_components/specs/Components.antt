@@ -9,10 +9,6 @@ use Rattle.pls_graph.specs.Connected.{smallest_id}
 abbrev pub items_at : {X : Type 0} → List X → List ℕ → List X
 items_at items places = filter_map (slice_get items) places
 
--- each number of a list is below those behind it
-abbrev pub NumbersRise : List ℕ → Type 0
-NumbersRise numbers = AllPairs (λ number later. number < later) numbers
-
 -- nodes stand at the places i and j of the rows, and a walk along edges leads from the one to the
 -- other
 pub record AreJoinedAt (rows : List NodeRow) (i j : ℕ) : Type 0 where
@@ -25,7 +21,7 @@ pub record AreJoinedAt (rows : List NodeRow) (i j : ℕ) : Type 0 where
 -- the places, rising, of one connected component: with some node of it exactly the nodes that a
 -- walk joins to that one
 pub record IsComponent (rows : List NodeRow) (places : List ℕ) : Type 0 where
-  pub rising : NumbersRise places
+  pub rising : IsRising places
   -- the place of that node
   pub node : ℕ
   pub own : Contains places node

@@ -3,12 +3,13 @@ use Rattle.std.specs.Prelude.{◌≡◌, ◌≢◌, ◌≤◌, ◌*◌, ℕ, Boo
 use Rattle.pls_configuration.specs.declared.row.NodeRow.{NodeRow}
 use Rattle.pls_configuration.specs.declared.verdict.Verdict.{Verdict}
 use Rattle.pls_configuration.specs.declared.verdict.Verdict.TheVariants.{Accept}
+use Rattle.pls_configuration.specs.Rising.{IsRising}
 use Rattle.pls_streams.specs.Steps.{capped}
 use Rattle.pls_graph.specs.declared.size.Size.{Size}
 use Rattle.pls_graph.specs.Size.{greatest, size_of}
 use Rattle.pls_labels.specs.Seen.{Seen, views}
 use Rattle.pls_scheme.specs.Judging.{AllAccept}
-use Rattle.pls_components.specs.Components.{FitsInEach, HasInEach, IsComponent, NumbersRise, items_at, least_id}
+use Rattle.pls_components.specs.Components.{FitsInEach, HasInEach, IsComponent, items_at, least_id}
 use Rattle.pls_components.specs.declared.mark_result.MarkResult.{MarkResult}
 use Rattle.pls_components.specs.declared.mark_result.MarkResult.TheVariants.{Labels, Lacking}
 
@@ -28,7 +29,7 @@ pub record LacksIn (holds : List NodeRow → Type 0) (rows : List NodeRow) (plac
 pub record AreLacking (holds : List NodeRow → Type 0) (rows : List NodeRow) (ids : List ℕ)
     : Type 0 where
   pub some : ids ≢ []
-  pub rising : NumbersRise ids
+  pub rising : IsRising ids
   pub each : (id : ℕ) → Contains ids id
       → (places : List ℕ) × LacksIn holds rows places × (least_id rows places ≡ id)
   pub all : (places : List ℕ) → LacksIn holds rows places → Contains ids (least_id rows places)

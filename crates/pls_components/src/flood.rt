@@ -108,7 +108,8 @@ fn no_numbers(alloc: Global, count: usize) -> Result<Vec<Option<u32>>, NoMemory>
 
 // Unwraps the numbers, none of which may be `None`.
 pub(crate) fn all_numbers(alloc: Global, found: &[Option<u32>]) -> Result<Vec<u32>, NoMemory>
-    requires { (place : ℕ) → place < length found.now → (known : ℕ) × HasNumber found.now place known }
+    requires { (place : ℕ) → place < length found.now
+        → (known : ℕ) × HasNumber found.now place known }
     ensures { IfOk result (λ numbers. map Some numbers.items ≡ found.now) }
 {
     let mut numbers = Vec::with_capacity(alloc, found.len())?;

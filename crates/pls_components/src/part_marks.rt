@@ -1,7 +1,8 @@
 //! Marking a network whose components are marked each by itself.
 
 ghost use Rattle.std.specs.Prelude.{◌≡◌, ◌≤◌, ◌<◌, ◌^◌, ◌∷◌, ℕ, List, Some, All, IfOk, OnOk, [], length, slice_get};
-ghost use Rattle.pls_components.specs.Components.{AreComponents, NumbersRise};
+ghost use Rattle.pls_configuration.specs.Rising.{IsRising};
+ghost use Rattle.pls_components.specs.Components.{AreComponents};
 ghost use Rattle.pls_components.specs.Parts.{AreLacking, AreShown, IfLabels, IfLacking};
 ghost use Rattle.pls_components.specs.inner.Marking.{ArePutAt, IsPartMarked, room_for};
 
@@ -109,7 +110,7 @@ fn mark_part<S: Scheme>(
 
 // Reserves room for all labels first, so that none allocates on its own.
 fn put_labels(labels: &mut LabelStore, places: &[u32], marked: &LabelStore) -> Result<(), NoMemory>
-    requires rising { NumbersRise places.now }
+    requires rising { IsRising places.now }
     requires within { All (λ place. place < length labels.old) places.now }
     requires few { length places.now ≤ 2 ^ 20 }
     requires each { length marked.now ≡ length places.now }
@@ -127,7 +128,7 @@ fn put_labels(labels: &mut LabelStore, places: &[u32], marked: &LabelStore) -> R
 
 // Each label begins a new word of `room`, which must have space for all.
 fn put_into(room: &mut LabelRoom, places: &[u32], marked: &LabelStore)
-    requires rising { NumbersRise places.now }
+    requires rising { IsRising places.now }
     requires within { All (λ place. place < length room.old.labels) places.now }
     requires each { length marked.now ≡ length places.now }
     requires room { room_for marked.now ≤ room.old.spare }

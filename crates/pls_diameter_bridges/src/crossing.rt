@@ -38,7 +38,8 @@ fn all_allowed(
     from: usize,
 ) -> bool
     requires { from < length net.now }
-    ensures { result ≡ list_all (is_allowed near.now far.now place other from) (beside net.now from) }
+    ensures { result
+        ≡ list_all (is_allowed near.now far.now place other from) (beside net.now from) }
 {
     let places = net.places(from);
     places.iter().all(|to| is_allowed(place, near, other, far, from, *to as usize))

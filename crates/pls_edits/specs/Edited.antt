@@ -2,10 +2,10 @@
 use Rattle.std.specs.Prelude.{◌≡◌, ℕ, ◌≤◌, ◌==◌, ◌||◌, nat_lt, Bool, false, List, [], ◌∷◌, filter, length, slice_set, insert, remove, Option, Some}
 use Rattle.pls_configuration.specs.declared.limits.TheConstants.{MAX_NUM, MAX_BITS}
 use Rattle.pls_configuration.specs.declared.row.NodeRow.{NodeRow}
-use Rattle.pls_configuration.specs.Configuration.{first_of}
+use Rattle.pls_configuration.specs.Configuration.{first_of, refused_if}
 use Rattle.pls_graph_edits.specs.declared.edit_error.EditError.{EditError}
 use Rattle.pls_graph_edits.specs.declared.edit_error.EditError.TheVariants.{Absent, Full}
-use Rattle.pls_graph_edits.specs.Edits.{SaysEdit, are_linked, cause, is_absent, join_refusal, joined, leave_refusal, left, link_refusal, linked, state_refusal, edge_refusal, unlinked, with_state, with_weight}
+use Rattle.pls_graph_edits.specs.Edits.{SaysEdit, are_linked, is_absent, join_refusal, joined, leave_refusal, without_node, link_refusal, linked, state_refusal, edge_refusal, unlinked, with_state, with_weight}
 use Rattle.pls_graph.specs.Places.{place_in}
 use Rattle.pls_labels.specs.Labels.{bits_together}
 use Rattle.pls_edits.specs.declared.edit.Edit.{Edit}
@@ -18,7 +18,7 @@ edited (Weight a b weight) rows = with_weight rows a b weight
 edited (Link a b weight) rows = linked rows a b weight
 edited (Unlink a b) rows = unlinked rows a b
 edited (Join id mark num) rows = joined rows id mark num
-edited (Leave id) rows = left rows id
+edited (Leave id) rows = without_node rows id
 edited (Label id bits) rows = rows
 
 -- the place that a new node of this identity takes: as many rows have a smaller one
@@ -56,8 +56,9 @@ touches (Label id bits) rows node = (id == node) || are_linked rows id node
 -- why a label is refused: there is no such node, or all labels together would be too long
 abbrev pub label_refusal : List NodeRow → List (List Bool) → ℕ → List Bool → Option EditError
 label_refusal rows labels id bits = first_of (
-    cause (is_absent rows id) Absent
-    ∷ cause (nat_lt MAX_BITS (bits_together (slice_set labels (place_in rows id) bits))) Full ∷ [])
+    refused_if (is_absent rows id) Absent
+    ∷ refused_if (nat_lt MAX_BITS (bits_together (slice_set labels (place_in rows id) bits)))
+        Full ∷ [])
 
 -- why the edit is refused, in a network with these labels: the first cause that holds
 abbrev pub edit_refusal : Edit → List NodeRow → List (List Bool) → Option EditError

@@ -10,9 +10,9 @@ use Rattle.std.proofs.lemmas.Map.Keys.{any_passes_from_place}
 use Rattle.pls_configuration.specs.declared.row.Port.{Port}
 use Rattle.pls_configuration.specs.declared.row.State.{State}
 use Rattle.pls_configuration.specs.declared.row.NodeRow.{NodeRow}
-use Rattle.pls_configuration.specs.Configuration.{IsNetwork, first_of, port_to, ports_in, row_of}
+use Rattle.pls_configuration.specs.Configuration.{IsNetwork, first_of, port_to, ports_in, row_of, refused_if}
 use Rattle.pls_configuration.specs.declared.limits.TheConstants.{MAX_PORTS}
-use Rattle.pls_graph_edits.specs.Edits.{fits_state, leave_refusal, edge_refusal, state_refusal, link_refusal, cause}
+use Rattle.pls_graph_edits.specs.Edits.{fits_state, leave_refusal, edge_refusal, state_refusal, link_refusal}
 use Rattle.pls_graph_edits.specs.declared.edit_error.EditError.TheVariants.{Absent, Present, Pointer, SelfLink, HasPorts, Last, Full}
 use Rattle.pls_graph.proofs.Placed.{WayBack, way_back, row_of_place}
 use Rattle.pls_graph.proofs.Finds.{list_any-find, None-is_some, item_at, found_place}
@@ -122,7 +122,7 @@ module _ (rows : List NodeRow) (a b : ℕ) where
           )
         where
           by : (s l u : Bool)
-              → first_of (cause s SelfLink ∷ cause l Present ∷ cause u Full ∷ []) ≡ None
+              → first_of (refused_if s SelfLink ∷ refused_if l Present ∷ refused_if u Full ∷ []) ≡ None
               → (s ≡ false) × (l ≡ false) × (u ≡ false)
           by true l u none = absurd (cc)
           by false true u none = absurd (cc)
@@ -173,7 +173,7 @@ module _ (rows : List NodeRow) (a b : ℕ) where
     pub unlink_apart : is_some (port_to row b) ≡ false → edge_refusal rows a b ≡ Some Absent
     unlink_apart free = rw (found, free) (by (is_none (row_of rows b)))
       where
-        by : (absent : Bool) → cause (absent || true) Absent ≡ Some Absent
+        by : (absent : Bool) → refused_if (absent || true) Absent ≡ Some Absent
         by true = refl
         by false = refl
 

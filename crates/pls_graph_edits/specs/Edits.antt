@@ -5,7 +5,7 @@ use Rattle.pls_configuration.specs.declared.row.Port.{Port}
 use Rattle.pls_configuration.specs.declared.row.State.{State}
 use Rattle.pls_configuration.specs.declared.row.NodeRow.{NodeRow}
 use Rattle.pls_configuration.specs.declared.limits.TheConstants.{MAX_NODES, MAX_PORTS}
-use Rattle.pls_configuration.specs.Configuration.{first_of, ports_in, port_to, row_of}
+use Rattle.pls_configuration.specs.Configuration.{first_of, ports_in, port_to, refused_if, row_of}
 use Rattle.pls_graph.specs.Rows.{gaining}
 use Rattle.pls_graph_edits.specs.declared.edit_error.EditError.{EditError}
 use Rattle.pls_graph_edits.specs.declared.edit_error.EditError.TheVariants.{Absent, Present, Pointer, SelfLink, HasPorts, Last, Full, NoMemory}
@@ -79,19 +79,16 @@ lone_node id mark num =
 -- a row is put in, in the order of identities
 abbrev pub with_row : NodeRow → List NodeRow → List NodeRow
 with_row row rows =
-    filter (λ other. nat_lt other.id row.id) rows ++ row ∷ filter (λ other. nat_lt row.id other.id) rows
+    filter (λ other. nat_lt other.id row.id) rows
+    ++ row ∷ filter (λ other. nat_lt row.id other.id) rows
 
 -- a node without ports and pointer comes, in the order of identities
 abbrev pub joined : List NodeRow → ℕ → ℕ → ℕ → List NodeRow
 joined rows id mark num = with_row (lone_node id mark num) rows
 
 -- the node goes
-abbrev pub left : List NodeRow → ℕ → List NodeRow
-left rows id = filter (λ row. not (id == row.id)) rows
-
--- the error, where the condition holds
-abbrev pub cause : Bool → EditError → Option EditError
-cause holds error = if holds then Some error else None
+abbrev pub without_node : List NodeRow → ℕ → List NodeRow
+without_node rows id = filter (λ row. not (id == row.id)) rows
 
 -- no row has the identity
 abbrev pub is_absent : List NodeRow → ℕ → Bool
@@ -108,35 +105,37 @@ fits_state state row = option_map_or (λ up. nat_lt up (length row.ports)) state
 -- why a state is refused: there is no such node, or else it lacks the port that the state points at
 abbrev pub state_refusal : List NodeRow → ℕ → State → Option EditError
 state_refusal rows id state = first_of (
-    cause (is_absent rows id) Absent
-    ∷ cause (option_map_or (λ row. not (fits_state state row)) (row_of rows id) false) Pointer ∷ [])
+    refused_if (is_absent rows id) Absent
+    ∷ refused_if (option_map_or (λ row. not (fits_state state row)) (row_of rows id) false)
+        Pointer ∷ [])
 
 -- why an edge is neither changed nor taken away: the two are not linked nodes
 abbrev pub edge_refusal : List NodeRow → ℕ → ℕ → Option EditError
 edge_refusal rows a b =
-    cause (is_absent rows a || is_absent rows b || not (are_linked rows a b)) Absent
+    refused_if (is_absent rows a || is_absent rows b || not (are_linked rows a b)) Absent
 
 -- why a new edge is refused: one of the nodes is not there, or else they are one node, or are
 -- linked, or there is no room for two more ports
 abbrev pub link_refusal : List NodeRow → ℕ → ℕ → Option EditError
 link_refusal rows a b = first_of (
-    cause (is_absent rows a || is_absent rows b) Absent
-    ∷ cause (a == b) SelfLink
-    ∷ cause (are_linked rows a b) Present
-    ∷ cause (nat_lt (MAX_PORTS - 2) (ports_in rows)) Full ∷ [])
+    refused_if (is_absent rows a || is_absent rows b) Absent
+    ∷ refused_if (a == b) SelfLink
+    ∷ refused_if (are_linked rows a b) Present
+    ∷ refused_if (nat_lt (MAX_PORTS - 2) (ports_in rows)) Full ∷ [])
 
 -- why a node does not join: its identity is there, or else there is no room for one more
 abbrev pub join_refusal : List NodeRow → ℕ → Option EditError
 join_refusal rows id = first_of (
-    cause (not (is_absent rows id)) Present
-    ∷ cause (nat_le MAX_NODES (length rows)) Full ∷ [])
+    refused_if (not (is_absent rows id)) Present
+    ∷ refused_if (nat_le MAX_NODES (length rows)) Full ∷ [])
 
 -- why a node does not leave: it is not there, or else it has ports, or is the only one
 abbrev pub leave_refusal : List NodeRow → ℕ → Option EditError
 leave_refusal rows id = first_of (
-    cause (is_absent rows id) Absent
-    ∷ cause (option_map_or (λ row. nat_lt 0 (length row.ports)) (row_of rows id) false) HasPorts
-    ∷ cause (length rows == 1) Last ∷ [])
+    refused_if (is_absent rows id) Absent
+    ∷ refused_if (option_map_or (λ row. nat_lt 0 (length row.ports)) (row_of rows id) false)
+        HasPorts
+    ∷ refused_if (length rows == 1) Last ∷ [])
 
 -- an edit that may lack memory is refused for this cause, or there was no memory
 abbrev pub SaysEdit : Option EditError → EditError → Type 0

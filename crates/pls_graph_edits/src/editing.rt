@@ -4,7 +4,7 @@ ghost use Rattle.std.specs.Prelude.{◌≡◌, ◌≤◌, ◌==◌, position, sl
 ghost use Rattle.pls_configuration.specs.declared.row.NodeRow.{NodeRow};
 ghost use Rattle.pls_configuration.specs.declared.limits.TheConstants.{MAX_NUM};
 ghost use Rattle.pls_graph_edits.specs.inner.Ends.{AreEnds};
-ghost use Rattle.pls_graph_edits.specs.Edits.{with_state, state_refusal, fits_state, linked, link_refusal, left, leave_refusal, joined, join_refusal, unlinked, edge_refusal, with_weight, SaysEdit};
+ghost use Rattle.pls_graph_edits.specs.Edits.{with_state, state_refusal, fits_state, linked, link_refusal, without_node, leave_refusal, joined, join_refusal, unlinked, edge_refusal, with_weight, SaysEdit};
 
 use crate::edit_error::EditError;
 use crate::gap_seeking::gap_for;
@@ -117,7 +117,7 @@ pub fn join(net: &mut Network, id: u32, mark: u32, num: u64) -> Result<(), EditE
 /// `Absent`, no node has the identity; `HasPorts`, the node has a port; `Last`, it is the only
 /// node.
 pub fn leave(net: &mut Network, id: u32) -> Result<(), EditError>
-    ensures ok { OnOk result (net.new ≡ left net.old id) }
+    ensures ok { OnOk result (net.new ≡ without_node net.old id) }
     ensures allowed { OnOk result (leave_refusal net.old id ≡ None) }
     ensures refused { IfErr result (λ error. leave_refusal net.old id ≡ Some error) }
     ensures unchanged { OnErr result (net.new ≡ net.old) }

@@ -66,7 +66,8 @@ impl<'a> View<'a> {
     ) -> Result<View<'a>, NoMemory>
         requires lengths { length (L.listed labels.now) ≡ length net.now }
         requires within { i < length net.now }
-        ensures shows { IfOk result (λ view. slice_get (views net.now (L.listed labels.now)) i ≡ Some view) }
+        ensures shows { IfOk result
+            (λ view. slice_get (views net.now (L.listed labels.now)) i ≡ Some view) }
         ensures small { IfSome (slice_get net.now i) (λ row. length row.ports ≤ 8 → IsOk result) }
     {
         let (id, state) = net.node(i);
@@ -109,7 +110,8 @@ impl<'a> View<'a> {
     ) -> Result<(), NoMemory>
         requires lengths { length (L.listed labels.now) ≡ length net.now }
         requires within { i < length net.now }
-        ensures shows { OnOk result (slice_get (views net.now (L.listed labels.now)) i ≡ Some self.new) }
+        ensures shows { OnOk result
+            (slice_get (views net.now (L.listed labels.now)) i ≡ Some self.new) }
     {
         let (id, state) = net.node(i);
         self.state.up = None;

@@ -22,8 +22,8 @@ use pls_numbers::Numbers;
 /// fewer than 65,536 nodes. Further levels are read where they lie.
 pub const LONG_FRONT: usize = 16;
 
-/// How many levels are kept where labels are short, so that glances at many labels take less
-/// memory. Further levels are read where they lie, so no verdict rests on it.
+/// How many levels are kept of each label where labels are short, which takes less memory. Further
+/// levels are read where they lie, so no verdict rests on it.
 pub const SHORT_FRONT: usize = 4;
 
 /// What is kept of a label at a glance, with `N` levels at most: all that a port asks for where the

@@ -10,7 +10,8 @@ use pls_numbers::Numbers;
 
 #[inline(always)]
 pub(crate) fn read_level<C: NumCode>(numbers: &mut Numbers<'_, C>) -> Option<CentroidLevel>
-    ensures found { IfSome result (λ level. IsTaken centroid_level_off level numbers.old numbers.new) }
+    ensures found { IfSome result
+        (λ level. IsTaken centroid_level_off level numbers.old numbers.new) }
     ensures none { IfNone result (centroid_level_off numbers.old.numbers ≡ None) }
 {
     let centroid = numbers.next()?;

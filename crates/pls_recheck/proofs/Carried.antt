@@ -13,7 +13,7 @@ use Rattle.pls_graph_edits.specs.inner.Gaps.{place_with, place_without}
 use Rattle.pls_graph.proofs.Finds.{fails_where_none, from_option_map}
 use Rattle.pls_graph.proofs.Placed.{WayBack, ids_differ, place_of_row, row_of_place, way_back}
 use Rattle.pls_labels.specs.Seen.{Seen, label_of, seen, seen_port}
-use Rattle.pls_recheck.specs.Watch.{is_number_among}
+use Rattle.pls_recheck.specs.Snapshot.{is_number_among}
 use Rattle.pls_recheck.specs.inner.Flags.{AreAround, AreCurrent, marked}
 use Rattle.pls_recheck.proofs.Marked.{among_marked, flags_filter}
 use Rattle.pls_recheck.proofs.Relabelled.{map_at}

@@ -1,4 +1,4 @@
--- What is watched after a node joined or left.
+-- The snapshot after a node joined or left.
 use Rattle.std.proofs.Common.{◌≡◌, ◌∙◌, ℕ, ◌≤◌, Bool, true, false, ◌==◌, ◌||◌, List, [], insert, remove, filter, length, slice_get, Some, None, refl, sym, ap, subst, arith}
 use Rattle.std.proofs.lemmas.List.Edits.{length-insert, length-remove}
 use Rattle.std.proofs.lemmas.Option.{slice_get_within}
@@ -6,13 +6,13 @@ use Rattle.pls_configuration.specs.declared.row.NodeRow.{NodeRow}
 use Rattle.pls_configuration.specs.declared.verdict.Verdict.{Verdict}
 use Rattle.pls_configuration.specs.declared.verdict.Verdict.TheVariants.{Accept}
 use Rattle.pls_configuration.specs.Configuration.{IsNetwork, ids_of, row_of}
-use Rattle.pls_graph_edits.specs.Edits.{lone_node, join_refusal, joined, leave_refusal, left}
+use Rattle.pls_graph_edits.specs.Edits.{lone_node, join_refusal, joined, leave_refusal, without_node}
 use Rattle.pls_graph.specs.Places.{place_in}
 use Rattle.pls_edits.specs.declared.edit.Edit.TheVariants.{Join, Leave}
 use Rattle.pls_edits.specs.Edited.{place_for}
 use Rattle.pls_labels.specs.Seen.{Seen}
-use Rattle.pls_recheck.specs.After.{watch_after}
-use Rattle.pls_recheck.specs.Watch.{IsCurrent, Snapshot, is_number_among}
+use Rattle.pls_recheck.specs.After.{snapshot_after}
+use Rattle.pls_recheck.specs.Snapshot.{IsCurrent, Snapshot, is_number_among}
 use Rattle.pls_recheck.specs.inner.Flags.{MatchRows, marked}
 use Rattle.pls_recheck.proofs.Carried.{Carries, Kept, after_join, after_leave, carried_around, carried_current, carried_touched, join_carries, leave_carries}
 use Rattle.pls_recheck.proofs.Cleared.{current_by_flags, current_by_ids}
@@ -85,7 +85,7 @@ module _ (before : Kept) (net : IsNetwork before.rows) (kept : IsKept before) (n
             (one_more before.around false kept.noted.as_many) kept.noted;
       })
 
-      pub join_makes : shown now ≡ watch_after (Join id mark num) (shown before)
+      pub join_makes : shown now ≡ snapshot_after (Join id mark num) (shown before)
       join_makes =
           let rows : now.rows ≡ joined before.rows id mark num =
           ap (λ (now : Kept). now.rows) is
@@ -142,11 +142,11 @@ module _ (before : Kept) (net : IsNetwork before.rows) (kept : IsKept before) (n
             (one_less before.around kept.noted.as_many) kept.noted;
       })
 
-      pub leave_makes : shown now ≡ watch_after (Leave id) (shown before)
+      pub leave_makes : shown now ≡ snapshot_after (Leave id) (shown before)
       leave_makes =
-          let rows : now.rows ≡ left before.rows id =
+          let rows : now.rows ≡ without_node before.rows id =
           ap (λ (now : Kept). now.rows) is ∙ sym (left_at before.rows net i row at)
-          ∙ ap (λ (id : ℕ). left before.rows id) same in
+          ∙ ap (λ (id : ℕ). without_node before.rows id) same in
           let labels : now.labels ≡ remove before.labels (place_in before.rows id) =
           ap (λ (now : Kept). now.labels) is ∙ ap (λ (i : ℕ). remove before.labels i) (sym place) in
           let verdicts : now.verdicts ≡ remove before.verdicts (place_in before.rows id) =

@@ -8,7 +8,7 @@ use Rattle.pls_configuration.specs.declared.verdict.Verdict.{Verdict}
 use Rattle.pls_configuration.specs.Configuration.{IsNetwork, ids_of}
 use Rattle.pls_labels.specs.Seen.{Seen, views}
 use Rattle.pls_graph.proofs.Placed.{ids_differ}
-use Rattle.pls_recheck.specs.Watch.{is_number_among}
+use Rattle.pls_recheck.specs.Snapshot.{is_number_among}
 use Rattle.pls_recheck.specs.inner.Flags.{AreCurrent, cleared, marked, set_among}
 use Rattle.pls_recheck.proofs.Marked.{among_marked, id_at_view}
 

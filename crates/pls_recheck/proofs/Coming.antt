@@ -6,9 +6,9 @@ use Rattle.std.proofs.lemmas.List.Edits.{length-insert}
 use Rattle.std.proofs.lemmas.Option.{same_Some}
 use Rattle.pls_configuration.specs.declared.row.NodeRow.{NodeRow}
 use Rattle.pls_configuration.specs.declared.limits.TheConstants.{MAX_NODES}
-use Rattle.pls_configuration.specs.Configuration.{IsNetwork, first_of, row_of}
+use Rattle.pls_configuration.specs.Configuration.{IsNetwork, first_of, row_of, refused_if}
 use Rattle.pls_graph_edits.specs.declared.edit_error.EditError.TheVariants.{Full, HasPorts, Last, Present}
-use Rattle.pls_graph_edits.specs.Edits.{lone_node, cause, join_refusal, joined, leave_refusal, left, with_row}
+use Rattle.pls_graph_edits.specs.Edits.{lone_node, join_refusal, joined, leave_refusal, without_node, with_row}
 use Rattle.pls_graph.proofs.Placed.{ids_rise, place_of_row, row_of_place}
 use Rattle.pls_edits.specs.Edited.{place_for}
 use Rattle.pls_recheck.proofs.Shifted.{insert_here, remove_inserted}
@@ -46,7 +46,7 @@ all_higher id (row ∷ rows) above =
     rw past (ap (λ (rest : List NodeRow). row ∷ rest)
     (all_higher id rows (λ k other at. above (suc k) other at)))
 
-all_stay : (id : ℕ) (rows : List NodeRow) → AllAbove id rows → left rows id ≡ rows
+all_stay : (id : ℕ) (rows : List NodeRow) → AllAbove id rows → without_node rows id ≡ rows
 all_stay id [] above = refl
 all_stay id (row ∷ rows) above =
     let high = above 0 row refl in
@@ -90,7 +90,7 @@ row_put new (row ∷ rows) rise none =
 
 -- a row goes from its place
 row_gone : (rows : List NodeRow) → Rise rows → (i : ℕ) (row : NodeRow) → slice_get rows i ≡ Some row
-    → left rows row.id ≡ remove rows i
+    → without_node rows row.id ≡ remove rows i
 row_gone [] rise i row at = absurd (cc)
 row_gone (first ∷ rows) rise zero row at =
     let same : first.id ≡ row.id = ap (λ (row : NodeRow). row.id) (same_Some first row at) in
@@ -108,7 +108,7 @@ pub may_join : (rows : List NodeRow) (id : ℕ) → join_refusal rows id ≡ Non
 may_join rows id allowed = by (row_of rows id) (nat_le MAX_NODES (length rows)) refl allowed
   where
     by : (o : Option NodeRow) (full : Bool) → row_of rows id ≡ o
-        → first_of (cause (not (is_none o)) Present ∷ cause full Full ∷ []) ≡ None
+        → first_of (refused_if (not (is_none o)) Present ∷ refused_if full Full ∷ []) ≡ None
         → row_of rows id ≡ None
     by None full new none = new
     by (Some row) full new none = absurd (cc)
@@ -120,12 +120,12 @@ may_leave rows id row found allowed =
     by (nat_lt 0 (length row.ports)) (length rows == 1) refl (rw found at allowed)
   where
     by : (b c : Bool) → nat_lt 0 (length row.ports) ≡ b
-        → first_of (cause b HasPorts ∷ cause c Last ∷ []) ≡ None → length row.ports ≡ 0
+        → first_of (refused_if b HasPorts ∷ refused_if c Last ∷ []) ≡ None → length row.ports ≡ 0
     by true c some none = absurd (cc)
     by false c some none = let few = ltb-false 0 (length row.ports) some in omega (arith, few)
 
 pub left_at : (rows : List NodeRow) → IsNetwork rows → (i : ℕ) (row : NodeRow)
-    → slice_get rows i ≡ Some row → left rows row.id ≡ remove rows i
+    → slice_get rows i ≡ Some row → without_node rows row.id ≡ remove rows i
 left_at rows net i row at = row_gone rows (ids_rise rows net) i row at
 
 few_lower : (id : ℕ) (rows : List NodeRow) → place_for rows id ≤ length rows
@@ -169,7 +169,7 @@ module _ (rows : List NodeRow) (net : IsNetwork rows) (id mark num : ℕ)
         rw (found, many) refl
 
     -- and then all is as before
-    pub joined_and_left : left after id ≡ rows
+    pub joined_and_left : without_node after id ≡ rows
     joined_and_left = left_at after valid (place_for rows id) (lone_node id mark num) stands
         ∙ ap (λ (rows' : List NodeRow). remove rows' (place_for rows id)) (is ∙ joined_at)
         ∙ remove_inserted rows (place_for rows id) (lone_node id mark num) place_inside

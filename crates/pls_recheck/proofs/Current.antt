@@ -5,7 +5,7 @@ use Rattle.std.proofs.lemmas.Option.{same_Some}
 use Rattle.pls_configuration.specs.declared.verdict.Verdict.{Verdict}
 use Rattle.pls_labels.specs.Seen.{Seen, label_of, seen, views}
 use Rattle.pls_scheme.specs.Judging.{round_by}
-use Rattle.pls_recheck.specs.Watch.{IsCurrent, Snapshot, is_number_among}
+use Rattle.pls_recheck.specs.Snapshot.{IsCurrent, Snapshot, is_number_among}
 
 list_by_places : {X Y : Type 0} (f : X → Y) (xs : List X) (ys : List Y) → length ys ≡ length xs
     → ((k : ℕ) (x : X) → slice_get xs k ≡ Some x → slice_get ys k ≡ Some (f x)) → ys ≡ map f xs

@@ -8,7 +8,7 @@ use Rattle.pls_configuration.specs.Configuration.{IsNetwork, has_repeat, ids_of}
 use Rattle.pls_graph.proofs.Finds.{eqb_comm, fails_at, from_option_map}
 use Rattle.pls_graph.proofs.Placed.{ids_differ}
 use Rattle.pls_labels.specs.Seen.{Seen, label_of, seen, views}
-use Rattle.pls_recheck.specs.Watch.{is_number_among}
+use Rattle.pls_recheck.specs.Snapshot.{is_number_among}
 use Rattle.pls_recheck.specs.inner.Flags.{MarksMore, marked}
 
 pub marked_all : (ids : List ℕ) → marked ids (replicate (length ids) true) ≡ ids

@@ -7,9 +7,9 @@ use Rattle.std.proofs.lemmas.List.Quantifiers.{position-Some}
 use Rattle.std.proofs.lemmas.Option.{same_Some, slice_get_within, get_or_from_slice_get}
 use Rattle.pls_configuration.specs.declared.row.Port.{Port}
 use Rattle.pls_configuration.specs.declared.row.NodeRow.{NodeRow}
-use Rattle.pls_configuration.specs.Configuration.{IsNetwork, first_of, port_to, row_of}
+use Rattle.pls_configuration.specs.Configuration.{IsNetwork, first_of, port_to, row_of, refused_if}
 use Rattle.pls_graph_edits.specs.declared.edit_error.EditError.TheVariants.{Absent, Full}
-use Rattle.pls_graph_edits.specs.Edits.{are_linked, cause, leave_refusal}
+use Rattle.pls_graph_edits.specs.Edits.{are_linked, leave_refusal}
 use Rattle.pls_graph.specs.Places.{place_in}
 use Rattle.pls_graph.proofs.Finds.{fails_where_no_position, found_place, from_option_map, item_at, list_any-find}
 use Rattle.pls_graph.proofs.Placed.{WayBack, row_of_place, way_back}
@@ -184,7 +184,7 @@ label_by rows net labels id i bits place full is =
     let row : (row : NodeRow) × (slice_get rows i ≡ Some row) = item_at rows i within in
     rw (found_at rows net id i place row.0 row.1, place_is rows net id i place, ← is) (by full)
   where
-    by : (b : Bool) → first_of (cause false Absent ∷ cause b Full ∷ []) ≡ cond b (Some Full) None
+    by : (b : Bool) → first_of (refused_if false Absent ∷ refused_if b Full ∷ []) ≡ cond b (Some Full) None
     by true = refl
     by false = refl
 

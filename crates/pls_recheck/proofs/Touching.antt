@@ -12,9 +12,9 @@ use Rattle.pls_graph.proofs.Finds.{fails_where_no_position}
 use Rattle.pls_graph.proofs.Placed.{place_of_row}
 use Rattle.pls_labels.specs.Seen.{Seen}
 use Rattle.pls_edits.specs.Edited.{carried_over, edited, relabelled, touches}
-use Rattle.pls_recheck.specs.After.{watch_after, touched_after}
+use Rattle.pls_recheck.specs.After.{snapshot_after, touched_after}
 use Rattle.pls_edits.specs.declared.edit.Edit.{Edit}
-use Rattle.pls_recheck.specs.Watch.{IsCurrent, Snapshot, is_number_among}
+use Rattle.pls_recheck.specs.Snapshot.{IsCurrent, Snapshot, is_number_among}
 use Rattle.pls_recheck.specs.inner.Flags.{MarksMore, marked}
 use Rattle.pls_recheck.proofs.Cleared.{current_by_flags, current_by_ids}
 use Rattle.pls_recheck.proofs.Marked.{marked_more}
@@ -117,8 +117,8 @@ module _ (rows after : List NodeRow) (was : IsNetwork rows) (valid : IsNetwork a
       (current_after passes rows after labels then ids alike old new many more judge kept
       (current_by_flags judge rows labels old kept was many current))
 
--- what was watched is the one after the edit, part by part
-pub snapshot_after : (edit : Edit) (before : Snapshot) (network : List NodeRow)
+-- the parts after the edit make the snapshot after it
+pub parts_after : (edit : Edit) (before : Snapshot) (network : List NodeRow)
     (labels : List (List Bool)) (touched : List ℕ)
     → carried_over edit before.network (0, Accept) before.kept ≡ before.kept
     → network ≡ edited edit before.network
@@ -126,8 +126,8 @@ pub snapshot_after : (edit : Edit) (before : Snapshot) (network : List NodeRow)
     → touched ≡ filter (λ node. is_number_among before.touched node || touches edit before.network node)
     (ids_of network)
     → record { network = network; labels = labels; touched = touched; kept = before.kept }
-    ≡ watch_after edit before
-snapshot_after edit before network labels touched kept_are rows_are labels_are touched_are =
+    ≡ snapshot_after edit before
+parts_after edit before network labels touched kept_are rows_are labels_are touched_are =
     rw (touched_are, labels_are, rows_are) (ap (λ (kept : List (ℕ × Verdict)). record {
       network = edited edit before.network;
       labels = relabelled edit before.network before.labels;

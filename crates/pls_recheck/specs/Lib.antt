@@ -1,4 +1,4 @@
-pub mod Watch
+pub mod Snapshot
 pub mod After
 pub mod Rechecked
 pub mod inner

@@ -1,4 +1,4 @@
-//! Edits of what is watched.
+//! Edits of an edited network: of states, weights and edges.
 
 ghost use Rattle.std.specs.Prelude.{◌≡◌, ◌≤◌, ◌==◌, ◌||◌, length, None, OnErr, OnOk, IfErr, Some};
 ghost use Rattle.pls_configuration.specs.declared.limits.TheConstants.{MAX_NUM};
@@ -9,8 +9,8 @@ ghost use Rattle.pls_labels.specs.Seen.{Seen};
 ghost use Rattle.pls_edits.specs.Edited.{FitsNum, RefusesWith, edit_refusal};
 ghost use Rattle.pls_edits.specs.declared.edit.Edit.{Edit};
 ghost use Rattle.pls_edits.specs.declared.edit.Edit.TheVariants.{State as StateEdit, Weight, Link, Unlink};
-ghost use Rattle.pls_recheck.specs.After.{watch_after};
-ghost use Rattle.pls_recheck.specs.Watch.{IsCurrent};
+ghost use Rattle.pls_recheck.specs.After.{snapshot_after};
+ghost use Rattle.pls_recheck.specs.Snapshot.{IsCurrent};
 ghost use Rattle.pls_recheck.specs.inner.Flags.{ClearsSome, MarksMore};
 
 use crate::edited_network::EditedNetwork;
@@ -26,7 +26,7 @@ impl EditedNetwork {
     /// neighbours only where they need not all be touched already.
     pub fn apply(&mut self, edit: &Edit) -> Result<(), EditError>
         requires { FitsNum edit.now }
-        ensures ok { OnOk result (self.new ≡ watch_after edit.now self.old) }
+        ensures ok { OnOk result (self.new ≡ snapshot_after edit.now self.old) }
         ensures allowed { OnOk result
             (edit_refusal edit.now self.old.network self.old.labels ≡ None) }
         ensures refused { IfErr result (λ error. RefusesWith edit.now
@@ -57,7 +57,7 @@ impl EditedNetwork {
 
     fn set_state(&mut self, id: u32, state: State) -> Result<(), EditError>
         requires { state.num ≤ MAX_NUM }
-        ensures ok { OnOk result (self.new ≡ watch_after (StateEdit id state) self.old) }
+        ensures ok { OnOk result (self.new ≡ snapshot_after (StateEdit id state) self.old) }
         ensures allowed { OnOk result (state_refusal self.old.network id state ≡ None) }
         ensures refused { IfErr result
             (λ error. state_refusal self.old.network id state ≡ Some error) }
@@ -72,7 +72,7 @@ impl EditedNetwork {
     }
 
     fn set_weight(&mut self, a: u32, b: u32, weight: u32) -> Result<(), EditError>
-        ensures ok { OnOk result (self.new ≡ watch_after (Weight a b weight) self.old) }
+        ensures ok { OnOk result (self.new ≡ snapshot_after (Weight a b weight) self.old) }
         ensures allowed { OnOk result (edge_refusal self.old.network a b ≡ None) }
         ensures refused { IfErr result
             (λ error. edge_refusal self.old.network a b ≡ Some error) }
@@ -87,7 +87,7 @@ impl EditedNetwork {
     }
 
     fn link(&mut self, a: u32, b: u32, weight: u32) -> Result<(), EditError>
-        ensures ok { OnOk result (self.new ≡ watch_after (Link a b weight) self.old) }
+        ensures ok { OnOk result (self.new ≡ snapshot_after (Link a b weight) self.old) }
         ensures allowed { OnOk result (link_refusal self.old.network a b ≡ None) }
         ensures refused { IfErr result
             (λ error. SaysEdit (link_refusal self.old.network a b) error) }
@@ -102,7 +102,7 @@ impl EditedNetwork {
     }
 
     fn unlink(&mut self, a: u32, b: u32) -> Result<(), EditError>
-        ensures ok { OnOk result (self.new ≡ watch_after (Unlink a b) self.old) }
+        ensures ok { OnOk result (self.new ≡ snapshot_after (Unlink a b) self.old) }
         ensures allowed { OnOk result (edge_refusal self.old.network a b ≡ None) }
         ensures refused { IfErr result
             (λ error. edge_refusal self.old.network a b ≡ Some error) }

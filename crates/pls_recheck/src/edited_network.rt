@@ -4,7 +4,7 @@ ghost use Rattle.std.specs.Prelude.{◌≡◌, length, replicate, IfOk};
 ghost use Rattle.pls_configuration.specs.declared.verdict.Verdict.{Verdict};
 ghost use Rattle.pls_configuration.specs.Configuration.{ids_of};
 ghost use Rattle.pls_labels.specs.Seen.{Seen};
-ghost use Rattle.pls_recheck.specs.Watch.{IsCurrent};
+ghost use Rattle.pls_recheck.specs.Snapshot.{IsCurrent};
 ghost use Rattle.pls_recheck.specs.inner.Flags.{set_among};
 
 use pls_configuration::Verdict;
@@ -31,20 +31,20 @@ pub struct EditedNetwork {
 
 impl Model for EditedNetwork {
     ghost use Rattle.pls_configuration.specs.Configuration.{ids_of};
-    ghost use Rattle.pls_recheck.specs.Watch.{Snapshot};
+    ghost use Rattle.pls_recheck.specs.Snapshot.{Snapshot};
     ghost use Rattle.pls_recheck.specs.inner.Flags.{MatchRows, marked};
 
     ghost Value = { Snapshot };
 
-    ghost view = { λ watched. record {
-      network = watched.net;
-      labels = watched.labels;
-      touched = marked (ids_of watched.net) watched.flags.items;
-      kept = watched.kept.items;
+    ghost view = { λ snapshot. record {
+      network = snapshot.net;
+      labels = snapshot.labels;
+      touched = marked (ids_of snapshot.net) snapshot.flags.items;
+      kept = snapshot.kept.items;
     } };
 
-    ghost invariant = { λ watched. MatchRows watched.net watched.labels watched.flags.items
-        watched.around.items watched.kept.items };
+    ghost invariant = { λ snapshot. MatchRows snapshot.net snapshot.labels snapshot.flags.items
+        snapshot.around.items snapshot.kept.items };
 }
 
 impl EditedNetwork {
@@ -56,11 +56,11 @@ impl EditedNetwork {
         labels: LabelStore,
     ) -> Result<EditedNetwork, NoMemory>
         requires { length labels ≡ length net }
-        ensures network { IfOk result (λ watched. watched.network ≡ net) }
-        ensures labels { IfOk result (λ watched. watched.labels ≡ labels) }
-        ensures all { IfOk result (λ watched. watched.touched ≡ ids_of net) }
+        ensures network { IfOk result (λ snapshot. snapshot.network ≡ net) }
+        ensures labels { IfOk result (λ snapshot. snapshot.labels ≡ labels) }
+        ensures all { IfOk result (λ snapshot. snapshot.touched ≡ ids_of net) }
         ensures current { IfOk result
-            (λ watched. (judge : Seen → Verdict) → IsCurrent judge watched) }
+            (λ snapshot. (judge : Seen → Verdict) → IsCurrent judge snapshot) }
     {
         note_places(&mut net);
         EditedNetwork::begin(alloc, net, labels)
@@ -69,11 +69,11 @@ impl EditedNetwork {
     // As `start`, but without noting the places of the network first.
     fn begin(alloc: Global, net: Network, labels: LabelStore) -> Result<EditedNetwork, NoMemory>
         requires { length labels ≡ length net }
-        ensures network { IfOk result (λ watched. watched.network ≡ net) }
-        ensures labels { IfOk result (λ watched. watched.labels ≡ labels) }
-        ensures all { IfOk result (λ watched. watched.touched ≡ ids_of net) }
+        ensures network { IfOk result (λ snapshot. snapshot.network ≡ net) }
+        ensures labels { IfOk result (λ snapshot. snapshot.labels ≡ labels) }
+        ensures all { IfOk result (λ snapshot. snapshot.touched ≡ ids_of net) }
         ensures current { IfOk result
-            (λ watched. (judge : Seen → Verdict) → IsCurrent judge watched) }
+            (λ snapshot. (judge : Seen → Verdict) → IsCurrent judge snapshot) }
     {
         let nodes = net.len();
         let flags = flags_of(alloc, true, nodes)?;

@@ -1,17 +1,17 @@
-//! Nodes that join what is watched, and nodes that leave.
+//! Nodes that join an edited network, and nodes that leave it.
 
 ghost use Rattle.std.specs.Prelude.{◌≡◌, ◌<◌, ◌≤◌, [], insert, length, vec_capacity, None, Some, IfOk, IfErr, OnErr, OnOk};
 ghost use Rattle.pls_configuration.specs.declared.limits.TheConstants.{MAX_NUM};
 ghost use Rattle.pls_configuration.specs.declared.verdict.Verdict.{Verdict};
 ghost use Rattle.pls_configuration.specs.declared.verdict.Verdict.TheVariants.{Accept};
-ghost use Rattle.pls_graph_edits.specs.Edits.{SaysEdit, joined, join_refusal, leave_refusal, left};
+ghost use Rattle.pls_graph_edits.specs.Edits.{SaysEdit, joined, join_refusal, leave_refusal, without_node};
 ghost use Rattle.pls_configuration.specs.Configuration.{IsNetwork};
 ghost use Rattle.pls_graph.specs.Places.{place_in};
 ghost use Rattle.pls_labels.specs.Seen.{Seen};
 ghost use Rattle.pls_edits.specs.Edited.{place_for};
 ghost use Rattle.pls_edits.specs.declared.edit.Edit.TheVariants.{Join, Leave};
-ghost use Rattle.pls_recheck.specs.After.{watch_after};
-ghost use Rattle.pls_recheck.specs.Watch.{IsCurrent};
+ghost use Rattle.pls_recheck.specs.After.{snapshot_after};
+ghost use Rattle.pls_recheck.specs.Snapshot.{IsCurrent};
 
 use crate::edited_network::EditedNetwork;
 use pls_configuration::Verdict;
@@ -24,7 +24,7 @@ impl EditedNetwork {
     // The node has no ports, no pointer and an empty label; gives its place.
     pub(crate) fn join(&mut self, id: u32, mark: u32, num: u64) -> Result<usize, EditError>
         requires { num ≤ MAX_NUM }
-        ensures ok { OnOk result (self.new ≡ watch_after (Join id mark num) self.old) }
+        ensures ok { OnOk result (self.new ≡ snapshot_after (Join id mark num) self.old) }
         ensures place { IfOk result (λ place. place ≡ place_for self.old.network id) }
         ensures within { IfOk result (λ place. place ≤ length self.old.labels) }
         ensures allowed { OnOk result (join_refusal self.old.network id ≡ None) }
@@ -46,7 +46,7 @@ impl EditedNetwork {
 
     // Refused where the node has ports; gives the place where it stood.
     pub(crate) fn leave(&mut self, id: u32) -> Result<usize, EditError>
-        ensures ok { OnOk result (self.new ≡ watch_after (Leave id) self.old) }
+        ensures ok { OnOk result (self.new ≡ snapshot_after (Leave id) self.old) }
         ensures place { IfOk result (λ place. place ≡ place_in self.old.network id) }
         ensures within { IfOk result (λ place. place < length self.old.labels) }
         ensures allowed { OnOk result (leave_refusal self.old.network id ≡ None) }
@@ -104,7 +104,7 @@ fn join_with_label(
 // Undoes a join just made, which cannot fail.
 fn take_back(net: &mut Network, id: u32)
     requires { leave_refusal net.old id ≡ None }
-    ensures { net.new ≡ left net.old id }
+    ensures { net.new ≡ without_node net.old id }
 {
     let gone = leave(net, id);
     prove!(gone.is_ok());

@@ -1,4 +1,4 @@
-//! Labels of what is watched.
+//! New labels of an edited network.
 
 ghost use Rattle.std.specs.Prelude.{◌≡◌, All, slice_get, ◌<◌, ◌-◌, ◌^◌, length, min, nat_lt, slice_set, None, OnErr, OnOk, IfErr, IfOk, Some};
 ghost use Rattle.pls_configuration.specs.declared.row.NodeRow.{NodeRow};
@@ -10,8 +10,8 @@ ghost use Rattle.pls_labels.specs.Seen.{Seen};
 ghost use Rattle.pls_edits.specs.Edited.{label_refusal};
 ghost use Rattle.pls_configuration.specs.declared.limits.TheConstants.{MAX_BITS};
 ghost use Rattle.pls_edits.specs.declared.edit.Edit.TheVariants.{Label};
-ghost use Rattle.pls_recheck.specs.After.{watch_after};
-ghost use Rattle.pls_recheck.specs.Watch.{IsCurrent};
+ghost use Rattle.pls_recheck.specs.After.{snapshot_after};
+ghost use Rattle.pls_recheck.specs.Snapshot.{IsCurrent};
 ghost use Rattle.pls_recheck.specs.inner.Flags.{AreAround, MarksMore, SetsAt, beside_itself};
 
 use crate::edited_network::EditedNetwork;
@@ -26,7 +26,7 @@ const MOST_BITS: u64 = 268_435_456;
 impl EditedNetwork {
     // Gives the node's place.
     pub(crate) fn set_label(&mut self, id: u32, bits: &BitBuf) -> Result<usize, EditError>
-        ensures ok { OnOk result (self.new ≡ watch_after (Label id bits.now) self.old) }
+        ensures ok { OnOk result (self.new ≡ snapshot_after (Label id bits.now) self.old) }
         ensures place { IfOk result (λ place. place ≡ place_in self.old.network id) }
         ensures within { IfOk result (λ place. place < length self.old.labels) }
         ensures allowed { OnOk result

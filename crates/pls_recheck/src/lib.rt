@@ -1,4 +1,4 @@
-//! Edits of a network while it is watched with its labels, and rounds in which only the nodes that
+//! Edits of a network with its labels, and rounds in which only the nodes that
 //! an edit touched are judged again.
 //!
 //! An [`EditedNetwork`] holds a network, its labels and the verdicts of the last rounds, and is

@@ -4,7 +4,7 @@ ghost use Rattle.std.specs.Prelude.{◌≡◌, ◌≤◌, [], length, map, None,
 ghost use Rattle.pls_configuration.specs.Configuration.{ids_of};
 ghost use Rattle.pls_streams.specs.Steps.{up_by};
 ghost use Rattle.pls_scheme.specs.Judging.{round_by};
-ghost use Rattle.pls_recheck.specs.Watch.{EndsEarly};
+ghost use Rattle.pls_recheck.specs.Snapshot.{EndsEarly};
 
 use crate::bench::Bench;
 use crate::by_memory::ByMemory;
@@ -32,7 +32,7 @@ pub struct Monitor<K: Remembers> {
 impl<K: Remembers> Model for Monitor<K> {
     ghost use Rattle.std.specs.Prelude.{◌≡◌, map};
     ghost use Rattle.pls_recheck.specs.Rechecked.{Rechecked};
-    ghost use Rattle.pls_recheck.specs.Watch.{IsCurrent};
+    ghost use Rattle.pls_recheck.specs.Snapshot.{IsCurrent};
 
     ghost Value = { Rechecked K };
 

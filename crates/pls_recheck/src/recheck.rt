@@ -6,7 +6,7 @@ ghost use Rattle.pls_streams.specs.Steps.{up_by};
 ghost use Rattle.pls_edits.specs.Edited.{FitsNum, RefusesWith, edit_refusal, edited, relabelled};
 ghost use Rattle.pls_scheme.specs.Judging.{round_by};
 ghost use Rattle.pls_recheck.specs.After.{touched_after};
-ghost use Rattle.pls_recheck.specs.Watch.{EndsEarly};
+ghost use Rattle.pls_recheck.specs.Snapshot.{EndsEarly};
 
 use crate::edited_network::EditedNetwork;
 use crate::judge::Judge;
@@ -30,7 +30,7 @@ pub struct Recheck<J: Judge> {
 
 impl<J: Judge> Model for Recheck<J> {
     ghost use Rattle.pls_recheck.specs.Rechecked.{Rechecked};
-    ghost use Rattle.pls_recheck.specs.Watch.{IsCurrent};
+    ghost use Rattle.pls_recheck.specs.Snapshot.{IsCurrent};
 
     ghost Value = { Rechecked J };
 

@@ -6,7 +6,7 @@ ghost use Rattle.pls_configuration.specs.Configuration.{ids_of};
 ghost use Rattle.pls_streams.specs.Steps.{up_by};
 ghost use Rattle.pls_labels.specs.Seen.{Seen, views};
 ghost use Rattle.pls_scheme.specs.Judging.{round_by};
-ghost use Rattle.pls_recheck.specs.Watch.{EndsEarly, IsCurrent};
+ghost use Rattle.pls_recheck.specs.Snapshot.{EndsEarly, IsCurrent};
 ghost use Rattle.pls_recheck.specs.inner.Flags.{AreCurrent, cleared, marked};
 
 use crate::asks::{Asks, ByView};

@@ -81,7 +81,8 @@ fn add_stale(text: &mut Vec<u8>, ports: &[u32]) -> Result<(), NoMemory>
 
 // Adds `word`, then each number behind a space.
 fn add_listed(text: &mut Vec<u8>, word: &[u8], numbers: &[u32]) -> Result<(), NoMemory>
-    ensures text { OnOk result (text.new.items ≡ text.old.items ++ (word.now ++ spaced numbers.now)) }
+    ensures text { OnOk result
+        (text.new.items ≡ text.old.items ++ (word.now ++ spaced numbers.now)) }
     ensures begins { BeginsWith text.old.items text.new.items }
 {
     text.extend_from_slice(word)?;

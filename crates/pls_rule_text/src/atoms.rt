@@ -61,7 +61,8 @@ fn named_atom<'a>(fields: &[Field], text: &'a [u8]) -> Option<(NumExpr, &'a [u8]
 // The term of a name behind `up.`.
 fn above_named(fields: &[Field], name: &[u8]) -> NumExpr
     requires few { length fields.now ≤ 8 }
-    ensures { term_of result ≡ term_with (place_of_name (names_of fields.now)) (above_named name.now) }
+    ensures { term_of result
+        ≡ term_with (place_of_name (names_of fields.now)) (above_named name.now) }
 {
     if name == b"weight".as_slice() {
         NumExpr::UpWeight
@@ -73,7 +74,8 @@ fn above_named(fields: &[Field], name: &[u8]) -> NumExpr
 // The term of a name behind `nb.`.
 fn beside_named(fields: &[Field], name: &[u8]) -> NumExpr
     requires few { length fields.now ≤ 8 }
-    ensures { term_of result ≡ term_with (place_of_name (names_of fields.now)) (beside_named name.now) }
+    ensures { term_of result
+        ≡ term_with (place_of_name (names_of fields.now)) (beside_named name.now) }
 {
     if name == b"weight".as_slice() {
         NumExpr::NbWeight

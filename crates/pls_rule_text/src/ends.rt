@@ -36,7 +36,8 @@ pub(crate) fn formula_end(text: &[u8], below: u8) -> Option<&[u8]>
 #[cycle(ends)]
 #[tactic(auto, unfolding(crate::specs::inner::Fronts::term_front))]
 fn term_end(text: &[u8], below: u8) -> Option<&[u8]>
-    ensures { option_map (λ rest. rest.now) result ≡ option_map rest_of (term_front below text.now) }
+    ensures { option_map (λ rest. rest.now) result
+        ≡ option_map rest_of (term_front below text.now) }
 {
     if let Some((_, rest)) = atom_front(&[], text) {
         return Some(rest);

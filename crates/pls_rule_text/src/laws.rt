@@ -30,10 +30,12 @@ pub fn printed_rule(fields: &[Field], rule: &BoolExpr)
     requires names { All IsFieldName (names_of fields.now) }
     requires distinct { NamesDiffer (names_of fields.now) }
     requires rule { IsRule (length (names_of fields.now)) (formula_of rule.now) }
-    requires few { length (formula_text (name_at (names_of fields.now)) (formula_of rule.now)) ≤ 4096 }
+    requires few { length (formula_text (name_at (names_of fields.now)) (formula_of rule.now))
+        ≤ 4096 }
     ensures text { formula_text (name_at (names_of fields.now)) (formula_of rule.now)
         ≡ rule_text (Shallow (formula_with (name_at (names_of fields.now)) (formula_of rule.now))) }
-    ensures fits { FitsRule (Shallow (formula_with (name_at (names_of fields.now)) (formula_of rule.now))) }
+    ensures fits { FitsRule (Shallow
+        (formula_with (name_at (names_of fields.now)) (formula_of rule.now))) }
     ensures sense { rule_refusal (names_of fields.now)
         (Shallow (formula_with (name_at (names_of fields.now)) (formula_of rule.now))) ≡ None }
     ensures again { formula_with (place_of_name (names_of fields.now))

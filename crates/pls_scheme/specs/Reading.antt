@@ -72,8 +72,7 @@ port_with weight label = record { weight = weight; label = label }
 abbrev pub label_above : {L : Type 0} → List (ReadPort L) → Option ℕ → Option L
 label_above ports up = option_map (λ port. port.label) (option_and_then (slice_get ports) up)
 
--- what a node reads that has this identity, state and label, and reads this at its ports; the ports
--- may be a front of its list, where the others are still to come
+-- what a node reads that has this identity, state and label, and reads this at its ports
 abbrev pub reading : {L : Type 0} → ℕ → State → L → List (ReadPort L) → Read L
 reading id state own ports = record { id = id; state = state; own = own; ports = ports }
 

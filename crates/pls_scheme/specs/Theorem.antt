@@ -14,7 +14,8 @@ use Rattle.pls_scheme.specs.Reading.{Read, read_where}
 
 -- the rules hold at each node where each label says what the function says
 abbrev pub HoldEverywhere : {L : Type 0} → (Read L → List Bool) → List NodeRow → (ℕ → L) → Type 0
-HoldEverywhere rules rows say = (row : NodeRow) → Contains rows row → AllHold (rules (read_where say row))
+HoldEverywhere rules rows say =
+    (row : NodeRow) → Contains rows row → AllHold (rules (read_where say row))
 
 -- what the function says is right for each node
 abbrev pub AreRightEverywhere : {L : Type 0} → (NodeRow → L → Type 0) → List NodeRow → (ℕ → L)

@@ -8,4 +8,5 @@ abbrev pub PointsTo : List NodeRow → ℕ → Option ℕ → Type 0
 PointsTo rows place None = (row : NodeRow) → slice_get rows place ≡ Some row
     → pointed_node rows row.id ≡ None
 PointsTo rows place (Some to) = (row : NodeRow) → slice_get rows place ≡ Some row
-    → (other : NodeRow) × (slice_get rows to ≡ Some other) × (pointed_node rows row.id ≡ Some other.id)
+    → (other : NodeRow) × (slice_get rows to ≡ Some other)
+    × (pointed_node rows row.id ≡ Some other.id)

@@ -8,7 +8,8 @@ HasParentAt parents place parent = slice_get parents place ≡ Some (Some parent
 
 -- each parent is a place of the list
 abbrev pub AreParentsWithin : List (Option ℕ) → Type 0
-AreParentsWithin parents = (place parent : ℕ) → HasParentAt parents place parent → parent < length parents
+AreParentsWithin parents =
+    (place parent : ℕ) → HasParentAt parents place parent → parent < length parents
 
 -- for each place, in their order, the number of places whose chain of parents meets it
 pub record AreSubtreeSizes (parents : List (Option ℕ)) (sizes : List ℕ) : Type 0 where

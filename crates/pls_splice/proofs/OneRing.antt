@@ -6,12 +6,13 @@ use Rattle.std.proofs.lemmas.List.FromFn.{get_or-range_with_len, length-range_wi
 use Rattle.std.proofs.lemmas.List.Kept.{AllPairs-filter}
 use Rattle.pls_configuration.specs.declared.row.NodeRow.{NodeRow}
 use Rattle.pls_configuration.specs.Configuration.{IsNetwork}
+use Rattle.pls_configuration.specs.Rising.{IsRising}
 use Rattle.pls_graph.specs.Places.{beside}
 use Rattle.pls_graph.proofs.Members.{Contains-filter, Contains-from_filter}
 use Rattle.pls_facts.specs.SpanningTree.{AreDistinct}
 use Rattle.pls_facts.proofs.Fewer.{length-part}
 use Rattle.pls_facts.proofs.Lists.{any_passes, passes_any}
-use Rattle.pls_components.specs.Components.{AreJoinedAt, IsComponent, NumbersRise, items_at}
+use Rattle.pls_components.specs.Components.{AreJoinedAt, IsComponent, items_at}
 use Rattle.pls_components.proofs.Apart.{joined_beside, joined_itself, joined_through}
 use Rattle.pls_components.proofs.Items.{All-items}
 use Rattle.pls_components.proofs.Part.{part_connected}
@@ -41,7 +42,7 @@ from_range count x in' =
     omega arith
 
 module _ (count : ℕ) (numbers : List ℕ) (within : All (λ (x : ℕ). x < count) numbers) where
-  pub sorted_rise : NumbersRise (sorted count numbers)
+  pub sorted_rise : IsRising (sorted count numbers)
   sorted_rise = AllPairs-filter (λ (one later : ℕ). one < later)
       (λ x. list_any (λ y. x == y) numbers) (range_with_len 0 count)
       (λ i j d less inside.

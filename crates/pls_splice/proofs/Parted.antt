@@ -3,10 +3,11 @@ use Rattle.std.proofs.Common.{◌≡◌, ◌∙◌, ℕ, zero, suc, ◌-◌, ◌
 use Rattle.std.proofs.lemmas.Bool.{cases_order}
 use Rattle.pls_configuration.specs.declared.row.NodeRow.{NodeRow}
 use Rattle.pls_configuration.specs.Configuration.{IsNetwork}
+use Rattle.pls_configuration.specs.Rising.{IsRising}
 use Rattle.pls_graph.proofs.Finds.{item_at}
 use Rattle.pls_graph.proofs.Members.{Contains-cons_cases, Contains-first, Contains-from_place, Contains-later}
 use Rattle.pls_graph.proofs.Placed.{ids_rise}
-use Rattle.pls_components.specs.Components.{AreComponents, IsComponent, NumbersRise, least_id}
+use Rattle.pls_components.specs.Components.{AreComponents, IsComponent, least_id}
 use Rattle.pls_components.proofs.Apart.{joined_within, least_first}
 use Rattle.pls_splice.specs.Crossing.{IsPair, crossed_rows}
 use Rattle.pls_splice.specs.Ring.{IsRingOrder}
@@ -58,7 +59,7 @@ module _ (rows : List NodeRow) (net : IsNetwork rows) (labels : List (List Bool)
   zero_in = in_sorted (length (crossed_rows rows order i j)) outer outer_round.within 0
       (halves.first_in_outer rows net labels order of i j pair)
 
-  first_zero : (numbers : List ℕ) → NumbersRise numbers → Contains numbers 0
+  first_zero : (numbers : List ℕ) → IsRising numbers → Contains numbers 0
       → slice_get numbers 0 ≡ Some 0
   first_zero [] rise in' = let no = in'.1 in absurd (omega arith)
   first_zero (x ∷ numbers) rise (zero, inside, is) = ap Some is

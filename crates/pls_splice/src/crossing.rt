@@ -15,9 +15,13 @@ use std::alloc::Global;
 /// The identities at the ends of two edges.
 #[derive(Clone, Copy)]
 pub(crate) struct Ends {
+    /// Where the first edge begins.
     pub(crate) tail: u32,
+    /// Where it ends.
     pub(crate) head: u32,
+    /// Where the second edge begins.
     pub(crate) other_tail: u32,
+    /// Where it ends.
     pub(crate) other_head: u32,
 }
 

@@ -6,10 +6,10 @@ use Rattle.std.proofs.lemmas.Bool.{eqb-false, le-ltb}
 use Rattle.std.proofs.lemmas.Option.{same_Some}
 use Rattle.pls_configuration.specs.declared.limits.TheConstants.{MAX_PORTS}
 use Rattle.pls_configuration.specs.declared.row.NodeRow.{NodeRow}
-use Rattle.pls_configuration.specs.Configuration.{first_of, ids_of, ports_in, row_of}
+use Rattle.pls_configuration.specs.Configuration.{first_of, ids_of, ports_in, row_of, refused_if}
 use Rattle.pls_graph_edits.specs.declared.edit_error.EditError.{EditError}
 use Rattle.pls_graph_edits.specs.declared.edit_error.EditError.TheVariants.{Absent, Full, HasPorts, Last, NoMemory, Pointer, Present, SelfLink}
-use Rattle.pls_graph_edits.specs.Edits.{SaysEdit, are_linked, cause, fits_state, is_absent, link_refusal, state_refusal}
+use Rattle.pls_graph_edits.specs.Edits.{SaysEdit, are_linked, fits_state, is_absent, link_refusal, state_refusal}
 use Rattle.pls_graph.proofs.Members.{Contains-cons_cases}
 use Rattle.pls_trial.specs.Generator.{at_port_0}
 use Rattle.pls_trial.specs.inner.Building.{has_port}
@@ -39,7 +39,7 @@ row_there rows id in' = by (row_of rows id) refl (there rows id in')
 
 -- the causes that are left
 abbrev causes : Bool → Bool → Option EditError
-causes same linked = first_of (cause same SelfLink ∷ cause linked Present ∷ [])
+causes same linked = first_of (refused_if same SelfLink ∷ refused_if linked Present ∷ [])
 
 module _ (rows : List NodeRow) (a b : ℕ) (a_in : Contains (ids_of rows) a)
     (b_in : Contains (ids_of rows) b) (room : ports_in rows + 2 ≤ MAX_PORTS) where
@@ -50,7 +50,7 @@ module _ (rows : List NodeRow) (a b : ℕ) (a_in : Contains (ids_of rows) a)
       rw (there rows a a_in, there rows b b_in, full) (by (a == b) (are_linked rows a b))
     where
       by : (same linked : Bool)
-          → first_of (None ∷ cause same SelfLink ∷ cause linked Present ∷ None ∷ [])
+          → first_of (None ∷ refused_if same SelfLink ∷ refused_if linked Present ∷ None ∷ [])
           ≡ causes same linked
       by true linked = refl
       by false true = refl
@@ -74,8 +74,8 @@ pointer_allowed rows id has = by (row_of rows id) has
   where
     by : (found : Option NodeRow)
         → option_map_or (λ row. nat_lt 0 (length row.ports)) found false ≡ true
-        → first_of (cause (is_none found) Absent
-        ∷ cause (option_map_or (λ row. not (fits_state at_port_0 row)) found false) Pointer ∷ [])
+        → first_of (refused_if (is_none found) Absent
+        ∷ refused_if (option_map_or (λ row. not (fits_state at_port_0 row)) found false) Pointer ∷ [])
         ≡ None
     by None has = absurd (cc)
     by (Some row) has = rw has refl

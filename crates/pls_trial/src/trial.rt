@@ -66,7 +66,8 @@ fn nodes_alone(alloc: Global, nodes: u32) -> Result<Network, NoMemory>
 fn put_tree(net: &mut Network, draws: &mut Draws, nodes: u32) -> Result<(), NoMemory>
     requires nodes { 1 ≤ nodes }
     requires ready { AreReady net.old nodes (2 * (nodes - 1)) }
-    ensures put { OnOk result (net.new ≡ fold with_link net.old (tree_links (nodes - 1) draws.old)) }
+    ensures put { OnOk result
+        (net.new ≡ fold with_link net.old (tree_links (nodes - 1) draws.old)) }
     ensures drawn { OnOk result (draws.new ≡ draw draws.old (2 * (nodes - 1))) }
 {
     for i in 0..nodes - 1 {
@@ -81,7 +82,8 @@ fn put_tree(net: &mut Network, draws: &mut Draws, nodes: u32) -> Result<(), NoMe
 fn put_others(net: &mut Network, draws: &mut Draws, nodes: u32) -> Result<(), NoMemory>
     requires nodes { 1 ≤ nodes }
     requires ready { AreReady net.old nodes (2 * nodes) }
-    ensures put { OnOk result (net.new ≡ fold with_link net.old (other_links nodes nodes draws.old)) }
+    ensures put { OnOk result
+        (net.new ≡ fold with_link net.old (other_links nodes nodes draws.old)) }
 {
     for _ in 0..nodes {
         let a = draws.draw() % nodes + 1;

@@ -57,17 +57,18 @@ abbrev pub has_map : List MapRow → ReadPort MapLabel → Bool
 has_map rows port = matched same_record port.label.rows rows
 
 -- a number of 32 bits
-abbrev pub is_word : ℕ → Bool
-is_word number = nat_le number (2 ^ 32 - 1)
+abbrev pub fits_32_bits : ℕ → Bool
+fits_32_bits number = nat_le number (2 ^ 32 - 1)
 
 -- the neighbour and the weight of a port are numbers of 32 bits
 abbrev pub is_port_small : ℕ × ℕ → Bool
-is_port_small port = is_word port.0 && is_word port.1
+is_port_small port = fits_32_bits port.0 && fits_32_bits port.1
 
 -- a record's identity, mark and ports have numbers of 32 bits, and its number is at most 2^62
 abbrev pub is_small : MapRow → Bool
 is_small row =
-    is_word row.id && is_word row.mark && nat_le row.num MAX_NUM && list_all is_port_small row.ports
+    fits_32_bits row.id && fits_32_bits row.mark && nat_le row.num MAX_NUM
+    && list_all is_port_small row.ports
 
 -- a map is within the limits: its counts and its numbers
 abbrev pub is_within_limits : List MapRow → Bool

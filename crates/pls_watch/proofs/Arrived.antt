@@ -6,7 +6,7 @@ use Rattle.pls_configuration.specs.declared.row.Port.{Port}
 use Rattle.pls_sim.proofs.Refusing.{no_emit}
 use Rattle.std.proofs.lemmas.Option.{slice_get_within}
 use Rattle.pls_configuration.specs.declared.row.NodeRow.{NodeRow}
-use Rattle.pls_configuration.specs.Configuration.{IsNetwork, first_of, ports_in}
+use Rattle.pls_configuration.specs.Configuration.{IsNetwork, first_of, ports_in, refused_if}
 use Rattle.pls_graph.proofs.Beside.{one_place}
 use Rattle.pls_graph.proofs.Finds.{item_at}
 use Rattle.pls_graph.proofs.Placed.{place_of_row}
@@ -15,7 +15,7 @@ use Rattle.pls_schedule.specs.declared.event.Event.TheVariants.{Arrive}
 use Rattle.pls_sim.specs.declared.event_error.EventError.{EventError}
 use Rattle.pls_sim.specs.declared.event_error.EventError.TheVariants.{Full, NoEmit}
 use Rattle.pls_sim.specs.Schedule.{Sent, emit_number, emits_of, goes_to, has_heard}
-use Rattle.pls_sim.specs.Applying.{Played, is_full, refused_if}
+use Rattle.pls_sim.specs.Applying.{Played, is_full}
 use Rattle.pls_sim.specs.Arriving.{ArrivesAt, GoesToPlace}
 use Rattle.pls_sim.specs.Ways.{IsPlaceOf, IsSlot}
 use Rattle.pls_sim.proofs.Keeping.{few_sent}

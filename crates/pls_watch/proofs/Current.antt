@@ -7,14 +7,13 @@ use Rattle.std.proofs.lemmas.Option.{same_Some, slice_get-map, slice_get_within}
 use Rattle.pls_configuration.specs.declared.row.Port.{Port}
 use Rattle.pls_configuration.specs.declared.row.NodeRow.{NodeRow}
 use Rattle.pls_configuration.specs.declared.verdict.Verdict.{Verdict}
-use Rattle.pls_configuration.specs.Configuration.{IsNetwork, first_of, row_of}
+use Rattle.pls_configuration.specs.Configuration.{IsNetwork, first_of, row_of, refused_if}
 use Rattle.pls_graph.specs.Places.{beside}
 use Rattle.pls_graph.proofs.Finds.{item_at}
 use Rattle.pls_graph.proofs.Placed.{row_place}
 use Rattle.pls_labels.specs.Seen.{Seen}
 use Rattle.pls_sim.specs.declared.outcome.Outcome.{Outcome}
 use Rattle.pls_sim.specs.declared.event_error.EventError.TheVariants.{Full, NoNode}
-use Rattle.pls_sim.specs.Applying.{refused_if}
 use Rattle.pls_sim.proofs.Refusing.{At}
 use Rattle.pls_watch_part.specs.declared.watch_event.WatchEvent.{WatchEvent}
 use Rattle.pls_watch_part.specs.declared.watch_event.WatchEvent.TheVariants as Watches

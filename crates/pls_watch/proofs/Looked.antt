@@ -7,6 +7,7 @@ use Rattle.pls_configuration.specs.declared.row.Port.{Port}
 use Rattle.pls_configuration.specs.declared.row.NodeRow.{NodeRow}
 use Rattle.pls_configuration.specs.declared.verdict.Verdict.{Verdict}
 use Rattle.pls_configuration.specs.Configuration.{IsNetwork}
+use Rattle.pls_configuration.specs.Rising.{IsRising}
 use Rattle.pls_graph.specs.Places.{beside}
 use Rattle.pls_graph.proofs.Beside.{beside_port}
 use Rattle.pls_graph.proofs.Placed.{names_another, place_of_row}
@@ -15,7 +16,6 @@ use Rattle.pls_labels.proofs.Views.{label_at as label_placed}
 use Rattle.pls_sim.specs.declared.outcome.Outcome.TheVariants.{Decided, Waiting}
 use Rattle.pls_sim.specs.Schedule.{has_heard, outcome_after, unheard, failing_from}
 use Rattle.pls_scheme.specs.Judging.{RoseByAtMost}
-use Rattle.pls_sim.specs.Rising.{IsRising}
 use Rattle.pls_sim.proofs.Refusing.{place_within}
 use Rattle.pls_sim.proofs.Unheard.{unheard_rising}
 use Rattle.pls_watch.specs.declared.turn.Turn.{Turn}

@@ -5,7 +5,7 @@ ghost use Rattle.pls_configuration.specs.declared.row.NodeRow.{NodeRow};
 ghost use Rattle.pls_configuration.specs.declared.row.Port.{Port};
 ghost use Rattle.pls_labels.specs.Seen.{seen};
 ghost use Rattle.pls_scheme.specs.Judging.{RoseByAtMost};
-ghost use Rattle.pls_sim.specs.Rising.{IsRising};
+ghost use Rattle.pls_configuration.specs.Rising.{IsRising};
 ghost use Rattle.pls_sim.specs.Schedule.{unheard};
 ghost use Rattle.pls_watch.specs.Labelled.{turns_of};
 ghost use Rattle.pls_watch.specs.Versions.{known, newest, plain_of};

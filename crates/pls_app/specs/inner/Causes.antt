@@ -18,7 +18,8 @@ IsCause Refused old new = ⊥
 IsCause Limit old new = ⊥
 
 -- a text was written whole and the status is its own, or a write failed behind a front of it
-abbrev pub WritesOrFails : Status → Status → ℕ → ℕ → Option (List ℕ) → Option (List ℕ) → List ℕ → Type 0
+abbrev pub WritesOrFails : Status → Status → ℕ → ℕ → Option (List ℕ) → Option (List ℕ) → List ℕ
+    → Type 0
 WritesOrFails due status old_faults new_faults old new text =
     ((status ≡ due) × Appends old new text)
     ⊎ ((status ≡ WriteFault) × Rose old_faults new_faults × AppendsPart old new text)

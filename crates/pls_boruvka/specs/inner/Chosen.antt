@@ -31,7 +31,8 @@ choice_of_place tops choices place = slice_index_or choices (top_at tops place) 
 pub record AreChosen (rows : List NodeRow) (tops : List ℕ) (choices : List (Option Choice))
     (all : List ChosenEnd) : Type 0 where
   pub each : length all ≡ length rows
-  pub chosen : Each (λ place. IsChosen rows (top_at tops place) (choice_of_place tops choices place)) all
+  pub chosen :
+      Each (λ place. IsChosen rows (top_at tops place) (choice_of_place tops choices place)) all
 
 -- for some place no pointed edge was found
 abbrev pub SomeUnpointed : List ℕ → List (Option Choice) → Type 0

@@ -2,11 +2,12 @@
 use Rattle.std.specs.Prelude.{◌≡◌, ◌⊎◌, ℕ, ◌+◌, ◌*◌, ◌<◌, Bool, true, false, List, Contains, Some, length, slice_get}
 use Rattle.pls_configuration.specs.declared.row.NodeRow.{NodeRow}
 use Rattle.pls_configuration.specs.declared.verdict.Verdict.{Verdict}
+use Rattle.pls_configuration.specs.Rising.{IsRising}
 use Rattle.pls_graph.specs.declared.size.Size.{Size}
 use Rattle.pls_labels.specs.Labels.{bits_together}
 use Rattle.pls_labels.specs.Seen.{Seen}
 use Rattle.pls_scheme.specs.Judging.{AllAccept}
-use Rattle.pls_components.specs.Components.{NumbersRise, items_at, least_id}
+use Rattle.pls_components.specs.Components.{items_at, least_id}
 use Rattle.pls_components.specs.Parts.{AreWithinBound}
 
 -- a connected network has the property, and these labels of its marker show it
@@ -50,7 +51,7 @@ pub record AreMarkedBefore (holds : List NodeRow → Type 0)
   pub done : (k : ℕ) (places : List ℕ) → k < number → slice_get parts k ≡ Some places
       → IsShownBy holds marked judge longest (items_at rows places) (items_at labels places)
       ⊎ ((holds (items_at rows places) → ⊥) × Contains ids (least_id rows places))
-  pub rising : NumbersRise ids
+  pub rising : IsRising ids
   pub each : (id : ℕ) → Contains ids id → (k : ℕ) × (places : List ℕ) × (k < number)
       × (slice_get parts k ≡ Some places) × (holds (items_at rows places) → ⊥)
       × (least_id rows places ≡ id)

@@ -70,7 +70,8 @@ first_expression (first ∷ others) = first
 abbrev expression_of_words : List Word → Expression
 expression_of_words words = first_expression (all_taken words [])
 
-pub expression_of_words-words : (scheme : Expression) → expression_of_words (words_of scheme) ≡ scheme
+pub expression_of_words-words : (scheme : Expression)
+    → expression_of_words (words_of scheme) ≡ scheme
 expression_of_words-words scheme =
     ap expression_of_words (sym (append-nil (words_of scheme)))
     ∙ ap first_expression (all_taken-words scheme [] [])
@@ -78,5 +79,6 @@ expression_of_words-words scheme =
 -- expressions are told apart by their words
 abbrev pub coded_expression : Coded Expression
 coded_expression =
-    code_by (List Word) (coded_list (coded⊎ names.the_row.coded coded_ℕ)) words_of expression_of_words
+    code_by (List Word) (coded_list (coded⊎ names.the_row.coded coded_ℕ)) words_of
+        expression_of_words
     expression_of_words-words

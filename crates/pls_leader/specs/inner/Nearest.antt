@@ -5,7 +5,8 @@ use Rattle.pls_graph.specs.Places.{beside}
 
 -- one place is a level nearer than another
 abbrev pub is_level_nearer : List ℕ → ℕ → ℕ → Bool
-is_level_nearer levels place other = slice_index_or levels place 0 == slice_index_or levels other 0 + 1
+is_level_nearer levels place other =
+    slice_index_or levels place 0 == slice_index_or levels other 0 + 1
 
 -- the lesser of a place and of what was found
 abbrev pub lesser : Option ℕ → ℕ → ℕ

@@ -12,7 +12,8 @@ use Rattle.pls_rule_text.specs.inner.Parts.{front_map}
 -- these letters, where they are a name, and what follows them
 abbrev pub name_from : List ℕ → List ℕ → Option (Front (List ℕ))
 name_from letters rest =
-    if nat_le 1 (length letters) && nat_le (length letters) 16 then Some (followed letters rest) else None
+    if nat_le 1 (length letters) && nat_le (length letters) 16
+    then Some (followed letters rest) else None
 
 -- the name that all letters in front are
 abbrev pub name_front : List ℕ → Option (Front (List ℕ))
@@ -31,7 +32,8 @@ beside_named name =
 abbrev pub named_atom : List ℕ → Option (Front (Term (List ℕ)))
 named_atom text =
     option_map_or (λ rest. option_map (front_map My) (name_front rest)) (after (codes "my.") text)
-    (option_map_or (λ rest. option_map (front_map above_named) (name_front rest)) (after (codes "up.") text)
+    (option_map_or (λ rest. option_map (front_map above_named) (name_front rest))
+        (after (codes "up.") text)
     (option_and_then (λ rest. option_map (front_map beside_named) (name_front rest))
     (after (codes "nb.") text)))
 

@@ -22,4 +22,5 @@ is_character character =
 abbrev pub is_rule : List ℕ → Bool
 is_rule text =
     nat_le (length text) 4096
-    && (if nat_lt 31 (deepest 0 text) then list_all is_character text else is_some (formula_in text))
+    && (if nat_lt 31 (deepest 0 text) then list_all is_character text
+        else is_some (formula_in text))

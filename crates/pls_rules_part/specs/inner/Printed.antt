@@ -13,4 +13,5 @@ abbrev pub printed_field : Field → List ℕ
 printed_field field = rule_line (OfField field)
 
 abbrev pub printed_rule : List (List ℕ) → BoolExpr → List ℕ
-printed_rule names rule = line_of (codes "rule" ∷ formula_text (name_at names) (formula_of rule) ∷ [])
+printed_rule names rule =
+    line_of (codes "rule" ∷ formula_text (name_at names) (formula_of rule) ∷ [])

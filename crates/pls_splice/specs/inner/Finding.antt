@@ -24,7 +24,8 @@ HasFirst {K} words table key from count = (q : K)
 
 -- these are the keys of the numbers from 0 on
 abbrev pub AreKeys : {K : Type 0} → (K → List ℕ) → List K → (ℕ → List ℕ) → Type 0
-AreKeys {K} words keys key = (k : ℕ) (found : K) → slice_get keys k ≡ Some found → words found ≡ key k
+AreKeys {K} words keys key =
+    (k : ℕ) (found : K) → slice_get keys k ≡ Some found → words found ≡ key k
 
 -- the pair of edge i and a later one, where that is not too far, and else the pair found before
 abbrev pub with_edge : Option Pair → ℕ → Option ℕ → ℕ → Option Pair

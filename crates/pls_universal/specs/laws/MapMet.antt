@@ -26,7 +26,7 @@ use Rattle.pls_scheme.proofs.SaidPorts.{all_ports_pass}
 use Rattle.pls_universal.specs.declared.map.MapLabel.{MapLabel}
 use Rattle.pls_universal.specs.declared.map.MapRow.{MapRow}
 use Rattle.pls_universal.specs.Map.{map_of, port_stated, row_stated, up_stated}
-use Rattle.pls_universal.specs.Rules.{IsTestOf, has_map, is_joined, is_network, is_node_right, is_port_right, is_port_small, is_small, is_within_limits, is_word, map_rules, map_says, matched, node_of, nodes_of, port_of, same_port, same_record, same_state, same_up, up_of}
+use Rattle.pls_universal.specs.Rules.{IsTestOf, has_map, is_joined, is_network, is_node_right, is_port_right, is_port_small, is_small, is_within_limits, fits_32_bits, map_rules, map_says, matched, node_of, nodes_of, port_of, same_port, same_record, same_state, same_up, up_of}
 
 -- lists match themselves, where each item passes with itself
 pub matched-itself : {X : Type 0} (test : X → X → Bool) → ((x : X) → test x x ≡ true) → (xs : List X)
@@ -80,7 +80,7 @@ pub connected-joined : (rows : List NodeRow) → IsConnected rows → is_joined 
 connected-joined rows = (joins_all-JoinAll (edges_of rows) (ids_of rows)).1
 
 module _ (rows : List NodeRow) (net : IsNetwork rows) (words : AreWords (size_of rows)) where
-  id_small : (row : NodeRow) → Contains rows row → is_word row.id ≡ true
+  id_small : (row : NodeRow) → Contains rows row → fits_32_bits row.id ≡ true
   id_small row in' = le-leb row.id (2 ^ 32 - 1)
       (let most = within_greatest (λ (row : NodeRow). row.id) rows row in' in
       let limit = words.max_id in omega (arith, most, limit))
@@ -94,8 +94,8 @@ module _ (rows : List NodeRow) (net : IsNetwork rows) (words : AreWords (size_of
       (Contains-map (λ (port : Port). port.weight) (flat_map (λ (row : NodeRow). row.ports) rows)
       port (Contains-flat_map (λ (row : NodeRow). row.ports) rows row port in' has)) in
       let limit = words.max_weight in
-      and_from (is_word port.nbr) (is_word port.weight)
-      (subst (λ (id : ℕ). is_word id ≡ true) is (id_small other there))
+      and_from (fits_32_bits port.nbr) (fits_32_bits port.weight)
+      (subst (λ (id : ℕ). fits_32_bits id ≡ true) is (id_small other there))
       (le-leb port.weight (2 ^ 32 - 1) (omega (arith, weight, limit)))
 
   row_small : (row : NodeRow) → Contains rows row → is_small (row_stated row) ≡ true
@@ -105,7 +105,8 @@ module _ (rows : List NodeRow) (net : IsNetwork rows) (words : AreWords (size_of
       let num = All-contains (λ (row : NodeRow). row.state.num ≤ MAX_NUM) rows row
       net.limits.small in' in
       and_from _ (list_all is_port_small (map port_stated row.ports))
-      (and_from _ (nat_le row.state.num MAX_NUM) (and_from (is_word row.id) (is_word row.state.mark)
+      (and_from _ (nat_le row.state.num MAX_NUM)
+      (and_from (fits_32_bits row.id) (fits_32_bits row.state.mark)
       (id_small row in') (le-leb row.state.mark (2 ^ 32 - 1) (omega (arith, mark, limit))))
       (le-leb row.state.num MAX_NUM num))
       (list_all-map is_port_small port_stated row.ports

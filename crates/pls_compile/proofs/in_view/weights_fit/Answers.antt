@@ -6,4 +6,4 @@ use Rattle.pls_compile.proofs.in_view.weights_fit.Goals as goal
 pub loop-p-preserved : goal.loop-p-preserved
 loop-p-preserved c =
     each_more (λ (port : PortView). port.weight < 2 ^ 64) c.args.ports.now c.loop-p.p
-    c.index-ports-p.result c.loop-p-test.true c.is_word.ensures c.loop-p.invariant
+    c.index-ports-p.result c.loop-p-test.true c.fits_64_bits.ensures c.loop-p.invariant

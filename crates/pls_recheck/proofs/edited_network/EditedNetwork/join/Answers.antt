@@ -1,7 +1,7 @@
 use Rattle.std.proofs.Common.{◌∙◌, ap, arith, length, refl, subst, sym}
 use Rattle.pls_edits.specs.declared.edit.Edit.TheVariants.{Join}
-use Rattle.pls_recheck.specs.After.{watch_after}
-use Rattle.pls_recheck.specs.Watch.{IsCurrent, Snapshot}
+use Rattle.pls_recheck.specs.After.{snapshot_after}
+use Rattle.pls_recheck.specs.Snapshot.{IsCurrent, Snapshot}
 use Rattle.pls_recheck.proofs.Carried.{Kept}
 use Rattle.pls_recheck.proofs.Carrying.{join_current, join_keeps, join_makes}
 use Rattle.pls_recheck.proofs.Coming.{joined_at, place_inside}
@@ -91,7 +91,7 @@ returns-clause-ok c =
       c.reserve-2.ensures.items,
       c.reserve-3.ensures.items,
     ) refl)
-    ∙ ap (watch_after (Join c.args.id c.args.mark c.args.num)) c.self.view_is
+    ∙ ap (snapshot_after (Join c.args.id c.args.mark c.args.num)) c.self.view_is
 
 pub returns-clause-current : goal.returns-clause-current
 returns-clause-current c = λ judge current.

@@ -1,10 +1,10 @@
 use Rattle.std.proofs.Common.{◌≡◌, ◌∙◌, Some, ap, refl, subst, sym}
 use Rattle.pls_configuration.specs.declared.row.NodeRow.{NodeRow}
 use Rattle.pls_graph_edits.specs.declared.edit_error.EditError.TheVariants.{Absent}
-use Rattle.pls_graph_edits.specs.Edits.{leave_refusal, left}
+use Rattle.pls_graph_edits.specs.Edits.{leave_refusal, without_node}
 use Rattle.pls_edits.specs.declared.edit.Edit.TheVariants.{Leave}
-use Rattle.pls_recheck.specs.After.{watch_after}
-use Rattle.pls_recheck.specs.Watch.{IsCurrent, Snapshot}
+use Rattle.pls_recheck.specs.After.{snapshot_after}
+use Rattle.pls_recheck.specs.Snapshot.{IsCurrent, Snapshot}
 use Rattle.pls_recheck.proofs.Carried.{Kept}
 use Rattle.pls_recheck.proofs.Carrying.{leave_current, leave_keeps, leave_makes}
 use Rattle.pls_recheck.proofs.Coming.{left_at}
@@ -40,7 +40,7 @@ invariant_of-self-2 c =
     (place_is rows c.len.ensures.valid c.args.id c.in-Some.i (sym c.in-Some.ensures))
     (rw (
       c.in_ok-leave.ensures.ok
-          ∙ ap (left rows) (sym row.1.same)
+          ∙ ap (without_node rows) (sym row.1.same)
           ∙ left_at rows c.len.ensures.valid c.in-Some.i row.0 row.1.at,
       c.remove.ensures,
       c.remove-2.ensures.items,
@@ -72,14 +72,14 @@ returns-clause-ok c =
     (place_is rows c.len.ensures.valid c.args.id c.in-Some.i (sym c.in-Some.ensures))
     (rw (
       c.in_ok-leave.ensures.ok
-          ∙ ap (left rows) (sym row.1.same)
+          ∙ ap (without_node rows) (sym row.1.same)
           ∙ left_at rows c.len.ensures.valid c.in-Some.i row.0 row.1.at,
       c.remove.ensures,
       c.remove-2.ensures.items,
       c.remove-3.ensures.items,
       c.remove-4.ensures.items,
     ) refl)
-    ∙ ap (watch_after (Leave c.args.id)) c.self.view_is
+    ∙ ap (snapshot_after (Leave c.args.id)) c.self.view_is
 
 pub returns-clause-current : goal.returns-clause-current
 returns-clause-current c = λ judge current.
@@ -105,7 +105,7 @@ returns-clause-current c = λ judge current.
     (place_is rows c.len.ensures.valid c.args.id c.in-Some.i (sym c.in-Some.ensures))
     (rw (
       c.in_ok-leave.ensures.ok
-          ∙ ap (left rows) (sym row.1.same)
+          ∙ ap (without_node rows) (sym row.1.same)
           ∙ left_at rows c.len.ensures.valid c.in-Some.i row.0 row.1.at,
       c.remove.ensures,
       c.remove-2.ensures.items,

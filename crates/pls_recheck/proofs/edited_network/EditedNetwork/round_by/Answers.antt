@@ -1,5 +1,5 @@
 use Rattle.std.proofs.Common.{Bool, List, arith, length, subst, sym}
-use Rattle.pls_recheck.specs.Watch.{IsCurrent, Snapshot}
+use Rattle.pls_recheck.specs.Snapshot.{IsCurrent, Snapshot}
 use Rattle.pls_recheck.specs.inner.Flags.{AreAround}
 use Rattle.pls_recheck.proofs.Cleared.{current_by_flags, current_by_ids}
 use Rattle.pls_recheck.proofs.Noted.{nothing_noted}

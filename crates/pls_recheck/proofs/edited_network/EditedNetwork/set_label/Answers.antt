@@ -5,15 +5,15 @@ use Rattle.pls_configuration.specs.Configuration.{ids_of}
 use Rattle.pls_graph_edits.specs.declared.edit_error.EditError.TheVariants.{Absent, Full}
 use Rattle.pls_graph_edits.specs.Edits.{are_linked}
 use Rattle.pls_edits.specs.Edited.{label_refusal}
-use Rattle.pls_recheck.specs.After.{watch_after}
-use Rattle.pls_recheck.specs.Watch.{IsCurrent, Snapshot}
+use Rattle.pls_recheck.specs.After.{snapshot_after}
+use Rattle.pls_recheck.specs.Snapshot.{IsCurrent, Snapshot}
 use Rattle.pls_edits.specs.declared.edit.Edit.{Edit}
 use Rattle.pls_edits.specs.declared.edit.Edit.TheVariants.{Label}
 use Rattle.pls_recheck.specs.inner.Flags.{MarksMore, marked}
 use Rattle.pls_recheck.proofs.Relabelled.{IsRowOf, label_absent, label_alike, label_by, place_is, row_there}
 use Rattle.pls_recheck.proofs.Around.{marks_linked}
 use Rattle.pls_recheck.proofs.Steady.{SeeAlike}
-use Rattle.pls_recheck.proofs.Touching.{current_now, snapshot_after, touched_now}
+use Rattle.pls_recheck.proofs.Touching.{current_now, parts_after, touched_now}
 use Rattle.pls_recheck.proofs.edited_network.EditedNetwork.set_label.Goals as goal
 
 pub returns-in_default-clause-refused : goal.returns-in_default-clause-refused
@@ -76,10 +76,10 @@ returns-clause-ok c =
     let put = c.in-Ok.ensures.replaced
     ∙ ap (λ (i : ℕ). set labels i c.args.bits.now)
     (sym (place_is rows c.len.ensures.valid c.args.id c.in-Some.i (sym c.in-Some.ensures))) in
-    snapshot_after edit before rows c.replace.new.self (marked (ids_of rows) new) refl refl put
+    parts_after edit before rows c.replace.new.self (marked (ids_of rows) new) refl refl put
     (touched_now rows rows c.len.ensures.valid c.len.ensures.valid labels labels refl old new
     c.self.invariant.a_flag c.self.invariant.a_flag passes more kept)
-    ∙ ap (watch_after edit) c.self.view_is
+    ∙ ap (snapshot_after edit) c.self.view_is
 
 pub returns-clause-current : goal.returns-clause-current
 returns-clause-current c = λ judge current.

@@ -2,14 +2,14 @@ use Rattle.std.proofs.Common.{◌≡◌, ◌∙◌, ℕ, Bool, ◌==◌, ◌||�
 use Rattle.pls_configuration.specs.declared.row.NodeRow.{NodeRow}
 use Rattle.pls_configuration.specs.Configuration.{ids_of}
 use Rattle.pls_graph_edits.specs.Edits.{weighing}
-use Rattle.pls_recheck.specs.After.{watch_after}
-use Rattle.pls_recheck.specs.Watch.{IsCurrent, Snapshot}
+use Rattle.pls_recheck.specs.After.{snapshot_after}
+use Rattle.pls_recheck.specs.Snapshot.{IsCurrent, Snapshot}
 use Rattle.pls_edits.specs.declared.edit.Edit.{Edit}
 use Rattle.pls_edits.specs.declared.edit.Edit.TheVariants.{Weight}
 use Rattle.pls_recheck.specs.inner.Flags.{marked}
 use Rattle.pls_recheck.proofs.Noted.{AreAlike, alike_weight, kept_after, noted_after}
 use Rattle.pls_recheck.proofs.Steady.{Stays, ends_stay, ids_of_ends, stays_alike}
-use Rattle.pls_recheck.proofs.Touching.{current_now, same_many, snapshot_after, touched_now}
+use Rattle.pls_recheck.proofs.Touching.{current_now, same_many, parts_after, touched_now}
 use Rattle.pls_recheck.proofs.edited_network.EditedNetwork.set_weight.Goals as goal
 
 pub invariant_of-self-2 : goal.invariant_of-self-2
@@ -47,12 +47,12 @@ returns-clause-ok c =
     } in
     let ids : ids_of network ≡ ids_of rows =
     ap ids_of c.in_ok-set_weight.ensures.ok ∙ ids_of_ends (weighing c.args.weight) (λ id row. refl) c.args.a c.args.b rows in
-    snapshot_after edit before network labels (marked (ids_of network) new)
+    parts_after edit before network labels (marked (ids_of network) new)
     refl c.in_ok-set_weight.ensures.ok refl
     (touched_now rows network c.len.ensures.valid c.touch_ends.ensures.valid labels labels ids old new
     c.self.invariant.a_flag (same_many rows network ids old c.self.invariant.a_flag)
     (λ node. (c.args.a == node) || (c.args.b == node)) c.touch_ends.ensures.touched kept)
-    ∙ ap (watch_after edit) c.self.view_is
+    ∙ ap (snapshot_after edit) c.self.view_is
 
 pub returns-clause-current : goal.returns-clause-current
 returns-clause-current c = λ judge current.

@@ -2,7 +2,7 @@ use Rattle.std.proofs.Common.{◌∙◌, Bool, List, length, ap, arith}
 use Rattle.std.proofs.lemmas.List.{length-map}
 use Rattle.pls_configuration.specs.declared.row.NodeRow.{NodeRow}
 use Rattle.pls_configuration.specs.Configuration.{ids_of}
-use Rattle.pls_recheck.specs.Watch.{Snapshot}
+use Rattle.pls_recheck.specs.Snapshot.{Snapshot}
 use Rattle.pls_recheck.specs.inner.Flags.{set_among}
 use Rattle.pls_recheck.proofs.Cleared.{all_set, many_ids}
 use Rattle.pls_recheck.proofs.Marked.{few_marked}

@@ -1,5 +1,5 @@
 use Rattle.std.proofs.Common.{◌≡◌, ◌∙◌, length, ap, subst, arith}
-use Rattle.pls_recheck.specs.Watch.{Snapshot}
+use Rattle.pls_recheck.specs.Snapshot.{Snapshot}
 use Rattle.pls_recheck.proofs.Current.{full_round, no_items}
 use Rattle.pls_recheck.proofs.edited_network.EditedNetwork.verdicts.Goals as goal
 

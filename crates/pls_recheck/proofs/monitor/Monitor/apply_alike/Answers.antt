@@ -1,5 +1,5 @@
 use Rattle.std.proofs.Common.{◌∙◌, Bool, List, ap, map, sym}
-use Rattle.pls_recheck.specs.Watch.{Snapshot}
+use Rattle.pls_recheck.specs.Snapshot.{Snapshot}
 use Rattle.pls_recheck.proofs.monitor.Monitor.apply_alike.Goals as goal
 
 pub invariant_of-self-2 : goal.invariant_of-self-2

@@ -1,5 +1,5 @@
 use Rattle.std.proofs.Common.{◌∙◌, ℕ, List, ap, map, remove, sym}
-use Rattle.pls_recheck.specs.Watch.{Snapshot}
+use Rattle.pls_recheck.specs.Snapshot.{Snapshot}
 use Rattle.pls_recheck.proofs.Remembered.{map_remove}
 use Rattle.pls_recheck.proofs.monitor.Monitor.leave.Goals as goal
 

@@ -1,6 +1,6 @@
 use Rattle.std.proofs.Common.{◌∙◌, ℕ, List, ap, map, set, sym}
 use Rattle.std.proofs.lemmas.List.{map-set}
-use Rattle.pls_recheck.specs.Watch.{Snapshot}
+use Rattle.pls_recheck.specs.Snapshot.{Snapshot}
 use Rattle.pls_recheck.proofs.monitor.Monitor.set_label.Goals as goal
 
 pub invariant_of-self-2 : goal.invariant_of-self-2

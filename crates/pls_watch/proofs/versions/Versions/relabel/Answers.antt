@@ -2,8 +2,7 @@ use Rattle.std.proofs.Common.{◌≡◌, ◌≢◌, ◌∙◌, ◌∷◌, [], Li
 use Rattle.std.proofs.lemmas.List.{length-map, map-append}
 use Rattle.std.proofs.lemmas.Option.{slice_get_within}
 use Rattle.pls_configuration.specs.declared.row.NodeRow.{NodeRow}
-use Rattle.pls_configuration.specs.Configuration.{row_of}
-use Rattle.pls_sim.specs.Applying.{refused_if}
+use Rattle.pls_configuration.specs.Configuration.{row_of, refused_if}
 use Rattle.pls_sim.specs.declared.event_error.EventError.TheVariants.{NoNode}
 use Rattle.pls_sim.proofs.Numbering.{value_at}
 use Rattle.pls_sim.proofs.Refusing.{at_place, none_found, place_within}

@@ -23,7 +23,8 @@ is_number_among numbers number = list_any (λ other. number == other) numbers
 abbrev pub IsCurrent : (Seen → Verdict) → Snapshot → Type 0
 IsCurrent judge now =
     (place : ℕ) (view : Seen) → slice_get (views now.network now.labels) place ≡ Some view
-    → is_number_among now.touched view.id ≡ false → slice_get now.kept place ≡ Some (view.id, judge view)
+    → is_number_among now.touched view.id ≡ false
+    → slice_get now.kept place ≡ Some (view.id, judge view)
 
 -- a round that lacked memory: the first nodes were checked, but not all, and the judge's count and
 -- the counter of steps rose by as many, or by one more
