@@ -10,7 +10,7 @@ use Rattle.pls_configuration.specs.declared.status.Status.TheVariants.{Done, No,
 use Rattle.pls_report.specs.Report.{all_accept}
 use Rattle.pls_configuration.specs.declared.limits.TheConstants.{MAX_INPUT}
 use Rattle.pls_components.proofs.Empty.{empty_parts}
-use Rattle.pls_inputs.specs.Parts.{code_in, Input, nothing, labels_in, rows_in}
+use Rattle.pls_inputs.specs.Parts.{code_in, Input, no_parts, labels_in, rows_in}
 use Rattle.pls_inputs.specs.Order.{IsInput, IsNoInput}
 use Rattle.pls_app.specs.declared.command.Command.{Command}
 use Rattle.pls_app.specs.declared.command.Command.TheVariants.{ByRules, Print, Trial, With}
@@ -18,12 +18,12 @@ use Rattle.pls_app.specs.declared.command.Task.TheVariants.{Mark, Verify, Simula
 use Rattle.pls_app.specs.declared.command.RuleTask.TheVariants.{Code, Judge, Splice as SpliceByRules}
 use Rattle.pls_names.specs.declared.scheme_name.SchemeName.{SchemeName}
 use Rattle.pls_app.specs.Ruled.{rules_answer}
-use Rattle.pls_app.specs.Command.{IsCommand, IsUsage, input_parts_of, read_by, reads}
+use Rattle.pls_app.specs.Command.{IsCommand, IsUsage, input_parts_of, read_by, reads_source}
 use Rattle.pls_app.specs.Reports.{rounds_end_well}
 use Rattle.pls_app.specs.Looks.{looks_end_well, looks_in}
 use Rattle.pls_app.specs.Meant.{judge_in}
 use Rattle.pls_app.specs.Said.{Answer}
-use Rattle.pls_app.specs.Answer.{Answers, IsAnswer, IsInputTo, IsRefused, RefusesInput, Yields, outcomes_in, refusal, usage}
+use Rattle.pls_app.specs.Answer.{Answers, IsAnswer, IsInputTo, IsRefused, RefusesInput, Yields, outcomes_in, refusal_answer, usage_answer}
 use Rattle.pls_app.specs.Trial.{IsTrialAnswer}
 use Rattle.pls_app.specs.Run.{IsAnswered, IsJudged, IsRefusalStatus, TellsAnswer, TellsRefusal}
 use Rattle.pls_app.specs.inner.Tasks.{DoesWork}
@@ -32,7 +32,7 @@ use Rattle.pls_app.proofs.OneAnswer.{one_answer}
 use Rattle.pls_app.proofs.Spliced.{splice_ends}
 
 -- more bytes than the limit are refused
-pub too_long : (command : Command) → reads command ≡ true → (old new : Option (List ℕ))
+pub too_long : (command : Command) → reads_source command ≡ true → (old new : Option (List ℕ))
     (bytes : List ℕ) → LosesFirst old new (MAX_INPUT + 1) → old ≡ Some bytes
     → IsRefused command bytes (Limit InputBytes)
 too_long command wants old new bytes lost told =
@@ -45,12 +45,12 @@ too_long command wants old new bytes lost told =
 
 -- an input that is refused is answered so
 pub refused_answer : (command : Command) (bytes : List ℕ) (error : TextError) (answer : Answer)
-    → IsRefused command bytes error → answer ≡ refusal error → Answers command bytes answer
+    → IsRefused command bytes error → answer ≡ refusal_answer error → Answers command bytes answer
 refused_answer command bytes error answer refused same = inl (error, refused, same)
 
 -- words that ask for nothing are answered so
 pub usage_answer : (words : List (List ℕ)) (bytes : List ℕ) → IsUsage words
-    → IsAnswer words bytes usage
+    → IsAnswer words bytes usage_answer
 usage_answer words bytes none = inl (none, refl)
 
 -- the answer to a command is the answer to its words
@@ -69,7 +69,7 @@ blank = record {
   rules = None;
 }
 
-blank_is : IsInput nothing [] blank
+blank_is : IsInput no_parts [] blank
 blank_is = record {
   short = omega arith;
   says = record {
@@ -134,7 +134,7 @@ again command bytes answer answers same =
 
 -- a command that reads nothing has the same answer to all bytes
 pub unread_answers : (command : Command) (bytes : List ℕ) (answer : Answer)
-    → reads command ≡ false → Answers command [] answer → Answers command bytes answer
+    → reads_source command ≡ false → Answers command [] answer → Answers command bytes answer
 unread_answers (With task scheme) bytes answer none answers = absurd (cc)
 unread_answers (ByRules task) bytes answer none answers = absurd (cc)
 unread_answers (Trial nodes seed) bytes answer none answers = again (Trial nodes seed) bytes answer answers refl
@@ -152,7 +152,7 @@ same_command words command other bytes answer is is_other answers =
 pub answered_by_refusal : {E : Type 0} (command : Command) (bytes : List ℕ)
     (error : TextError) (r : Result Answer E)
     → (error ≢ NoMemory → IsNoInput (input_parts_of command) (read_by command bytes) error)
-    → IfOk r (λ answer. answer ≡ refusal error) → OnOk r (error ≢ NoMemory)
+    → IfOk r (λ answer. answer ≡ refusal_answer error) → OnOk r (error ≢ NoMemory)
     → IfOk r (λ answer. Answers command bytes answer)
 answered_by_refusal command bytes error (Ok answer) refused says some =
     refused_answer command bytes error answer (inl (refused some)) says
@@ -164,10 +164,10 @@ pub tells_refusal : (words : List (List ℕ)) (command : Command) (bytes : List 
     → IsRefused command bytes error → TellsAnswer words bytes status old new
     → TellsRefusal error status old new
 tells_refusal words command bytes error status old new is refused told =
-    let due : IsAnswer words bytes (refusal error) =
-    command_answer words bytes command (refusal error) is
-    (refused_answer command bytes error (refusal error) refused refl) in
-    let same = one_answer words bytes told.answer (refusal error) told.is due in
+    let due : IsAnswer words bytes (refusal_answer error) =
+    command_answer words bytes command (refusal_answer error) is
+    (refused_answer command bytes error (refusal_answer error) refused refl) in
+    let same = one_answer words bytes told.answer (refusal_answer error) told.is due in
     record {
       ends = told.ends ∙ ap (λ (answer : Answer). answer.status) same;
       took = subst (λ (answer : Answer). Appends old new answer.text) same told.took;

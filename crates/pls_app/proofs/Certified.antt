@@ -26,7 +26,7 @@ use Rattle.pls_components.proofs.Items.{length-items}
 use Rattle.pls_components.proofs.Part.{places_within}
 use Rattle.pls_components.proofs.Partition.{sum_of_parts}
 use Rattle.pls_inputs.specs.declared.parts.Parts.{Parts}
-use Rattle.pls_inputs.specs.Parts.{Input, parts_with_labels, net_labelling, net_labels_text, network, rows_in, with_labels}
+use Rattle.pls_inputs.specs.Parts.{Input, parts_with_labels, net_labelling, net_labels_text, network_alone, rows_in, with_labels}
 use Rattle.pls_inputs.specs.Order.{IsInput, over, refusals}
 use Rattle.pls_inputs.proofs.Facts.{IsReadable, readable}
 use Rattle.pls_inputs.proofs.WithinLimits.{few_of, within}
@@ -163,7 +163,7 @@ relabelled parts bytes input is wanted unscheduled unedited unwatched unruled co
 
 -- what `mark` answered certifies the text of the network
 pub certified : (code : CodeName) (scheme : Expression) (bytes : List ℕ) (input : Input) (answer : Answer)
-    → IsInput network bytes input → DoesWork (With (Mark code) scheme) input answer
+    → IsInput network_alone bytes input → DoesWork (With (Mark code) scheme) input answer
     → ShowsIn code scheme (rows_in input) answer.text → answer.status ≡ Done
     → Certifies code scheme bytes answer.text
 certified code scheme bytes input answer is work shown done =
@@ -182,7 +182,7 @@ certified code scheme bytes input answer is work shown done =
       components = work.components;
       shows = shown.shows;
       few = marked_few code scheme rows work.parts shown.labels
-          (readable network bytes input is refl).network work.components accepted shown.shows;
+          (readable network_alone bytes input is refl).network work.components accepted shown.shows;
       text_is = shown.is;
     }
 

@@ -18,7 +18,7 @@ use Rattle.pls_streams.specs.declared.text_error.TextError.TheVariants.{Sense}
 use Rattle.pls_streams.specs.declared.refusal_number.TheConstants.{EDIT}
 use Rattle.pls_app.specs.EditsRefusal.{first_refused_edit, edits_refusal}
 use Rattle.pls_app.specs.Said.{Answer}
-use Rattle.pls_app.specs.Answer.{refusal, rounds_answer}
+use Rattle.pls_app.specs.Answer.{refusal_answer, rounds_answer}
 use Rattle.pls_app.specs.Reports.{Report, ReportInput, Situation, checked_in, edited_by, first_situation, rounds_end_well}
 use Rattle.pls_app.specs.inner.Rechecking.{AddsReports, AddsReport, behind_all}
 use Rattle.pls_app.specs.inner.Tasks.{RecheckedIn}
@@ -87,7 +87,7 @@ module _ (scheme : Expression) (input : Input) (now : Situation) (reports : List
 
 -- a refusal has found nothing
 pub refused_in : (scheme : Expression) (input : Input) (error : TextError) (answer : Answer)
-    (old new : ℕ) → answer ≡ refusal error → RecheckedIn scheme input answer.status old new
+    (old new : ℕ) → answer ≡ refusal_answer error → RecheckedIn scheme input answer.status old new
 refused_in scheme input error answer old new same =
     let ends = ap (λ (answer : Answer). answer.status) same in record {
       held = λ done. absurd (refused_not_done error (sym ends ∙ done));

@@ -3,7 +3,7 @@ use Rattle.std.proofs.Common.{◌≡◌, ◌∙◌, ℕ, List, [], ◌∷◌, �
 use Rattle.pls_lines.specs.Text.{line_of}
 use Rattle.pls_report.specs.PartLines.{if_several}
 use Rattle.pls_report.specs.inner.Pieces.{spaced}
-use Rattle.pls_app.specs.Answer.{no}
+use Rattle.pls_app.specs.Answer.{no_answer}
 
 -- a word and numbers, with a space before each
 line_spaced : (word : List ℕ) (numbers : List ℕ)
@@ -20,7 +20,7 @@ several_words (part ∷ []) ids = refl
 several_words (part ∷ next ∷ others) ids = refl
 
 pub no_text : (parts : List (List ℕ)) (ids : List ℕ)
-    → (codes "no" ++ spaced (if_several parts ids)) ++ codes "\n" ≡ (no parts ids).text
+    → (codes "no" ++ spaced (if_several parts ids)) ++ codes "\n" ≡ (no_answer parts ids).text
 no_text parts ids =
     ap (λ (line : List ℕ). line ++ codes "\n")
     (sym (line_spaced (codes "no") (if_several parts ids))

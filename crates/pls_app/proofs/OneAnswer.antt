@@ -25,7 +25,7 @@ use Rattle.pls_app.specs.Command.{input_parts_of, read_by}
 use Rattle.pls_app.specs.Meant.{number_code_of, judge_in}
 use Rattle.pls_app.specs.Reports.{first_situation}
 use Rattle.pls_app.specs.Said.{Answer}
-use Rattle.pls_app.specs.Answer.{Answers, IsAnswer, IsInputTo, Marks, Works, Yields, labels_answer, no, refusal, rounds_answer}
+use Rattle.pls_app.specs.Answer.{Answers, IsAnswer, IsInputTo, Marks, Works, Yields, labels_answer, no_answer, refusal_answer, rounds_answer}
 use Rattle.pls_app.specs.Trial.{IsTrialAnswer, trial_line, tried_scheme}
 use Rattle.pls_app.proofs.Commands.{one_command}
 use Rattle.pls_app.proofs.OneRefusal.{one_parts, one_refusal, refused_untaken}
@@ -59,7 +59,7 @@ one_mark code scheme rows parts answer other network are one two = elim one [
     | inr too ↦
         let ids : lacks.0 ≡ too.0 =
         one_lacking (HasProperty scheme) rows lacks.0 too.0 lacks.1 too.1 in
-        lacks.2 ∙ ap (no parts) ids ∙ sym too.2
+        lacks.2 ∙ ap (no_answer parts) ids ∙ sym too.2
   ]
 ]
 
@@ -126,7 +126,7 @@ one_of_command : (command : Command) (bytes : List ℕ) (answer other : Answer)
 one_of_command command bytes answer other one two = elim one [
   | inl refused ↦ elim two [
     | inl too ↦
-        refused.2 ∙ ap refusal (one_refusal command bytes refused.0 too.0 refused.1 too.1)
+        refused.2 ∙ ap refusal_answer (one_refusal command bytes refused.0 too.0 refused.1 too.1)
         ∙ sym too.2
     | inr works ↦
         absurd (refused_untaken command bytes refused.0 works.input works.parts refused.1 works.is

@@ -35,7 +35,7 @@ use Rattle.pls_bits.specs.declared.code_name.CodeName.TheVariants.{Delta, Gamma}
 use Rattle.pls_app.specs.declared.command.Command.{Command}
 use Rattle.pls_app.specs.declared.command.Command.TheVariants.{ByRules, Print, Trial, With}
 use Rattle.pls_app.specs.declared.command.Task.TheVariants.{Mark, Verify, Simulate, Recheck, Watch, Bound, Convert, Splice}
-use Rattle.pls_app.specs.Command.{Checks, input_parts_of, read_by, reads}
+use Rattle.pls_app.specs.Command.{Checks, input_parts_of, read_by, reads_source}
 use Rattle.pls_app.specs.Meant.{Holds, LacksAt, judge_in, number_code_of, takes_of}
 use Rattle.pls_app.specs.Reports.{decided_by}
 use Rattle.pls_app.specs.Said.{Answer}
@@ -131,7 +131,7 @@ some_accept outcomes places all =
 -- a command that checks labels reads a network and one label for each node
 wants_labels : (scheme : Expression) (command : Command) → Checks scheme command
     → ((input_parts_of command).network ≡ true) × ((input_parts_of command).labels ≡ true)
-    × (reads command ≡ true)
+    × (reads_source command ≡ true)
 wants_labels scheme (With (Mark code) other) checks = absurd checks
 wants_labels scheme (With (Verify json) other) checks = (refl, refl, refl)
 wants_labels scheme (With (Simulate json) other) checks = (refl, refl, refl)

@@ -11,7 +11,7 @@ use Rattle.pls_edits.specs.EditsText.{AreEdits, edits_lines}
 use Rattle.pls_watch_part.specs.WatchText.{AreWatch, watch_part_lines}
 use Rattle.pls_rules_part.specs.RulesText.{AreRulesSaid, rules_lines}
 use Rattle.pls_inputs.specs.declared.parts.Parts.{Parts}
-use Rattle.pls_inputs.specs.Parts.{Has, Input, edits_in, input_lines, lines_of, network, parts_with_edits, rows_in}
+use Rattle.pls_inputs.specs.Parts.{Has, Input, edits_in, input_lines, lines_of, network_alone, parts_with_edits, rows_in}
 use Rattle.pls_inputs.specs.Order.{IsInput}
 use Rattle.pls_inputs.proofs.Facts.{readable}
 use Rattle.pls_app.specs.Spelled.{BeginsWithNetwork, EndsWithEdits, IsNetworkText}
@@ -70,15 +70,15 @@ module _ (parts : Parts) (bytes : List ℕ) (input : Input) (is : IsInput parts 
       }
 
 -- an input of a network alone is its text
-pub whole_network : (bytes : List ℕ) (input : Input) → IsInput network bytes input
+pub whole_network : (bytes : List ℕ) (input : Input) → IsInput network_alone bytes input
     → IsNetworkText bytes (rows_in input)
 whole_network bytes input is =
     let rows : List NodeRow = rows_in input in
-    let known = readable network bytes input is refl in
-    let there = network_there network bytes input is refl in
+    let known = readable network_alone bytes input is refl in
+    let there = network_there network_alone bytes input is refl in
     let unlabelled : input.labels ≡ None =
     gone (AreLabels false) false input.labels refl is.says.has.labels in
-    let none = without_others network bytes input is refl refl refl refl in
+    let none = without_others network_alone bytes input is refl refl refl refl in
     let alone : input_lines input ≡ network_lines rows = (λ i.
     lines_of network_lines (there i) ++ (lines_of labels_lines (unlabelled i)
     ++ (lines_of schedule_lines (none.schedule i) ++ (lines_of edits_lines (none.edits i)

@@ -20,7 +20,7 @@ use Rattle.pls_report.specs.Report.{is_rejecting}
 use Rattle.pls_splice.specs.Crossing.{HasNoPair, IsFirstPair}
 use Rattle.pls_splice.specs.Ring.{IsRing, IsRingOrder, NamesNoRing, has_not_two}
 use Rattle.pls_splice.proofs.OneOrder.{one_order}
-use Rattle.pls_app.specs.Answer.{refusal}
+use Rattle.pls_app.specs.Answer.{refusal_answer}
 use Rattle.pls_app.specs.Reports.{decided_by}
 use Rattle.pls_app.specs.Run.{IsJudged}
 use Rattle.pls_app.specs.Said.{Answer}
@@ -139,7 +139,7 @@ module _ (judge : Seen → Verdict) (code : CodeName) (rows : List NodeRow) (net
     (labels : List (List Bool)) where
   -- what is answered to a network that is no ring
   pub splice_no_ring : (id : ℕ) → NamesNoRing (find has_not_two rows) rows id → (answer : Answer)
-      → answer ≡ refusal (Sense NO_RING id) → DoesSplice judge code rows labels answer
+      → answer ≡ refusal_answer (Sense NO_RING id) → DoesSplice judge code rows labels answer
   splice_no_ring id names answer says parts are =
       let named = names_no_ring rows net parts are id names in
       inl (Sense NO_RING id, refused_ring judge rows labels parts id named, says)
@@ -148,7 +148,7 @@ module _ (judge : Seen → Verdict) (code : CodeName) (rows : List NodeRow) (net
       (decided : outcomes ≡ decided_by judge rows labels) where
     -- to a ring with a node that rejects
     pub splice_rejects : (id : ℕ) → first_rejecting outcomes ≡ Some id → (answer : Answer)
-        → answer ≡ refusal (Sense REJECTS id) → DoesSplice judge code rows labels answer
+        → answer ≡ refusal_answer (Sense REJECTS id) → DoesSplice judge code rows labels answer
     splice_rejects id rejects answer says parts are =
         let ring = ring_named rows net parts are round.ring in
         inl (

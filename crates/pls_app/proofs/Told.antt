@@ -4,7 +4,7 @@ use Rattle.pls_streams.specs.Streams.{Rose}
 use Rattle.pls_configuration.specs.declared.status.Status.{Status}
 use Rattle.pls_configuration.specs.declared.status.Status.TheVariants.{Done, No, Usage, Refused, ReadFault, WriteFault, NoMemory, Limit}
 use Rattle.pls_app.specs.declared.command.Command.{Command}
-use Rattle.pls_app.specs.Command.{IsCommand, IsUsage, reads}
+use Rattle.pls_app.specs.Command.{IsCommand, IsUsage, reads_source}
 use Rattle.pls_app.specs.Said.{Answer}
 use Rattle.pls_app.specs.Answer.{Answers, IsAnswer}
 use Rattle.pls_app.specs.inner.Tasks.{IsWorked, Offers}
@@ -121,11 +121,11 @@ unread_usage words due none unread = elim unread [
 
 -- and those of a command that reads nothing as it is
 pub unread_command : (words : List (List ℕ)) (due : Status) (command : Command)
-    → IsCommand words command → IsUnread words due → (reads command ≡ false) × (due ≡ Done)
+    → IsCommand words command → IsUnread words due → (reads_source command ≡ false) × (due ≡ Done)
 unread_command words due command is unread = elim unread [
   | inl usage ↦ absurd (usage.0 command is)
   | inr found ↦ (
-    subst (λ (command : Command). reads command ≡ false)
+    subst (λ (command : Command). reads_source command ≡ false)
         (one_command words found.0 command found.1 is) found.2,
     found.3,
   )

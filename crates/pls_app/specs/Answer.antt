@@ -42,8 +42,8 @@ use Rattle.pls_app.specs.Said.{Answer}
 use Rattle.pls_app.specs.Trial.{IsTrialAnswer}
 
 -- the answer to words that are no command
-abbrev pub usage : Answer
-usage = record { status = Usage; text = text_of (codes "usage" ∷ []) }
+abbrev pub usage_answer : Answer
+usage_answer = record { status = Usage; text = text_of (codes "usage" ∷ []) }
 
 -- the status of a refusal
 abbrev pub refusal_status : TextError → Status
@@ -61,8 +61,9 @@ refusal_line (Sense number place) =
 refusal_line NoMemory = []
 
 -- the answer to an input that is refused
-abbrev pub refusal : TextError → Answer
-refusal error = record { status = refusal_status error; text = text_of (refusal_line error ∷ []) }
+abbrev pub refusal_answer : TextError → Answer
+refusal_answer error =
+    record { status = refusal_status error; text = text_of (refusal_line error ∷ []) }
 
 -- the text of a report with what is told of the components, in JSON or in lines
 abbrev pub report_in : Bool → Bool → List PartRow → List (ℕ × Outcome) → List ℕ
@@ -70,8 +71,9 @@ report_in json simulated parts outcomes =
     if json then json_text parts outcomes else report_text simulated parts outcomes
 
 -- the answer with a report of what became of the nodes of a network with these components
-abbrev pub report : Bool → Bool → List NodeRow → List (List ℕ) → List (ℕ × Outcome) → Answer
-report json simulated rows parts outcomes = record {
+abbrev pub report_answer : Bool → Bool → List NodeRow → List (List ℕ) → List (ℕ × Outcome)
+    → Answer
+report_answer json simulated rows parts outcomes = record {
   status = if all_accept outcomes then Done else No;
   text = report_in json simulated (part_rows rows parts outcomes) outcomes;
 }
@@ -85,8 +87,8 @@ bound_answer number = record {
 
 -- the answer to a network with these components, of which those with these smallest identities lack
 -- the property: they are named where there is more than one component
-abbrev pub no : List (List ℕ) → List ℕ → Answer
-no parts ids = record {
+abbrev pub no_answer : List (List ℕ) → List ℕ → Answer
+no_answer parts ids = record {
   status = No;
   text = text_of (line_of (codes "no" ∷ if_several parts (map decimal ids)) ∷ []);
 }
@@ -126,7 +128,7 @@ abbrev pub Marks : CodeName → Expression → List NodeRow → List (List ℕ) 
 Marks code scheme rows parts answer =
     ((labels : List (List Bool)) × AreMarked code scheme rows labels
     × (answer ≡ labels_answer code rows labels))
-    ⊎ ((ids : List ℕ) × NameLacking scheme rows ids × (answer ≡ no parts ids))
+    ⊎ ((ids : List ℕ) × NameLacking scheme rows ids × (answer ≡ no_answer parts ids))
 
 -- the answer to `recheck` on an input: the reports of its rounds
 abbrev pub Rechecks : Expression → Input → Answer → Type 0
@@ -137,7 +139,7 @@ Rechecks scheme input answer =
 -- the report of a command that judges nodes, of an input whose network has these components
 abbrev pub reports_on : Command → Bool → Bool → Input → List (List ℕ) → Answer
 reports_on command json simulated input parts =
-    report json simulated (rows_in input) parts (outcomes_in command input)
+    report_answer json simulated (rows_in input) parts (outcomes_in command input)
 
 -- the answer of a command to an input that it does not refuse, whose network has these components
 abbrev pub Yields : Command → Input → List (List ℕ) → Answer → Type 0
@@ -211,10 +213,10 @@ pub record Works (command : Command) (bytes : List ℕ) (answer : Answer) : Type
 -- the answer to a command on bytes
 abbrev pub Answers : Command → List ℕ → Answer → Type 0
 Answers command bytes answer =
-    ((error : TextError) × IsRefused command bytes error × (answer ≡ refusal error))
+    ((error : TextError) × IsRefused command bytes error × (answer ≡ refusal_answer error))
     ⊎ Works command bytes answer
 
 -- the answer of a run: that of the command that its words are, or `usage` where they are none
 abbrev pub IsAnswer : List (List ℕ) → List ℕ → Answer → Type 0
-IsAnswer words bytes answer = (IsUsage words × (answer ≡ usage))
+IsAnswer words bytes answer = (IsUsage words × (answer ≡ usage_answer))
     ⊎ ((command : Command) × IsCommand words command × Answers command bytes answer)

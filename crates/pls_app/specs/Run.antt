@@ -27,7 +27,7 @@ use Rattle.pls_builtin.specs.Builtin.{set_of_name}
 use Rattle.pls_app.specs.declared.command.Command.{Command}
 use Rattle.pls_app.specs.declared.command.Command.TheVariants.{With}
 use Rattle.pls_app.specs.declared.command.Task.TheVariants.{Recheck, Verify}
-use Rattle.pls_app.specs.Command.{IsCommand, IsUsage, reads}
+use Rattle.pls_app.specs.Command.{IsCommand, IsUsage, reads_source}
 use Rattle.pls_app.specs.Meant.{Holds, LacksAt, NameLacking, Shows, judge_in}
 use Rattle.pls_app.specs.Reports.{Report, ReportInput, checked_in, edited_by}
 use Rattle.pls_app.specs.Ruled.{set_in}
@@ -36,7 +36,7 @@ use Rattle.pls_app.specs.Spelled.{BeginsWithNetwork, EndsWithEdits, IsNetworkTex
 use Rattle.pls_edits.specs.declared.edit_line.EditLine.{EditLine}
 use Rattle.pls_configuration.specs.declared.limits.TheConstants.{MAX_BITS}
 use Rattle.pls_labels.specs.Labels.{bits_together}
-use Rattle.pls_app.specs.Answer.{IsAnswer, IsInputTo, IsRefused, no, outcomes_in, refusal, refusal_status}
+use Rattle.pls_app.specs.Answer.{IsAnswer, IsInputTo, IsRefused, no_answer, outcomes_in, refusal_answer, refusal_status}
 
 -- the words are this command, and the source tells these bytes
 pub record Asks (words : List (List ℕ)) (left : Option (List ℕ)) (command : Command)
@@ -84,7 +84,7 @@ HasRead (Some bytes) new =
 -- reads nothing
 abbrev pub IsUnread : List (List ℕ) → Status → Type 0
 IsUnread words due = (IsUsage words × (due ≡ Usage))
-    ⊎ ((command : Command) × IsCommand words command × (reads command ≡ false) × (due ≡ Done))
+    ⊎ ((command : Command) × IsCommand words command × (reads_source command ≡ false) × (due ≡ Done))
 
 -- the answer is one to these bytes: the source tells them, or the words read nothing, whatever the
 -- source tells
@@ -106,7 +106,7 @@ EndsAs due status = (status ≡ due) ⊎ ((status ≡ WriteFault) ⊎ (status �
 -- byte more than the limit, and none takes more
 pub record Consumes (words : List (List ℕ)) (status : Status)
     (old new : Option (List ℕ)) : Type 0 where
-  pub read : (command : Command) → IsCommand words command → reads command ≡ true
+  pub read : (command : Command) → IsCommand words command → reads_source command ≡ true
       → IsAnswered status → HasRead old new
   pub no_more : LosesAtMost old new (MAX_INPUT + 1)
 
@@ -114,7 +114,7 @@ pub record Consumes (words : List (List ℕ)) (status : Status)
 pub record TellsRefusal (error : TextError) (status : Status)
     (old new : Option (List ℕ)) : Type 0 where
   pub ends : status ≡ refusal_status error
-  pub took : Appends old new (refusal error).text
+  pub took : Appends old new (refusal_answer error).text
 
 -- the status is one of a refusal
 abbrev pub IsRefusalStatus : Status → Type 0
@@ -212,7 +212,7 @@ pub record Lacks (scheme : Expression) (bytes text : List ℕ) : Type 0 where
   pub components : AreComponents rows parts
   pub ids : List ℕ
   pub lacking : NameLacking scheme rows ids
-  pub says : text ≡ (no parts ids).text
+  pub says : text ≡ (no_answer parts ids).text
 
 -- the sink took a text of which this is so
 pub record Took (Says : List ℕ → Type 0) (old new : Option (List ℕ)) : Type 0 where

@@ -6,7 +6,7 @@ ghost use Rattle.pls_components.specs.Components.{AreComponents};
 ghost use Rattle.pls_report.specs.Report.{all_accept};
 ghost use Rattle.pls_report.specs.PartLines.{if_several};
 ghost use Rattle.pls_report.specs.inner.Pieces.{spaced};
-ghost use Rattle.pls_app.specs.Answer.{no, refusal, refusal_status, report, rounds_answer, usage};
+ghost use Rattle.pls_app.specs.Answer.{no_answer, refusal_answer, refusal_status, report_answer, rounds_answer, usage_answer};
 ghost use Rattle.pls_app.specs.Reports.{rounds_end_well};
 ghost use Rattle.pls_app.specs.inner.Tasks.{IsWorked};
 
@@ -75,7 +75,7 @@ impl Model for Answer {
 
 // The answer to words that are no command.
 pub(crate) fn usage() -> Answer
-    ensures { result ≡ usage }
+    ensures { result ≡ usage_answer }
 {
     Answer {
         status: Status::Usage,
@@ -85,7 +85,7 @@ pub(crate) fn usage() -> Answer
 
 // `ids` are the smallest identities of the components that lack the property.
 pub(crate) fn no(alloc: Global, parts: &Components, ids: &[u32]) -> Result<Answer, NoMemory>
-    ensures says { IfOk result (λ answer. answer ≡ no parts.now ids.now) }
+    ensures says { IfOk result (λ answer. answer ≡ no_answer parts.now ids.now) }
     ensures worked { IfOk result (λ answer. IsWorked answer.status) }
 {
     let mut text = String::new(alloc);
@@ -126,7 +126,7 @@ pub(crate) fn report(
     requires made { AreComponents net.now parts.now }
     requires each { length rows.items ≡ length net.now }
     ensures report { IfOk result
-        (λ answer. answer ≡ report json simulated net.now parts.now rows.items) }
+        (λ answer. answer ≡ report_answer json simulated net.now parts.now rows.items) }
     ensures worked { IfOk result (λ answer. IsWorked answer.status) }
 {
     let status = round_status(&rows);
@@ -181,7 +181,7 @@ fn round_status(rows: &[(u32, Outcome)]) -> Status
 
 // `TextError::NoMemory` has no text, and is passed on as the error.
 pub(crate) fn refuse(alloc: Global, error: TextError) -> Result<Answer, NoMemory>
-    ensures says { IfOk result (λ answer. answer ≡ refusal error) }
+    ensures says { IfOk result (λ answer. answer ≡ refusal_answer error) }
     ensures refused { OnOk result (error ≢ TextError.NoMemory) }
     ensures worked { IfOk result (λ answer. IsWorked answer.status) }
 {
@@ -199,7 +199,7 @@ pub(crate) fn refuse(alloc: Global, error: TextError) -> Result<Answer, NoMemory
 
 // `number` is that of the refusal, `id` that of the node.
 pub(crate) fn refuse_node(alloc: Global, number: u8, id: u32) -> Result<Answer, NoMemory>
-    ensures says { IfOk result (λ answer. answer ≡ refusal (Sense number id)) }
+    ensures says { IfOk result (λ answer. answer ≡ refusal_answer (Sense number id)) }
     ensures worked { IfOk result (λ answer. IsWorked answer.status) }
 {
     let place = id as u64;

@@ -8,7 +8,7 @@ ghost use Rattle.pls_bits.specs.declared.code_name.CodeName.TheVariants.{Delta a
 ghost use Rattle.pls_configuration.specs.declared.limits.TheConstants.{MAX_BITS as MOST};
 ghost use Rattle.pls_labels.specs.Labels.{bits_together};
 ghost use Rattle.pls_inputs.specs.Order.{over};
-ghost use Rattle.pls_app.specs.Answer.{labels_answer, refusal};
+ghost use Rattle.pls_app.specs.Answer.{labels_answer, refusal_answer};
 ghost use Rattle.pls_app.specs.Meant.{takes_of};
 ghost use Rattle.pls_app.specs.inner.Tasks.{Does, IsWorked};
 
@@ -49,7 +49,7 @@ fn labels_within(alloc: Global, net: Network, labels: LabelStore) -> Result<Answ
     ensures within { over Bits MOST (bits_together labels) ≡ None
         → IfOk result (λ answer. answer ≡ labels_answer DeltaName net labels) }
     ensures refused { (error : Error) → over Bits MOST (bits_together labels) ≡ Some error
-        → IfOk result (λ answer. answer ≡ refusal error) }
+        → IfOk result (λ answer. answer ≡ refusal_answer error) }
     ensures worked { IfOk result (λ answer. IsWorked answer.status) }
 {
     if labels.total() > MAX_BITS {

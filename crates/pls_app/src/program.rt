@@ -74,7 +74,7 @@ pub fn run<'w, S: Source, K: Sink, B: Bench>(
         → Took (Splits scheme bytes) (K.taken sink.old) (K.taken sink.new) }
     ensures judge { (json : Bool) (bytes : List ℕ)
         → Asks (words_in words.now) (S.left source.old)
-            (Command.ByRules (RuleTask.Judge json)) bytes
+        (Command.ByRules (RuleTask.Judge json)) bytes
         → result ≡ Status.Done → ProvesByRules bytes }
 
     // How often the bench was asked.

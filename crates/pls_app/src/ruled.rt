@@ -7,7 +7,7 @@ ghost use Rattle.pls_compile.specs.RuleMeaning.{meaning};
 ghost use Rattle.pls_components.specs.Components.{AreComponents};
 ghost use Rattle.pls_rules.specs.HeldTrees.{set_of};
 ghost use Rattle.pls_rules.specs.RuleSet.{AreRules};
-ghost use Rattle.pls_app.specs.Answer.{report};
+ghost use Rattle.pls_app.specs.Answer.{report_answer};
 ghost use Rattle.pls_app.specs.Reports.{decided_by};
 ghost use Rattle.pls_app.specs.Ruled.{code_answer, rules_answer};
 ghost use Rattle.pls_app.specs.inner.Tasks.{DoesSplice, IsWorked};
@@ -38,7 +38,7 @@ pub(crate) fn judge(
     requires made { AreComponents net.now parts.now }
     requires each { length labels.now ≡ length net.now }
     requires sense { AreRules (set_of set) }
-    ensures reports { IfOk result (λ answer. answer ≡ report json false net.now parts.now
+    ensures reports { IfOk result (λ answer. answer ≡ report_answer json false net.now parts.now
         (decided_by (meaning gamma_takes (set_of set)) net.now labels.now)) }
     ensures worked { IfOk result (λ answer. IsWorked answer.status) }
 {

@@ -32,8 +32,7 @@ impl Model for Round {
 
     ghost view = { λ round. said_by_number round.numbers.items round.chosen.items };
 
-    ghost invariant =
-        { λ round. AreFragmentNumbers round.numbers.items (length round.chosen.items) };
+    ghost invariant = { λ round. AreFragmentNumbers round.numbers.items (length round.chosen.items) };
 }
 
 impl Round {

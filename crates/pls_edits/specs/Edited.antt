@@ -58,7 +58,7 @@ abbrev pub label_refusal : List NodeRow → List (List Bool) → ℕ → List Bo
 label_refusal rows labels id bits = first_of (
     refused_if (is_absent rows id) Absent
     ∷ refused_if (nat_lt MAX_BITS (bits_together (slice_set labels (place_in rows id) bits)))
-        Full ∷ [])
+    Full ∷ [])
 
 -- why the edit is refused, in a network with these labels: the first cause that holds
 abbrev pub edit_refusal : Edit → List NodeRow → List (List Bool) → Option EditError

@@ -107,7 +107,7 @@ abbrev pub state_refusal : List NodeRow → ℕ → State → Option EditError
 state_refusal rows id state = first_of (
     refused_if (is_absent rows id) Absent
     ∷ refused_if (option_map_or (λ row. not (fits_state state row)) (row_of rows id) false)
-        Pointer ∷ [])
+    Pointer ∷ [])
 
 -- why an edge is neither changed nor taken away: the two are not linked nodes
 abbrev pub edge_refusal : List NodeRow → ℕ → ℕ → Option EditError
@@ -134,7 +134,7 @@ abbrev pub leave_refusal : List NodeRow → ℕ → Option EditError
 leave_refusal rows id = first_of (
     refused_if (is_absent rows id) Absent
     ∷ refused_if (option_map_or (λ row. nat_lt 0 (length row.ports)) (row_of rows id) false)
-        HasPorts
+    HasPorts
     ∷ refused_if (length rows == 1) Last ∷ [])
 
 -- an edit that may lack memory is refused for this cause, or there was no memory

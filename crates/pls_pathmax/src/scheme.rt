@@ -132,8 +132,7 @@ impl<C: NumCode> Remembers for PathMax<C> {
 
     type Memory = BoxedGlance<PathMaxGlance<LONG_FRONT>>;
 
-    ghost told =
-        { λ _ bits. seen_in (said_by pathmax_shape C.takes) (glance_said LONG_FRONT) bits };
+    ghost told = { λ _ bits. seen_in (said_by pathmax_shape C.takes) (glance_said LONG_FRONT) bits };
 
     fn remember(
         &self,

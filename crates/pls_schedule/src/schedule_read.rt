@@ -27,8 +27,7 @@ impl<'a> Model for ReadSchedule<'a> {
 
     ghost view = { λ part. part.text };
 
-    ghost invariant =
-        { λ part. IfSome part.list (λ list. TellsSchedule part.text.text list.items) };
+    ghost invariant = { λ part. IfSome part.list (λ list. TellsSchedule part.text.text list.items) };
 }
 
 impl<'a> Part<'a> for ReadSchedule<'a> {

@@ -80,5 +80,5 @@ expression_of_words-words scheme =
 abbrev pub coded_expression : Coded Expression
 coded_expression =
     code_by (List Word) (coded_list (coded⊎ names.the_row.coded coded_ℕ)) words_of
-        expression_of_words
+    expression_of_words
     expression_of_words-words

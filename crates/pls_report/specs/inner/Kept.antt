@@ -18,7 +18,7 @@ abbrev pub counts_text : ℕ → LookCounts → List ℕ
 counts_text number counts =
     ((codes "look " ++ decimal number) ++ ((codes " rejecting " ++ decimal counts.rejecting)
     ++ ((codes " waiting " ++ decimal counts.waiting)
-        ++ (codes " stale " ++ decimal counts.stale))))
+    ++ (codes " stale " ++ decimal counts.stale))))
     ++ codes "\n"
 
 -- the text of a look, of its lines and what they count as

@@ -33,7 +33,7 @@ abbrev pub named_atom : List ℕ → Option (Front (Term (List ℕ)))
 named_atom text =
     option_map_or (λ rest. option_map (front_map My) (name_front rest)) (after (codes "my.") text)
     (option_map_or (λ rest. option_map (front_map above_named) (name_front rest))
-        (after (codes "up.") text)
+    (after (codes "up.") text)
     (option_and_then (λ rest. option_map (front_map beside_named) (name_front rest))
     (after (codes "nb.") text)))
 

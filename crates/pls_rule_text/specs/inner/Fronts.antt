@@ -38,7 +38,7 @@ unfoldable mutual
   term_front (suc below) text =
       option_or (atom_front text)
       (option_map_or (two_front Add (term_front below) (term_front below))
-          (after (codes "add(") text)
+      (after (codes "add(") text)
       (option_and_then (two_front Sum (formula_front below) (term_front below))
       (after (codes "sum(") text)))
 

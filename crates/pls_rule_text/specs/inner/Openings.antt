@@ -52,7 +52,7 @@ abbrev pub junction_front : List ℕ → Option (Front Junction)
 junction_front text =
     option_or (word_front BySame (codes "same(") text)
     (option_or (word_front ByBoth (codes "both(") text)
-        (word_front ByEither (codes "either(") text))
+    (word_front ByEither (codes "either(") text))
 
 abbrev pub modifier_front : List ℕ → Option (Front Modifier)
 modifier_front text =

@@ -23,4 +23,4 @@ abbrev pub is_rule : List ℕ → Bool
 is_rule text =
     nat_le (length text) 4096
     && (if nat_lt 31 (deepest 0 text) then list_all is_character text
-        else is_some (formula_in text))
+    else is_some (formula_in text))

@@ -1,6 +1,6 @@
 use Rattle.std.proofs.Common.{◌≡◌, ap, List, ℕ}
 use Rattle.pls_configuration.specs.declared.status.Status.TheVariants.{No}
-use Rattle.pls_app.specs.Answer.{no}
+use Rattle.pls_app.specs.Answer.{no_answer}
 use Rattle.pls_app.specs.Said.{Answer}
 use Rattle.pls_app.proofs.Naming.{no_text}
 use Rattle.pls_app.proofs.answer.no.Goals as goal

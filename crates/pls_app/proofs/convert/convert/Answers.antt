@@ -13,7 +13,7 @@ use Rattle.pls_inputs.specs.Order.{over}
 use Rattle.pls_inputs.specs.Parts.{Input, code_in, labels_in, rows_in}
 use Rattle.pls_app.specs.declared.command.Command.TheVariants.{With}
 use Rattle.pls_app.specs.declared.command.Task.TheVariants.{Convert}
-use Rattle.pls_app.specs.Answer.{labels_answer, refusal}
+use Rattle.pls_app.specs.Answer.{labels_answer, refusal_answer}
 use Rattle.pls_app.specs.Meant.{takes_of}
 use Rattle.pls_app.specs.Said.{Answer}
 use Rattle.pls_app.specs.inner.Tasks.{Does}
@@ -26,7 +26,7 @@ returns-in-Some-clause-does g c =
     let net = c.args.net in
     let labels = c.args.labels.now in
     let id : ℕ = c.node.result.0 in
-    IfOk-weaker c.refuse_node.result (λ answer. answer ≡ refusal (Sense UNREADABLE id))
+    IfOk-weaker c.refuse_node.result (λ answer. answer ≡ refusal_answer (Sense UNREADABLE id))
     (λ answer. (input : Input) → rows_in input ≡ net → labels_in input ≡ labels
     → g.C.NumCode.takes ≡ takes_of (code_in input) → (parts : List (List ℕ))
     → Does (With Convert scheme) input parts answer)
@@ -70,7 +70,7 @@ returns-in-None-clause-does g c =
         let store = c.convert_labels.new.into in
         let none = sym c.in-None.is ∙ c.in_ok-place.ensures.place in
         let made = c.in_ok-place.ensures.all c.in-None.is in
-        IfOk-weaker c.labels_within.result (λ answer. answer ≡ refusal error) Does_so
+        IfOk-weaker c.labels_within.result (λ answer. answer ≡ refusal_answer error) Does_so
         (λ answer says input rows same takes parts. inl (
           error,
           bits_decide scheme input _ (λ i. converted (takes i) delta_code scheme)

@@ -9,7 +9,7 @@ use Rattle.pls_app.specs.declared.command.Command.TheVariants.{With}
 use Rattle.pls_app.specs.declared.command.Command.{Command}
 use Rattle.pls_app.specs.declared.command.Task.TheVariants.{Mark}
 use Rattle.pls_app.specs.Said.{Answer}
-use Rattle.pls_app.specs.Answer.{Answers, refusal}
+use Rattle.pls_app.specs.Answer.{Answers, refusal_answer}
 use Rattle.pls_app.specs.Run.{Certifies}
 use Rattle.pls_app.proofs.Answered.{refused_answer, too_long}
 use Rattle.pls_app.specs.inner.Tasks.{RecheckedOnBytes}
@@ -35,7 +35,7 @@ returns-in-Err-TooLong-clause-answer g c =
     let lost = c.in-Err-TooLong.ensures.too_long (rw c.in-Err-TooLong.field-0-is refl) in
     ok_again c.refuse.result c.or_no_memory-in-Err-TooLong.result _
     (λ answer. (bytes : List ℕ) → old ≡ Some bytes → Answers (c.args.command) bytes answer)
-    (IfOk-weaker c.refuse.result (λ answer. answer ≡ refusal (Limit Input))
+    (IfOk-weaker c.refuse.result (λ answer. answer ≡ refusal_answer (Limit Input))
     (λ answer. (bytes : List ℕ) → old ≡ Some bytes → Answers (c.args.command) bytes answer)
     (λ answer same bytes told. refused_answer (c.args.command) bytes (Limit Input) answer
     (too_long c.args.command c.requires.reads old new bytes lost told) same) c.refuse.ensures.says)
@@ -89,7 +89,7 @@ returns-in-Err-TooLong-clause-certified g c =
     (λ answer. (bytes : List ℕ) → old ≡ Some bytes → (code : CodeName)
     (scheme : Expression) → c.args.command ≡ With (Mark code) scheme → answer.status ≡ Done
     → Certifies code scheme bytes answer.text)
-    (IfOk-weaker c.refuse.result (λ answer. answer ≡ refusal (Limit Input))
+    (IfOk-weaker c.refuse.result (λ answer. answer ≡ refusal_answer (Limit Input))
     (λ answer. (bytes : List ℕ) → old ≡ Some bytes → (code : CodeName)
     (scheme : Expression) → c.args.command ≡ With (Mark code) scheme → answer.status ≡ Done
     → Certifies code scheme bytes answer.text)
@@ -125,7 +125,7 @@ returns-in-Err-TooLong-clause-rechecked g c =
     ok_again c.refuse.result c.or_no_memory-in-Err-TooLong.result _
     (λ answer. (bytes : List ℕ) → old ≡ Some bytes
     → RecheckedOnBytes command bytes answer.status asked asked)
-    (IfOk-weaker c.refuse.result (λ answer. answer ≡ refusal (Limit Input))
+    (IfOk-weaker c.refuse.result (λ answer. answer ≡ refusal_answer (Limit Input))
     (λ answer. (bytes : List ℕ) → old ≡ Some bytes
     → RecheckedOnBytes command bytes answer.status asked asked)
     (λ answer same bytes told. refused_asks command bytes (Limit Input) answer asked asked same)

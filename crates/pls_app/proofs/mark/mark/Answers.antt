@@ -9,7 +9,7 @@ use Rattle.pls_combine.specs.Expression.{longest_of}
 use Rattle.pls_components.specs.Parts.{room_of_parts}
 use Rattle.pls_app.specs.declared.command.Command.TheVariants.{With}
 use Rattle.pls_app.specs.declared.command.Task.TheVariants.{Mark}
-use Rattle.pls_app.specs.Answer.{Marks, refusal}
+use Rattle.pls_app.specs.Answer.{Marks, refusal_answer}
 use Rattle.pls_app.specs.Meant.{room_in}
 use Rattle.pls_app.specs.inner.Tasks.{Does}
 use Rattle.pls_app.proofs.Sizes.{over_room}
@@ -40,7 +40,7 @@ returns-in-Err-clause-does g c =
     let net = c.args.net in
     let parts = c.args.parts.now in
     let writes = c.requires.named.writes_so in
-    IfOk-weaker c.refuse.result (λ answer. answer ≡ refusal c.in-Err.error)
+    IfOk-weaker c.refuse.result (λ answer. answer ≡ refusal_answer c.in-Err.error)
     (λ answer. (input : Input) → rows_in input ≡ net
     → Does (With (Mark code) scheme) input parts answer)
     (λ answer says input same. inl (

@@ -6,8 +6,8 @@ use Rattle.pls_app.specs.declared.command.Command.{Command}
 use Rattle.pls_app.specs.declared.command.Command.TheVariants.{ByRules, With}
 use Rattle.pls_app.specs.declared.command.RuleTask.TheVariants.{Judge}
 use Rattle.pls_app.specs.declared.command.Task.TheVariants.{Convert, Mark, Recheck, Watch, Splice}
-use Rattle.pls_app.specs.Command.{IsCommand, IsUsage, reads}
-use Rattle.pls_app.specs.Answer.{usage}
+use Rattle.pls_app.specs.Command.{IsCommand, IsUsage, reads_source}
+use Rattle.pls_app.specs.Answer.{usage_answer}
 use Rattle.pls_app.specs.Run.{Certifies, Converts, EndsAs, IsAnswered, Lacks, Splits}
 use Rattle.pls_app.specs.inner.Tasks.{IsWorked}
 use Rattle.pls_app.proofs.Answered.{refusal_has_cause, same_command, tells_refusal, unrefused_judged, usage_answer}
@@ -324,7 +324,7 @@ returns-in-Ok-clause-read g c =
     let is : IsCommand words command = rw c.in-Ok-Some.field-0-is at c.in-Ok-Some.ensures.some in
     record {
       read = λ other asked wants answered.
-          c.in-Ok.ensures.read (subst (λ (command : Command). reads command ≡ true)
+          c.in-Ok.ensures.read (subst (λ (command : Command). reads_source command ≡ true)
           (one_command words other command asked is) wants);
       no_more = c.answer_from.ensures.lost;
     }

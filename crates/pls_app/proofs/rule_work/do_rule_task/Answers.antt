@@ -11,7 +11,7 @@ use Rattle.pls_rules.specs.HeldTrees.{set_of}
 use Rattle.pls_inputs.specs.Read.{said}
 use Rattle.pls_app.specs.declared.command.Command.TheVariants.{ByRules}
 use Rattle.pls_app.specs.declared.command.RuleTask.{RuleTask}
-use Rattle.pls_app.specs.Answer.{report}
+use Rattle.pls_app.specs.Answer.{report_answer}
 use Rattle.pls_app.specs.Reports.{decided_by}
 use Rattle.pls_app.specs.Ruled.{code_answer}
 use Rattle.pls_app.specs.inner.Tasks.{DoesSplice, DoesWork}
@@ -45,7 +45,7 @@ returns-in_ok-parts-in-Judge-clause-does c =
     let sets = set_is _ _ c.args.input is c.unwrap-set.result c.unwrap-set.ensures in
     let parts = c.in_ok-parts-in-Judge.parts in
     IfOk-weaker c.judge-in-Judge.result
-    (λ answer. answer ≡ report json false net parts (decided_by (meaning gamma_takes set) net store))
+    (λ answer. answer ≡ report_answer json false net parts (decided_by (meaning gamma_takes set) net store))
     (λ answer. DoesWork (ByRules c.args.task) input answer)
     (λ answer same. subst (λ (task : RuleTask). DoesWork (ByRules task) input answer)
     (sym c.in-Judge.is) (record {

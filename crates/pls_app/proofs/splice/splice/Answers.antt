@@ -4,7 +4,7 @@ use Rattle.pls_streams.specs.declared.refusal_number.TheConstants.{NO_RING}
 use Rattle.pls_streams.specs.declared.text_error.TextError.TheVariants.{Sense}
 use Rattle.pls_splice.specs.Ring.{SaysNoRing}
 use Rattle.pls_splice.specs.declared.ring_error.RingError.TheVariants.{NotRing}
-use Rattle.pls_app.specs.Answer.{refusal}
+use Rattle.pls_app.specs.Answer.{refusal_answer}
 use Rattle.pls_app.specs.inner.Tasks.{DoesSplice}
 use Rattle.pls_app.proofs.Spliced.{splice_no_ring}
 use Rattle.pls_app.proofs.splice.splice.Goals as goal
@@ -16,7 +16,7 @@ returns-in-Err-NotRing-clause-does g c =
     let id = c.in-Err-NotRing.id in
     let says : SaysNoRing net (NotRing id) =
     subst (SaysNoRing net) c.in-Err-NotRing.field-0-is c.in-Err-NotRing.ensures.refused in
-    IfOk-weaker c.refuse_node.result (λ answer. answer ≡ refusal (Sense NO_RING id))
+    IfOk-weaker c.refuse_node.result (λ answer. answer ≡ refusal_answer (Sense NO_RING id))
     (DoesSplice judge c.args.code net c.args.labels)
     (splice_no_ring judge c.args.code net c.len.ensures.valid c.args.labels id says.1)
     (rw c.in-Err-NotRing.field-0-is at c.refuse_node.ensures.says)

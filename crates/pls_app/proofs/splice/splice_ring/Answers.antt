@@ -4,7 +4,7 @@ use Rattle.pls_streams.specs.declared.refusal_number.TheConstants.{REJECTS}
 use Rattle.pls_streams.specs.declared.text_error.TextError.TheVariants.{Sense}
 use Rattle.pls_splice.specs.Crossing.{HasNoPair, IsFirstPair}
 use Rattle.pls_splice.specs.declared.finding.Pair.{Pair}
-use Rattle.pls_app.specs.Answer.{refusal}
+use Rattle.pls_app.specs.Answer.{refusal_answer}
 use Rattle.pls_app.specs.Splice.{crossed_answer, first_rejecting}
 use Rattle.pls_app.specs.inner.Tasks.{DoesSplice}
 use Rattle.pls_app.proofs.Spliced.{splice_crosses, splice_finds_none, splice_rejects}
@@ -15,7 +15,7 @@ returns-in-Some-clause-does g c =
     let judge = g.V.Checker.judge c.args.checker.now in
     let net = c.args.net in
     let id = c.in-Some.id in
-    IfOk-weaker c.refuse_node.result (λ answer. answer ≡ refusal (Sense REJECTS id))
+    IfOk-weaker c.refuse_node.result (λ answer. answer ≡ refusal_answer (Sense REJECTS id))
     (DoesSplice judge c.args.code net c.args.labels)
     (splice_rejects judge c.args.code net c.len.ensures.valid c.args.labels c.args.ring.now
     c.requires.read c.in_ok-rows.rows.items c.in_ok-rows.ensures.decided id

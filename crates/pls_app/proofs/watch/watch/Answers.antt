@@ -12,7 +12,7 @@ use Rattle.pls_watch.specs.Watching.{Watched}
 use Rattle.pls_inputs.specs.Parts.{Input, code_in}
 use Rattle.pls_app.specs.declared.command.Command.TheVariants.{With}
 use Rattle.pls_app.specs.declared.command.Task.TheVariants.{Watch}
-use Rattle.pls_app.specs.Answer.{refusal}
+use Rattle.pls_app.specs.Answer.{refusal_answer}
 use Rattle.pls_app.specs.Looks.{look_after, looks_answer, looks_behind}
 use Rattle.pls_app.specs.Meant.{takes_of}
 use Rattle.pls_app.specs.WatchRefusal.{events_of, first_refused_line, watch_lines_refusal}
@@ -92,7 +92,7 @@ returns-in-Some-clause-does g c =
     ap (option_map (λ line. Sense WATCH_EVENT line))
     ((λ i. first_refused_line (sym network i) [] first (sym c.of.ensures i))
     ∙ c.in_ok-place.ensures.place first ∙ ap (option_map (λ place. first + place)) c.in-Some.is) in
-    IfOk-weaker c.refuse.result (λ answer. answer ≡ refusal error)
+    IfOk-weaker c.refuse.result (λ answer. answer ≡ refusal_answer error)
     (λ answer. (input : Input) → IsWatchInput net c.args.labels.now lines first input
     → g.C.NumCode.takes ≡ takes_of (code_in input) → (parts : List (List ℕ))
     → Does command input parts answer)

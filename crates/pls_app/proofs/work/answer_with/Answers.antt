@@ -8,7 +8,7 @@ use Rattle.pls_inputs.specs.Parts.{rows_in}
 use Rattle.pls_inputs.specs.Read.{IsRead, said}
 use Rattle.pls_app.specs.declared.command.Command.TheVariants.{With}
 use Rattle.pls_app.specs.declared.command.Task.TheVariants.{Mark, Recheck}
-use Rattle.pls_app.specs.Answer.{Answers, IsInputTo, refusal}
+use Rattle.pls_app.specs.Answer.{Answers, IsInputTo, refusal_answer}
 use Rattle.pls_app.specs.Run.{Certifies}
 use Rattle.pls_app.specs.inner.Tasks.{DoesWork, RecheckedIn, RecheckedOnBytes, ShowsIn}
 use Rattle.pls_app.specs.Said.{Answer}
@@ -84,7 +84,7 @@ returns-in-Err-clause-answer g c =
 
 pub returns-in-Err-clause-certified : goal.returns-in-Err-clause-certified
 returns-in-Err-clause-certified g c =
-    IfOk-weaker c.refuse.result (λ answer. answer ≡ refusal c.in-Err.error)
+    IfOk-weaker c.refuse.result (λ answer. answer ≡ refusal_answer c.in-Err.error)
     (λ answer. (code : CodeName) → c.args.task ≡ Mark code → answer.status ≡ Done
     → Certifies code c.args.scheme c.args.bytes.items answer.text)
     (λ answer same code task done. absurd (refused_not_done c.in-Err.error
@@ -93,7 +93,7 @@ returns-in-Err-clause-certified g c =
 pub returns-in-Err-clause-rechecked : goal.returns-in-Err-clause-rechecked
 returns-in-Err-clause-rechecked g c =
     let asked = g.B.Bench.asked c.args.bench.now in
-    IfOk-weaker c.refuse.result (λ answer. answer ≡ refusal c.in-Err.error)
+    IfOk-weaker c.refuse.result (λ answer. answer ≡ refusal_answer c.in-Err.error)
     (λ answer. RecheckedOnBytes (With c.args.task c.args.scheme) c.args.bytes.items answer.status asked asked)
     (λ answer same. refused_asks (With c.args.task c.args.scheme) c.args.bytes.items c.in-Err.error
     answer asked asked same) c.refuse.ensures.says

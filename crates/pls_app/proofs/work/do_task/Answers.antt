@@ -9,7 +9,7 @@ use Rattle.pls_configuration.specs.declared.status.Status.TheVariants.{Done}
 use Rattle.pls_app.specs.declared.command.Command.TheVariants.{With}
 use Rattle.pls_app.specs.declared.command.Task.{Task}
 use Rattle.pls_app.specs.declared.command.Task.TheVariants.{Verify, Convert, Mark, Simulate, Recheck, Splice, Watch}
-use Rattle.pls_app.specs.Answer.{bound_answer, report}
+use Rattle.pls_app.specs.Answer.{bound_answer, report_answer}
 use Rattle.pls_app.specs.Command.{input_parts_of}
 use Rattle.pls_app.specs.Meant.{number_code_of, takes_of}
 use Rattle.pls_app.specs.Reports.{decided_by}
@@ -184,7 +184,7 @@ returns-in-Verify-clause-does g c =
     let labels = labels_are _ _ c.args.input c.requires.input.1 net c.unwrap-net.ensures store
     c.unwrap.ensures in
     IfOk-weaker c.verify-in-Verify.result
-    (λ answer. answer ≡ report json false net parts (decided_by judge net store))
+    (λ answer. answer ≡ report_answer json false net parts (decided_by judge net store))
     (λ answer. DoesWork (With c.args.task scheme) input answer)
     (λ answer same. subst (λ (task : Task). DoesWork (With task scheme) input answer)
     (sym c.in-Verify.is) (record {
