@@ -36,5 +36,5 @@ pub mod Worked
 pub mod Decided
 pub mod Verified
 pub mod Values
-pub mod PartRows
+pub mod ComponentRows
 pub mod Naming

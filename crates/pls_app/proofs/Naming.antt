@@ -1,7 +1,7 @@
 -- The line of `no`, with the identities that it names.
 use Rattle.std.proofs.Common.{◌≡◌, ◌∙◌, ℕ, List, [], ◌∷◌, ◌++◌, map, codes, decimal, append-nil, sym, ap, refl}
 use Rattle.pls_lines.specs.Text.{line_of}
-use Rattle.pls_report.specs.PartLines.{if_several}
+use Rattle.pls_report.specs.ComponentLines.{if_several}
 use Rattle.pls_report.specs.inner.Pieces.{spaced}
 use Rattle.pls_app.specs.Answer.{no_answer}
 

@@ -135,8 +135,8 @@ look_same judge watched rows labels events network start taken = λ i. look_of j
   network = network i;
   start = start i;
   most = watched.most;
-  relabels = watched.relabels;
-  bits = watched.bits;
+  most_relabels = watched.most_relabels;
+  most_bits = watched.most_bits;
   events = taken i;
 })
 

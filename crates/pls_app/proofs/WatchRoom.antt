@@ -3,11 +3,11 @@ use Rattle.std.proofs.Common.{◌≡◌, ◌∙◌, ℕ, ◌+◌, ◌<◌, nat_l
 use Rattle.std.proofs.lemmas.Bool.{lt-leb, le-ltb}
 use Rattle.std.proofs.lemmas.List.{length-map}
 use Rattle.pls_configuration.specs.Configuration.{first_of, row_of, refused_if}
-use Rattle.pls_schedule.specs.declared.event.Event.{Event as Played}
+use Rattle.pls_schedule.specs.declared.event.Event.{Event as RoundEvent}
 use Rattle.pls_schedule.specs.declared.event.Event.TheVariants as Plays
 use Rattle.pls_sim.specs.declared.event_error.EventError.{EventError}
 use Rattle.pls_sim.specs.declared.event_error.EventError.TheVariants.{Full, NoNode}
-use Rattle.pls_sim.specs.Applying.{Played as Round, event_refusal}
+use Rattle.pls_sim.specs.Applying.{Played, event_refusal}
 use Rattle.pls_watch_part.specs.declared.watch_event.WatchEvent.{WatchEvent}
 use Rattle.pls_watch_part.specs.declared.watch_event.WatchEvent.TheVariants.{Arrive, Emit, Relabel, Restart}
 use Rattle.pls_watch_part.specs.declared.watch_event.WatchLine.{WatchLine}
@@ -94,10 +94,10 @@ module _ (watched : Watched) (event : WatchEvent)
   enough node label is =
       let there : HasRoomForEvents watched (Relabel node label ∷ []) =
       subst (λ (event : WatchEvent). HasRoomForEvents watched (event ∷ [])) is room in
-      let more : nat_le watched.relabels (length (labels_given watched.events)) ≡ false =
-      lt-leb watched.relabels (length (labels_given watched.events)) (omega (arith, there.few_relabels)) in
-      let bits : nat_lt watched.bits (bits_given watched.events + length label) ≡ false =
-      le-ltb watched.bits (bits_given watched.events + length label) (omega (arith, there.few_bits)) in
+      let more : nat_le watched.most_relabels (length (labels_given watched.events)) ≡ false =
+      lt-leb watched.most_relabels (length (labels_given watched.events)) (omega (arith, there.few_relabels)) in
+      let bits : nat_lt watched.most_bits (bits_given watched.events + length label) ≡ false =
+      le-ltb watched.most_bits (bits_given watched.events + length label) (omega (arith, there.few_bits)) in
       rw (more, bits) refl
 
   -- so an event is refused as its turn is by the round
@@ -123,13 +123,13 @@ module _ (watched : Watched) (event : WatchEvent)
       ≡ is_some (watch_refusal watched event)
   refused_exactly = of_turn (turn_of event) ∙ ap is_some (sym refusal_is)
     where
-      played : Round
+      played : Played
       played = round_of (turned_of watched)
 
       few : length (plain_of turns) < watched.most
       few = omega (arith, room.few_events, many, plain_few turns)
 
-      of_event : (event : Played) (refusal : Option EventError)
+      of_event : (event : RoundEvent) (refusal : Option EventError)
           → event_refusal played event ≡ refusal
           → does_not_apply watched.network (plain_of turns) event ≡ is_some refusal
       of_event event None is = applies played event few is

@@ -11,9 +11,9 @@ use Rattle.pls_lines.specs.Text.{line_of, text_of}
 use Rattle.pls_configuration.specs.declared.limits.TheConstants.{MAX_BITS}
 use Rattle.pls_sim.specs.declared.outcome.Outcome.{Outcome}
 use Rattle.pls_sim.specs.Schedule.{played_by}
-use Rattle.pls_report.specs.declared.part_row.PartRow.{PartRow}
+use Rattle.pls_report.specs.declared.component_row.ComponentRow.{ComponentRow}
 use Rattle.pls_report.specs.Report.{all_accept, report_text}
-use Rattle.pls_report.specs.PartLines.{if_several}
+use Rattle.pls_report.specs.ComponentLines.{if_several}
 use Rattle.pls_components.specs.Components.{AreComponents}
 use Rattle.pls_expressions.specs.Expression.{Expression}
 use Rattle.pls_json.specs.Json.{json_text}
@@ -27,7 +27,7 @@ use Rattle.pls_app.specs.declared.command.Command.TheVariants.{ByRules, Print, T
 use Rattle.pls_app.specs.declared.command.Task.TheVariants.{Mark, Verify, Simulate, Recheck, Watch, Bound, Convert, Splice}
 use Rattle.pls_app.specs.Command.{IsCommand, IsUsage, input_parts_of, read_by}
 use Rattle.pls_app.specs.Meant.{AreMarks, Holds, NameLacking, bound_in, judge_in, room_in}
-use Rattle.pls_app.specs.PartRows.{part_rows}
+use Rattle.pls_app.specs.ComponentRows.{component_rows}
 use Rattle.pls_app.specs.Convert.{converted_labels, convert_refusal}
 use Rattle.pls_app.specs.Splice.{Splices, splice_refusal}
 use Rattle.pls_app.specs.ScheduleRefusal.{schedule_refusal}
@@ -66,7 +66,7 @@ refusal_answer error =
     record { status = refusal_status error; text = text_of (refusal_line error ∷ []) }
 
 -- the text of a report with what is told of the components, in JSON or in lines
-abbrev pub report_in : Bool → Bool → List PartRow → List (ℕ × Outcome) → List ℕ
+abbrev pub report_in : Bool → Bool → List ComponentRow → List (ℕ × Outcome) → List ℕ
 report_in json simulated parts outcomes =
     if json then json_text parts outcomes else report_text simulated parts outcomes
 
@@ -75,7 +75,7 @@ abbrev pub report_answer : Bool → Bool → List NodeRow → List (List ℕ) �
     → Answer
 report_answer json simulated rows parts outcomes = record {
   status = if all_accept outcomes then Done else No;
-  text = report_in json simulated (part_rows rows parts outcomes) outcomes;
+  text = report_in json simulated (component_rows rows parts outcomes) outcomes;
 }
 
 -- the answer with the number of bits that a label has at most

@@ -22,8 +22,8 @@ watched_after rows labels events = record {
   network = rows;
   start = labels;
   most = MAX_LINES;
-  relabels = MAX_LINES;
-  bits = MAX_BITS;
+  most_relabels = MAX_LINES;
+  most_bits = MAX_BITS;
   events = events;
 }
 

@@ -6,7 +6,7 @@ use Rattle.pls_streams.specs.declared.text_error.TextError.{TextError}
 use Rattle.pls_streams.specs.declared.text_error.TextError.TheVariants.{Sense}
 use Rattle.pls_configuration.specs.declared.row.NodeRow.{NodeRow}
 use Rattle.pls_configuration.specs.Configuration.{row_of}
-use Rattle.pls_schedule.specs.declared.event.Event.{Event as Played}
+use Rattle.pls_schedule.specs.declared.event.Event.{Event as RoundEvent}
 use Rattle.pls_watch_part.specs.declared.watch_event.WatchEvent.{WatchEvent}
 use Rattle.pls_watch_part.specs.declared.watch_event.WatchLine.{WatchLine}
 use Rattle.pls_watch_part.specs.declared.watch_event.WatchLine.TheVariants.{Event, Look}
@@ -26,7 +26,7 @@ abbrev pub events_of : List WatchLine → List WatchEvent
 events_of lines = flat_map event_of lines
 
 -- an event of the round does not apply behind these, or no node has the identity that gets a label
-abbrev pub turn_does_not_apply : List NodeRow → List Played → Turn → Bool
+abbrev pub turn_does_not_apply : List NodeRow → List RoundEvent → Turn → Bool
 turn_does_not_apply rows before (Plain event) = does_not_apply rows before event
 turn_does_not_apply rows before (Relabel node) = is_none (row_of rows node)
 

@@ -4,20 +4,20 @@ ghost use Rattle.std.specs.Prelude.{◌≡◌, ◌≢◌, ◌++◌, if◌then◌
 ghost use Rattle.pls_streams.specs.declared.text_error.TextError.TheVariants.{Sense};
 ghost use Rattle.pls_components.specs.Components.{AreComponents};
 ghost use Rattle.pls_report.specs.Report.{all_accept};
-ghost use Rattle.pls_report.specs.PartLines.{if_several};
+ghost use Rattle.pls_report.specs.ComponentLines.{if_several};
 ghost use Rattle.pls_report.specs.inner.Pieces.{spaced};
 ghost use Rattle.pls_app.specs.Answer.{no_answer, refusal_answer, refusal_status, report_answer, rounds_answer, usage_answer};
 ghost use Rattle.pls_app.specs.Reports.{rounds_end_well};
 ghost use Rattle.pls_app.specs.inner.Tasks.{IsWorked};
 
-use crate::part_rows::part_rows;
+use crate::component_rows::component_rows;
 use crate::round_report::RoundReport;
 use pls_bits::CodeName;
 use pls_components::Components;
 use pls_graph::Network;
 use pls_json::json_report;
 use pls_labels::LabelStore;
-use pls_report::{LookRows, PartRow, all_accept};
+use pls_report::{LookRows, ComponentRow, all_accept};
 use pls_sim::Outcome;
 use pls_streams::{NoMemory, Status, TextError};
 use std::alloc::Global;
@@ -55,7 +55,7 @@ pub(crate) enum Content {
     /// A report, which becomes text as it is written.
     Report {
         simulated: bool,
-        parts: Vec<PartRow>,
+        parts: Vec<ComponentRow>,
         rows: Vec<(u32, Outcome)>,
     },
     /// Reports of rounds, which become text as they are written.
@@ -130,7 +130,7 @@ pub(crate) fn report(
     ensures worked { IfOk result (λ answer. IsWorked answer.status) }
 {
     let status = round_status(&rows);
-    let parts = part_rows(alloc, net, parts, &rows)?;
+    let parts = component_rows(alloc, net, parts, &rows)?;
     let content = if json {
         Content::Written(json_report(alloc, &rows, &parts)?.into_bytes())
     } else {

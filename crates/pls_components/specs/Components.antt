@@ -1,6 +1,7 @@
 -- The components of a network: the nodes that walks join to one another (any textbook on graphs).
 use Rattle.std.specs.Prelude.{◌≡◌, ◌↔◌, ℕ, ◌<◌, Bool, List, AllPairs, Contains, Some, filter_map, length, slice_get}
 use Rattle.pls_configuration.specs.declared.row.NodeRow.{NodeRow}
+use Rattle.pls_configuration.specs.Rising.{IsRising}
 use Rattle.pls_configuration.specs.Walk.{AreJoined, edges_of}
 use Rattle.pls_graph.specs.Connected.{smallest_id}
 

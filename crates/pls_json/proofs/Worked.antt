@@ -3,13 +3,13 @@ use Rattle.std.proofs.Common.{◌≡◌, [], ◌∷◌, codes, refl}
 use Rattle.std.specs.Fmt.{digits}
 use Rattle.pls_configuration.specs.declared.verdict.Verdict.TheVariants.{Accept, Reject}
 use Rattle.pls_sim.specs.declared.outcome.Outcome.TheVariants.{Decided, Waiting}
-use Rattle.pls_report.specs.declared.part_row.PartRow.{PartRow}
+use Rattle.pls_report.specs.declared.component_row.ComponentRow.{ComponentRow}
 use Rattle.pls_json.specs.Json.{json_text}
 
-abbrev pair : PartRow
+abbrev pair : ComponentRow
 pair = record { id = 1; nodes = 2; rejecting = 0; waiting = 0 }
 
-abbrev alone : PartRow
+abbrev alone : ComponentRow
 alone = record { id = 3; nodes = 1; rejecting = 0; waiting = 0 }
 
 in_parts : json_text (pair ∷ alone ∷ [])

@@ -4,9 +4,9 @@ use Rattle.std.specs.Prelude.{ℕ, List, [], ◌∷◌, ◌++◌, codes, decimal
 use Rattle.pls_configuration.specs.declared.verdict.Verdict.TheVariants.{Accept, Reject}
 use Rattle.pls_sim.specs.declared.outcome.Outcome.{Outcome}
 use Rattle.pls_sim.specs.declared.outcome.Outcome.TheVariants.{Decided, Waiting}
-use Rattle.pls_report.specs.PartLines.{if_several}
+use Rattle.pls_report.specs.ComponentLines.{if_several}
 use Rattle.pls_report.specs.Report.{rejecting, waiting}
-use Rattle.pls_report.specs.declared.part_row.PartRow.{PartRow}
+use Rattle.pls_report.specs.declared.component_row.ComponentRow.{ComponentRow}
 
 -- texts, each behind a comma, which is 44
 abbrev pub behind_commas : List (List ℕ) → List ℕ
@@ -32,21 +32,21 @@ abbrev pub node_text : ℕ × Outcome → List ℕ
 node_text row = codes "{\"id\":" ++ (decimal row.0 ++ (44 ∷ outcome_text row.1))
 
 -- the object of a component
-abbrev pub part_text : PartRow → List ℕ
-part_text part =
+abbrev pub component_text : ComponentRow → List ℕ
+component_text part =
     codes "{\"id\":" ++ (decimal part.id ++ (codes ",\"nodes\":" ++ (decimal part.nodes
     ++ (codes ",\"rejecting\":" ++ (decimal part.rejecting ++ (codes ",\"waiting\":"
     ++ (decimal part.waiting ++ codes "}")))))))
 
 -- the components, where there are two or more
-abbrev pub parts_text : List PartRow → List ℕ
-parts_text parts = if_several parts
-    (codes "\"components\":[" ++ (with_commas (map part_text parts) ++ codes "],"))
+abbrev pub components_text : List ComponentRow → List ℕ
+components_text parts = if_several parts
+    (codes "\"components\":[" ++ (with_commas (map component_text parts) ++ codes "],"))
 
 -- the whole text, with its line feed: } is 125, and a line feed 10
-abbrev pub json_text : List PartRow → List (ℕ × Outcome) → List ℕ
+abbrev pub json_text : List ComponentRow → List (ℕ × Outcome) → List ℕ
 json_text parts rows =
-    codes "{" ++ (parts_text parts ++ (codes "\"nodes\":["
+    codes "{" ++ (components_text parts ++ (codes "\"nodes\":["
     ++ (with_commas (map node_text rows) ++ (codes "],\"rejecting\":"
     ++ (decimal (rejecting rows) ++ (codes ",\"waiting\":"
     ++ (decimal (waiting rows) ++ (125 ∷ 10 ∷ []))))))))

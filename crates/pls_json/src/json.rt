@@ -3,11 +3,11 @@
 ghost use Rattle.std.specs.Prelude.{◌≡◌, ◌++◌, ◌∷◌, [], codes, decimal, map, string_bytes, IfOk, OnOk};
 ghost use Rattle.serde_json.specs.Data.{array};
 ghost use Rattle.serde_json.specs.View.{items_of, view};
-ghost use Rattle.pls_json.specs.Json.{json_text, node_text, part_text, parts_text, with_commas};
+ghost use Rattle.pls_json.specs.Json.{json_text, node_text, component_text, components_text, with_commas};
 ghost use Rattle.pls_json.specs.inner.Values.{after_others, comma_before, node_data, number_data};
 
 use pls_configuration::Verdict;
-use pls_report::{PartRow, rejecting, waiting};
+use pls_report::{ComponentRow, rejecting, waiting};
 use pls_sim::Outcome;
 use pls_streams::NoMemory;
 use serde_json::{Value, json};
@@ -22,13 +22,13 @@ use std::fmt::Write;
 pub fn json_report(
     alloc: Global,
     rows: &[(u32, Outcome)],
-    parts: &[PartRow],
+    parts: &[ComponentRow],
 ) -> Result<String, NoMemory>
     ensures { IfOk result (λ text. string_bytes text ≡ json_text parts.now rows.now) }
 {
     let mut text = String::new(alloc);
     text.push_str("{")?;
-    push_parts(&mut text, parts)?;
+    push_components(&mut text, parts)?;
     text.push_str("\"nodes\":[")?;
     push_nodes(alloc, &mut text, rows)?;
     push_counts(&mut text, rejecting(rows), waiting(rows))?;
@@ -70,34 +70,34 @@ fn push_node(
 }
 
 // Adds nothing for fewer than two components.
-fn push_parts(text: &mut String, parts: &[PartRow]) -> Result<(), NoMemory>
-    ensures { OnOk result (string_bytes text.new ≡ string_bytes text.old ++ parts_text parts.now) }
+fn push_components(text: &mut String, parts: &[ComponentRow]) -> Result<(), NoMemory>
+    ensures { OnOk result (string_bytes text.new ≡ string_bytes text.old ++ components_text parts.now) }
 {
     if parts.len() < 2 {
         return Ok(());
     }
     text.push_str("\"components\":[")?;
-    push_each_part(text, parts)?;
+    push_each_component(text, parts)?;
     text.push_str("],")?;
     Ok(())
 }
 
-fn push_each_part(text: &mut String, parts: &[PartRow]) -> Result<(), NoMemory>
+fn push_each_component(text: &mut String, parts: &[ComponentRow]) -> Result<(), NoMemory>
     ensures { OnOk result (string_bytes text.new
-        ≡ string_bytes text.old ++ with_commas (map part_text parts.now)) }
+        ≡ string_bytes text.old ++ with_commas (map component_text parts.now)) }
 {
     for (i, part) in parts.iter().enumerate() {
-        push_part(text, i == 0, *part)?;
+        push_component(text, i == 0, *part)?;
     }
     Ok(())
 }
 
 // Makes no `Value`, since there may be as many components as nodes.
-fn push_part(text: &mut String, first: bool, part: PartRow) -> Result<(), NoMemory>
+fn push_component(text: &mut String, first: bool, part: ComponentRow) -> Result<(), NoMemory>
     ensures { OnOk result (string_bytes text.new
-        ≡ string_bytes text.old ++ after_others first (part_text part)) }
+        ≡ string_bytes text.old ++ after_others first (component_text part)) }
 {
-    let PartRow {
+    let ComponentRow {
         id,
         nodes,
         rejecting,

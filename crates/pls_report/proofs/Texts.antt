@@ -7,9 +7,9 @@ use Rattle.pls_configuration.specs.declared.verdict.Verdict.{Verdict}
 use Rattle.pls_lines.specs.Text.{line_of}
 use Rattle.pls_sim.specs.declared.outcome.Outcome.{Outcome}
 use Rattle.pls_sim.specs.declared.outcome.Outcome.TheVariants.{Decided, Waiting}
-use Rattle.pls_report.specs.PartLines.{if_several, part_line}
+use Rattle.pls_report.specs.ComponentLines.{if_several, component_line}
 use Rattle.pls_report.specs.Report.{closing_line, outcome_line, rejecting, rejecting_verdicts, round_line, waiting}
-use Rattle.pls_report.specs.declared.part_row.PartRow.{PartRow}
+use Rattle.pls_report.specs.declared.component_row.ComponentRow.{ComponentRow}
 use Rattle.pls_report.specs.inner.Pieces.{connected_tail, outcome_tail, spaced, waiting_tail}
 
 -- one more number
@@ -70,24 +70,24 @@ pub round_text : (number checked : ℕ) (connected : Bool) (rows : List (ℕ × 
 round_text number checked true rows = refl
 round_text number checked false rows = refl
 
-pub part_text : (simulated : Bool) (part : PartRow)
+pub component_text : (simulated : Bool) (part : ComponentRow)
     → ((codes "component " ++ decimal part.id) ++ ((codes " nodes " ++ decimal part.nodes)
     ++ ((codes " rejecting " ++ decimal part.rejecting) ++ waiting_tail simulated part.waiting)))
-    ++ codes "\n" ≡ part_line simulated part ++ 10 ∷ []
-part_text true part = refl
-part_text false part =
+    ++ codes "\n" ≡ component_line simulated part ++ 10 ∷ []
+component_text true part = refl
+component_text false part =
     ap (λ (tail : List ℕ). (codes "component " ++ (decimal part.id
     ++ (codes " nodes " ++ (decimal part.nodes ++ tail)))) ++ codes "\n")
     (append-nil (codes " rejecting " ++ decimal part.rejecting))
 
 -- of fewer than two components nothing is said, and of others all
-pub several_none : {X : Type 0} (parts : List PartRow) (said : List X) → length parts < 2
+pub several_none : {X : Type 0} (parts : List ComponentRow) (said : List X) → length parts < 2
     → if_several parts said ≡ []
 several_none [] said few = refl
 several_none (part ∷ []) said few = refl
 several_none (part ∷ next ∷ others) said few = absurd (omega (arith, few))
 
-pub several_all : {X : Type 0} (parts : List PartRow) (said : List X) → 2 ≤ length parts
+pub several_all : {X : Type 0} (parts : List ComponentRow) (said : List X) → 2 ≤ length parts
     → if_several parts said ≡ said
 several_all [] said many = absurd (omega (arith, many))
 several_all (part ∷ []) said many = absurd (omega (arith, many))

@@ -4,17 +4,17 @@ use Rattle.std.specs.Fmt.{digits}
 use Rattle.pls_configuration.specs.declared.verdict.Verdict.TheVariants.{Accept, Reject}
 use Rattle.pls_sim.specs.declared.outcome.Outcome.{Outcome}
 use Rattle.pls_sim.specs.declared.outcome.Outcome.TheVariants.{Decided, Waiting}
-use Rattle.pls_report.specs.declared.part_row.PartRow.{PartRow}
+use Rattle.pls_report.specs.declared.component_row.ComponentRow.{ComponentRow}
 use Rattle.pls_report.specs.Look.{look_is_well, look_text}
 use Rattle.pls_report.specs.Report.{report_text}
 
 abbrev nodes : List (ℕ × Outcome)
 nodes = (1, Decided Accept) ∷ (20, Decided (Reject 1 3)) ∷ (21, Waiting (0 ∷ 2 ∷ [])) ∷ []
 
-abbrev pair : PartRow
+abbrev pair : ComponentRow
 pair = record { id = 1; nodes = 2; rejecting = 1; waiting = 0 }
 
-abbrev alone : PartRow
+abbrev alone : ComponentRow
 alone = record { id = 21; nodes = 1; rejecting = 0; waiting = 1 }
 
 simulated : report_text true (record { id = 1; nodes = 3; rejecting = 1; waiting = 1 } ∷ []) nodes

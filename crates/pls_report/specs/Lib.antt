@@ -1,5 +1,5 @@
 pub mod Look
 pub mod LookRows
-pub mod PartLines
+pub mod ComponentLines
 pub mod Report
 pub mod inner

@@ -8,8 +8,8 @@ use Rattle.pls_configuration.specs.Verdict.{verdict_text}
 use Rattle.pls_lines.specs.Text.{line_of, text_of}
 use Rattle.pls_sim.specs.declared.outcome.Outcome.{Outcome}
 use Rattle.pls_sim.specs.declared.outcome.Outcome.TheVariants.{Decided, Waiting}
-use Rattle.pls_report.specs.PartLines.{if_several, part_line, waiting_words}
-use Rattle.pls_report.specs.declared.part_row.PartRow.{PartRow}
+use Rattle.pls_report.specs.ComponentLines.{if_several, component_line, waiting_words}
+use Rattle.pls_report.specs.declared.component_row.ComponentRow.{ComponentRow}
 
 -- the node accepts: it has decided, and not rejected
 abbrev pub is_accepting : Outcome → Bool
@@ -94,7 +94,7 @@ round_text number checked connected rows =
 
 -- the text of a report: a line for each node, a line for each component where there are several,
 -- and then how many nodes reject
-abbrev pub report_text : Bool → List PartRow → List (ℕ × Outcome) → List ℕ
+abbrev pub report_text : Bool → List ComponentRow → List (ℕ × Outcome) → List ℕ
 report_text simulated parts rows =
-    text_of (map outcome_line rows ++ (if_several parts (map (part_line simulated) parts)
+    text_of (map outcome_line rows ++ (if_several parts (map (component_line simulated) parts)
     ++ closing_line simulated rows ∷ []))

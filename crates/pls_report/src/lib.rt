@@ -1,7 +1,7 @@
 //! Reports: a line for each node with its outcome, and then how many nodes reject.
 //!
 //! [`write_report`] writes the text of a report (`specs/Report`) into a sink, in pieces of a
-//! few KiB and without memory, with a line for each component ([`PartRow`], `specs/PartLines`)
+//! few KiB and without memory, with a line for each component ([`ComponentRow`], `specs/ComponentLines`)
 //! where there are several. [`rejecting`] and [`waiting`] count the nodes that it closes with, and
 //! [`all_accept`] tells whether there is none. [`write_round`] writes the report of a round in
 //! which touched nodes were judged again. [`write_look`] writes what is seen at a look at a round
@@ -10,6 +10,8 @@
 //! [`look_is_well`] tells whether all accept there on the newest labels.
 #![tactic(auto)]
 
+mod component_lines;
+mod component_row;
 mod counting;
 mod decided;
 mod kept_looks;
@@ -19,18 +21,16 @@ mod look_counting;
 mod look_row;
 mod look_rows;
 mod node_line;
-mod part_lines;
-mod part_row;
 mod patches;
 mod pieces;
 mod report;
 mod round;
 
+pub use component_row::ComponentRow;
 pub use counting::{all_accept, all_verdicts_accept, rejecting, waiting};
 pub use look::{write_kept, write_look};
 pub use look_counting::look_is_well;
 pub use look_row::LookRow;
 pub use look_rows::LookRows;
-pub use part_row::PartRow;
 pub use report::write_report;
 pub use round::write_round;

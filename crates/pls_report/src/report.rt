@@ -6,13 +6,13 @@ ghost use Rattle.pls_streams.specs.Gathered.{Writes};
 ghost use Rattle.pls_streams.specs.Streams.{AppendsPart, Rose, StaysSure};
 ghost use Rattle.pls_lines.specs.Text.{text_of};
 ghost use Rattle.pls_sim.specs.declared.outcome.Outcome.TheVariants.{Waiting};
-ghost use Rattle.pls_report.specs.PartLines.{if_several, part_line};
+ghost use Rattle.pls_report.specs.ComponentLines.{if_several, component_line};
 ghost use Rattle.pls_report.specs.Report.{closing_line, outcome_line, report_text};
 
 use crate::counting;
 use crate::decided::put_decided;
-use crate::part_lines::write_parts;
-use crate::part_row::PartRow;
+use crate::component_lines::write_components;
+use crate::component_row::ComponentRow;
 use crate::pieces::{put_listed, put_waiting};
 use pls_sim::Outcome;
 use pls_streams::{Fault, Gathered, Sink};
@@ -27,7 +27,7 @@ use pls_streams::{Fault, Gathered, Sink};
 pub fn write_report<K: Sink>(
     rows: &[(u32, Outcome)],
     simulated: bool,
-    parts: &[PartRow],
+    parts: &[ComponentRow],
     sink: &mut K,
 ) -> Result<(), Fault>
     ensures all { OnOk result (Appends (K.taken sink.old) (K.taken sink.new)
@@ -50,7 +50,7 @@ pub fn write_report<K: Sink>(
 fn write_lines<K: Sink>(
     rows: &[(u32, Outcome)],
     simulated: bool,
-    parts: &[PartRow],
+    parts: &[ComponentRow],
     sink: &mut K,
     gathered: &mut Gathered,
 ) -> Result<(), Fault>
@@ -68,16 +68,16 @@ fn write_lines<K: Sink>(
 fn write_last<K: Sink>(
     rows: &[(u32, Outcome)],
     simulated: bool,
-    parts: &[PartRow],
+    parts: &[ComponentRow],
     sink: &mut K,
     gathered: &mut Gathered,
 ) -> Result<(), Fault>
     ensures { Writes gathered.old gathered.new (K.taken sink.old) (K.taken sink.new)
         (K.faults sink.old) (K.faults sink.new) (K.IsSureOf sink.old) (K.IsSureOf sink.new)
-        result (text_of (if_several parts.now (map (part_line simulated) parts.now)
+        result (text_of (if_several parts.now (map (component_line simulated) parts.now)
         ++ closing_line simulated rows.now ∷ [])) }
 {
-    write_parts(parts, simulated, sink, gathered)?;
+    write_components(parts, simulated, sink, gathered)?;
     write_closing(rows, simulated, sink, gathered)
 }
 

@@ -48,22 +48,22 @@ module _ (rows seen : List NodeRow) (numbers : Numbers) (ways : ArePortNumbers r
         )
 
     module _ (p : ℕ) (within : first + p < next) where
-      pub port_within : p < length emitter.row.ports
-      port_within = omega (arith, within, next_is_behind)
+      inside : p < length emitter.row.ports
+      inside = omega (arith, within, next_is_behind)
 
       pub among : first + p < length numbers.back
       among =
           omega (
             arith,
             number_within rows numbers ways place first emitter.row emitter.stands first_is p
-                port_within,
+                inside,
             ways.long,
           )
 
       pub emits : (target : Target) → slice_get numbers.back (first + p) ≡ Some target.port
           → slice_get numbers.ends (first + p) ≡ Some target.place → Emits rows node p target
       emits target back end =
-          let port = item_at emitter.row.ports p port_within in
+          let port = item_at emitter.row.ports p inside in
           let slot : IsSlot rows (first + p) node port.0.nbr =
           subst (λ (node : ℕ). IsSlot rows (first + p) node port.0.nbr) emitter.is
           (slot_at rows numbers ways place first emitter.row emitter.stands first_is p port.0

@@ -172,9 +172,9 @@ module _ (turned : Turned) (stored : Stored) (relabels bits : ℕ) where
       pub valid_seen : IsNetwork seen.network
       valid_seen = subst (λ (seen : Watched). IsNetwork seen.network) is stocked.valid
 
-      pub few_seen : length (relabelled (turns_of seen.events)) ≤ seen.relabels
+      pub few_seen : length (relabelled (turns_of seen.events)) ≤ seen.most_relabels
       few_seen =
-          subst (λ (seen : Watched). length (relabelled (turns_of seen.events)) ≤ seen.relabels) is
+          subst (λ (seen : Watched). length (relabelled (turns_of seen.events)) ≤ seen.most_relabels) is
           (omega (
             arith,
             ap (λ (turns : List Turn). length (relabelled turns)) turns_are,
@@ -279,8 +279,8 @@ module _ (turned : Turned) (stored : Stored) (relabels bits : ℕ) where
             network = turned.network;
             start = start i;
             most = turned.most;
-            relabels = relabels;
-            bits = bits;
+            most_relabels = relabels;
+            most_bits = bits;
             events = taken i;
           }
 

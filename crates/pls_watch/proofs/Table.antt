@@ -22,12 +22,12 @@ use Rattle.pls_watch.proofs.Numbers.{label_within}
 -- a table with one more number of a label
 pub table_set : (watched : Watched) (numbers : List ℕ) (place number node version : ℕ)
     → IsTable watched numbers
-    → length (relabelled (turns_of watched.events)) ≤ watched.relabels
+    → length (relabelled (turns_of watched.events)) ≤ watched.most_relabels
     → IsLabel watched.network (turns_of watched.events) node version number
     → IsTable watched (set numbers place number)
 table_set watched numbers place number node version table few label = record {
   long = length-set numbers place number ∙ table.long;
-  within = All-set (λ number. number < length watched.network + watched.relabels) numbers place
+  within = All-set (λ number. number < length watched.network + watched.most_relabels) numbers place
       number
       (omega (
         arith,

@@ -26,8 +26,8 @@ after events = record {
   network = node 1 2 ∷ node 2 1 ∷ [];
   start = (false ∷ []) ∷ (true ∷ []) ∷ [];
   most = 8;
-  relabels = 2;
-  bits = 2;
+  most_relabels = 2;
+  most_bits = 2;
   events = events;
 }
 

@@ -19,8 +19,8 @@ pub record Watched : Type 0 where
   pub network : List NodeRow
   pub start : List (List Bool)
   pub most : ℕ
-  pub relabels : ℕ
-  pub bits : ℕ
+  pub most_relabels : ℕ
+  pub most_bits : ℕ
   pub events : List WatchEvent
 
 -- what is watched, after one more event
@@ -41,8 +41,8 @@ lacks_room watched (Emit node port) = false
 lacks_room watched (Arrive number) = false
 lacks_room watched (Restart node) = false
 lacks_room watched (Relabel node label) =
-    nat_le watched.relabels (length (labels_given watched.events))
-    || nat_lt watched.bits (bits_given watched.events + length label)
+    nat_le watched.most_relabels (length (labels_given watched.events))
+    || nat_lt watched.most_bits (bits_given watched.events + length label)
 
 -- why the event does not apply, if it does not
 abbrev pub watch_refusal : Watched → WatchEvent → Option EventError

@@ -73,8 +73,8 @@ impl<'n> Watch<'n> {
         ensures network { IfOk result (λ watch. watch.network ≡ net.now) }
         ensures labels { IfOk result (λ watch. watch.start ≡ labels.now) }
         ensures most { IfOk result (λ watch. watch.most ≡ events) }
-        ensures relabels { IfOk result (λ watch. watch.relabels ≡ relabels) }
-        ensures bits { IfOk result (λ watch. watch.bits ≡ bits) }
+        ensures relabels { IfOk result (λ watch. watch.most_relabels ≡ relabels) }
+        ensures bits { IfOk result (λ watch. watch.most_bits ≡ bits) }
         ensures none { IfOk result (λ watch. watch.events ≡ []) }
     {
         let versions = Versions::start(alloc, net, events)?;

@@ -5,7 +5,7 @@ use Rattle.pls_lines.specs.LineKind.{Says}
 use Rattle.pls_lines.specs.Lines.{Stands}
 use Rattle.pls_labelfile.specs.LabelsText.{FitsLabel, NamedLabel, label_line}
 use Rattle.pls_labelfile.specs.laws.LabelLaws.{label_lines}
-use Rattle.pls_schedule.specs.declared.event.Event.{Event as Played}
+use Rattle.pls_schedule.specs.declared.event.Event.{Event as RoundEvent}
 use Rattle.pls_schedule.specs.declared.event.Event.TheVariants as Plays
 use Rattle.pls_schedule.specs.ScheduleText.{FitsEvent, event_line}
 use Rattle.pls_schedule.specs.laws.EventLaws.{event_lines}
@@ -46,7 +46,7 @@ module _ (text : List ℕ) (no_event : Stands (Says FitsEvent event_line) text �
     (no_look : (rest : List ℕ) → text ≢ codes "look" ++ 10 ∷ rest)
     (no_label : (label : NamedLabel) (rest : List ℕ) → FitsLabel label
     → text ≢ 114 ∷ 101 ∷ label_line label ++ 10 ∷ rest) where
-  played : (event : Played) → FitsEvent event → (rest : List ℕ)
+  played : (event : RoundEvent) → FitsEvent event → (rest : List ℕ)
       → text ≡ event_line event ++ 10 ∷ rest → ⊥
   played event fits rest cut = no_event (record {
     line = event_line event;

@@ -10,7 +10,7 @@ use Rattle.pls_lines.specs.Worded.{worded}
 use Rattle.pls_lines.specs.declared.counted.BareHeading.{BareHeading}
 use Rattle.pls_closing.specs.Closing.{AreClosed, IsLinesRefusal, closing_of}
 use Rattle.pls_labelfile.specs.LabelsText.{FitsLabel, hex_word}
-use Rattle.pls_schedule.specs.declared.event.Event.{Event as Played}
+use Rattle.pls_schedule.specs.declared.event.Event.{Event as RoundEvent}
 use Rattle.pls_schedule.specs.declared.event.Event.TheVariants as Plays
 use Rattle.pls_watch_part.specs.declared.watch_event.WatchEvent.{WatchEvent}
 use Rattle.pls_watch_part.specs.declared.watch_event.WatchEvent.TheVariants.{Emit, Arrive, Restart, Relabel}
@@ -19,7 +19,7 @@ use Rattle.pls_watch_part.specs.declared.watch_event.WatchLine.TheVariants.{Even
 use Rattle.pls_watch_part.specs.declared.watch_words.WatchWord.{WatchWord}
 
 -- an event of a round of messages
-abbrev pub watch_event : Played → WatchEvent
+abbrev pub watch_event : RoundEvent → WatchEvent
 watch_event (Plays.Emit node port) = Emit node port
 watch_event (Plays.Arrive number) = Arrive number
 watch_event (Plays.Restart node) = Restart node

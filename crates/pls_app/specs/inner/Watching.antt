@@ -26,8 +26,8 @@ pub record IsWatchInput (rows : List NodeRow) (labels : List (List Bool)) (lines
 pub record HasRoomForEvents (watched : Watched) (events : List WatchEvent) : Type 0 where
   pub few_events : length watched.events + length events ≤ watched.most
   pub few_relabels : length (labels_given watched.events) + length (labels_given events)
-      ≤ watched.relabels
-  pub few_bits : bits_given watched.events + bits_given events ≤ watched.bits
+      ≤ watched.most_relabels
+  pub few_bits : bits_given watched.events + bits_given events ≤ watched.most_bits
 
 -- what is watched behind a line
 abbrev pub watched_behind : WatchLine → Watched → Watched

@@ -19,7 +19,7 @@ known_labels labels numbers = map (λ number. slice_index_or labels number []) n
 -- a number for each node, of a label that there is
 pub record IsTable (watched : Watched) (numbers : List ℕ) : Type 0 where
   pub long : length numbers ≡ length watched.network
-  pub within : All (λ number. number < length watched.network + watched.relabels) numbers
+  pub within : All (λ number. number < length watched.network + watched.most_relabels) numbers
 
 -- the numbers beside the node at a place, so far, are those of what it holds
 abbrev pub AreKnown : List NodeRow → List Turn → ℕ → NodeRow → ℕ → List ℕ → Type 0

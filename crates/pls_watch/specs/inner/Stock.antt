@@ -35,8 +35,8 @@ watched_by turned stored relabels bits = record {
   network = turned.network;
   start = take (length turned.network) stored.labels;
   most = turned.most;
-  relabels = relabels;
-  bits = bits;
+  most_relabels = relabels;
+  most_bits = bits;
   events = events_of turned stored.labels;
 }
 

@@ -2,7 +2,7 @@
 
 /// What a report says of one component of a network.
 #[derive(Clone, Copy, Debug, PartialEq, Eq)]
-pub struct PartRow {
+pub struct ComponentRow {
     /// The smallest identity in it.
     pub id: u32,
     /// How many nodes it has.

@@ -2,14 +2,14 @@
 use Rattle.std.specs.Prelude.{ℕ, List, length, map}
 use Rattle.pls_configuration.specs.declared.row.NodeRow.{NodeRow}
 use Rattle.pls_sim.specs.declared.outcome.Outcome.{Outcome}
-use Rattle.pls_report.specs.declared.part_row.PartRow.{PartRow}
+use Rattle.pls_report.specs.declared.component_row.ComponentRow.{ComponentRow}
 use Rattle.pls_report.specs.Report.{rejecting, waiting}
 use Rattle.pls_components.specs.Components.{items_at, least_id}
 
 -- of the component at these places: its smallest identity, and how many nodes it has, how many of
 -- them reject, and how many wait
-abbrev pub part_row : List NodeRow → List (ℕ × Outcome) → List ℕ → PartRow
-part_row rows outcomes places = record {
+abbrev pub component_row : List NodeRow → List (ℕ × Outcome) → List ℕ → ComponentRow
+component_row rows outcomes places = record {
   id = least_id rows places;
   nodes = length places;
   rejecting = rejecting (items_at outcomes places);
@@ -17,5 +17,5 @@ part_row rows outcomes places = record {
 }
 
 -- what is told of each component, in their order
-abbrev pub part_rows : List NodeRow → List (List ℕ) → List (ℕ × Outcome) → List PartRow
-part_rows rows parts outcomes = map (part_row rows outcomes) parts
+abbrev pub component_rows : List NodeRow → List (List ℕ) → List (ℕ × Outcome) → List ComponentRow
+component_rows rows parts outcomes = map (component_row rows outcomes) parts

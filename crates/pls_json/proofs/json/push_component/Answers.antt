@@ -1,5 +1,5 @@
 use Rattle.std.proofs.Common.{append_assoc, refl}
-use Rattle.pls_json.proofs.json.push_part.Goals as goal
+use Rattle.pls_json.proofs.json.push_component.Goals as goal
 
 pub returns : goal.returns
 returns c =

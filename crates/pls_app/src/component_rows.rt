@@ -3,45 +3,45 @@
 ghost use Rattle.std.specs.Prelude.{◌≡◌, ◌<◌, ◌≤◌, ◌^◌, ℕ, List, All, Some, cond, length, slice_get, IfOk};
 ghost use Rattle.pls_components.specs.Components.{AreComponents, items_at};
 ghost use Rattle.pls_report.specs.Report.{is_rejecting, is_waiting, rejecting, waiting};
-ghost use Rattle.pls_app.specs.PartRows.{part_row, part_rows};
+ghost use Rattle.pls_app.specs.ComponentRows.{component_row, component_rows};
 
 use pls_components::Components;
 use pls_configuration::Verdict;
 use pls_graph::Network;
-use pls_report::PartRow;
+use pls_report::ComponentRow;
 use pls_sim::Outcome;
 use pls_streams::NoMemory;
 use std::alloc::Global;
 
-pub(crate) fn part_rows(
+pub(crate) fn component_rows(
     alloc: Global,
     net: &Network,
     parts: &Components,
     outcomes: &[(u32, Outcome)],
-) -> Result<Vec<PartRow>, NoMemory>
+) -> Result<Vec<ComponentRow>, NoMemory>
     requires made { AreComponents net.now parts.now }
     requires each { length outcomes.now ≡ length net.now }
-    ensures { IfOk result (λ rows. rows.items ≡ part_rows net.now parts.now outcomes.now) }
+    ensures { IfOk result (λ rows. rows.items ≡ component_rows net.now parts.now outcomes.now) }
 {
     let mut rows = Vec::with_capacity(alloc, parts.len())?;
     for k in 0..parts.len() {
-        rows.push(part_row(net, parts, k, outcomes))?;
+        rows.push(component_row(net, parts, k, outcomes))?;
     }
     Ok(rows)
 }
 
-fn part_row(net: &Network, parts: &Components, k: usize, outcomes: &[(u32, Outcome)]) -> PartRow
+fn component_row(net: &Network, parts: &Components, k: usize, outcomes: &[(u32, Outcome)]) -> ComponentRow
     requires made { AreComponents net.now parts.now }
     requires within { k < length parts.now }
     requires each { length outcomes.now ≡ length net.now }
     ensures { (places : List ℕ) → slice_get parts.now k ≡ Some places
-        → result ≡ part_row net.now outcomes.now places }
+        → result ≡ component_row net.now outcomes.now places }
 {
     // A network is valid.
     net.len();
     let places = parts.members(k);
     let (rejecting, waiting) = failing_at(places, outcomes);
-    PartRow {
+    ComponentRow {
         id: parts.smallest_id(net, k),
         nodes: places.len() as u32,
         rejecting: rejecting as u32,

@@ -3,8 +3,8 @@ use Rattle.std.proofs.lemmas.List.{take_all}
 use Rattle.pls_sim.specs.declared.outcome.Outcome.{Outcome}
 use Rattle.pls_report.specs.Report.{is_rejecting, is_waiting}
 use Rattle.pls_components.specs.Components.{items_at}
-use Rattle.pls_app.proofs.PartRows.{count_few, count_front, count_more, outcome_at}
-use Rattle.pls_app.proofs.part_rows.failing_at.Goals as goal
+use Rattle.pls_app.proofs.ComponentRows.{count_few, count_front, count_more, outcome_at}
+use Rattle.pls_app.proofs.component_rows.failing_at.Goals as goal
 
 abbrev rejects : ℕ × Outcome → Bool
 rejects row = is_rejecting row.1

@@ -1,7 +1,7 @@
 use Rattle.std.proofs.Common.{◌≡◌, take}
 use Rattle.pls_report.specs.Report.{rejecting, waiting}
 use Rattle.pls_components.specs.Components.{items_at}
-use Rattle.pls_app.proofs.part_rows.failing_at.Given as goal
+use Rattle.pls_app.proofs.component_rows.failing_at.Given as goal
 
 abbrev pub invariant-loop-place : goal.invariant-loop-place
 invariant-loop-place l =

@@ -2,8 +2,8 @@ use Rattle.std.proofs.Common.{arith}
 use Rattle.pls_graph.proofs.Members.{Contains-from_place}
 use Rattle.pls_components.specs.Components.{IsComponent}
 use Rattle.pls_components.proofs.Part.{places_within}
-use Rattle.pls_app.proofs.PartRows.{few_places}
-use Rattle.pls_app.proofs.part_rows.part_row.Goals as goal
+use Rattle.pls_app.proofs.ComponentRows.{few_places}
+use Rattle.pls_app.proofs.component_rows.component_row.Goals as goal
 
 pub failing_at-rejecting-requires-clause-few : goal.failing_at-rejecting-requires-clause-few
 failing_at-rejecting-requires-clause-few c =
