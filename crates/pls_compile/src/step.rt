@@ -2,7 +2,7 @@
 
 ghost use Rattle.std.specs.Prelude.{◌≡◌, ◌<◌, ◌^◌};
 ghost use Rattle.std.specs.Option.{is_some};
-ghost use Rattle.pls_scheme.specs.Reading.{is_pointer, target};
+ghost use Rattle.pls_scheme.specs.Reading.{target};
 ghost use Rattle.pls_compile.specs.RuleMachine.{IsAble, act, came_to, put_above, step};
 ghost use Rattle.pls_compile.specs.RuleMeaning.{weight_at};
 ghost use Rattle.pls_compile.specs.declared.instr.Instr.TheVariants.{Nb, NbUp, NbWeight};
@@ -12,6 +12,7 @@ use crate::machine::Machine;
 use crate::operators::one_if;
 use crate::sees::Sees;
 use pls_configuration::Verdict;
+use pls_scheme::is_pointer;
 
 // `None` where the machine goes on; it must not be stuck before the step.
 #[inline(always)]
@@ -100,7 +101,7 @@ fn put_is_above<S: Sees>(machine: &mut Machine, node: &S) -> Option<Verdict>
     ensures { act (S.sight node.now) NbUp machine.old ≡ came_to result machine.new }
 {
     let port = machine.port();
-    machine.put(one_if(is_pointer(node.state().up, port)))
+    machine.put(one_if(is_pointer(node.state().up, port as usize)))
 }
 
 // 0 where the node points at no port.
@@ -111,15 +112,5 @@ fn weight_above<S: Sees>(node: &S) -> u32
     match node.state().up {
         Some(port) => node.weight(port),
         None => 0,
-    }
-}
-
-#[inline(always)]
-fn is_pointer(up: Option<u32>, port: u32) -> bool
-    ensures { result ≡ is_pointer up port }
-{
-    match up {
-        Some(place) => place == port,
-        None => false,
     }
 }

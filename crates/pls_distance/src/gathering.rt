@@ -2,7 +2,7 @@
 
 ghost use Rattle.std.specs.Prelude.{◌≡◌, ℕ, ◌++◌, ◌∷◌, [], List, length, ◌==◌, ◌&&◌, ◌+◌, if◌then◌else◌};
 ghost use Rattle.pls_configuration.specs.declared.row.State.{State};
-ghost use Rattle.pls_scheme.specs.Reading.{ReadPort, is_pointer, port_with, reading};
+ghost use Rattle.pls_scheme.specs.Reading.{ReadPort, port_with, reading};
 ghost use Rattle.pls_distance.specs.declared.spt.SptLabel.{SptLabel};
 ghost use Rattle.pls_distance.specs.Spt.{spt_rules};
 ghost use Rattle.pls_distance.specs.inner.Gathering.{spt_tally};
@@ -10,7 +10,7 @@ ghost use Rattle.pls_distance.specs.inner.Gathering.{spt_tally};
 use crate::farther::{is_farther_by, is_reached_by};
 use crate::spt::SptLabel;
 use pls_configuration::State;
-use pls_scheme::is_one_more;
+use pls_scheme::{is_one_more, is_pointer};
 
 /// What the own label says, and which rules on the ports hold at those so far.
 #[derive(Clone, Copy, Debug, PartialEq, Eq)]
@@ -77,15 +77,6 @@ impl PortTally {
             self.follows,
             self.nearest,
         ]
-    }
-}
-
-fn is_pointer(up: Option<u32>, place: usize) -> bool
-    ensures { result ≡ is_pointer up place }
-{
-    match up {
-        Some(port) => port as usize == place,
-        None => false,
     }
 }
 

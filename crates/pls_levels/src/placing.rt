@@ -10,7 +10,7 @@ ghost use Rattle.pls_levels.specs.Rules.{is_placed_in_tree};
 use crate::label::LevelHead;
 use crate::level_kind::LevelKind;
 use pls_configuration::State;
-use pls_scheme::is_one_more;
+use pls_scheme::{is_one_more, is_pointer};
 
 /// Whether the label of a node with this identity and state, of which `own` stands in front of the
 /// levels, places it in the tree, where `above` stands there in the label of the node that it
@@ -67,15 +67,4 @@ pub fn is_in_tree(up: Option<u32>, number: usize, own: u64, parent: u64) -> bool
     ensures { result ≡ (is_pointer up number || parent == own) }
 {
     is_pointer(up, number) || parent == own
-}
-
-/// Whether a pointer is the port of this number.
-#[inline(always)]
-pub fn is_pointer(up: Option<u32>, number: usize) -> bool
-    ensures { result ≡ is_pointer up number }
-{
-    match up {
-        Some(port) => port as usize == number,
-        None => false,
-    }
 }

@@ -13,8 +13,8 @@ use crate::comparing::{Between, LevelComparison, compare_levels};
 use crate::glance::{MstGlance, names_all};
 use pls_bits::NumCode;
 use pls_configuration::State;
-use pls_levels::{LevelHead, follows_above, is_pointer, is_root};
-use pls_scheme::LabelGlance;
+use pls_levels::{LevelHead, follows_above, is_root};
+use pls_scheme::{LabelGlance, is_pointer};
 
 /// Which rules on the ports hold at those so far.
 #[derive(Clone, Copy, Debug, PartialEq, Eq)]

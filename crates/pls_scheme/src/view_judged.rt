@@ -2,9 +2,9 @@
 
 ghost use Rattle.std.specs.Prelude.{◌≡◌};
 ghost use Rattle.pls_scheme.specs.Basic.{verdict_by};
-ghost use Rattle.pls_scheme.specs.Reading.{is_pointer};
 
 use crate::in_place::{JudgesInPlace, LabelGlance};
+use crate::pointer::is_pointer;
 use pls_configuration::Verdict;
 use pls_labels::View;
 
@@ -36,13 +36,4 @@ pub(crate) fn judge_view<R: JudgesInPlace>(rules: &R, view: &View<'_>) -> Verdic
         }
     }
     rules.close(view.id, view.state, &own, above.as_ref(), tally)
-}
-
-fn is_pointer(up: Option<u32>, place: usize) -> bool
-    ensures { result ≡ is_pointer up place }
-{
-    match up {
-        Some(port) => port as usize == place,
-        None => false,
-    }
 }
