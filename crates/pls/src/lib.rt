@@ -48,7 +48,7 @@ pub use rule_texts::{map_rules, rejections_have_texts, rule_text, rules_of};
 pub use verdicts::{verdict_at, verdicts_by};
 
 // Schemes, their labels and their names.
-pub use pls_colour::{ColourLabel, CycleLabel};
+pub use pls_colour::{AcyclicLabel, ColourLabel};
 pub use pls_combine::AnyScheme;
 pub use pls_diameter_bridges::{Bridgeless, Diameter};
 pub use pls_distance::SptLabel;
@@ -58,7 +58,7 @@ pub use pls_mst::MstLabel;
 pub use pls_names::{SchemeByName, SchemeName, name_of};
 pub use pls_pairs::{Both, EitherLabel, OneOf, PairLabel};
 pub use pls_pathmax::PathMaxLabel;
-pub use pls_pointer::{DepthLabel, TreeLabel};
+pub use pls_pointer::{ForestLabel, TreeLabel};
 pub use pls_scheme_text::{SchemeError, print_expression, read_expression};
 pub use pls_universal::{MapLabel, PropertyTest};
 pub use schemes::{Acyclic, Bipartite, Count, Forest, Leader, MapOf, Mst, PathMax, Spt, Tree};

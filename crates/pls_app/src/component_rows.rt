@@ -30,7 +30,12 @@ pub(crate) fn component_rows(
     Ok(rows)
 }
 
-fn component_row(net: &Network, parts: &Components, k: usize, outcomes: &[(u32, Outcome)]) -> ComponentRow
+fn component_row(
+    net: &Network,
+    parts: &Components,
+    k: usize,
+    outcomes: &[(u32, Outcome)],
+) -> ComponentRow
     requires made { AreComponents net.now parts.now }
     requires within { k < length parts.now }
     requires each { length outcomes.now ≡ length net.now }

@@ -16,7 +16,7 @@ use pls_labels::LabelStore;
 use pls_netfile::write_network;
 use pls_scheme::Checker;
 use pls_sim::Outcome;
-use pls_splice::{Pair, Ring, RingError, cross, find};
+use pls_splice::{Pair, Ring, RingError, cross, find_pair};
 use pls_streams::refusal_number::{NO_RING, REJECTS};
 use pls_streams::{NoMemory, Status};
 use std::alloc::Global;
@@ -62,7 +62,7 @@ fn splice_ring<V: Checker>(
     if let Some(id) = first_rejecting(&rows) {
         return refuse_node(alloc, REJECTS, id);
     }
-    match find(alloc, ring, &net, &labels)? {
+    match find_pair(alloc, ring, &net, &labels)? {
         Some(pair) => crossed_answer(alloc, ring, pair, code, net, labels),
         None => Ok(uncrossed_answer()),
     }

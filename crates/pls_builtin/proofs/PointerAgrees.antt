@@ -5,9 +5,9 @@ use Rattle.std.specs.Option.{is_some}
 use Rattle.pls_labels.specs.Seen.{Seen}
 use Rattle.pls_numbers.specs.laws.FixedLaws.{are_numbers}
 use Rattle.pls_scheme.specs.Reading.{ReadPort, has_number}
-use Rattle.pls_pointer.specs.Forest.{depth_label, forest_rules, forest_shape, numbers_of_depth}
+use Rattle.pls_pointer.specs.Forest.{forest_label, forest_rules, forest_shape, numbers_of_forest}
 use Rattle.pls_pointer.specs.Tree.{numbers_of_tree, tree_label, tree_rules, tree_shape}
-use Rattle.pls_pointer.specs.declared.forest.DepthLabel.{DepthLabel}
+use Rattle.pls_pointer.specs.declared.forest.ForestLabel.{ForestLabel}
 use Rattle.pls_pointer.specs.declared.tree.TreeLabel.{TreeLabel}
 use Rattle.pls_compile.specs.RuleMeaning.{field_at, rules_hold}
 use Rattle.pls_builtin.specs.Builtin.{forest_set, tree_set}
@@ -36,11 +36,11 @@ tree_agrees view within =
 pub forest_agrees : (view : Seen) → PointsWithin view.state.up (length view.ports)
     → JudgesAs forest_set forest_shape forest_rules view
 forest_agrees view within =
-    fixed_agrees 1 numbers_of_depth depth_label
-    (are_numbers 1 numbers_of_depth depth_label refl (λ _. refl) (λ _. refl) (λ _. refl))
+    fixed_agrees 1 numbers_of_forest forest_label
+    (are_numbers 1 numbers_of_forest forest_label refl (λ _. refl) (λ _. refl) (λ _. refl))
     forest_rules (rules_hold forest_set.rules) view within (λ own ports here.
     same_first (ap (λ (b : Bool). b || own.depth == 0) (weigh_is (is_some view.state.up)))
-    (same_first (at_target (port_in_numbers numbers_of_depth)
+    (same_first (at_target (port_in_numbers numbers_of_forest)
     (λ found. own.depth == field_at 0 found + 1)
-    (λ (port : ReadPort DepthLabel). own.depth == port.label.depth + 1) (λ port. refl) ports
+    (λ (port : ReadPort ForestLabel). own.depth == port.label.depth + 1) (λ port. refl) ports
     view.state.up here) refl))

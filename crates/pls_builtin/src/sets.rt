@@ -184,7 +184,7 @@ pub(crate) fn count(alloc: Global) -> Result<RuleSet, NoMemory>
     let mut rules = Vec::with_capacity(alloc, 6)?;
     rules.push(shares_root_and_total(alloc)?)?;
     rules.push(names_itself_and_total(alloc)?)?;
-    rules.push(root_is_at_0(alloc)?)?;
+    rules.push(is_root_at_0_of_count(alloc)?)?;
     rules.push(is_below_or_whole(alloc)?)?;
     rules.push(falls_to_parent(alloc)?)?;
     rules.push(is_summed(alloc)?)?;
@@ -221,7 +221,7 @@ fn names_itself_and_total(alloc: Global) -> Result<BoolExpr, NoMemory>
     both(alloc, itself, total)
 }
 
-fn root_is_at_0(alloc: Global) -> Result<BoolExpr, NoMemory>
+fn is_root_at_0_of_count(alloc: Global) -> Result<BoolExpr, NoMemory>
     ensures { IfOk result (λ made. formula_of made
         ≡ Same (Eq (My 3) (Number 0)) (Eq (My 0) Id)) }
 {

@@ -13,30 +13,30 @@ use std::marker::PhantomData;
 
 /// What a label says.
 #[derive(Clone, Copy, Debug, PartialEq, Eq)]
-pub struct CycleLabel {
+pub struct AcyclicLabel {
     /// How many edges lead to the node from the node of smallest identity.
     pub depth: u64,
 }
 
-impl OfNumbers<1> for CycleLabel {
+impl OfNumbers<1> for AcyclicLabel {
     ghost use Rattle.std.specs.Prelude.{refl};
-    ghost use Rattle.pls_colour.specs.Acyclic.{cycle_label, numbers_of_cycle};
+    ghost use Rattle.pls_colour.specs.Acyclic.{acyclic_label, numbers_of_acyclic};
     ghost use Rattle.pls_numbers.specs.laws.FixedLaws.{are_numbers};
 
-    ghost numbers = { numbers_of_cycle };
+    ghost numbers = { numbers_of_acyclic };
 
-    ghost of_numbers = { cycle_label };
+    ghost of_numbers = { acyclic_label };
 
     fn numbers(&self) -> [u64; 1] {
         [self.depth]
     }
 
-    fn of_numbers(list: &[u64; 1]) -> CycleLabel {
+    fn of_numbers(list: &[u64; 1]) -> AcyclicLabel {
         let [depth] = *list;
-        CycleLabel { depth }
+        AcyclicLabel { depth }
     }
 
-    ghost numbers_law = { are_numbers 1 numbers_of_cycle cycle_label refl (λ _. refl) (λ _. refl)
+    ghost numbers_law = { are_numbers 1 numbers_of_acyclic acyclic_label refl (λ _. refl) (λ _. refl)
         (λ _. refl) };
 }
 
@@ -46,7 +46,7 @@ pub type Acyclic<C> = RuleScheme<AcyclicRules<C>>;
 /// The rules of networks without cycle.
 #[derive(Clone, Copy, Debug, PartialEq, Eq)]
 pub struct AcyclicRules<C> {
-    format: NumbersFormat<CycleLabel, 1>,
+    format: NumbersFormat<AcyclicLabel, 1>,
     code: PhantomData<C>,
 }
 
@@ -64,20 +64,20 @@ impl<C: NumCode> Judgement for AcyclicRules<C> {
 
     type Code = C;
 
-    type Format = NumbersFormat<CycleLabel, 1>;
+    type Format = NumbersFormat<AcyclicLabel, 1>;
 
     ghost format = { λ s. s.format };
 
     ghost rules = { λ _. acyclic_rules };
 
-    fn format(&self) -> &NumbersFormat<CycleLabel, 1> {
+    fn format(&self) -> &NumbersFormat<AcyclicLabel, 1> {
         &self.format
     }
 }
 
 /// What the rules need of the neighbours.
 #[derive(Clone, Copy, Debug, PartialEq, Eq)]
-pub struct Beside {
+pub struct AcyclicTally {
     /// Whether each is one deeper, or one less deep.
     pub differ: bool,
     /// How many are one less deep, and 2 where more are.
@@ -89,27 +89,33 @@ impl<C: NumCode> Rules for AcyclicRules<C> {
     ghost use Rattle.std.specs.List.{list_all};
     ghost use Rattle.pls_colour.specs.Acyclic.{is_above, is_beside};
 
-    type Tally = Beside;
+    type Tally = AcyclicTally;
 
     ghost tallied = { λ _ own ports. record {
       differ = list_all (is_beside own.depth) ports;
       above = min (count_by (is_above own.depth) ports) 2;
     } };
 
-    fn start(&self, _own: &CycleLabel) -> Beside {
-        Beside {
+    fn start(&self, _own: &AcyclicLabel) -> AcyclicTally {
+        AcyclicTally {
             differ: true,
             above: 0,
         }
     }
 
-    fn add(&self, own: &CycleLabel, tally: Beside, weight: u32, label: &CycleLabel) -> Beside {
+    fn add(
+        &self,
+        own: &AcyclicLabel,
+        tally: AcyclicTally,
+        weight: u32,
+        label: &AcyclicLabel,
+    ) -> AcyclicTally {
         let above = if is_above(own, weight, label) {
             tally.above.saturating_add(1).min(2)
         } else {
             tally.above
         };
-        Beside {
+        AcyclicTally {
             differ: tally.differ && is_beside(own, weight, label),
             above,
         }
@@ -119,23 +125,23 @@ impl<C: NumCode> Rules for AcyclicRules<C> {
         &self,
         _id: u32,
         _state: State,
-        _own: &CycleLabel,
-        _above: Option<&CycleLabel>,
-        tally: Beside,
+        _own: &AcyclicLabel,
+        _above: Option<&AcyclicLabel>,
+        tally: AcyclicTally,
     ) -> Verdict {
         judged_from(3, &[tally.differ, tally.above <= 1])
     }
 }
 
 // Whether the depths differ by one.
-fn is_beside(own: &CycleLabel, weight: u32, label: &CycleLabel) -> bool
+fn is_beside(own: &AcyclicLabel, weight: u32, label: &AcyclicLabel) -> bool
     ensures { result ≡ is_beside own.now.depth (port_with weight label.now) }
 {
     is_one_more(label.depth, own.depth) || is_one_more(own.depth, label.depth)
 }
 
 // Whether the neighbour is one less deep.
-fn is_above(own: &CycleLabel, weight: u32, label: &CycleLabel) -> bool
+fn is_above(own: &AcyclicLabel, weight: u32, label: &AcyclicLabel) -> bool
     ensures { result ≡ is_above own.now.depth (port_with weight label.now) }
 {
     is_one_more(own.depth, label.depth)

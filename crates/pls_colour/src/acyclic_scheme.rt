@@ -1,6 +1,6 @@
 //! How networks without cycle are labelled.
 
-use crate::acyclic::{AcyclicRules, CycleLabel};
+use crate::acyclic::{AcyclicLabel, AcyclicRules};
 use crate::level_labels::{SaysLevels, level_labels};
 use pls_bits::NumCode;
 use pls_facts::is_valid;
@@ -10,12 +10,12 @@ use pls_streams::NoMemory;
 use std::alloc::Global;
 
 impl<C: NumCode> SaysLevels for AcyclicRules<C> {
-    ghost use Rattle.pls_colour.specs.Acyclic.{cycle_says};
+    ghost use Rattle.pls_colour.specs.Acyclic.{acyclic_label_at};
 
-    ghost level_label = { cycle_says };
+    ghost level_label = { acyclic_label_at };
 
-    fn level_label(level: u32) -> CycleLabel {
-        CycleLabel {
+    fn level_label(level: u32) -> AcyclicLabel {
+        AcyclicLabel {
             depth: u64::from(level),
         }
     }
@@ -41,7 +41,7 @@ impl<C: NumCode> Marker for AcyclicRules<C> {
         &self,
         alloc: Global,
         net: &Network,
-    ) -> Result<Option<Vec<CycleLabel>>, NoMemory> {
+    ) -> Result<Option<Vec<AcyclicLabel>>, NoMemory> {
         is_valid(net);
         let labels = level_labels::<Self>(alloc, net)?;
         if hold_everywhere(self, net, &labels) {

@@ -17,8 +17,8 @@ use pls_graph::{Network, Size};
 use pls_labels::{LabelStore, View};
 use pls_names::SchemeByName;
 use pls_parts::{
-    FirstPart, Rest, SecondPart, joined_bound, joined_labels, lacks_parts, own_tag, raised,
-    tagged_bound, tagged_labels,
+    FirstPart, Rest, SecondPart, joined_bound, joined_labels, lacks_parts, own_tag, tagged_bound,
+    tagged_labels, verdict_behind,
 };
 use pls_scheme::{Checker, Scheme};
 use pls_streams::{NoMemory, Steps};
@@ -85,7 +85,7 @@ pub(crate) fn verify_tree<C: NumCode>(
                 Verdict::Accept => {
                     let part = view.part(alloc, &SecondPart::<C>::new())?;
                     let verdict = verify_tree::<C>(alloc, second, &part)?;
-                    Ok(raised(leaves_of(first), verdict))
+                    Ok(verdict_behind(leaves_of(first), verdict))
                 }
             }
         }
@@ -97,7 +97,7 @@ pub(crate) fn verify_tree<C: NumCode>(
             let part = view.part(alloc, &Rest::new())?;
             if tag {
                 let verdict = verify_tree::<C>(alloc, second, &part)?;
-                Ok(raised(leaves_of(first), verdict))
+                Ok(verdict_behind(leaves_of(first), verdict))
             } else {
                 verify_tree::<C>(alloc, first, &part)
             }

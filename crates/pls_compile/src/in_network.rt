@@ -11,7 +11,7 @@ use pls_configuration::{Port, State};
 // A node as its network shows it, where what all labels say stands in a table. Beside each port
 // stands the place of the neighbour.
 #[derive(Drop)]
-pub(crate) struct InNetwork<'a> {
+pub(crate) struct NodeInNetwork<'a> {
     pub(crate) id: u32,
     pub(crate) state: State,
     pub(crate) own: &'a [u64],
@@ -23,7 +23,7 @@ pub(crate) struct InNetwork<'a> {
     ghost within: { All (λ place. place < length table.now) places.now },
 }
 
-impl<'a> Sees for InNetwork<'a> {
+impl<'a> Sees for NodeInNetwork<'a> {
     ghost use Rattle.pls_compile.specs.FieldTable.{sight_in};
 
     ghost sight = { λ node. sight_in node.table.now node.id node.state node.own.now node.ports.now

@@ -11,13 +11,13 @@ use pls_numbers::FieldKind;
 
 // A node as its view shows it. A label is read where an instruction asks for a field of it.
 #[derive(Drop)]
-pub(crate) struct InView<'a, 'b> {
+pub(crate) struct NodeInView<'a, 'b> {
     pub(crate) kinds: &'a [FieldKind],
     pub(crate) view: &'a View<'b>,
     ghost few: { length kinds.now ≤ 8 },
 }
 
-impl<'a, 'b> Sees for InView<'a, 'b> {
+impl<'a, 'b> Sees for NodeInView<'a, 'b> {
     ghost use Rattle.pls_compile.specs.ReadLabels.{sight_of};
 
     ghost sight = { λ node. sight_of node.kinds.now node.view.now };

@@ -37,7 +37,7 @@ pub enum Instr {
     Lt,
     /// Replaces the top two by 1 where the one below is not greater, else by 0.
     Le,
-    /// Replaces the top by what it lacks of 1.
+    /// Replaces the top by 1 where it is 0, else by 0.
     Not,
     /// Replaces the top two by 1 where both are 1, else by 0.
     Both,
@@ -45,7 +45,8 @@ pub enum Instr {
     Either,
     /// Begins with port 0.
     Begin,
-    /// Leaves the innermost port where it is the number of ports, and goes to a place.
+    /// Leaves the innermost port and goes to a place where that port is the number of ports; else
+    /// goes on.
     More(usize),
     /// Turns to the next port and goes to a place.
     Next(usize),

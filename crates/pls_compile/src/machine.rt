@@ -19,10 +19,10 @@ const MOST_PORTS: usize = 2;
 pub struct Machine {
     place: usize,
     // The stack lies behind `top`, its top first.
-    stack: [u128; 40],
+    stack: [u128; MOST_NUMBERS],
     top: usize,
     // The ports lie behind `inner`, the innermost first.
-    ports: [u32; 2],
+    ports: [u32; MOST_PORTS],
     inner: usize,
 }
 
@@ -45,9 +45,9 @@ impl Machine {
     {
         Machine {
             place: 0,
-            stack: [0; 40],
+            stack: [0; MOST_NUMBERS],
             top: MOST_NUMBERS,
-            ports: [0; 2],
+            ports: [0; MOST_PORTS],
             inner: MOST_PORTS,
         }
     }

@@ -8,7 +8,7 @@ ghost use Rattle.pls_compile.specs.ReadLabels.{is_read, sight_of};
 ghost use Rattle.pls_compile.specs.RuleMachine.{IsReached, came_to, step};
 
 use crate::code::Code;
-use crate::in_view::{InView, view_fits};
+use crate::in_view::{NodeInView, view_fits};
 use crate::machine::Machine;
 use crate::step::step_on;
 use pls_configuration::Verdict;
@@ -28,7 +28,7 @@ impl Machine {
         ensures { step code.now (sight_of fields.now view.now) self.old ≡ came_to result self.new }
     {
         view_fits(view);
-        let node = InView {
+        let node = NodeInView {
             kinds: fields,
             view,
         };

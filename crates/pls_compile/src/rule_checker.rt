@@ -11,8 +11,8 @@ ghost use Rattle.pls_compile.specs.RuleMeaning.{meaning};
 use crate::code::{Code, compile};
 use crate::field_table::FieldTable;
 use crate::fields::{are_read, read_fields};
-use crate::in_network::{InNetwork, node_fits};
-use crate::in_view::{InView, view_fits};
+use crate::in_network::{NodeInNetwork, node_fits};
+use crate::in_view::{NodeInView, view_fits};
 use crate::machine::Machine;
 use crate::run::run_code;
 use pls_configuration::Verdict;
@@ -91,7 +91,7 @@ impl RuleChecker {
             return Verdict::Reject { leaf: 1, rule: 2 };
         }
         view_fits(view);
-        let node = InView { kinds, view };
+        let node = NodeInView { kinds, view };
         let mut machine = Machine::start();
         run_code(&mut machine, &self.set, self.code.instructions(), &node)
     }
@@ -121,7 +121,7 @@ impl RuleChecker {
             return Verdict::Reject { leaf: 1, rule: 2 };
         }
         node_fits(id, &state, ports);
-        let node = InNetwork {
+        let node = NodeInNetwork {
             id,
             state,
             own,

@@ -43,14 +43,14 @@ fn act_on<S: Sees>(machine: &mut Machine, instr: Instr, node: &S) -> Option<Verd
         Instr::UpWeight => machine.put(u128::from(weight_above(node))),
         Instr::NbWeight => put_weight_beside(machine, node),
         Instr::NbUp => put_is_above(machine, node),
-        Instr::Add => machine.combine(Instr::Add),
-        Instr::Mask => machine.combine(Instr::Mask),
-        Instr::Eq => machine.combine(Instr::Eq),
-        Instr::Lt => machine.combine(Instr::Lt),
-        Instr::Le => machine.combine(Instr::Le),
+        Instr::Add
+        | Instr::Mask
+        | Instr::Eq
+        | Instr::Lt
+        | Instr::Le
+        | Instr::Both
+        | Instr::Either => machine.combine(instr),
         Instr::Not => machine.negate(),
-        Instr::Both => machine.combine(Instr::Both),
-        Instr::Either => machine.combine(Instr::Either),
         Instr::Begin => machine.begin(),
         Instr::More(end) => machine.more(end, node.degree()),
         Instr::Next(start) => machine.turn(start, node.degree()),

@@ -3,8 +3,8 @@
 //! second one finds the nodes from which the directions lead back to the first. Nothing is proved
 //! of what the two find, and it is checked: where the check passes, no edge is a bridge. Else an
 //! edge that leads to a node without a way back is judged, by a search from each of its ends; it is
-//! a bridge exactly where it alone leads from the nodes nearer to its one end to the others. Where
-//! that were no bridge either, each edge would be judged so.
+//! a bridge exactly where it alone leads from the nodes nearer to its one end to the others. Were
+//! that edge no bridge either, each edge would be judged so.
 
 ghost use Rattle.std.specs.Prelude.{◌≡◌, ◌<◌, ◌==◌, ◌↔◌, length, Contains, IfOk, IsTrue};
 ghost use Rattle.std.specs.List.{list_any};

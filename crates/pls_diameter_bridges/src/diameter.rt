@@ -31,12 +31,11 @@ impl Property for Diameter {
     ghost holds = { λ property. HasDiameterAtMost property.most };
 
     fn decide(&self, alloc: Global, net: &Network) -> Result<bool, NoMemory> {
-        has_diameter(alloc, net, self.most)
+        has_diameter_at_most(alloc, net, self.most)
     }
 }
 
-// Whether the diameter is at most `most`, not exactly that.
-fn has_diameter(alloc: Global, net: &Network, most: u32) -> Result<bool, NoMemory>
+fn has_diameter_at_most(alloc: Global, net: &Network, most: u32) -> Result<bool, NoMemory>
     ensures { IfOk result (λ yes. IsTrue yes ↔ HasDiameterAtMost most net.now) }
 {
     for place in 0..net.len() {

@@ -43,29 +43,34 @@ const ROUTERS: [Node; 5] = [
 ];
 
 fn main(rt: HostRuntime) -> ExitCode {
-    match report(&rt) {
-        Ok(()) => ExitCode::SUCCESS,
-        Err(_) => ExitCode::FAILURE,
-    }
+    report(&rt).unwrap_or(ExitCode::FAILURE)
 }
 
-fn report(rt: &HostRuntime) -> io::Result<()> {
+fn report(rt: &HostRuntime) -> io::Result<ExitCode> {
     let alloc = rt.alloc();
-    let Ok(Some(net)) = network_of(alloc, &ROUTERS) else {
-        return println!(rt; "this is no network");
+    let net = match network_of(alloc, &ROUTERS) {
+        Ok(Some(net)) => net,
+        Ok(None) => return fail(rt, "this is no network"),
+        Err(NoMemory) => return fail(rt, "out of memory"),
     };
     let Ok(labels) = labels_of(alloc, &ROUTERS) else {
-        return println!(rt; "out of memory");
+        return fail(rt, "out of memory");
     };
     for i in 0..ROUTERS.len() {
-        match verdict_at(alloc, &net, &labels, i) {
-            Ok(verdict) => println!(rt; "node {} {verdict}", i + 1)?,
-            Err(NoMemory) => println!(rt; "out of memory")?,
-        }
+        let Ok(verdict) = verdict_at(alloc, &net, &labels, i) else {
+            return fail(rt, "out of memory");
+        };
+        println!(rt; "node {} {verdict}", i + 1)?;
     }
     match is_a_tree(alloc, &net, &labels) {
-        Ok(true) => println!(rt; "the pointers are a spanning tree"),
-        Ok(false) => println!(rt; "nothing is known of the pointers"),
-        Err(NoMemory) => println!(rt; "out of memory"),
+        Ok(true) => println!(rt; "the pointers are a spanning tree")?,
+        Ok(false) => println!(rt; "nothing is known of the pointers")?,
+        Err(NoMemory) => return fail(rt, "out of memory"),
     }
+    Ok(ExitCode::SUCCESS)
+}
+
+fn fail(rt: &HostRuntime, why: &str) -> io::Result<ExitCode> {
+    println!(rt; "{why}")?;
+    Ok(ExitCode::FAILURE)
 }

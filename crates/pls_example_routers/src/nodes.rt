@@ -5,7 +5,7 @@ ghost use Rattle.pls_configuration.specs.Walk.{IsConnected};
 ghost use Rattle.pls_example_routers.specs.SmallRow.{IsSmallRow};
 
 use pls_bits::Gamma;
-use pls_graph::{Network, NodePorts, NodeRow, Port, State, node_apart};
+use pls_graph::{BuildError, Network, NodePorts, NodeRow, Port, State, node_apart};
 use pls_labels::LabelStore;
 use pls_pointer::{Tree, TreeLabel};
 use pls_scheme::Scheme;
@@ -34,8 +34,10 @@ pub(crate) fn network_of(alloc: Global, nodes: &[Node]) -> Result<Option<Network
     for (i, node) in nodes.iter().enumerate() {
         rows.push(row_of(alloc, *node, i as u32 + 1, nodes.len() as u32)?)?;
     }
-    let Ok(net) = Network::build(alloc, rows) else {
-        return Ok(None);
+    let net = match Network::build(alloc, rows) {
+        Ok(net) => net,
+        Err(BuildError::NoMemory) => return Err(NoMemory),
+        Err(_) => return Ok(None),
     };
     if node_apart(alloc, &net)?.is_some() {
         return Ok(None);
@@ -45,7 +47,9 @@ pub(crate) fn network_of(alloc: Global, nodes: &[Node]) -> Result<Option<Network
 
 // The port to the previous node comes first, then that to the next.
 fn row_of(alloc: Global, node: Node, id: u32, last: u32) -> Result<NodeRow, NoMemory>
-    requires { (1 ≤ id) × (id ≤ last) × (last ≤ 100) }
+    requires one { 1 ≤ id }
+    requires within { id ≤ last }
+    requires few { last ≤ 100 }
     ensures { IfOk result IsSmallRow }
 {
     let mut ports = Vec::with_capacity(alloc, 2)?;

@@ -24,7 +24,7 @@ pub struct CountLabel {
     pub parent: u64,
     /// How many edges lead from the root to the node.
     pub depth: u64,
-    /// How many nodes stand below the node, and itself.
+    /// How many nodes stand at or below the node.
     pub size: u64,
     /// How many nodes there are.
     pub total: u64,
@@ -101,7 +101,7 @@ impl<C: NumCode> Judgement for CountRules<C> {
 
 /// What the rules need of the neighbours.
 #[derive(Clone, Copy, Debug, PartialEq, Eq)]
-pub struct Family {
+pub struct CountTally {
     /// Whether each names the own root and the own total.
     pub agree: bool,
     /// Whether some is the parent, and one less deep.
@@ -115,7 +115,7 @@ impl<C: NumCode> Rules for CountRules<C> {
     ghost use Rattle.std.specs.List.{list_all, list_any};
     ghost use Rattle.pls_leader.specs.Count.{names_root_and_total, children_sizes, is_parent_above};
 
-    type Tally = Family;
+    type Tally = CountTally;
 
     ghost tallied = { λ _ own ports. record {
       agree = list_all (names_root_and_total own) ports;
@@ -123,21 +123,27 @@ impl<C: NumCode> Rules for CountRules<C> {
       below = min (children_sizes own.own ports) (2 ^ 64 - 1);
     } };
 
-    fn start(&self, _own: &CountLabel) -> Family {
-        Family {
+    fn start(&self, _own: &CountLabel) -> CountTally {
+        CountTally {
             agree: true,
             falls: false,
             below: 0,
         }
     }
 
-    fn add(&self, own: &CountLabel, tally: Family, weight: u32, label: &CountLabel) -> Family {
+    fn add(
+        &self,
+        own: &CountLabel,
+        tally: CountTally,
+        weight: u32,
+        label: &CountLabel,
+    ) -> CountTally {
         let below = if is_own_child(own, weight, label) {
             tally.below.saturating_add(label.size)
         } else {
             tally.below
         };
-        Family {
+        CountTally {
             agree: tally.agree && agrees_with(own, weight, label),
             falls: tally.falls || is_parent_above(own, weight, label),
             below,
@@ -150,7 +156,7 @@ impl<C: NumCode> Rules for CountRules<C> {
         state: State,
         own: &CountLabel,
         _above: Option<&CountLabel>,
-        tally: Family,
+        tally: CountTally,
     ) -> Verdict {
         judged_from(
             3,

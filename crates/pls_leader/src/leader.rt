@@ -79,7 +79,7 @@ impl<C: NumCode> Judgement for LeaderRules<C> {
 
 /// What the rules need of the neighbours.
 #[derive(Clone, Copy, Debug, PartialEq, Eq)]
-pub struct Around {
+pub struct LeaderTally {
     /// Whether each names the own root.
     pub agree: bool,
     /// Whether some is one less deep.
@@ -91,22 +91,28 @@ impl<C: NumCode> Rules for LeaderRules<C> {
     ghost use Rattle.pls_leader.specs.Leader.{is_one_less_deep};
     ghost use Rattle.pls_scheme.specs.Reading.{has_number};
 
-    type Tally = Around;
+    type Tally = LeaderTally;
 
     ghost tallied = { λ _ own ports. record {
       agree = list_all (has_number (λ label. label.root) own.root) ports;
       falls = list_any (is_one_less_deep own.depth) ports;
     } };
 
-    fn start(&self, _own: &LeaderLabel) -> Around {
-        Around {
+    fn start(&self, _own: &LeaderLabel) -> LeaderTally {
+        LeaderTally {
             agree: true,
             falls: false,
         }
     }
 
-    fn add(&self, own: &LeaderLabel, tally: Around, _weight: u32, label: &LeaderLabel) -> Around {
-        Around {
+    fn add(
+        &self,
+        own: &LeaderLabel,
+        tally: LeaderTally,
+        _weight: u32,
+        label: &LeaderLabel,
+    ) -> LeaderTally {
+        LeaderTally {
             agree: tally.agree && label.root == own.root,
             falls: tally.falls || is_one_more(own.depth, label.depth),
         }
@@ -118,7 +124,7 @@ impl<C: NumCode> Rules for LeaderRules<C> {
         state: State,
         own: &LeaderLabel,
         _above: Option<&LeaderLabel>,
-        tally: Around,
+        tally: LeaderTally,
     ) -> Verdict {
         judged_from(
             3,

@@ -16,6 +16,6 @@ mod leader_scheme;
 mod parents;
 mod rooted;
 
-pub use count::{Count, CountLabel, CountRules, Family};
-pub use leader::{Around, Leader, LeaderLabel, LeaderRules};
+pub use count::{Count, CountLabel, CountRules, CountTally};
+pub use leader::{Leader, LeaderLabel, LeaderRules, LeaderTally};
 pub use leader_scheme::IsLeader;

@@ -24,4 +24,4 @@ pub use label_parts::{LabelParts, Tags, lend_all, part_all, rests_of, tags_of};
 pub use narrowing::{FirstPart, Rest, SecondPart, parts, tag_of};
 pub use part_rules::{lacks_parts, own_tag};
 pub use part_verdicts::{both_verdicts, one_of_verdicts, some_true};
-pub use raising::raised;
+pub use raising::verdict_behind;

@@ -3,12 +3,12 @@
 ghost use Rattle.std.specs.Prelude.{◌≡◌, ◌-◌, ◌↔◌, Bool, List, All, Some, true, false, drop, if◌then◌else◌, length, map, slice_get, unwrap_or, IfOk, IsTrue};
 ghost use Rattle.pls_labels.specs.Seen.{Seen};
 ghost use Rattle.pls_scheme.specs.Judging.{LeafWithin, verdicts_by};
-ghost use Rattle.pls_parts.specs.Combined.{judge_both, judge_one_of, raised};
+ghost use Rattle.pls_parts.specs.Combined.{judge_both, judge_one_of, verdict_behind};
 ghost use Rattle.pls_parts.specs.Parts.{first_part, has_parts, second_part};
 ghost use Rattle.pls_parts.specs.inner.Rounds.{all_true, AreTags, both_verdict, one_of_verdict, SomeTrue};
 
 use crate::label_parts::Tags;
-use crate::raising::raised;
+use crate::raising::verdict_behind;
 use pls_bits::NumCode;
 use pls_configuration::Verdict;
 use pls_graph::Network;
@@ -57,7 +57,7 @@ fn both_verdict(own: bool, ports: bool, leaves: u8, first: Verdict, second: Verd
         return Verdict::Reject { leaf: 0, rule: 2 };
     }
     match first {
-        Verdict::Accept => raised(leaves, second),
+        Verdict::Accept => verdict_behind(leaves, second),
         Verdict::Reject { leaf, rule } => Verdict::Reject { leaf, rule },
     }
 }
@@ -126,11 +126,11 @@ fn named_verdict(
     ensures first { second ≡ false → (verdict : Verdict)
         → slice_get firsts.now i ≡ Some verdict → result ≡ verdict }
     ensures second { second ≡ true → (verdict : Verdict)
-        → slice_get seconds.now i ≡ Some verdict → result ≡ raised leaves verdict }
+        → slice_get seconds.now i ≡ Some verdict → result ≡ verdict_behind leaves verdict }
 {
     if second {
         match seconds.get(i) {
-            Some(verdict) => raised(leaves, *verdict),
+            Some(verdict) => verdict_behind(leaves, *verdict),
             None => Verdict::Reject { leaf: 0, rule: 1 },
         }
     } else {

@@ -12,15 +12,15 @@ use Rattle.pls_facts.specs.SpanningTree.{IsTree}
 use Rattle.pls_facts.proofs.Roots.{is_root-None}
 use Rattle.pls_facts.proofs.Trees.{IsTree-falling}
 use Rattle.pls_pointer.specs.Forest.{forest_says}
-use Rattle.pls_pointer.specs.inner.Saying.{depth_says}
+use Rattle.pls_pointer.specs.inner.Saying.{forest_label_at}
 use Rattle.pls_pointer.specs.Tree.{tree_says}
 use Rattle.pls_pointer.specs.inner.Saying.{root_says}
 use Rattle.pls_facts.proofs.ChainDepths.{chain_end, chains_fall}
 
 module _ (rows : List NodeRow) (depths : List ℕ) (are : AreDepths rows depths) where
   -- the lengths of the chains
-  pub forest_right : AreRight (forest_says rows) rows (map depth_says depths)
-  forest_right = right_map (forest_says rows) rows depth_says depths are.each
+  pub forest_right : AreRight (forest_says rows) rows (map forest_label_at depths)
+  forest_right = right_map (forest_says rows) rows forest_label_at depths are.each
       (λ place row depth at has. are.depth row place depth at has)
 
   -- and the root's identity
@@ -45,8 +45,8 @@ module _ (rows : List NodeRow) (depths : List ℕ) (are : AreDepths rows depths)
   -- where one node has no pointer, the pointers make a tree
   pub IsTree-depths : IsNetwork rows → (root : ℕ) → IsOnly points_at_none rows root → IsTree rows
   IsTree-depths net root only =
-      let said : IsSaidBy (forest_says rows) rows (map depth_says depths) =
-      said_by_id (forest_says rows) rows net (map depth_says depths) forest_right in
+      let said : IsSaidBy (forest_says rows) rows (map forest_label_at depths) =
+      said_by_id (forest_says rows) rows net (map forest_label_at depths) forest_right in
       IsTree-falling rows net (λ id. (said.say id).depth)
       (chains_fall rows net (λ id. (said.say id).depth) said.right) root
       (λ row in' none. only.named row in' (is_root-None row none))

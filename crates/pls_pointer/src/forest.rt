@@ -11,30 +11,30 @@ use std::marker::PhantomData;
 
 /// What a label says.
 #[derive(Clone, Copy, Debug, PartialEq, Eq)]
-pub struct DepthLabel {
+pub struct ForestLabel {
     /// How many pointers the node's chain has.
     pub depth: u64,
 }
 
-impl OfNumbers<1> for DepthLabel {
+impl OfNumbers<1> for ForestLabel {
     ghost use Rattle.std.specs.Prelude.{refl};
-    ghost use Rattle.pls_pointer.specs.Forest.{depth_label, numbers_of_depth};
+    ghost use Rattle.pls_pointer.specs.Forest.{forest_label, numbers_of_forest};
     ghost use Rattle.pls_numbers.specs.laws.FixedLaws.{are_numbers};
 
-    ghost numbers = { numbers_of_depth };
+    ghost numbers = { numbers_of_forest };
 
-    ghost of_numbers = { depth_label };
+    ghost of_numbers = { forest_label };
 
     fn numbers(&self) -> [u64; 1] {
         [self.depth]
     }
 
-    fn of_numbers(list: &[u64; 1]) -> DepthLabel {
+    fn of_numbers(list: &[u64; 1]) -> ForestLabel {
         let [depth] = *list;
-        DepthLabel { depth }
+        ForestLabel { depth }
     }
 
-    ghost numbers_law = { are_numbers 1 numbers_of_depth depth_label refl (λ _. refl) (λ _. refl)
+    ghost numbers_law = { are_numbers 1 numbers_of_forest forest_label refl (λ _. refl) (λ _. refl)
         (λ _. refl) };
 }
 
@@ -44,7 +44,7 @@ pub type Forest<C> = RuleScheme<ForestRules<C>>;
 /// The rules of forests of pointers.
 #[derive(Clone, Copy, Debug, PartialEq, Eq)]
 pub struct ForestRules<C> {
-    format: NumbersFormat<DepthLabel, 1>,
+    format: NumbersFormat<ForestLabel, 1>,
     code: PhantomData<C>,
 }
 
@@ -62,13 +62,13 @@ impl<C: NumCode> Judgement for ForestRules<C> {
 
     type Code = C;
 
-    type Format = NumbersFormat<DepthLabel, 1>;
+    type Format = NumbersFormat<ForestLabel, 1>;
 
     ghost format = { λ s. s.format };
 
     ghost rules = { λ _. forest_rules };
 
-    fn format(&self) -> &NumbersFormat<DepthLabel, 1> {
+    fn format(&self) -> &NumbersFormat<ForestLabel, 1> {
         &self.format
     }
 }
@@ -79,16 +79,16 @@ impl<C: NumCode> Rules for ForestRules<C> {
 
     ghost tallied = { λ _ _ _. tt };
 
-    fn start(&self, _own: &DepthLabel) {}
+    fn start(&self, _own: &ForestLabel) {}
 
-    fn add(&self, _own: &DepthLabel, _tally: (), _weight: u32, _label: &DepthLabel) {}
+    fn add(&self, _own: &ForestLabel, _tally: (), _weight: u32, _label: &ForestLabel) {}
 
     fn verdict(
         &self,
         _id: u32,
         state: State,
-        own: &DepthLabel,
-        above: Option<&DepthLabel>,
+        own: &ForestLabel,
+        above: Option<&ForestLabel>,
         _tally: (),
     ) -> Verdict {
         judged_from(
@@ -102,7 +102,7 @@ impl<C: NumCode> Rules for ForestRules<C> {
 }
 
 // Rule 3: the node points at a port, or its depth is 0.
-fn points_or_is_at_0(state: State, own: &DepthLabel) -> bool
+fn points_or_is_at_0(state: State, own: &ForestLabel) -> bool
     ensures { result ≡ (is_some state.up || own.now.depth == 0) }
 {
     state.up.is_some() || own.depth == 0

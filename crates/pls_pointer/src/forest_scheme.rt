@@ -1,9 +1,9 @@
 //! How networks in which no chain of pointers returns are labelled.
 
 ghost use Rattle.std.specs.Prelude.{◌≡◌, map, IfOk};
-ghost use Rattle.pls_pointer.specs.inner.Saying.{depth_says};
+ghost use Rattle.pls_pointer.specs.inner.Saying.{forest_label_at};
 
-use crate::forest::{DepthLabel, ForestRules};
+use crate::forest::{ForestLabel, ForestRules};
 use pls_bits::NumCode;
 use pls_graph::{Network, Size};
 use pls_scheme::{Marker, codes_length};
@@ -31,7 +31,7 @@ impl<C: NumCode> Marker for ForestRules<C> {
         &self,
         alloc: Global,
         net: &Network,
-    ) -> Result<Option<Vec<DepthLabel>>, NoMemory> {
+    ) -> Result<Option<Vec<ForestLabel>>, NoMemory> {
         let Some(depths) = pointer_depths(alloc, net)? else {
             return Ok(None);
         };
@@ -48,12 +48,12 @@ impl<C: NumCode> Marker for ForestRules<C> {
     ghost fits_law = { λ _. forest_fits C.code C.grows_law C.short_law };
 }
 
-fn labels_of_depths(alloc: Global, depths: &[u32]) -> Result<Vec<DepthLabel>, NoMemory>
-    ensures { IfOk result (λ labels. labels.items ≡ map depth_says depths.now) }
+fn labels_of_depths(alloc: Global, depths: &[u32]) -> Result<Vec<ForestLabel>, NoMemory>
+    ensures { IfOk result (λ labels. labels.items ≡ map forest_label_at depths.now) }
 {
     let labels = depths
         .iter()
-        .map(|depth| DepthLabel {
+        .map(|depth| ForestLabel {
             depth: u64::from(*depth),
         })
         .collect(alloc)?;

@@ -10,10 +10,7 @@ ghost use Rattle.pls_rule_text.specs.inner.Held.{found_term, placed_term};
 
 use pls_bits::MAX_CODED;
 use pls_fronts::{after, letters_front, number_front};
-use pls_rules::{Field, NumExpr};
-
-// The greatest number of letters in a name.
-const MOST_LETTERS: usize = 16;
+use pls_rules::{Field, MAX_LETTERS, NumExpr};
 
 // A term without subterms at the front of a text, and the rest.
 #[tactic(auto, unfolding(crate::specs::inner::Atoms::atom_front))]
@@ -91,7 +88,7 @@ fn name_front(text: &[u8]) -> Option<(&[u8], &[u8])>
     ensures { option_map (λ found. followed found.0.now found.1.now) result ≡ name_front text.now }
 {
     let (name, rest) = letters_front(text);
-    if 1 <= name.len() && name.len() <= MOST_LETTERS {
+    if 1 <= name.len() && name.len() <= MAX_LETTERS {
         Some((name, rest))
     } else {
         None

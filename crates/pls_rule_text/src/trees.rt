@@ -144,17 +144,16 @@ fn term_front<'a>(
         return Ok(None);
     }
     if let Some(rest) = after(text, b"add(") {
-        return behind_sum(alloc, fields, rest, below - 1);
+        return behind_add(alloc, fields, rest, below - 1);
     }
     match after(text, b"sum(") {
-        Some(rest) => behind_port_sum(alloc, fields, rest, below - 1),
+        Some(rest) => behind_sum(alloc, fields, rest, below - 1),
         None => Ok(None),
     }
 }
 
-// Reads on behind `add(`.
 #[cycle(trees)]
-fn behind_sum<'a>(
+fn behind_add<'a>(
     alloc: Global,
     fields: &[Field],
     text: &'a [u8],
@@ -181,9 +180,8 @@ fn behind_sum<'a>(
     Ok(Some((sum, rest)))
 }
 
-// Reads on behind `sum(`.
 #[cycle(trees)]
-fn behind_port_sum<'a>(
+fn behind_sum<'a>(
     alloc: Global,
     fields: &[Field],
     text: &'a [u8],

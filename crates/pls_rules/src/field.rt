@@ -6,6 +6,9 @@ ghost use Rattle.std.specs.String.{string_bytes};
 use pls_numbers::FieldKind;
 use std::marker::Model;
 
+/// The greatest number of letters of a field's name, 16.
+pub const MAX_LETTERS: usize = 16;
+
 /// The name of a field, seen as its letters.
 #[derive(Drop)]
 pub struct Name {
@@ -40,7 +43,7 @@ impl Name {
 /// A field of a label: a number that has a name.
 #[derive(Drop)]
 pub struct Field {
-    /// By what rules call it.
+    /// The name by which rules call it.
     pub name: Name,
     /// How it is written.
     pub kind: FieldKind,

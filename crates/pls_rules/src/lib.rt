@@ -13,6 +13,6 @@ mod field;
 mod rule_set;
 
 pub use expr::{BoolExpr, NumExpr};
-pub use field::{Field, Name};
+pub use field::{Field, MAX_LETTERS, Name};
 pub use pls_numbers::FieldKind;
 pub use rule_set::RuleSet;

@@ -10,10 +10,7 @@ ghost use Rattle.pls_rules_part.specs.RulesText.{kind_word};
 
 use crate::word_before::word_before;
 use pls_lines::{after_line, after_word, is_same};
-use pls_rules::FieldKind;
-
-// The greatest number of letters in a name.
-const MOST_LETTERS: usize = 16;
+use pls_rules::{FieldKind, MAX_LETTERS};
 
 /// The name and the kind of a line `field NAME KIND` at the front of a text, and what follows its
 /// line feed; `None` where no such line stands there.
@@ -65,7 +62,7 @@ fn is_name(word: &[u8]) -> bool
     ensures { result ≡ (nat_lt 0 (length word.now)
         && (nat_le (length word.now) 16 && list_all is_letter word.now)) }
 {
-    word.len() > 0 && word.len() <= MOST_LETTERS && are_letters(word)
+    word.len() > 0 && word.len() <= MAX_LETTERS && are_letters(word)
 }
 
 // Small letters only.

@@ -13,8 +13,8 @@ use pls_rules::{BoolExpr, Field, FieldKind, RuleSet};
 use pls_streams::NoMemory;
 use std::alloc::Global;
 
-/// The text of a rule set, which [`read_rules`](crate::read_rules) reads back to it. The one
-/// refusal is want of memory.
+/// The text of a rule set, which [`read_rules`](crate::read_rules) reads back where the set is
+/// printable (`specs/Printable`). The one error is want of memory.
 pub fn print_rules(alloc: Global, set: &RuleSet) -> Result<Vec<u8>, NoMemory>
     ensures { IfOk result (λ text. text.items ≡ rules_text (said_of_set (set_of set.now))) }
 {

@@ -93,7 +93,7 @@ impl<'a> RulesText<'a> {
             → StandsBehind said result.rest }
     {
         let mut lines = self.part.lines.again();
-        let _ = lines.pass(b"rules");
+        lines.pass(b"rules");
         lines
     }
 }

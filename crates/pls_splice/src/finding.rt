@@ -27,7 +27,7 @@ pub struct Pair {
 /// smaller second edge with this first one. `None` where no two may be crossed. Edges that agree in
 /// weight and labels are found by a hash of these, so the expected time is linear in the bits of
 /// all labels. The one error is want of memory.
-pub fn find(
+pub fn find_pair(
     alloc: Global,
     ring: &Ring,
     net: &Network,

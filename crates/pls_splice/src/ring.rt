@@ -28,7 +28,7 @@ impl Model for Ring {
 
 impl Ring {
     /// The order of the nodes of a ring, which is a connected network in which each node has two
-    /// ports. `NotRing` is answered exactly where the network is none. It takes time in nodes and
+    /// ports. `NotRing` is answered exactly where the network is none. Its time is linear in nodes and
     /// ports.
     pub fn read(alloc: Global, net: &Network) -> Result<Ring, RingError>
         ensures ok { IfOk result (λ ring. IsRingOrder net.now ring) }

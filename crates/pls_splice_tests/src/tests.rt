@@ -11,7 +11,7 @@ use pls_bits::BitBuf;
 use pls_graph::Network;
 use pls_labels::LabelStore;
 use pls_netfile::read_network;
-use pls_splice::{Pair, Ring, cross, find, leaderless, two_rings, views_stay};
+use pls_splice::{Pair, Ring, cross, find_pair, leaderless, two_rings, views_stay};
 use std::alloc::{AllocError, Global};
 use std::test::Fail;
 
@@ -85,7 +85,7 @@ fn first_crossing(
     if labels.len() != net.len() {
         return Err(Fail::from("not as many labels"));
     }
-    let Some(pair) = find(alloc, ring, net, labels)? else {
+    let Some(pair) = find_pair(alloc, ring, net, labels)? else {
         return Ok(None);
     };
     views_stay(ring, net, labels, pair);

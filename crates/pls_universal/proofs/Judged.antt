@@ -115,7 +115,7 @@ module _ (code : ℕ → List Bool) (takes : List Bool → Option (ℕ × List B
     pub verdict-stated : (test : List NodeRow → Bool) (agrees : Bool) (stated : StatedNetwork)
         → Some agrees ≡ agreement takes own.rows view.ports → IsStated test own.rows (Some stated)
         → judged_from 3 ((own.own == view.id) ∷ agrees ∷ true ∷ has_node takes stated.net view
-        ∷ stated.has ∷ [])
+        ∷ stated.has_property ∷ [])
         ≡ judge_by (said_by map_shape takes) (map_rules test) view
     verdict-stated test agrees stated is found =
         rw (found.1, found.2) (sym (rules_tried test agrees is

@@ -21,7 +21,7 @@ use pls_streams::NoMemory;
 use std::alloc::Global;
 use std::collections::BTreeMap;
 
-/// What was found out of the map of the label at a place.
+/// What was found out about the map of the label at a place.
 #[derive(Drop)]
 pub struct DecidedMap {
     pub(crate) place: usize,

@@ -14,7 +14,7 @@ use std::alloc::Global;
 #[derive(Drop)]
 pub struct StatedNetwork {
     pub(crate) net: Network,
-    pub(crate) has: bool,
+    pub(crate) has_property: bool,
 }
 
 // `None` where the records state no connected network; the property is decided once at most.
@@ -28,6 +28,6 @@ pub(crate) fn stated_by<P: PropertyTest>(
     let Some(net) = network_of(alloc, rows)? else {
         return Ok(None);
     };
-    let has = property.decide(alloc, &net)?;
-    Ok(Some(StatedNetwork { net, has }))
+    let has_property = property.decide(alloc, &net)?;
+    Ok(Some(StatedNetwork { net, has_property }))
 }

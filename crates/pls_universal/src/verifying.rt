@@ -42,7 +42,7 @@ pub(crate) fn verdict_on<C: NumCode>(
     Ok(match stated {
         Some(stated) => {
             let here = has_node::<C>(&stated.net, view);
-            judged_from(3, &[itself, agrees, true, here, stated.has])
+            judged_from(3, &[itself, agrees, true, here, stated.has_property])
         }
         None => judged_from(3, &[itself, agrees, false]),
     })

@@ -18,12 +18,12 @@ use Rattle.pls_facts.proofs.CycleDepths.{acyclic_by_depths, searched_differ, sea
 use Rattle.pls_facts.proofs.Levels.{levels_searched}
 use Rattle.pls_facts.proofs.Lists.{count_by-map, item_at}
 use Rattle.pls_facts.proofs.Neighbours.{adjacent_known}
-use Rattle.pls_colour.specs.declared.acyclic.CycleLabel.{CycleLabel}
-use Rattle.pls_colour.specs.Acyclic.{acyclic_limits, acyclic_rules, acyclic_says, acyclic_shape, cycle_says, differs_by_one, has_one_above, is_above, is_beside}
+use Rattle.pls_colour.specs.declared.acyclic.AcyclicLabel.{AcyclicLabel}
+use Rattle.pls_colour.specs.Acyclic.{acyclic_limits, acyclic_rules, acyclic_says, acyclic_shape, acyclic_label_at, differs_by_one, has_one_above, is_above, is_beside}
 use Rattle.pls_colour.specs.laws.LevelLaws.{AreSaidLevels, one_level_label, said_levels}
 
 -- the rules on what labels say, from the depths at the ports of a row
-module _ (say : ℕ → CycleLabel) (row : NodeRow) where
+module _ (say : ℕ → AcyclicLabel) (row : NodeRow) where
   -- depths that differ by one meet rule 3
   meets_rule_3 : ((port : Port) → Contains row.ports port
       → ((say port.nbr).depth ≡ (say row.id).depth + 1)
@@ -72,7 +72,7 @@ acyclic_show rows net joined say hold =
     (leb-true (count_by (is_above (say row.id).depth) (map (port_where say) row.ports)) 1
     (hold row in').1.0))
 
-module _ (rows : List NodeRow) (net : IsNetwork rows) (say : ℕ → CycleLabel)
+module _ (rows : List NodeRow) (net : IsNetwork rows) (say : ℕ → AcyclicLabel)
     (right : AreRightEverywhere (acyclic_says rows) rows say) where
   first : (first : NodeRow) × (slice_get rows 0 ≡ Some first)
   first = item_at rows 0 (let some = net.limits.some in omega (arith, some))
@@ -82,7 +82,7 @@ module _ (rows : List NodeRow) (net : IsNetwork rows) (say : ℕ → CycleLabel)
   levels = said_levels rows net first.0.id (λ id. (say id).depth) (λ row in'.
       let here = right row in' first.0 first.1 in
       subst (IsLevel (edges_of rows) first.0.id row.id)
-      (sym (ap (λ (label : CycleLabel). label.depth) here.2)) here.1)
+      (sym (ap (λ (label : AcyclicLabel). label.depth) here.2)) here.1)
 
   -- as a search gives them
   searched : AreSearched (edges_of rows) (ids_of rows) (λ id. (say id).depth)
@@ -105,7 +105,7 @@ acyclic_met rows net joined acyclic say right row in' = (
 -- one label is right for a node
 pub acyclic_one_right : OneIsRight IsAcyclic acyclic_says
 acyclic_one_right rows net joined acyclic row one other in' =
-    one_level_label cycle_says rows net row one other
+    one_level_label acyclic_label_at rows net row one other
 
 -- what is right is short
 pub acyclic_fits : (code : ℕ → List Bool) → Grows code → IsShort code

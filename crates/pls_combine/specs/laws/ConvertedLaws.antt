@@ -17,7 +17,7 @@ use Rattle.pls_universal.specs.laws.MapLaws.{map_numbers}
 use Rattle.pls_names.specs.laws.NamedLaws.{laws_of}
 use Rattle.pls_names.specs.laws.Recoding.{Changes, IsCode, JudgesAlike, changed, verdict_alike}
 use Rattle.pls_expressions.specs.Expression.{Expression, And, Bridgeless, Diameter, Map, Of, Or, test_of}
-use Rattle.pls_parts.specs.Combined.{else_second, judge_both, judge_one_of, judge_own_tag, judge_tagged, raised}
+use Rattle.pls_parts.specs.Combined.{else_second, judge_both, judge_one_of, judge_own_tag, judge_tagged, verdict_behind}
 use Rattle.pls_parts.specs.Joined.{joined_bits}
 use Rattle.pls_parts.specs.Parts.{first_part, has_parts, is_tagged, parts_of, second_part, tag_of}
 use Rattle.pls_parts.specs.laws.CutLaws.{both_parts, drop_front, take_front}
@@ -191,7 +191,7 @@ module _ (code new_code : ℕ → List Bool) (takes new_takes : List Bool → Op
         (Changes both_to) first first_changes first_same view each in
         let b = part_alike both_to second_to two new_two (second_part takes) (second_part new_takes)
         (Changes both_to) second second_changes second_same view each in
-        rw (own, new_own, ports, new_ports) (ap₂ (λ a b. else_second a (raised leaves b)) a b)
+        rw (own, new_own, ports, new_ports) (ap₂ (λ a b. else_second a (verdict_behind leaves b)) a b)
 
 module _ (first_to second_to : List Bool → Option (List Bool)) where
   -- what becomes of the part that a tag names, and of a label of a disjunction
@@ -313,7 +313,7 @@ module _ (first_to second_to : List Bool → Option (List Bool)) where
         (λ bits known. rest_changes false bits known.0 known.1)
         (λ bits known. rest_same false bits known.0 known.1) view each
     tagged_alike true view each =
-        ap (raised leaves) (part_alike one_of_to second_to two new_two (drop 1) (drop 1)
+        ap (verdict_behind leaves) (part_alike one_of_to second_to two new_two (drop 1) (drop 1)
         (λ bits. Changes one_of_to bits × (is_tagged true bits ≡ true)) second
         (λ bits known. rest_changes true bits known.0 known.1)
         (λ bits known. rest_same true bits known.0 known.1) view each)

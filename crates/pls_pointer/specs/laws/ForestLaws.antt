@@ -9,16 +9,16 @@ use Rattle.pls_scheme.proofs.Fitting.{within_fits}
 use Rattle.pls_facts.proofs.Bounded.{IsChainOf-short}
 use Rattle.pls_facts.proofs.ChainDepths.{chain_of_root, chains_fall}
 use Rattle.pls_facts.proofs.Chains.{Falls-NoneReturns, IsChainOf-one}
-use Rattle.pls_pointer.specs.declared.forest.DepthLabel.{DepthLabel}
+use Rattle.pls_pointer.specs.declared.forest.ForestLabel.{ForestLabel}
 use Rattle.pls_pointer.specs.Forest.{IsForest, forest_limits, forest_rules, forest_says, forest_shape}
-use Rattle.pls_pointer.specs.inner.Saying.{depth_says}
+use Rattle.pls_pointer.specs.inner.Saying.{forest_label_at}
 use Rattle.pls_pointer.specs.laws.PointingLaws.{deeper_falls, falls_deeper, points_or}
 
 -- where the rules hold everywhere, no chain of pointers returns
 pub forest_show : RulesShow forest_rules IsForest
 forest_show rows net joined say hold =
     Falls-NoneReturns rows (λ id. (say id).depth)
-    (deeper_falls (λ (label : DepthLabel). label.depth) say rows net
+    (deeper_falls (λ (label : ForestLabel). label.depth) say rows net
     (λ row in'. (hold row in').1.0))
 
 -- where what is said is right, the rules hold
@@ -29,7 +29,7 @@ forest_met rows net joined forest say right row in' = (
       (chain_of_root rows net row in' none (right row in').0 (say row.id).depth
       (right row in').1)),
   (
-    falls_deeper (λ (label : DepthLabel). label.depth) say rows net
+    falls_deeper (λ (label : ForestLabel). label.depth) say rows net
         (chains_fall rows net (λ id. (say id).depth) right) row in',
     tt,
   ),
@@ -38,7 +38,7 @@ forest_met rows net joined forest say right row in' = (
 -- one label is right for a node
 pub forest_one_right : OneIsRight IsForest forest_says
 forest_one_right rows net joined forest row one other in' mine theirs =
-    ap depth_says
+    ap forest_label_at
     (IsChainOf-one rows row.id mine.0 theirs.0 one.depth other.depth mine.1 theirs.1).1
 
 -- what is right is short

@@ -23,4 +23,5 @@ IsNetworkOf rows (Some net) = (is_network rows ≡ true) × (net ≡ nodes_of ro
 abbrev pub IsStated : (List NodeRow → Bool) → List MapRow → Option StatedNetwork → Type 0
 IsStated test rows None = is_network rows ≡ false
 IsStated test rows (Some stated) =
-    (is_network rows ≡ true) × (stated.net ≡ nodes_of rows) × (stated.has ≡ test (nodes_of rows))
+    (is_network rows ≡ true) × (stated.net ≡ nodes_of rows)
+    × (stated.has_property ≡ test (nodes_of rows))

@@ -32,11 +32,11 @@ pub term_front-returns-in-Some-after : goal.term_front-returns-in-Some-after
 term_front-returns-in-Some-after t c =
     rw (at_sum c.args.below c.args.text.now c.in-Some-after.rest.now
     (omega (arith, c.if-below-eq0.false)) (nothing_made (placed_term (names_of c.args.fields.now)) _ (c.in_default.ensures))
-    (c.in-Some-after.ensures)) c.behind_sum.ensures
+    (c.in-Some-after.ensures)) c.behind_add.ensures
 
 pub term_front-returns-in-Some-after-2 : goal.term_front-returns-in-Some-after-2
 term_front-returns-in-Some-after-2 t c =
     rw (at_port_sum c.args.below c.args.text.now c.in-Some-after-2.rest.now
     (omega (arith, c.if-below-eq0.false)) (nothing_made (placed_term (names_of c.args.fields.now)) _ (c.in_default.ensures))
     (c.in_default-after.ensures)
-    (c.in-Some-after-2.ensures)) c.behind_port_sum.ensures
+    (c.in-Some-after-2.ensures)) c.behind_sum.ensures

@@ -17,8 +17,8 @@ decreases-behind_junction l = 2 * l.below + 1
 abbrev pub decreases-behind_modifier : goal.decreases-behind_modifier
 decreases-behind_modifier l = 2 * l.below + 1
 
+abbrev pub decreases-behind_add : goal.decreases-behind_add
+decreases-behind_add l = 2 * l.below + 1
+
 abbrev pub decreases-behind_sum : goal.decreases-behind_sum
 decreases-behind_sum l = 2 * l.below + 1
-
-abbrev pub decreases-behind_port_sum : goal.decreases-behind_port_sum
-decreases-behind_port_sum l = 2 * l.below + 1

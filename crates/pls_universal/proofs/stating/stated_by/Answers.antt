@@ -21,6 +21,6 @@ returns g c =
       found.0,
       found.1,
       told (g.P.PropertyTest.test property) (g.P.Property.holds property)
-          (g.met.P.PropertyTest.test_law property) rows found.0 c.in_ok-has.has
-          (rw found.1 at (c.in_ok-has.ensures)),
+          (g.met.P.PropertyTest.test_law property) rows found.0 c.in_ok-has_property.has_property
+          (rw found.1 at (c.in_ok-has_property.ensures)),
     )

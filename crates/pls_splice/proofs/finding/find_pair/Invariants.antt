@@ -1,7 +1,7 @@
 use Rattle.std.proofs.Common.{◌≡◌, ◌-◌, ◌+◌, ◌<◌, ℕ, Vec, Global, length}
 use Rattle.pls_splice.specs.inner.Finding.{AreKeys, HasFirst, IsFoundFrom}
 use Rattle.pls_splice.specs.inner.Keys.{edge_key}
-use Rattle.pls_splice.proofs.finding.find.Given as goal
+use Rattle.pls_splice.proofs.finding.find_pair.Given as goal
 
 abbrev pub invariant-loop-turn : goal.invariant-loop-turn
 invariant-loop-turn l =

@@ -2,7 +2,7 @@ use Rattle.std.proofs.Common.{◌≡◌, ℕ, List, Option, IfSome, get_or, arit
 use Rattle.pls_configuration.specs.declared.row.Port.{Port}
 use Rattle.pls_scheme.specs.Reading.{ReadPort}
 use Rattle.pls_compile.proofs.TableRead.{port_read, ports_many}
-use Rattle.pls_compile.proofs.in_network.InNetworkSees.weight.Goals as goal
+use Rattle.pls_compile.proofs.in_network.NodeInNetworkSees.weight.Goals as goal
 
 pub bounds-self-port : goal.bounds-self-port
 bounds-self-port c =

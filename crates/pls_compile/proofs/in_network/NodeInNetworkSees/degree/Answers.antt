@@ -1,6 +1,6 @@
 use Rattle.std.proofs.Common.{sym}
 use Rattle.pls_compile.proofs.TableRead.{ports_many}
-use Rattle.pls_compile.proofs.in_network.InNetworkSees.degree.Goals as goal
+use Rattle.pls_compile.proofs.in_network.NodeInNetworkSees.degree.Goals as goal
 
 pub returns : goal.returns
 returns c =

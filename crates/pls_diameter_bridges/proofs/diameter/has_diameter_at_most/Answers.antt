@@ -1,6 +1,6 @@
 use Rattle.std.proofs.Common.{refl, arith}
 use Rattle.pls_diameter_bridges.proofs.Reached.{all_reach, reach_more, reaches_each}
-use Rattle.pls_diameter_bridges.proofs.diameter.has_diameter.Goals as goal
+use Rattle.pls_diameter_bridges.proofs.diameter.has_diameter_at_most.Goals as goal
 
 pub returns-then-not-branch : goal.returns-then-not-branch
 returns-then-not-branch c = (

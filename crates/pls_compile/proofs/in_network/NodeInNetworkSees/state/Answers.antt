@@ -1,5 +1,5 @@
 use Rattle.pls_compile.proofs.TableRead.{pointer_many}
-use Rattle.pls_compile.proofs.in_network.InNetworkSees.state.Goals as goal
+use Rattle.pls_compile.proofs.in_network.NodeInNetworkSees.state.Goals as goal
 
 pub returns-clause-pointer : goal.returns-clause-pointer
 returns-clause-pointer c =

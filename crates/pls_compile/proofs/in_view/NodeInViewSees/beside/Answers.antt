@@ -4,7 +4,7 @@ use Rattle.pls_labels.specs.Seen.{Seen, SeenPort}
 use Rattle.pls_labels.specs.declared.view.PortView.{PortView}
 use Rattle.pls_compile.specs.ReadLabels.{port_values}
 use Rattle.pls_compile.proofs.ShownPorts.{field_shown, shows}
-use Rattle.pls_compile.proofs.in_view.InViewSees.beside.Goals as goal
+use Rattle.pls_compile.proofs.in_view.NodeInViewSees.beside.Goals as goal
 
 pub returns : goal.returns
 returns c =

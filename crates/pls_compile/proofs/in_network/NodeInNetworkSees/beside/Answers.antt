@@ -1,6 +1,6 @@
 use Rattle.std.proofs.Common.{◌≡◌, arith}
 use Rattle.pls_compile.proofs.TableRead.{field_read, ports_many}
-use Rattle.pls_compile.proofs.in_network.InNetworkSees.beside.Goals as goal
+use Rattle.pls_compile.proofs.in_network.NodeInNetworkSees.beside.Goals as goal
 
 pub bounds-self-port : goal.bounds-self-port
 bounds-self-port c =

@@ -5,7 +5,7 @@ use Rattle.pls_splice.specs.inner.Keys.{edge_key}
 use Rattle.pls_splice.proofs.FirstPair.{found_first, found_none}
 use Rattle.pls_splice.proofs.Keyed.{key_here, keys_less, table_none}
 use Rattle.pls_splice.proofs.Passing.{found_now, table_more, table_now}
-use Rattle.pls_splice.proofs.finding.find.Goals as goal
+use Rattle.pls_splice.proofs.finding.find_pair.Goals as goal
 
 pub loop-turn-init : goal.loop-turn-init
 loop-turn-init c =
