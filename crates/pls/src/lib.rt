@@ -63,7 +63,7 @@ pub use pls_scheme_text::{SchemeError, print_expression, read_expression};
 pub use pls_universal::{MapLabel, PropertyTest};
 pub use schemes::{Acyclic, Bipartite, Count, Forest, Leader, MapOf, Mst, PathMax, Spt, Tree};
 
-// Networks that are edited while they are watched.
+// Networks that are judged again while they are edited.
 pub use pls_edits::Edit;
 pub use pls_graph_edits::EditError;
 pub use pls_recheck::{Bench, BenchJudge, EditedNetwork, Judge, Monitor, Recheck, Tally};

@@ -47,7 +47,7 @@ pub(crate) enum Content {
     /// The text of a network, and behind it labels of the same nodes, which become text as they are
     /// written.
     Configuration {
-        network: Vec<u8>,
+        network_text: Vec<u8>,
         code: CodeName,
         net: Network,
         labels: LabelStore,

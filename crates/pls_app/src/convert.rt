@@ -5,7 +5,7 @@ ghost use Rattle.pls_inputs.specs.Parts.{Input, code_in, labels_in, rows_in};
 ghost use Rattle.pls_streams.specs.declared.text_error.TextError.{TextError as Error};
 ghost use Rattle.pls_streams.specs.declared.text_error.Quantity.TheVariants.{Bits};
 ghost use Rattle.pls_bits.specs.declared.code_name.CodeName.TheVariants.{Delta as DeltaName};
-ghost use Rattle.pls_configuration.specs.declared.limits.TheConstants.{MAX_BITS as MOST};
+ghost use Rattle.pls_configuration.specs.declared.limits.TheConstants.{MAX_BITS};
 ghost use Rattle.pls_labels.specs.Labels.{bits_together};
 ghost use Rattle.pls_inputs.specs.Order.{over};
 ghost use Rattle.pls_app.specs.Answer.{labels_answer, refusal_answer};
@@ -46,9 +46,9 @@ pub(crate) fn convert<C: NumCode>(
 
 // Refuses labels with too many bits together.
 fn labels_within(alloc: Global, net: Network, labels: LabelStore) -> Result<Answer, NoMemory>
-    ensures within { over Bits MOST (bits_together labels) ≡ None
+    ensures within { over Bits MAX_BITS (bits_together labels) ≡ None
         → IfOk result (λ answer. answer ≡ labels_answer DeltaName net labels) }
-    ensures refused { (error : Error) → over Bits MOST (bits_together labels) ≡ Some error
+    ensures refused { (error : Error) → over Bits MAX_BITS (bits_together labels) ≡ Some error
         → IfOk result (λ answer. answer ≡ refusal_answer error) }
     ensures worked { IfOk result (λ answer. IsWorked answer.status) }
 {

@@ -2,7 +2,7 @@
 
 ghost use Rattle.std.specs.Prelude.{◌≡◌, IfErr, IfOk, OnOk, None, Some};
 ghost use Rattle.pls_streams.specs.declared.text_error.Quantity.TheVariants.{Labels};
-ghost use Rattle.pls_configuration.specs.declared.limits.TheConstants.{MAX_BITS as MOST};
+ghost use Rattle.pls_configuration.specs.declared.limits.TheConstants.{MAX_BITS};
 ghost use Rattle.pls_configuration.specs.declared.status.Status.TheVariants.{Done};
 ghost use Rattle.pls_components.specs.Components.{AreComponents};
 ghost use Rattle.pls_inputs.specs.Order.{over};
@@ -45,8 +45,8 @@ pub(crate) fn mark<C: NumCode>(
 
 // Refuses labels that can have too many bits together.
 fn test_room(room: u64) -> Result<(), TextError>
-    ensures within { OnOk result (over Labels MOST room ≡ None) }
-    ensures refused { IfErr result (λ error. over Labels MOST room ≡ Some error) }
+    ensures within { OnOk result (over Labels MAX_BITS room ≡ None) }
+    ensures refused { IfErr result (λ error. over Labels MAX_BITS room ≡ Some error) }
 {
     if room > MAX_BITS {
         return Err(TextError::Limit(Quantity::Labels));

@@ -151,11 +151,11 @@ fn write_content<K: Sink>(sink: &mut K, content: Content) -> Result<(), Fault>
         Content::Written(text) => write_all(sink, &text),
         Content::Labels { code, net, labels } => stream_labels(&net, &labels, code, sink),
         Content::Configuration {
-            network,
+            network_text,
             code,
             net,
             labels,
-        } => write_configuration(&network, code, &net, &labels, sink),
+        } => write_configuration(&network_text, code, &net, &labels, sink),
         Content::Report {
             simulated,
             parts,
@@ -167,7 +167,7 @@ fn write_content<K: Sink>(sink: &mut K, content: Content) -> Result<(), Fault>
 }
 
 fn write_configuration<K: Sink>(
-    network: &[u8],
+    network_text: &[u8],
     code: CodeName,
     net: &Network,
     labels: &LabelStore,
@@ -175,9 +175,9 @@ fn write_configuration<K: Sink>(
 ) -> Result<(), Fault>
     ensures { Writes [] [] (K.taken sink.old) (K.taken sink.new) (K.faults sink.old)
         (K.faults sink.new) (K.IsSureOf sink.old) (K.IsSureOf sink.new) result
-        (network.now ++ net_labels_text code net.now labels.now) }
+        (network_text.now ++ net_labels_text code net.now labels.now) }
 {
-    write_all(sink, network)?;
+    write_all(sink, network_text)?;
     stream_labels(net, labels, code, sink)
 }
 

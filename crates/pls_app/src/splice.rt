@@ -96,11 +96,11 @@ fn crossed_answer(
     ensures worked { IfOk result (λ answer. IsWorked answer.status) }
 {
     let made = cross(alloc, ring, &net, &labels, pair)?;
-    let network = write_network(alloc, &made)?;
+    let network_text = write_network(alloc, &made)?;
     Ok(Answer {
         status: Status::Done,
         content: Content::Configuration {
-            network,
+            network_text,
             code,
             net,
             labels,

@@ -49,8 +49,8 @@ pub struct Input {
 /// alone.
 ///
 /// The error is the first faulty line, counted from 1 over the whole input; else the first limit
-/// that is passed; else why the rows are no network, or the labels, edits or rules do not fit; or
-/// want of memory.
+/// that is passed; else why the rows are no network, the labels do not fit its nodes, or the rules
+/// make no sense; or want of memory.
 pub fn read_input(alloc: Global, parts: Parts, bytes: &[u8]) -> Result<Input, TextError>
     requires short { length bytes.now ≤ MAX_INPUT }
     requires behind { parts.labels ≡ true → parts.network ≡ true }
@@ -61,21 +61,21 @@ pub fn read_input(alloc: Global, parts: Parts, bytes: &[u8]) -> Result<Input, Te
     let texts = scan_parts(alloc, parts, bytes)?;
     test_limits(&texts)?;
     let Texts {
-        network: rows,
-        labels: named,
-        schedule: events,
-        edits: lines,
+        network: network_text,
+        labels: labels_text,
+        schedule: schedule_text,
+        edits: edits_text,
         watch: watch_text,
-        rules: expressions,
+        rules: rules_text,
     } = texts;
-    let network = build_network(alloc, rows)?;
-    let labels = build_labels(alloc, &named, &network)?;
-    let code = code(&named);
-    let first_line = first_line(&events, &lines, &watch_text);
-    let schedule = list_events(alloc, events)?;
-    let edits = list_edits(alloc, lines)?;
+    let network = build_network(alloc, network_text)?;
+    let labels = build_labels(alloc, &labels_text, &network)?;
+    let code = code_of(&labels_text);
+    let first_line = first_line_of(&schedule_text, &edits_text, &watch_text);
+    let schedule = list_events(alloc, schedule_text)?;
+    let edits = list_edits(alloc, edits_text)?;
     let watch = list_watch(alloc, watch_text)?;
-    let rules = build_rules(alloc, &expressions)?;
+    let rules = build_rules(alloc, &rules_text)?;
     Ok(Input {
         network,
         labels,
@@ -89,7 +89,7 @@ pub fn read_input(alloc: Global, parts: Parts, bytes: &[u8]) -> Result<Input, Te
 }
 
 // The gamma code where there are no labels.
-fn code(labels: &Option<LabelsText<'_>>) -> CodeName
+fn code_of(labels: &Option<LabelsText<'_>>) -> CodeName
     ensures { result ≡ code_of labels.now }
 {
     match labels {
@@ -99,7 +99,7 @@ fn code(labels: &Option<LabelsText<'_>>) -> CodeName
 }
 
 // 0 where there is no part for events, edits or a watch.
-fn first_line(
+fn first_line_of(
     schedule: &Option<ReadSchedule<'_>>,
     edits: &Option<ReadEdits<'_>>,
     watch: &Option<ReadWatch<'_>>,

@@ -71,7 +71,8 @@ fn push_node(
 
 // Adds nothing for fewer than two components.
 fn push_components(text: &mut String, parts: &[ComponentRow]) -> Result<(), NoMemory>
-    ensures { OnOk result (string_bytes text.new ≡ string_bytes text.old ++ components_text parts.now) }
+    ensures { OnOk result
+        (string_bytes text.new ≡ string_bytes text.old ++ components_text parts.now) }
 {
     if parts.len() < 2 {
         return Ok(());

@@ -5,7 +5,7 @@ use Rattle.pls_app.proofs.program.write_configuration.Goals as goal
 
 pub returns : goal.returns
 returns g c =
-    let front = c.args.network.now in
+    let front = c.args.network_text.now in
     let labels = net_labels_text c.args.code c.args.net.now c.args.labels.now in
     both [] _ _ _ c.stream_labels.result front labels
     (record {
@@ -21,7 +21,7 @@ returns g c =
 
 pub returns-in_err-write_all : goal.returns-in_err-write_all
 returns-in_err-write_all g c =
-    let front = c.args.network.now in
+    let front = c.args.network_text.now in
     let labels = net_labels_text c.args.code c.args.net.now c.args.labels.now in
     failed [] _ c.from_residual.result _ c.from_residual.ensures.0
     (front_first front labels (record {
