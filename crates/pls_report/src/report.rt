@@ -9,10 +9,10 @@ ghost use Rattle.pls_sim.specs.declared.outcome.Outcome.TheVariants.{Waiting};
 ghost use Rattle.pls_report.specs.ComponentLines.{if_several, component_line};
 ghost use Rattle.pls_report.specs.Report.{closing_line, outcome_line, report_text};
 
-use crate::counting;
-use crate::decided::put_decided;
 use crate::component_lines::write_components;
 use crate::component_row::ComponentRow;
+use crate::counting;
+use crate::decided::put_decided;
 use crate::pieces::{put_listed, put_waiting};
 use pls_sim::Outcome;
 use pls_streams::{Fault, Gathered, Sink};
