@@ -1,5 +1,5 @@
 //! Verdicts of rule sets on small networks: each set that has the name of a scheme judges as the
-//! scheme, and a set of no name as a plain program.
+//! scheme.
 
 ghost use Rattle.std.specs.Prelude.{◌≡◌, length};
 ghost use Rattle.pls_configuration.specs.Walk.{IsConnected};

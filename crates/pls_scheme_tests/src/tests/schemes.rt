@@ -159,8 +159,10 @@ fn maximal_independent_sets_are_marked(rt: HostRuntime) -> Result<(), Fail> {
     for (marks, bits) in MARKS {
         assert!(rt;
             marked_bits(rt.alloc(), *marks)? == *bits,
-            "marks {}",
-            marks[0]
+            "marks {} {} {}",
+            marks[0],
+            marks[1],
+            marks[2]
         );
     }
     Ok(())

@@ -25,7 +25,8 @@ const ROWS: &[(&str, &[NodeLook])] = &[
         &[(1, 1, 0, 0), (2, 0, 0, 1)],
     ),
     (
-        "emit 1 0\nrelabel 1 1 80\nrelabel 2 1 00\nemit 1 0\nemit 2 0\narrive 3\narrive 2\narrive 1\nlook\n",
+        "emit 1 0\nrelabel 1 1 80\nrelabel 2 1 00\nemit 1 0\nemit 2 0\n\
+         arrive 3\narrive 2\narrive 1\nlook\n",
         &[(1, 0, 0, 0), (2, 0, 0, 0)],
     ),
     (
