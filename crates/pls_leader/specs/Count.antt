@@ -78,10 +78,8 @@ is_summed view = view.own.size == children_sizes view.id view.ports + 1
 
 -- the rules from 3 on
 abbrev pub count_rules : Read CountLabel → List Bool
-count_rules view =
-    agrees_on_count view ∷ names_itself_and_total view ∷ count_root_is_at_0 view
-    ∷ is_below_or_whole view
-    ∷ falls_to_parent view ∷ is_summed view ∷ []
+count_rules view = agrees_on_count view ∷ names_itself_and_total view ∷ count_root_is_at_0 view
+    ∷ is_below_or_whole view ∷ falls_to_parent view ∷ is_summed view ∷ []
 
 -- the other node is one edge nearer to the root
 abbrev pub IsOneNearer : List NodeRow → ℕ → ℕ → ℕ → Type 0
