@@ -34,7 +34,7 @@ pub(crate) fn bound<C: NumCode>(
 {
     // A network is valid.
     net.len();
-    let bound = bound_parts(alloc, scheme, net, parts)?;
+    let bound = bound_parts(scheme, net, parts);
     let text = format!(in alloc; "bound {bound}\n")?;
     Ok(Answer {
         status: Status::Done,

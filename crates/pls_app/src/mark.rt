@@ -36,7 +36,7 @@ pub(crate) fn mark<C: NumCode>(
     ensures shows { IfOk result (λ answer. answer.status ≡ Done
         → ShowsIn code scheme.now net answer.text) }
 {
-    let room = room_parts(alloc, scheme, &net, parts)?;
+    let room = room_parts(scheme, &net, parts);
     match test_room(room) {
         Ok(()) => mark_within(alloc, scheme, code, net, parts),
         Err(error) => refuse(alloc, error),

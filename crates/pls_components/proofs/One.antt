@@ -40,7 +40,7 @@ long_zeros : (first count : ℕ) → length (places_from first (replicate count 
 long_zeros first zero = refl
 long_zeros first (suc count) = let rest = long_zeros (first + 1) count in omega arith
 
-pub one_items : (many : ℕ) (members : List ℕ) (span : Span) → span.start ≡ 0 → span.count ≡ many
+one_items : (many : ℕ) (members : List ℕ) (span : Span) → span.start ≡ 0 → span.count ≡ many
     → members ≡ places_of_number (replicate many 0) 0
     → span_items members span ≡ places_of_number (replicate many 0) 0
 one_items many members span start count is =
@@ -49,7 +49,7 @@ one_items many members span start count is =
     (let long = ap (length {A = ℕ}) is in let total = long_zeros 0 many in omega arith)
     ∙ is
 
-pub one_sorted : (many : ℕ) (members : List ℕ) (span : Span) → span.start ≡ 0 → span.count ≡ many
+one_sorted : (many : ℕ) (members : List ℕ) (span : Span) → span.start ≡ 0 → span.count ≡ many
     → members ≡ places_of_number (replicate many 0) 0
     → AreSorted (replicate many 0) (span_items members span ∷ [])
 one_sorted many members span start count is zero places there =

@@ -48,9 +48,3 @@ abbrev pub FitsInEach : (List NodeRow → List (List Bool) → Type 0) → List 
     → List (List Bool) → Type 0
 FitsInEach fits rows labels = (places : List ℕ) → IsComponent rows places
     → fits (items_at rows places) (items_at labels places)
-
--- the component of this number has the node at this place
-pub record StandsIn (parts : List (List ℕ)) (number place : ℕ) : Type 0 where
-  pub places : List ℕ
-  pub there : slice_get parts number ≡ Some places
-  pub among : Contains places place

@@ -2,7 +2,7 @@
 
 ghost use Rattle.std.specs.Prelude.{◌≡◌, ◌<◌, ◌++◌, ◌∷◌, ℕ, List, [], All, IfOk, OnOk, Some, length, map, slice_get};
 ghost use Rattle.pls_configuration.specs.declared.row.NodeRow.{NodeRow};
-ghost use Rattle.pls_components.specs.Components.{AreComponents, StandsIn, items_at, least_id};
+ghost use Rattle.pls_components.specs.Components.{AreComponents, items_at, least_id};
 
 use crate::part_size::size_at;
 use pls_graph::{Network, NetworkBuilder};
@@ -25,8 +25,6 @@ pub struct Components {
     // own.
     pub(crate) members: Vec<u32>,
     pub(crate) spans: Vec<Span>,
-    // For each place the number of its component.
-    pub(crate) numbers: Vec<u32>,
 }
 
 impl Model for Components {
@@ -34,12 +32,11 @@ impl Model for Components {
 
     ghost Value = { List (List ℕ) };
 
-    ghost use Rattle.pls_components.specs.inner.Numbers.{AreSorted, AreSpans, span_items};
+    ghost use Rattle.pls_components.specs.inner.Numbers.{AreSpans, span_items};
 
     ghost view = { λ parts. map (span_items parts.members.items) parts.spans.items };
 
-    ghost invariant = { λ parts. AreSpans parts.members.items parts.spans.items
-        × AreSorted parts.numbers.items (map (span_items parts.members.items) parts.spans.items) };
+    ghost invariant = { λ parts. AreSpans parts.members.items parts.spans.items };
 }
 
 impl Components {
@@ -59,15 +56,6 @@ impl Components {
     {
         let span = self.spans[k];
         &self.members[span.start..span.start + span.count]
-    }
-
-    /// The number of the component that has the node at place `i`.
-    #[inline(always)]
-    pub fn of(&self, i: usize) -> u32
-        requires { (k : ℕ) × StandsIn self.now k i }
-        ensures { StandsIn self.now result i }
-    {
-        self.numbers[i]
     }
 
     /// The smallest identity of component `k`, by which it is named.

@@ -1,6 +1,6 @@
 //! How the components of a network are found.
 
-ghost use Rattle.std.specs.Prelude.{◌≡◌, IfOk, replicate};
+ghost use Rattle.std.specs.Prelude.{IfOk};
 ghost use Rattle.pls_configuration.specs.Walk.{IsConnected};
 ghost use Rattle.pls_components.specs.Components.{AreComponents};
 
@@ -11,9 +11,9 @@ use pls_graph::{Network, node_apart};
 use pls_streams::NoMemory;
 use std::alloc::Global;
 
-/// The components of a network, in the order of their smallest identities. It takes time in nodes
-/// and ports, which are gone over once where the network is connected and twice where it is not.
-/// The one error is want of memory.
+/// The components of a network, in the order of their smallest identities. Its time is linear in
+/// nodes and ports, which are gone over once where the network is connected and twice where it is
+/// not. The one error is want of memory.
 pub fn components(alloc: Global, net: &Network) -> Result<Components, NoMemory>
     ensures { IfOk result (λ parts. AreComponents net.now parts) }
 {
@@ -29,25 +29,13 @@ fn one_component(alloc: Global, net: &Network) -> Result<Components, NoMemory>
 {
     // A network is valid.
     let count = net.len();
-    let numbers = all_zero(alloc, count)?;
     let mut members = Vec::with_capacity(alloc, count)?;
     for place in 0..count {
         members.push(place as u32)?;
     }
     let mut spans = Vec::new(alloc);
     spans.push(Span { start: 0, count })?;
-    Ok(Components {
-        members,
-        spans,
-        numbers,
-    })
-}
-
-// With one component, each place has the number 0.
-fn all_zero(alloc: Global, count: usize) -> Result<Vec<u32>, NoMemory>
-    ensures { IfOk result (λ numbers. numbers.items ≡ replicate count 0) }
-{
-    Ok(vec![in alloc; 0u32; count]?)
+    Ok(Components { members, spans })
 }
 
 // Sorts the places by component number, which rises with the smallest identity.
@@ -56,14 +44,9 @@ fn several_components(alloc: Global, net: &Network) -> Result<Components, NoMemo
 {
     // A network is valid.
     net.len();
-    let numbered = number_all(alloc, net)?;
-    let numbers = all_numbers(alloc, numbered.0.as_slice())?;
-    let buckets = buckets_of(alloc, numbers.as_slice(), numbered.1)?;
-    let spread = buckets.spread(alloc, numbers.as_slice(), numbered.1)?;
-    let (members, spans) = spread;
-    Ok(Components {
-        members,
-        spans,
-        numbers,
-    })
+    let (found, count) = number_all(alloc, net)?;
+    let numbers = all_numbers(alloc, found.as_slice())?;
+    let buckets = buckets_of(alloc, numbers.as_slice(), count)?;
+    let (members, spans) = buckets.spread(alloc, numbers.as_slice(), count)?;
+    Ok(Components { members, spans })
 }

@@ -1,10 +1,10 @@
-//! Laws without a body: each node is in a component, it sees there what it sees in the network, and
-//! where all nodes of a component accept, the component has the property.
+//! Laws without a body: a node sees in its component what it sees in the network, and where all
+//! nodes of a component accept, the component has the property.
 
 ghost use Rattle.std.specs.Prelude.{◌≡◌, ◌<◌, ℕ, List, Contains, Some, length, slice_get};
 ghost use Rattle.pls_labels.specs.Seen.{views};
 ghost use Rattle.pls_scheme.specs.Judging.{verdicts_by};
-ghost use Rattle.pls_components.specs.Components.{AreComponents, StandsIn, items_at};
+ghost use Rattle.pls_components.specs.Components.{AreComponents, items_at};
 ghost use Rattle.pls_components.specs.Parts.{AcceptAt};
 
 use crate::component_list::Components;
@@ -12,13 +12,6 @@ use pls_facts::is_valid;
 use pls_graph::Network;
 use pls_labels::LabelStore;
 use pls_scheme::{Checker, Scheme};
-
-/// Each node of the network is in a component, so that [`Components::of`] may be asked for it.
-pub fn in_a_component(net: &Network, parts: &Components, i: usize)
-    requires made { AreComponents net.now parts.now }
-    requires within { i < length net.now }
-    ensures { (k : ℕ) × StandsIn parts.now k i }
-{}
 
 /// A node's view in its component by itself, with the labels there, is its view in the network, and
 /// so the verdicts on both are the same. The node is that at place `i`; it stands at place `j` of

@@ -28,7 +28,7 @@ mod part_size;
 pub use component_list::Components;
 pub use finding::components;
 pub use id_list::IdList;
-pub use laws::{in_a_component, local_parts, sound_parts};
+pub use laws::{local_parts, sound_parts};
 pub use mark_result::MarkResult;
 pub use part_bounds::{bound_parts, room_parts};
 pub use part_marks::mark_parts;

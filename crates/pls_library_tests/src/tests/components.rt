@@ -4,7 +4,7 @@ use super::network;
 use pls_bits::Gamma;
 use pls_colour::{Acyclic, Bipartite};
 use pls_components::{
-    Components, IdList, MarkResult, bound_parts, components, in_a_component, mark_parts, room_parts,
+    Components, IdList, MarkResult, bound_parts, components, mark_parts, room_parts,
 };
 use pls_graph::{Network, node_apart};
 use pls_labels::LabelStore;
@@ -56,18 +56,6 @@ fn components_come_by_their_smallest_identities(rt: HostRuntime) -> Result<(), F
     for (text, due) in PLACES {
         let parts = components(rt.alloc(), &network(rt.alloc(), text)?)?;
         assert_places(&rt, &parts, due);
-    }
-    Ok(())
-}
-
-#[test]
-fn a_node_is_in_its_component(rt: HostRuntime) -> Result<(), Fail> {
-    let eight = network(rt.alloc(), EIGHT)?;
-    let three = components(rt.alloc(), &eight)?;
-    assert!(rt; eight.len() == 8, "eight nodes");
-    for (place, due) in [0, 1, 2, 0, 1, 0, 2, 1].iter().enumerate() {
-        in_a_component(&eight, &three, place);
-        assert!(rt; three.of(place) == *due, "the node at place {place}");
     }
     Ok(())
 }
@@ -143,13 +131,13 @@ fn all_components_that_lack_the_property_are_named(rt: HostRuntime) -> Result<()
 // The greatest number of bits of one label, with each component marked by itself.
 fn bound<S: Scheme>(alloc: Global, scheme: &S, net: &Network) -> Result<u64, NoMemory> {
     let parts = components(alloc, net)?;
-    bound_parts(alloc, scheme, net, &parts)
+    Ok(bound_parts(scheme, net, &parts))
 }
 
 // The greatest number of bits of all labels together.
 fn room<S: Scheme>(alloc: Global, scheme: &S, net: &Network) -> Result<u64, NoMemory> {
     let parts = components(alloc, net)?;
-    room_parts(alloc, scheme, net, &parts)
+    Ok(room_parts(scheme, net, &parts))
 }
 
 // `bound` and `room` of the network in `text`.

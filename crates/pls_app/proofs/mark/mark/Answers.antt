@@ -28,7 +28,8 @@ returns-in-Ok-clause-does g c =
     (λ answer marks input same. inr (
       ap (λ (rows : List NodeRow). over Labels MAX_BITS (room_in code scheme rows parts)) same
           ∙ (λ i. over Labels MAX_BITS (room_of_parts (longest_of (sym writes i) scheme) net parts))
-          ∙ over_room Labels MAX_BITS _ c.in_ok-room.room (omega arith) c.in_ok-room.ensures
+          ∙ over_room Labels MAX_BITS _ c.room_parts-room.result (omega arith)
+          c.room_parts-room.ensures
           ∙ c.in-Ok.ensures.within,
       subst (λ (rows : List NodeRow). Marks code scheme rows parts answer) (sym same) marks,
     )) c.mark_within.ensures.marks
@@ -47,7 +48,8 @@ returns-in-Err-clause-does g c =
       c.in-Err.error,
       ap (λ (rows : List NodeRow). over Labels MAX_BITS (room_in code scheme rows parts)) same
           ∙ (λ i. over Labels MAX_BITS (room_of_parts (longest_of (sym writes i) scheme) net parts))
-          ∙ over_room Labels MAX_BITS _ c.in_ok-room.room (omega arith) c.in_ok-room.ensures
+          ∙ over_room Labels MAX_BITS _ c.room_parts-room.result (omega arith)
+          c.room_parts-room.ensures
           ∙ c.in-Err.ensures.refused,
       says,
     )) c.refuse.ensures.says

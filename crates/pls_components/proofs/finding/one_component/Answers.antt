@@ -1,8 +1,8 @@
-use Rattle.std.proofs.Common.{◌≡◌, ◌∙◌, ◌∷◌, [], List, ℕ, length, map, replicate, refl, subst, sym, arith}
+use Rattle.std.proofs.Common.{◌≡◌, ◌∙◌, List, ℕ, length, map, replicate, refl, subst, sym, arith}
 use Rattle.pls_components.specs.Components.{AreComponents}
 use Rattle.pls_components.specs.declared.component_list.Span.{Span}
-use Rattle.pls_components.specs.inner.Numbers.{AreSorted, AreSpans, places_of_number, span_items}
-use Rattle.pls_components.proofs.One.{one_part, one_sorted, one_spans, zeros-more}
+use Rattle.pls_components.specs.inner.Numbers.{AreSpans, places_of_number, span_items}
+use Rattle.pls_components.proofs.One.{one_part, one_spans, zeros-more}
 use Rattle.pls_components.proofs.finding.one_component.Goals as goal
 
 pub loop-place-preserved : goal.loop-place-preserved
@@ -30,17 +30,7 @@ invariant_of-result c =
     omega (arith, c.loop-place-test.false, len) in
     let items = subst (λ (n : ℕ). c.loop-place.members.items ≡ places_of_number (replicate n 0) 0) end
     c.loop-place.invariant in
-    let is = rw c.new-spans.ensures.items at c.in_ok-push-2.ensures.items in (
-      subst (AreSpans c.loop-place.members.items) (sym is)
-          (one_spans c.len-count.result c.loop-place.members.items
-          (record { start = 0; count = c.len-count.result }) refl refl items),
-      subst (λ (spans : List Span). AreSorted c.in_ok-numbers.numbers.items
-          (map (span_items c.loop-place.members.items) spans))
-          (sym is)
-          (subst (λ (numbers : List ℕ). AreSorted numbers
-          (span_items c.loop-place.members.items
-          (record { start = 0; count = c.len-count.result }) ∷ []))
-          (sym c.in_ok-numbers.ensures)
-          (one_sorted c.len-count.result c.loop-place.members.items
-          (record { start = 0; count = c.len-count.result }) refl refl items)),
-    )
+    subst (AreSpans c.loop-place.members.items)
+    (sym (rw c.new-spans.ensures.items at c.in_ok-push-2.ensures.items))
+    (one_spans c.len-count.result c.loop-place.members.items
+    (record { start = 0; count = c.len-count.result }) refl refl items)

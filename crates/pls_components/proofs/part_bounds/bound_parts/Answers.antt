@@ -42,6 +42,6 @@ loop-k-preserved g c =
     let more : max c.loop-k.most (min (f places) (2 ^ 64 - 1))
     ≡ min (greatest (map f (take (k + 1) parts))) (2 ^ 64 - 1) =
     greatest-more f parts k c.loop-k.most (2 ^ 64 - 1) places c.members.ensures c.loop-k.invariant in
-    let all : c.greater-most.result ≡ min (greatest (map f (take (k + 1) parts))) (2 ^ 64 - 1) =
-    omega (arith, c.greater-most.ensures, bound, more) in
+    let all : c.max-most.result ≡ min (greatest (map f (take (k + 1) parts))) (2 ^ 64 - 1) =
+    omega (arith, c.max-most.ensures, bound, more) in
     all
