@@ -49,8 +49,8 @@ pub struct Input {
 /// alone.
 ///
 /// The error is the first faulty line, counted from 1 over the whole input; else the first limit
-/// that is passed; else why the rows are no network, or the labels, edits or rules do not fit; or
-/// want of memory.
+/// that is passed; else why the rows are no network, the labels do not fit its nodes, or the rules
+/// make no sense; or want of memory.
 pub fn read_input(alloc: Global, parts: Parts, bytes: &[u8]) -> Result<Input, TextError>
     requires short { length bytes.now ≤ MAX_INPUT }
     requires behind { parts.labels ≡ true → parts.network ≡ true }
