@@ -1,14 +1,16 @@
 -- Flags that are taken back one by one from the front.
-use Rattle.std.proofs.Common.{◌≡◌, ◌≢◌, ◌∙◌, inl, inr, ℕ, zero, suc, ◌+◌, ◌<◌, ◌≤◌, Bool, true, false, List, [], ◌∷◌, drop, length, set, slice_get, Some, refl, sym, ap, subst, arith, get_or, Result, Ok, Err, OnErr}
+use Rattle.std.proofs.Common.{◌≡◌, ◌≢◌, ◌∙◌, inl, inr, ℕ, zero, suc, ◌+◌, ◌<◌, ◌≤◌, Bool, true, false, cond, List, [], ◌∷◌, count_by, drop, length, set, slice_get, Some, refl, sym, ap, subst, arith, get_or, Result, Ok, Err, OnErr}
 use Rattle.std.proofs.lemmas.Bool.{cases_order}
 use Rattle.std.proofs.lemmas.List.{length-map, length-set, get_or-set_same, get_or-set_other}
+use Rattle.std.proofs.lemmas.List.Recursion.{is_count_by}
 use Rattle.std.proofs.lemmas.Option.{same_Some, slice_get_within, slice_get-get_or, slice_get_read, get_or_from_slice_get}
 use Rattle.pls_configuration.specs.declared.row.NodeRow.{NodeRow}
 use Rattle.pls_configuration.specs.declared.verdict.Verdict.{Verdict}
 use Rattle.pls_configuration.specs.Configuration.{IsNetwork, ids_of}
+use Rattle.pls_streams.specs.Steps.{up_by}
 use Rattle.pls_labels.specs.Seen.{Seen, views}
 use Rattle.pls_graph.proofs.Placed.{ids_differ}
-use Rattle.pls_recheck.specs.Snapshot.{is_number_among}
+use Rattle.pls_recheck.specs.Snapshot.{RiseTogether, is_number_among}
 use Rattle.pls_recheck.specs.inner.Flags.{AreCurrent, cleared, marked, set_among}
 use Rattle.pls_recheck.proofs.Marked.{among_marked, id_at_view}
 
@@ -81,6 +83,17 @@ cleared_more i flags within =
 pub cleared_same : (i : ℕ) (flags : List Bool) → slice_get flags i ≡ Some false
     → cleared i flags ≡ cleared (i + 1) flags
 cleared_same i flags at = clear_none i flags at ∙ ap (λ (n : ℕ). cleared n flags) (next i)
+
+pub count_by-set : (flags : List Bool)
+    → set_among (length flags) flags ≡ count_by (λ (flag : Bool). flag) flags
+count_by-set flags =
+    is_count_by (λ (flags : List Bool). set_among (length flags) flags) (λ (flag : Bool). flag) refl
+    more flags
+  where
+    more : (flag : Bool) (flags : List Bool) → set_among (length (flag ∷ flags)) (flag ∷ flags)
+        ≡ cond flag (1 + set_among (length flags) flags) (set_among (length flags) flags)
+    more true flags = omega arith
+    more false flags = refl
 
 drop_nothing : (k : ℕ) (xs : List ℕ) → xs ≡ [] → xs ≡ drop k xs
 drop_nothing zero xs none = refl
@@ -202,6 +215,20 @@ pub judged_same : (one other : Seen → Verdict) → one ≡ other → (found : 
     → found ≡ (view.id, one view) → found ≡ (view.id, other view)
 judged_same one other same found view is =
     subst (λ (judge : Seen → Verdict). found ≡ (view.id, judge view)) same is
+
+-- one node more was asked about, or none
+pub rise_more : (count checked : ℕ) → count ≡ checked
+    → {spent asked now steps made after : ℕ} → asked ≡ up_by count spent → made ≡ up_by count steps
+    → RiseTogether 0 asked now made after → RiseTogether checked spent now steps after
+rise_more count checked is spent_is steps_are early = record {
+  rose = count + early.rose;
+  rose_is = elim early.rose_is [
+    | inl none ↦ inl (omega (arith, none, is))
+    | inr one ↦ inr (omega (arith, one, is))
+  ];
+  spent_is = omega (arith, early.spent_is, spent_is);
+  steps_are = omega (arith, early.steps_are, steps_are);
+}
 
 pub on_err : {X E : Type 0} (result : Result X E) (P : Type 0) → P → OnErr result P
 on_err (Ok x) P p = tt

@@ -1,7 +1,7 @@
 -- The nodes that are noted, since they and their neighbours are all touched.
-use Rattle.std.proofs.Common.{◌≡◌, ◌≢◌, ◌∙◌, inl, inr, ℕ, zero, suc, ◌<◌, ◌≤◌, Bool, true, false, cond, ◌==◌, ◌||◌, List, [], ◌∷◌, map, length, set, slice_get, position, Some, None, option_map, refl, sym, ap, arith, get_or}
+use Rattle.std.proofs.Common.{◌≡◌, ◌≢◌, ◌∙◌, inl, inr, ℕ, ◌<◌, Bool, true, false, cond, ◌==◌, ◌||◌, List, [], ◌∷◌, map, length, replicate, set, slice_get, position, Some, None, option_map, refl, sym, ap, arith, get_or}
 use Rattle.std.proofs.lemmas.Bool.{cases_order, ne_eqb}
-use Rattle.std.proofs.lemmas.List.{length-map, length-set, get_or-set_same, get_or-set_other}
+use Rattle.std.proofs.lemmas.List.{length-map, length-replicate, length-set, get_or-set_same, get_or-set_other}
 use Rattle.std.proofs.lemmas.Option.{same_Some, slice_get-map, slice_get-get_or, slice_get_within, get_or_from_slice_get}
 use Rattle.pls_configuration.specs.declared.row.Port.{Port}
 use Rattle.pls_configuration.specs.declared.row.NodeRow.{NodeRow}
@@ -11,24 +11,15 @@ use Rattle.pls_configuration.specs.Configuration.{IsNetwork, ids_of}
 use Rattle.pls_graph_edits.specs.Edits.{change_row, changed, in_state, weighed, weighing, with_state, with_weight}
 use Rattle.pls_graph.proofs.Finds.{fails_where_no_position, item_at}
 use Rattle.pls_graph.proofs.Placed.{place_of_row}
-use Rattle.pls_recheck.specs.inner.Flags.{AreAround, MatchRows, ClearsSome, MarksMore, beside_itself, cleared, names}
-use Rattle.pls_recheck.proofs.Cleared.{length-cleared}
+use Rattle.pls_recheck.specs.inner.Flags.{AreAround, MatchRows, ClearsSome, MarksMore, beside_itself, names}
+use Rattle.pls_recheck.proofs.Marked.{none_is_set}
 use Rattle.pls_recheck.proofs.Steady.{Stays}
 
--- no flag is set where all were taken back
-pub none_set : (i : ℕ) (flags : List Bool) (k : ℕ) → length flags ≤ i
-    → slice_get (cleared i flags) k ≡ Some true → ⊥
-none_set zero [] k past at = absurd (cc)
-none_set (suc i) [] k past at = absurd (cc)
-none_set zero (flag ∷ flags) k past at = omega (arith, past)
-none_set (suc i) (flag ∷ flags) zero past at = absurd (cc)
-none_set (suc i) (flag ∷ flags) (suc k) past at = none_set i flags k (omega (arith, past)) at
-
-pub nothing_noted : (rows : List NodeRow) (flags around : List Bool) (i : ℕ)
-    → length around ≡ length rows → length around ≤ i → AreAround rows flags (cleared i around)
-nothing_noted rows flags around i many past = record {
-  as_many = length-cleared i around ∙ many;
-  each = λ k j row other at noted there near. absurd (none_set i around k past noted);
+pub nothing_noted : (rows : List NodeRow) (flags : List Bool) (n : ℕ) → n ≡ length rows
+    → AreAround rows flags (replicate n false)
+nothing_noted rows flags n many = record {
+  as_many = length-replicate n false ∙ many;
+  each = λ k j row other at noted there near. absurd (none_is_set n k noted);
 }
 
 module _ (rows : List NodeRow) (net : IsNetwork rows) (old : List Bool) (id : ℕ) where

@@ -26,13 +26,17 @@ IsCurrent judge now =
     → is_number_among now.touched view.id ≡ false
     → slice_get now.kept place ≡ Some (view.id, judge view)
 
+-- the judge's count and the counter of steps rose by so many, or both by one more
+pub record RiseTogether (checked spent spent_then steps steps_then : ℕ) : Type 0 where
+  pub rose : ℕ
+  pub rose_is : (rose ≡ checked) ⊎ (rose ≡ checked + 1)
+  pub spent_is : spent_then ≡ up_by rose spent
+  pub steps_are : steps_then ≡ up_by rose steps
+
 -- a round that lacked memory: the first nodes were checked, but not all, and the judge's count and
 -- the counter of steps rose by as many, or by one more
 pub record EndsEarly (touched left : List ℕ) (spent spent_then steps steps_then : ℕ) : Type 0 where
   pub checked : ℕ
   pub not_all : checked < length touched
   pub left_is : left ≡ drop checked touched
-  pub rose : ℕ
-  pub rose_is : (rose ≡ checked) ⊎ (rose ≡ checked + 1)
-  pub spent_is : spent_then ≡ up_by rose spent
-  pub steps_are : steps_then ≡ up_by rose steps
+  pub rise : RiseTogether checked spent spent_then steps steps_then

@@ -127,7 +127,7 @@ fn touch_ends(net: &Network, a: u32, b: u32, flags: &mut Vec<bool>)
     touch(net, b, flags);
 }
 
-pub(crate) fn touch(net: &Network, id: u32, flags: &mut Vec<bool>)
+fn touch(net: &Network, id: u32, flags: &mut Vec<bool>)
     requires { length flags.old.items ≡ length net.now }
     ensures valid { IsNetwork net.now }
     ensures touched { MarksMore (λ node. id == node) net.now flags.old.items flags.new.items }

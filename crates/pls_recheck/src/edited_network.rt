@@ -122,11 +122,5 @@ fn flags_of(alloc: Global, flag: bool, count: usize) -> Result<Vec<bool>, NoMemo
 fn count_set(flags: &[bool]) -> usize
     ensures { result ≡ set_among (length flags.now) flags.now }
 {
-    let mut count = 0;
-    for i in 0..flags.len() {
-        if flags[i] {
-            count += 1;
-        }
-    }
-    count
+    flags.iter().filter(|flag| **flag).count()
 }

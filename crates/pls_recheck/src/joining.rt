@@ -3,7 +3,6 @@
 ghost use Rattle.std.specs.Prelude.{◌≡◌, ◌<◌, ◌≤◌, [], insert, length, vec_capacity, None, Some, IfOk, IfErr, OnErr, OnOk};
 ghost use Rattle.pls_configuration.specs.declared.limits.TheConstants.{MAX_NUM};
 ghost use Rattle.pls_configuration.specs.declared.verdict.Verdict.{Verdict};
-ghost use Rattle.pls_configuration.specs.declared.verdict.Verdict.TheVariants.{Accept};
 ghost use Rattle.pls_graph_edits.specs.Edits.{SaysEdit, joined, join_refusal, leave_refusal, without_node};
 ghost use Rattle.pls_configuration.specs.Configuration.{IsNetwork};
 ghost use Rattle.pls_graph.specs.Places.{place_in};
@@ -38,9 +37,10 @@ impl EditedNetwork {
         self.around.reserve(1)?;
         self.kept.reserve(1)?;
         let i = join_with_label(&mut self.net, &mut self.labels, id, mark, num)?;
-        put_flag(&mut self.flags, i, true);
-        put_flag(&mut self.around, i, false);
-        put_verdict(&mut self.kept, i);
+        insert_reserved(&mut self.flags, i, true);
+        insert_reserved(&mut self.around, i, false);
+        // A placeholder, as the node is not judged yet.
+        insert_reserved(&mut self.kept, i, (0, Verdict::Accept));
         Ok(i)
     }
 
@@ -110,21 +110,11 @@ fn take_back(net: &mut Network, id: u32)
     prove!(gone.is_ok());
 }
 
-fn put_flag(flags: &mut Vec<bool>, i: usize, flag: bool)
-    requires within { i ≤ length flags.old.items }
-    requires room { length flags.old.items < vec_capacity flags.old }
-    ensures { flags.new.items ≡ insert flags.old.items i flag }
+pub(crate) fn insert_reserved<T: Drop>(items: &mut Vec<T>, i: usize, item: T)
+    requires within { i ≤ length items.old.items }
+    requires room { length items.old.items < vec_capacity items.old }
+    ensures { items.new.items ≡ insert items.old.items i item }
 {
-    let put = flags.insert(i, flag);
-    prove!(put.is_ok());
-}
-
-// Puts in a placeholder, as the node is not judged yet.
-fn put_verdict(kept: &mut Vec<(u32, Verdict)>, i: usize)
-    requires within { i ≤ length kept.old.items }
-    requires room { length kept.old.items < vec_capacity kept.old }
-    ensures { kept.new.items ≡ insert kept.old.items i (0, Accept) }
-{
-    let put = kept.insert(i, (0, Verdict::Accept));
+    let put = items.insert(i, item);
     prove!(put.is_ok());
 }

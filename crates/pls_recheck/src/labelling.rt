@@ -8,7 +8,7 @@ ghost use Rattle.pls_graph.specs.Places.{place_in};
 ghost use Rattle.pls_labels.specs.Labels.{bits_together};
 ghost use Rattle.pls_labels.specs.Seen.{Seen};
 ghost use Rattle.pls_edits.specs.Edited.{label_refusal};
-ghost use Rattle.pls_configuration.specs.declared.limits.TheConstants.{MAX_BITS};
+ghost use Rattle.pls_configuration.specs.declared.limits.TheConstants.{MAX_BITS as MOST};
 ghost use Rattle.pls_edits.specs.declared.edit.Edit.TheVariants.{Label};
 ghost use Rattle.pls_recheck.specs.After.{snapshot_after};
 ghost use Rattle.pls_recheck.specs.Snapshot.{IsCurrent};
@@ -16,12 +16,10 @@ ghost use Rattle.pls_recheck.specs.inner.Flags.{AreAround, MarksMore, SetsAt, be
 
 use crate::edited_network::EditedNetwork;
 use pls_bits::BitBuf;
+use pls_configuration::MAX_BITS;
 use pls_edits::EditError;
 use pls_graph::Network;
 use pls_labels::LabelStore;
-
-// The greatest number of bits of all labels together, 2^28.
-const MOST_BITS: u64 = 268_435_456;
 
 impl EditedNetwork {
     // Gives the node's place.
@@ -52,12 +50,12 @@ impl EditedNetwork {
     }
 }
 
-// Whether all labels would exceed `MOST_BITS` with `bits` at place `i`.
+// Whether all labels would exceed `MAX_BITS` with `bits` at place `i`.
 fn is_full(labels: &LabelStore, i: usize, bits: &BitBuf) -> bool
     requires { i < length labels.now }
-    ensures { result ≡ nat_lt MAX_BITS (bits_together (slice_set labels.now i bits.now)) }
+    ensures { result ≡ nat_lt MOST (bits_together (slice_set labels.now i bits.now)) }
 {
-    bits_with(labels, i, bits) > MOST_BITS
+    bits_with(labels, i, bits) > MAX_BITS
 }
 
 // The total with `bits` at place `i`, at most 2^64-1.
@@ -92,7 +90,7 @@ fn set_all(places: &[u32], flags: &mut Vec<bool>)
     requires { All (λ place. place < length flags.old.items) places.now }
     ensures { SetsAt places.now flags.old.items flags.new.items }
 {
-    for p in 0..places.len() {
-        flags[places[p] as usize] = true;
+    for place in places {
+        flags[*place as usize] = true;
     }
 }

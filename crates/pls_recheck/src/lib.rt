@@ -10,11 +10,12 @@
 //! [`Monitor`] keeps a checker that remembers what each label says, and lends a bench to each
 //! round.
 //!
-//! The edits of an input come from [`scan_edits`], as the [`EditLine`]s of an [`EditsText`].
+//! The edits of an input are read by `pls_edits`: [`scan_edits`] gives an [`EditsText`], whose list
+//! is of [`EditLine`]s.
 //!
-//! Definitions stand in `specs/`: `Watch` has the snapshot and what it means that its verdicts are
-//! current, `After` what an edit makes of it. What an edit makes of a network and its labels, which
-//! nodes it touches and why it is refused is said in `specs/Edited` of `pls_edits`.
+//! Definitions stand in `specs/`: `Snapshot` has the snapshot and what it means that its verdicts
+//! are current, `After` what an edit makes of it. What an edit makes of a network and its labels,
+//! which nodes it touches and why it is refused is said in `specs/Edited` of `pls_edits`.
 #![tactic(auto)]
 
 mod applying;

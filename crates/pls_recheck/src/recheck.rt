@@ -18,10 +18,11 @@ use pls_streams::{NoMemory, Steps};
 use std::alloc::Global;
 use std::marker::Model;
 
-// What is known of a value that a judge borrows, as of the bench of a `BenchJudge`, is lost where
-// the judge is moved in here and out again. Who has to count a bench's questions lends the judge to
-// each `EditedNetwork::round` instead.
 /// An [`EditedNetwork`] with the judge of all its rounds, seen as the record `Rechecked`.
+///
+/// What is known of a value that a judge borrows, as of the bench of a `BenchJudge`, is lost where
+/// the judge is moved in here and out again. Who has to count a bench's questions lends the judge
+/// to each [`EditedNetwork::round`] instead.
 #[derive(Drop)]
 pub struct Recheck<J: Judge> {
     judge: J,

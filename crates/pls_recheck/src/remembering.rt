@@ -1,6 +1,6 @@
 //! Edits of a network and its labels with a checker that remembers what they say.
 
-ghost use Rattle.std.specs.Prelude.{◌≡◌, ◌<◌, ◌≤◌, insert, length, vec_capacity, Bool, List, None, Some, IfErr, OnErr, OnOk};
+ghost use Rattle.std.specs.Prelude.{◌≡◌, ◌≤◌, Bool, List, None, Some, IfErr, OnErr, OnOk};
 ghost use Rattle.pls_configuration.specs.declared.limits.TheConstants.{MAX_NUM};
 ghost use Rattle.pls_configuration.specs.declared.row.NodeRow.{NodeRow};
 ghost use Rattle.pls_graph_edits.specs.Edits.{SaysEdit, join_refusal, leave_refusal};
@@ -8,6 +8,7 @@ ghost use Rattle.pls_edits.specs.Edited.{FitsNum, RefusesWith, edit_refusal, lab
 ghost use Rattle.pls_edits.specs.declared.edit.Edit.TheVariants.{Join, Label, Leave};
 ghost use Rattle.pls_recheck.specs.Rechecked.{edited_with};
 
+use crate::joining::insert_reserved;
 use crate::monitor::Monitor;
 use pls_bits::{BitBuf, Bits};
 use pls_edits::{Edit, EditError};
@@ -66,7 +67,7 @@ impl<K: Remembers> Monitor<K> {
         };
         self.memories.reserve(1)?;
         let i = self.core.join(id, mark, num)?;
-        put_memory(&mut self.memories, i, memory);
+        insert_reserved(&mut self.memories, i, memory);
         Ok(())
     }
 
@@ -99,13 +100,4 @@ impl<K: Remembers> Monitor<K> {
         self.memories[i] = memory;
         Ok(())
     }
-}
-
-fn put_memory<M: Drop>(memories: &mut Vec<M>, i: usize, memory: M)
-    requires within { i ≤ length memories.old.items }
-    requires room { length memories.old.items < vec_capacity memories.old }
-    ensures { memories.new.items ≡ insert memories.old.items i memory }
-{
-    let put = memories.insert(i, memory);
-    prove!(put.is_ok());
 }

@@ -1,13 +1,13 @@
 //! Rounds in which the touched nodes are judged.
 
-ghost use Rattle.std.specs.Prelude.{◌≡◌, ◌<◌, ◌≤◌, [], ◌⊎◌, false, length, slice_set, slice_get, IfOk, IfNone, IfSome, OnErr, OnOk, Some};
+ghost use Rattle.std.specs.Prelude.{◌≡◌, ◌<◌, ◌≤◌, [], false, length, replicate, slice_set, slice_get, IfOk, IfNone, IfSome, OnErr, OnOk, Some};
 ghost use Rattle.pls_configuration.specs.declared.verdict.Verdict.{Verdict};
 ghost use Rattle.pls_configuration.specs.Configuration.{ids_of};
 ghost use Rattle.pls_streams.specs.Steps.{up_by};
 ghost use Rattle.pls_labels.specs.Seen.{Seen, views};
 ghost use Rattle.pls_scheme.specs.Judging.{round_by};
-ghost use Rattle.pls_recheck.specs.Snapshot.{EndsEarly, IsCurrent};
-ghost use Rattle.pls_recheck.specs.inner.Flags.{AreCurrent, cleared, marked};
+ghost use Rattle.pls_recheck.specs.Snapshot.{EndsEarly, IsCurrent, RiseTogether};
+ghost use Rattle.pls_recheck.specs.inner.Flags.{AreCurrent, marked};
 
 use crate::asks::{Asks, ByView};
 use crate::edited_network::EditedNetwork;
@@ -103,11 +103,9 @@ impl EditedNetwork {
 // Forgets which nodes have all neighbours touched: a round takes flags back, even one that ends
 // early.
 fn forget_all(around: &mut Vec<bool>)
-    ensures { around.new.items ≡ cleared (length around.old.items) around.old.items }
+    ensures { around.new.items ≡ replicate (length around.old.items) false }
 {
-    for i in 0..around.len() {
-        around[i] = false;
-    }
+    around.fill(false);
 }
 
 // Asks about the flagged nodes, and takes their flags back.
@@ -194,10 +192,8 @@ fn judge_at<'a, C, A: Asks<C>>(
     ensures spent { OnOk result
         (A.spent asks.now counter.new ≡ up_by 1 (A.spent asks.now counter.old)) }
     ensures steps { OnOk result (steps.new ≡ up_by 1 steps.old) }
-    ensures early { OnErr result
-        (((A.spent asks.now counter.new ≡ A.spent asks.now counter.old) × (steps.new ≡ steps.old))
-        ⊎ ((A.spent asks.now counter.new ≡ up_by 1 (A.spent asks.now counter.old))
-        × (steps.new ≡ up_by 1 steps.old))) }
+    ensures early { OnErr result (RiseTogether 0 (A.spent asks.now counter.old)
+        (A.spent asks.now counter.new) steps.old steps.new) }
 {
     view.turn_to(net, labels, i)?;
     let verdict = asks.ask_at(alloc, view, net, labels, i, counter, steps)?;

@@ -1,9 +1,9 @@
-use Rattle.std.proofs.Common.{◌≡◌, ◌∙◌, inl, inr, ℕ, ◌+◌, ◌<◌, Bool, true, false, List, Some, Vec, Global, length, set, slice_get, sym, ap, subst, arith}
+use Rattle.std.proofs.Common.{◌≡◌, ◌∙◌, ℕ, ◌<◌, Bool, true, false, List, Some, Vec, Global, length, set, slice_get, sym, ap, subst, arith}
 use Rattle.std.proofs.lemmas.List.{length-set}
 use Rattle.pls_configuration.specs.declared.verdict.Verdict.{Verdict}
 use Rattle.pls_configuration.specs.Configuration.{ids_of}
 use Rattle.pls_recheck.specs.inner.Flags.{AreCurrent, marked, set_among}
-use Rattle.pls_recheck.proofs.Cleared.{all_set, cleared_more, cleared_same, current_more, few_set, flag_was, judged_same, length-cleared, many_ids, marked_cleared, none_left, not_all_set, on_err, set_among_more, set_among_same}
+use Rattle.pls_recheck.proofs.Cleared.{all_set, cleared_more, cleared_same, current_more, few_set, flag_was, judged_same, length-cleared, many_ids, marked_cleared, none_left, not_all_set, on_err, rise_more, set_among_more, set_among_same}
 use Rattle.pls_recheck.proofs.rounds.judge_flagged.Goals.{then-index+in_ok-found, else-index}
 use Rattle.pls_recheck.proofs.rounds.judge_flagged.Goals as goal
 
@@ -18,26 +18,13 @@ returns-in_err-found-clause-refused g c =
     let is_set : slice_get flags i ≡ Some true = at ∙ ap (λ (b : Bool). Some b) c.if-index.true in
     let few = not_all_set ids i flags (many_ids c.args.net.now flags c.requires.a_flag) is_set in
     let left = ap (marked ids) c.loop-i.invariant.flags ∙ marked_cleared ids i flags in
-    on_err c.from_residual.result _ (elim c.in_err-found.ensures.early [
-      | inl same ↦ record {
-        checked = set_among i flags;
-        not_all = few;
-        left_is = left;
-        rose = c.loop-i.checked;
-        rose_is = inl c.loop-i.invariant.checked;
-        spent_is = same.0 ∙ c.loop-i.invariant.spent;
-        steps_are = same.1 ∙ c.loop-i.invariant.steps;
-      }
-      | inr more ↦ record {
-        checked = set_among i flags;
-        not_all = few;
-        left_is = left;
-        rose = c.loop-i.checked + 1;
-        rose_is = inr (ap (λ (n : _). n + 1) c.loop-i.invariant.checked);
-        spent_is = omega (arith, more.0, c.loop-i.invariant.spent);
-        steps_are = omega (arith, more.1, c.loop-i.invariant.steps);
-      }
-    ])
+    on_err c.from_residual.result _ (record {
+      checked = set_among i flags;
+      not_all = few;
+      left_is = left;
+      rise = rise_more c.loop-i.checked (set_among i flags) c.loop-i.invariant.checked
+          c.loop-i.invariant.spent c.loop-i.invariant.steps c.in_err-found.ensures.early;
+    })
 
 pub overflow_add-checked : goal.overflow_add-checked
 overflow_add-checked g c =

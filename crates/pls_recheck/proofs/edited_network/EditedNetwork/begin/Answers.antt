@@ -1,7 +1,9 @@
-use Rattle.std.proofs.Common.{arith, ◌≡◌, ◌∙◌, ℕ, Bool, List, Some, false, true, length, replicate, slice_get, ap, subst}
+use Rattle.std.proofs.Common.{◌∙◌, ℕ, Bool, List, true, length, replicate, ap, arith, subst, sym}
 use Rattle.std.proofs.lemmas.List.{length-replicate}
 use Rattle.pls_configuration.specs.Configuration.{ids_of}
-use Rattle.pls_recheck.proofs.Marked.{among_itself, id_at_view, marked_all_rows, none_is_set}
+use Rattle.pls_recheck.specs.inner.Flags.{AreAround}
+use Rattle.pls_recheck.proofs.Marked.{among_itself, id_at_view, marked_all_rows}
+use Rattle.pls_recheck.proofs.Noted.{nothing_noted}
 use Rattle.pls_recheck.proofs.edited_network.EditedNetwork.begin.Goals as goal
 
 pub invariant_of-result : goal.invariant_of-result
@@ -12,12 +14,8 @@ invariant_of-result c =
       a_label = c.requires;
       a_flag = ap length c.in_ok-flags.ensures ∙ length-replicate n true ∙ is;
       a_verdict = omega (arith, c.in_ok-kept.kept.ok, c.in_ok-kept.ensures.len, is);
-      noted = record {
-        as_many = ap length c.in_ok-around.ensures ∙ length-replicate n false ∙ is;
-        each = λ k j row other at noted there beside. absurd (none_is_set n k
-            (subst (λ (around : List Bool). slice_get around k ≡ Some true)
-            c.in_ok-around.ensures noted));
-      };
+      noted = subst (λ (around : List Bool). AreAround c.args.net c.in_ok-flags.flags.items around)
+          (sym c.in_ok-around.ensures) (nothing_noted c.args.net c.in_ok-flags.flags.items n is);
     }
 
 pub returns-clause-all : goal.returns-clause-all

@@ -7,22 +7,22 @@ use Rattle.pls_recheck.proofs.Carrying.{join_current, join_keeps, join_makes}
 use Rattle.pls_recheck.proofs.Coming.{joined_at, place_inside}
 use Rattle.pls_recheck.proofs.edited_network.EditedNetwork.join.Goals as goal
 
-pub put_flag-requires-clause-within : goal.put_flag-requires-clause-within
-put_flag-requires-clause-within c =
+pub insert_reserved-requires-clause-within : goal.insert_reserved-requires-clause-within
+insert_reserved-requires-clause-within c =
     let fits = place_inside c.self.inside.net c.in_ok-i.ensures.was_valid c.args.id c.args.mark
     c.args.num c.in_ok-i.ensures.allowed in
     let same = ap length c.reserve.ensures.items in
     omega (arith, fits, c.in_ok-i.ensures.place, same, c.self.invariant.a_flag)
 
-pub put_flag-requires-2-clause-within : goal.put_flag-requires-2-clause-within
-put_flag-requires-2-clause-within c =
+pub insert_reserved-requires-2-clause-within : goal.insert_reserved-requires-2-clause-within
+insert_reserved-requires-2-clause-within c =
     let fits = place_inside c.self.inside.net c.in_ok-i.ensures.was_valid c.args.id c.args.mark
     c.args.num c.in_ok-i.ensures.allowed in
     let same = ap length c.reserve-2.ensures.items in
     omega (arith, fits, c.in_ok-i.ensures.place, same, c.self.invariant.noted.as_many)
 
-pub put_verdict-requires-clause-within : goal.put_verdict-requires-clause-within
-put_verdict-requires-clause-within c =
+pub insert_reserved-requires-3-clause-within : goal.insert_reserved-requires-3-clause-within
+insert_reserved-requires-3-clause-within c =
     let fits = place_inside c.self.inside.net c.in_ok-i.ensures.was_valid c.args.id c.args.mark
     c.args.num c.in_ok-i.ensures.allowed in
     let same = ap length c.reserve-3.ensures.items in
@@ -40,9 +40,9 @@ invariant_of-self-2 c =
     let now : Kept = record {
       rows = c.join_with_label.new.net;
       labels = c.join_with_label.new.labels;
-      flags = c.put_flag.new.flags.items;
-      around = c.put_flag-2.new.flags.items;
-      verdicts = c.put_verdict.new.kept.items;
+      flags = c.insert_reserved.new.items.items;
+      around = c.insert_reserved-2.new.items.items;
+      verdicts = c.insert_reserved-3.new.items.items;
     } in
     join_keeps before c.in_ok-i.ensures.was_valid c.self.invariant now c.in_ok-i.ensures.valid c.args.id
     c.args.mark c.args.num c.in_ok-i.i c.in_ok-i.ensures.allowed c.in_ok-i.ensures.place
@@ -52,9 +52,9 @@ invariant_of-self-2 c =
           c.in_ok-i.ensures.allowed,
       sym c.in_ok-i.ensures.place,
       c.in_ok-i.ensures.labels,
-      c.put_flag.ensures,
-      c.put_flag-2.ensures,
-      c.put_verdict.ensures,
+      c.insert_reserved.ensures,
+      c.insert_reserved-2.ensures,
+      c.insert_reserved-3.ensures,
       c.reserve.ensures.items,
       c.reserve-2.ensures.items,
       c.reserve-3.ensures.items,
@@ -72,9 +72,9 @@ returns-clause-ok c =
     let now : Kept = record {
       rows = c.join_with_label.new.net;
       labels = c.join_with_label.new.labels;
-      flags = c.put_flag.new.flags.items;
-      around = c.put_flag-2.new.flags.items;
-      verdicts = c.put_verdict.new.kept.items;
+      flags = c.insert_reserved.new.items.items;
+      around = c.insert_reserved-2.new.items.items;
+      verdicts = c.insert_reserved-3.new.items.items;
     } in
     join_makes before c.in_ok-i.ensures.was_valid c.self.invariant now c.in_ok-i.ensures.valid c.args.id
     c.args.mark c.args.num c.in_ok-i.i c.in_ok-i.ensures.allowed c.in_ok-i.ensures.place
@@ -84,9 +84,9 @@ returns-clause-ok c =
           c.in_ok-i.ensures.allowed,
       sym c.in_ok-i.ensures.place,
       c.in_ok-i.ensures.labels,
-      c.put_flag.ensures,
-      c.put_flag-2.ensures,
-      c.put_verdict.ensures,
+      c.insert_reserved.ensures,
+      c.insert_reserved-2.ensures,
+      c.insert_reserved-3.ensures,
       c.reserve.ensures.items,
       c.reserve-2.ensures.items,
       c.reserve-3.ensures.items,
@@ -105,9 +105,9 @@ returns-clause-current c = λ judge current.
     let now : Kept = record {
       rows = c.join_with_label.new.net;
       labels = c.join_with_label.new.labels;
-      flags = c.put_flag.new.flags.items;
-      around = c.put_flag-2.new.flags.items;
-      verdicts = c.put_verdict.new.kept.items;
+      flags = c.insert_reserved.new.items.items;
+      around = c.insert_reserved-2.new.items.items;
+      verdicts = c.insert_reserved-3.new.items.items;
     } in
     join_current before c.in_ok-i.ensures.was_valid c.self.invariant now c.in_ok-i.ensures.valid c.args.id
     c.args.mark c.args.num c.in_ok-i.i c.in_ok-i.ensures.allowed c.in_ok-i.ensures.place
@@ -117,9 +117,9 @@ returns-clause-current c = λ judge current.
           c.in_ok-i.ensures.allowed,
       sym c.in_ok-i.ensures.place,
       c.in_ok-i.ensures.labels,
-      c.put_flag.ensures,
-      c.put_flag-2.ensures,
-      c.put_verdict.ensures,
+      c.insert_reserved.ensures,
+      c.insert_reserved-2.ensures,
+      c.insert_reserved-3.ensures,
       c.reserve.ensures.items,
       c.reserve-2.ensures.items,
       c.reserve-3.ensures.items,

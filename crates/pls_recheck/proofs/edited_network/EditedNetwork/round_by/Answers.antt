@@ -1,4 +1,4 @@
-use Rattle.std.proofs.Common.{Bool, List, arith, length, subst, sym}
+use Rattle.std.proofs.Common.{Bool, List, length, subst, sym}
 use Rattle.pls_recheck.specs.Snapshot.{IsCurrent, Snapshot}
 use Rattle.pls_recheck.specs.inner.Flags.{AreAround}
 use Rattle.pls_recheck.proofs.Cleared.{current_by_flags, current_by_ids}
@@ -29,6 +29,5 @@ invariant_of-self g c =
       a_flag = c.judge_flagged.ensures.a_flag;
       a_verdict = c.judge_flagged.ensures.a_verdict;
       noted = subst (λ (around : List Bool). AreAround rows flags around) (sym c.forget_all.ensures)
-          (nothing_noted rows flags around (length around) c.self.invariant.noted.as_many
-          (omega arith));
+          (nothing_noted rows flags (length around) c.self.invariant.noted.as_many);
     }

@@ -9,7 +9,7 @@ invariant_of-self-2 g c =
     let labels = c.self.inside.core.labels in
     let i = c.in_ok-i.i in (
       c.in_ok-i.ensures.current (g.K.Checker.judge c.self.inside.checker) c.self.invariant.0,
-      c.put_memory.ensures
+      c.insert_reserved.ensures
           ∙ ap (λ (memories : List _). insert memories i c.in-Ok.memory)
           (c.reserve.ensures.items ∙ c.self.invariant.1)
           ∙ ap (λ (memory : _). insert (map told labels) i memory)
