@@ -8,7 +8,7 @@ ghost use Rattle.pls_graph.specs.Places.{place_in};
 ghost use Rattle.pls_labels.specs.Labels.{bits_together};
 ghost use Rattle.pls_labels.specs.Seen.{Seen};
 ghost use Rattle.pls_edits.specs.Edited.{label_refusal};
-ghost use Rattle.pls_configuration.specs.declared.limits.TheConstants.{MAX_BITS as MOST};
+ghost use Rattle.pls_configuration.specs.declared.limits.TheConstants.{MAX_BITS};
 ghost use Rattle.pls_edits.specs.declared.edit.Edit.TheVariants.{Label};
 ghost use Rattle.pls_recheck.specs.After.{snapshot_after};
 ghost use Rattle.pls_recheck.specs.Snapshot.{IsCurrent};
@@ -53,7 +53,7 @@ impl EditedNetwork {
 // Whether all labels would exceed `MAX_BITS` with `bits` at place `i`.
 fn is_full(labels: &LabelStore, i: usize, bits: &BitBuf) -> bool
     requires { i < length labels.now }
-    ensures { result ≡ nat_lt MOST (bits_together (slice_set labels.now i bits.now)) }
+    ensures { result ≡ nat_lt MAX_BITS (bits_together (slice_set labels.now i bits.now)) }
 {
     bits_with(labels, i, bits) > MAX_BITS
 }
