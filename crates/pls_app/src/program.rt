@@ -111,8 +111,9 @@ pub fn run<'w, S: Source, K: Sink, B: Bench>(
         → TellsPart (words_in words.now) bytes (K.taken sink.old) (K.taken sink.new) }
 
     // What the source has lost: nothing where the words ask for no input.
+    ensures ends { (due : Status) → IsUnread (words_in words.now) due → EndsAs due result }
     ensures unread { (due : Status) → IsUnread (words_in words.now) due
-        → EndsAs due result × (source.new ≡ source.old) }
+        → source.new ≡ source.old }
     ensures read { Consumes (words_in words.now) result (S.left source.old) (S.left source.new) }
 {
     match read_command(alloc, words) {

@@ -16,7 +16,6 @@ use pls_inputs::Input;
 use pls_streams::NoMemory;
 use std::alloc::Global;
 
-// `bytes` are within the limit.
 pub(crate) fn answer_by_rules(
     alloc: Global,
     task: RuleTask,

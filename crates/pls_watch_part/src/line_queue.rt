@@ -5,8 +5,8 @@ ghost use Rattle.std.specs.Prelude.{◌≡◌, ◌∷◌, [], IfNone, IfSome};
 use crate::watch_event::WatchLine;
 use std::marker::Model;
 
-// The memory of so many lines is given back at once: to ask for it at each line would take longer
-// than the line.
+// Memory is given back once for this many lines: to ask at each line would take longer than the
+// line.
 const PIECE: usize = 16_384;
 
 /// The lines of a watch, taken one by one from the first on. The memory of lines that were taken is

@@ -6,7 +6,7 @@ use std::marker::Model;
 /// The flag among words.
 #[derive(Clone, Copy, Debug, PartialEq, Eq)]
 pub enum Flag {
-    /// None.
+    /// No flag.
     Bare,
     /// `--json`.
     Json,

@@ -112,16 +112,13 @@ returns-in-Ok-None-clause-read g c =
       no_more = lost_nothing _;
     }
 
-pub returns-in-Ok-None-clause-unread : goal.returns-in-Ok-None-clause-unread
-returns-in-Ok-None-clause-unread g c due unread =
+pub returns-in-Ok-None-clause-ends : goal.returns-in-Ok-None-clause-ends
+returns-in-Ok-None-clause-ends g c due unread =
     let words : List (List ℕ) = words_in c.args.words.now in
     let none : IsUsage words = c.in-Ok-None.ensures.none c.in-Ok-None.field-0-is in
     let told = rw c.usage.ensures at c.tell.ensures.told in
-    let ends = told_ends _ _ _ _ _ _ _ told in (
-      subst (λ (due : Status). EndsAs due c.tell.result)
-          (sym (unread_usage words due none unread)) ends,
-      refl,
-    )
+    subst (λ (due : Status). EndsAs due c.tell.result) (sym (unread_usage words due none unread))
+    (told_ends _ _ _ _ _ _ _ told)
 
 pub returns-in-Ok-None-clause-asked : goal.returns-in-Ok-None-clause-asked
 returns-in-Ok-None-clause-asked g c =
@@ -329,17 +326,22 @@ returns-in-Ok-clause-read g c =
       no_more = c.answer_from.ensures.lost;
     }
 
+pub returns-in-Ok-clause-ends : goal.returns-in-Ok-clause-ends
+returns-in-Ok-clause-ends g c due unread =
+    let words : List (List ℕ) = words_in c.args.words.now in
+    let command : Command = c.in-Ok-Some.command in
+    let is : IsCommand words command = rw c.in-Ok-Some.field-0-is at c.in-Ok-Some.ensures.some in
+    let both = unread_command words due command is unread in
+    subst (λ (due : Status). EndsAs due c.tell-in-Ok.result)
+    (c.in-Ok.ensures.done both.0 ∙ sym both.1)
+    (told_ends _ _ _ _ _ _ _ c.tell-in-Ok.ensures.told)
+
 pub returns-in-Ok-clause-unread : goal.returns-in-Ok-clause-unread
 returns-in-Ok-clause-unread g c due unread =
     let words : List (List ℕ) = words_in c.args.words.now in
     let command : Command = c.in-Ok-Some.command in
     let is : IsCommand words command = rw c.in-Ok-Some.field-0-is at c.in-Ok-Some.ensures.some in
-    let both = unread_command words due command is unread in
-    let ends = told_ends _ _ _ _ _ _ _ c.tell-in-Ok.ensures.told in (
-      subst (λ (due : Status). EndsAs due c.tell-in-Ok.result)
-          (c.in-Ok.ensures.done both.0 ∙ sym both.1) ends,
-      c.answer_from.ensures.unread both.0,
-    )
+    c.answer_from.ensures.unread (unread_command words due command is unread).0
 
 pub returns-in-Ok-clause-asked : goal.returns-in-Ok-clause-asked
 returns-in-Ok-clause-asked g c =
