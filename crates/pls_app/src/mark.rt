@@ -20,8 +20,8 @@ use pls_graph::Network;
 use pls_streams::{NoMemory, Quantity, Status, TextError};
 use std::alloc::Global;
 
-// Answers `no` where a component lacks the property; refuses labels that can have too
-// many bits together.
+// Answers `no` where a component lacks the property; refuses labels that can have too many bits
+// together.
 pub(crate) fn mark<C: NumCode>(
     alloc: Global,
     scheme: &AnyScheme<C>,
