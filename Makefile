@@ -5,7 +5,8 @@
 #   make test   the gate: every proof, every edit that must be refused, every test, the program
 #               and the desk
 #   make believed   writes the definitions that the clauses of `run` rest on to out/believed.md, and
-#                   prints how many lines each clause has of them
+#                   prints how many lines each clause has of them and what is stale in the tables
+#                   of docs/DEFINITIONS.md
 #   make examples   runs each command that the documents show, and compares what it writes
 #   make desk       tests the Python desk (docs/DESK.md) against the built program: ./pls, or the one
 #                   that the gate left in crates/pls_main/out, whichever is newer
@@ -37,7 +38,7 @@ test:
 	.ci/run
 
 believed:
-	@python3 tools/believed -o out/believed.md
+	@python3 tools/believed -o out/believed.md -t docs/DEFINITIONS.md
 
 # Needs ./pls, a shell, awk and Python 3.11.
 examples: pls

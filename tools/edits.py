@@ -5,8 +5,10 @@ program beside a plain one that judges all nodes in every round.
     python3 tools/edits.py ./pls [LISTS [SEED]]
 
 For each network and each of ten expressions LISTS lists are made (5 where none is given), with
-random states, weights, identities and labels, right ones among them. Every tenth list has an edit
-that does not apply. The text and the status are compared. It ends with status 1 where one differs.
+random states, weights, identities and labels, right ones among them. In one list of ten the edits
+are not tried before they are written, and most of these have one that does not apply. The text and
+the status are compared, and nothing may stand on standard error. It ends with status 1 where one
+differs.
 """
 import itertools
 import random
@@ -16,7 +18,7 @@ import sys
 sys.dont_write_bytecode = True
 from plain_networks import (apply, bits_of, components, copied, label_words, link,  # noqa: E402
                             number_of, parts, text_of)
-from plain_schemes import code, round_lines, take  # noqa: E402,F401
+from plain_schemes import code, round_lines  # noqa: E402
 
 EXPRESSIONS = ['tree', 'forest', 'bipartite', 'acyclic', 'leader', 'count', 'spt', 'mst',
                'and(tree,bipartite)', 'or(leader,and(acyclic,forest))']
@@ -119,10 +121,10 @@ def marked_labels(program, expression, net):
 def differs(program, words, source, answer, status):
     """Whether the program answers otherwise, which is told."""
     done = subprocess.run([program, *words], input=source, capture_output=True, text=True)
-    if (done.stdout, done.returncode) == (answer, status):
+    if (done.stdout + done.stderr, done.returncode) == (answer, status):
         return False
     print(f'{" ".join(words)} differs, status {done.returncode} for {status}\n'
-          f'{source}\nwanted\n{answer}\ngot\n{done.stdout}')
+          f'{source}\nwanted\n{answer}\ngot\n{done.stdout}{done.stderr}')
     return True
 
 

@@ -6,7 +6,8 @@
 # In a block between two lines that begin with ``` each line that begins with `$ ` is a command, and
 # the lines behind it, up to the next command or the end of the block, are all that it is to write.
 # The commands of a document run one after another in one shell, in a new folder that has `pls`,
-# `examples`, `tools` and `plsdesk` on its path. The last line is `N passed, M failed`; the status is 1 where one failed.
+# `examples`, `tools` and `plsdesk` on its path. A picture that they leave there is compared with the one of its name
+# in docs/pictures. The last line is `N passed, M failed`; the status is 1 where one failed or none passed.
 
 top=$(cd "$(dirname "$0")/.." && pwd) || exit 1
 [ -x "$top/pls" ] || { echo 'examples.sh: there is no ./pls: make pls builds it' >&2; exit 1; }
@@ -67,8 +68,18 @@ for document; do
             diff "$base.text" "$base.got" 2>&1 | sed 's/^/    /'
         fi
     done
+    for picture in "$work"/run/*.svg; do
+        name=${picture##*/}
+        [ -e "$top/docs/pictures/$name" ] || continue
+        if cmp -s "$picture" "$top/docs/pictures/$name"; then
+            passed=$((passed + 1))
+        else
+            failed=$((failed + 1))
+            echo "$document: $name is drawn otherwise in docs/pictures"
+        fi
+    done
     rm -rf "$work/run" "$work/want"
 done
 
 echo "$passed passed, $failed failed"
-[ "$failed" -eq 0 ]
+[ "$passed" -gt 0 ] && [ "$failed" -eq 0 ]

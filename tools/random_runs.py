@@ -6,8 +6,9 @@
 COUNT runs are made (1,000 where none is given): random networks of one or more components with states
 and weights, labels in both codes, right ones among them and some that nearly are, expressions, played
 and watched events, edits, sets of rules and rings; a third of the inputs are changed in some bytes or
-lines, and some words are none of a command. Texts and statuses are compared. Where one differs, the
-seed and the smallest such input that was found are written, and the status is 1.
+lines, and some words are none of a command. Texts and statuses are compared, and nothing may stand on
+standard error. Where one differs, the seed and the smallest such input that was found are written,
+and the status is 1.
 """
 import collections
 import random
@@ -314,7 +315,7 @@ def changed(text, rng):
 
 def got(program, words, text):
     done = subprocess.run([program, *words], input=text.encode('latin-1'), capture_output=True)
-    return done.stdout.decode('latin-1'), done.returncode
+    return (done.stdout + done.stderr).decode('latin-1'), done.returncode
 
 
 def differs(program, words, text):

@@ -27,12 +27,14 @@ bad() {
     echo "$*: status $end where $what fails"
 }
 
-# count INPUT WORDS..: the run without a fault, and its numbers of allocations, reads and writes
+# count INPUT WORDS..: the run without a fault, which is not to be refused, and its numbers of allocations,
+# reads and writes
 count() {
     input=$1
     shift
     "$top/pls" "$@" < "$input" > whole
     status=$?
+    [ "$status" -le 1 ] || { echo "refused.sh: $*: status $status without a fault" >&2; exit 1; }
     COUNTED=$work/count LD_PRELOAD=$work/refuse.so "$top/pls" "$@" < "$input" > /dev/null
     read -r allocations reads writes < count
     [ "$writes" -gt 0 ] && [ "$allocations" -gt 0 ] ||

@@ -5,7 +5,8 @@ code and its listing, the machine that runs it, the meaning of a set at a node, 
 import json
 import re
 
-from edits import components, label_words, take, text_of
+from plain_networks import components, label_words, text_of
+from plain_schemes import take
 
 MOST = 2 ** 63 - 2
 PARTS = {'B': {'eq': 'NN', 'lt': 'NN', 'le': 'NN', 'same': 'BB', 'both': 'BB', 'either': 'BB',
@@ -259,7 +260,7 @@ def run(lines, node, own, ports):
         assert len(stack) <= 40 and len(at) <= 2 and max(stack, default=0) < 2 ** 122
 
 
-# ---- judging; a network and labels are those of `edits.py`
+# ---- judging; a network and labels are those of `plain_networks.py`
 
 def verdict(node, own, ports, trees, lines):
     """The number of the first rule that fails, or None. The code has to find the same."""

@@ -6,9 +6,10 @@
 
 First some fixed words and sets: those of `rules`, and sets at the limits of the language and one
 beyond. Then COUNT sets are made (200 where none is given), each with a small network and labels,
-and the texts and statuses of `code`, `judge` and `judge --json` are compared. Some have a fault: a
-name that is no field, `nb` outside of quantifiers, three quantifiers inside one another,
-parentheses too deep, a byte changed, labels out of order or unreadable. Every fifth set is a
+and the texts and statuses of `code`, `judge` and `judge --json` are compared; nothing may stand on
+standard error. Some have a fault: a name that is no field, `nb` outside of quantifiers, three
+quantifiers inside one another, parentheses too deep, a byte changed, labels out of order or
+unreadable. Every fifth set is a
 built-in one, for which `verify` has to write what `judge` does. Where something differs, the seed
 and the smallest such input that was found are written, and the status is 1.
 """
@@ -171,7 +172,7 @@ def source_of(words, net, labels, text):
 
 def run(program, words, source=''):
     done = subprocess.run([program, *words], input=source.encode('latin-1'), capture_output=True)
-    return done.stdout.decode('latin-1'), done.returncode
+    return (done.stdout + done.stderr).decode('latin-1'), done.returncode
 
 
 def marked(program, name, net):

@@ -1,12 +1,13 @@
 #!/usr/bin/env python3
-"""Random events and looks on all connected networks of up to four nodes, and on pairs of them, with
-the built program beside a plain one that goes through all arrivals since a restart at each look.
+"""Random events and looks on all connected networks of up to four nodes, and on two of one or two
+nodes side by side, with the built program beside a plain one that goes through all arrivals since a
+restart at each look.
 
     python3 tools/watches.py ./pls [LISTS [SEED]]
 
-For each network and each of ten expressions LISTS lists are made (5 where none is given). Every
-tenth list has an event that names nothing. The text and the status are compared. It ends with
-status 1 where one differs.
+For each network and each of ten expressions LISTS lists are made (5 where none is given). In one list
+of ten events may name nothing, and in most of these one does. The text and the status are compared,
+and nothing may stand on standard error. It ends with status 1 where one differs.
 """
 import random
 import sys

@@ -11,7 +11,7 @@ from plsdesk.program import Program, find_program
 
 TOP = Path(__file__).resolve().parents[2]
 
-# A machine on which tests run may be so many times slower, or as busy, as one on which the times of the documents hold.
+# The times in tests are those of an idle machine; one on which they run may be so many times slower, or as busy.
 SLOWER = 5
 
 

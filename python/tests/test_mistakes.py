@@ -12,6 +12,9 @@ NETWORK = "network\nnode 1 - 0 0\nport 2 1\nnode 2 0 0 0\nport 1 1\nend\n"
 LABELS = "labels\nlabel 1 4 50\nlabel 2 6 48\nend\n"
 BOTH = NETWORK + LABELS
 RULES = "rules\nfield depth num\n"
+# a triangle whose nodes point nowhere and have equal labels
+RING = "network\n" + "".join(f"node {one} - 0 0\nport {(one + 1) % 3 + 1} 1\nport {one % 3 + 1} 1\n" for one in (1, 2, 3)) + \
+    "end\nlabels\nlabel 1 1 80\nlabel 2 1 80\nlabel 3 1 80\nend\n"
 
 # what the mistake is, the words (in one text, or as a list), the input, and what the explanation has to say
 MISTAKES: tuple[tuple[str, str | list[str], str, tuple[str, ...]], ...] = (
@@ -110,6 +113,9 @@ MISTAKES: tuple[tuple[str, str | list[str], str, tuple[str, ...]], ...] = (
     ("a field twice", "code", RULES + "field depth num\nend\n", ("the name of a field above it",)),
     ("a label that cannot be converted", "convert tree", BOTH.replace("6 48", "0 -"), ("cannot be read as one of tree",)),
     ("no ring for splice", "splice tree", BOTH, ("no ring", "1 ports")),
+    ("a ring without a pair", "splice forest", RING, ("no two edges of the ring may be crossed",)),
+    ("a ring without a pair by rules", "splice", RING + "rules\nfield chosen bit\nend\n", ("no two edges of the ring may be crossed",)),
+    ("a schedule for splice", "splice forest", RING + "schedule\nend\n", ("`splice` reads network, labels, and nothing more",)),
     ("too many looks", "watch tree", BOTH + "watch\n" + "look\n" * 129 + "end\n", ("limit", "plsdesk trace")),
     ("two roots", "mark tree", NETWORK.replace("node 2 0", "node 2 -"), ("2 of its 2 nodes have no pointer",)),
     ("no leader", "mark leader", NETWORK, ("0 of its 2 nodes have mark 1",)),

@@ -44,7 +44,7 @@ def explain(answer: Answer, text: bytes, names: dict[int, Hashable] | None = Non
         return [explain_refusal(int(kind), Refusal(answer.words, text.decode("ascii"), place))]
     if answer.reports:
         return _of_reports(answer, text.decode("ascii"), known)
-    if answer.text.startswith("no"):
+    if answer.text.split()[:1] == ["no"]:
         return _of_no(answer, text.decode("ascii"), known)
     return [_of_text(answer)]
 

@@ -87,7 +87,7 @@ def _heading(place: str, line: str, here: Standing, command: list[str]) -> Expla
     if line.startswith(("{", "[", "<")):
         return Explanation(place, "this is JSON or XML, and pls reads neither", "`plsdesk import FILE` makes the text of a network")
     if line in HEADINGS:
-        return _other_part(place, line, here, command[0])
+        return _other_part(place, line, here, command)
     if here.part is None:
         return Explanation(place, f"the line stands behind the last part that `{command[0]}` reads ({', '.join(parts_of(command))})",
                            "cut the input there")
@@ -103,15 +103,15 @@ def _is_edge(line: str) -> bool:
     return 2 <= len(words) and all(word.isdecimal() for word in words) or (len(words) == 3 and words[1] == "->")
 
 
-def _other_part(place: str, line: str, here: Standing, command: str) -> Explanation:
+def _other_part(place: str, line: str, here: Standing, command: list[str]) -> Explanation:
     part = line.split()[0]
     if line == "labels delta" and here.part == "labels":
-        return Explanation(place, f"`{command}` reads labels in the gamma code alone", "mark them without `--code delta`")
+        return Explanation(place, f"`{command[0]}` reads labels in the gamma code alone", "mark them without `--code delta`")
     if part == here.part_in_front:
-        return Explanation(place, f"a second {part} part begins here, and `{command}` reads one")
+        return Explanation(place, f"a second {part} part begins here, and `{command[0]}` reads one")
     due = f"the {here.part} part is due here" if here.part else "nothing more is due here"
-    return Explanation(place, f"{_a(part)} part begins here, which is a part of another command: `{command}` reads "
-                       f"{', '.join(parts_of([command]))}, and {due}", f"{_a(part)} part is read by {READERS[part]}")
+    return Explanation(place, f"{_a(part)} part begins here, which is a part of another command: `{command[0]}` reads "
+                       f"{', '.join(parts_of(command))}, and {due}", f"{_a(part)} part is read by {READERS[part]}")
 
 
 def _inside(place: str, line: str, here: Standing) -> Explanation | None:

@@ -27,7 +27,7 @@ READS: dict[str, tuple[str, ...]] = {
     "judge": ("network", "labels", "rules"), "splice": ("network", "labels"), "code": ("rules",),
 }
 READERS = {"schedule": "simulate", "edits": "recheck", "watch": "watch", "rules": "judge, code or splice without a scheme",
-           "labels": "verify, convert, splice, simulate, recheck, watch or judge", "network": "every command but code"}
+           "labels": "verify, convert, splice, simulate, recheck, watch or judge", "network": "every command but code, rules and trial"}
 
 
 def parts_of(words: list[str]) -> tuple[str, ...]:
