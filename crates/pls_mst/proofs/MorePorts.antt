@@ -1,5 +1,5 @@
 -- What a node has gathered with one more port.
-use Rattle.std.proofs.Common.{◌≡◌, ◌∙◌, ℕ, ◌+◌, ◌==◌, Bool, true, false, ◌&&◌, if◌then◌else◌, List, [], ◌∷◌, ◌++◌, length, Option, Some, None, option_map, slice_get, refl, sym, ap}
+use Rattle.std.proofs.Common.{◌≡◌, ◌∙◌, ℕ, Bool, true, false, ◌&&◌, if◌then◌else◌, List, [], ◌∷◌, ◌++◌, length, Option, Some, None, option_map, slice_get, refl, sym, ap}
 use Rattle.std.specs.List.{enumerate_from, list_all}
 use Rattle.std.specs.Option.{option_and_then, option_map_or}
 use Rattle.pls_configuration.specs.declared.row.State.{State}
@@ -68,8 +68,6 @@ module _ (id : ℕ) (state : State) (own : MstLabel) (ports : List (ReadPort Mst
   more_gathered =
       let Numbered : Type 0 = ℕ × ReadPort MstLabel in
       let least : Numbered → Bool = λ numbered. chose_least_at before numbered.0 numbered.1 in
-      let follows = at_target (λ port. own.depth == port.label.depth + 1
-      && own.parent == port.label.own) in
       let shares = at_target (λ port.
       on_each_level (is_named_or_shared own.own) own.levels port.label.levels) in
       let chosen = at_target (λ port.
@@ -82,7 +80,7 @@ module _ (id : ℕ) (state : State) (own : MstLabel) (ports : List (ReadPort Mst
       ≡ (chosen_edges_are_least before && chose_least_at before (length ports) port) =
       ap (list_all least) (numbered_from_0 ports port)
       ∙ all_more least (enumerate_from 0 ports) last in
-      rw (follows, agrees, shares, leasts, chosen) refl
+      rw (agrees, shares, leasts, chosen) refl
 
   -- what is gathered of the port, by what stands in front of the two labels
   pub is_gathered : (pointer : Bool) (mine head : LevelHead) (to : Between) (both : LevelComparison)
