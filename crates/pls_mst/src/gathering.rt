@@ -7,10 +7,10 @@ ghost use Rattle.pls_scheme.specs.Reading.{ReadPort, port_with, reading};
 ghost use Rattle.pls_levels.specs.Rules.{is_placed_in_tree};
 ghost use Rattle.pls_mst.specs.Labels.{MstLabel, mst_shape};
 ghost use Rattle.pls_mst.specs.Rules.{mst_rules};
-ghost use Rattle.pls_mst.specs.inner.Gathering.{between, mst_tally, mst_tally_with};
+ghost use Rattle.pls_mst.specs.inner.Gathering.{mst_tally, mst_tally_with, port_edge};
 ghost use Rattle.pls_mst.specs.inner.Glance.{glance_of};
 
-use crate::comparing::{Between, LevelComparison, compare_levels};
+use crate::comparing::{LevelComparison, PortEdge, compare_levels};
 use crate::glance::{MstGlance, names_all};
 use pls_bits::NumCode;
 use pls_configuration::State;
@@ -116,20 +116,24 @@ pub(crate) fn with_port<C: NumCode>(
         → result ≡ mst_tally (reading id state mine (ports ++ port_with weight theirs ∷ [])) }
 {
     let pointer = is_pointer(up, place);
-    let between = edge_to(pointer, weight, &own.glance.head, &label.glance.head);
+    let between = port_edge(pointer, weight, &own.glance.head, &label.glance.head);
     let both = compare_levels::<C>(pointer, own, label, &between);
     before.with(pointer, &own.glance.head, &label.glance.head, both)
 }
 
 // `pointer` tells whether the node points at the neighbour.
 #[inline(always)]
-pub(crate) fn edge_to(pointer: bool, weight: u32, mine: &LevelHead, theirs: &LevelHead) -> Between
-    ensures { result ≡ between pointer weight mine.now theirs.now }
+pub(crate) fn port_edge(
+    pointer: bool,
+    weight: u32,
+    mine: &LevelHead,
+    theirs: &LevelHead,
+) -> PortEdge
+    ensures { result ≡ port_edge pointer weight mine.now theirs.now }
 {
-    let inside = pointer || theirs.parent == mine.own;
-    Between {
+    PortEdge {
         weight: u64::from(weight),
-        outside: if inside { 0 } else { 1 },
+        in_tree: pointer || theirs.parent == mine.own,
         a: mine.own.min(theirs.own),
         b: mine.own.max(theirs.own),
     }

@@ -1,8 +1,8 @@
 -- What a node gathers of its ports.
 use Rattle.std.specs.Prelude.{ℕ, ◌==◌, min, max, Bool, ◌&&◌, ◌||◌, if◌then◌else◌}
 use Rattle.pls_scheme.specs.Reading.{Read}
-use Rattle.pls_mst.specs.declared.comparing.Between.{Between}
 use Rattle.pls_mst.specs.declared.comparing.LevelComparison.{LevelComparison}
+use Rattle.pls_mst.specs.declared.comparing.PortEdge.{PortEdge}
 use Rattle.pls_mst.specs.declared.gathering.PortTally.{PortTally}
 use Rattle.pls_levels.specs.declared.label.LevelHead.{LevelHead}
 use Rattle.pls_mst.specs.Labels.{MstLabel}
@@ -17,11 +17,11 @@ mst_tally view = record {
   chosen = pointed_edge_is_chosen view;
 }
 
--- the edge to a neighbour, of which this is known, and whether it is outside the tree
-abbrev pub between : Bool → ℕ → LevelHead → LevelHead → Between
-between pointer weight mine theirs = record {
+-- the edge to a neighbour, of which this is known, and whether it is in the tree
+abbrev pub port_edge : Bool → ℕ → LevelHead → LevelHead → PortEdge
+port_edge pointer weight mine theirs = record {
   weight = weight;
-  outside = if pointer || theirs.parent == mine.own then 0 else 1;
+  in_tree = pointer || theirs.parent == mine.own;
   a = min mine.own theirs.own;
   b = max mine.own theirs.own;
 }
