@@ -7,7 +7,6 @@ ghost use Rattle.pls_levels.specs.Labels.{HasNoLevel, IsExactForm, IsLevelTaken,
 use pls_bits::{BitBuf, NumCode};
 use pls_numbers::Numbers;
 use pls_streams::NoMemory;
-use std::alloc::Global;
 
 /// How a level is numbers, and how the levels of a label and those of all nodes are held.
 pub trait LevelKind {
@@ -26,7 +25,7 @@ pub trait LevelKind {
     // The lists of the nodes.
     ghost lists_of: { Self.Lists → List Self.List };
 
-    /// The level that comes next, which is then behind, or `None` where there is none.
+    /// Reads the next level; `None` where none comes next.
     fn read_level<C: NumCode>(numbers: &mut Numbers<'_, C>) -> Option<Self::Level>
         ensures found { IfSome result (λ level.
             IsLevelTaken form level numbers.old numbers.new) }
@@ -53,7 +52,7 @@ pub trait LevelKind {
         ensures { slice_get (items_of form list.now) number ≡ Some result };
 
     /// The levels of the node at a place. The one error is want of memory.
-    fn list_at(alloc: Global, lists: &Self::Lists, place: usize) -> Result<Self::List, NoMemory>
+    fn list_at(lists: &Self::Lists, place: usize) -> Result<Self::List, NoMemory>
         requires { place < length (lists_of lists.now) }
         ensures { IfOk result (λ list. slice_get (lists_of lists.now) place ≡ Some list) };
 

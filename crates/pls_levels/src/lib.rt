@@ -24,7 +24,7 @@ pub use format::LevelFormat;
 pub use label::{LevelHead, LevelLabel};
 pub use level_kind::LevelKind;
 pub use making::{floor_log, make_labels};
-pub use placing::{follows_above, is_in_tree, is_placed, is_root};
+pub use placing::{is_in_tree, is_placed};
 pub use reading::{
     are_levels, head_in, levels_behind, levels_of, pass_levels, read_head, read_levels,
 };

@@ -28,7 +28,7 @@ pub fn make_labels<K: LevelKind>(
 {
     let mut labels = Vec::with_capacity(alloc, net.len())?;
     for place in 0..net.len() {
-        let levels = K::list_at(alloc, lists, place)?;
+        let levels = K::list_at(lists, place)?;
         labels.push(label_at(net, place, root, depths[place], levels))?;
     }
     Ok(labels)

@@ -30,10 +30,9 @@ pub fn is_placed<K: LevelKind>(
     own.own == u64::from(id) && (stands && follows(own, above))
 }
 
-/// Whether what stands in front of the levels says of the node of this identity that it is the
-/// root.
+// Whether what stands in front of the levels says of the node of this identity that it is the root.
 #[inline(always)]
-pub fn is_root(id: u32, own: &LevelHead) -> bool
+fn is_root(id: u32, own: &LevelHead) -> bool
     ensures { result
         ≡ (own.now.depth == 0 && (own.now.root == id && own.now.parent == own.now.own)) }
 {
@@ -47,17 +46,9 @@ fn follows(own: &LevelHead, above: Option<&LevelHead>) -> bool
         && own.now.parent == above.own) (option_copied above.entry) true }
 {
     match above {
-        Some(above) => follows_above(own, above),
+        Some(above) => is_one_more(own.depth, above.depth) && own.parent == above.own,
         None => true,
     }
-}
-
-/// Whether a node is one deeper than another, which is its parent.
-#[inline(always)]
-pub fn follows_above(own: &LevelHead, above: &LevelHead) -> bool
-    ensures { result ≡ (own.now.depth == above.now.depth + 1 && own.now.parent == above.now.own) }
-{
-    is_one_more(own.depth, above.depth) && own.parent == above.own
 }
 
 /// Whether the edge at the port of this number is in the tree: the port is the pointer, or the

@@ -40,8 +40,7 @@ pub fn levels_of<'a, K: LevelKind, C: NumCode>(bits: &Bits<'a>) -> Numbers<'a, C
     numbers
 }
 
-/// The numbers of the levels of a label in front of whose levels `head` stands, which is not read
-/// for that.
+/// The numbers of the levels of a label whose head is known, which is passed and not read again.
 pub fn levels_behind<'a, K: LevelKind, C: NumCode>(
     bits: &Bits<'a>,
     head: &LevelHead,
@@ -60,8 +59,7 @@ pub fn levels_behind<'a, K: LevelKind, C: NumCode>(
     numbers
 }
 
-/// The numbers that come next as what stands in front of levels, which are then left, or `None`
-/// where there are too few.
+/// Reads the five numbers in front of the levels; `None` where fewer are left.
 #[inline]
 pub fn read_head<C: NumCode>(numbers: &mut Numbers<'_, C>) -> Option<LevelHead>
     ensures found { IfSome result (λ head. IsTaken head_off head numbers.old numbers.new) }
@@ -81,7 +79,7 @@ pub fn read_head<C: NumCode>(numbers: &mut Numbers<'_, C>) -> Option<LevelHead>
     })
 }
 
-/// Whether what is left is so many levels, and nothing more. It stops at the first that is missing.
+/// Whether `count` levels are left and nothing more. It stops at the first that is missing.
 pub fn are_levels<K: LevelKind, C: NumCode>(numbers: &mut Numbers<'_, C>, count: u64) -> bool
     ensures { result ≡ are_levels K.form count numbers.old }
 {
@@ -93,7 +91,7 @@ pub fn are_levels<K: LevelKind, C: NumCode>(numbers: &mut Numbers<'_, C>, count:
     numbers.is_end()
 }
 
-/// Passes so many levels. It stops at the first that is missing, and says so.
+/// Passes `count` levels; `false` where fewer are left, at the first that is missing.
 pub fn pass_levels<K: LevelKind, C: NumCode>(numbers: &mut Numbers<'_, C>, count: u64) -> bool
     ensures passed { result ≡ true → ArePassed K.form count numbers.old numbers.new }
     ensures missing { result ≡ false → AreFewer K.form count numbers.old }

@@ -10,11 +10,11 @@ use Rattle.pls_numbers.specs.Taking.{IsTaken, items_off}
 use Rattle.pls_numbers.specs.laws.TakingLaws.{items_off-next, items_off-none}
 use Rattle.pls_boruvka.specs.Boruvka.{chosen_edge}
 use Rattle.pls_boruvka.specs.declared.level.Level.{Level}
-use Rattle.pls_mst.specs.declared.comparing.Between.{Between}
 use Rattle.pls_mst.specs.declared.comparing.LevelComparison.{LevelComparison}
+use Rattle.pls_mst.specs.declared.comparing.PortEdge.{PortEdge}
 use Rattle.pls_mst.specs.Labels.{level_off}
 use Rattle.pls_mst.specs.Rules.{chose_least, is_chosen_between, is_named_or_shared}
-use Rattle.pls_mst.specs.inner.Comparing.{CountsAs, both_compared, compared, edge_between}
+use Rattle.pls_mst.specs.inner.Comparing.{CountsAs, both_compared, compared, edge_between, outside_of}
 use Rattle.pls_levels.proofs.KeptFronts.{kept_count-few, kept_front-take}
 use Rattle.pls_mst.specs.declared.glance.TheConstants.{FRONT}
 use Rattle.pls_mst.specs.inner.Glance.{all_whole, front_of, kept_in}
@@ -80,21 +80,21 @@ zip-take {X} {Y} (suc count) (x ∷ xs) (y ∷ ys) is =
     ap (λ (rest : List (X × Y)). one ∷ rest) (zip-take count xs ys (omega (arith, is)))
 
 -- what levels say that stand side by side
-abbrev beside_said : Between → ℕ → List (Level × Level) → LevelComparison
+abbrev beside_said : PortEdge → ℕ → List (Level × Level) → LevelComparison
 beside_said between own beside = record {
   shares = list_all (λ (both : Level × Level). is_named_or_shared own both.0 both.1) beside;
   least = list_all (λ (both : Level × Level).
-      chose_least (edge_between between) between.outside both.0 both.1) beside;
+      chose_least (edge_between between) (outside_of between) both.0 both.1) beside;
   chosen = list_any (λ (both : Level × Level).
       is_chosen_between (edge_between between) both.0 both.1) beside;
 }
 
-module _ (between : Between) (own : ℕ) where
+module _ (between : PortEdge) (own : ℕ) where
   -- one level more
   compared-more : (found with_it : LevelComparison) (here there : Level) (mine theirs : List Level)
       → with_it.shares ≡ (found.shares && is_named_or_shared own here there)
       → with_it.least ≡ (found.least
-      && chose_least (edge_between between) between.outside here there)
+      && chose_least (edge_between between) (outside_of between) here there)
       → with_it.chosen ≡ (found.chosen || is_chosen_between (edge_between between) here there)
       → both_compared found (compared between own (here ∷ mine) (there ∷ theirs))
       ≡ both_compared with_it (compared between own mine theirs)
@@ -104,7 +104,7 @@ module _ (between : Between) (own : ℕ) where
       (both_compared with_it rest)
       (and_assoc found.shares (is_named_or_shared own here there) rest.shares
       ∙ ap (λ (b : Bool). b && rest.shares) (sym shares))
-      (and_assoc found.least (chose_least (edge_between between) between.outside here there)
+      (and_assoc found.least (chose_least (edge_between between) (outside_of between) here there)
       rest.least ∙ ap (λ (b : Bool). b && rest.least) (sym least))
       (or_assoc found.chosen (is_chosen_between (edge_between between) here there) rest.chosen
       ∙ ap (λ (b : Bool). b || rest.chosen) (sym chosen))
@@ -123,7 +123,7 @@ module _ (between : Between) (own : ℕ) where
       let rest : LevelComparison = compared between own mine_behind theirs_behind in
       let all = compared-append mine theirs mine_behind theirs_behind (omega (arith, many)) in
       let shares : Bool = is_named_or_shared own here there in
-      let least : Bool = chose_least (edge_between between) between.outside here there in
+      let least : Bool = chose_least (edge_between between) (outside_of between) here there in
       let chosen : Bool = is_chosen_between (edge_between between) here there in
       same_Compared
       (compared between own (here ∷ mine ++ mine_behind) (there ∷ theirs ++ theirs_behind))
@@ -142,7 +142,7 @@ module _ (between : Between) (own : ℕ) where
       → found ≡ compared between own (take place mine) (take place theirs)
       → with_it.shares ≡ (found.shares && is_named_or_shared own here there)
       → with_it.least ≡ (found.least
-      && chose_least (edge_between between) between.outside here there)
+      && chose_least (edge_between between) (outside_of between) here there)
       → with_it.chosen ≡ (found.chosen || is_chosen_between (edge_between between) here there)
       → with_it ≡ compared between own (take (place + 1) mine) (take (place + 1) theirs)
   compared-last place mine theirs d here there found with_it mine_has theirs_has here_is there_is
@@ -160,7 +160,7 @@ module _ (between : Between) (own : ℕ) where
       (both_compared found (compared between own (here ∷ []) (there ∷ [])))
       (shares ∙ ap (λ (b : Bool). found.shares && b) (and_true (is_named_or_shared own here there)))
       (least ∙ ap (λ (b : Bool). found.least && b)
-      (and_true (chose_least (edge_between between) between.outside here there)))
+      (and_true (chose_least (edge_between between) (outside_of between) here there)))
       (chosen ∙ ap (λ (b : Bool). found.chosen || b)
       (or_false (is_chosen_between (edge_between between) here there)))
       ∙ ap (λ (found : LevelComparison).
@@ -282,7 +282,7 @@ module _ (between : Between) (own : ℕ) where
         → IsTaken level_off here mine mine_left → IsTaken level_off there theirs theirs_left
         → with_it.shares ≡ (found.shares && is_named_or_shared own here there)
         → with_it.least ≡ (found.least
-        && chose_least (edge_between between) between.outside here there)
+        && chose_least (edge_between between) (outside_of between) here there)
         → with_it.chosen ≡ (found.chosen || is_chosen_between (edge_between between) here there)
         → both_compared found (left_say (suc left) mine theirs)
         ≡ both_compared with_it (left_say left mine_left theirs_left)

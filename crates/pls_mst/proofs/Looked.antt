@@ -9,8 +9,8 @@ use Rattle.pls_numbers.specs.Numbers.{NumbersLeft}
 use Rattle.pls_numbers.specs.Taking.{IsTaken, items_in, items_off}
 use Rattle.pls_numbers.specs.laws.TakingLaws.{items_off-next, items_off-take}
 use Rattle.pls_boruvka.specs.declared.level.Level.{Level}
-use Rattle.pls_mst.specs.declared.comparing.Between.{Between}
 use Rattle.pls_mst.specs.declared.comparing.LevelComparison.{LevelComparison}
+use Rattle.pls_mst.specs.declared.comparing.PortEdge.{PortEdge}
 use Rattle.pls_mst.specs.declared.glance.MstGlance.{MstGlance}
 use Rattle.pls_mst.specs.declared.glance.TheConstants.{FRONT}
 use Rattle.pls_mst.specs.declared.kept_level.KeptLevel.{KeptLevel}
@@ -25,7 +25,7 @@ use Rattle.pls_mst.proofs.Comparisons.{all_in_front, counts_behind, front_and_be
 use Rattle.pls_mst.proofs.Fronts.{list_all-split}
 
 -- what the levels of two labels say together, by what is kept of them
-module _ (pointer : Bool) (between : Between) (own other : MstLabel) (mine theirs : MstGlance)
+module _ (pointer : Bool) (between : PortEdge) (own other : MstLabel) (mine theirs : MstGlance)
     (shared first : ℕ) (found : LevelComparison) (own_is : glance_of own ≡ mine)
     (other_is : glance_of other ≡ theirs)
     (shared_is : shared ≡ min mine.head.count theirs.head.count)

@@ -1,12 +1,12 @@
 -- What a node has gathered with one more port.
-use Rattle.std.proofs.Common.{◌≡◌, ◌∙◌, ℕ, ◌+◌, ◌==◌, Bool, true, false, ◌&&◌, if◌then◌else◌, List, [], ◌∷◌, ◌++◌, length, Option, Some, None, option_map, slice_get, refl, sym, ap}
+use Rattle.std.proofs.Common.{◌≡◌, ◌∙◌, ℕ, Bool, true, false, ◌&&◌, if◌then◌else◌, List, [], ◌∷◌, ◌++◌, length, Option, Some, None, option_map, slice_get, refl, sym, ap}
 use Rattle.std.specs.List.{enumerate_from, list_all}
 use Rattle.std.specs.Option.{option_and_then, option_map_or}
 use Rattle.pls_configuration.specs.declared.row.State.{State}
 use Rattle.pls_scheme.specs.Reading.{Read, ReadPort, is_pointer, label_above, port_with, reading}
 use Rattle.pls_scheme.proofs.MorePorts.{all_more, at_pointer_more, numbered_from_0}
-use Rattle.pls_mst.specs.declared.comparing.Between.{Between}
 use Rattle.pls_mst.specs.declared.comparing.LevelComparison.{LevelComparison}
+use Rattle.pls_mst.specs.declared.comparing.PortEdge.{PortEdge}
 use Rattle.pls_mst.specs.declared.gathering.PortTally.{PortTally}
 use Rattle.pls_mst.specs.declared.glance.MstGlance.{MstGlance}
 use Rattle.pls_levels.specs.declared.label.LevelHead.{LevelHead}
@@ -14,7 +14,7 @@ use Rattle.pls_levels.specs.Labels.{head_of}
 use Rattle.pls_mst.specs.Labels.{MstLabel, mst_levels}
 use Rattle.pls_mst.specs.Rules.{agrees_on_root_and_levels, names_root_and_levels, chose_least_at, chosen_edges_are_least, edge_to, is_chosen_between, is_named_or_shared, on_each_level, on_some_level}
 use Rattle.pls_mst.specs.inner.Comparing.{CountsAs, compared}
-use Rattle.pls_mst.specs.inner.Gathering.{between, mst_tally, mst_tally_with}
+use Rattle.pls_mst.specs.inner.Gathering.{mst_tally, mst_tally_with, port_edge}
 use Rattle.pls_mst.specs.inner.Glance.{glance_of}
 use Rattle.pls_mst.specs.inner.Reading.{head_said}
 use Rattle.pls_mst.proofs.Comparisons.{three}
@@ -43,8 +43,8 @@ module _ (id : ℕ) (state : State) (own : MstLabel) (ports : List (ReadPort Mst
   here = is_pointer state.up (length ports)
 
   -- the edge to the neighbour
-  abbrev pub edge : Between
-  edge = between here weight (head_said own) (head_said theirs)
+  abbrev pub edge : PortEdge
+  edge = port_edge here weight (head_said own) (head_said theirs)
 
   -- what is asked of the target, with one more port
   at_target : (test : ReadPort MstLabel → Bool)
@@ -68,8 +68,6 @@ module _ (id : ℕ) (state : State) (own : MstLabel) (ports : List (ReadPort Mst
   more_gathered =
       let Numbered : Type 0 = ℕ × ReadPort MstLabel in
       let least : Numbered → Bool = λ numbered. chose_least_at before numbered.0 numbered.1 in
-      let follows = at_target (λ port. own.depth == port.label.depth + 1
-      && own.parent == port.label.own) in
       let shares = at_target (λ port.
       on_each_level (is_named_or_shared own.own) own.levels port.label.levels) in
       let chosen = at_target (λ port.
@@ -82,12 +80,12 @@ module _ (id : ℕ) (state : State) (own : MstLabel) (ports : List (ReadPort Mst
       ≡ (chosen_edges_are_least before && chose_least_at before (length ports) port) =
       ap (list_all least) (numbered_from_0 ports port)
       ∙ all_more least (enumerate_from 0 ports) last in
-      rw (follows, agrees, shares, leasts, chosen) refl
+      rw (agrees, shares, leasts, chosen) refl
 
   -- what is gathered of the port, by what stands in front of the two labels
-  pub is_gathered : (pointer : Bool) (mine head : LevelHead) (to : Between) (both : LevelComparison)
-      (was is : PortTally) → pointer ≡ here → head_said own ≡ mine → head_said theirs ≡ head
-      → was ≡ mst_tally before → to ≡ between pointer weight mine head
+  pub is_gathered : (pointer : Bool) (mine head : LevelHead) (to : PortEdge)
+      (both : LevelComparison) (was is : PortTally) → pointer ≡ here → head_said own ≡ mine
+      → head_said theirs ≡ head → was ≡ mst_tally before → to ≡ port_edge pointer weight mine head
       → CountsAs pointer both (compared to own.own own.levels theirs.levels)
       → is ≡ mst_tally_with pointer mine head both was → is ≡ mst_tally after
   is_gathered pointer mine head to both was is pointer_is mine_is head_is was_is to_is both_is
@@ -96,7 +94,7 @@ module _ (id : ℕ) (state : State) (own : MstLabel) (ports : List (ReadPort Mst
       is_more
       ∙ gathered_alike pointer mine head both (compared to own.own own.levels theirs.levels) was
       both_is
-      ∙ ap (λ (to : Between). mst_tally_with pointer mine head
+      ∙ ap (λ (to : PortEdge). mst_tally_with pointer mine head
       (compared to own.own own.levels theirs.levels) was) edge_is
       ∙ rw (pointer_is, sym mine_is, sym head_is, was_is) (sym more_gathered)
 

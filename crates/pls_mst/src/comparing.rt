@@ -8,7 +8,7 @@ ghost use Rattle.pls_numbers.specs.Taking.{items_off};
 ghost use Rattle.pls_mst.specs.declared.glance.TheConstants.{FRONT};
 ghost use Rattle.pls_mst.specs.Labels.{MstLabel, level_off, mst_shape};
 ghost use Rattle.pls_mst.specs.Rules.{chose_least, is_at_most, is_chosen_between, is_named_or_shared, on_each_level};
-ghost use Rattle.pls_mst.specs.inner.Comparing.{CountsAs, both_compared, compared, edge_between};
+ghost use Rattle.pls_mst.specs.inner.Comparing.{CountsAs, both_compared, compared, edge_between, outside_of};
 ghost use Rattle.pls_mst.specs.inner.Glance.{all_whole, glance_of};
 
 use crate::glance::{FRONT, MstGlance, behind_front, in_front};
@@ -19,12 +19,11 @@ use pls_boruvka::Level;
 use pls_numbers::Numbers;
 use pls_scheme::LabelGlance;
 
-/// The edge between a node and a neighbour.
+/// The edge at a port of a node, as it is weighed against the edges that fragments chose.
 #[derive(Clone, Copy, Debug, PartialEq, Eq)]
-pub struct Between {
+pub struct PortEdge {
     pub(crate) weight: u64,
-    // 0 in the tree, else 1.
-    pub(crate) outside: u64,
+    pub(crate) in_tree: bool,
     // The smaller identity of its ends.
     pub(crate) a: u64,
     // The greater identity of its ends.
@@ -48,7 +47,7 @@ pub(crate) fn compare_levels<C: NumCode>(
     pointer: bool,
     mine: &LabelGlance<'_, MstGlance>,
     theirs: &LabelGlance<'_, MstGlance>,
-    between: &Between,
+    between: &PortEdge,
 ) -> LevelComparison
     ensures { (own other : MstLabel) → said_by mst_shape C.takes mine.now.bits.now ≡ Some own
         → glance_of own ≡ mine.now.glance.now
@@ -83,7 +82,7 @@ fn compare_fronts(
     mine: &[KeptLevel; FRONT],
     theirs: &[KeptLevel; FRONT],
     count: usize,
-    between: &Between,
+    between: &PortEdge,
     own: u64,
 ) -> LevelComparison
     requires { count ≤ FRONT }
@@ -114,10 +113,11 @@ fn fronts_chose_least(
     mine: &[KeptLevel; FRONT],
     theirs: &[KeptLevel; FRONT],
     count: usize,
-    between: &Between,
+    between: &PortEdge,
 ) -> bool
     requires { count ≤ FRONT }
-    ensures { result ≡ on_each_level (chose_least (edge_between between.now) between.now.outside)
+    ensures { result
+        ≡ on_each_level (chose_least (edge_between between.now) (outside_of between.now))
         (take count (all_whole mine.now)) (take count (all_whole theirs.now)) }
 {
     for place in 0..count {
@@ -135,7 +135,7 @@ fn compare_behind<C: NumCode>(
     mine: &mut Numbers<'_, C>,
     theirs: &mut Numbers<'_, C>,
     count: u64,
-    between: &Between,
+    between: &PortEdge,
     own: u64,
 ) -> LevelComparison
     ensures { result ≡ both_compared before (compared between.now own
@@ -164,14 +164,14 @@ fn compare_behind<C: NumCode>(
 #[inline(always)]
 fn with_level(
     found: LevelComparison,
-    between: &Between,
+    between: &PortEdge,
     own: u64,
     mine: &Level,
     theirs: &Level,
 ) -> LevelComparison
     ensures shares { result.shares ≡ (found.shares && is_named_or_shared own mine.now theirs.now) }
     ensures least { result.least ≡ (found.least
-        && chose_least (edge_between between.now) between.now.outside mine.now theirs.now) }
+        && chose_least (edge_between between.now) (outside_of between.now) mine.now theirs.now) }
     ensures chosen { result.chosen ≡ (found.chosen
         || is_chosen_between (edge_between between.now) mine.now theirs.now) }
 {
@@ -196,8 +196,8 @@ fn is_named_or_shared(own: u64, mine: &Level, theirs: &Level) -> bool
 
 // In one fragment both chose the same edge; else the own choice comes no later than `between`.
 #[inline(always)]
-fn chose_least(between: &Between, mine: &Level, theirs: &Level) -> bool
-    ensures { result ≡ chose_least (edge_between between.now) between.now.outside mine.now
+fn chose_least(between: &PortEdge, mine: &Level, theirs: &Level) -> bool
+    ensures { result ≡ chose_least (edge_between between.now) (outside_of between.now) mine.now
         theirs.now }
 {
     if mine.fragment == theirs.fragment {
@@ -216,15 +216,15 @@ fn chose_same(mine: &Level, theirs: &Level) -> bool
 
 // The order is by weight, then tree edges first, then by the ends.
 #[inline(always)]
-fn comes_no_later(mine: &Level, between: &Between) -> bool
+fn comes_no_later(mine: &Level, between: &PortEdge) -> bool
     ensures { result ≡ is_at_most (edge_key (chosen_edge mine.now) 0)
-        (edge_key (edge_between between.now) between.now.outside) }
+        (edge_key (edge_between between.now) (outside_of between.now)) }
 {
     if mine.weight < between.weight {
         return true;
     }
     let ends = is_less_or(mine.a, between.a, is_less_or(mine.b, between.b, true));
-    mine.weight == between.weight && is_less_or(0, between.outside, ends)
+    mine.weight == between.weight && (!between.in_tree || ends)
 }
 
 // One step of a lexicographic comparison.
@@ -236,14 +236,14 @@ fn is_less_or(one: u64, other: u64, follows: bool) -> bool
 }
 
 #[inline(always)]
-fn is_chosen_between(between: &Between, mine: &Level, theirs: &Level) -> bool
+fn is_chosen_between(between: &PortEdge, mine: &Level, theirs: &Level) -> bool
     ensures { result ≡ is_chosen_between (edge_between between.now) mine.now theirs.now }
 {
     mine.fragment != theirs.fragment && (is_edge(mine, between) || is_edge(theirs, between))
 }
 
 #[inline(always)]
-fn is_edge(level: &Level, between: &Between) -> bool
+fn is_edge(level: &Level, between: &PortEdge) -> bool
     ensures { result ≡ is_same_edge (chosen_edge level.now) (edge_between between.now) }
 {
     level.a == between.a && (level.b == between.b && level.weight == between.weight)

@@ -4,23 +4,22 @@ ghost use Rattle.std.specs.Prelude.{◌≡◌, ℕ, ◌++◌, List, [], ◌∷�
 ghost use Rattle.pls_configuration.specs.declared.row.State.{State};
 ghost use Rattle.pls_numbers.specs.Shape.{said_by};
 ghost use Rattle.pls_scheme.specs.Reading.{ReadPort, port_with, reading};
+ghost use Rattle.pls_levels.specs.Rules.{is_placed_in_tree};
 ghost use Rattle.pls_mst.specs.Labels.{MstLabel, mst_shape};
 ghost use Rattle.pls_mst.specs.Rules.{mst_rules};
-ghost use Rattle.pls_mst.specs.inner.Gathering.{between, mst_tally, mst_tally_with};
+ghost use Rattle.pls_mst.specs.inner.Gathering.{mst_tally, mst_tally_with, port_edge};
 ghost use Rattle.pls_mst.specs.inner.Glance.{glance_of};
 
-use crate::comparing::{Between, LevelComparison, compare_levels};
+use crate::comparing::{LevelComparison, PortEdge, compare_levels};
 use crate::glance::{MstGlance, names_all};
 use pls_bits::NumCode;
 use pls_configuration::State;
-use pls_levels::{LevelHead, follows_above, is_root};
+use pls_levels::LevelHead;
 use pls_scheme::{LabelGlance, is_pointer};
 
 /// Which rules on the ports hold at those so far.
 #[derive(Clone, Copy, Debug, PartialEq, Eq)]
 pub struct PortTally {
-    // The node is one deeper than the one that it points at, which is its parent.
-    pub(crate) follows: bool,
     // The neighbours name the own root and have as many levels.
     pub(crate) agrees: bool,
     // Each fragment without the node's name is that of the node that it points at.
@@ -38,7 +37,6 @@ impl PortTally {
             → result ≡ mst_tally (reading id state label []) }
     {
         PortTally {
-            follows: true,
             agrees: true,
             shares: true,
             least: true,
@@ -67,7 +65,6 @@ impl PortTally {
             };
         }
         PortTally {
-            follows: follows_above(own, theirs),
             agrees,
             shares: both.shares,
             least,
@@ -75,24 +72,24 @@ impl PortTally {
         }
     }
 
-    // Asked once all ports are gathered.
+    // Asked once all ports are gathered; `placed` tells whether the label places the node in the
+    // tree.
     pub(crate) fn rules<C: NumCode>(
         &self,
-        id: u32,
+        placed: bool,
         state: State,
         own: &LabelGlance<'_, MstGlance>,
     ) -> [bool; 5]
-        ensures { (mine : MstLabel) (ports : List (ReadPort MstLabel))
+        ensures { (id : ℕ) (mine : MstLabel) (ports : List (ReadPort MstLabel))
             → said_by mst_shape C.takes own.now.bits.now ≡ Some mine
             → glance_of mine ≡ own.now.glance.now
+            → placed ≡ is_placed_in_tree (reading id state mine ports)
             → self.now ≡ mst_tally (reading id state mine ports)
             → result ≡ mst_rules (reading id state mine ports) }
     {
-        let head = &own.glance.head;
-        let points = state.up.is_some();
-        let names = points || names_all::<C>(own);
+        let names = state.up.is_some() || names_all::<C>(own);
         [
-            head.own == u64::from(id) && ((points || is_root(id, head)) && self.follows),
+            placed,
             self.agrees,
             names && self.shares,
             self.least,
@@ -119,20 +116,24 @@ pub(crate) fn with_port<C: NumCode>(
         → result ≡ mst_tally (reading id state mine (ports ++ port_with weight theirs ∷ [])) }
 {
     let pointer = is_pointer(up, place);
-    let between = edge_to(pointer, weight, &own.glance.head, &label.glance.head);
+    let between = port_edge(pointer, weight, &own.glance.head, &label.glance.head);
     let both = compare_levels::<C>(pointer, own, label, &between);
     before.with(pointer, &own.glance.head, &label.glance.head, both)
 }
 
 // `pointer` tells whether the node points at the neighbour.
 #[inline(always)]
-pub(crate) fn edge_to(pointer: bool, weight: u32, mine: &LevelHead, theirs: &LevelHead) -> Between
-    ensures { result ≡ between pointer weight mine.now theirs.now }
+pub(crate) fn port_edge(
+    pointer: bool,
+    weight: u32,
+    mine: &LevelHead,
+    theirs: &LevelHead,
+) -> PortEdge
+    ensures { result ≡ port_edge pointer weight mine.now theirs.now }
 {
-    let inside = pointer || theirs.parent == mine.own;
-    Between {
+    PortEdge {
         weight: u64::from(weight),
-        outside: if inside { 0 } else { 1 },
+        in_tree: pointer || theirs.parent == mine.own,
         a: mine.own.min(theirs.own),
         b: mine.own.max(theirs.own),
     }

@@ -8,7 +8,6 @@ use pls_boruvka::{Level, LevelList, LevelLists};
 use pls_levels::{LevelFormat, LevelKind, LevelLabel};
 use pls_numbers::{Numbers, append_numbers};
 use pls_streams::NoMemory;
-use std::alloc::Global;
 
 /// What a label says: where the node stands in the tree, and for each level the node's fragment and
 /// the edge that it chose.
@@ -61,7 +60,7 @@ impl LevelKind for MstLevels {
         list.at(number)
     }
 
-    fn list_at(_alloc: Global, lists: &LevelLists, place: usize) -> Result<LevelList, NoMemory> {
+    fn list_at(lists: &LevelLists, place: usize) -> Result<LevelList, NoMemory> {
         lists.at(place)
     }
 

@@ -23,7 +23,7 @@ mod mst;
 mod mst_scheme;
 mod reading;
 
-pub use comparing::{Between, LevelComparison};
+pub use comparing::{LevelComparison, PortEdge};
 pub use gathering::PortTally;
 pub use glance::{FRONT, MstGlance};
 pub use kept_level::KeptLevel;

@@ -103,10 +103,11 @@ impl<C: NumCode> JudgesInPlace for MstRules<C> {
         id: u32,
         state: State,
         own: &LabelGlance<'_, MstGlance>,
-        _above: Option<&MstGlance>,
+        above: Option<&MstGlance>,
         tally: PortTally,
     ) -> Verdict {
-        judged_from(3, &tally.rules::<C>(id, state, own))
+        let placed = is_placed::<MstLevels>(id, state, &own.glance.head, head_above(above));
+        judged_from(3, &tally.rules::<C>(placed, state, own))
     }
 }
 

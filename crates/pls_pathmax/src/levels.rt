@@ -8,7 +8,6 @@ use pls_centroid::{CentroidLevel, CentroidList, CentroidLists};
 use pls_levels::{LevelFormat, LevelKind, LevelLabel};
 use pls_numbers::{Numbers, append_numbers};
 use pls_streams::NoMemory;
-use std::alloc::Global;
 
 /// What a label says: where the node stands in the tree, and for each level the centroid of the
 /// node's piece, and the way to it.
@@ -60,11 +59,7 @@ impl LevelKind for PathMaxLevels {
         list.at(number)
     }
 
-    fn list_at(
-        _alloc: Global,
-        lists: &CentroidLists,
-        place: usize,
-    ) -> Result<CentroidList, NoMemory> {
+    fn list_at(lists: &CentroidLists, place: usize) -> Result<CentroidList, NoMemory> {
         lists.at(place)
     }
 

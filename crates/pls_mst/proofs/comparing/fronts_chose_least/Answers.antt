@@ -1,6 +1,6 @@
 use Rattle.std.proofs.Common.{◌∙◌, true, false, sym, arith}
 use Rattle.pls_mst.specs.Rules.{chose_least}
-use Rattle.pls_mst.specs.inner.Comparing.{edge_between}
+use Rattle.pls_mst.specs.inner.Comparing.{edge_between, outside_of}
 use Rattle.pls_mst.proofs.Fronts.{on_each-next}
 use Rattle.pls_mst.proofs.comparing.fronts_chose_least.Goals as goal
 
@@ -8,7 +8,7 @@ pub returns-then-not-chose_least : goal.returns-then-not-chose_least
 returns-then-not-chose_least c =
     let between = c.args.between.now in
     sym (c.loop-place.invariant.left
-    ∙ on_each-next (chose_least (edge_between between) between.outside) c.loop-place.place
+    ∙ on_each-next (chose_least (edge_between between) (outside_of between)) c.loop-place.place
     c.args.count c.args.mine.now c.args.theirs.now c.whole.result c.whole-in-loop-place.result
     false c.loop-place-test.true (omega (arith, c.told-mine, c.requires))
     (omega (arith, c.told-theirs, c.requires)) c.whole.ensures c.whole-in-loop-place.ensures
@@ -20,8 +20,8 @@ loop-place-preserved c =
     record {
       within = omega (arith, c.loop-place-test.true);
       left = c.loop-place.invariant.left
-          ∙ on_each-next (chose_least (edge_between between) between.outside) c.loop-place.place
-          c.args.count c.args.mine.now c.args.theirs.now c.whole.result
+          ∙ on_each-next (chose_least (edge_between between) (outside_of between))
+          c.loop-place.place c.args.count c.args.mine.now c.args.theirs.now c.whole.result
           c.whole-in-loop-place.result true c.loop-place-test.true
           (omega (arith, c.told-mine, c.requires)) (omega (arith, c.told-theirs, c.requires))
           c.whole.ensures c.whole-in-loop-place.ensures
