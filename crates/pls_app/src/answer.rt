@@ -17,7 +17,7 @@ use pls_components::Components;
 use pls_graph::Network;
 use pls_json::json_report;
 use pls_labels::LabelStore;
-use pls_report::{LookRows, ComponentRow, all_accept};
+use pls_report::{ComponentRow, LookRows, all_accept};
 use pls_sim::Outcome;
 use pls_streams::{NoMemory, Status, TextError};
 use std::alloc::Global;

@@ -9,10 +9,10 @@ ghost use Rattle.pls_sim.specs.declared.outcome.Outcome.TheVariants.{Waiting};
 ghost use Rattle.pls_report.specs.ComponentLines.{if_several, component_line};
 ghost use Rattle.pls_report.specs.Report.{closing_line, outcome_line, report_text};
 
-use crate::counting;
-use crate::decided::put_decided;
 use crate::component_lines::write_components;
 use crate::component_row::ComponentRow;
+use crate::counting;
+use crate::decided::put_decided;
 use crate::pieces::{put_listed, put_waiting};
 use pls_sim::Outcome;
 use pls_streams::{Fault, Gathered, Sink};
@@ -23,7 +23,7 @@ use pls_streams::{Fault, Gathered, Sink};
 /// many wait. It takes no memory.
 ///
 /// `Fault` comes only where the sink's count of faults rose in this call; the sink has then taken a
-/// front of the text, but not all. A sink that is sure of so many bytes takes all.
+/// front of the text, but not all. A sink that is sure of as many bytes as the text has takes all.
 pub fn write_report<K: Sink>(
     rows: &[(u32, Outcome)],
     simulated: bool,
