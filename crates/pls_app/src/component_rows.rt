@@ -2,13 +2,12 @@
 
 ghost use Rattle.std.specs.Prelude.{◌≡◌, ◌<◌, ◌≤◌, ◌^◌, ℕ, List, All, Some, cond, length, slice_get, IfOk};
 ghost use Rattle.pls_components.specs.Components.{AreComponents, items_at};
-ghost use Rattle.pls_report.specs.Report.{is_rejecting, is_waiting, rejecting, waiting};
+ghost use Rattle.pls_report.specs.Report.{rejecting, waiting};
 ghost use Rattle.pls_app.specs.ComponentRows.{component_row, component_rows};
 
 use pls_components::Components;
-use pls_configuration::Verdict;
 use pls_graph::Network;
-use pls_report::ComponentRow;
+use pls_report::{ComponentRow, rejects, waits};
 use pls_sim::Outcome;
 use pls_streams::NoMemory;
 use std::alloc::Global;
@@ -65,26 +64,14 @@ fn failing_at(places: &[u32], outcomes: &[(u32, Outcome)]) -> (usize, usize)
     let (mut rejecting, mut waiting) = (0, 0);
     for place in places {
         let outcome = &outcomes[*place as usize].1;
-        rejecting += one_if_rejecting(outcome);
-        waiting += one_if_waiting(outcome);
+        rejecting += one_if(rejects(outcome));
+        waiting += one_if(waits(outcome));
     }
     (rejecting, waiting)
 }
 
-fn one_if_rejecting(outcome: &Outcome) -> usize
-    ensures { result ≡ cond (is_rejecting outcome.now) 1 0 }
+fn one_if(holds: bool) -> usize
+    ensures { result ≡ cond holds 1 0 }
 {
-    match outcome {
-        Outcome::Decided(Verdict::Reject { .. }) => 1,
-        _ => 0,
-    }
-}
-
-fn one_if_waiting(outcome: &Outcome) -> usize
-    ensures { result ≡ cond (is_waiting outcome.now) 1 0 }
-{
-    match outcome {
-        Outcome::Waiting(_) => 1,
-        Outcome::Decided(_) => 0,
-    }
+    holds as usize
 }

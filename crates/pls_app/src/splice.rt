@@ -1,7 +1,6 @@
 //! The answer to `splice`.
 
 ghost use Rattle.std.specs.Prelude.{◌≡◌, IfOk, length};
-ghost use Rattle.pls_report.specs.Report.{is_rejecting};
 ghost use Rattle.pls_splice.specs.Crossing.{IsPair};
 ghost use Rattle.pls_splice.specs.Ring.{IsRingOrder};
 ghost use Rattle.pls_app.specs.Splice.{crossed_answer, first_rejecting, uncrossed_answer};
@@ -10,10 +9,10 @@ ghost use Rattle.pls_app.specs.inner.Tasks.{DoesSplice, IsWorked};
 use crate::answer::{Answer, Content, refuse_node};
 use crate::verify::decide;
 use pls_bits::CodeName;
-use pls_configuration::Verdict;
 use pls_graph::Network;
 use pls_labels::LabelStore;
 use pls_netfile::write_network;
+use pls_report::rejects;
 use pls_scheme::Checker;
 use pls_sim::Outcome;
 use pls_splice::{Pair, Ring, RingError, cross, find_pair};
@@ -72,12 +71,6 @@ fn first_rejecting(rows: &[(u32, Outcome)]) -> Option<u32>
     ensures { result ≡ first_rejecting rows.now }
 {
     rows.iter().find(|row| rejects(&row.1)).map(|row| row.0)
-}
-
-fn rejects(outcome: &Outcome) -> bool
-    ensures { result ≡ is_rejecting outcome.now }
-{
-    matches!(outcome, Outcome::Decided(Verdict::Reject { .. }))
 }
 
 fn crossed_answer(

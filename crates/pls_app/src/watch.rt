@@ -18,7 +18,6 @@ use pls_bits::NumCode;
 use pls_combine::AnyScheme;
 use pls_graph::Network;
 use pls_labels::LabelStore;
-use pls_report::look_is_well;
 use pls_scheme::Checker;
 use pls_streams::refusal_number::WATCH_EVENT;
 use pls_streams::{NoMemory, Status, Steps, TextError};
@@ -135,7 +134,7 @@ fn take_line<K: Checker>(
         WatchLine::Look => {
             lookout.look(alloc, &mut Steps::new())?;
             lookout.keep_look(alloc)?;
-            *well = look_is_well(lookout.rows());
+            *well = lookout.shown().is_well();
             Ok(true)
         }
     }

@@ -8,4 +8,5 @@ pub mod LookTexts
 pub mod Patching
 pub mod Renewing
 pub mod Texts
+pub mod Well
 mod Worked

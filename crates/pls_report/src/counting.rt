@@ -48,8 +48,7 @@ fn is_accept(verdict: Verdict) -> bool
     matches!(verdict, Verdict::Accept)
 }
 
-/// Whether a node accepts.
-pub(crate) fn accepts(outcome: &Outcome) -> bool
+fn accepts(outcome: &Outcome) -> bool
     ensures { result ≡ is_accepting outcome.now }
 {
     match outcome {
@@ -59,7 +58,7 @@ pub(crate) fn accepts(outcome: &Outcome) -> bool
 }
 
 /// Whether a node rejects.
-pub(crate) fn rejects(outcome: &Outcome) -> bool
+pub fn rejects(outcome: &Outcome) -> bool
     ensures { result ≡ is_rejecting outcome.now }
 {
     match outcome {
@@ -75,7 +74,7 @@ fn is_reject(verdict: Verdict) -> bool
 }
 
 /// Whether a node waits.
-pub(crate) fn waits(outcome: &Outcome) -> bool
+pub fn waits(outcome: &Outcome) -> bool
     ensures { result ≡ is_waiting outcome.now }
 {
     match outcome {

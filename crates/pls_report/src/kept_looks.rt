@@ -60,7 +60,7 @@ impl Model for KeptLooks {
 }
 
 impl KeptLooks {
-    /// No look at so many nodes. The one error is want of memory.
+    /// No look yet, at `count` nodes. The one error is want of memory.
     pub(crate) fn none(alloc: Global, count: usize) -> Result<KeptLooks, NoMemory>
         ensures lines { IfOk result (λ kept. kept.lines ≡ replicate count []) }
         ensures texts { IfOk result (λ kept. kept.texts ≡ []) }

@@ -7,7 +7,7 @@
 //! which touched nodes were judged again. [`write_look`] writes what is seen at a look at a round
 //! in which labels change (`specs/Look`), of which a [`LookRow`] is what is shown of one node and
 //! [`LookRows`] are those of all; they can keep looks, which [`write_kept`] writes later.
-//! [`look_is_well`] tells whether all accept there on the newest labels.
+//! [`LookRows::is_well`] tells whether all accept there on the newest labels.
 #![tactic(auto)]
 
 mod component_lines;
@@ -17,7 +17,6 @@ mod decided;
 mod kept_looks;
 mod line_kind;
 mod look;
-mod look_counting;
 mod look_row;
 mod look_rows;
 mod node_line;
@@ -27,9 +26,8 @@ mod report;
 mod round;
 
 pub use component_row::ComponentRow;
-pub use counting::{all_accept, all_verdicts_accept, rejecting, waiting};
+pub use counting::{all_accept, all_verdicts_accept, rejecting, rejects, waiting, waits};
 pub use look::{write_kept, write_look};
-pub use look_counting::look_is_well;
 pub use look_row::LookRow;
 pub use look_rows::LookRows;
 pub use report::write_report;

@@ -4,8 +4,7 @@ ghost use Rattle.std.specs.Prelude.{◌≡◌, ◌^◌, ◌<◌, length};
 ghost use Rattle.pls_report.specs.inner.Lines.{HasLine, HasRoomForOne, counts_of, kind_of, with_line};
 
 use crate::counting::{rejects, waits};
-use crate::look_counting::told_ports;
-use crate::look_row::LookRow;
+use crate::look_row::{LookRow, told_ports};
 
 /// Whether the node of a line rejects, whether it waits, and whether the line tells of stale ports.
 #[derive(Clone, Copy, Debug)]

@@ -25,7 +25,7 @@ use pls_streams::{Fault, Gathered, Sink};
 /// how many wait, and how many have a line with stale ports. It takes no memory.
 ///
 /// `Fault` comes only where the sink's count of faults rose in this call; the sink has then taken a
-/// front of the text, but not all. A sink that is sure of so many bytes takes all.
+/// front of the text, but not all. A sink that is sure of as many bytes as the text has takes all.
 pub fn write_look<K: Sink>(number: u32, look: &LookRows, sink: &mut K) -> Result<(), Fault>
     ensures all { OnOk result (Appends (K.taken sink.old) (K.taken sink.new)
         (look_text number look.now.rows)) }
@@ -48,7 +48,7 @@ pub fn write_look<K: Sink>(number: u32, look: &LookRows, sink: &mut K) -> Result
 /// takes no memory, and no row is told anew: a line that several looks have was made once.
 ///
 /// `Fault` comes only where the sink's count of faults rose in this call; the sink has then taken a
-/// front of the text, but not all. A sink that is sure of so many bytes takes all.
+/// front of the text, but not all. A sink that is sure of as many bytes as the text has takes all.
 pub fn write_kept<K: Sink>(look: LookRows, sink: &mut K) -> Result<(), Fault>
     ensures all { OnOk result (Appends (K.taken sink.old) (K.taken sink.new)
         (flat_map (λ text. text) look.kept)) }

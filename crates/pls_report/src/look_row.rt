@@ -1,6 +1,7 @@
 //! What a look shows of a node.
 
 ghost use Rattle.std.specs.Prelude.{◌≡◌};
+ghost use Rattle.pls_report.specs.Look.{told_ports};
 
 use pls_sim::{Outcome, PortNumbers};
 use std::marker::Model;
@@ -60,9 +61,19 @@ impl LookRow {
     }
 
     /// Shows other ports as stale.
-    pub fn set_stale(&mut self, stale: PortNumbers)
+    pub(crate) fn set_stale(&mut self, stale: PortNumbers)
         ensures { self.new ≡ (self.old.0, self.old.1, stale) }
     {
         self.stale = stale;
+    }
+}
+
+/// The stale ports that a node's line tells of.
+pub(crate) fn told_ports<'a>(outcome: &Outcome, stale: &'a [u32]) -> &'a [u32]
+    ensures { result.now ≡ told_ports outcome.now stale.now }
+{
+    match outcome {
+        Outcome::Decided(_) => stale,
+        Outcome::Waiting(_) => &[],
     }
 }

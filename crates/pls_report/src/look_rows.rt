@@ -2,7 +2,7 @@
 
 ghost use Rattle.std.specs.Prelude.{◌≡◌, ◌+◌, ◌<◌, ◌++◌, ◌∷◌, [], ℕ, List, false, length, map, slice_get, slice_set, IfOk, OnErr, OnOk, Some};
 ghost use Rattle.pls_sim.specs.declared.outcome.Outcome.{Outcome};
-ghost use Rattle.pls_report.specs.Look.{look_text};
+ghost use Rattle.pls_report.specs.Look.{look_is_well, look_text};
 ghost use Rattle.pls_report.specs.inner.Kept.{row_line};
 ghost use Rattle.pls_report.specs.inner.Lines.{counts_of};
 ghost use Rattle.pls_report.specs.inner.Renewed.{AreRenewed};
@@ -115,6 +115,13 @@ impl LookRows {
         ensures { result.texts ≡ self.kept }
     {
         self.kept
+    }
+
+    /// Whether all nodes accept, and no port is stale.
+    pub fn is_well(&self) -> bool
+        ensures { result ≡ look_is_well self.now.rows }
+    {
+        self.counts.rejecting == 0 && self.counts.waiting == 0 && self.counts.stale == 0
     }
 
     /// How many nodes reject, how many wait, and how many have a line with stale ports.

@@ -5,7 +5,7 @@ ghost use Rattle.pls_report.specs.Look.{look_line};
 ghost use Rattle.pls_report.specs.inner.Pieces.{BeginsWith, outcome_tail, spaced, stale_tail};
 
 use crate::decided::{line_in, number_at};
-use crate::look_counting::told_ports;
+use crate::look_row::told_ports;
 use pls_configuration::Verdict;
 use pls_sim::Outcome;
 use pls_streams::NoMemory;

@@ -23,7 +23,7 @@ use pls_streams::{Fault, Gathered, Sink};
 /// many wait. It takes no memory.
 ///
 /// `Fault` comes only where the sink's count of faults rose in this call; the sink has then taken a
-/// front of the text, but not all. A sink that is sure of so many bytes takes all.
+/// front of the text, but not all. A sink that is sure of as many bytes as the text has takes all.
 pub fn write_report<K: Sink>(
     rows: &[(u32, Outcome)],
     simulated: bool,

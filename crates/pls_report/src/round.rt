@@ -17,7 +17,7 @@ use pls_streams::{Fault, Gathered, Sink};
 /// checked, whether the edges join all nodes, and how many reject. It takes no memory.
 ///
 /// `Fault` comes only where the sink's count of faults rose in this call; the sink has then taken a
-/// front of the text, but not all. A sink that is sure of so many bytes takes all.
+/// front of the text, but not all. A sink that is sure of as many bytes as the text has takes all.
 pub fn write_round<K: Sink>(
     number: u32,
     checked: u32,

@@ -1,4 +1,4 @@
-use Rattle.std.proofs.Common.{◌≡◌, ◌∙◌, ℕ, ◌+◌, Bool, List, get_or, take, count_by, sym, ap, arith}
+use Rattle.std.proofs.Common.{◌≡◌, ◌∙◌, ℕ, ◌+◌, Bool, cond, List, get_or, take, count_by, sym, ap, arith}
 use Rattle.std.proofs.lemmas.List.{take_all}
 use Rattle.pls_sim.specs.declared.outcome.Outcome.{Outcome}
 use Rattle.pls_report.specs.Report.{is_rejecting, is_waiting}
@@ -21,7 +21,7 @@ overflow_add-rejecting c =
           (get_or c.args.outcomes.now (get_or c.args.places.now c.loop-place.place-index 0)
           c.index-outcomes-place.result) c.requires.within,
       c.loop-place-test.true,
-      c.one_if_rejecting-rejecting.ensures,
+      c.one_if-rejecting.ensures ∙ ap {B = ℕ} (λ (b : Bool). cond b 1 0) c.rejects.ensures,
       c.requires.few,
     )
 
@@ -34,7 +34,7 @@ overflow_add-waiting c =
           (get_or c.args.outcomes.now (get_or c.args.places.now c.loop-place.place-index 0)
           c.index-outcomes-place.result) c.requires.within,
       c.loop-place-test.true,
-      c.one_if_waiting-waiting.ensures,
+      c.one_if-waiting.ensures ∙ ap {B = ℕ} (λ (b : Bool). cond b 1 0) c.waits.ensures,
       c.requires.few,
     )
 
@@ -46,9 +46,11 @@ loop-place-preserved c =
     let d = c.index-outcomes-place.result in
     let row = get_or outcomes (get_or places at 0) d in
     let there = outcome_at outcomes places at d c.requires.within c.loop-place-test.true in (
-      (λ i. c.loop-place.invariant.0 i + c.one_if_rejecting-rejecting.ensures i)
+      (λ i. c.loop-place.invariant.0 i
+          + (c.one_if-rejecting.ensures ∙ (λ k. cond (c.rejects.ensures k) 1 0)) i)
           ∙ sym (count_more rejects outcomes places at 0 row c.loop-place-test.true there),
-      (λ i. c.loop-place.invariant.1 i + c.one_if_waiting-waiting.ensures i)
+      (λ i. c.loop-place.invariant.1 i
+          + (c.one_if-waiting.ensures ∙ (λ k. cond (c.waits.ensures k) 1 0)) i)
           ∙ sym (count_more waits outcomes places at 0 row c.loop-place-test.true there),
     )
 

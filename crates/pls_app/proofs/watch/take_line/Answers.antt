@@ -34,9 +34,10 @@ returns-in_ok-keep_look-in-Look-clause-shown g c looks are =
     let kept : before ++ look_text (length before + 1) look ∷ [] ≡ c.keep_look.new.self.kept =
     (λ k. sym stays k ++ look_text (length (sym stays k) + 1) (sym rows k) ∷ [])
     ∙ sym (λ k. (now k).kept) in
-    let shows : look ≡ c.rows.result.now = sym (c.rows.ensures ∙ (λ k. (now k).rows) ∙ rows) in
-    subst (λ (line : WatchLine). AreShown c.keep_look.new.self.kept c.look_is_well.result
+    let shows : look ≡ c.shown.result.now.rows =
+    sym (c.shown.ensures.rows ∙ (λ k. (now k).rows) ∙ rows) in
+    subst (λ (line : WatchLine). AreShown c.keep_look.new.self.kept c.is_well.result
     (looks ++ shown_at judge watched line)) (sym c.in-Look.is)
-    (subst (λ (texts : List (List ℕ)). AreShown texts c.look_is_well.result (looks ++ look ∷ [])) kept
-    (shown_more before c.args.well.now c.look_is_well.result looks look are
-    (c.look_is_well.ensures ∙ sym (ap look_is_well shows))))
+    (subst (λ (texts : List (List ℕ)). AreShown texts c.is_well.result (looks ++ look ∷ [])) kept
+    (shown_more before c.args.well.now c.is_well.result looks look are
+    (c.is_well.ensures ∙ sym (ap look_is_well shows))))
