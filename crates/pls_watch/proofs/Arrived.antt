@@ -279,3 +279,9 @@ not_there rows valid i row stands node differs = by (node == row.id) refl
         absurd (differs (subst (λ (id : ℕ). position (λ row. id == row.id) rows ≡ Some i)
         (sym (eqb-true node row.id is)) (place_of_row rows valid i row stands)))
     by false is = refl
+
+-- a place among the rows that are seen
+pub place_there : (rows seen : List NodeRow) (node : ℕ) (place : Option ℕ) → seen ≡ rows
+    → place ≡ position (λ row. node == row.id) seen → position (λ row. node == row.id) rows ≡ place
+place_there rows seen node place same is =
+    ap (position (λ (row : NodeRow). node == row.id)) (sym same) ∙ sym is

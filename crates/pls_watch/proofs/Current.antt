@@ -23,9 +23,9 @@ use Rattle.pls_watch.specs.declared.change.Change.TheVariants.{Nothing, Beside, 
 use Rattle.pls_watch.specs.Labelled.{turn_of, turns_of}
 use Rattle.pls_watch.specs.Versions.{relabels}
 use Rattle.pls_watch.specs.Watching.{Watched, lacks_room, look_of, outcome_in, stale_in, watch_refusal, watching}
-use Rattle.pls_watch.specs.inner.Current.{AreLabelsNoted, AreLastNoted, IsCurrent, IsNoted, IsRenewed, KnowsSame, holds_last, holds_newest, is_relabel, keeps_outcome, look_row}
+use Rattle.pls_watch.specs.inner.Current.{AreLabelsNoted, ArePreviousNoted, IsCurrent, IsNoted, IsRenewed, KnowsSame, holds_newest, holds_previous, is_relabel, keeps_outcome, look_row}
 use Rattle.pls_watch.proofs.Noted.{Back, at_place, quiet_at, set_elsewhere, set_here, way_back}
-use Rattle.pls_watch.proofs.Staying.{last_held, newest_behind, outcome_stays, stale_stays}
+use Rattle.pls_watch.proofs.Staying.{newest_behind, outcome_stays, previous_held, stale_stays}
 use Rattle.pls_watch.proofs.Table.{other_at}
 
 -- lists with the same items are the same
@@ -275,14 +275,14 @@ module _ (judge : Seen → Verdict) (watched : Watched) (event : WatchEvent) (pl
             (ap (λ (node : ℕ). relabels node (turn_of event)) back.is ∙ gives)
 
         by : (b : Bool) → holds_newest net turns row.id at.nbr ≡ b
-            → AreLastNoted (watching event watched) new there → b ≡ false
+            → ArePreviousNoted (watching event watched) new there → b ≡ false
         by false is_newest all = refl
         by true is_newest all =
             let same = knows i row stands (place_differs i Nothing quiet refl) in
             absurd (all back.other back.q back.port back.stands back.has
-            (subst (λ (nbr : ℕ). holds_last net later back.port.nbr nbr ≡ true) (sym back.is)
-            (subst (λ (id : ℕ). holds_last net later id at.nbr ≡ true) (sym back.leads)
-            (last_held watched event row same at.nbr gives is_newest)))
+            (subst (λ (nbr : ℕ). holds_previous net later back.port.nbr nbr ≡ true) (sym back.is)
+            (subst (λ (id : ℕ). holds_previous net later id at.nbr ≡ true) (sym back.leads)
+            (previous_held watched event row same at.nbr gives is_newest)))
             (ap (slice_get new) back.home ∙ quiet))
 
   -- beside a label that is noted nothing is fresh of which nothing changed

@@ -14,7 +14,7 @@ use Rattle.pls_watch.specs.Labelled.{turns_of}
 use Rattle.pls_watch.specs.Watching.{Watched}
 use Rattle.pls_watch.specs.declared.change.Change.{Change}
 use Rattle.pls_watch.specs.declared.change.Change.TheVariants.{Nothing, Beside, Held, Label}
-use Rattle.pls_watch.specs.inner.Current.{AreLastNoted, IsMoreNoted, IsNoted, holds_last, is_relabel, keeps_outcome, with_beside, with_held}
+use Rattle.pls_watch.specs.inner.Current.{ArePreviousNoted, IsMoreNoted, IsNoted, holds_previous, is_relabel, keeps_outcome, with_beside, with_held}
 use Rattle.pls_watch.proofs.Table.{other_at}
 
 -- an item of a list in which one was replaced
@@ -139,10 +139,10 @@ module _ (old : List Change) (place : ℕ) (change : Change) (within : place < l
       (λ differs. sym (set_elsewhere old place i change differs) ∙ at)
 
 -- what is noted beside a label stays so
-last_stays : (watched : Watched) (old new : List Change) (place : ℕ) → IsMoreNoted old new
-    → AreLastNoted watched old place → AreLastNoted watched new place
-last_stays watched old new place more noted row p at stands has last none =
-    noted row p at stands has last (more.nothing _ none)
+previous_stays : (watched : Watched) (old new : List Change) (place : ℕ) → IsMoreNoted old new
+    → ArePreviousNoted watched old place → ArePreviousNoted watched new place
+previous_stays watched old new place more noted row p at stands has previous none =
+    noted row p at stands has previous (more.nothing _ none)
 
 -- a label that is noted behind those beside it
 module _ (watched : Watched) (old marked : List Change) (place : ℕ)
@@ -161,8 +161,8 @@ module _ (watched : Watched) (old marked : List Change) (place : ℕ)
   label_others labels i label differs =
       labels i (sym (set_elsewhere marked place i Label differs) ∙ label)
 
-  pub label_last : AreLastNoted watched marked place → AreLastNoted watched labelled place
-  label_last = last_stays watched marked labelled place later
+  pub label_previous : ArePreviousNoted watched marked place → ArePreviousNoted watched labelled place
+  label_previous = previous_stays watched marked labelled place later
 
 -- one node more beside a new label
 beside_some : (change : Change) → with_beside change ≢ Nothing
@@ -204,12 +204,12 @@ module _ (old : List Change) (place : ℕ) (within : place < length old) where
       (same_Some (with_beside (get_or old place Nothing)) Nothing
       (sym (set_here old place (with_beside (get_or old place Nothing)) within) ∙ none))
 
--- those of the first ports of a node are noted that hold the last label before its newest
+-- those of the first ports of a node are noted that hold the version before the newest of its label
 abbrev pub AreFirstNoted : Watched → List Change → ℕ → ℕ → Type 0
 AreFirstNoted watched changes place count =
     (row : NodeRow) (p : ℕ) (at : Port) → p < count → slice_get watched.network place ≡ Some row
     → slice_get row.ports p ≡ Some at
-    → holds_last watched.network (turns_of watched.events) at.nbr row.id ≡ true
+    → holds_previous watched.network (turns_of watched.events) at.nbr row.id ≡ true
     → slice_get changes (get_or (beside watched.network place) p 0) ≢ Some Nothing
 
 -- one port more
@@ -221,24 +221,24 @@ module _ (watched : Watched) (old : List Change) (place port : ℕ)
   pub first_held : there < length old
       → AreFirstNoted watched (set old there (with_beside (get_or old there Nothing))) place
       (port + 1)
-  first_held within row p at under stands has last none =
+  first_held within row p at under stands has previous none =
       at_place p port
       (λ same. beside_here old there within
       (ap (λ (p : ℕ). slice_get (set old there (with_beside (get_or old there Nothing)))
       (get_or (beside watched.network place) p 0)) (sym same) ∙ none))
-      (λ differs. first row p at (omega (arith, under, differs)) stands has last
+      (λ differs. first row p at (omega (arith, under, differs)) stands has previous
       ((beside_more old there within).nothing (get_or (beside watched.network place) p 0) none))
 
   pub first_other : ((row : NodeRow) (at : Port) → slice_get watched.network place ≡ Some row
       → slice_get row.ports port ≡ Some at
-      → holds_last watched.network (turns_of watched.events) at.nbr row.id ≡ false)
+      → holds_previous watched.network (turns_of watched.events) at.nbr row.id ≡ false)
       → AreFirstNoted watched old place (port + 1)
-  first_other other row p at under stands has last none =
+  first_other other row p at under stands has previous none =
       at_place p port
       (λ same.
       let no : false ≡ true =
-      sym (other row at stands (ap (slice_get row.ports) (sym same) ∙ has)) ∙ last in absurd (cc))
-      (λ differs. first row p at (omega (arith, under, differs)) stands has last none)
+      sym (other row at stands (ap (slice_get row.ports) (sym same) ∙ has)) ∙ previous in absurd (cc))
+      (λ differs. first row p at (omega (arith, under, differs)) stands has previous none)
 
 -- a node that holds something else
 held_some : (change : Change) → with_held change ≢ Nothing
@@ -273,7 +273,7 @@ module _ (watched : Watched) (event : WatchEvent) (place : ℕ) (old : List Chan
   pub noted_label : (new : List Change) → IsMoreNoted old new → is_relabel event ≡ true
       → ((i : ℕ) → slice_get new i ≡ Some Label → i ≢ place → slice_get old i ≡ Some Label)
       → slice_get new place ≡ Some Label
-      → ((slice_get old place ≡ Some Label) ⊎ AreLastNoted watched new place)
+      → ((slice_get old place ≡ Some Label) ⊎ ArePreviousNoted watched new place)
       → IsNoted watched event (Some place) old new
   noted_label new more given labels here around = record {
     more = more;
@@ -281,7 +281,7 @@ module _ (watched : Watched) (event : WatchEvent) (place : ℕ) (old : List Chan
         (λ differs. inl (labels i label differs));
     here = λ i same. (Label, ap (slice_get new) (sym (same_Some place i same)) ∙ here, refl);
     around = λ i relabels same. subst (λ (place : ℕ). (slice_get old place ≡ Some Label)
-        ⊎ AreLastNoted watched new place) (same_Some place i same) around;
+        ⊎ ArePreviousNoted watched new place) (same_Some place i same) around;
   }
 
   pub noted_held : place < length old → is_relabel event ≡ false

@@ -14,7 +14,7 @@ use Rattle.pls_watch.specs.declared.turn.Turn.{Turn}
 use Rattle.pls_watch.specs.Labelled.{given_to, later_labels, turn_of, turns_of}
 use Rattle.pls_watch.specs.Versions.{held, is_fresh, known, newest, plain_of, relabels}
 use Rattle.pls_watch.specs.Watching.{Watched, outcome_in, stale_in, version_of_label, watching}
-use Rattle.pls_watch.specs.inner.Current.{KnowsSame, holds_last, holds_newest}
+use Rattle.pls_watch.specs.inner.Current.{KnowsSame, holds_newest, holds_previous}
 use Rattle.pls_watch.proofs.Ahead.{held_few}
 use Rattle.pls_watch.proofs.Given.{many_labels}
 use Rattle.pls_watch.proofs.More.{heard_held, newest_more}
@@ -178,10 +178,10 @@ module _ (watched : Watched) (event : WatchEvent) where
         same_ports (is_fresh rows later row.id) (is_fresh rows turns row.id) 0 row.ports
         (λ p at has. fresh_same at.nbr (behind p at has))
 
-    -- the newest that is held is the last one once there is another
-    pub last_held : (nbr : ℕ) → relabels nbr (turn_of event) ≡ true
-        → holds_newest rows turns row.id nbr ≡ true → holds_last rows later row.id nbr ≡ true
-    last_held nbr gives is_newest =
+    -- the newest that is held is the one before it once there is another
+    pub previous_held : (nbr : ℕ) → relabels nbr (turn_of event) ≡ true
+        → holds_newest rows turns row.id nbr ≡ true → holds_previous rows later row.id nbr ≡ true
+    previous_held nbr gives is_newest =
         ap (λ (o : Option ℕ). option_map_or (λ version. version + 1 == newest later nbr) o false)
         (knows.holds nbr)
         ∙ of (held rows turns row.id nbr) is_newest

@@ -1,7 +1,7 @@
 //! What of each node changed since the last look.
 
 ghost use Rattle.std.specs.Prelude.{◌≡◌, ◌≢◌, ◌<◌, ◌⊎◌, ℕ, IfOk, IfSome, length, replicate, slice_get, slice_index_or, slice_set, Some};
-ghost use Rattle.pls_watch.specs.inner.Current.{AreLastNoted, IsMoreNoted, IsNoted, is_relabel, with_beside, with_held};
+ghost use Rattle.pls_watch.specs.inner.Current.{ArePreviousNoted, IsMoreNoted, IsNoted, is_relabel, with_beside, with_held};
 
 use crate::watch::Watch;
 use pls_streams::NoMemory;
@@ -21,7 +21,7 @@ pub(crate) enum Change {
     Label,
 }
 
-/// Of each of so many nodes nothing changed. The one error is want of memory.
+/// `count` nodes, of none of which something changed. The one error is want of memory.
 pub(crate) fn no_changes(alloc: Global, count: usize) -> Result<Vec<Change>, NoMemory>
     ensures { IfOk result (λ changes. changes.items ≡ replicate count Change.Nothing) }
 {
@@ -66,7 +66,7 @@ fn note_label(watch: &Watch<'_>, changes: &mut Vec<Change>, place: usize)
         → slice_get changes.old.items i ≡ Some Change.Label }
     ensures here { slice_get changes.new.items place ≡ Some Change.Label }
     ensures around { (slice_get changes.old.items place ≡ Some Change.Label)
-        ⊎ AreLastNoted watch.now changes.new.items place }
+        ⊎ ArePreviousNoted watch.now changes.new.items place }
 {
     match changes[place] {
         Change::Label => {}
@@ -77,17 +77,17 @@ fn note_label(watch: &Watch<'_>, changes: &mut Vec<Change>, place: usize)
     }
 }
 
-// Notes the neighbours of a node that hold the last version of its label before the newest.
+// Notes the neighbours of a node that hold the version of its label before its newest.
 fn note_beside(watch: &Watch<'_>, changes: &mut Vec<Change>, i: usize)
     requires each { length changes.old.items ≡ length watch.now.network }
     requires within { i < length watch.now.network }
     ensures more { IsMoreNoted changes.old.items changes.new.items }
     ensures labels { (i : ℕ) → slice_get changes.new.items i ≡ Some Change.Label
         → slice_get changes.old.items i ≡ Some Change.Label }
-    ensures all { AreLastNoted watch.now changes.new.items i }
+    ensures all { ArePreviousNoted watch.now changes.new.items i }
 {
     for (port, beside) in watch.network().places(i).iter().enumerate() {
-        if watch.is_last_held(i, port) {
+        if watch.neighbour_holds_previous(i, port) {
             let place = *beside as usize;
             changes[place] = with_beside(changes[place]);
         }

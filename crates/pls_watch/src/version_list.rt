@@ -36,7 +36,7 @@ impl Model for VersionList {
 }
 
 impl VersionList {
-    /// None, with room for so many. The one error is want of memory.
+    /// An empty list with room for `room` versions. The one error is want of memory.
     pub(crate) fn with_room(alloc: Global, room: usize) -> Result<VersionList, NoMemory>
         ensures versions { IfOk result (λ list. list.versions ≡ []) }
         ensures labels { IfOk result (λ list. list.labels ≡ []) }
@@ -46,7 +46,7 @@ impl VersionList {
         Ok(VersionList { items })
     }
 
-    /// So many first versions, of any labels. The one error is want of memory.
+    /// `count` first versions, of any labels. The one error is want of memory.
     pub(crate) fn noughts(alloc: Global, count: usize) -> Result<VersionList, NoMemory>
         ensures versions { IfOk result (λ list. list.versions ≡ replicate count 0) }
         ensures labels { IfOk result (λ list. length list.labels ≡ count) }

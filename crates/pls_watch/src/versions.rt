@@ -9,7 +9,7 @@ ghost use Rattle.pls_sim.specs.Schedule.{emits_of};
 ghost use Rattle.pls_sim.specs.inner.Kept.{NamesEmit};
 ghost use Rattle.pls_watch.specs.Versions.{held, is_fresh, newest, plain_of, relabels, stale};
 ghost use Rattle.pls_watch.specs.Turning.{turn_refusal, turning};
-ghost use Rattle.pls_watch.specs.inner.Current.{holds_last};
+ghost use Rattle.pls_watch.specs.inner.Current.{holds_previous};
 ghost use Rattle.pls_watch.specs.inner.Held.{HoldAsBefore};
 ghost use Rattle.pls_watch.specs.inner.Numbers.{IsLabel, IsOneOf};
 
@@ -190,7 +190,7 @@ impl<'n> Versions<'n> {
         ensures unchanged { OnErr result (self.new ≡ self.old) }
     {
         self.sim.step(Event::Restart(node))?;
-        Ok(self.net.place_of(node))
+        Ok(self.sim.place_of(node))
     }
 
     fn relabel(&mut self, node: u32) -> Result<Option<usize>, EventError>
@@ -207,7 +207,7 @@ impl<'n> Versions<'n> {
             (λ error. turn_refusal self.old (Turn.Relabel node) ≡ Some error) }
         ensures unchanged { OnErr result (self.new ≡ self.old) }
     {
-        let Some(place) = self.net.place_of(node) else {
+        let Some(place) = self.sim.place_of(node) else {
             return Err(EventError::NoNode);
         };
         let number = self.net.len() + self.givings.len();
@@ -279,15 +279,14 @@ impl<'n> Versions<'n> {
         }
     }
 
-    /// Whether the neighbour at a port of the node at place `i` holds the last version of this
-    /// node's label before the newest.
+    /// Whether the neighbour at a port holds the version of this node's label before its newest.
     #[inline(always)]
-    pub(crate) fn is_last_held(&self, i: usize, port: usize) -> bool
+    pub(crate) fn neighbour_holds_previous(&self, i: usize, port: usize) -> bool
         requires place { i < length self.now.network }
         requires port { IfSome (slice_get self.now.network i) (λ row. port < length row.ports) }
         ensures { (row : NodeRow) (at : Port) → slice_get self.now.network i ≡ Some row
             → slice_get row.ports port ≡ Some at
-            → result ≡ holds_last self.now.network self.now.turns at.nbr row.id }
+            → result ≡ holds_previous self.now.network self.now.turns at.nbr row.id }
     {
         match self.held_back(i, port) {
             Some(version) => version + 1 == self.newest.get(i).0,

@@ -9,7 +9,7 @@ ghost use Rattle.pls_watch_part.specs.WatchText.{watch_event};
 ghost use Rattle.pls_watch.specs.Labelled.{turn_of, turns_of};
 ghost use Rattle.pls_watch.specs.Turning.{IsNotBack, restarts_in};
 ghost use Rattle.pls_watch.specs.Versions.{held, newest};
-ghost use Rattle.pls_watch.specs.inner.Current.{KnowsSame, holds_last};
+ghost use Rattle.pls_watch.specs.inner.Current.{KnowsSame, holds_previous};
 ghost use Rattle.pls_watch.specs.Watching.{lacks_room, version_of_label, watch_refusal, watching};
 
 use crate::stock::stock_of;
@@ -35,8 +35,8 @@ pub struct Watch<'n> {
     // The first labels of all nodes, in their order, then each label that was given, and then empty
     // ones in the place of those to come.
     pub(crate) labels: LabelRoom,
-    relabels: usize,
-    bits: u64,
+    most_relabels: usize,
+    most_bits: u64,
     // How many labels were given, and their bits.
     given: usize,
     given_bits: u64,
@@ -48,10 +48,11 @@ impl<'n> Model for Watch<'n> {
 
     ghost Value = { Watched };
 
-    ghost view = { λ watch. watched_by watch.versions watch.labels watch.relabels watch.bits };
+    ghost view = { λ watch. watched_by watch.versions watch.labels
+        watch.most_relabels watch.most_bits };
 
     ghost invariant = { λ watch. IsStocked watch.net.now watch.versions watch.labels
-        watch.relabels watch.bits watch.given watch.given_bits };
+        watch.most_relabels watch.most_bits watch.given watch.given_bits };
 }
 
 impl<'n> Watch<'n> {
@@ -85,8 +86,8 @@ impl<'n> Watch<'n> {
             net,
             versions,
             labels,
-            relabels,
-            bits,
+            most_relabels: relabels,
+            most_bits: bits,
             given: 0,
             given_bits: 0,
         })
@@ -192,10 +193,10 @@ impl<'n> Watch<'n> {
         ensures { (node : ℕ) (label : List Bool) → length label ≡ len
             → result ≡ lacks_room self.now (WatchEvent.Relabel node label) }
     {
-        if self.given >= self.relabels {
+        if self.given >= self.most_relabels {
             return true;
         }
-        len > self.bits - self.given_bits
+        len > self.most_bits - self.given_bits
     }
 
     /// The newest version of the label of the node at place `i`; versions are numbered from 0.
@@ -236,17 +237,16 @@ impl<'n> Watch<'n> {
         }
     }
 
-    /// Whether the neighbour at a port of the node at place `i` holds the last version of this
-    /// node's label before the newest.
+    /// Whether the neighbour at a port holds the version of this node's label before its newest.
     #[inline(always)]
-    pub(crate) fn is_last_held(&self, i: usize, port: usize) -> bool
+    pub(crate) fn neighbour_holds_previous(&self, i: usize, port: usize) -> bool
         requires place { i < length self.now.network }
         requires port { IfSome (slice_get self.now.network i) (λ row. port < length row.ports) }
         ensures { (row : NodeRow) (at : Port) → slice_get self.now.network i ≡ Some row
             → slice_get row.ports port ≡ Some at → result
-            ≡ holds_last self.now.network (turns_of self.now.events) at.nbr row.id }
+            ≡ holds_previous self.now.network (turns_of self.now.events) at.nbr row.id }
     {
-        self.versions.is_last_held(i, port)
+        self.versions.neighbour_holds_previous(i, port)
     }
 
     /// What is held at a port of the node at place `i` never goes back by an event that is no

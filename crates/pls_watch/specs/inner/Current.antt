@@ -61,19 +61,19 @@ holds_newest rows turns node neighbour =
     option_map_or (λ version. version == newest turns neighbour) (held rows turns node neighbour)
     false
 
--- a node holds the version of a neighbour's label that is the last before its newest
-abbrev pub holds_last : List NodeRow → List Turn → ℕ → ℕ → Bool
-holds_last rows turns node neighbour =
+-- a node holds the version of a neighbour's label before its newest
+abbrev pub holds_previous : List NodeRow → List Turn → ℕ → ℕ → Bool
+holds_previous rows turns node neighbour =
     option_map_or (λ version. version + 1 == newest turns neighbour)
     (held rows turns node neighbour) false
 
--- something is noted of each neighbour that holds the last label before the newest of the node at a
--- place
-abbrev pub AreLastNoted : Watched → List Change → ℕ → Type 0
-AreLastNoted watched changes place =
+-- something is noted of each neighbour that holds the version before the newest of the label of the
+-- node at a place
+abbrev pub ArePreviousNoted : Watched → List Change → ℕ → Type 0
+ArePreviousNoted watched changes place =
     (row : NodeRow) (p : ℕ) (at : Port) → slice_get watched.network place ≡ Some row
     → slice_get row.ports p ≡ Some at
-    → holds_last watched.network (turns_of watched.events) at.nbr row.id ≡ true
+    → holds_previous watched.network (turns_of watched.events) at.nbr row.id ≡ true
     → slice_get changes (slice_index_or (beside watched.network place) p 0) ≢ Some Nothing
 
 -- where a label of a node is noted, something is noted of each neighbour that holds the newest
@@ -101,7 +101,7 @@ pub record IsNoted (watched : Watched) (event : WatchEvent) (place : Option ℕ)
   pub here : (i : ℕ) → place ≡ Some i
       → (change : Change) × (slice_get new i ≡ Some change) × (keeps_outcome change ≡ false)
   pub around : (i : ℕ) → is_relabel event ≡ true → place ≡ Some i
-      → (slice_get old i ≡ Some Label) ⊎ AreLastNoted watched new i
+      → (slice_get old i ≡ Some Label) ⊎ ArePreviousNoted watched new i
 
 -- of each node of which nothing changed the row is that of the last look, and its outcome is where
 -- no more than a neighbour's label did

@@ -6,7 +6,7 @@ use Rattle.pls_sim.proofs.Ends.{beside_length}
 use Rattle.pls_watch.specs.declared.change.Change.TheVariants.{Nothing}
 use Rattle.pls_watch.specs.inner.Current.{with_beside}
 use Rattle.pls_watch.proofs.Noted.{beside_labels, beside_more, first_held, first_other, more_noted}
-use Rattle.pls_watch.proofs.change.note_beside.Goals.{then-is_last_held, else-is_last_held}
+use Rattle.pls_watch.proofs.change.note_beside.Goals.{then-neighbour_holds_previous, else-neighbour_holds_previous}
 use Rattle.pls_watch.proofs.change.note_beside.Goals as goal
 
 pub loop-port-preserved : goal.loop-port-preserved
@@ -31,8 +31,8 @@ loop-port-preserved c =
       before.more.as_many,
       c.requires.each,
     ) in
-    elim c.if-is_last_held.branch [
-      | then-is_last_held w ↦
+    elim c.if-neighbour_holds_previous.branch [
+      | then-neighbour_holds_previous w ↦
           let read : get_or old (get_or places port 0) Nothing ≡ w.index.result.now =
           get_or_from_slice_get old (get_or places port 0) w.index.result.now Nothing
           (slice_get-get_or old (get_or places port 0) w.index.result.now
@@ -49,17 +49,17 @@ loop-port-preserved c =
             labels = λ j label. before.labels j (beside_labels old there within j label);
             all = first_held watched old i port before.all within;
           })
-      | else-is_last_held w ↦ rw w.changes-is (record {
+      | else-neighbour_holds_previous w ↦ rw w.changes-is (record {
         more = before.more;
         labels = before.labels;
         all = first_other watched old i port before.all
             (λ row at stands has.
-            sym (c.is_last_held.ensures row at stands has) ∙ w.if-is_last_held.false);
+            sym (c.neighbour_holds_previous.ensures row at stands has) ∙ w.if-neighbour_holds_previous.false);
       })
     ]
 
 pub returns-clause-all : goal.returns-clause-all
-returns-clause-all c row p at stands has last none =
+returns-clause-all c row p at stands has previous none =
     let net = c.args.watch.now.network in
     c.loop-port.invariant.all row p at
     (omega (
@@ -69,4 +69,4 @@ returns-clause-all c row p at stands has last none =
       ap (length {A = ℕ}) (c.places-beside-items.ensures.places
           ∙ ap (λ (rows : List NodeRow). beside rows c.args.i) c.network.ensures.network),
       c.loop-port-test.false,
-    )) stands has last none
+    )) stands has previous none

@@ -1,7 +1,6 @@
-use Rattle.std.proofs.Common.{◌≡◌, ◌∙◌, ◌<◌, ◌==◌, ℕ, List, Option, false, length, get_or, position, sym, ap, arith}
+use Rattle.std.proofs.Common.{◌≡◌, ◌∙◌, ◌<◌, ℕ, false, length, get_or, sym, ap, arith}
 use Rattle.std.specs.Option.{is_none}
 use Rattle.std.proofs.lemmas.Option.{slice_get_within}
-use Rattle.pls_configuration.specs.declared.row.NodeRow.{NodeRow}
 use Rattle.pls_configuration.specs.Configuration.{row_of}
 use Rattle.pls_schedule.specs.declared.event.Event.{Event}
 use Rattle.pls_schedule.specs.declared.event.Event.TheVariants.{Emit}
@@ -14,14 +13,8 @@ use Rattle.pls_watch.proofs.Keep.{kept_emit, rooms_more, round_more}
 use Rattle.pls_watch.proofs.Woven.{turns_after, woven_after}
 use Rattle.pls_watch.proofs.Numbered.{numbered_emit}
 use Rattle.pls_watch.proofs.More.{held_emit}
-use Rattle.pls_watch.proofs.Arrived.{by_round, few_carried, room_in_round}
+use Rattle.pls_watch.proofs.Arrived.{by_round, few_carried, place_there, room_in_round}
 use Rattle.pls_watch.proofs.versions.Versions.emit.Goals as goal
-
--- a place among the rows that are seen
-place_there : (rows seen : List NodeRow) (node : ℕ) (place : Option ℕ) → seen ≡ rows
-    → place ≡ position (λ row. node == row.id) seen → position (λ row. node == row.id) rows ≡ place
-place_there rows seen node place same is =
-    ap (position (λ (row : NodeRow). node == row.id)) (sym same) ∙ sym is
 
 pub returns-in_default-clause-refused : goal.returns-in_default-clause-refused
 returns-in_default-clause-refused c =

@@ -13,7 +13,7 @@ use Rattle.pls_watch.specs.Turning.{Turned, turning}
 use Rattle.pls_watch.proofs.More.{held_relabel, newest_few}
 use Rattle.pls_watch.proofs.Keep.{kept_relabel, rooms_more, round_relabel}
 use Rattle.pls_watch.specs.inner.Numbers.{relabelled}
-use Rattle.pls_watch.proofs.Arrived.{by_round, not_there}
+use Rattle.pls_watch.proofs.Arrived.{by_round, not_there, place_there}
 use Rattle.pls_watch.proofs.Woven.{more_givings, woven_giving}
 use Rattle.pls_watch.proofs.Numbers.{few_given}
 use Rattle.pls_watch.proofs.Numbered.{numbered_relabel}
@@ -22,7 +22,8 @@ use Rattle.pls_watch.proofs.versions.Versions.relabel.Goals as goal
 pub returns-in_default-clause-refused : goal.returns-in_default-clause-refused
 returns-in_default-clause-refused c =
     let none = none_found c.self.inside.net.now c.args.node
-    (sym c.place_of.ensures ∙ c.in_default.is) in
+    (place_there _ _ c.args.node _ c.self.invariant.0.network c.place_of.ensures.place
+    ∙ c.in_default.is) in
     by_round c.args.self.now (Relabel c.args.node) c.requires
     ∙ ap (λ (turned : Turned). refused_if (is_none (row_of turned.network c.args.node)) NoNode)
     (sym c.self.view_is)
@@ -32,7 +33,8 @@ pub returns-clause-applies : goal.returns-clause-applies
 returns-clause-applies c =
     let rows = c.self.inside.net.now in
     let found : position (λ row. c.args.node == row.id) rows ≡ Some c.in-Some.place =
-    sym c.place_of.ensures ∙ c.in-Some.is in
+    place_there _ _ c.args.node _ c.self.invariant.0.network c.place_of.ensures.place
+    ∙ c.in-Some.is in
     let at = at_place rows c.self.invariant.1.is_network c.args.node c.in-Some.place
     (place_within rows c.args.node c.in-Some.place found) found in
     by_round c.args.self.now (Relabel c.args.node) c.requires
@@ -46,7 +48,8 @@ overflow_add-version c =
     let rows = old.net.now in
     let kept = c.self.invariant.1 in
     let found : position (λ row. c.args.node == row.id) rows ≡ Some c.in-Some.place =
-    sym c.place_of.ensures ∙ c.in-Some.is in
+    place_there _ _ c.args.node _ c.self.invariant.0.network c.place_of.ensures.place
+    ∙ c.in-Some.is in
     let at = at_place rows kept.is_network c.args.node c.in-Some.place
     (place_within rows c.args.node c.in-Some.place found) found in
     let value : get_or old.newest.versions c.in-Some.place 0 ≡ c.get-version.result.0 =
@@ -68,7 +71,8 @@ invariant_of-self c =
     let rows = old.net.now in
     let kept = c.self.invariant.1 in
     let found : position (λ row. c.args.node == row.id) rows ≡ Some c.in-Some.place =
-    sym c.place_of.ensures ∙ c.in-Some.is in
+    place_there _ _ c.args.node _ c.self.invariant.0.network c.place_of.ensures.place
+    ∙ c.in-Some.is in
     let at = at_place rows kept.is_network c.args.node c.in-Some.place
     (place_within rows c.args.node c.in-Some.place found) found in
     let value : get_or old.newest.versions c.in-Some.place 0 ≡ c.get-version.result.0 =
@@ -168,7 +172,9 @@ returns-clause-stays c = λ i row stands differs.
     let there : slice_get old.net.now i ≡ Some row =
     ap (λ (turned : Turned). slice_get turned.network i) c.self.view_is ∙ stands in
     let elsewhere : position (λ row. c.args.node == row.id) old.net.now ≢ Some i =
-    subst (λ (place : Option ℕ). place ≢ Some i) (sym (sym c.place_of.ensures ∙ c.in-Some.is)) differs in
+    subst (λ (place : Option ℕ). place ≢ Some i)
+    (sym (place_there _ _ c.args.node _ c.self.invariant.0.network c.place_of.ensures.place
+    ∙ c.in-Some.is)) differs in
     not_there old.net.now c.self.invariant.1.is_network i row there c.args.node elsewhere
 
 pub returns-clause-taken : goal.returns-clause-taken

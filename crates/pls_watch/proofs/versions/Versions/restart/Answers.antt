@@ -1,11 +1,11 @@
-use Rattle.std.proofs.Common.{◌≡◌, ◌≢◌, ◌<◌, ◌∙◌, ◌==◌, ℕ, Option, Some, length, position, slice_get, ap, arith, subst}
+use Rattle.std.proofs.Common.{◌≡◌, ◌≢◌, ◌<◌, ◌∙◌, ◌==◌, ℕ, Option, Some, length, position, slice_get, sym, ap, arith, subst}
 use Rattle.pls_schedule.specs.declared.event.Event.{Event}
 use Rattle.pls_schedule.specs.declared.event.Event.TheVariants.{Restart}
 use Rattle.pls_watch.specs.declared.turn.Turn.TheVariants.{Plain}
 use Rattle.pls_watch.specs.inner.Woven.{woven}
 use Rattle.pls_watch.specs.Turning.{Turned, turning}
 use Rattle.pls_watch.proofs.Woven.{turns_after, woven_after}
-use Rattle.pls_watch.proofs.Arrived.{not_there}
+use Rattle.pls_watch.proofs.Arrived.{not_there, place_there}
 use Rattle.pls_watch.proofs.More.{held_restart}
 use Rattle.pls_watch.proofs.Keep.{kept_restart, rooms_more, round_more}
 use Rattle.pls_watch.proofs.Numbered.{numbered_restart}
@@ -42,7 +42,10 @@ returns-clause-holds c = λ i row neighbour stands differs.
     let there : slice_get old.net.now i ≡ Some row =
     ap (λ (turned : Turned). slice_get turned.network i) c.self.view_is ∙ stands in
     let elsewhere : position (λ row. c.args.node == row.id) old.net.now ≢ Some i =
-    subst (λ (place : Option ℕ). place ≢ Some i) c.place_of.ensures differs in
+    subst (λ (place : Option ℕ). place ≢ Some i)
+    (sym (place_there _ _ c.args.node _
+    ((λ k. (c.in_ok-step.ensures.taken k).network) ∙ c.self.invariant.0.network)
+    c.place_of.ensures.place)) differs in
     rw (← c.self.view_is)
     (held_restart old.net.now (woven old.sim.events old.givings.items) c.args.node row.id neighbour
     c.self.invariant.1.numbered

@@ -13,7 +13,7 @@ returns-in-Some c = λ row at stands has.
     ∙ c.held_version.ensures.version row at
     (ap (λ (watched : Watched). slice_get watched.network c.args.i) c.self.view_is ∙ stands) has
     ∙ ap (λ (turns : List Turn). held old.versions.network turns row.id at.nbr)
-    (sym (turns_are old.versions old.labels old.relabels old.bits))
+    (sym (turns_are old.versions old.labels old.most_relabels old.most_bits))
     ∙ ap (λ (watched : Watched). held watched.network (turns_of watched.events) row.id at.nbr)
     c.self.view_is
 
@@ -24,6 +24,6 @@ returns-in-None c = λ row at stands has.
     ∙ c.held_version.ensures.version row at
     (ap (λ (watched : Watched). slice_get watched.network c.args.i) c.self.view_is ∙ stands) has
     ∙ ap (λ (turns : List Turn). held old.versions.network turns row.id at.nbr)
-    (sym (turns_are old.versions old.labels old.relabels old.bits))
+    (sym (turns_are old.versions old.labels old.most_relabels old.most_bits))
     ∙ ap (λ (watched : Watched). held watched.network (turns_of watched.events) row.id at.nbr)
     c.self.view_is

@@ -24,38 +24,38 @@ returns-clause-table c =
     let now = c.args.self.now in
     let row = item_at now.network c.args.i c.requires.place in
     table_set now c.loop-port.table.items c.args.i c.newest.result.1 row.0.id c.newest.result.0
-    c.loop-port.invariant.table (few_seen old.versions old.labels old.relabels old.bits old.net.now
+    c.loop-port.invariant.table (few_seen old.versions old.labels old.most_relabels old.most_bits old.net.now
     old.given old.given_bits c.self.invariant now c.self.view_is)
-    (is_label_seen old.versions old.labels old.relabels old.bits old.net.now old.given
+    (is_label_seen old.versions old.labels old.most_relabels old.most_bits old.net.now old.given
     old.given_bits c.self.invariant now c.self.view_is row.0.id c.newest.result.0
     c.newest.result.1
     (c.newest.ensures.label row.0
-    (stands_seen old.versions old.labels old.relabels old.bits old.net.now old.given old.given_bits
+    (stands_seen old.versions old.labels old.most_relabels old.most_bits old.net.now old.given old.given_bits
     c.self.invariant now c.self.view_is c.args.i row.0 row.1)))
 
 pub returns-clause-known : goal.returns-clause-known
 returns-clause-known c = λ row stands.
     let old = c.self.inside in
     let now = c.args.self.now in
-    let here = stands_seen old.versions old.labels old.relabels old.bits old.net.now old.given
+    let here = stands_seen old.versions old.labels old.most_relabels old.most_bits old.net.now old.given
     old.given_bits c.self.invariant now c.self.view_is c.args.i row stands in
     let version : c.newest.result.0 ≡ newest (turns_of now.events) row.id =
-    c.newest.ensures.version row here ∙ newest_seen old.versions old.labels old.relabels old.bits
+    c.newest.ensures.version row here ∙ newest_seen old.versions old.labels old.most_relabels old.most_bits
     old.net.now old.given old.given_bits c.self.invariant now c.self.view_is row.id in
     let label : IsLabel now.network (turns_of now.events) row.id (newest (turns_of now.events)
     row.id)
     c.newest.result.1 =
     subst (λ (version : ℕ). IsLabel now.network (turns_of now.events) row.id version
     c.newest.result.1) version
-    (is_label_seen old.versions old.labels old.relabels old.bits old.net.now old.given
+    (is_label_seen old.versions old.labels old.most_relabels old.most_bits old.net.now old.given
     old.given_bits c.self.invariant now c.self.view_is row.id c.newest.result.0
     c.newest.result.1
     (c.newest.ensures.label row here)) in
     let ports = ports_at old.net.now c.args.i row c.ports-port-end.result.now
     (ap (λ (rows : List NodeRow). slice_get rows c.args.i)
-    (network_seen old.versions old.labels old.relabels old.bits old.net.now old.given
+    (network_seen old.versions old.labels old.most_relabels old.most_bits old.net.now old.given
     old.given_bits c.self.invariant now c.self.view_is) ∙ stands) c.ports-port-end.ensures in
-    let both = known_own now.network (valid_seen old.versions old.labels old.relabels old.bits
+    let both = known_own now.network (valid_seen old.versions old.labels old.most_relabels old.most_bits
     old.net.now old.given old.given_bits c.self.invariant now c.self.view_is)
     (turns_of now.events) c.args.i row stands c.loop-port.table.items c.loop-port.invariant.table.long
     c.newest.result.1 label
@@ -68,7 +68,7 @@ overflow_cast-port c =
     let old = c.self.inside in
     let now = c.args.self.now in
     let small = port_small old.net.now now.network
-    (network_seen old.versions old.labels old.relabels old.bits old.net.now old.given
+    (network_seen old.versions old.labels old.most_relabels old.most_bits old.net.now old.given
     old.given_bits c.self.invariant now c.self.view_is) c.args.i c.loop-port.port
     c.ports-port-end.result.now c.ports-port-end.ensures c.loop-port-test.true
     (subst IsNetwork c.self.invariant.network c.self.invariant.valid) in
@@ -79,7 +79,7 @@ overflow_cast-port-in-Stale c =
     let old = c.self.inside in
     let now = c.args.self.now in
     let small = port_small old.net.now now.network
-    (network_seen old.versions old.labels old.relabels old.bits old.net.now old.given
+    (network_seen old.versions old.labels old.most_relabels old.most_bits old.net.now old.given
     old.given_bits c.self.invariant now c.self.view_is) c.args.i c.loop-port.port
     c.ports-port-end.result.now c.ports-port-end.ensures c.loop-port-test.true
     (subst IsNetwork c.self.invariant.network c.self.invariant.valid) in
@@ -90,7 +90,7 @@ loop-port-preserved c =
     let old = c.self.inside in
     let now = c.args.self.now in
     let p : ℕ = c.loop-port.port in
-    let network = network_seen old.versions old.labels old.relabels old.bits old.net.now old.given
+    let network = network_seen old.versions old.labels old.most_relabels old.most_bits old.net.now old.given
     old.given_bits c.self.invariant now c.self.view_is in
     record {
       table = c.know_port.ensures.table;
@@ -154,7 +154,7 @@ from_buffer-requires c =
     let row = item_at now.network c.args.i c.requires.place in
     let ports = ports_at old.net.now c.args.i row.0 c.ports-port-end.result.now
     (ap (λ (rows : List NodeRow). slice_get rows c.args.i)
-    (network_seen old.versions old.labels old.relabels old.bits old.net.now old.given
+    (network_seen old.versions old.labels old.most_relabels old.most_bits old.net.now old.given
     old.given_bits c.self.invariant now c.self.view_is) ∙ row.1) c.ports-port-end.ensures in
     they_rise now.network (plain_of (turns_of now.events)) row.0 c.loop-port.unheard.items
     (sym (all_passed (has_heard now.network (plain_of (turns_of now.events)) row.0.id) row.0.ports
@@ -169,7 +169,7 @@ from_buffer-requires-2 c =
     let row = item_at now.network c.args.i c.requires.place in
     let ports = ports_at old.net.now c.args.i row.0 c.ports-port-end.result.now
     (ap (λ (rows : List NodeRow). slice_get rows c.args.i)
-    (network_seen old.versions old.labels old.relabels old.bits old.net.now old.given
+    (network_seen old.versions old.labels old.most_relabels old.most_bits old.net.now old.given
     old.given_bits c.self.invariant now c.self.view_is) ∙ row.1) c.ports-port-end.ensures in
     stale_rise now.network (turns_of now.events) row.0 c.loop-port.stale.items
     (sym (all_passed (is_fresh now.network (turns_of now.events) row.0.id) row.0.ports

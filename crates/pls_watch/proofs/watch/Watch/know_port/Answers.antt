@@ -20,13 +20,13 @@ returns-in_default-clause-known c = λ row stands.
     let there = port_there now.network c.args.i c.args.port c.requires.place c.requires.port in
     let same : there.0 ≡ row = same_Some there.0 row (sym there.2 ∙ stands) in
     let has = ap (λ (row : NodeRow). slice_get row.ports c.args.port) (sym same) ∙ there.3 in
-    let here = stands_seen old.versions old.labels old.relabels old.bits old.net.now old.given
+    let here = stands_seen old.versions old.labels old.most_relabels old.most_bits old.net.now old.given
     old.given_bits c.self.invariant now c.self.view_is c.args.i row stands in
-    let none = sym (held_seen old.versions old.labels old.relabels old.bits old.net.now old.given
+    let none = sym (held_seen old.versions old.labels old.most_relabels old.most_bits old.net.now old.given
     old.given_bits c.self.invariant now c.self.view_is row.id there.1.nbr)
     ∙ sym (c.held_version.ensures.version row there.1 here has)
     ∙ ap (option_map (λ (label : ℕ × ℕ). label.0)) c.in_default.is in
-    known_none now.network (valid_seen old.versions old.labels old.relabels old.bits old.net.now
+    known_none now.network (valid_seen old.versions old.labels old.most_relabels old.most_bits old.net.now
     old.given old.given_bits c.self.invariant now c.self.view_is) (turns_of now.events)
     c.args.i row stands c.args.table.now.items c.requires.table.long c.args.port there.1 has
     (c.requires.known row stands) none
@@ -36,12 +36,12 @@ bounds-places-port c =
     let old = c.self.inside in
     let now = c.args.self.now in
     let there = port_there now.network c.args.i c.args.port c.requires.place c.requires.port in
-    let network = network_seen old.versions old.labels old.relabels old.bits old.net.now old.given
+    let network = network_seen old.versions old.labels old.most_relabels old.most_bits old.net.now old.given
     old.given_bits c.self.invariant now c.self.view_is in
     omega (
       arith,
       slice_get_within there.0.ports c.args.port there.1 there.3,
-      beside_length now.network (valid_seen old.versions old.labels old.relabels old.bits
+      beside_length now.network (valid_seen old.versions old.labels old.most_relabels old.most_bits
           old.net.now old.given old.given_bits c.self.invariant now c.self.view_is) c.args.i
           there.0 there.2,
       ap length c.places.ensures.places,
@@ -53,13 +53,13 @@ returns-clause-table c =
     let old = c.self.inside in
     let now = c.args.self.now in
     let there = port_there now.network c.args.i c.args.port c.requires.place c.requires.port in
-    let here = stands_seen old.versions old.labels old.relabels old.bits old.net.now old.given
+    let here = stands_seen old.versions old.labels old.most_relabels old.most_bits old.net.now old.given
     old.given_bits c.self.invariant now c.self.view_is c.args.i there.0 there.2 in
     table_set now c.args.table.now.items (get_or c.places.result.now c.args.port 0) c.in-Some.number
     there.1.nbr c.in-Some.version c.requires.table
-    (few_seen old.versions old.labels old.relabels old.bits old.net.now old.given old.given_bits
+    (few_seen old.versions old.labels old.most_relabels old.most_bits old.net.now old.given old.given_bits
     c.self.invariant now c.self.view_is)
-    (is_label_seen old.versions old.labels old.relabels old.bits old.net.now old.given
+    (is_label_seen old.versions old.labels old.most_relabels old.most_bits old.net.now old.given
     old.given_bits c.self.invariant now c.self.view_is there.1.nbr c.in-Some.version
     c.in-Some.number
     (c.in-Some.ensures.label there.0 there.1 here there.3))
@@ -71,9 +71,9 @@ returns-clause-known c = λ row stands.
     let there = port_there now.network c.args.i c.args.port c.requires.place c.requires.port in
     let same : there.0 ≡ row = same_Some there.0 row (sym there.2 ∙ stands) in
     let has = ap (λ (row : NodeRow). slice_get row.ports c.args.port) (sym same) ∙ there.3 in
-    let here = stands_seen old.versions old.labels old.relabels old.bits old.net.now old.given
+    let here = stands_seen old.versions old.labels old.most_relabels old.most_bits old.net.now old.given
     old.given_bits c.self.invariant now c.self.view_is c.args.i row stands in
-    let held_is = sym (held_seen old.versions old.labels old.relabels old.bits old.net.now
+    let held_is = sym (held_seen old.versions old.labels old.most_relabels old.most_bits old.net.now
     old.given old.given_bits c.self.invariant now c.self.view_is row.id there.1.nbr)
     ∙ sym (c.held_version.ensures.version row there.1 here has)
     ∙ ap (option_map (λ (label : ℕ × ℕ). label.0)) c.in-Some.is in
@@ -81,15 +81,15 @@ returns-clause-known c = λ row stands.
     c.args.port 0 =
     ap (λ (places : List ℕ). get_or places c.args.port 0)
     (ap (λ (rows : List NodeRow). beside rows c.args.i)
-    (sym (network_seen old.versions old.labels old.relabels old.bits old.net.now old.given
+    (sym (network_seen old.versions old.labels old.most_relabels old.most_bits old.net.now old.given
     old.given_bits c.self.invariant now c.self.view_is)) ∙ sym c.places.ensures.places) in
     subst (λ (place : ℕ). AreKnown now.network (turns_of now.events) c.args.i row (c.args.port + 1)
     (set c.args.table.now.items place c.in-Some.number)) place
-    (known_one now.network (valid_seen old.versions old.labels old.relabels old.bits old.net.now
+    (known_one now.network (valid_seen old.versions old.labels old.most_relabels old.most_bits old.net.now
     old.given old.given_bits c.self.invariant now c.self.view_is) (turns_of now.events)
     c.args.i row stands c.args.table.now.items c.requires.table.long c.args.port there.1 has
     (c.requires.known row stands) c.in-Some.number c.in-Some.version held_is
-    (is_label_seen old.versions old.labels old.relabels old.bits old.net.now old.given
+    (is_label_seen old.versions old.labels old.most_relabels old.most_bits old.net.now old.given
     old.given_bits c.self.invariant now c.self.view_is there.1.nbr c.in-Some.version
     c.in-Some.number
     (c.in-Some.ensures.label row there.1 here has)))
@@ -99,9 +99,9 @@ returns-in_default-clause-state c = λ row at stands has.
     let old = c.self.inside in
     let now = c.args.self.now in
     let turns = turns_of now.events in
-    let here = stands_seen old.versions old.labels old.relabels old.bits old.net.now old.given
+    let here = stands_seen old.versions old.labels old.most_relabels old.most_bits old.net.now old.given
     old.given_bits c.self.invariant now c.self.view_is c.args.i row stands in
-    let none = sym (held_seen old.versions old.labels old.relabels old.bits old.net.now old.given
+    let none = sym (held_seen old.versions old.labels old.most_relabels old.most_bits old.net.now old.given
     old.given_bits c.self.invariant now c.self.view_is row.id at.nbr)
     ∙ sym (c.held_version.ensures.version row at here has)
     ∙ ap (option_map (λ (label : ℕ × ℕ). label.0)) c.in_default.is in
@@ -117,15 +117,15 @@ returns-clause-state c = λ row at stands has.
     let old = c.self.inside in
     let now = c.args.self.now in
     let turns = turns_of now.events in
-    let here = stands_seen old.versions old.labels old.relabels old.bits old.net.now old.given
+    let here = stands_seen old.versions old.labels old.most_relabels old.most_bits old.net.now old.given
     old.given_bits c.self.invariant now c.self.view_is c.args.i row stands in
-    let some = sym (held_seen old.versions old.labels old.relabels old.bits old.net.now old.given
+    let some = sym (held_seen old.versions old.labels old.most_relabels old.most_bits old.net.now old.given
     old.given_bits c.self.invariant now c.self.view_is row.id at.nbr)
     ∙ sym (c.held_version.ensures.version row at here has)
     ∙ ap (option_map (λ (label : ℕ × ℕ). label.0)) c.in-Some.is in
     let latest : c.newest_beside.result ≡ newest turns at.nbr =
     c.newest_beside.ensures row at here has
-    ∙ newest_seen old.versions old.labels old.relabels old.bits old.net.now old.given
+    ∙ newest_seen old.versions old.labels old.most_relabels old.most_bits old.net.now old.given
     old.given_bits c.self.invariant now c.self.view_is at.nbr in
     record {
       heard = heard_held now.network turns row.id at.nbr ∙ ap is_some some ∙ sym c.of.ensures.heard;

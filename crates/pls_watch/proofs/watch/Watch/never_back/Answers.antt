@@ -20,7 +20,7 @@ returns c = λ row at stands has.
     c.requires.stays in
     let same : turns_of seen.events ≡ old.versions.turns =
     ap (λ (watched : Watched). turns_of watched.events) (sym c.self.view_is)
-    ∙ turns_are old.versions old.labels old.relabels old.bits in
+    ∙ turns_are old.versions old.labels old.most_relabels old.most_bits in
     let grown : turns_of (seen.events ++ c.args.event.now ∷ []) ≡ old.versions.turns ++ turn ∷ [] =
     map-append turn_of seen.events (c.args.event.now ∷ [])
     ∙ ap (λ (turns : List Turn). turns ++ turn ∷ []) same in

@@ -12,5 +12,5 @@ returns c = λ row stands.
     c.newest.ensures.version row
     (ap (λ (watched : Watched). slice_get watched.network c.args.i) c.self.view_is ∙ stands)
     ∙ ap (λ (turns : List Turn). newest turns row.id)
-    (sym (turns_are old.versions old.labels old.relabels old.bits))
+    (sym (turns_are old.versions old.labels old.most_relabels old.most_bits))
     ∙ ap (λ (watched : Watched). newest (turns_of watched.events) row.id) c.self.view_is

@@ -20,7 +20,7 @@ returns-in_err-step-clause-refused c =
     ∙ ap (λ (watched : Watched). turn_refusal (turned_of watched) (Plain c.args.event)) (sym
     c.self.view_is)
     ∙ ap (λ (turned : Turned). turn_refusal turned (Plain c.args.event))
-    (turned_same old.versions old.labels old.relabels old.bits)
+    (turned_same old.versions old.labels old.most_relabels old.most_bits)
     ∙ c.in_err-step.ensures.refused)
 
 pub returns-clause-applies : goal.returns-clause-applies
@@ -30,29 +30,29 @@ returns-clause-applies c =
     ∙ ap (λ (watched : Watched). turn_refusal (turned_of watched) (Plain c.args.event)) (sym
     c.self.view_is)
     ∙ ap (λ (turned : Turned). turn_refusal turned (Plain c.args.event))
-    (turned_same old.versions old.labels old.relabels old.bits)
+    (turned_same old.versions old.labels old.most_relabels old.most_bits)
     ∙ c.in_ok-step.ensures.applies
 
 pub returns-clause-taken : goal.returns-clause-taken
 returns-clause-taken c =
     let old = c.self.inside in
-    ap (λ (turned : Turned). watched_by turned old.labels old.relabels old.bits)
+    ap (λ (turned : Turned). watched_by turned old.labels old.most_relabels old.most_bits)
     c.in_ok-step.ensures.taken
-    ∙ watched_play old.versions old.labels old.relabels old.bits c.args.event
+    ∙ watched_play old.versions old.labels old.most_relabels old.most_bits c.args.event
     ∙ ap (watching (watch_event c.args.event)) c.self.view_is
 
 pub invariant_of-self-2 : goal.invariant_of-self-2
 invariant_of-self-2 c =
     let old = c.self.inside in
-    subst (λ (turned : Turned). IsStocked old.net.now turned old.labels old.relabels old.bits
+    subst (λ (turned : Turned). IsStocked old.net.now turned old.labels old.most_relabels old.most_bits
     old.given
     old.given_bits) (sym c.in_ok-step.ensures.taken)
-    (stocked_play old.versions old.labels old.relabels old.bits c.args.event old.net.now old.given
+    (stocked_play old.versions old.labels old.most_relabels old.most_bits c.args.event old.net.now old.given
     old.given_bits c.self.invariant)
 
 pub returns-clause-others : goal.returns-clause-others
 returns-clause-others c = λ i row stands differs.
     let old = c.self.inside in
-    knows_same old.versions old.labels old.relabels old.bits c.args.self.now c.self.view_is
+    knows_same old.versions old.labels old.most_relabels old.most_bits c.args.self.now c.self.view_is
     (watch_event c.args.event) (Plain c.args.event) (turn_watch c.args.event) i row stands
     c.in_ok-step.field-0 differs c.in_ok-step.ensures.holds c.in_ok-step.ensures.stays

@@ -28,7 +28,7 @@ returns-in_err-place-clause-refused c =
     ∙ ap (λ (watched : Watched). turn_refusal (turned_of watched) (Relabel node)) (sym
     c.self.view_is)
     ∙ ap (λ (turned : Turned). turn_refusal turned (Relabel node))
-    (turned_same old.versions old.labels old.relabels old.bits)
+    (turned_same old.versions old.labels old.most_relabels old.most_bits)
     ∙ c.in_err-place.ensures.refused)
 
 pub returns-clause-applies : goal.returns-clause-applies
@@ -41,14 +41,14 @@ returns-clause-applies c =
     ∙ ap (λ (watched : Watched). turn_refusal (turned_of watched) (Relabel node)) (sym
     c.self.view_is)
     ∙ ap (λ (turned : Turned). turn_refusal turned (Relabel node))
-    (turned_same old.versions old.labels old.relabels old.bits)
+    (turned_same old.versions old.labels old.most_relabels old.most_bits)
     ∙ c.in_ok-place.ensures.applies
 
 pub replace_spare-requires-clause-within : goal.replace_spare-requires-clause-within
 replace_spare-requires-clause-within c =
     let old = c.self.inside in
     let label : List Bool = c.args.label.now in
-    let room = has_room old.versions old.labels old.relabels old.bits old.net.now old.given
+    let room = has_room old.versions old.labels old.most_relabels old.most_bits old.net.now old.given
     old.given_bits
     c.self.invariant c.args.node label
     (ap (λ (watched : Watched). lacks_room watched (Watches.Relabel c.args.node label))
@@ -61,7 +61,7 @@ pub replace_spare-requires-clause-room : goal.replace_spare-requires-clause-room
 replace_spare-requires-clause-room c =
     let old = c.self.inside in
     let label : List Bool = c.args.label.now in
-    let room = has_room old.versions old.labels old.relabels old.bits old.net.now old.given
+    let room = has_room old.versions old.labels old.most_relabels old.most_bits old.net.now old.given
     old.given_bits
     c.self.invariant c.args.node label
     (ap (λ (watched : Watched). lacks_room watched (Watches.Relabel c.args.node label))
@@ -69,14 +69,14 @@ replace_spare-requires-clause-room c =
     ∙ sym (c.lacks_room.ensures c.args.node label (sym c.len-len.ensures)) ∙ c.if-lacks_room.false)
     in
     rw c.bits.ensures
-    (room_for old.versions old.labels old.relabels old.bits old.net.now old.given old.given_bits
+    (room_for old.versions old.labels old.most_relabels old.most_bits old.net.now old.given old.given_bits
     c.self.invariant (length label) room.0 room.1)
 
 pub overflow_add-self-2 : goal.overflow_add-self-2
 overflow_add-self-2 c =
     let old = c.self.inside in
     let label : List Bool = c.args.label.now in
-    let room = has_room old.versions old.labels old.relabels old.bits old.net.now old.given
+    let room = has_room old.versions old.labels old.most_relabels old.most_bits old.net.now old.given
     old.given_bits
     c.self.invariant c.args.node label
     (ap (λ (watched : Watched). lacks_room watched (Watches.Relabel c.args.node label))
@@ -89,7 +89,7 @@ pub returns-clause-taken : goal.returns-clause-taken
 returns-clause-taken c =
     let old = c.self.inside in
     let label : List Bool = c.args.label.now in
-    let room = has_room old.versions old.labels old.relabels old.bits old.net.now old.given
+    let room = has_room old.versions old.labels old.most_relabels old.most_bits old.net.now old.given
     old.given_bits
     c.self.invariant c.args.node label
     (ap (λ (watched : Watched). lacks_room watched (Watches.Relabel c.args.node label))
@@ -108,9 +108,9 @@ returns-clause-taken c =
     ap (λ (bits : List Bool). c.replace_spare.new.self.spare + cost (length bits)) (sym
     c.bits.ensures)
     ∙ c.replace_spare.ensures.spare in
-    ap (λ (turned : Turned). watched_by turned c.replace_spare.new.self old.relabels old.bits)
+    ap (λ (turned : Turned). watched_by turned c.replace_spare.new.self old.most_relabels old.most_bits)
     c.in_ok-place.ensures.taken
-    ∙ watched_relabel old.versions old.labels old.relabels old.bits old.net.now old.given
+    ∙ watched_relabel old.versions old.labels old.most_relabels old.most_bits old.net.now old.given
     old.given_bits
     c.self.invariant c.args.node label c.replace_spare.new.self placed spent room.0 room.1
     ∙ ap (watching (Watches.Relabel c.args.node label)) c.self.view_is
@@ -119,7 +119,7 @@ pub invariant_of-self-2 : goal.invariant_of-self-2
 invariant_of-self-2 c =
     let old = c.self.inside in
     let label : List Bool = c.args.label.now in
-    let room = has_room old.versions old.labels old.relabels old.bits old.net.now old.given
+    let room = has_room old.versions old.labels old.most_relabels old.most_bits old.net.now old.given
     old.given_bits
     c.self.invariant c.args.node label
     (ap (λ (watched : Watched). lacks_room watched (Watches.Relabel c.args.node label))
@@ -138,19 +138,19 @@ invariant_of-self-2 c =
     ap (λ (bits : List Bool). c.replace_spare.new.self.spare + cost (length bits)) (sym
     c.bits.ensures)
     ∙ c.replace_spare.ensures.spare in
-    subst (λ (turned : Turned). IsStocked old.net.now turned c.replace_spare.new.self old.relabels
-    old.bits
+    subst (λ (turned : Turned). IsStocked old.net.now turned c.replace_spare.new.self old.most_relabels
+    old.most_bits
     (old.given + 1) (old.given_bits + c.len-len.result)) (sym c.in_ok-place.ensures.taken)
     (subst (λ (len : ℕ). IsStocked old.net.now (turning (Relabel c.args.node) old.versions)
-    c.replace_spare.new.self old.relabels old.bits (old.given + 1) (old.given_bits + len))
+    c.replace_spare.new.self old.most_relabels old.most_bits (old.given + 1) (old.given_bits + len))
     (sym c.len-len.ensures)
-    (stocked_relabel old.versions old.labels old.relabels old.bits old.net.now old.given
+    (stocked_relabel old.versions old.labels old.most_relabels old.most_bits old.net.now old.given
     old.given_bits
     c.self.invariant c.args.node label c.replace_spare.new.self placed spent room.0 room.1))
 
 pub returns-clause-others : goal.returns-clause-others
 returns-clause-others c = λ i row stands differs.
     let old = c.self.inside in
-    knows_same old.versions old.labels old.relabels old.bits c.args.self.now c.self.view_is
+    knows_same old.versions old.labels old.most_relabels old.most_bits c.args.self.now c.self.view_is
     (Watches.Relabel c.args.node c.args.label.now) (Relabel c.args.node) refl i row stands
     c.in_ok-place.place differs c.in_ok-place.ensures.holds c.in_ok-place.ensures.stays

@@ -24,7 +24,7 @@ returns-clause-ports c = λ row stands.
     ∙ c.in_ok-numbers.ensures.ports row
     (ap (λ (watched : Watched). slice_get watched.network c.args.i) c.self.view_is ∙ stands)
     ∙ ap (λ (turns : List Turn). stale old.versions.network turns row)
-    (sym (turns_are old.versions old.labels old.relabels old.bits))
+    (sym (turns_are old.versions old.labels old.most_relabels old.most_bits))
     ∙ ap (λ (watched : Watched). stale watched.network (turns_of watched.events) row) c.self.view_is
 
 pub returns-in_err-numbers-clause-no_memory : goal.returns-in_err-numbers-clause-no_memory
@@ -34,6 +34,6 @@ returns-in_err-numbers-clause-no_memory c =
     c.in_err-numbers.ensures.no_memory row
     (ap (λ (watched : Watched). slice_get watched.network c.args.i) c.self.view_is ∙ stands)
     (ap (λ (turns : List Turn). stale old.versions.network turns row)
-    (sym (turns_are old.versions old.labels old.relabels old.bits))
+    (sym (turns_are old.versions old.labels old.most_relabels old.most_bits))
     ∙ ap (λ (watched : Watched). stale watched.network (turns_of watched.events) row) c.self.view_is
     ∙ none))

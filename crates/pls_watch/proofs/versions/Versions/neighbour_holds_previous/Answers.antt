@@ -7,7 +7,7 @@ use Rattle.pls_watch.specs.Versions.{newest}
 use Rattle.pls_watch.proofs.Ahead.{held_few}
 use Rattle.pls_watch.proofs.Arrived.{port_there}
 use Rattle.pls_watch.proofs.More.{newest_few}
-use Rattle.pls_watch.proofs.versions.Versions.is_last_held.Goals as goal
+use Rattle.pls_watch.proofs.versions.Versions.neighbour_holds_previous.Goals as goal
 
 pub overflow_add-result : goal.overflow_add-result
 overflow_add-result c =

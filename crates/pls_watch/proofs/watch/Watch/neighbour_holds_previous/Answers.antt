@@ -2,16 +2,16 @@ use Rattle.std.proofs.Common.{◌∙◌, List, slice_get, sym, ap}
 use Rattle.pls_watch.specs.Labelled.{turns_of}
 use Rattle.pls_watch.specs.Watching.{Watched}
 use Rattle.pls_watch.specs.declared.turn.Turn.{Turn}
-use Rattle.pls_watch.specs.inner.Current.{holds_last}
+use Rattle.pls_watch.specs.inner.Current.{holds_previous}
 use Rattle.pls_watch.proofs.Stocked.{turns_are}
-use Rattle.pls_watch.proofs.watch.Watch.is_last_held.Goals as goal
+use Rattle.pls_watch.proofs.watch.Watch.neighbour_holds_previous.Goals as goal
 
 pub returns : goal.returns
 returns c = λ row at stands has.
     let old = c.self.inside in
-    c.is_last_held.ensures row at
+    c.neighbour_holds_previous.ensures row at
     (ap (λ (watched : Watched). slice_get watched.network c.args.i) c.self.view_is ∙ stands) has
-    ∙ ap (λ (turns : List Turn). holds_last old.versions.network turns at.nbr row.id)
-    (sym (turns_are old.versions old.labels old.relabels old.bits))
-    ∙ ap (λ (watched : Watched). holds_last watched.network (turns_of watched.events) at.nbr row.id)
+    ∙ ap (λ (turns : List Turn). holds_previous old.versions.network turns at.nbr row.id)
+    (sym (turns_are old.versions old.labels old.most_relabels old.most_bits))
+    ∙ ap (λ (watched : Watched). holds_previous watched.network (turns_of watched.events) at.nbr row.id)
     c.self.view_is
