@@ -49,9 +49,9 @@ pub refused_answer : (command : Command) (bytes : List ℕ) (error : TextError) 
 refused_answer command bytes error answer refused same = inl (error, refused, same)
 
 -- words that ask for nothing are answered so
-pub usage_answer : (words : List (List ℕ)) (bytes : List ℕ) → IsUsage words
+pub usage_is_answered : (words : List (List ℕ)) (bytes : List ℕ) → IsUsage words
     → IsAnswer words bytes usage_answer
-usage_answer words bytes none = inl (none, refl)
+usage_is_answered words bytes none = inl (none, refl)
 
 -- the answer to a command is the answer to its words
 pub command_answer : (words : List (List ℕ)) (bytes : List ℕ) (command : Command) (answer : Answer)

@@ -8,7 +8,7 @@ use Rattle.pls_app.proofs.answer.no.Goals as goal
 pub returns-clause-says : goal.returns-clause-says
 returns-clause-says c =
     let answer : List ℕ → Answer = λ text. record { status = No; text = text } in
-    let text : c.into_bytes.result.items ≡ (no c.args.parts.now c.args.ids.now).text =
+    let text : c.into_bytes.result.items ≡ (no_answer c.args.parts.now c.args.ids.now).text =
     rw (
       c.into_bytes.ensures.value,
       c.in_ok-push_str-2.ensures.bytes,

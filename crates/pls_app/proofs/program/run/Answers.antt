@@ -10,7 +10,7 @@ use Rattle.pls_app.specs.Command.{IsCommand, IsUsage, reads_source}
 use Rattle.pls_app.specs.Answer.{usage_answer}
 use Rattle.pls_app.specs.Run.{Certifies, Converts, EndsAs, IsAnswered, Lacks, Splits}
 use Rattle.pls_app.specs.inner.Tasks.{IsWorked}
-use Rattle.pls_app.proofs.Answered.{refusal_has_cause, same_command, tells_refusal, unrefused_judged, usage_answer}
+use Rattle.pls_app.proofs.Answered.{refusal_has_cause, same_command, tells_refusal, unrefused_judged, usage_is_answered}
 use Rattle.pls_app.proofs.Asked.{counts_command, counts_fault, counts_none, told_judged}
 use Rattle.pls_app.proofs.Commands.{one_command}
 use Rattle.pls_app.proofs.Consumed.{lost_nothing}
@@ -26,14 +26,14 @@ pub returns-in-Ok-None-clause-text : goal.returns-in-Ok-None-clause-text
 returns-in-Ok-None-clause-text g c bytes told answered =
     let words : List (List ℕ) = words_in c.args.words.now in
     let none : IsUsage words = c.in-Ok-None.ensures.none c.in-Ok-None.field-0-is in
-    tells words bytes usage _ _ _ _ _ (usage_answer words bytes none)
+    tells words bytes usage_answer _ _ _ _ _ (usage_is_answered words bytes none)
     (rw c.usage.ensures at c.tell.ensures.told) answered
 
 pub returns-in-Ok-None-clause-part : goal.returns-in-Ok-None-clause-part
 returns-in-Ok-None-clause-part g c bytes told fault =
     let words : List (List ℕ) = words_in c.args.words.now in
     let none : IsUsage words = c.in-Ok-None.ensures.none c.in-Ok-None.field-0-is in
-    tells_part words bytes usage _ _ _ _ _ (usage_answer words bytes none) tt
+    tells_part words bytes usage_answer _ _ _ _ _ (usage_is_answered words bytes none) tt
     (rw c.usage.ensures at c.tell.ensures.told) fault
 
 pub returns-in-Ok-None-clause-answers : goal.returns-in-Ok-None-clause-answers
@@ -45,7 +45,7 @@ returns-in-Ok-None-clause-answers g c read_all sure =
     inr (elim sure [
       | inl held ↦ told_answered _ _ _ _ _ _ _ told tt held
       | inr sure ↦
-          let each = sure.2 usage (usage_answer words sure.0 none) in
+          let each = sure.2 usage_answer (usage_is_answered words sure.0 none) in
           subst IsAnswered (sym (ends each)) tt
     ])
 

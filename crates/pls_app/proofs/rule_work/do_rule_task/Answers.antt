@@ -53,7 +53,7 @@ returns-in_ok-parts-in-Judge-clause-does c =
       components = made_of input net parts rows c.in_ok-parts-in-Judge.ensures;
       does = inr (
         refl,
-        same ∙ (λ i. report json false (sym rows i) parts
+        same ∙ (λ i. report_answer json false (sym rows i) parts
             (decided_by (meaning gamma_takes (sym sets i)) (sym rows i) (sym labels i))),
       );
     })) c.judge-in-Judge.ensures.reports

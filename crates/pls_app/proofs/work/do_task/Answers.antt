@@ -192,7 +192,7 @@ returns-in-Verify-clause-does g c =
       components = are;
       does = inr (
         refl,
-        same ∙ (λ i. report json false (sym rows i) parts
+        same ∙ (λ i. report_answer json false (sym rows i) parts
             (decided_by (judge_of (takes i) scheme) (sym rows i) (sym labels i))),
       );
     })) c.verify-in-Verify.ensures.reports
