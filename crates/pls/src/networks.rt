@@ -9,7 +9,6 @@ ghost use Rattle.pls.specs.Rows.{IsNoNetwork, plain_port, plain_row};
 ghost use Rattle.pls.specs.inner.Limits.{is_within_limits};
 
 use pls_configuration::{MAX_NODES, MAX_NUM, MAX_PORTS};
-use pls_facts::is_valid;
 use pls_graph::{BuildError, Network, NodePorts, NodeRow, Port, State, node_apart};
 use pls_streams::NoMemory;
 use std::alloc::{AllocError, AllocFailed, Global};
@@ -129,7 +128,6 @@ fn plain_ports(alloc: Global, neighbours: &[u32]) -> Result<Vec<Port>, NoMemory>
 pub fn is_connected(alloc: Global, net: &Network) -> Result<bool, NoMemory>
     ensures { IfOk result (λ yes. IsTrue yes ↔ IsConnected net.now) }
 {
-    is_valid(net);
     match node_apart(alloc, net)? {
         None => Ok(true),
         Some(_) => Ok(false),

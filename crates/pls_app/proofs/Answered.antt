@@ -220,11 +220,11 @@ yields_end (With (Mark code) scheme) input parts answer yields = elim yields [
   | inl marked ↦ inl (ap (λ (answer : Answer). answer.status) marked.2)
   | inr lacks ↦ inr (ap (λ (answer : Answer). answer.status) lacks.2)
 ]
-yields_end (With (Verify json) scheme) input parts answer yields =
-    ends_so answer _ yields (report_ends (all_accept (outcomes_in (With (Verify json) scheme) input)))
-yields_end (With (Simulate json) scheme) input parts answer yields =
+yields_end (With (Verify form) scheme) input parts answer yields =
+    ends_so answer _ yields (report_ends (all_accept (outcomes_in (With (Verify form) scheme) input)))
+yields_end (With (Simulate form) scheme) input parts answer yields =
     ends_so answer _ yields
-    (report_ends (all_accept (outcomes_in (With (Simulate json) scheme) input)))
+    (report_ends (all_accept (outcomes_in (With (Simulate form) scheme) input)))
 yields_end (With Recheck scheme) input parts answer yields =
     ends_so answer _ yields.2 (report_ends (rounds_end_well yields.0))
 yields_end (With (Bound code) scheme) input parts answer yields =
@@ -237,8 +237,8 @@ yields_end (With Convert scheme) input parts answer yields =
 yields_end (With Splice scheme) input parts answer yields =
     splice_ends (code_in input) (rows_in input) (labels_in input) answer yields
 yields_end (Trial nodes seed) input parts answer yields = inl yields.ends
-yields_end (ByRules (Judge json)) input parts answer yields =
-    ends_so answer _ yields (report_ends (all_accept (outcomes_in (ByRules (Judge json)) input)))
+yields_end (ByRules (Judge form)) input parts answer yields =
+    ends_so answer _ yields (report_ends (all_accept (outcomes_in (ByRules (Judge form)) input)))
 yields_end (ByRules Code) input parts answer yields =
     inl (ap (λ (answer : Answer). answer.status) yields)
 yields_end (ByRules SpliceByRules) input parts answer yields =

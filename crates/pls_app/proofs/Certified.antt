@@ -195,8 +195,8 @@ certified_mark (Mark other) code scheme bytes input answer task is does shown do
     let same : other ≡ code = cc in
     certified code scheme bytes input answer is
     (subst (λ (code : CodeName). DoesWork (With (Mark code) scheme) input answer) same does) shown done
-certified_mark (Verify json) code scheme bytes input answer task is does shown done = absurd (cc)
-certified_mark (Simulate json) code scheme bytes input answer task is does shown done = absurd (cc)
+certified_mark (Verify form) code scheme bytes input answer task is does shown done = absurd (cc)
+certified_mark (Simulate form) code scheme bytes input answer task is does shown done = absurd (cc)
 certified_mark Recheck code scheme bytes input answer task is does shown done = absurd (cc)
 certified_mark Watch code scheme bytes input answer task is does shown done = absurd (cc)
 certified_mark Convert code scheme bytes input answer task is does shown done = absurd (cc)

@@ -12,7 +12,7 @@ use Rattle.pls_scheme_text.specs.ExpressionText.{IsNoScheme, expression_text}
 use Rattle.pls_scheme_text.specs.inner.Fronts.{scheme_refusal_of}
 use Rattle.pls_scheme_text.proofs.Refusals.{kept_text, refused_text}
 use Rattle.pls_configuration.specs.declared.limits.TheConstants.{MAX_NODES}
-use Rattle.pls_app.specs.declared.trial_words.TheConstants.{MAX_SEED}
+use Rattle.pls_trial.specs.declared.draws.TheConstants.{MAX_SEED}
 use Rattle.pls_app.specs.declared.command.Command.{Command}
 use Rattle.pls_app.specs.declared.command.Command.TheVariants.{ByRules, Print, Trial, With}
 use Rattle.pls_app.specs.declared.command.Task.{Task}

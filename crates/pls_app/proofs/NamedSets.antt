@@ -22,6 +22,7 @@ use Rattle.pls_builtin.proofs.NamedAgrees.{named_agrees}
 use Rattle.pls_inputs.specs.Parts.{Input, labels_in, parts_with_rules, rows_in}
 use Rattle.pls_inputs.proofs.Facts.{each, readable}
 use Rattle.pls_app.specs.declared.command.Command.TheVariants.{ByRules}
+use Rattle.pls_app.specs.declared.command.ReportForm.{ReportForm}
 use Rattle.pls_app.specs.declared.command.RuleTask.TheVariants.{Judge}
 use Rattle.pls_app.specs.Meant.{judge_in}
 use Rattle.pls_app.specs.Answer.{Answers, outcomes_in}
@@ -59,17 +60,17 @@ named_accept name set rows labels network named all =
     sym (named_agrees name (view row) points set named gamma_takes) ∙ accepts)
 
 -- a `judge` that ends in `Done`
-pub done_judges : (json : Bool) (bytes : List ℕ) (answer : Answer)
-    → Answers (ByRules (Judge json)) bytes answer → answer.status ≡ Done → ProvesByRules bytes
-done_judges json bytes answer answers done = elim answers [
+pub done_judges : (form : ReportForm) (bytes : List ℕ) (answer : Answer)
+    → Answers (ByRules (Judge form)) bytes answer → answer.status ≡ Done → ProvesByRules bytes
+done_judges form bytes answer answers done = elim answers [
   | inl refused ↦
       absurd (refused_not_done refused.0
       (sym (ap (λ (answer : Answer). answer.status) refused.2) ∙ done))
   | inr works ↦
       let input : Input = works.input in
       let rows : List NodeRow = rows_in input in
-      let all : all_accept (outcomes_in (ByRules (Judge json)) input) ≡ true =
-      done_all (all_accept (outcomes_in (ByRules (Judge json)) input))
+      let all : all_accept (outcomes_in (ByRules (Judge form)) input) ≡ true =
+      done_all (all_accept (outcomes_in (ByRules (Judge form)) input))
       (sym (ap (λ (answer : Answer). answer.status) works.yields) ∙ done) in
       let accepted : AllAccept (meaning gamma_takes (set_in input)) rows (labels_in input) =
       round_accepts (meaning gamma_takes (set_in input)) rows (labels_in input) all in

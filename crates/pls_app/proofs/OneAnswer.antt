@@ -83,8 +83,8 @@ one_yield : (command : Command) (bytes : List ℕ) (input : Input) (parts : List
 one_yield (With (Mark code) scheme) bytes input parts answer other is are one two =
     one_mark code scheme (rows_in input) parts answer other
     (readable (input_parts_of (With (Mark code) scheme)) bytes input is refl).network are one two
-one_yield (With (Verify json) scheme) bytes input parts answer other is are one two = one ∙ sym two
-one_yield (With (Simulate json) scheme) bytes input parts answer other is are one two = one ∙ sym two
+one_yield (With (Verify form) scheme) bytes input parts answer other is are one two = one ∙ sym two
+one_yield (With (Simulate form) scheme) bytes input parts answer other is are one two = one ∙ sym two
 one_yield (With Recheck scheme) bytes input parts answer other is are one two =
     let same = one_reports (judge_in (code_in input) scheme) (Round ∷ edits_in input) (first_situation input) 0 one.0
     two.0 one.1 two.1 in
@@ -98,7 +98,7 @@ one_yield (With Splice scheme) bytes input parts answer other is are one two =
     two
 one_yield (Trial nodes seed) bytes input parts answer other is are one two =
     one_tried nodes seed answer other one two
-one_yield (ByRules (Judge json)) bytes input parts answer other is are one two = one ∙ sym two
+one_yield (ByRules (Judge form)) bytes input parts answer other is are one two = one ∙ sym two
 one_yield (ByRules Code) bytes input parts answer other is are one two = one ∙ sym two
 one_yield (ByRules SpliceByRules) bytes input parts answer other is are one two =
     one_splice (code_in input) (rows_in input) (labels_in input)

@@ -21,8 +21,8 @@ use Rattle.pls_app.proofs.Values.{no_rows}
 pub wants_network : (task : Task) (scheme : Expression)
     → (input_parts_of (With task scheme)).network ≡ true
 wants_network (Mark code) scheme = refl
-wants_network (Verify json) scheme = refl
-wants_network (Simulate json) scheme = refl
+wants_network (Verify form) scheme = refl
+wants_network (Simulate form) scheme = refl
 wants_network Recheck scheme = refl
 wants_network (Bound code) scheme = refl
 wants_network Watch scheme = refl

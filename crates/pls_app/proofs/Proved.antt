@@ -102,11 +102,11 @@ all_judged : (scheme : Expression) (command : Command) (input : Input) (places :
     → Checks scheme command → all_accept (items_at (outcomes_in command input) places) ≡ true
     → AcceptAt (judge_in (code_in input) scheme) (rows_in input) (labels_in input) places
 all_judged scheme (With (Mark code) other) input places checks all = absurd checks
-all_judged scheme (With (Verify json) other) input places checks all =
+all_judged scheme (With (Verify form) other) input places checks all =
     subst (λ (scheme : Expression). AcceptAt (judge_in (code_in input) scheme) (rows_in input)
     (labels_in input) places) (sym checks)
     (decided_accept (judge_in (code_in input) other) (rows_in input) (labels_in input) places all)
-all_judged scheme (With (Simulate json) other) input places checks all =
+all_judged scheme (With (Simulate form) other) input places checks all =
     subst (λ (scheme : Expression). AcceptAt (judge_in (code_in input) scheme) (rows_in input)
     (labels_in input) places) (sym checks)
     (played_accept (judge_in (code_in input) other) (rows_in input) (labels_in input)
@@ -133,8 +133,8 @@ wants_labels : (scheme : Expression) (command : Command) → Checks scheme comma
     → ((input_parts_of command).network ≡ true) × ((input_parts_of command).labels ≡ true)
     × (reads_source command ≡ true)
 wants_labels scheme (With (Mark code) other) checks = absurd checks
-wants_labels scheme (With (Verify json) other) checks = (refl, refl, refl)
-wants_labels scheme (With (Simulate json) other) checks = (refl, refl, refl)
+wants_labels scheme (With (Verify form) other) checks = (refl, refl, refl)
+wants_labels scheme (With (Simulate form) other) checks = (refl, refl, refl)
 wants_labels scheme (With Recheck other) checks = absurd checks
 wants_labels scheme (With (Bound code) other) checks = absurd checks
 wants_labels scheme (With Watch other) checks = absurd checks
@@ -149,9 +149,9 @@ ends_by : (scheme : Expression) (command : Command) (input : Input) (parts : Lis
     (answer : Answer) → Checks scheme command → Yields command input parts answer
     → answer.status ≡ (if all_accept (outcomes_in command input) then Done else No)
 ends_by scheme (With (Mark code) other) input parts answer checks yields = absurd checks
-ends_by scheme (With (Verify json) other) input parts answer checks yields =
+ends_by scheme (With (Verify form) other) input parts answer checks yields =
     ap (λ (answer : Answer). answer.status) yields
-ends_by scheme (With (Simulate json) other) input parts answer checks yields =
+ends_by scheme (With (Simulate form) other) input parts answer checks yields =
     ap (λ (answer : Answer). answer.status) yields
 ends_by scheme (With Recheck other) input parts answer checks yields = absurd checks
 ends_by scheme (With (Bound code) other) input parts answer checks yields = absurd checks

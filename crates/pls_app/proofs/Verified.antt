@@ -25,6 +25,7 @@ use Rattle.pls_inputs.specs.Parts.{Input, code_in, labels_in, parts_with_labels,
 use Rattle.pls_inputs.proofs.Facts.{IsReadable}
 use Rattle.pls_bits.specs.declared.code_name.CodeName.{CodeName}
 use Rattle.pls_app.specs.declared.command.Command.TheVariants.{With}
+use Rattle.pls_app.specs.declared.command.ReportForm.TheVariants.{Lines}
 use Rattle.pls_app.specs.declared.command.Task.TheVariants.{Verify}
 use Rattle.pls_app.specs.Command.{IsCommand}
 use Rattle.pls_app.specs.Meant.{judge_in}
@@ -49,7 +50,7 @@ behind_verify first rest plain =
 
 -- the words of a scheme's `verify` are that command
 verify_is : (scheme : Expression) → IsSmall scheme
-    → IsCommand (verify_words scheme) (With (Verify false) scheme)
+    → IsCommand (verify_words scheme) (With (Verify Lines) scheme)
 verify_is scheme small =
     let text : List ℕ = expression_text scheme in
     let letter = first_letter scheme in record {
@@ -75,8 +76,8 @@ pub verified_input : (scheme : Expression) (bytes : List ℕ) (input : Input) (p
     → all_accept (decided_by (judge_in (code_in input) scheme) (rows_in input) (labels_in input))
     ≡ true → IsDone (verify_words scheme) bytes
 verified_input scheme bytes input parts small is are all =
-    let command = With (Verify false) scheme in
-    let answer : Answer = reports_on command false false input parts in
+    let command = With (Verify Lines) scheme in
+    let answer : Answer = reports_on command Lines false input parts in
     record {
       answer = answer;
       is = command_answer (verify_words scheme) bytes command answer (verify_is scheme small)

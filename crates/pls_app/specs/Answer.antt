@@ -21,6 +21,8 @@ use Rattle.pls_inputs.specs.Parts.{Input, code_in, edits_in, events_in, labels_i
 use Rattle.pls_inputs.specs.Order.{IsInput, IsNoInput, edits_heading, over, schedule_heading, watch_heading}
 use Rattle.pls_bits.specs.declared.code_name.CodeName.{CodeName}
 use Rattle.pls_bits.specs.declared.code_name.CodeName.TheVariants.{Delta}
+use Rattle.pls_app.specs.declared.command.ReportForm.{ReportForm}
+use Rattle.pls_app.specs.declared.command.ReportForm.TheVariants.{Json, Lines}
 use Rattle.pls_app.specs.declared.command.RuleTask.TheVariants.{Code, Judge, Splice as SpliceByRules}
 use Rattle.pls_app.specs.declared.command.Command.{Command}
 use Rattle.pls_app.specs.declared.command.Command.TheVariants.{ByRules, Print, Trial, With}
@@ -65,17 +67,17 @@ abbrev pub refusal_answer : TextError → Answer
 refusal_answer error =
     record { status = refusal_status error; text = text_of (refusal_line error ∷ []) }
 
--- the text of a report with what is told of the components, in JSON or in lines
-abbrev pub report_in : Bool → Bool → List ComponentRow → List (ℕ × Outcome) → List ℕ
-report_in json simulated parts outcomes =
-    if json then json_text parts outcomes else report_text simulated parts outcomes
+-- the text of a report with what is told of the components, in a form
+abbrev pub report_in : ReportForm → Bool → List ComponentRow → List (ℕ × Outcome) → List ℕ
+report_in Lines simulated parts outcomes = report_text simulated parts outcomes
+report_in Json simulated parts outcomes = json_text parts outcomes
 
 -- the answer with a report of what became of the nodes of a network with these components
-abbrev pub report_answer : Bool → Bool → List NodeRow → List (List ℕ) → List (ℕ × Outcome)
-    → Answer
-report_answer json simulated rows parts outcomes = record {
+abbrev pub report_answer : ReportForm → Bool → List NodeRow → List (List ℕ)
+    → List (ℕ × Outcome) → Answer
+report_answer form simulated rows parts outcomes = record {
   status = if all_accept outcomes then Done else No;
-  text = report_in json simulated (component_rows rows parts outcomes) outcomes;
+  text = report_in form simulated (component_rows rows parts outcomes) outcomes;
 }
 
 -- the answer with the number of bits that a label has at most
@@ -107,11 +109,11 @@ rounds_answer reports = record {
 
 -- the outcomes that `verify`, `simulate` or `judge` reports; of any other command none
 abbrev pub outcomes_in : Command → Input → List (ℕ × Outcome)
-outcomes_in (With (Verify json) scheme) input =
+outcomes_in (With (Verify form) scheme) input =
     decided_by (judge_in (code_in input) scheme) (rows_in input) (labels_in input)
-outcomes_in (With (Simulate json) scheme) input =
+outcomes_in (With (Simulate form) scheme) input =
     played_by (judge_in (code_in input) scheme) (rows_in input) (labels_in input) (events_in input)
-outcomes_in (ByRules (Judge json)) input =
+outcomes_in (ByRules (Judge form)) input =
     decided_by (meaning gamma_takes (set_in input)) (rows_in input) (labels_in input)
 outcomes_in other input = []
 
@@ -137,17 +139,17 @@ Rechecks scheme input answer =
     × (answer ≡ rounds_answer reports)
 
 -- the report of a command that judges nodes, of an input whose network has these components
-abbrev pub reports_on : Command → Bool → Bool → Input → List (List ℕ) → Answer
-reports_on command json simulated input parts =
-    report_answer json simulated (rows_in input) parts (outcomes_in command input)
+abbrev pub reports_on : Command → ReportForm → Bool → Input → List (List ℕ) → Answer
+reports_on command form simulated input parts =
+    report_answer form simulated (rows_in input) parts (outcomes_in command input)
 
 -- the answer of a command to an input that it does not refuse, whose network has these components
 abbrev pub Yields : Command → Input → List (List ℕ) → Answer → Type 0
 Yields (With (Mark code) scheme) input parts answer = Marks code scheme (rows_in input) parts answer
-Yields (With (Verify json) scheme) input parts answer =
-    answer ≡ reports_on (With (Verify json) scheme) json false input parts
-Yields (With (Simulate json) scheme) input parts answer =
-    answer ≡ reports_on (With (Simulate json) scheme) json true input parts
+Yields (With (Verify form) scheme) input parts answer =
+    answer ≡ reports_on (With (Verify form) scheme) form false input parts
+Yields (With (Simulate form) scheme) input parts answer =
+    answer ≡ reports_on (With (Simulate form) scheme) form true input parts
 Yields (With Recheck scheme) input parts answer = Rechecks scheme input answer
 Yields (With Watch scheme) input parts answer =
     answer ≡ looks_answer (looks_in (judge_in (code_in input) scheme) input)
@@ -158,8 +160,8 @@ Yields (With Convert scheme) input parts answer =
 Yields (With Splice scheme) input parts answer =
     Splices (code_in input) (rows_in input) (labels_in input) answer
 Yields (Trial nodes seed) input parts answer = IsTrialAnswer nodes seed answer
-Yields (ByRules (Judge json)) input parts answer =
-    answer ≡ reports_on (ByRules (Judge json)) json false input parts
+Yields (ByRules (Judge form)) input parts answer =
+    answer ≡ reports_on (ByRules (Judge form)) form false input parts
 Yields (ByRules Code) input parts answer = answer ≡ code_answer (set_in input)
 Yields (ByRules SpliceByRules) input parts answer =
     Splices (code_in input) (rows_in input) (labels_in input) answer
@@ -169,7 +171,7 @@ Yields (Print name) input parts answer = answer ≡ rules_answer name
 abbrev pub work_refusal : Command → Input → List (List ℕ) → Option TextError
 work_refusal (With (Mark code) scheme) input parts =
     over Labels MAX_BITS (room_in code scheme (rows_in input) parts)
-work_refusal (With (Simulate json) scheme) input parts =
+work_refusal (With (Simulate form) scheme) input parts =
     schedule_refusal (rows_in input) (schedule_heading input + 1) (events_in input)
 work_refusal (With Recheck scheme) input parts =
     edits_refusal (rows_in input) (labels_in input) (edits_heading input + 1) (edits_in input)

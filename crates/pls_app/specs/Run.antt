@@ -26,6 +26,7 @@ use Rattle.pls_names.specs.declared.scheme_name.SchemeName.{SchemeName}
 use Rattle.pls_builtin.specs.Builtin.{set_of_name}
 use Rattle.pls_app.specs.declared.command.Command.{Command}
 use Rattle.pls_app.specs.declared.command.Command.TheVariants.{With}
+use Rattle.pls_app.specs.declared.command.ReportForm.TheVariants.{Lines}
 use Rattle.pls_app.specs.declared.command.Task.TheVariants.{Recheck, Verify}
 use Rattle.pls_app.specs.Command.{IsCommand, IsUsage, reads_source}
 use Rattle.pls_app.specs.Meant.{Holds, LacksAt, NameLacking, Shows, judge_in}
@@ -177,8 +178,8 @@ pub record Converts (scheme : Expression) (bytes text : List ℕ) : Type 0 where
   pub text_is : text ≡ net_labels_text Delta (rows_in input) labels
   pub read_back : IsInput parts_with_labels (network_text (rows_in input) ++ text)
       (with_labels Delta input labels)
-  pub alike : outcomes_in (With (Verify false) scheme) (with_labels Delta input labels)
-      ≡ outcomes_in (With (Verify false) scheme) input
+  pub alike : outcomes_in (With (Verify Lines) scheme) (with_labels Delta input labels)
+      ≡ outcomes_in (With (Verify Lines) scheme) input
 
 -- the bytes are a ring with labels, and the text is a network of two rings with the same labels, in
 -- which no node sees a difference: all nodes accept, so that each of the two has the property, and

@@ -10,6 +10,7 @@ ghost use Rattle.pls_app.specs.Answer.{no_answer, refusal_answer, refusal_status
 ghost use Rattle.pls_app.specs.Reports.{rounds_end_well};
 ghost use Rattle.pls_app.specs.inner.Tasks.{IsWorked};
 
+use crate::command::ReportForm;
 use crate::component_rows::component_rows;
 use crate::round_report::RoundReport;
 use pls_bits::CodeName;
@@ -74,7 +75,7 @@ impl Model for Answer {
 }
 
 // The answer to words that are no command.
-pub(crate) fn usage() -> Answer
+pub(crate) fn usage_answer() -> Answer
     ensures { result ≡ usage_answer }
 {
     Answer {
@@ -84,7 +85,7 @@ pub(crate) fn usage() -> Answer
 }
 
 // `ids` are the smallest identities of the components that lack the property.
-pub(crate) fn no(alloc: Global, parts: &Components, ids: &[u32]) -> Result<Answer, NoMemory>
+pub(crate) fn no_answer(alloc: Global, parts: &Components, ids: &[u32]) -> Result<Answer, NoMemory>
     ensures says { IfOk result (λ answer. answer ≡ no_answer parts.now ids.now) }
     ensures worked { IfOk result (λ answer. IsWorked answer.status) }
 {
@@ -115,9 +116,9 @@ fn push_ids(text: &mut String, ids: &[u32]) -> Result<(), NoMemory>
     Ok(())
 }
 
-pub(crate) fn report(
+pub(crate) fn report_answer(
     alloc: Global,
-    json: bool,
+    form: ReportForm,
     simulated: bool,
     net: &Network,
     parts: &Components,
@@ -126,19 +127,18 @@ pub(crate) fn report(
     requires made { AreComponents net.now parts.now }
     requires each { length rows.items ≡ length net.now }
     ensures report { IfOk result
-        (λ answer. answer ≡ report_answer json simulated net.now parts.now rows.items) }
+        (λ answer. answer ≡ report_answer form simulated net.now parts.now rows.items) }
     ensures worked { IfOk result (λ answer. IsWorked answer.status) }
 {
     let status = round_status(&rows);
     let parts = component_rows(alloc, net, parts, &rows)?;
-    let content = if json {
-        Content::Written(json_report(alloc, &rows, &parts)?.into_bytes())
-    } else {
-        Content::Report {
+    let content = match form {
+        ReportForm::Lines => Content::Report {
             simulated,
             parts,
             rows,
-        }
+        },
+        ReportForm::Json => Content::Written(json_report(alloc, &rows, &parts)?.into_bytes()),
     };
     Ok(Answer { status, content })
 }
@@ -197,12 +197,11 @@ pub(crate) fn refuse(alloc: Global, error: TextError) -> Result<Answer, NoMemory
     })
 }
 
-// `number` is that of the refusal, `id` that of the node.
-pub(crate) fn refuse_node(alloc: Global, number: u8, id: u32) -> Result<Answer, NoMemory>
-    ensures says { IfOk result (λ answer. answer ≡ refusal_answer (Sense number id)) }
+// `number` is that of the refusal, `place` the line or the identity at which it occurs.
+pub(crate) fn refuse_at(alloc: Global, number: u8, place: u64) -> Result<Answer, NoMemory>
+    ensures says { IfOk result (λ answer. answer ≡ refusal_answer (Sense number place)) }
     ensures worked { IfOk result (λ answer. IsWorked answer.status) }
 {
-    let place = id as u64;
     refuse(alloc, TextError::Sense { number, place })
 }
 

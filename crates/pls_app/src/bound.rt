@@ -13,6 +13,7 @@ use crate::answer::{Answer, Content};
 use pls_bits::NumCode;
 use pls_combine::AnyScheme;
 use pls_components::{Components, bound_parts};
+use pls_facts::is_valid;
 use pls_graph::Network;
 use pls_streams::{NoMemory, Status};
 use std::alloc::Global;
@@ -32,8 +33,7 @@ pub(crate) fn bound<C: NumCode>(
         ≡ bound_answer (bound_of_parts (longest_of C.code scheme.now) net.now parts.now)) }
     ensures worked { IfOk result (λ answer. IsWorked answer.status) }
 {
-    // A network is valid.
-    net.len();
+    is_valid(net);
     let bound = bound_parts(scheme, net, parts);
     let text = format!(in alloc; "bound {bound}\n")?;
     Ok(Answer {

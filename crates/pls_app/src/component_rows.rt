@@ -6,6 +6,7 @@ ghost use Rattle.pls_report.specs.Report.{rejecting, waiting};
 ghost use Rattle.pls_app.specs.ComponentRows.{component_row, component_rows};
 
 use pls_components::Components;
+use pls_facts::is_valid;
 use pls_graph::Network;
 use pls_report::{ComponentRow, rejects, waits};
 use pls_sim::Outcome;
@@ -41,8 +42,7 @@ fn component_row(
     ensures { (places : List ℕ) → slice_get parts.now k ≡ Some places
         → result ≡ component_row net.now outcomes.now places }
 {
-    // A network is valid.
-    net.len();
+    is_valid(net);
     let places = parts.members(k);
     let (rejecting, waiting) = failing_at(places, outcomes);
     ComponentRow {

@@ -12,7 +12,7 @@ ghost use Rattle.pls_app.specs.Answer.{labels_answer, refusal_answer};
 ghost use Rattle.pls_app.specs.Meant.{takes_of};
 ghost use Rattle.pls_app.specs.inner.Tasks.{Does, IsWorked};
 
-use crate::answer::{Answer, Content, refuse, refuse_node};
+use crate::answer::{Answer, Content, refuse, refuse_at};
 use crate::command::{Command, Task};
 use pls_bits::{CodeName, Delta, NumCode};
 use pls_combine::AnyScheme;
@@ -39,7 +39,7 @@ pub(crate) fn convert<C: NumCode>(
 {
     let mut found = LabelStore::blank_for(alloc, labels.len(), labels.total())?;
     match scheme.convert_labels::<Delta>(alloc, labels, &mut found)? {
-        Some(place) => refuse_node(alloc, UNREADABLE, net.node(place).0),
+        Some(place) => refuse_at(alloc, UNREADABLE, net.node(place).0 as u64),
         None => labels_within(alloc, net, found),
     }
 }

@@ -10,7 +10,7 @@ ghost use Rattle.pls_inputs.specs.Parts.{Input, rows_in};
 ghost use Rattle.pls_app.specs.Answer.{Marks};
 ghost use Rattle.pls_app.specs.inner.Tasks.{Does, IsNamed, IsWorked, ShowsIn};
 
-use crate::answer::{Answer, Content, no, refuse};
+use crate::answer::{Answer, Content, no_answer, refuse};
 use crate::command::{Command, Task};
 use pls_bits::{CodeName, NumCode};
 use pls_combine::AnyScheme;
@@ -74,6 +74,6 @@ fn mark_within<C: NumCode>(
             status: Status::Done,
             content: Content::Labels { code, net, labels },
         }),
-        MarkResult::Lacking(ids) => no(alloc, parts, ids.as_slice()),
+        MarkResult::Lacking(ids) => no_answer(alloc, parts, ids.as_slice()),
     }
 }

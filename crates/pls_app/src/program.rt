@@ -1,6 +1,6 @@
 //! The one call that does all that the program does.
 
-ghost use Rattle.std.specs.Prelude.{◌≡◌, ◌⊎◌, ◌++◌, [], ℕ, Bool, List, Some, IsOk, OnErr, OnOk, length};
+ghost use Rattle.std.specs.Prelude.{◌≡◌, ◌⊎◌, ◌++◌, [], ℕ, List, Some, IsOk, OnErr, OnOk, length};
 ghost use Rattle.std.specs.Io.KnownBytes.{Appends};
 ghost use Rattle.pls_streams.specs.Gathered.{Writes};
 ghost use Rattle.pls_streams.specs.Streams.{AppendsPart, Rose};
@@ -15,8 +15,8 @@ ghost use Rattle.pls_app.specs.Reports.{reports_text};
 ghost use Rattle.pls_streams.specs.declared.text_error.TextError.{TextError};
 ghost use Rattle.pls_app.specs.inner.Written.{text_in};
 
-use crate::answer::{Answer, Content, usage};
-use crate::command::{Command, RuleTask, Task, read_command};
+use crate::answer::{Answer, Content, usage_answer};
+use crate::command::{Command, ReportForm, RuleTask, Task, read_command};
 use crate::from_source::answer_from;
 use crate::round_report::RoundReport;
 use pls_bits::CodeName;
@@ -72,9 +72,9 @@ pub fn run<'w, S: Source, K: Sink, B: Bench>(
         → Asks (words_in words.now) (S.left source.old) (Command.With Task.Splice scheme) bytes
         → result ≡ Status.Done
         → Took (Splits scheme bytes) (K.taken sink.old) (K.taken sink.new) }
-    ensures judge { (json : Bool) (bytes : List ℕ)
+    ensures judge { (form : ReportForm) (bytes : List ℕ)
         → Asks (words_in words.now) (S.left source.old)
-        (Command.ByRules (RuleTask.Judge json)) bytes
+        (Command.ByRules (RuleTask.Judge form)) bytes
         → result ≡ Status.Done → ProvesByRules bytes }
 
     // How often the bench was asked.
@@ -118,7 +118,7 @@ pub fn run<'w, S: Source, K: Sink, B: Bench>(
 {
     match read_command(alloc, words) {
         Err(NoMemory) => Status::NoMemory,
-        Ok(None) => tell(sink, usage()),
+        Ok(None) => tell(sink, usage_answer()),
         Ok(Some(command)) => match answer_from(alloc, command, source, bench) {
             Ok(answer) => tell(sink, answer),
             Err(status) => status,

@@ -38,10 +38,10 @@ fn do_rule_task(alloc: Global, task: RuleTask, input: Input) -> Result<Answer, N
 {
     let set = input.rules.unwrap();
     match task {
-        RuleTask::Judge { json } => {
+        RuleTask::Judge(form) => {
             let net = input.network.unwrap();
             let parts = components(alloc, &net)?;
-            judge(alloc, set, json, &net, &parts, &input.labels.unwrap())
+            judge(alloc, set, form, &net, &parts, &input.labels.unwrap())
         }
         RuleTask::Splice => {
             let net = input.network.unwrap();

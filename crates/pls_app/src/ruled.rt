@@ -13,6 +13,7 @@ ghost use Rattle.pls_app.specs.Ruled.{code_answer, rules_answer};
 ghost use Rattle.pls_app.specs.inner.Tasks.{DoesSplice, IsWorked};
 
 use crate::answer::{Answer, Content};
+use crate::command::ReportForm;
 use crate::splice::splice;
 use crate::verify::verify;
 use pls_bits::CodeName;
@@ -30,7 +31,7 @@ use std::alloc::Global;
 pub(crate) fn judge(
     alloc: Global,
     set: RuleSet,
-    json: bool,
+    form: ReportForm,
     net: &Network,
     parts: &Components,
     labels: &LabelStore,
@@ -38,12 +39,12 @@ pub(crate) fn judge(
     requires made { AreComponents net.now parts.now }
     requires each { length labels.now ≡ length net.now }
     requires sense { AreRules (set_of set) }
-    ensures reports { IfOk result (λ answer. answer ≡ report_answer json false net.now parts.now
+    ensures reports { IfOk result (λ answer. answer ≡ report_answer form false net.now parts.now
         (decided_by (meaning gamma_takes (set_of set)) net.now labels.now)) }
     ensures worked { IfOk result (λ answer. IsWorked answer.status) }
 {
     let checker = RuleChecker::new(alloc, set)?;
-    verify(alloc, &checker, json, net, parts, labels)
+    verify(alloc, &checker, form, net, parts, labels)
 }
 
 pub(crate) fn splice_by_rules(

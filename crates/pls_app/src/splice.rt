@@ -6,9 +6,10 @@ ghost use Rattle.pls_splice.specs.Ring.{IsRingOrder};
 ghost use Rattle.pls_app.specs.Splice.{crossed_answer, first_rejecting, uncrossed_answer};
 ghost use Rattle.pls_app.specs.inner.Tasks.{DoesSplice, IsWorked};
 
-use crate::answer::{Answer, Content, refuse_node};
+use crate::answer::{Answer, Content, refuse_at};
 use crate::verify::decide;
 use pls_bits::CodeName;
+use pls_facts::is_valid;
 use pls_graph::Network;
 use pls_labels::LabelStore;
 use pls_netfile::write_network;
@@ -33,11 +34,10 @@ pub(crate) fn splice<V: Checker>(
     ensures does { IfOk result (DoesSplice (V.judge checker.now) code net labels) }
     ensures worked { IfOk result (λ answer. IsWorked answer.status) }
 {
-    // A network is valid.
-    net.len();
+    is_valid(&net);
     match Ring::read(alloc, &net) {
         Ok(ring) => splice_ring(alloc, checker, &ring, code, net, labels),
-        Err(RingError::NotRing(id)) => refuse_node(alloc, NO_RING, id),
+        Err(RingError::NotRing(id)) => refuse_at(alloc, NO_RING, id as u64),
         Err(RingError::NoMemory) => Err(NoMemory),
     }
 }
@@ -55,11 +55,10 @@ fn splice_ring<V: Checker>(
     ensures does { IfOk result (DoesSplice (V.judge checker.now) code net labels) }
     ensures worked { IfOk result (λ answer. IsWorked answer.status) }
 {
-    // A network is valid.
-    net.len();
+    is_valid(&net);
     let rows = decide(alloc, checker, &net, &labels)?;
     if let Some(id) = first_rejecting(&rows) {
-        return refuse_node(alloc, REJECTS, id);
+        return refuse_at(alloc, REJECTS, id as u64);
     }
     match find_pair(alloc, ring, &net, &labels)? {
         Some(pair) => crossed_answer(alloc, ring, pair, code, net, labels),

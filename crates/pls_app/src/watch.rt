@@ -12,7 +12,7 @@ ghost use Rattle.pls_app.specs.WatchRefusal.{event_of, events_of, first_refused_
 ghost use Rattle.pls_app.specs.inner.Tasks.{Does, IsWorked};
 ghost use Rattle.pls_app.specs.inner.Watching.{AreShown, HasRoomForEvents, IsWatchInput, shown_at, watched_behind};
 
-use crate::answer::{Answer, Content, refuse};
+use crate::answer::{Answer, Content, refuse_at};
 use crate::command::{Command, Task};
 use pls_bits::NumCode;
 use pls_combine::AnyScheme;
@@ -20,7 +20,7 @@ use pls_graph::Network;
 use pls_labels::LabelStore;
 use pls_scheme::Checker;
 use pls_streams::refusal_number::WATCH_EVENT;
-use pls_streams::{NoMemory, Status, Steps, TextError};
+use pls_streams::{NoMemory, Status, Steps};
 use pls_watch::{LookRows, Lookout, Watch, WatchEvent};
 use pls_watch_part::{LineQueue, WatchLine};
 use std::alloc::Global;
@@ -50,9 +50,8 @@ pub(crate) fn watch<C: NumCode>(
     let mut well = true;
     match play(alloc, &mut lookout, LineQueue::of(lines), &mut well)? {
         Some(place) => {
-            let place = first_line + place as u64;
-            let number = WATCH_EVENT;
-            refuse(alloc, TextError::Sense { number, place })
+            let line = first_line + place as u64;
+            refuse_at(alloc, WATCH_EVENT, line)
         }
         None => Ok(looks_answer(lookout.into_shown(), well)),
     }

@@ -7,6 +7,7 @@ ghost use Rattle.pls_boruvka.specs.declared.level.Level.{Level};
 ghost use Rattle.pls_boruvka.specs.Boruvka.{AreChainLengths, AreLevelLists};
 ghost use Rattle.pls_boruvka.specs.Fragments.{AreFragmentNames, AreFragments, joined_edges};
 
+use pls_facts::is_valid;
 use pls_graph::Network;
 
 /// The names of fragments are right for the edges along which nodes point whose entries are true:
@@ -20,6 +21,5 @@ pub fn fragments_and_levels(net: &Network)
     ensures one { (one other : List (List Level)) → AreLevelLists net.now one
         → AreLevelLists net.now other → one ≡ other }
 {
-    // A network is valid.
-    net.len();
+    is_valid(net);
 }

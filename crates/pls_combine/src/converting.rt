@@ -125,8 +125,8 @@ fn convert_tree<C: NumCode, D: NumCode>(
             };
             Ok(Some(tagged_bits(alloc, tag, rest.bits())?))
         }
-        ExpressionTree::Diameter(_) => recode::<MapFormat, C, D>(&MapFormat, alloc, bits),
-        ExpressionTree::Bridgeless => recode::<MapFormat, C, D>(&MapFormat, alloc, bits),
-        ExpressionTree::Map(_) => recode::<MapFormat, C, D>(&MapFormat, alloc, bits),
+        ExpressionTree::Diameter(_) | ExpressionTree::Bridgeless | ExpressionTree::Map(_) => {
+            recode::<MapFormat, C, D>(&MapFormat, alloc, bits)
+        }
     }
 }

@@ -12,7 +12,7 @@ use Rattle.pls_configuration.specs.declared.verdict.Verdict.{Verdict}
 use Rattle.pls_configuration.specs.declared.verdict.Verdict.TheVariants.{Reject}
 use Rattle.pls_configuration.specs.Configuration.{IsNetwork}
 use Rattle.pls_graph.specs.Places.{beside}
-use Rattle.pls_facts.proofs.Lists.{item_at}
+use Rattle.pls_graph.proofs.Finds.{item_at}
 use Rattle.pls_labels.specs.Seen.{Seen, SeenPort, label_of, seen_port, views}
 use Rattle.pls_labels.proofs.Few.{proper_at}
 use Rattle.pls_labels.proofs.Views.{placed}

@@ -14,7 +14,7 @@ use Rattle.pls_configuration.specs.Configuration.{IsNetwork}
 use Rattle.pls_graph.specs.Places.{beside}
 use Rattle.pls_labels.specs.Seen.{SeenPort, label_of, seen_port}
 use Rattle.pls_labels.proofs.Views.{port_at}
-use Rattle.pls_facts.proofs.Lists.{item_at}
+use Rattle.pls_graph.proofs.Finds.{item_at}
 use Rattle.pls_numbers.specs.declared.kind.FieldKind.{FieldKind}
 use Rattle.pls_scheme.specs.Reading.{ReadPort}
 use Rattle.pls_scheme.proofs.LookedAt.{places_for_ports, shown_from}

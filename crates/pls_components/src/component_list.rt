@@ -5,6 +5,7 @@ ghost use Rattle.pls_configuration.specs.declared.row.NodeRow.{NodeRow};
 ghost use Rattle.pls_components.specs.Components.{AreComponents, items_at, least_id};
 
 use crate::part_size::size_at;
+use pls_facts::is_valid;
 use pls_graph::{Network, NetworkBuilder};
 use pls_streams::NoMemory;
 use std::alloc::Global;
@@ -65,8 +66,7 @@ impl Components {
         ensures { (places : List ℕ) → slice_get self.now k ≡ Some places
             → result ≡ least_id net.now places }
     {
-        // A network is valid.
-        net.len();
+        is_valid(net);
         // Identities rise with the places, so that the smallest is that of the first.
         net.node(self.members(k)[0] as usize).0
     }
@@ -79,8 +79,7 @@ impl Components {
         ensures { IfOk result
             (λ part. slice_get (map (items_at net.now) self.now) k ≡ Some part) }
     {
-        // A network is valid.
-        net.len();
+        is_valid(net);
         let places = self.members(k);
         let ports = size_at(net, places).ports as usize;
         let rows = rows_of(alloc, net, places, ports)?;

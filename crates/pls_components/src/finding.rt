@@ -7,6 +7,7 @@ ghost use Rattle.pls_components.specs.Components.{AreComponents};
 use crate::buckets::buckets_of;
 use crate::component_list::{Components, Span};
 use crate::flood::{all_numbers, number_all};
+use pls_facts::is_valid;
 use pls_graph::{Network, node_apart};
 use pls_streams::NoMemory;
 use std::alloc::Global;
@@ -42,8 +43,7 @@ fn one_component(alloc: Global, net: &Network) -> Result<Components, NoMemory>
 fn several_components(alloc: Global, net: &Network) -> Result<Components, NoMemory>
     ensures { IfOk result (λ parts. AreComponents net.now parts) }
 {
-    // A network is valid.
-    net.len();
+    is_valid(net);
     let (found, count) = number_all(alloc, net)?;
     let numbers = all_numbers(alloc, found.as_slice())?;
     let buckets = buckets_of(alloc, numbers.as_slice(), count)?;

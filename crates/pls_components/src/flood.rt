@@ -5,6 +5,7 @@
 ghost use Rattle.std.specs.Prelude.{◌≡◌, ◌+◌, ◌<◌, ℕ, All, IfOk, OnOk, None, Some, [], ◌∷◌, length, map, replicate};
 ghost use Rattle.pls_components.specs.inner.Numbers.{AreClosed, AreNumbered, EntersAll, Fills, HasNumber, number_of_place};
 
+use pls_facts::is_valid;
 use pls_graph::Network;
 use pls_streams::NoMemory;
 use std::alloc::Global;
@@ -29,8 +30,7 @@ impl Flood {
             (Fills net.now self.old.numbers.items self.new.numbers.items root number) }
         ensures none { OnOk result (self.new.waiting.items ≡ []) }
     {
-        // A network is valid.
-        net.len();
+        is_valid(net);
         self.enter(root, number)?;
         while let Some(place) = self.waiting.pop() {
             self.enter_all(net.places(place as usize), number)?;
@@ -47,8 +47,7 @@ impl Flood {
             (λ count. AreNumbered net.now self.new.numbers.items (root + 1) count) }
         ensures none { OnOk result (self.new.waiting.items ≡ []) }
     {
-        // A network is valid.
-        net.len();
+        is_valid(net);
         if self.numbers[root].is_some() {
             return Ok(count);
         }

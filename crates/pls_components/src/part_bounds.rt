@@ -7,6 +7,7 @@ ghost use Rattle.pls_components.specs.Parts.{bound_of_parts, room_of_parts};
 
 use crate::component_list::Components;
 use crate::part_size::size_at;
+use pls_facts::is_valid;
 use pls_graph::Network;
 use pls_scheme::Scheme;
 
@@ -17,8 +18,7 @@ pub fn bound_parts<S: Scheme>(scheme: &S, net: &Network, parts: &Components) -> 
     requires { AreComponents net.now parts.now }
     ensures { result ≡ capped (bound_of_parts (S.longest scheme.now) net.now parts.now) }
 {
-    // A network is valid.
-    net.len();
+    is_valid(net);
     if parts.len() == 1 {
         return scheme.bound(&net.size());
     }

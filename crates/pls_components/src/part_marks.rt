@@ -9,6 +9,7 @@ ghost use Rattle.pls_components.specs.inner.Marking.{ArePutAt, IsPartMarked, roo
 use crate::component_list::Components;
 use crate::id_list::IdList;
 use crate::mark_result::MarkResult;
+use pls_facts::is_valid;
 use pls_graph::Network;
 use pls_labels::{LabelRoom, LabelStore};
 use pls_scheme::Scheme;
@@ -36,8 +37,6 @@ pub fn mark_parts<S: Scheme>(
     if parts.len() == 1 {
         return mark_whole(alloc, scheme, net, parts);
     }
-    // A network is valid.
-    net.len();
     let mut labels = LabelStore::blank(alloc, net.len())?;
     let mut ids = Vec::new(alloc);
     // Behind a component that lacks the property the others are asked too, so that all are named.
@@ -64,8 +63,7 @@ fn mark_whole<S: Scheme>(
         (S.judge scheme.now) (S.longest scheme.now) net.now)) }
     ensures lacking { IfOk result (IfLacking (AreLacking (S.holds scheme.now) net.now)) }
 {
-    // A network is valid.
-    net.len();
+    is_valid(net);
     match scheme.mark(alloc, net)? {
         Some(labels) => Ok(MarkResult::Labels(labels)),
         None => Ok(MarkResult::Lacking(one_id(alloc, net.node(0).0)?)),
@@ -96,8 +94,7 @@ fn mark_part<S: Scheme>(
         → IsPartMarked (S.holds scheme.now) (S.marked scheme.now) (S.judge scheme.now)
         (S.longest scheme.now) net.now places labels.old labels.new has) }
 {
-    // A network is valid.
-    net.len();
+    is_valid(net);
     let part = parts.part(alloc, net, k)?;
     match scheme.mark(alloc, &part)? {
         Some(marked) => {

@@ -16,7 +16,7 @@ use Rattle.pls_graph.proofs.Members.{Contains-first, Contains-from_map, Contains
 use Rattle.pls_graph.proofs.Placed.{ids_rise}
 use Rattle.pls_facts.proofs.Decided.{cases_Edge}
 use Rattle.pls_facts.proofs.Levels.{known_level}
-use Rattle.pls_facts.proofs.Lists.{item_at}
+use Rattle.pls_graph.proofs.Finds.{item_at}
 use Rattle.pls_facts.proofs.Neighbours.{Leads, adjacent_known, leads, port_adjacent}
 use Rattle.pls_facts.proofs.PortEdges.{IsAtPort, ports_of_edge}
 use Rattle.pls_diameter_bridges.specs.Bridgeless.{IsBridgeless, without}

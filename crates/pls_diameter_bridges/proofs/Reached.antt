@@ -9,7 +9,7 @@ use Rattle.pls_configuration.specs.declared.row.NodeRow.{NodeRow}
 use Rattle.pls_configuration.specs.Walk.{edges_of}
 use Rattle.pls_graph.specs.Levels.{AreLevels, IsFound}
 use Rattle.pls_graph.proofs.Members.{Contains-from_map, Contains-from_place, Contains-map, place_from_Contains}
-use Rattle.pls_facts.proofs.Lists.{item_at}
+use Rattle.pls_graph.proofs.Finds.{item_at}
 use Rattle.pls_diameter_bridges.specs.Diameter.{AreWithin, HasDiameterAtMost}
 use Rattle.pls_diameter_bridges.specs.inner.Reaching.{ReachesAll, is_within}
 

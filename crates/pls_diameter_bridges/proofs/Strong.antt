@@ -13,7 +13,8 @@ use Rattle.pls_configuration.specs.Walk.{Adjacent, AreJoined, Edge, IsConnected,
 use Rattle.pls_graph.specs.Places.{beside}
 use Rattle.pls_graph.proofs.Beside.{Adjacent-beside, beside_within, one_place}
 use Rattle.pls_graph.proofs.Joined.{AreJoined-adjacent, AreJoined-through, AreJoined-turned}
-use Rattle.pls_facts.proofs.Lists.{item_at, passes_any}
+use Rattle.pls_graph.proofs.Finds.{item_at}
+use Rattle.pls_facts.proofs.Lists.{passes_any}
 use Rattle.pls_diameter_bridges.specs.Bridgeless.{IsBridgeless, without}
 use Rattle.pls_diameter_bridges.specs.inner.Crossing.{HasWayRound}
 use Rattle.pls_diameter_bridges.specs.inner.Orientation.{IsStrong, entry_at, is_way_home, is_way_in, leads}

@@ -10,7 +10,7 @@ use Rattle.pls_configuration.specs.declared.row.NodeRow.{NodeRow}
 use Rattle.pls_configuration.specs.Configuration.{IsNetwork}
 use Rattle.pls_configuration.specs.Walk.{IsConnected, edges_of}
 use Rattle.pls_graph.specs.Places.{place_in}
-use Rattle.pls_graph.proofs.Finds.{from_option_map}
+use Rattle.pls_graph.proofs.Finds.{from_option_map, item_at}
 use Rattle.pls_graph.proofs.Joined.{Adjacent-turned}
 use Rattle.pls_graph.proofs.Members.{Contains-from_place, place_from_Contains}
 use Rattle.pls_graph.proofs.Placed.{place_of_row}
@@ -24,7 +24,6 @@ use Rattle.pls_facts.specs.ShortestPath.{IsShortestPathTree}
 use Rattle.pls_facts.specs.SpanningTree.{IsTree}
 use Rattle.pls_facts.specs.Weight.{IsDistance, edge_weight, walk_weight}
 use Rattle.pls_facts.proofs.ChainDepths.{chain_end}
-use Rattle.pls_facts.proofs.Lists.{item_at}
 use Rattle.pls_facts.proofs.NamedPlaces.{place_named}
 use Rattle.pls_facts.proofs.Neighbours.{adjacent_known}
 use Rattle.pls_facts.proofs.Pointed.{IsPointer, IsPointer-pointed_node, id_of_row, points_at, row_from_id}

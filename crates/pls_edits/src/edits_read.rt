@@ -75,7 +75,7 @@ impl<'a> ReadEdits<'a> {
         self.text.rounds()
     }
 
-    /// The number of the line at a place, or of `end` where the place is behind all.
+    /// The number of the line at a place, or of `end` behind the last one.
     pub fn number_of(&self, place: usize) -> u64
         requires { place + 1 < 2 ^ 63 }
         ensures { result ≡ self.now.number + 1 + place }

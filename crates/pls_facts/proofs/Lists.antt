@@ -10,12 +10,6 @@ use Rattle.std.proofs.lemmas.Option.{get_or_from_slice_get, slice_get-get_or, sl
 use Rattle.pls_graph.proofs.Members.{Contains-cons_cases, Contains-filter, Contains-first, Contains-later}
 
 module _ {X : Type 0} where
-  -- a list has an item at each place within
-  pub item_at : (xs : List X) (i : ℕ) → i < length xs → (x : X) × (slice_get xs i ≡ Some x)
-  item_at [] i within = absurd (omega (arith, within))
-  item_at (x ∷ xs) zero within = (x, refl)
-  item_at (x ∷ xs) (suc i) within = item_at xs i (omega (arith, within))
-
   -- a list that is not empty contains its first item
   pub some_item : (xs : List X) → 1 ≤ length xs → (x : X) × Contains xs x
   some_item [] some = absurd (omega (arith, some))

@@ -3,6 +3,7 @@
 ghost use Rattle.std.specs.Prelude.{◌≡◌, ◌≤◌, ◌==◌, position, slice_get, None, Some, IfOk, IfErr, OnOk, OnErr};
 ghost use Rattle.pls_configuration.specs.declared.row.NodeRow.{NodeRow};
 ghost use Rattle.pls_configuration.specs.declared.limits.TheConstants.{MAX_NUM};
+ghost use Rattle.pls_configuration.specs.Configuration.{IsNetwork};
 ghost use Rattle.pls_graph_edits.specs.inner.Ends.{AreEnds};
 ghost use Rattle.pls_graph_edits.specs.Edits.{with_state, state_refusal, fits_state, linked, link_refusal, without_node, leave_refusal, joined, join_refusal, unlinked, edge_refusal, with_weight, SaysEdit};
 
@@ -21,6 +22,7 @@ pub fn set_state(net: &mut Network, id: u32, state: State) -> Result<(), EditErr
     ensures allowed { OnOk result (state_refusal net.old id state ≡ None) }
     ensures refused { IfErr result (λ error. state_refusal net.old id state ≡ Some error) }
     ensures unchanged { OnErr result (net.new ≡ net.old) }
+    ensures was_valid { IsNetwork net.old }
 {
     let Some(i) = net.place_of(id) else {
         return Err(EditError::Absent);
@@ -39,6 +41,7 @@ pub fn set_weight(net: &mut Network, a: u32, b: u32, weight: u32) -> Result<(), 
     ensures allowed { OnOk result (edge_refusal net.old a b ≡ None) }
     ensures refused { IfErr result (λ error. edge_refusal net.old a b ≡ Some error) }
     ensures unchanged { OnErr result (net.new ≡ net.old) }
+    ensures was_valid { IsNetwork net.old }
 {
     let at = edge_at(net, a, b)?;
     shaping::set_weight(&mut net.table, at.i, at.p, weight);
@@ -55,6 +58,7 @@ pub fn link(net: &mut Network, a: u32, b: u32, weight: u32) -> Result<(), EditEr
     ensures allowed { OnOk result (link_refusal net.old a b ≡ None) }
     ensures refused { IfErr result (λ error. SaysEdit (link_refusal net.old a b) error) }
     ensures unchanged { OnErr result (net.new ≡ net.old) }
+    ensures was_valid { IsNetwork net.old }
 {
     let (i, j) = ends_to_link(net, a, b)?;
     let more = net.ports(i).len().saturating_add(net.ports(j).len());
@@ -76,6 +80,7 @@ pub fn unlink(net: &mut Network, a: u32, b: u32) -> Result<(), EditError>
     ensures allowed { OnOk result (edge_refusal net.old a b ≡ None) }
     ensures refused { IfErr result (λ error. edge_refusal net.old a b ≡ Some error) }
     ensures unchanged { OnErr result (net.new ≡ net.old) }
+    ensures was_valid { IsNetwork net.old }
 {
     let at = edge_at(net, a, b)?;
     shaping::remove_port(&mut net.table, at.i, at.p);
@@ -94,6 +99,8 @@ pub fn join(net: &mut Network, id: u32, mark: u32, num: u64) -> Result<(), EditE
     ensures allowed { OnOk result (join_refusal net.old id ≡ None) }
     ensures refused { IfErr result (λ error. SaysEdit (join_refusal net.old id) error) }
     ensures unchanged { OnErr result (net.new ≡ net.old) }
+    ensures was_valid { IsNetwork net.old }
+    ensures valid { OnOk result (IsNetwork net.new) }
 {
     let Some(i) = gap_for(&net.table, id) else {
         return Err(EditError::Present);
@@ -121,6 +128,8 @@ pub fn leave(net: &mut Network, id: u32) -> Result<(), EditError>
     ensures allowed { OnOk result (leave_refusal net.old id ≡ None) }
     ensures refused { IfErr result (λ error. leave_refusal net.old id ≡ Some error) }
     ensures unchanged { OnErr result (net.new ≡ net.old) }
+    ensures was_valid { IsNetwork net.old }
+    ensures valid { OnOk result (IsNetwork net.new) }
 {
     let Some(i) = net.place_of(id) else {
         return Err(EditError::Absent);
@@ -143,6 +152,7 @@ fn ends_to_link(net: &Network, a: u32, b: u32) -> Result<(usize, usize), EditErr
         ≡ Some ends.1) }
     ensures allowed { OnOk result (link_refusal net.now a b ≡ None) }
     ensures refused { IfErr result (λ error. link_refusal net.now a b ≡ Some error) }
+    ensures valid { IsNetwork net.now }
 {
     let Some(i) = net.place_of(a) else {
         return Err(EditError::Absent);
@@ -166,9 +176,8 @@ fn edge_at(net: &Network, a: u32, b: u32) -> Result<EdgeAt, EditError>
     ensures ends { IfOk result (λ at. AreEnds net.now a b at.i at.j at.p at.q) }
     ensures allowed { OnOk result (edge_refusal net.now a b ≡ None) }
     ensures refused { IfErr result (λ error. edge_refusal net.now a b ≡ Some error) }
+    ensures valid { IsNetwork net.now }
 {
-    // A network is valid.
-    net.len();
     let Some(i) = net.place_of(a) else {
         return Err(EditError::Absent);
     };

@@ -155,8 +155,6 @@ fn put_ports<'a, L: Labels>(
         ≡ map (seen_port (label_of net.now (L.listed labels.now))) named.now) }
     ensures small { 8 ≤ ports.old.capacity → length named.now ≤ 8 → IsOk result }
 {
-    // A network is valid.
-    net.len();
     let places = net.places(i);
     let mut p = 0;
     for port in named {

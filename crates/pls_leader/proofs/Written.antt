@@ -4,7 +4,7 @@ use Rattle.std.specs.Option.{option_map}
 use Rattle.std.proofs.lemmas.Option.{get_or_from_slice_get, same_Some, slice_get_within}
 use Rattle.pls_configuration.specs.declared.row.NodeRow.{NodeRow}
 use Rattle.pls_configuration.specs.Configuration.{IsNetwork}
-use Rattle.pls_facts.proofs.Lists.{item_at}
+use Rattle.pls_graph.proofs.Finds.{item_at}
 use Rattle.pls_search.specs.SubtreeSizes.{AreSubtreeSizes}
 use Rattle.pls_leader.specs.Count.{IsCounted, IsParent, count_of, count_says}
 use Rattle.pls_leader.specs.inner.LevelsFrom.{AreLevelsFrom}

@@ -109,7 +109,6 @@ fn label_at(
     ensures { (row : NodeRow) → slice_get net.now place ≡ Some row
         → count_says net.now row result }
 {
-    is_valid(net);
     let (root, _) = net.node(0);
     let (own, _) = net.node(place);
     let parent = match parents[place] {

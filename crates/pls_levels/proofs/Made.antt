@@ -9,7 +9,7 @@ use Rattle.pls_graph.proofs.Ranged.{at_push_cases}
 use Rattle.pls_search.specs.Depths.{AreDepths}
 use Rattle.pls_scheme.specs.Marked.{AreRight}
 use Rattle.pls_facts.specs.OnlyNode.{IsOnly, points_at_none}
-use Rattle.pls_facts.proofs.Lists.{item_at}
+use Rattle.pls_graph.proofs.Finds.{item_at}
 use Rattle.pls_pointer.specs.Tree.{tree_says}
 use Rattle.pls_pointer.specs.inner.Saying.{root_says}
 use Rattle.pls_pointer.proofs.Right.{tree_right}

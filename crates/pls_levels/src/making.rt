@@ -7,7 +7,6 @@ ghost use Rattle.pls_levels.specs.Making.{AreMade, label_from, parent_or_own};
 
 use crate::label::LevelLabel;
 use crate::level_kind::LevelKind;
-use pls_facts::is_valid;
 use pls_graph::Network;
 use pls_streams::NoMemory;
 use std::alloc::Global;
@@ -54,7 +53,6 @@ fn parent_at(net: &Network, place: usize) -> u32
     requires { place < length net.now }
     ensures { (row : NodeRow) → slice_get net.now place ≡ Some row → result ≡ parent_or_own row }
 {
-    is_valid(net);
     let (id, state) = net.node(place);
     match state.up {
         Some(up) => net.ports(place)[up as usize].nbr,

@@ -148,7 +148,7 @@ impl<'a, T: ListTally<'a>> ListText<'a, T> {
 }
 
 impl<'a, T: ListTally<'a>> ListText<'a, T> {
-    /// The number of the line of the item at a place, or of `end` where the place is behind all.
+    /// The number of the line of the item at a place, or of `end` behind the last one.
     pub fn number_of(&self, place: usize) -> u64
         requires { place + 1 < 2 ^ 63 }
         ensures { result ≡ self.now.lines.number + 1 + place }

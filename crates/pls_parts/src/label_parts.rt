@@ -2,10 +2,9 @@
 
 ghost use Rattle.std.specs.Prelude.{◌≡◌, [], drop, map, IfOk};
 ghost use Rattle.std.specs.Option.{option_map_or};
-ghost use Rattle.pls_parts.specs.Parts.{first_part, has_parts, second_part};
-ghost use Rattle.pls_parts.specs.inner.Rounds.{AreTags};
+ghost use Rattle.pls_parts.specs.Parts.{first_part, has_parts, second_part, tag_of};
 
-use crate::narrowing::{is_tagged, parts, tag_of, without_tag};
+use crate::narrowing::{parts, tag_of, without_tag};
 use pls_bits::{Bits, NumCode};
 use pls_labels::{Labels, LentLabels};
 use pls_streams::NoMemory;
@@ -20,17 +19,6 @@ pub struct LabelParts<'a> {
     pub backs: LentLabels<'a>,
     /// Which labels have both.
     pub whole: Vec<bool>,
-}
-
-/// What is known of the tags of the labels of a disjunction.
-#[derive(Drop)]
-pub struct Tags {
-    /// Which labels have a tag.
-    pub tagged: Vec<bool>,
-    /// Which have that of the first part.
-    pub first: Vec<bool>,
-    /// Which have that of the second part.
-    pub second: Vec<bool>,
 }
 
 /// All labels, lent.
@@ -85,24 +73,15 @@ fn parts_or_none<'a>(parts: Option<(Bits<'a>, Bits<'a>)>) -> (Bits<'a>, Bits<'a>
     }
 }
 
-/// The tags of the labels.
-pub fn tags_of(alloc: Global, labels: &LentLabels<'_>) -> Result<Tags, NoMemory>
-    ensures { IfOk result (AreTags labels.now) }
+/// The tag of each label of a disjunction.
+pub fn tags_of(alloc: Global, labels: &LentLabels<'_>) -> Result<Vec<Option<bool>>, NoMemory>
+    ensures { IfOk result (λ tags. tags.items ≡ map tag_of labels.now) }
 {
-    let mut tagged = Vec::with_capacity(alloc, labels.len())?;
-    let mut first = Vec::with_capacity(alloc, labels.len())?;
-    let mut second = Vec::with_capacity(alloc, labels.len())?;
+    let mut tags = Vec::with_capacity(alloc, labels.len())?;
     for i in 0..labels.len() {
-        let bits = labels.bits(i);
-        tagged.push(tag_of(&bits).is_some())?;
-        first.push(is_tagged(false, &bits))?;
-        second.push(is_tagged(true, &bits))?;
+        tags.push(tag_of(&labels.bits(i)))?;
     }
-    Ok(Tags {
-        tagged,
-        first,
-        second,
-    })
+    Ok(tags)
 }
 
 /// What stands behind the first bit of each label, empty where there is nothing.

@@ -20,8 +20,8 @@ mod raising;
 pub use joined::{
     joined_bits, joined_bound, joined_labels, tagged_bits, tagged_bound, tagged_labels,
 };
-pub use label_parts::{LabelParts, Tags, lend_all, part_all, rests_of, tags_of};
+pub use label_parts::{LabelParts, lend_all, part_all, rests_of, tags_of};
 pub use narrowing::{FirstPart, Rest, SecondPart, parts, tag_of};
 pub use part_rules::{lacks_parts, own_tag};
-pub use part_verdicts::{both_verdicts, one_of_verdicts, some_true};
+pub use part_verdicts::{both_verdicts, has_tag, one_of_verdicts};
 pub use raising::verdict_behind;

@@ -1,13 +1,13 @@
 //! Verdicts of combinations by those on their parts.
 
-ghost use Rattle.std.specs.Prelude.{◌≡◌, ◌-◌, ◌↔◌, Bool, List, All, Some, true, false, drop, if◌then◌else◌, length, map, slice_get, unwrap_or, IfOk, IsTrue};
+ghost use Rattle.std.specs.Prelude.{◌≡◌, ◌-◌, ◌↔◌, Bool, List, All, None, Some, true, false, drop, is_some, length, map, slice_get, unwrap_or, IfOk, IsTrue};
 ghost use Rattle.pls_labels.specs.Seen.{Seen};
 ghost use Rattle.pls_scheme.specs.Judging.{LeafWithin, verdicts_by};
 ghost use Rattle.pls_parts.specs.Combined.{judge_both, judge_one_of, verdict_behind};
-ghost use Rattle.pls_parts.specs.Parts.{first_part, has_parts, second_part};
-ghost use Rattle.pls_parts.specs.inner.Rounds.{all_true, AreTags, both_verdict, one_of_verdict, SomeTrue};
+ghost use Rattle.pls_parts.specs.Parts.{first_part, has_parts, is_tag, second_part, tag_of};
+ghost use Rattle.pls_parts.specs.inner.Rounds.{all_tags, all_true, both_verdict, HasTag, one_of_verdict};
 
-use crate::label_parts::Tags;
+use crate::narrowing::is_tag;
 use crate::raising::verdict_behind;
 use pls_bits::NumCode;
 use pls_configuration::Verdict;
@@ -68,67 +68,65 @@ fn both_verdict(own: bool, ports: bool, leaves: u8, first: Verdict, second: Verd
 pub fn one_of_verdicts(
     alloc: Global,
     net: &Network,
-    tags: &Tags,
+    tags: &[Option<bool>],
     leaves: u8,
     firsts: &[Verdict],
     seconds: &[Verdict],
 ) -> Result<Vec<Verdict>, NoMemory>
-    requires tagged { length tags.now.tagged.items ≡ length net.now }
-    requires second { length tags.now.second.items ≡ length net.now }
+    requires each { length tags.now ≡ length net.now }
     requires few { All (LeafWithin (255 - leaves)) seconds.now }
     ensures { IfOk result (λ found. (labels : List (List Bool)) (one two : Seen → Verdict)
-        → length labels ≡ length net.now → AreTags labels tags.now
-        → (SomeTrue tags.now.first.items
-        → firsts.now ≡ verdicts_by one net.now (map (drop 1) labels))
-        → (SomeTrue tags.now.second.items
-        → seconds.now ≡ verdicts_by two net.now (map (drop 1) labels))
+        → length labels ≡ length net.now → tags.now ≡ map tag_of labels
+        → (HasTag false tags.now → firsts.now ≡ verdicts_by one net.now (map (drop 1) labels))
+        → (HasTag true tags.now → seconds.now ≡ verdicts_by two net.now (map (drop 1) labels))
         → found.items ≡ verdicts_by (judge_one_of one leaves two) net.now labels) }
 {
     let mut verdicts = Vec::with_capacity(alloc, net.len())?;
     for i in 0..net.len() {
-        let places = net.places(i);
-        let own = tags.tagged[i];
-        let ports = all_at(&tags.tagged, places);
-        let second = tags.second[i];
-        let same = all_tagged(second, tags, places);
-        let named = named_verdict(second, leaves, firsts, seconds, i);
-        verdicts.push(one_of_verdict(own, ports, same, named))?;
+        let own = tags[i];
+        let named = named_verdict(own, leaves, firsts, seconds, i);
+        verdicts.push(one_of_verdict(tags, net.places(i), named, own))?;
     }
     Ok(verdicts)
 }
 
-// `own` and `ports` tell whether the labels have tags, `same` whether those at the ports equal the
-// own one.
-fn one_of_verdict(own: bool, ports: bool, same: bool, named: Verdict) -> Verdict
-    ensures { result ≡ one_of_verdict own ports same named }
+// `places` are those of the neighbours, and `named` is the verdict of the part that the own tag
+// names.
+fn one_of_verdict(
+    tags: &[Option<bool>],
+    places: &[u32],
+    named: Verdict,
+    own: Option<bool>,
+) -> Verdict
+    ensures { result ≡ one_of_verdict tags.now places.now named own }
 {
-    if !own {
+    let Some(tag) = own else {
         return Verdict::Reject { leaf: 0, rule: 1 };
-    }
-    if !ports {
+    };
+    if !all_tagged(tags, places) {
         return Verdict::Reject { leaf: 0, rule: 2 };
     }
-    if !same {
+    if !all_have_tag(tag, tags, places) {
         return Verdict::Reject { leaf: 0, rule: 3 };
     }
     named
 }
 
-// `second` is the tag; the leaves of the second part follow the `leaves` of the first.
+// The leaves of the second part follow the `leaves` of the first.
 fn named_verdict(
-    second: bool,
+    own: Option<bool>,
     leaves: u8,
     firsts: &[Verdict],
     seconds: &[Verdict],
     i: usize,
 ) -> Verdict
     requires { All (LeafWithin (255 - leaves)) seconds.now }
-    ensures first { second ≡ false → (verdict : Verdict)
+    ensures first { own ≡ Some false → (verdict : Verdict)
         → slice_get firsts.now i ≡ Some verdict → result ≡ verdict }
-    ensures second { second ≡ true → (verdict : Verdict)
+    ensures second { own ≡ Some true → (verdict : Verdict)
         → slice_get seconds.now i ≡ Some verdict → result ≡ verdict_behind leaves verdict }
 {
-    if second {
+    if is_tag(true, own) {
         match seconds.get(i) {
             Some(verdict) => verdict_behind(leaves, *verdict),
             None => Verdict::Reject { leaf: 0, rule: 1 },
@@ -141,15 +139,24 @@ fn named_verdict(
     }
 }
 
-fn all_tagged(second: bool, tags: &Tags, places: &[u32]) -> bool
-    ensures { result ≡ all_true (if second then tags.now.second.items else tags.now.first.items)
-        places.now }
+fn all_tagged(tags: &[Option<bool>], places: &[u32]) -> bool
+    ensures { result ≡ all_tags is_some tags.now places.now }
 {
-    if second {
-        all_at(&tags.second, places)
-    } else {
-        all_at(&tags.first, places)
-    }
+    places.iter().all(|place| tag_at(tags, *place).is_some())
+}
+
+fn all_have_tag(tag: bool, tags: &[Option<bool>], places: &[u32]) -> bool
+    ensures { result ≡ all_tags (is_tag tag) tags.now places.now }
+{
+    places.iter().all(|place| is_tag(tag, tag_at(tags, *place)))
+}
+
+// `None` where the place is out of range.
+#[inline(always)]
+fn tag_at(tags: &[Option<bool>], place: u32) -> Option<bool>
+    ensures { result ≡ unwrap_or (slice_get tags.now place) None }
+{
+    tags.get(place as usize).copied().unwrap_or(None)
 }
 
 fn all_at(marks: &[bool], places: &[u32]) -> bool
@@ -166,9 +173,9 @@ fn is_true_at(marks: &[bool], place: u32) -> bool
     marks.get(place as usize).copied().unwrap_or(false)
 }
 
-/// Whether there is a true one.
-pub fn some_true(marks: &[bool]) -> bool
-    ensures { IsTrue result ↔ SomeTrue marks.now }
+/// Whether some label has this tag.
+pub fn has_tag(tag: bool, tags: &[Option<bool>]) -> bool
+    ensures { IsTrue result ↔ HasTag tag tags.now }
 {
-    !marks.iter().all(|mark| !*mark)
+    !tags.iter().all(|found| !is_tag(tag, *found))
 }

@@ -3,7 +3,7 @@ use Rattle.std.proofs.Common.{◌≡◌, ◌∙◌, ℕ, ◌+◌, ◌≤◌, inl
 use Rattle.std.proofs.lemmas.Bool.{cases_lt}
 use Rattle.std.proofs.lemmas.List.{drop-drop, drop_more, get_or-drop, length-drop}
 use Rattle.std.proofs.lemmas.Option.{get_or_from_slice_get, slice_get-get_or, slice_get_past, slice_get_within}
-use Rattle.pls_facts.proofs.Lists.{item_at}
+use Rattle.pls_graph.proofs.Finds.{item_at}
 
 -- what stands at a place behind the first items
 pub slice_get-behind : {X : Type 0} (xs : List X) (n k : ℕ)

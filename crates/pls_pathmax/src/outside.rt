@@ -15,7 +15,6 @@ use crate::comparing::meet_lightly;
 use crate::levels::PathMaxLabel;
 use pls_centroid::CentroidList;
 use pls_configuration::{Port, State};
-use pls_facts::is_valid;
 use pls_graph::Network;
 use pls_levels::is_in_tree;
 
@@ -40,7 +39,6 @@ fn are_heavy_at(net: &Network, labels: &[PathMaxLabel], i: usize) -> bool
     ensures { (say : ℕ → PathMaxLabel) → AreSaidBy say net.now labels.now → (row : NodeRow)
         → slice_get net.now i ≡ Some row → result ≡ other_edges_are_heavy (read_where say row) }
 {
-    is_valid(net);
     let (_, state) = net.node(i);
     are_heavy(net, labels, state, &labels[i], net.ports(i), net.places(i))
 }

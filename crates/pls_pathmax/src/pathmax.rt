@@ -15,7 +15,6 @@ use crate::levels::PathMaxFormat;
 use crate::pass::PathMaxPass;
 use pls_bits::{Bits, NumCode};
 use pls_configuration::Verdict;
-use pls_facts::is_valid;
 use pls_graph::Network;
 use pls_labels::{Labels, View};
 use pls_levels::{LevelHead, read_head};
@@ -102,7 +101,6 @@ fn have_further_ways<C: NumCode>(view: &View<'_>, count: u64) -> bool
 pub(crate) fn are_short<C: NumCode, L: Labels>(net: &Network, labels: &L) -> bool
     requires { length (L.listed labels.now) ≡ length net.now }
 {
-    is_valid(net);
     count_of::<C>(&labels.bits(net.len() / 2)) <= SHORT_FRONT as u64
 }
 

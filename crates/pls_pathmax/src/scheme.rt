@@ -12,7 +12,6 @@ use crate::levels::{PathMaxFormat, PathMaxLabel};
 use crate::pathmax::{PathMaxRules, are_short, judge_view, pass_from};
 use pls_bits::{BitBuf, Bits, NumCode};
 use pls_configuration::Verdict;
-use pls_facts::is_valid;
 use pls_graph::{Network, Size};
 use pls_labels::{LabelStore, Labels, View};
 use pls_numbers::{Format, recode};
@@ -202,8 +201,7 @@ impl<C: NumCode> Scheme for PathMax<C> {
     }
 
     fn mark(&self, alloc: Global, net: &Network) -> Result<Option<LabelStore>, NoMemory> {
-        is_valid(net);
-        // So its identities, weights and marks are numbers of 32 bits.
+        // Its identities, weights and marks are numbers of 32 bits.
         net.size();
         let Some(said) = self.rules.right_labels(alloc, net)? else {
             return Ok(None);

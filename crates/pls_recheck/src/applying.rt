@@ -65,7 +65,6 @@ impl EditedNetwork {
         ensures current { OnOk result ((judge : Seen → Verdict)
             → IsCurrent judge self.old → IsCurrent judge self.new) }
     {
-        self.net.len();
         set_state(&mut self.net, id, state)?;
         touch(&self.net, id, &mut self.flags);
         Ok(())
@@ -80,7 +79,6 @@ impl EditedNetwork {
         ensures current { OnOk result ((judge : Seen → Verdict)
             → IsCurrent judge self.old → IsCurrent judge self.new) }
     {
-        self.net.len();
         set_weight(&mut self.net, a, b, weight)?;
         touch_ends(&self.net, a, b, &mut self.flags);
         Ok(())
@@ -95,7 +93,6 @@ impl EditedNetwork {
         ensures current { OnOk result ((judge : Seen → Verdict)
             → IsCurrent judge self.old → IsCurrent judge self.new) }
     {
-        self.net.len();
         link(&mut self.net, a, b, weight)?;
         unsettle_ends(&self.net, a, b, &mut self.flags, &mut self.around);
         Ok(())
@@ -110,7 +107,6 @@ impl EditedNetwork {
         ensures current { OnOk result ((judge : Seen → Verdict)
             → IsCurrent judge self.old → IsCurrent judge self.new) }
     {
-        self.net.len();
         unlink(&mut self.net, a, b)?;
         unsettle_ends(&self.net, a, b, &mut self.flags, &mut self.around);
         Ok(())
@@ -132,8 +128,6 @@ fn touch(net: &Network, id: u32, flags: &mut Vec<bool>)
     ensures valid { IsNetwork net.now }
     ensures touched { MarksMore (λ node. id == node) net.now flags.old.items flags.new.items }
 {
-    // A network is valid.
-    net.len();
     if let Some(i) = net.place_of(id) {
         flags[i] = true;
     }
@@ -161,8 +155,6 @@ fn unsettle(net: &Network, id: u32, flags: &mut Vec<bool>, around: &mut Vec<bool
     ensures touched { MarksMore (λ node. id == node) net.now flags.old.items flags.new.items }
     ensures cleared { ClearsSome (λ node. id == node) net.now around.old.items around.new.items }
 {
-    // A network is valid.
-    net.len();
     if let Some(i) = net.place_of(id) {
         flags[i] = true;
         around[i] = false;

@@ -8,6 +8,7 @@ ghost use Rattle.pls_recheck.specs.Snapshot.{IsCurrent};
 ghost use Rattle.pls_recheck.specs.inner.Flags.{set_among};
 
 use pls_configuration::Verdict;
+use pls_facts::is_valid;
 use pls_graph::Network;
 use pls_graph_edits::note_places;
 use pls_labels::LabelStore;
@@ -107,8 +108,7 @@ impl EditedNetwork {
     pub fn touched_count(&self) -> u32
         ensures { result ≡ length self.now.touched }
     {
-        // There are few nodes.
-        self.net.len();
+        is_valid(&self.net);
         count_set(self.flags.as_slice()) as u32
     }
 }

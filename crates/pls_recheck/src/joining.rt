@@ -56,12 +56,10 @@ impl EditedNetwork {
         ensures current { OnOk result ((judge : Seen → Verdict)
             → IsCurrent judge self.old → IsCurrent judge self.new) }
     {
-        self.net.len();
         let Some(i) = self.net.place_of(id) else {
             return Err(EditError::Absent);
         };
         leave(&mut self.net, id)?;
-        self.net.len();
         self.labels.remove(i);
         self.flags.remove(i);
         self.around.remove(i);
@@ -90,9 +88,7 @@ fn join_with_label(
     ensures unchanged { OnErr result (net.new ≡ net.old) }
     ensures as_labelled { OnErr result (labels.new ≡ labels.old) }
 {
-    net.len();
     join(net, id, mark, num)?;
-    net.len();
     let i = net.place_of(id).unwrap();
     if labels.insert(i).is_err() {
         take_back(net, id);

@@ -35,7 +35,6 @@ impl EditedNetwork {
         ensures current { OnOk result ((judge : Seen → Verdict)
             → IsCurrent judge self.old → IsCurrent judge self.new) }
     {
-        self.net.len();
         let Some(i) = self.net.place_of(id) else {
             return Err(EditError::Absent);
         };
@@ -76,8 +75,6 @@ fn touch_around(net: &Network, i: usize, flags: &mut Vec<bool>, around: &mut Vec
         → MarksMore (beside_itself row) net.now flags.old.items flags.new.items }
     ensures around { AreAround net.now flags.new.items around.new.items }
 {
-    // A network is valid.
-    net.len();
     if around[i] {
         return;
     }

@@ -13,6 +13,7 @@ use crate::asks::{Asks, ByView};
 use crate::edited_network::EditedNetwork;
 use crate::judge::Judge;
 use pls_configuration::Verdict;
+use pls_facts::is_valid;
 use pls_graph::Network;
 use pls_labels::{LabelStore, View};
 use pls_streams::{NoMemory, Steps};
@@ -70,8 +71,7 @@ impl EditedNetwork {
         ensures refused { OnErr result (EndsEarly self.old.touched self.new.touched
             (A.spent asks.now counter.old) (A.spent asks.now counter.new) steps.old steps.new) }
     {
-        // A network is valid.
-        self.net.len();
+        is_valid(&self.net);
         forget_all(&mut self.around);
         judge_flagged(
             alloc,

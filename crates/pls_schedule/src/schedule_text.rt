@@ -84,7 +84,7 @@ impl<'a> ScheduleText<'a> {
         self.part.kept.items
     }
 
-    /// The number of the line of the event at a place, or of `end` where the place is behind all.
+    /// The number of the line of the event at a place, or of `end` behind the last one.
     pub fn number_of(&self, place: usize) -> u64
         requires { place + 1 < 2 ^ 63 }
         ensures { result ≡ self.now.number + 1 + place }

@@ -9,9 +9,8 @@ use Rattle.pls_configuration.specs.declared.row.NodeRow.{NodeRow}
 use Rattle.pls_configuration.specs.Configuration.{IsNetwork}
 use Rattle.pls_graph.specs.Places.{beside}
 use Rattle.pls_graph.proofs.Beside.{beside_many, beside_port}
-use Rattle.pls_graph.proofs.Finds.{from_option_map}
+use Rattle.pls_graph.proofs.Finds.{from_option_map, item_at}
 use Rattle.pls_graph.proofs.Placed.{pointer_within}
-use Rattle.pls_facts.proofs.Lists.{item_at}
 use Rattle.pls_labels.specs.Seen.{Seen, SeenPort, label_of, seen_port, views}
 use Rattle.pls_labels.proofs.Views.{label_at, port_at, view_by_parts}
 use Rattle.pls_scheme.specs.inner.Looks.{AreLooked, kept_at_port, seen_above, seen_in}

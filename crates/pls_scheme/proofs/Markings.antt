@@ -14,7 +14,7 @@ use Rattle.pls_scheme.specs.Marked.{AreRight, IsMarkedBy}
 use Rattle.pls_scheme.specs.Reading.{Read, judge_by, read_where}
 use Rattle.pls_scheme.specs.Spelled.{AreSpelled}
 use Rattle.pls_scheme.specs.laws.Saying.{said_accepted}
-use Rattle.pls_facts.proofs.Lists.{item_at}
+use Rattle.pls_graph.proofs.Finds.{item_at}
 
 module _ {L : Type 0} (spells : List Bool → L → Type 0) (says : NodeRow → L → Type 0)
     (rows : List NodeRow) where

@@ -16,7 +16,6 @@ use crate::scheme::Scheme;
 use crate::view_judged::judge_view;
 use pls_bits::{BitBuf, Bits, NumCode};
 use pls_configuration::Verdict;
-use pls_facts::is_valid;
 use pls_graph::{Network, Size};
 use pls_labels::{LabelStore, Labels, View};
 use pls_numbers::{Format, recode};
@@ -161,8 +160,7 @@ impl<R: JudgesInPlace + Marker> Scheme for Basic<R> {
     }
 
     fn mark(&self, alloc: Global, net: &Network) -> Result<Option<LabelStore>, NoMemory> {
-        is_valid(net);
-        // So its identities, weights and marks are numbers of 32 bits.
+        // Its identities, weights and marks are numbers of 32 bits.
         net.size();
         let Some(said) = self.rules.right_labels(alloc, net)? else {
             return Ok(None);

@@ -48,7 +48,6 @@ fn verdict_at<R: Rules>(
         → (row : NodeRow) → slice_get net.now i ≡ Some row
         → result ≡ judged_from 3 (R.rules rules.now (read_where say row)) }
 {
-    is_valid(net);
     let (id, state) = net.node(i);
     let places = net.places(i);
     let own = &labels[i];

@@ -7,6 +7,7 @@ ghost use Rattle.pls_splice.specs.Ring.{IsRingOrder};
 
 use crate::finding::Pair;
 use crate::ring::Ring;
+use pls_facts::is_valid;
 use pls_graph::{Network, NetworkBuilder, Port};
 use pls_labels::LabelStore;
 use pls_streams::NoMemory;
@@ -39,8 +40,7 @@ pub fn cross(
     requires pair { IsPair net.now labels.now ring.now pair.first pair.second }
     ensures { IfOk result (λ made. made ≡ crossed_rows net.now ring.now pair.first pair.second) }
 {
-    // A network is valid.
-    net.len();
+    is_valid(net);
     let ends = ends_of(ring, net, pair);
     let rows = crossed_rows(alloc, net, ends)?;
     match rows.build(alloc) {

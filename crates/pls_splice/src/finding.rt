@@ -8,6 +8,7 @@ ghost use Rattle.pls_splice.specs.inner.Keys.{edge_key};
 
 use crate::edge_key::edge_key;
 use crate::ring::Ring;
+use pls_facts::is_valid;
 use pls_graph::Network;
 use pls_labels::LabelStore;
 use pls_streams::NoMemory;
@@ -39,8 +40,7 @@ pub fn find_pair(
     ensures pair { IfOk result (λ found. IfSome found
         (λ pair. IsFirstPair net.now labels.now ring.now pair.first pair.second)) }
 {
-    // A network is valid.
-    net.len();
+    is_valid(net);
     let count = ring.order().len();
     let tails = count.saturating_sub(3);
     // For each key the first edge that has it, of those at least 3 behind the edge at hand.

@@ -34,8 +34,6 @@ impl Ring {
         ensures ok { IfOk result (λ ring. IsRingOrder net.now ring) }
         ensures refused { IfErr result (λ error. SaysNoRing net.now error) }
     {
-        // A network is valid.
-        net.len();
         if let Some(id) = first_without_two(net) {
             return Err(RingError::NotRing(id));
         }

@@ -1,6 +1,6 @@
 -- Two nodes that are there, with room for their ports, are not linked only where they are one or
 -- are linked already; and a pointer to port 0 is allowed where there is one.
-use Rattle.std.proofs.Common.{◌≡◌, ◌∙◌, ℕ, ◌+◌, ◌≤◌, ◌-◌, ◌⊎◌, inl, inr, Bool, true, false, not, cond, ◌==◌, nat_lt, List, [], ◌∷◌, length, Contains, Option, Some, None, refl, sym, arith}
+use Rattle.std.proofs.Common.{◌≡◌, ◌∙◌, ℕ, ◌+◌, ◌≤◌, ◌-◌, ◌⊎◌, inl, inr, Bool, true, false, not, cond, ◌||◌, ◌==◌, if◌then◌else◌, nat_lt, List, [], ◌∷◌, length, Contains, Option, Some, None, refl, sym, arith}
 use Rattle.std.specs.Option.{is_none, option_map_or}
 use Rattle.std.proofs.lemmas.Bool.{eqb-false, le-ltb}
 use Rattle.std.proofs.lemmas.Option.{same_Some}
@@ -9,9 +9,9 @@ use Rattle.pls_configuration.specs.declared.row.NodeRow.{NodeRow}
 use Rattle.pls_configuration.specs.Configuration.{first_of, ids_of, ports_in, row_of, refused_if}
 use Rattle.pls_graph_edits.specs.declared.edit_error.EditError.{EditError}
 use Rattle.pls_graph_edits.specs.declared.edit_error.EditError.TheVariants.{Absent, Full, HasPorts, Last, NoMemory, Pointer, Present, SelfLink}
-use Rattle.pls_graph_edits.specs.Edits.{SaysEdit, are_linked, fits_state, is_absent, link_refusal, state_refusal}
+use Rattle.pls_graph_edits.specs.Edits.{SaysEdit, are_linked, fits_state, is_absent, link_refusal, linked, state_refusal}
 use Rattle.pls_graph.proofs.Members.{Contains-cons_cases}
-use Rattle.pls_trial.specs.Generator.{at_port_0}
+use Rattle.pls_trial.specs.Generator.{at_port_0, with_link}
 use Rattle.pls_trial.specs.inner.Building.{has_port}
 
 -- a node with this identity is there
@@ -65,6 +65,17 @@ module _ (rows : List NodeRow) (a b : ℕ) (a_in : Contains (ids_of rows) a)
           → (error ≡ SelfLink) ⊎ (error ≡ Present)
       by true linked' e = inl (sym (same_Some SelfLink error e))
       by false true e = inr (sym (same_Some Present error e))
+      by false false e = absurd (cc)
+
+  -- a link that is refused is none that would be put
+  pub not_put : (error : EditError) → link_refusal rows a b ≡ Some error → (weight : ℕ)
+      → with_link rows (record { a = a; b = b; weight = weight }) ≡ rows
+  not_put error some weight = by (a == b) (are_linked rows a b) (sym refusal ∙ some)
+    where
+      by : (same linked' : Bool) → causes same linked' ≡ Some error
+          → (if same || linked' then rows else linked rows a b weight) ≡ rows
+      by true linked' e = refl
+      by false true e = refl
       by false false e = absurd (cc)
 
 -- a node that has a port may point at port 0

@@ -5,4 +5,5 @@
 mod draws;
 mod trial;
 
+pub use draws::MAX_SEED;
 pub use trial::trial_network;

@@ -3,7 +3,8 @@
 ghost use Rattle.std.specs.Prelude.{◌≡◌, ◌≤◌, ◌+◌, ◌-◌, ◌*◌, ℕ, true, map, fold, Contains, IfOk, OnOk};
 ghost use Rattle.std.specs.List.{range_with_len};
 ghost use Rattle.pls_configuration.specs.Configuration.{ids_of, ports_in};
-ghost use Rattle.pls_configuration.specs.declared.limits.TheConstants.{MAX_PORTS};
+ghost use Rattle.pls_configuration.specs.declared.limits.TheConstants.{MAX_NODES, MAX_PORTS};
+ghost use Rattle.pls_trial.specs.declared.draws.TheConstants.{MAX_SEED};
 ghost use Rattle.pls_configuration.specs.Walk.{IsConnected};
 ghost use Rattle.pls_facts.specs.MinimumSpanningTree.{IsMinimumSpanningTree};
 ghost use Rattle.pls_trial.specs.Generator.{draw, nodes_alone, other_links, pointing, tree_links, trial_of, with_link};
@@ -11,18 +12,19 @@ ghost use Rattle.pls_trial.specs.inner.Building.{AreReady, has_port};
 
 use crate::draws::Draws;
 use pls_configuration::{BuildError, State};
+use pls_facts::is_valid;
 use pls_graph::{Network, NetworkBuilder};
 use pls_graph_edits::{EditError, link, set_state};
 use pls_streams::NoMemory;
 use std::alloc::Global;
 
-/// The network of so many nodes, 1 to 32768, that is made from a seed, 1 to 2147483646. Its nodes
-/// are 1 and so on; node 1 is the root of a tree of pointers whose edges have random weights below
-/// 1000, and all other edges, at most as many as there are nodes, weigh 999 or more. Each
+/// The network of so many nodes, 1 to `MAX_NODES`, that is made from a seed, 1 to `MAX_SEED`. Its
+/// nodes are 1 and so on; node 1 is the root of a tree of pointers whose edges have random weights
+/// below 1000, and all other edges, at most as many as there are nodes, weigh 999 or more. Each
 /// edge costs about the degrees of its ends. The one error is want of memory.
 pub fn trial_network(alloc: Global, nodes: u32, seed: u32) -> Result<Network, NoMemory>
-    requires nodes { (1 ≤ nodes) × (nodes ≤ 32768) }
-    requires seed { (1 ≤ seed) × (seed ≤ 2147483646) }
+    requires nodes { (1 ≤ nodes) × (nodes ≤ MAX_NODES) }
+    requires seed { (1 ≤ seed) × (seed ≤ MAX_SEED) }
     ensures network { IfOk result (λ net. net ≡ trial_of nodes seed) }
     ensures connected { IfOk result (λ net. IsConnected net) }
     ensures lightest { IfOk result (λ net. IsMinimumSpanningTree net) }
@@ -32,14 +34,13 @@ pub fn trial_network(alloc: Global, nodes: u32, seed: u32) -> Result<Network, No
     put_tree(&mut net, &mut draws, nodes)?;
     put_others(&mut net, &mut draws, nodes)?;
     point(&mut net, nodes);
-    // A network is valid.
-    net.len();
+    is_valid(&net);
     Ok(net)
 }
 
 // Nodes 1 to `nodes`, without ports.
 fn nodes_alone(alloc: Global, nodes: u32) -> Result<Network, NoMemory>
-    requires { (1 ≤ nodes) × (nodes ≤ 32768) }
+    requires { (1 ≤ nodes) × (nodes ≤ MAX_NODES) }
     ensures { IfOk result (λ net. net ≡ nodes_alone nodes) }
 {
     let room = nodes as usize;

@@ -11,7 +11,6 @@ ghost use Rattle.pls_universal.specs.Map.{map_of, numbers_of_map};
 ghost use Rattle.pls_universal.specs.Reading.{map_label_with, map_shape};
 
 use pls_bits::NumCode;
-use pls_facts::is_valid;
 use pls_graph::{Network, Size};
 use pls_scheme::codes_length;
 
@@ -46,7 +45,6 @@ pub fn maps_are_short<C: NumCode>(net: &Network)
         → IsSpelled map_shape C.code bits (map_label_with row.id (map_of net.now))
         → length bits ≤ longest_map C.code (size_of net.now) }
 {
-    is_valid(net);
-    // So its identities, weights and marks are numbers of 32 bits.
+    // Its identities, weights and marks are numbers of 32 bits.
     net.size();
 }

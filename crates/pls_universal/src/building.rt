@@ -32,7 +32,6 @@ pub(crate) fn network_of(alloc: Global, rows: &[MapRow]) -> Result<Option<Networ
 fn if_connected(alloc: Global, net: Network) -> Result<Option<Network>, NoMemory>
     ensures { IfOk result (λ found. found ≡ (if is_joined net then Some net else None)) }
 {
-    net.len();
     match node_apart(alloc, &net)? {
         Some(_) => Ok(None),
         None => Ok(Some(net)),

@@ -60,28 +60,19 @@ impl DecidedMaps {
         Ok(number)
     }
 
-    // Looks at the last map first, so that nothing is looked up where all labels have one map.
+    // `words` are those of the map.
     fn seek<C: NumCode, L: Labels>(
         &self,
-        alloc: Global,
         labels: &L,
+        words: &[u64],
         map: &Bits<'_>,
-    ) -> Result<Option<usize>, NoMemory>
+    ) -> Option<usize>
         requires { All (λ map. map.place < length (L.listed labels.now)) self.now.maps.items }
-        ensures { IfOk result (λ found. IfSome found
-            (IsNumberOfMap C.takes (L.listed labels.now) self.now map.now)) }
+        ensures { IfSome result (IsNumberOfMap C.takes (L.listed labels.now) self.now map.now) }
     {
-        let last = self.maps.len().saturating_sub(1);
-        if self.is_number::<C, L>(labels, last, map) {
-            return Ok(Some(last));
-        }
-        let words = words_of(alloc, map)?;
-        if let Some(number) = self.numbers.get(words.as_slice()) {
-            if self.is_number::<C, L>(labels, *number, map) {
-                return Ok(Some(*number));
-            }
-        }
-        Ok(None)
+        let number = *self.numbers.get(words)?;
+        self.is_number::<C, L>(labels, number, map)
+            .then_some(number)
     }
 
     // False where no map has this number.
@@ -97,6 +88,7 @@ impl DecidedMaps {
     }
 
     // `label` stands at place `i`. `None` where it cannot be read; a new map is read and decided.
+    // The last map is looked at first, so that nothing is copied where all labels have one map.
     fn number_of<P: PropertyTest, C: NumCode, L: Labels>(
         &mut self,
         alloc: Global,
@@ -117,14 +109,18 @@ impl DecidedMaps {
         let Some((_, map)) = parts::<C>(label) else {
             return Ok(None);
         };
-        if let Some(known) = self.seek::<C, L>(alloc, labels, &map)? {
+        let last = self.maps.len().saturating_sub(1);
+        if self.is_number::<C, L>(labels, last, &map) {
+            return Ok(Some(last));
+        }
+        let words = words_of(alloc, &map)?;
+        if let Some(known) = self.seek::<C, L>(labels, &words, &map) {
             return Ok(Some(known));
         }
         let Some(read) = MapFormat.read::<C>(alloc, label)? else {
             return Ok(None);
         };
         let stated = stated_by(alloc, property, read.rows.as_slice())?;
-        let words = words_of(alloc, &map)?;
         let number = self.put(words, DecidedMap { place: i, stated })?;
         Ok(Some(number))
     }

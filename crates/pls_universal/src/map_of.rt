@@ -118,7 +118,6 @@ impl<P: PropertyTest, C: NumCode> Checker for MapOf<P, C> {
         labels: &L,
         steps: &mut Steps,
     ) -> Result<Vec<Verdict>, NoMemory> {
-        is_valid(net);
         let mut decided = DecidedMaps::new(alloc);
         let mut verdicts = Vec::with_capacity(alloc, net.len())?;
         for i in 0..net.len() {
@@ -189,8 +188,7 @@ impl<P: PropertyTest, C: NumCode> Scheme for MapOf<P, C> {
     }
 
     fn mark(&self, alloc: Global, net: &Network) -> Result<Option<LabelStore>, NoMemory> {
-        is_valid(net);
-        // So its identities, weights and marks are numbers of 32 bits.
+        // Its identities, weights and marks are numbers of 32 bits.
         net.size();
         maps_are_short::<C>(net);
         if !self.property.decide(alloc, net)? {

@@ -39,8 +39,7 @@ pub trait PropertyTest: Property {
         ensures { (say : ℕ → MapLabel) → AreRightEverywhere (map_says net.now) net.now say
             → HoldEverywhere (map_rules (test self.now)) net.now say }
     {
-        is_valid(net);
-        // So its identities, weights and marks are numbers of 32 bits.
+        // Its identities, weights and marks are numbers of 32 bits.
         net.size();
     }
 

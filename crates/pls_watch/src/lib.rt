@@ -12,6 +12,7 @@
 mod change;
 mod giving;
 mod known_labels;
+mod label_version;
 mod lookout;
 mod looks;
 mod port_state;

@@ -174,7 +174,7 @@ impl<'n> Watch<'n> {
                 PortState::Fresh => {}
             }
         }
-        table[i] = self.versions.newest(i).1;
+        table[i] = self.versions.newest(i).label;
         Ok((
             PortNumbers::from_buffer(unheard),
             PortNumbers::from_buffer(stale),
@@ -196,11 +196,11 @@ impl<'n> Watch<'n> {
             → slice_get row.ports port ≡ Some at
             → IsPortState self.now.network (turns_of self.now.events) row.id at.nbr result }
     {
-        let Some((version, number)) = self.versions.held_version(i, port) else {
+        let Some(held) = self.versions.held_version(i, port) else {
             return PortState::Unheard;
         };
-        table[self.net.places(i)[port] as usize] = number;
-        PortState::of(version, self.versions.newest_beside(i, port))
+        table[self.net.places(i)[port] as usize] = held.label;
+        PortState::of(held.version, self.versions.newest_beside(i, port))
     }
 
     // Only for a node that has heard at all ports.

@@ -3,22 +3,16 @@
 ghost use Rattle.std.specs.Prelude.{◌≡◌, ◌<◌, ◌≤◌, ◌^◌, ◌++◌, ◌∷◌, [], length, replicate, slice_index_or, slice_set, IfOk};
 ghost use Rattle.pls_watch.specs.inner.Numbers.{ArePlaces};
 
+use crate::label_version::LabelVersion;
 use pls_streams::NoMemory;
 use std::alloc::Global;
 use std::marker::Model;
-
-// A version of a label, and the number of that label.
-#[derive(Clone, Copy, Debug, PartialEq, Eq)]
-struct Version {
-    version: u32,
-    label: u32,
-}
 
 /// Versions of labels with the numbers of these labels, side by side, so that one place of memory
 /// has both. Seen as the list of the versions, that of the numbers, and for how many there is room.
 #[derive(Drop)]
 pub(crate) struct VersionList {
-    items: Vec<Version>,
+    items: Vec<LabelVersion>,
 }
 
 impl Model for VersionList {
@@ -51,7 +45,7 @@ impl VersionList {
         ensures versions { IfOk result (λ list. list.versions ≡ replicate count 0) }
         ensures labels { IfOk result (λ list. length list.labels ≡ count) }
     {
-        let none = Version {
+        let none = LabelVersion {
             version: 0,
             label: 0,
         };
@@ -68,7 +62,7 @@ impl VersionList {
     {
         let mut items = Vec::with_capacity(alloc, count)?;
         for place in 0..count {
-            items.push(Version {
+            items.push(LabelVersion {
                 version: 0,
                 label: place as u32,
             })?;
@@ -82,36 +76,35 @@ impl VersionList {
         self.items.len()
     }
 
-    /// The version at a place, and the number of its label.
+    /// The version at a place.
     #[inline(always)]
-    pub(crate) fn get(&self, place: usize) -> (u32, u32)
+    pub(crate) fn get(&self, place: usize) -> LabelVersion
         requires { place < length self.now.versions }
-        ensures version { result.0 ≡ slice_index_or self.now.versions place result.0 }
-        ensures label { result.1 ≡ slice_index_or self.now.labels place result.1 }
+        ensures version { result.version ≡ slice_index_or self.now.versions place result.version }
+        ensures label { result.label ≡ slice_index_or self.now.labels place result.label }
     {
-        let Version { version, label } = self.items[place];
-        (version, label)
+        self.items[place]
     }
 
-    /// Puts another version and the number of its label at a place.
+    /// Puts another version at a place.
     #[inline(always)]
-    pub(crate) fn set(&mut self, place: usize, version: u32, label: u32)
+    pub(crate) fn set(&mut self, place: usize, item: LabelVersion)
         requires { place < length self.old.versions }
-        ensures versions { self.new.versions ≡ slice_set self.old.versions place version }
-        ensures labels { self.new.labels ≡ slice_set self.old.labels place label }
+        ensures versions { self.new.versions ≡ slice_set self.old.versions place item.version }
+        ensures labels { self.new.labels ≡ slice_set self.old.labels place item.label }
         ensures room { self.new.room ≡ self.old.room }
     {
-        self.items[place] = Version { version, label };
+        self.items[place] = item;
     }
 
-    /// Puts a version and the number of its label behind the others, where there is room.
+    /// Puts a version behind the others, where there is room.
     #[inline(always)]
-    pub(crate) fn push_reserved(&mut self, version: u32, label: u32)
+    pub(crate) fn push_reserved(&mut self, item: LabelVersion)
         requires { length self.old.versions < self.old.room }
-        ensures versions { self.new.versions ≡ self.old.versions ++ version ∷ [] }
-        ensures labels { self.new.labels ≡ self.old.labels ++ label ∷ [] }
+        ensures versions { self.new.versions ≡ self.old.versions ++ item.version ∷ [] }
+        ensures labels { self.new.labels ≡ self.old.labels ++ item.label ∷ [] }
         ensures room { self.new.room ≡ self.old.room }
     {
-        self.items.push_reserved(Version { version, label });
+        self.items.push_reserved(item);
     }
 }

@@ -14,6 +14,7 @@ ghost use Rattle.pls_watch.specs.inner.Held.{HoldAsBefore};
 ghost use Rattle.pls_watch.specs.inner.Numbers.{IsLabel, IsOneOf};
 
 use crate::giving::Giving;
+use crate::label_version::LabelVersion;
 use crate::turn::Turn;
 use crate::version_list::VersionList;
 use pls_graph::Network;
@@ -140,8 +141,7 @@ impl<'n> Versions<'n> {
             return Err(EventError::NoNode);
         };
         self.sim.emit_at(from, node, port)?;
-        let (version, label) = self.newest.get(from);
-        self.carried.push_reserved(version, label);
+        self.carried.push_reserved(self.newest.get(from));
         Ok(None)
     }
 
@@ -164,14 +164,18 @@ impl<'n> Versions<'n> {
             return Err(EventError::NoEmit);
         }
         let place = number as usize - 1;
-        let (at, to) = self.sim.arrives_at(number);
+        let target = self.sim.arrives_at(number);
+        let (at, to) = (target.port as usize, target.place as usize);
         let heard = self.sim.heard_at(to, at);
         self.sim.step(Event::Arrive(number))?;
-        let (old, old_label) = self.held.get(at);
-        let (came, came_label) = self.carried.get(place);
-        let changed = if heard && came <= old { None } else { Some(to) };
-        let (version, label) = later(heard, (old, old_label), (came, came_label));
-        self.held.set(at, version, label);
+        let old = self.held.get(at);
+        let came = self.carried.get(place);
+        let changed = if heard && came.version <= old.version {
+            None
+        } else {
+            Some(to)
+        };
+        self.held.set(at, later(heard, old, came));
         Ok(changed)
     }
 
@@ -211,24 +215,30 @@ impl<'n> Versions<'n> {
             return Err(EventError::NoNode);
         };
         let number = self.net.len() + self.givings.len();
-        let (version, label) = self.newest.get(place);
+        let newest = self.newest.get(place);
         let behind = self.sim.len() as u32;
         self.givings.push_reserved(Giving {
             node,
             behind,
-            earlier: label,
+            earlier: newest.label,
         });
-        self.newest.set(place, version + 1, number as u32);
+        self.newest.set(
+            place,
+            LabelVersion {
+                version: newest.version + 1,
+                label: number as u32,
+            },
+        );
         Ok(Some(place))
     }
 
-    /// The newest version of the label of the node at place `i`, and the number of that label.
-    pub(crate) fn newest(&self, i: usize) -> (u32, u32)
+    /// The newest version of the label of the node at place `i`.
+    pub(crate) fn newest(&self, i: usize) -> LabelVersion
         requires { i < length self.now.network }
         ensures version { (row : NodeRow) → slice_get self.now.network i ≡ Some row
-            → result.0 ≡ newest self.now.turns row.id }
+            → result.version ≡ newest self.now.turns row.id }
         ensures label { (row : NodeRow) → slice_get self.now.network i ≡ Some row
-            → IsLabel self.now.network self.now.turns row.id result.0 result.1 }
+            → IsLabel self.now.network self.now.turns row.id result.version result.label }
     {
         self.newest.get(i)
     }
@@ -241,19 +251,19 @@ impl<'n> Versions<'n> {
         let _ = self.givings.len();
     }
 
-    /// What the node at place `i` holds at its port of this number: the version of the neighbour's
-    /// label, and the number of that label; `None` where it has not heard there.
+    /// The version of the neighbour's label that the node at place `i` holds at its port of this
+    /// number; `None` where it has not heard there.
     #[inline(always)]
-    pub(crate) fn held_version(&self, i: usize, port: usize) -> Option<(u32, u32)>
+    pub(crate) fn held_version(&self, i: usize, port: usize) -> Option<LabelVersion>
         requires place { i < length self.now.network }
         requires port { IfSome (slice_get self.now.network i) (λ row. port < length row.ports) }
         ensures version { (row : NodeRow) (at : Port) → slice_get self.now.network i ≡ Some row
             → slice_get row.ports port ≡ Some at
-            → option_map (λ label. label.0) result
+            → option_map (λ label. label.version) result
             ≡ held self.now.network self.now.turns row.id at.nbr }
         ensures label { IfSome result (λ label. (row : NodeRow) (at : Port)
             → slice_get self.now.network i ≡ Some row → slice_get row.ports port ≡ Some at
-            → IsLabel self.now.network self.now.turns at.nbr label.0 label.1) }
+            → IsLabel self.now.network self.now.turns at.nbr label.version label.label) }
     {
         if !self.sim.heard(i, port) {
             return None;
@@ -274,7 +284,7 @@ impl<'n> Versions<'n> {
     {
         let newest = self.newest_beside(i, port);
         match self.held_version(i, port) {
-            Some((version, _)) => version == newest,
+            Some(held) => held.version == newest,
             None => true,
         }
     }
@@ -289,7 +299,7 @@ impl<'n> Versions<'n> {
             → result ≡ holds_previous self.now.network self.now.turns at.nbr row.id }
     {
         match self.held_back(i, port) {
-            Some(version) => version + 1 == self.newest.get(i).0,
+            Some(version) => version + 1 == self.newest.get(i).version,
             None => false,
         }
     }
@@ -308,7 +318,7 @@ impl<'n> Versions<'n> {
         if !self.sim.heard_at(there, back) {
             return None;
         }
-        Some(self.held.get(back).0)
+        Some(self.held.get(back).version)
     }
 
     /// The newest version of the label of the neighbour at a port.
@@ -319,7 +329,7 @@ impl<'n> Versions<'n> {
         ensures { (row : NodeRow) (at : Port) → slice_get self.now.network i ≡ Some row
             → slice_get row.ports port ≡ Some at → result ≡ newest self.now.turns at.nbr }
     {
-        self.newest.get(self.net.places(i)[port] as usize).0
+        self.newest.get(self.net.places(i)[port] as usize).version
     }
 
     /// The numbers of the stale ports of the node at place `i`, in rising order. The one error is
@@ -364,7 +374,10 @@ impl<'n> Versions<'n> {
         ensures { (row : NodeRow) → slice_get self.now.network i ≡ Some row
             → IsLabel self.now.network self.now.turns row.id version result }
     {
-        let (mut at, mut number) = self.newest(i);
+        let LabelVersion {
+            version: mut at,
+            label: mut number,
+        } = self.newest(i);
         while at as u64 > version {
             number = self.givings[number as usize - self.net.len()].earlier;
             at -= 1;
@@ -373,12 +386,17 @@ impl<'n> Versions<'n> {
     }
 }
 
-// Each pair is a version and its label; `came` wins a tie and where nothing was heard.
-fn later(heard: bool, old: (u32, u32), came: (u32, u32)) -> (u32, u32)
-    ensures version { result.0 ≡ cond heard (max old.0 came.0) came.0 }
-    ensures label { IsOneOf heard old.0 old.1 came.0 came.1 result.0 result.1 }
+// `came` wins a tie and where nothing was heard.
+fn later(heard: bool, old: LabelVersion, came: LabelVersion) -> LabelVersion
+    ensures version { result.version ≡ cond heard (max old.version came.version) came.version }
+    ensures label { IsOneOf heard old.version old.label came.version came.label
+        result.version result.label }
 {
-    if heard && old.0 > came.0 { old } else { came }
+    if heard && old.version > came.version {
+        old
+    } else {
+        came
+    }
 }
 
 pub(crate) fn noughts(alloc: Global, count: usize) -> Result<Vec<u32>, NoMemory>

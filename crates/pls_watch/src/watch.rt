@@ -16,6 +16,7 @@ use crate::stock::stock_of;
 use crate::turn::Turn;
 use crate::versions::Versions;
 use pls_bits::{BitBuf, Bits};
+use pls_facts::is_valid;
 use pls_graph::Network;
 use pls_labels::{LabelRoom, LabelStore};
 use pls_schedule::Event;
@@ -38,8 +39,8 @@ pub struct Watch<'n> {
     most_relabels: usize,
     most_bits: u64,
     // How many labels were given, and their bits.
-    given: usize,
-    given_bits: u64,
+    relabels: usize,
+    relabel_bits: u64,
 }
 
 impl<'n> Model for Watch<'n> {
@@ -52,7 +53,7 @@ impl<'n> Model for Watch<'n> {
         watch.most_relabels watch.most_bits };
 
     ghost invariant = { λ watch. IsStocked watch.net.now watch.versions watch.labels
-        watch.most_relabels watch.most_bits watch.given watch.given_bits };
+        watch.most_relabels watch.most_bits watch.relabels watch.relabel_bits };
 }
 
 impl<'n> Watch<'n> {
@@ -79,8 +80,7 @@ impl<'n> Watch<'n> {
         ensures none { IfOk result (λ watch. watch.events ≡ []) }
     {
         let versions = Versions::start(alloc, net, events)?;
-        // A network is valid.
-        net.len();
+        is_valid(net);
         let labels = stock_of(alloc, labels, relabels, bits)?;
         Ok(Watch {
             net,
@@ -88,8 +88,8 @@ impl<'n> Watch<'n> {
             labels,
             most_relabels: relabels,
             most_bits: bits,
-            given: 0,
-            given_bits: 0,
+            relabels: 0,
+            relabel_bits: 0,
         })
     }
 
@@ -182,10 +182,10 @@ impl<'n> Watch<'n> {
             return Err(EventError::Full);
         }
         let place = self.versions.step(Turn::Relabel(node))?;
-        let number = self.net.len() + self.given;
+        let number = self.net.len() + self.relabels;
         self.labels.replace_spare(number, label.bits());
-        self.given += 1;
-        self.given_bits += len;
+        self.relabels += 1;
+        self.relabel_bits += len;
         Ok(place)
     }
 
@@ -193,10 +193,10 @@ impl<'n> Watch<'n> {
         ensures { (node : ℕ) (label : List Bool) → length label ≡ len
             → result ≡ lacks_room self.now (WatchEvent.Relabel node label) }
     {
-        if self.given >= self.most_relabels {
+        if self.relabels >= self.most_relabels {
             return true;
         }
-        len > self.most_bits - self.given_bits
+        len > self.most_bits - self.relabel_bits
     }
 
     /// The newest version of the label of the node at place `i`; versions are numbered from 0.
@@ -205,7 +205,7 @@ impl<'n> Watch<'n> {
         ensures { (row : NodeRow) → slice_get self.now.network i ≡ Some row
             → result ≡ newest (turns_of self.now.events) row.id }
     {
-        self.versions.newest(i).0 as u64
+        self.versions.newest(i).version as u64
     }
 
     /// The bits of a version of the label of the node at place `i`, lent. It takes about as many
@@ -232,7 +232,7 @@ impl<'n> Watch<'n> {
             → result ≡ held self.now.network (turns_of self.now.events) row.id at.nbr }
     {
         match self.versions.held_version(i, port) {
-            Some((version, _)) => Some(version as u64),
+            Some(held) => Some(held.version as u64),
             None => None,
         }
     }

@@ -144,9 +144,8 @@ fn flag_in(matches: &ArgMatches<'_>) -> Flag
     if matches.get_flag("json") {
         return Flag::Json;
     }
-    match matches.get_str("code") {
-        Some("gamma") => Flag::Coded(CodeName::Gamma),
-        Some(_) => Flag::Coded(CodeName::Delta),
+    match matches.get_str("code").and_then(|word| code_named(word)) {
+        Some(code) => Flag::Coded(code),
         None => Flag::Bare,
     }
 }

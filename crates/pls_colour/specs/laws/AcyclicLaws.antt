@@ -16,7 +16,8 @@ use Rattle.pls_scheme.proofs.SaidPorts.{all_ports_pass, passes_port}
 use Rattle.pls_facts.specs.Cycle.{AreSearched, IsAcyclic}
 use Rattle.pls_facts.proofs.CycleDepths.{acyclic_by_depths, searched_differ, searched_one_above}
 use Rattle.pls_facts.proofs.Levels.{levels_searched}
-use Rattle.pls_facts.proofs.Lists.{count_by-map, item_at}
+use Rattle.pls_graph.proofs.Finds.{item_at}
+use Rattle.pls_facts.proofs.Lists.{count_by-map}
 use Rattle.pls_facts.proofs.Neighbours.{adjacent_known}
 use Rattle.pls_colour.specs.declared.acyclic.AcyclicLabel.{AcyclicLabel}
 use Rattle.pls_colour.specs.Acyclic.{acyclic_limits, acyclic_rules, acyclic_says, acyclic_shape, acyclic_label_at, differs_by_one, has_one_above, is_above, is_beside}

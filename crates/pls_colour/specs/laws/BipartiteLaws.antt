@@ -11,7 +11,7 @@ use Rattle.pls_scheme.specs.Theorem.{OneIsRight, RightFits, RulesAreMet, RulesSh
 use Rattle.pls_scheme.proofs.SaidPorts.{all_ports_pass, passes_port}
 use Rattle.pls_facts.specs.Bipartite.{IsBipartite, is_odd, differ}
 use Rattle.pls_facts.proofs.Colourings.{colours_at_ports, parities_differ}
-use Rattle.pls_facts.proofs.Lists.{item_at}
+use Rattle.pls_graph.proofs.Finds.{item_at}
 use Rattle.pls_facts.proofs.Neighbours.{neighbour_row}
 use Rattle.pls_colour.specs.declared.colour_format.ColourLabel.{ColourLabel}
 use Rattle.pls_colour.specs.Bipartite.{bipartite_limits, bipartite_rules, bipartite_says, colour_shape, differs_from, parity_label}

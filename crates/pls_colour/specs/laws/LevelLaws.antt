@@ -7,7 +7,7 @@ use Rattle.pls_configuration.specs.Walk.{edges_of}
 use Rattle.pls_graph.specs.Levels.{IsLevel}
 use Rattle.pls_graph.proofs.Members.{Contains-from_map, Contains-map}
 use Rattle.pls_facts.proofs.Levels.{level_below, one_level}
-use Rattle.pls_facts.proofs.Lists.{item_at}
+use Rattle.pls_graph.proofs.Finds.{item_at}
 use Rattle.pls_facts.proofs.Neighbours.{adjacent_known}
 use Rattle.pls_colour.specs.Levelled.{saying_level}
 

@@ -12,7 +12,7 @@ use Rattle.pls_scheme.proofs.Fitting.{within_fits}
 use Rattle.pls_facts.specs.NodeCount.{AreCounted}
 use Rattle.pls_facts.specs.Parents.{ChainMeets}
 use Rattle.pls_facts.proofs.Levels.{one_level}
-use Rattle.pls_facts.proofs.Lists.{item_at}
+use Rattle.pls_graph.proofs.Finds.{item_at}
 use Rattle.pls_facts.proofs.ParentLines.{AreSoMany-one}
 use Rattle.pls_leader.specs.Count.{IsCounted, IsParent, count_limits, count_of, count_rules, count_says, count_shape}
 use Rattle.pls_leader.specs.laws.CountRight.{rules_met, within_limits}

@@ -21,7 +21,7 @@ use Rattle.pls_facts.specs.NodeCount.{AreCounted}
 use Rattle.pls_facts.specs.Parents.{AreSoMany, ChainMeets}
 use Rattle.pls_facts.specs.TreeSums.{AreSummed, HaveParents}
 use Rattle.pls_facts.proofs.Levels.{one_level}
-use Rattle.pls_facts.proofs.Lists.{item_at}
+use Rattle.pls_graph.proofs.Finds.{item_at}
 use Rattle.pls_facts.proofs.Neighbours.{adjacent_known, id_within, neighbour_row, port_leads}
 use Rattle.pls_facts.proofs.OnlyNode.{ids_distinct}
 use Rattle.pls_facts.proofs.ParentLines.{AreParents, AreSoMany-one, is_child, line_ends, line_from, met_by, met_by-few, met_by-many, so_many-children}

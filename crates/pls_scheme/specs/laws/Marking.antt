@@ -4,7 +4,8 @@ use Rattle.std.proofs.lemmas.Option.{same_Some, slice_get_within}
 use Rattle.pls_configuration.specs.declared.row.NodeRow.{NodeRow}
 use Rattle.pls_graph.proofs.Members.{Contains-from_place}
 use Rattle.pls_labels.specs.Seen.{label_of}
-use Rattle.pls_facts.proofs.Lists.{item_at, same_at_places, some_item}
+use Rattle.pls_graph.proofs.Finds.{item_at}
+use Rattle.pls_facts.proofs.Lists.{same_at_places, some_item}
 use Rattle.pls_scheme.specs.SchemeLaws.{AreOneLabel, HaveOneSpelling, IsMarkedOnce, IsSound, SaysWhatIsSpelled}
 use Rattle.pls_scheme.specs.Marked.{IsMarkedBy}
 use Rattle.pls_scheme.specs.Reading.{Read, judge_by}

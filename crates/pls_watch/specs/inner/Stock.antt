@@ -42,14 +42,14 @@ watched_by turned stored relabels bits = record {
 
 -- the store has room for as many labels and bits as are still taken
 pub record IsStocked (rows : List NodeRow) (turned : Turned) (stored : Stored)
-    (relabels bits given given_bits : ℕ) : Type 0 where
+    (most_relabels most_bits relabels relabel_bits : ℕ) : Type 0 where
   pub valid : IsNetwork turned.network
   pub network : turned.network ≡ rows
-  pub long : length stored.labels ≡ length rows + relabels
-  pub count : given ≡ length (relabelled turned.turns)
-  pub few : given ≤ relabels
-  pub sum : given_bits ≡ bits_given (events_of turned stored.labels)
-  pub few_bits : given_bits ≤ bits
-  pub room : bits + 64 * relabels ≤ stored.spare + given_bits + 64 * given
-  pub small : relabels ≤ 1048576
-  pub small_bits : bits ≤ 2 ^ 28
+  pub long : length stored.labels ≡ length rows + most_relabels
+  pub count : relabels ≡ length (relabelled turned.turns)
+  pub few : relabels ≤ most_relabels
+  pub sum : relabel_bits ≡ bits_given (events_of turned stored.labels)
+  pub few_bits : relabel_bits ≤ most_bits
+  pub room : most_bits + 64 * most_relabels ≤ stored.spare + relabel_bits + 64 * relabels
+  pub small : most_relabels ≤ 1048576
+  pub small_bits : most_bits ≤ 2 ^ 28

@@ -22,5 +22,5 @@ returns-in-Some c =
     c.in_ok-node_apart.ensures.apart in (
       λ yes. absurd (true≢false (sym yes)),
       λ joined. absurd (true≢false
-          (sym (connected-joined rows joined) ∙ apart-none rows c.is_valid.ensures id apart)),
+          (sym (connected-joined rows joined) ∙ apart-none rows c.node_apart.ensures.valid id apart)),
     )

@@ -8,7 +8,7 @@ use Rattle.pls_app.proofs.component_rows.component_row.Goals as goal
 pub failing_at-rejecting-requires-clause-few : goal.failing_at-rejecting-requires-clause-few
 failing_at-rejecting-requires-clause-few c =
     let places = c.members-places.result.now in
-    few_places c.args.net.now places c.len.ensures.valid
+    few_places c.args.net.now places c.is_valid.ensures
     (c.requires.made.each places
     (Contains-from_place c.args.parts.now c.args.k places c.members-places.ensures))
 
@@ -20,7 +20,7 @@ failing_at-rejecting-requires-clause-within c k d within =
     (Contains-from_place c.args.parts.now c.args.k places c.members-places.ensures) in
     omega (
       arith,
-      places_within c.args.net.now c.len.ensures.valid places is k d within,
+      places_within c.args.net.now c.is_valid.ensures places is k d within,
       c.requires.each,
     )
 
@@ -29,7 +29,7 @@ overflow_cast-result c =
     let places = c.members-places.result.now in
     omega (
       arith,
-      few_places c.args.net.now places c.len.ensures.valid
+      few_places c.args.net.now places c.is_valid.ensures
           (c.requires.made.each places
           (Contains-from_place c.args.parts.now c.args.k places c.members-places.ensures)),
     )
@@ -39,7 +39,7 @@ overflow_cast-result-2 c =
     let places = c.members-places.result.now in
     omega (
       arith,
-      few_places c.args.net.now places c.len.ensures.valid
+      few_places c.args.net.now places c.is_valid.ensures
           (c.requires.made.each places
           (Contains-from_place c.args.parts.now c.args.k places c.members-places.ensures)),
       c.failing_at-rejecting.ensures.few.0,
@@ -50,7 +50,7 @@ overflow_cast-result-3 c =
     let places = c.members-places.result.now in
     omega (
       arith,
-      few_places c.args.net.now places c.len.ensures.valid
+      few_places c.args.net.now places c.is_valid.ensures
           (c.requires.made.each places
           (Contains-from_place c.args.parts.now c.args.k places c.members-places.ensures)),
       c.failing_at-rejecting.ensures.few.1,

@@ -26,7 +26,7 @@ returns-in-Some-clause-does g c =
     let net = c.args.net in
     let labels = c.args.labels.now in
     let id : ℕ = c.node.result.0 in
-    IfOk-weaker c.refuse_node.result (λ answer. answer ≡ refusal_answer (Sense UNREADABLE id))
+    IfOk-weaker c.refuse_at.result (λ answer. answer ≡ refusal_answer (Sense UNREADABLE id))
     (λ answer. (input : Input) → rows_in input ≡ net → labels_in input ≡ labels
     → g.C.NumCode.takes ≡ takes_of (code_in input) → (parts : List (List ℕ))
     → Does (With Convert scheme) input parts answer)
@@ -36,7 +36,7 @@ returns-in-Some-clause-does g c =
           c.in-Some.place id rows (sym c.in-Some.is ∙ c.in_ok-place.ensures.place)
           c.node.ensures.id,
       says,
-    )) c.refuse_node.ensures.says
+    )) c.refuse_at.ensures.says
 
 pub returns-in-None-clause-does : goal.returns-in-None-clause-does
 returns-in-None-clause-does g c =

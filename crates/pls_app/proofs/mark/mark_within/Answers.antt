@@ -47,5 +47,5 @@ pub returns-in-Lacking-clause-marks : goal.returns-in-Lacking-clause-marks
 returns-in-Lacking-clause-marks g c =
     let ids = c.in-Lacking.ids in
     let lacking = rw c.in-Lacking.is at c.in_ok-labels.ensures.lacking in
-    IfOk-weaker c.no.result _ _ (λ answer is. inr (ids, lacking, rw c.as_slice.ensures at is))
-    c.no.ensures.says
+    IfOk-weaker c.no_answer.result _ _ (λ answer is. inr (ids, lacking, rw c.as_slice.ensures at is))
+    c.no_answer.ensures.says

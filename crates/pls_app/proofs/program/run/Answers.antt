@@ -27,21 +27,21 @@ returns-in-Ok-None-clause-text g c bytes told answered =
     let words : List (List ℕ) = words_in c.args.words.now in
     let none : IsUsage words = c.in-Ok-None.ensures.none c.in-Ok-None.field-0-is in
     tells words bytes usage_answer _ _ _ _ _ (usage_is_answered words bytes none)
-    (rw c.usage.ensures at c.tell.ensures.told) answered
+    (rw c.usage_answer.ensures at c.tell.ensures.told) answered
 
 pub returns-in-Ok-None-clause-part : goal.returns-in-Ok-None-clause-part
 returns-in-Ok-None-clause-part g c bytes told fault =
     let words : List (List ℕ) = words_in c.args.words.now in
     let none : IsUsage words = c.in-Ok-None.ensures.none c.in-Ok-None.field-0-is in
     tells_part words bytes usage_answer _ _ _ _ _ (usage_is_answered words bytes none) tt
-    (rw c.usage.ensures at c.tell.ensures.told) fault
+    (rw c.usage_answer.ensures at c.tell.ensures.told) fault
 
 pub returns-in-Ok-None-clause-answers : goal.returns-in-Ok-None-clause-answers
 returns-in-Ok-None-clause-answers g c read_all sure =
     let words : List (List ℕ) = words_in c.args.words.now in
     let none : IsUsage words = c.in-Ok-None.ensures.none c.in-Ok-None.field-0-is in
-    let told = rw c.usage.ensures at c.tell.ensures.told in
-    let ends = rw c.usage.ensures at c.tell.ensures.sure in
+    let told = rw c.usage_answer.ensures at c.tell.ensures.told in
+    let ends = rw c.usage_answer.ensures at c.tell.ensures.sure in
     inr (elim sure [
       | inl held ↦ told_answered _ _ _ _ _ _ _ told tt held
       | inr sure ↦
@@ -116,7 +116,7 @@ pub returns-in-Ok-None-clause-ends : goal.returns-in-Ok-None-clause-ends
 returns-in-Ok-None-clause-ends g c due unread =
     let words : List (List ℕ) = words_in c.args.words.now in
     let none : IsUsage words = c.in-Ok-None.ensures.none c.in-Ok-None.field-0-is in
-    let told = rw c.usage.ensures at c.tell.ensures.told in
+    let told = rw c.usage_answer.ensures at c.tell.ensures.told in
     subst (λ (due : Status). EndsAs due c.tell.result) (sym (unread_usage words due none unread))
     (told_ends _ _ _ _ _ _ _ told)
 
@@ -145,10 +145,10 @@ returns-in-Ok-None-clause-splice g c scheme bytes asks done =
     absurd (none (With Splice scheme) asks.asked)
 
 pub returns-in-Ok-None-clause-judge : goal.returns-in-Ok-None-clause-judge
-returns-in-Ok-None-clause-judge g c json bytes asks done =
+returns-in-Ok-None-clause-judge g c form bytes asks done =
     let words : List (List ℕ) = words_in c.args.words.now in
     let none : IsUsage words = c.in-Ok-None.ensures.none c.in-Ok-None.field-0-is in
-    absurd (none (ByRules (Judge json)) asks.asked)
+    absurd (none (ByRules (Judge form)) asks.asked)
 
 pub returns-in-Ok-clause-check : goal.returns-in-Ok-clause-check
 returns-in-Ok-clause-check g c scheme other bytes asks checks done =
@@ -246,14 +246,14 @@ returns-in-Ok-clause-splice g c scheme bytes asks done =
     c.tell-in-Ok.ensures.told done
 
 pub returns-in-Ok-clause-judge : goal.returns-in-Ok-clause-judge
-returns-in-Ok-clause-judge g c json bytes asks done =
+returns-in-Ok-clause-judge g c form bytes asks done =
     let words : List (List ℕ) = words_in c.args.words.now in
     let command : Command = c.in-Ok-Some.command in
     let is : IsCommand words command = rw c.in-Ok-Some.field-0-is at c.in-Ok-Some.ensures.some in
     let answers =
-    same_command words command (ByRules (Judge json)) bytes _ is asks.asked
+    same_command words command (ByRules (Judge form)) bytes _ is asks.asked
     (c.in-Ok.ensures.answer bytes (inr asks.told)) in
-    done_judges json bytes _ answers (told_done _ _ _ _ _ _ _ c.tell-in-Ok.ensures.told done)
+    done_judges form bytes _ answers (told_done _ _ _ _ _ _ _ c.tell-in-Ok.ensures.told done)
 
 pub returns-in-Ok-clause-text : goal.returns-in-Ok-clause-text
 returns-in-Ok-clause-text g c bytes told answered =

@@ -35,7 +35,7 @@ list_code-requires c =
 pub returns-in_ok-parts-in-Judge-clause-does : goal.returns-in_ok-parts-in-Judge-clause-does
 returns-in_ok-parts-in-Judge-clause-does c =
     let input = said c.args.input in
-    let json = c.in-Judge.json in
+    let form = c.in-Judge.form in
     let is = c.requires.1 in
     let net = c.unwrap-net.result in
     let store = c.unwrap.result in
@@ -45,7 +45,7 @@ returns-in_ok-parts-in-Judge-clause-does c =
     let sets = set_is _ _ c.args.input is c.unwrap-set.result c.unwrap-set.ensures in
     let parts = c.in_ok-parts-in-Judge.parts in
     IfOk-weaker c.judge-in-Judge.result
-    (λ answer. answer ≡ report_answer json false net parts (decided_by (meaning gamma_takes set) net store))
+    (λ answer. answer ≡ report_answer form false net parts (decided_by (meaning gamma_takes set) net store))
     (λ answer. DoesWork (ByRules c.args.task) input answer)
     (λ answer same. subst (λ (task : RuleTask). DoesWork (ByRules task) input answer)
     (sym c.in-Judge.is) (record {
@@ -53,7 +53,7 @@ returns-in_ok-parts-in-Judge-clause-does c =
       components = made_of input net parts rows c.in_ok-parts-in-Judge.ensures;
       does = inr (
         refl,
-        same ∙ (λ i. report_answer json false (sym rows i) parts
+        same ∙ (λ i. report_answer form false (sym rows i) parts
             (decided_by (meaning gamma_takes (sym sets i)) (sym rows i) (sym labels i))),
       );
     })) c.judge-in-Judge.ensures.reports

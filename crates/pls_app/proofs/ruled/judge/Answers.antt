@@ -9,7 +9,7 @@ use Rattle.pls_app.proofs.ruled.judge.Goals as goal
 
 pub returns-clause-reports : goal.returns-clause-reports
 returns-clause-reports c =
-    subst (λ (set : RuleSet). IfOk c.verify.result (λ answer. answer ≡ report_answer c.args.json false
+    subst (λ (set : RuleSet). IfOk c.verify.result (λ answer. answer ≡ report_answer c.args.form false
     c.args.net.now c.args.parts.now
     (decided_by (meaning gamma_takes (set_of set)) c.args.net.now c.args.labels.now)))
     c.in_ok-checker.ensures c.verify.ensures.reports

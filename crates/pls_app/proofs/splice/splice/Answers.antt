@@ -16,7 +16,7 @@ returns-in-Err-NotRing-clause-does g c =
     let id = c.in-Err-NotRing.id in
     let says : SaysNoRing net (NotRing id) =
     subst (SaysNoRing net) c.in-Err-NotRing.field-0-is c.in-Err-NotRing.ensures.refused in
-    IfOk-weaker c.refuse_node.result (λ answer. answer ≡ refusal_answer (Sense NO_RING id))
+    IfOk-weaker c.refuse_at.result (λ answer. answer ≡ refusal_answer (Sense NO_RING id))
     (DoesSplice judge c.args.code net c.args.labels)
-    (splice_no_ring judge c.args.code net c.len.ensures.valid c.args.labels id says.1)
-    (rw c.in-Err-NotRing.field-0-is at c.refuse_node.ensures.says)
+    (splice_no_ring judge c.args.code net c.is_valid.ensures c.args.labels id says.1)
+    (rw c.in-Err-NotRing.field-0-is at c.refuse_at.ensures.says)

@@ -15,12 +15,12 @@ returns-in-Some-clause-does g c =
     let judge = g.V.Checker.judge c.args.checker.now in
     let net = c.args.net in
     let id = c.in-Some.id in
-    IfOk-weaker c.refuse_node.result (λ answer. answer ≡ refusal_answer (Sense REJECTS id))
+    IfOk-weaker c.refuse_at.result (λ answer. answer ≡ refusal_answer (Sense REJECTS id))
     (DoesSplice judge c.args.code net c.args.labels)
-    (splice_rejects judge c.args.code net c.len.ensures.valid c.args.labels c.args.ring.now
+    (splice_rejects judge c.args.code net c.is_valid.ensures c.args.labels c.args.ring.now
     c.requires.read c.in_ok-rows.rows.items c.in_ok-rows.ensures.decided id
     (ap first_rejecting (sym c.deref.ensures.value) ∙ sym c.first_rejecting.ensures ∙ c.in-Some.is))
-    c.refuse_node.ensures.says
+    c.refuse_at.ensures.says
 
 pub returns-in-Some-2-clause-does : goal.returns-in-Some-2-clause-does
 returns-in-Some-2-clause-does g c =
@@ -33,7 +33,7 @@ returns-in-Some-2-clause-does g c =
     IfOk-weaker c.crossed_answer.result
     (λ answer. answer ≡ crossed_answer code net labels order pair.first pair.second)
     (DoesSplice judge code net labels)
-    (splice_crosses judge code net c.len.ensures.valid labels order c.requires.read
+    (splice_crosses judge code net c.is_valid.ensures labels order c.requires.read
     c.in_ok-rows.rows.items c.in_ok-rows.ensures.decided
     (ap first_rejecting (sym c.deref.ensures.value) ∙ sym c.in_default.ensures) pair.first
     pair.second
@@ -49,7 +49,7 @@ returns-in-None-clause-does g c =
     let labels = c.args.labels in
     let order = c.args.ring.now in
     subst (DoesSplice judge code net labels) (sym c.uncrossed_answer.ensures.says)
-    (splice_finds_none judge code net c.len.ensures.valid labels order c.requires.read
+    (splice_finds_none judge code net c.is_valid.ensures labels order c.requires.read
     c.in_ok-rows.rows.items c.in_ok-rows.ensures.decided
     (ap first_rejecting (sym c.deref.ensures.value) ∙ sym c.in_default.ensures)
     (subst (λ (found : Option Pair). IfNone found (HasNoPair net labels order)) c.in-None.is

@@ -92,7 +92,7 @@ returns-in-Some-clause-does g c =
     ap (option_map (λ line. Sense WATCH_EVENT line))
     ((λ i. first_refused_line (sym network i) [] first (sym c.of.ensures i))
     ∙ c.in_ok-place.ensures.place first ∙ ap (option_map (λ place. first + place)) c.in-Some.is) in
-    IfOk-weaker c.refuse.result (λ answer. answer ≡ refusal_answer error)
+    IfOk-weaker c.refuse_at.result (λ answer. answer ≡ refusal_answer error)
     (λ answer. (input : Input) → IsWatchInput net c.args.labels.now lines first input
     → g.C.NumCode.takes ≡ takes_of (code_in input) → (parts : List (List ℕ))
     → Does command input parts answer)
@@ -100,7 +100,7 @@ returns-in-Some-clause-does g c =
       error,
       (λ i. watch_lines_refusal (is.net i) (sym is.at i) (is.list i)) ∙ some,
       same,
-    )) c.refuse.ensures.says
+    )) c.refuse_at.ensures.says
 
 pub returns-in-None-clause-does : goal.returns-in-None-clause-does
 returns-in-None-clause-does g c input is takes parts =

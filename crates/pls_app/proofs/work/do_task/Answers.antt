@@ -174,7 +174,7 @@ returns-in-Verify-clause-does g c =
     let are : AreComponents (rows_in input) parts =
     made_of input c.unwrap-net.result parts
     (rows_are c.args.input c.unwrap-net.result c.unwrap-net.ensures) c.in_ok-parts.ensures in
-    let json = c.in-Verify.json in
+    let form = c.in-Verify.form in
     let net = c.unwrap-net.result in
     let store = c.unwrap.result in
     let judge = judge_of g.C.NumCode.takes scheme in
@@ -184,7 +184,7 @@ returns-in-Verify-clause-does g c =
     let labels = labels_are _ _ c.args.input c.requires.input.1 net c.unwrap-net.ensures store
     c.unwrap.ensures in
     IfOk-weaker c.verify-in-Verify.result
-    (λ answer. answer ≡ report_answer json false net parts (decided_by judge net store))
+    (λ answer. answer ≡ report_answer form false net parts (decided_by judge net store))
     (λ answer. DoesWork (With c.args.task scheme) input answer)
     (λ answer same. subst (λ (task : Task). DoesWork (With task scheme) input answer)
     (sym c.in-Verify.is) (record {
@@ -192,7 +192,7 @@ returns-in-Verify-clause-does g c =
       components = are;
       does = inr (
         refl,
-        same ∙ (λ i. report_answer json false (sym rows i) parts
+        same ∙ (λ i. report_answer form false (sym rows i) parts
             (decided_by (judge_of (takes i) scheme) (sym rows i) (sym labels i))),
       );
     })) c.verify-in-Verify.ensures.reports
@@ -205,7 +205,7 @@ returns-in-Simulate-clause-does g c =
     let are : AreComponents (rows_in input) parts =
     made_of input c.unwrap-net.result parts
     (rows_are c.args.input c.unwrap-net.result c.unwrap-net.ensures) c.in_ok-parts.ensures in
-    let json = c.in-Simulate.json in
+    let form = c.in-Simulate.form in
     let is = c.requires.input.1 in
     let net = c.unwrap-net.result in
     let store = c.unwrap-in-Simulate.result in
@@ -225,7 +225,7 @@ returns-in-Simulate-clause-does g c =
     (λ answer. (input : Input)
     → IsSimulated net store c.deref.result.now c.args.input.first_line input
     → g.C.NumCode.takes ≡ takes_of (code_in input)
-    → Does (With (Simulate json) scheme) input parts answer)
+    → Does (With (Simulate form) scheme) input parts answer)
     (λ answer. DoesWork (With c.args.task scheme) input answer)
     (λ answer does. subst (λ (task : Task). DoesWork (With task scheme) input answer)
     (sym c.in-Simulate.is) (record { parts = parts; components = are; does = does input read takes }))
@@ -315,22 +315,22 @@ returns-in-Recheck-clause-rechecked g c =
 
 pub returns-in-Verify-clause-shows : goal.returns-in-Verify-clause-shows
 returns-in-Verify-clause-shows g c =
-    no_mark c.args.task (Verify c.in-Verify.json) c.in-Verify.is c.args.scheme _ (rows_in (said c.args.input))
+    no_mark c.args.task (Verify c.in-Verify.form) c.in-Verify.is c.args.scheme _ (rows_in (said c.args.input))
     (λ code mark. cc)
 
 pub returns-in-Verify-clause-rechecked : goal.returns-in-Verify-clause-rechecked
 returns-in-Verify-clause-rechecked g c =
-    no_recheck c.args.task (Verify c.in-Verify.json) c.in-Verify.is c.args.scheme _ (said c.args.input) _ _
+    no_recheck c.args.task (Verify c.in-Verify.form) c.in-Verify.is c.args.scheme _ (said c.args.input) _ _
     (λ recheck. cc)
 
 pub returns-in-Simulate-clause-shows : goal.returns-in-Simulate-clause-shows
 returns-in-Simulate-clause-shows g c =
-    no_mark c.args.task (Simulate c.in-Simulate.json) c.in-Simulate.is c.args.scheme _ (rows_in (said c.args.input))
+    no_mark c.args.task (Simulate c.in-Simulate.form) c.in-Simulate.is c.args.scheme _ (rows_in (said c.args.input))
     (λ code mark. cc)
 
 pub returns-in-Simulate-clause-rechecked : goal.returns-in-Simulate-clause-rechecked
 returns-in-Simulate-clause-rechecked g c =
-    no_recheck c.args.task (Simulate c.in-Simulate.json) c.in-Simulate.is c.args.scheme _ (said c.args.input) _ _
+    no_recheck c.args.task (Simulate c.in-Simulate.form) c.in-Simulate.is c.args.scheme _ (said c.args.input) _ _
     (λ recheck. cc)
 
 pub returns-in-Watch-clause-shows : goal.returns-in-Watch-clause-shows

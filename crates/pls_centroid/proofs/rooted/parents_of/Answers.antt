@@ -28,7 +28,7 @@ loop-place-preserved c =
     }
 
 pub returns : goal.returns
-returns c = pointed_all c.args.net.now c.is_valid.ensures c.loop-place.parents.items
+returns c = pointed_all c.args.net.now c.len.ensures.valid c.loop-place.parents.items
     (let ends = c.loop-place-test.false in let most = c.loop-place.auto.place-end in
     let many = c.loop-place.invariant.each in omega (arith, ends, most, many))
     c.loop-place.invariant.to

@@ -15,7 +15,7 @@ pub buckets_of-requires-clause-below : goal.buckets_of-requires-clause-below
 buckets_of-requires-clause-below c =
     subst (All (λ (number : ℕ). number < c.in_ok-found.count))
     (sym c.as_slice-2.ensures.value)
-    (numbers_below c.args.net.now c.len.ensures.valid c.in_ok-found.found.items
+    (numbers_below c.args.net.now c.is_valid.ensures c.in_ok-found.found.items
     c.in_ok-found.count c.in_ok-found.ensures c.in_ok-numbers.numbers.items
     (c.in_ok-numbers.ensures ∙ c.as_slice.ensures.value))
 
@@ -23,7 +23,7 @@ pub returns : goal.returns
 returns c =
     let members = c.in_ok-members.members.items in
     let spans = c.in_ok-members.spans.items in
-    sorted_components c.args.net.now c.len.ensures.valid c.in_ok-found.found.items
+    sorted_components c.args.net.now c.is_valid.ensures c.in_ok-found.found.items
     c.in_ok-found.count c.in_ok-found.ensures c.in_ok-numbers.numbers.items
     (c.in_ok-numbers.ensures ∙ c.as_slice.ensures.value)
     (map (span_items members) spans)

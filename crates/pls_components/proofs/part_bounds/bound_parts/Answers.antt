@@ -13,20 +13,20 @@ pub returns-then-len-eq1 : goal.returns-then-len-eq1
 returns-then-len-eq1 g c =
     let longest : Size → ℕ = g.S.Scheme.longest c.args.scheme.now in
     let alone = only_one c.args.parts.now (omega arith) in
-    c.bound.ensures ∙ ap (λ (size : Size). capped (longest size)) c.size.ensures
-    ∙ ap capped (sym (whole_bound c.args.net.now c.len.ensures.valid c.args.parts.now c.requires
+    c.bound.ensures ∙ ap (λ (size : Size). capped (longest size)) c.size.ensures.size
+    ∙ ap capped (sym (whole_bound c.args.net.now c.is_valid.ensures c.args.parts.now c.requires
     alone.0 alone.1 longest))
 
 pub size_at-size-requires-clause-within : goal.size_at-size-requires-clause-within
 size_at-size-requires-clause-within g c =
     let places = c.members.result.now in
-    places_within c.args.net.now c.len.ensures.valid places
+    places_within c.args.net.now c.is_valid.ensures places
     (component_at c.args.net.now c.args.parts.now c.requires c.loop-k.k places c.members.ensures)
 
 pub size_at-size-requires-clause-network : goal.size_at-size-requires-clause-network
 size_at-size-requires-clause-network g c =
     let places = c.members.result.now in
-    part_network c.args.net.now c.len.ensures.valid places
+    part_network c.args.net.now c.is_valid.ensures places
     (component_at c.args.net.now c.args.parts.now c.requires c.loop-k.k places c.members.ensures)
 
 pub loop-k-preserved : goal.loop-k-preserved

@@ -19,7 +19,7 @@ returns-then-len-eq1 g c =
     let alone = only_one parts (omega arith) in
     let most : ℕ = longest (size_of net) in
     let bound : c.bound-bound.result ≡ min most (2 ^ 64 - 1) =
-    c.bound-bound.ensures ∙ ap (λ (size : Size). capped (longest size)) c.size.ensures in
+    c.bound-bound.ensures ∙ ap (λ (size : Size). capped (longest size)) c.size.ensures.size in
     let product : c.bound-bound.result * c.len-nodes.result ≡ min most (2 ^ 64 - 1) * length net =
     λ i. bound i * c.len-nodes.ensures.len i in
     let capped = saturated 0 (length net) most (2 ^ 64 - 1) c.len-nodes.ensures.valid.limits.some in

@@ -17,7 +17,7 @@ mark-requires g c =
     let (places, there, same) : (places : List ℕ) × (slice_get parts c.args.k ≡ Some places)
     × (items_at net places ≡ c.in_ok-part.part) =
     part_places net parts c.args.k c.in_ok-part.part c.in_ok-part.ensures in
-    subst IsConnected same (part_connected net c.len.ensures.valid places
+    subst IsConnected same (part_connected net c.is_valid.ensures places
     (c.requires.made.each places (Contains-from_place parts c.args.k places there)))
 
 pub put_labels-requires-clause-rising : goal.put_labels-requires-clause-rising
@@ -33,7 +33,7 @@ put_labels-requires-clause-within g c =
     λ j d inside.
     omega (
       arith,
-      places_within c.args.net.now c.len.ensures.valid c.members.result.now is j d inside,
+      places_within c.args.net.now c.is_valid.ensures c.members.result.now is j d inside,
       c.requires.each,
     )
 
@@ -44,8 +44,8 @@ put_labels-requires-clause-few g c =
     let is : IsComponent net places =
     c.requires.made.each places
     (Contains-from_place c.args.parts.now c.args.k places c.members.ensures) in
-    let each = length-items net places (places_within net c.len.ensures.valid places is) in
-    let few = (part_network net c.len.ensures.valid places is).limits.few_nodes in
+    let each = length-items net places (places_within net c.is_valid.ensures places is) in
+    let few = (part_network net c.is_valid.ensures places is).limits.few_nodes in
     omega (arith, each, few)
 
 pub put_labels-requires-clause-each : goal.put_labels-requires-clause-each
@@ -60,7 +60,7 @@ put_labels-requires-clause-each g c =
     let each : length c.in-Some.marked ≡ length c.in_ok-part.part =
     rw c.in-Some.is at c.in_ok-marked.ensures.each in
     each ∙ sym (ap (length {A = NodeRow}) same)
-    ∙ length-items net places (places_within net c.len.ensures.valid places is)
+    ∙ length-items net places (places_within net c.is_valid.ensures places is)
 
 pub returns-in-Some : goal.returns-in-Some
 returns-in-Some g c = record {

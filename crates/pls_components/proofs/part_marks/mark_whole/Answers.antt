@@ -9,13 +9,13 @@ use Rattle.pls_components.proofs.part_marks.mark_whole.Goals as goal
 pub mark-requires : goal.mark-requires
 mark-requires g c =
     let alone = only_one c.args.parts.now c.requires.one in
-    whole_connected c.args.net.now c.len.ensures.valid c.args.parts.now c.requires.made alone.0 alone.1
+    whole_connected c.args.net.now c.is_valid.ensures c.args.parts.now c.requires.made alone.0 alone.1
 
 pub returns-in-Some-clause-labels : goal.returns-in-Some-clause-labels
 returns-in-Some-clause-labels g c =
     let alone = only_one c.args.parts.now c.requires.one in
     let scheme = c.args.scheme.now in
-    whole_shown c.args.net.now c.len.ensures.valid c.args.parts.now c.requires.made alone.0 alone.1
+    whole_shown c.args.net.now c.is_valid.ensures c.args.parts.now c.requires.made alone.0 alone.1
     (g.S.Property.holds scheme) (g.S.Scheme.marked scheme) (g.S.Checker.judge scheme)
     (g.S.Scheme.longest scheme) c.in-Some.labels
     (rw c.in-Some.is at c.in_ok-labels.ensures.holds)
@@ -34,5 +34,5 @@ returns-in_ok-one_id-in-None-clause-lacking g c =
     from_option_map (λ (row : NodeRow). row.id) (slice_get net 0) c.node.result.0 c.node.ensures.id in
     subst (AreLacking holds net) (sym c.in_ok-one_id-in-None.ensures)
     (subst (λ (id : ℕ). AreLacking holds net (id ∷ [])) is
-    (whole_lacking net c.len.ensures.valid c.args.parts.now c.requires.made alone.0 alone.1 holds row
+    (whole_lacking net c.is_valid.ensures c.args.parts.now c.requires.made alone.0 alone.1 holds row
     at lacks))

@@ -1,7 +1,7 @@
 use Rattle.std.proofs.Common.{◌≡◌, ◌∙◌, sym, ap, Some, slice_get}
 use Rattle.std.specs.List.{list_all}
 use Rattle.pls_configuration.specs.declared.row.NodeRow.{NodeRow}
-use Rattle.pls_facts.proofs.Lists.{item_at}
+use Rattle.pls_graph.proofs.Finds.{item_at}
 use Rattle.pls_diameter_bridges.specs.inner.Reaching.{is_within}
 use Rattle.pls_diameter_bridges.proofs.Reached.{levels_within, reached}
 use Rattle.pls_diameter_bridges.proofs.diameter.reaches_all.Goals as goal

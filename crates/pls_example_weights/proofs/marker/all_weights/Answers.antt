@@ -1,7 +1,8 @@
 use Rattle.std.proofs.Common.{◌≡◌, ◌∙◌, List, ap, map, take, Some, slice_get, sym, arith}
 use Rattle.pls_configuration.specs.declared.row.Port.{Port}
 use Rattle.pls_configuration.specs.declared.row.NodeRow.{NodeRow}
-use Rattle.pls_facts.proofs.Lists.{given_at, item_at, map-take_more}
+use Rattle.pls_graph.proofs.Finds.{item_at}
+use Rattle.pls_facts.proofs.Lists.{given_at, map-take_more}
 use Rattle.pls_example_weights.specs.SameWeights.{first_weights}
 use Rattle.pls_example_weights.proofs.marker.all_weights.Goals as goal
 

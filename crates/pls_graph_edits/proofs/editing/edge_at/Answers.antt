@@ -10,14 +10,14 @@ use Rattle.pls_graph_edits.proofs.editing.edge_at.Goals as goal
 pub returns-in_default-clause-refused : goal.returns-in_default-clause-refused
 returns-in_default-clause-refused c =
     unlink_absent_first c.args.net.now c.args.a c.args.b
-    (sought_none c.args.net.now c.args.a (sym c.place_of.ensures ∙ c.in_default.is))
+    (sought_none c.args.net.now c.args.a (sym c.place_of.ensures.place ∙ c.in_default.is))
 
 pub returns-in_default-port_number-clause-refused : goal.returns-in_default-port_number-clause-refused
 returns-in_default-port_number-clause-refused c =
     let now = c.args.net.now in
     let i = c.in-Some.i in
     let row : (row : NodeRow) × IsSought now c.args.a i row =
-    sought now c.args.a i (sym c.place_of.ensures ∙ c.in-Some.is) in
+    sought now c.args.a i (sym c.place_of.ensures.place ∙ c.in-Some.is) in
     let ports : row.0.ports ≡ c.ports.result.now =
     ports_read now i row.0 c.ports.result.now row.1.at c.ports.ensures in
     let found : c.port_number.result ≡ position (λ port. c.args.b == port.nbr) row.0.ports =
@@ -32,7 +32,7 @@ bounds-places-p c =
     let now = c.args.net.now in
     let i = c.in-Some.i in
     let p = c.in-Some-port_number.p in
-    let place = named_place now c.len.ensures.valid i p c.args.b c.ports.result.now
+    let place = named_place now c.place_of.ensures.valid i p c.args.b c.ports.result.now
     c.places.result.now c.ports.ensures c.places.ensures.places
     (sym c.port_number.ensures ∙ c.in-Some-port_number.is) in
     place.0
@@ -43,11 +43,11 @@ returns-in_default-port_number-2-clause-refused c =
     let i = c.in-Some.i in
     let p = c.in-Some-port_number.p in
     let j = get_or c.places.result.now p 0 in
-    let place = named_place now c.len.ensures.valid i p c.args.b c.ports.result.now
+    let place = named_place now c.place_of.ensures.valid i p c.args.b c.ports.result.now
     c.places.result.now c.ports.ensures c.places.ensures.places
     (sym c.port_number.ensures ∙ c.in-Some-port_number.is) in
     let row : (row : NodeRow) × IsSought now c.args.a i row =
-    sought now c.args.a i (sym c.place_of.ensures ∙ c.in-Some.is) in
+    sought now c.args.a i (sym c.place_of.ensures.place ∙ c.in-Some.is) in
     let other : (row : NodeRow) × IsSought now c.args.b j row =
     sought now c.args.b j place.1 in
     let ports2 : other.0.ports ≡ c.ports-2.result.now =
@@ -60,7 +60,7 @@ returns-in_default-port_number-2-clause-refused c =
     ∙ no_find (λ (port : Port). c.args.a == port.nbr) other.0.ports
     (sym back ∙ c.in_default-port_number-2.is) in
     let none : port_to row.0 c.args.b ≡ None = ap (port_to row.0) (sym other.1.same)
-    ∙ free_both now c.len.ensures.valid j i other.0 row.0 other.1.at row.1.at free in
+    ∙ free_both now c.place_of.ensures.valid j i other.0 row.0 other.1.at row.1.at free in
     unlink_apart now c.args.a c.args.b row.0 row.1.found (ap is_some none)
 
 pub returns-clause-allowed : goal.returns-clause-allowed
@@ -69,11 +69,11 @@ returns-clause-allowed c =
     let i = c.in-Some.i in
     let p = c.in-Some-port_number.p in
     let j = get_or c.places.result.now p 0 in
-    let place = named_place now c.len.ensures.valid i p c.args.b c.ports.result.now
+    let place = named_place now c.place_of.ensures.valid i p c.args.b c.ports.result.now
     c.places.result.now c.ports.ensures c.places.ensures.places
     (sym c.port_number.ensures ∙ c.in-Some-port_number.is) in
     let row : (row : NodeRow) × IsSought now c.args.a i row =
-    sought now c.args.a i (sym c.place_of.ensures ∙ c.in-Some.is) in
+    sought now c.args.a i (sym c.place_of.ensures.place ∙ c.in-Some.is) in
     let other : (row : NodeRow) × IsSought now c.args.b j row =
     sought now c.args.b j place.1 in
     let ports : row.0.ports ≡ c.ports.result.now =
@@ -91,10 +91,10 @@ returns-clause-ends c =
     let i = c.in-Some.i in
     let p = c.in-Some-port_number.p in
     let j = get_or c.places.result.now p 0 in
-    let place = named_place now c.len.ensures.valid i p c.args.b c.ports.result.now
+    let place = named_place now c.place_of.ensures.valid i p c.args.b c.ports.result.now
     c.places.result.now c.ports.ensures c.places.ensures.places
     (sym c.port_number.ensures ∙ c.in-Some-port_number.is) in record {
-      first = sym c.place_of.ensures ∙ c.in-Some.is;
+      first = sym c.place_of.ensures.place ∙ c.in-Some.is;
       second = place.1;
       forth = λ row here. ap (position (λ (port : Port). c.args.b == port.nbr))
           (ports_read now i row c.ports.result.now here c.ports.ensures)

@@ -26,7 +26,7 @@ returns-in_err-push-clause-small g c = λ roomy few.
 pub bounds-places-p : goal.bounds-places-p
 bounds-places-p g c =
     let rows = c.args.net.now in
-    let many = beside_many rows c.len.ensures.valid c.args.i c.args.named.now c.requires.named in
+    let many = beside_many rows c.places-places.ensures.valid c.args.i c.args.named.now c.requires.named in
     let listed = ap length c.places-places.ensures.places in
     let number = c.loop-port.invariant.number in
     let within = c.loop-port-test.true in omega arith
@@ -37,7 +37,7 @@ port_view-requires-clause-at g c =
     let ports = c.args.named.now in
     let index = c.loop-port.port-index in
     let none : Port = record { nbr = 0; weight = 0 } in
-    beside_port rows c.len.ensures.valid c.args.i index ports (get_or ports index none) 0
+    beside_port rows c.places-places.ensures.valid c.args.i index ports (get_or ports index none) 0
     c.requires.named (slice_get-get_or ports index none c.loop-port-test.true)
     ∙ ap (λ (k : ℕ). Some (get_or (beside rows c.args.i) k 0)) (sym c.loop-port.invariant.number)
     ∙ ap (λ (places : List ℕ). Some (get_or places c.loop-port.p 0))

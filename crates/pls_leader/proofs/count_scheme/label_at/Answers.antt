@@ -11,7 +11,7 @@ pub node-requires : goal.node-requires
 node-requires c =
     let each = c.requires.parents.each in
     let within = c.requires.within in
-    let inside = parents_within c.args.net.now c.is_valid.ensures c.args.levels.now
+    let inside = parents_within c.args.net.now c.node-root.ensures.valid c.args.levels.now
     c.requires.levels c.args.parents.now c.requires.parents c.args.place c.in-Some.parent
     (slice_get-get_or c.args.parents.now c.args.place None (omega (arith, each, within))
     ∙ ap Some c.in-Some.is) in
@@ -46,7 +46,7 @@ returns c row at first first_at =
       c.from-5.ensures,
       c.len.ensures.len,
     )
-    (counted_right c.args.net.now c.is_valid.ensures c.args.levels.now c.requires.levels
+    (counted_right c.args.net.now c.node-root.ensures.valid c.args.levels.now c.requires.levels
     c.args.parents.now c.requires.parents c.args.sizes.now c.requires.sizes c.args.place row at
     first first_at c.match-parents-place.parent (get_or c.args.sizes.now c.args.place 0)
     (slice_get-get_or c.args.sizes.now c.args.place 0 (omega (arith, within, each, sizes_each)))

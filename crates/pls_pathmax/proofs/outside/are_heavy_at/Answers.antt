@@ -4,7 +4,8 @@ use Rattle.pls_configuration.specs.declared.row.Port.{Port}
 use Rattle.pls_configuration.specs.declared.row.State.{State}
 use Rattle.pls_configuration.specs.declared.row.NodeRow.{NodeRow}
 use Rattle.pls_graph.specs.Places.{named_places}
-use Rattle.pls_facts.proofs.Lists.{given_at, item_at}
+use Rattle.pls_graph.proofs.Finds.{item_at}
+use Rattle.pls_facts.proofs.Lists.{given_at}
 use Rattle.pls_scheme.specs.inner.Holding.{AreKnown}
 use Rattle.pls_scheme.proofs.HeldRules.{all_known, places_are, reading-said}
 use Rattle.pls_pathmax.specs.Rules.{other_edges_are_heavy}
@@ -17,7 +18,7 @@ are_heavy-requires-clause-known c =
     item_at rows c.args.i c.requires.within in
     let ports : row.ports ≡ c.ports.result.now =
     given_at (λ (row : NodeRow). row.ports) (slice_get rows c.args.i) row _ c.ports.ensures at in
-    subst (AreKnown rows) ports (all_known rows c.is_valid.ensures c.args.i row at)
+    subst (AreKnown rows) ports (all_known rows c.node.ensures.valid c.args.i row at)
 
 pub are_heavy-requires-clause-places : goal.are_heavy-requires-clause-places
 are_heavy-requires-clause-places c =

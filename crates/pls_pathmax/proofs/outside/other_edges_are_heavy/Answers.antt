@@ -3,7 +3,7 @@ use Rattle.std.proofs.lemmas.Bool.{cases_lt}
 use Rattle.std.proofs.lemmas.Option.{slice_get_within}
 use Rattle.pls_configuration.specs.declared.row.NodeRow.{NodeRow}
 use Rattle.pls_graph.proofs.Members.{Contains-from_place, place_from_Contains}
-use Rattle.pls_facts.proofs.Lists.{item_at}
+use Rattle.pls_graph.proofs.Finds.{item_at}
 use Rattle.pls_pathmax.proofs.outside.other_edges_are_heavy.Goals as goal
 
 pub returns-then-not-are_heavy_at : goal.returns-then-not-are_heavy_at

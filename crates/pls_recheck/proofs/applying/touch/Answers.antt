@@ -4,10 +4,10 @@ use Rattle.pls_recheck.proofs.applying.touch.Goals as goal
 
 pub returns-in-Some-clause-touched : goal.returns-in-Some-clause-touched
 returns-in-Some-clause-touched c =
-    touch_one c.args.net.now c.len.ensures.valid c.args.flags.now.items c.args.id c.in-Some.i
-    (sym c.in-Some.ensures) c.requires
+    touch_one c.args.net.now c.place_of.ensures.valid c.args.flags.now.items c.args.id c.in-Some.i
+    (sym c.in-Some.ensures.place) c.requires
 
 pub returns-in_default-clause-touched : goal.returns-in_default-clause-touched
 returns-in_default-clause-touched c =
-    touch_none c.args.net.now c.len.ensures.valid c.args.flags.now.items c.args.id
-    (sym c.in_default.ensures)
+    touch_none c.args.net.now c.place_of.ensures.valid c.args.flags.now.items c.args.id
+    (sym c.in_default.ensures.place)

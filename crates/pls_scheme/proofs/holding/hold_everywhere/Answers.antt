@@ -4,7 +4,7 @@ use Rattle.std.proofs.lemmas.Option.{slice_get_within}
 use Rattle.pls_configuration.specs.declared.row.NodeRow.{NodeRow}
 use Rattle.pls_configuration.specs.declared.verdict.Verdict.TheVariants.{Accept}
 use Rattle.pls_graph.proofs.Members.{Contains-from_place, place_from_Contains}
-use Rattle.pls_facts.proofs.Lists.{item_at}
+use Rattle.pls_graph.proofs.Finds.{item_at}
 use Rattle.pls_scheme.specs.inner.Accepting.{accepts}
 use Rattle.pls_scheme.specs.Reading.{read_where}
 use Rattle.pls_scheme.specs.laws.Saying.{hold-judged, judged-each}

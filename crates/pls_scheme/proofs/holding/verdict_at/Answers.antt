@@ -6,7 +6,8 @@ use Rattle.pls_configuration.specs.declared.row.State.{State}
 use Rattle.pls_configuration.specs.declared.row.NodeRow.{NodeRow}
 use Rattle.pls_graph.specs.Places.{named_places}
 use Rattle.pls_graph.proofs.Placed.{pointer_within}
-use Rattle.pls_facts.proofs.Lists.{given_at, item_at}
+use Rattle.pls_graph.proofs.Finds.{item_at}
+use Rattle.pls_facts.proofs.Lists.{given_at}
 use Rattle.pls_scheme.specs.Judging.{judged_from}
 use Rattle.pls_scheme.specs.Reading.{Read, label_above, port_where}
 use Rattle.pls_scheme.specs.inner.Holding.{AreKnown}
@@ -24,7 +25,7 @@ bounds-places-up g c =
     at in
     places_many rows c.args.i row at c.places-places.result.now c.places-places.ensures.places
     c.in-Some.up
-    (pointer_within rows c.is_valid.ensures c.args.i row at c.in-Some.up
+    (pointer_within rows c.node-id.ensures.valid c.args.i row at c.in-Some.up
     (ap (λ (state : State). state.up) state ∙ c.in-Some.is))
 
 pub tally_at-tally-requires-clause-known : goal.tally_at-tally-requires-clause-known
@@ -35,7 +36,7 @@ tally_at-tally-requires-clause-known g c =
     let ports : row.ports ≡ c.ports.result.now =
     given_at (λ (row : NodeRow). row.ports) (slice_get rows c.args.i) row _ c.ports.ensures
     at in
-    subst (AreKnown rows) ports (all_known rows c.is_valid.ensures c.args.i row at)
+    subst (AreKnown rows) ports (all_known rows c.node-id.ensures.valid c.args.i row at)
 
 pub tally_at-tally-requires-clause-places : goal.tally_at-tally-requires-clause-places
 tally_at-tally-requires-clause-places g c =
@@ -74,13 +75,13 @@ returns g c say said row at =
       | in-Some w ↦
           let within : w.in-Some.up < length ports =
           subst (λ (ports : List Port). w.in-Some.up < length ports) ports_are
-          (pointer_within rows c.is_valid.ensures c.args.i row at w.in-Some.up
+          (pointer_within rows c.node-id.ensures.valid c.args.i row at w.in-Some.up
           (ap (λ (state : State). state.up) state_is ∙ w.in-Some.is)) in
           let port : Port = get_or ports w.in-Some.up (record { nbr = 0; weight = 0 }) in
           let port_at : slice_get ports w.in-Some.up ≡ Some port =
           slice_get-get_or ports w.in-Some.up (record { nbr = 0; weight = 0 }) within in
           let known : AreKnown rows ports =
-          subst (AreKnown rows) ports_are (all_known rows c.is_valid.ensures c.args.i row at) in
+          subst (AreKnown rows) ports_are (all_known rows c.node-id.ensures.valid c.args.i row at) in
           ap option_copied w.above-is
           ∙ ap Some (said_there rows labels say c.requires.each said ports
           c.places-places.result.now

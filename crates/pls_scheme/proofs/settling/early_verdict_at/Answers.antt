@@ -3,7 +3,7 @@ use Rattle.std.specs.Option.{option_copied}
 use Rattle.std.proofs.lemmas.List.{length-map}
 use Rattle.pls_configuration.specs.declared.row.Port.{Port}
 use Rattle.pls_configuration.specs.declared.verdict.Verdict.TheVariants.{Reject}
-use Rattle.pls_facts.proofs.Lists.{item_at}
+use Rattle.pls_graph.proofs.Finds.{item_at}
 use Rattle.pls_labels.specs.Seen.{Seen, SeenPort, label_of, seen_port}
 use Rattle.pls_labels.proofs.Views.{placed}
 use Rattle.pls_scheme.specs.Reading.{judge_by}

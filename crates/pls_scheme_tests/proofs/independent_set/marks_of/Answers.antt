@@ -1,7 +1,8 @@
 use Rattle.std.proofs.Common.{◌≡◌, ◌∙◌, ℕ, ap, Some, slice_get, sym, arith}
 use Rattle.pls_configuration.specs.declared.row.State.{State}
 use Rattle.pls_configuration.specs.declared.row.NodeRow.{NodeRow}
-use Rattle.pls_facts.proofs.Lists.{given_at, item_at, map-take_more}
+use Rattle.pls_graph.proofs.Finds.{item_at}
+use Rattle.pls_facts.proofs.Lists.{given_at, map-take_more}
 use Rattle.pls_scheme_tests.specs.declared.independent_set.MarkLabel.{MarkLabel}
 use Rattle.pls_scheme_tests.specs.IndependentSet.{mark_of}
 use Rattle.pls_scheme_tests.proofs.independent_set.marks_of.Goals as goal

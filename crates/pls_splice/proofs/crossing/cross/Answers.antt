@@ -12,6 +12,6 @@ build-requires c =
     ∙ ap (λ (ends : Ends). map (cross_row ends) rows) c.ends_of-ends.ensures in
     record {
       within_limits = subst AreWithinLimits (sym same)
-          (crossed_network rows c.len.ensures.valid c.args.labels.now c.args.ring.now c.requires.read
+          (crossed_network rows c.is_valid.ensures c.args.labels.now c.args.ring.now c.requires.read
           c.args.pair.first c.args.pair.second c.requires.pair).limits;
     }

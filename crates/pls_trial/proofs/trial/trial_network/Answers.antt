@@ -33,11 +33,11 @@ returns-clause-connected c =
     last_connected c.args.nodes c.args.seed c.new-draws.result c.put_tree.new.draws c.in_ok-net.net
     c.put_tree.new.net c.put_others.new.net c.requires.nodes.0 c.in_ok-net.ensures
     c.new-draws.ensures c.in_ok-put_tree.ensures.put c.in_ok-put_tree.ensures.drawn
-    c.in_ok-put_others.ensures.put c.point.new.net c.point.ensures c.len.ensures.valid
+    c.in_ok-put_others.ensures.put c.point.new.net c.point.ensures c.is_valid.ensures
 
 pub returns-clause-lightest : goal.returns-clause-lightest
 returns-clause-lightest c =
     last_minimum c.args.nodes c.args.seed c.new-draws.result c.put_tree.new.draws c.in_ok-net.net
     c.put_tree.new.net c.put_others.new.net c.requires.nodes.0 c.in_ok-net.ensures
     c.new-draws.ensures c.in_ok-put_tree.ensures.put c.in_ok-put_tree.ensures.drawn
-    c.in_ok-put_others.ensures.put c.point.new.net c.point.ensures c.len.ensures.valid
+    c.in_ok-put_others.ensures.put c.point.new.net c.point.ensures c.is_valid.ensures

@@ -10,7 +10,7 @@ returns-in-Some c =
     let apart : IsFirstApart c.args.net c.in-Some.field-0 =
     subst (λ o. IfSome o (λ id. IsFirstApart c.args.net id)) c.in-Some.is
     c.in_ok-node_apart.ensures.apart in
-    rw (apart-none c.args.net c.len.ensures.valid c.in-Some.field-0 apart) refl
+    rw (apart-none c.args.net c.node_apart.ensures.valid c.in-Some.field-0 apart) refl
 
 pub returns-in-None : goal.returns-in-None
 returns-in-None c =

@@ -7,7 +7,7 @@ use Rattle.pls_universal.proofs.verifying.has_node.Goals as goal
 pub returns-in_default : goal.returns-in_default
 returns-in_default g c =
     node-none g.C.NumCode.takes c.args.net.now c.args.view.now
-    (rw (← c.view.view_is) c.in_default.ensures)
+    (rw (← c.view.view_is) c.in_default.ensures.place)
 
 pub returns-then-same_state : goal.returns-then-same_state
 returns-then-same_state g c =
@@ -17,7 +17,7 @@ returns-then-same_state g c =
     rw (← c.view.view_is, ← c.deref.ensures) c.same_ports.ensures in
     ports
     ∙ node-same takes c.args.net.now c.args.view.now c.in-Some.place
-    (rw (← c.view.view_is) c.in-Some.ensures) c.node.result.1 c.node.ensures.state
+    (rw (← c.view.view_is) c.in-Some.ensures.place) c.node.result.1 c.node.ensures.state
     (rw (← c.view.view_is) (sym c.if-same_state.ensures)) c.ports.result.now c.ports.ensures
 
 pub returns-else-same_state : goal.returns-else-same_state
@@ -25,5 +25,5 @@ returns-else-same_state g c =
     let takes = g.C.NumCode.takes in
     c.if-same_state.false
     ∙ node-other takes c.args.net.now c.args.view.now c.in-Some.place
-    (rw (← c.view.view_is) c.in-Some.ensures) c.node.result.1 c.node.ensures.state
+    (rw (← c.view.view_is) c.in-Some.ensures.place) c.node.result.1 c.node.ensures.state
     (rw (← c.view.view_is) (sym c.if-same_state.ensures))

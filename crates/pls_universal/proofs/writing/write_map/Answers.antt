@@ -3,7 +3,7 @@ use Rattle.std.specs.List.{flat_map}
 use Rattle.std.proofs.lemmas.List.{length-map, take_all}
 use Rattle.std.proofs.lemmas.Option.{slice_get_within}
 use Rattle.pls_configuration.specs.declared.row.NodeRow.{NodeRow}
-use Rattle.pls_facts.proofs.Lists.{item_at}
+use Rattle.pls_graph.proofs.Finds.{item_at}
 use Rattle.pls_numbers.specs.Numbers.{AreCoded, codes_of}
 use Rattle.pls_numbers.specs.laws.CodeLaws.{coded_item, codes_of-item}
 use Rattle.pls_universal.specs.declared.map.MapRow.{MapRow}

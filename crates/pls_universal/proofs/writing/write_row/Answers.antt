@@ -1,6 +1,6 @@
 use Rattle.std.proofs.Common.{◌≡◌, ◌∙◌, ◌++◌, [], ℕ, List, Some, slice_get, sym, ap, subst}
 use Rattle.pls_configuration.specs.declared.row.NodeRow.{NodeRow}
-use Rattle.pls_facts.proofs.Lists.{item_at}
+use Rattle.pls_graph.proofs.Finds.{item_at}
 use Rattle.pls_numbers.specs.Numbers.{AreCoded, codes_of}
 use Rattle.pls_universal.proofs.Lent.{lent_numbers}
 use Rattle.pls_universal.proofs.writing.write_row.Goals as goal

@@ -2,7 +2,8 @@ use Rattle.std.proofs.Common.{◌≡◌, ◌∙◌, ◌+◌, length, slice_get, 
 use Rattle.std.proofs.lemmas.List.{length-map}
 use Rattle.pls_bits.specs.Gamma.{gamma_takes}
 use Rattle.pls_labels.specs.Seen.{Seen, label_of, seen, views}
-use Rattle.pls_facts.proofs.Lists.{item_at, map-take_more}
+use Rattle.pls_graph.proofs.Finds.{item_at}
+use Rattle.pls_facts.proofs.Lists.{map-take_more}
 use Rattle.pls_rules.specs.HeldTrees.{set_of}
 use Rattle.pls_compile.specs.RuleMeaning.{meaning}
 use Rattle.pls_compile.proofs.rule_checker.RuleCheckerChecker.round.Goals as goal

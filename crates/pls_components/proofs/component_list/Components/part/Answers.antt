@@ -10,28 +10,28 @@ use Rattle.pls_components.proofs.component_list.Components.part.Goals as goal
 pub size_at-ports-requires-clause-within : goal.size_at-ports-requires-clause-within
 size_at-ports-requires-clause-within c =
     let places = c.members-places.result.now in
-    places_within c.args.net.now c.len.ensures.valid places
+    places_within c.args.net.now c.is_valid.ensures places
     (component_at c.args.net.now c.args.self.now c.requires.made c.args.k places
     c.members-places.ensures)
 
 pub size_at-ports-requires-clause-network : goal.size_at-ports-requires-clause-network
 size_at-ports-requires-clause-network c =
     let places = c.members-places.result.now in
-    part_network c.args.net.now c.len.ensures.valid places
+    part_network c.args.net.now c.is_valid.ensures places
     (component_at c.args.net.now c.args.self.now c.requires.made c.args.k places
     c.members-places.ensures)
 
 pub rows_of-requires : goal.rows_of-requires
 rows_of-requires c =
     let places = c.members-places.result.now in
-    places_within c.args.net.now c.len.ensures.valid places
+    places_within c.args.net.now c.is_valid.ensures places
     (component_at c.args.net.now c.args.self.now c.requires.made c.args.k places
     c.members-places.ensures)
 
 pub build-requires : goal.build-requires
 build-requires c =
     let places = c.members-places.result.now in
-    let network = part_network c.args.net.now c.len.ensures.valid places
+    let network = part_network c.args.net.now c.is_valid.ensures places
     (component_at c.args.net.now c.args.self.now c.requires.made c.args.k places
     c.members-places.ensures) in
     record { within_limits = subst AreWithinLimits (sym c.in_ok-rows.ensures) network.limits }

@@ -20,7 +20,7 @@ node-requires c =
     let is : IsComponent c.args.net.now c.members.result.now =
     c.requires.made.each c.members.result.now
     (Contains-from_place c.args.self.now c.args.k c.members.result.now c.members.ensures) in
-    places_within c.args.net.now c.len.ensures.valid c.members.result.now is 0 0
+    places_within c.args.net.now c.is_valid.ensures c.members.result.now is 0 0
     (let some = is.own.1 in omega arith)
 
 pub returns : goal.returns
@@ -36,7 +36,7 @@ returns c = λ named at.
     from_option_map (λ (row : NodeRow). row.id) (slice_get c.args.net.now place) c.node.result.0
     c.node.ensures.id in
     let least : least_id c.args.net.now places ≡ c.node.result.0 =
-    least_first c.args.net.now c.len.ensures.valid places is place row
+    least_first c.args.net.now c.is_valid.ensures places is place row
     (slice_get-get_or places 0 0 some) there ∙ same in
     let here : places ≡ named = same_Some places named (sym c.members.ensures ∙ at) in
     sym (rw here at least)

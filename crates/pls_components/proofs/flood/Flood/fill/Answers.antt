@@ -7,7 +7,7 @@ use Rattle.pls_components.proofs.flood.Flood.fill.Goals as goal
 
 pub loop-place-init : goal.loop-place-init
 loop-place-init c =
-    Filling-first c.args.net.now c.len.ensures.valid c.args.self.now.numbers.items c.args.root
+    Filling-first c.args.net.now c.is_valid.ensures c.args.self.now.numbers.items c.args.root
     c.args.number c.enter.new.self.numbers.items c.enter.new.self.waiting.items c.requires.within
     c.requires.closed c.requires.blank
     (subst (λ (before : List ℕ). Enters c.args.self.now.numbers.items c.enter.new.self.numbers.items
@@ -24,7 +24,7 @@ places-requires c =
 
 pub loop-place-preserved : goal.loop-place-preserved
 loop-place-preserved c =
-    Filling-more c.args.net.now c.len.ensures.valid c.args.self.now.numbers.items c.args.root
+    Filling-more c.args.net.now c.is_valid.ensures c.args.self.now.numbers.items c.args.root
     c.args.number c.loop-place.self.numbers.items c.enter_all.new.self.numbers.items
     c.loop-place.self.waiting.items c.pop.new.self.items c.enter_all.new.self.waiting.items
     c.in-Some.place c.in-Some.ensures.items c.loop-place.invariant
@@ -35,7 +35,7 @@ loop-place-preserved c =
 pub returns-clause-filled : goal.returns-clause-filled
 returns-clause-filled c =
     let empty : c.loop-place.self.waiting.items ≡ [] = search rules in
-    Fills-end c.args.net.now c.len.ensures.valid c.args.self.now.numbers.items c.args.root
+    Fills-end c.args.net.now c.is_valid.ensures c.args.self.now.numbers.items c.args.root
     c.args.number c.loop-place.self.numbers.items
     (subst (λ (waiting : List ℕ). Filling c.args.net.now c.args.self.now.numbers.items
     c.loop-place.self.numbers.items waiting c.args.root c.args.number) empty c.loop-place.invariant)

@@ -9,7 +9,7 @@ returns-in_default-place_of-clause-lacking g c shortest =
     let rows = c.args.net.now in
     let only = rw c.in-Some.is at (c.in_ok-root.ensures.root) in
     let is = root_place rows c.root_and_depths.ensures.valid shortest.tree c.in-Some.root only in
-    let no : None ≡ Some is.0 = sym c.in_default-place_of.is ∙ c.place_of.ensures ∙ is.2 in
+    let no : None ≡ Some is.0 = sym c.in_default-place_of.is ∙ c.place_of.ensures.place ∙ is.2 in
     absurd (cc)
 
 pub returns-then-not-follow_pointers-clause-lacking :
@@ -20,7 +20,7 @@ returns-then-not-follow_pointers-clause-lacking g c shortest =
     let deep = rw c.in-Some.is at (c.in_ok-root.ensures.depths) in
     let tree = rw c.in-Some.is at (c.in_ok-root.ensures.holds) in
     let is : position (λ (row : NodeRow). c.in-Some.root == row.id) rows
-    ≡ Some c.in-Some-place_of.place = sym c.place_of.ensures ∙ c.in-Some-place_of.is in
+    ≡ Some c.in-Some-place_of.place = sym c.place_of.ensures.place ∙ c.in-Some-place_of.is in
     let found = c.in_ok-found.found.items in
     let followed =
     shortest_followed rows c.root_and_depths.ensures.valid c.requires tree c.in-Some.root only
@@ -37,7 +37,7 @@ returns-clause-holds g c =
     let deep = rw c.in-Some.is at (c.in_ok-root.ensures.depths) in
     let tree = rw c.in-Some.is at (c.in_ok-root.ensures.holds) in
     let is : position (λ (row : NodeRow). c.in-Some.root == row.id) rows
-    ≡ Some c.in-Some-place_of.place = sym c.place_of.ensures ∙ c.in-Some-place_of.is in
+    ≡ Some c.in-Some-place_of.place = sym c.place_of.ensures.place ∙ c.in-Some-place_of.is in
     let found = c.in_ok-found.found.items in
     let followed : AreFollowed rows found =
     subst (AreFollowed rows) c.deref.ensures.value
@@ -53,7 +53,7 @@ returns-clause-right g c =
     let deep = rw c.in-Some.is at (c.in_ok-root.ensures.depths) in
     let tree = rw c.in-Some.is at (c.in_ok-root.ensures.holds) in
     let is : position (λ (row : NodeRow). c.in-Some.root == row.id) rows
-    ≡ Some c.in-Some-place_of.place = sym c.place_of.ensures ∙ c.in-Some-place_of.is in
+    ≡ Some c.in-Some-place_of.place = sym c.place_of.ensures.place ∙ c.in-Some-place_of.is in
     let found = c.in_ok-found.found.items in
     let followed : AreFollowed rows found =
     subst (AreFollowed rows) c.deref.ensures.value

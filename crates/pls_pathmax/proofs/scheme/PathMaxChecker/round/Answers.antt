@@ -1,7 +1,8 @@
 use Rattle.std.proofs.Common.{◌≡◌, ◌∙◌, length, slice_get, Some, arith}
 use Rattle.std.proofs.lemmas.List.{length-map}
 use Rattle.pls_labels.specs.Seen.{Seen, label_of, seen, views}
-use Rattle.pls_facts.proofs.Lists.{item_at, map-take_more}
+use Rattle.pls_graph.proofs.Finds.{item_at}
+use Rattle.pls_facts.proofs.Lists.{map-take_more}
 use Rattle.pls_scheme.specs.Basic.{verdict_by}
 use Rattle.pls_pathmax.specs.Labels.{pathmax_shape}
 use Rattle.pls_pathmax.specs.Rules.{pathmax_rules}

@@ -14,7 +14,7 @@ use Rattle.pls_recheck.proofs.edited_network.EditedNetwork.leave.Goals as goal
 pub returns-in_default-clause-refused : goal.returns-in_default-clause-refused
 returns-in_default-clause-refused c =
     subst (λ (now : Snapshot). leave_refusal now.network c.args.id ≡ Some Absent) c.self.view_is
-    (leave_absent c.self.inside.net c.args.id (sym c.in_default.ensures))
+    (leave_absent c.self.inside.net c.args.id (sym c.in_default.ensures.place))
 
 pub invariant_of-self-2 : goal.invariant_of-self-2
 invariant_of-self-2 c =
@@ -34,14 +34,14 @@ invariant_of-self-2 c =
       verdicts = c.remove-4.new.self.items;
     } in
     let row : (row : NodeRow) × IsRowOf rows c.args.id c.in-Some.i row =
-    row_there rows c.len.ensures.valid c.args.id c.in-Some.i (sym c.in-Some.ensures) in
-    leave_keeps before c.len.ensures.valid c.self.invariant now c.len-2.ensures.valid c.args.id
+    row_there rows c.leave.ensures.was_valid c.args.id c.in-Some.i (sym c.in-Some.ensures.place) in
+    leave_keeps before c.leave.ensures.was_valid c.self.invariant now c.in_ok-leave.ensures.valid c.args.id
     c.in-Some.i row.0 row.1.at row.1.same row.1.found c.in_ok-leave.ensures.allowed
-    (place_is rows c.len.ensures.valid c.args.id c.in-Some.i (sym c.in-Some.ensures))
+    (place_is rows c.leave.ensures.was_valid c.args.id c.in-Some.i (sym c.in-Some.ensures.place))
     (rw (
       c.in_ok-leave.ensures.ok
           ∙ ap (without_node rows) (sym row.1.same)
-          ∙ left_at rows c.len.ensures.valid c.in-Some.i row.0 row.1.at,
+          ∙ left_at rows c.leave.ensures.was_valid c.in-Some.i row.0 row.1.at,
       c.remove.ensures,
       c.remove-2.ensures.items,
       c.remove-3.ensures.items,
@@ -66,14 +66,14 @@ returns-clause-ok c =
       verdicts = c.remove-4.new.self.items;
     } in
     let row : (row : NodeRow) × IsRowOf rows c.args.id c.in-Some.i row =
-    row_there rows c.len.ensures.valid c.args.id c.in-Some.i (sym c.in-Some.ensures) in
-    leave_makes before c.len.ensures.valid c.self.invariant now c.len-2.ensures.valid c.args.id
+    row_there rows c.leave.ensures.was_valid c.args.id c.in-Some.i (sym c.in-Some.ensures.place) in
+    leave_makes before c.leave.ensures.was_valid c.self.invariant now c.in_ok-leave.ensures.valid c.args.id
     c.in-Some.i row.0 row.1.at row.1.same row.1.found c.in_ok-leave.ensures.allowed
-    (place_is rows c.len.ensures.valid c.args.id c.in-Some.i (sym c.in-Some.ensures))
+    (place_is rows c.leave.ensures.was_valid c.args.id c.in-Some.i (sym c.in-Some.ensures.place))
     (rw (
       c.in_ok-leave.ensures.ok
           ∙ ap (without_node rows) (sym row.1.same)
-          ∙ left_at rows c.len.ensures.valid c.in-Some.i row.0 row.1.at,
+          ∙ left_at rows c.leave.ensures.was_valid c.in-Some.i row.0 row.1.at,
       c.remove.ensures,
       c.remove-2.ensures.items,
       c.remove-3.ensures.items,
@@ -99,14 +99,14 @@ returns-clause-current c = λ judge current.
       verdicts = c.remove-4.new.self.items;
     } in
     let row : (row : NodeRow) × IsRowOf rows c.args.id c.in-Some.i row =
-    row_there rows c.len.ensures.valid c.args.id c.in-Some.i (sym c.in-Some.ensures) in
-    leave_current before c.len.ensures.valid c.self.invariant now c.len-2.ensures.valid c.args.id
+    row_there rows c.leave.ensures.was_valid c.args.id c.in-Some.i (sym c.in-Some.ensures.place) in
+    leave_current before c.leave.ensures.was_valid c.self.invariant now c.in_ok-leave.ensures.valid c.args.id
     c.in-Some.i row.0 row.1.at row.1.same row.1.found c.in_ok-leave.ensures.allowed
-    (place_is rows c.len.ensures.valid c.args.id c.in-Some.i (sym c.in-Some.ensures))
+    (place_is rows c.leave.ensures.was_valid c.args.id c.in-Some.i (sym c.in-Some.ensures.place))
     (rw (
       c.in_ok-leave.ensures.ok
           ∙ ap (without_node rows) (sym row.1.same)
-          ∙ left_at rows c.len.ensures.valid c.in-Some.i row.0 row.1.at,
+          ∙ left_at rows c.leave.ensures.was_valid c.in-Some.i row.0 row.1.at,
       c.remove.ensures,
       c.remove-2.ensures.items,
       c.remove-3.ensures.items,

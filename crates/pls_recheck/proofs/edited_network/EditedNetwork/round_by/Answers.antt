@@ -8,7 +8,7 @@ use Rattle.pls_recheck.proofs.edited_network.EditedNetwork.round_by.Goals as goa
 pub judge_flagged-requires-clause-current : goal.judge_flagged-requires-clause-current
 judge_flagged-requires-clause-current g c =
     current_by_flags (g.A.Asks.judge c.args.asks.now c.args.counter.now) c.self.inside.net c.self.inside.labels
-    c.self.inside.flags.items c.self.inside.kept.items c.len.ensures.valid
+    c.self.inside.flags.items c.self.inside.kept.items c.is_valid.ensures
     c.self.invariant.a_flag
     (subst (λ (now : Snapshot). IsCurrent (g.A.Asks.judge c.args.asks.now c.args.counter.now) now)
     (sym c.self.view_is) c.requires.current)
@@ -16,7 +16,7 @@ judge_flagged-requires-clause-current g c =
 pub returns-clause-current : goal.returns-clause-current
 returns-clause-current g c =
     current_by_ids (g.A.Asks.judge c.args.asks.now c.args.counter.now) c.self.inside.net c.self.inside.labels
-    c.judge_flagged.new.flags.items c.judge_flagged.new.kept.items c.len.ensures.valid
+    c.judge_flagged.new.flags.items c.judge_flagged.new.kept.items c.is_valid.ensures
     c.judge_flagged.ensures.a_flag c.judge_flagged.ensures.current
 
 pub invariant_of-self : goal.invariant_of-self

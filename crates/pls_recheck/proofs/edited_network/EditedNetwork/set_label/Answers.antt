@@ -21,22 +21,22 @@ returns-in_default-clause-refused c =
     subst (λ (now : Snapshot). label_refusal now.network now.labels c.args.id c.args.bits.now
     ≡ Some Absent) c.self.view_is
     (label_absent c.self.inside.net c.self.inside.labels c.args.id c.args.bits.now
-    (sym c.in_default.ensures))
+    (sym c.in_default.ensures.place))
 
 pub returns-then-is_full-clause-refused : goal.returns-then-is_full-clause-refused
 returns-then-is_full-clause-refused c =
     subst (λ (now : Snapshot). label_refusal now.network now.labels c.args.id c.args.bits.now
     ≡ Some Full) c.self.view_is
-    (label_by c.self.inside.net c.len.ensures.valid c.self.inside.labels c.args.id c.in-Some.i
-    c.args.bits.now (sym c.in-Some.ensures) c.is_full.result c.is_full.ensures
+    (label_by c.self.inside.net c.place_of.ensures.valid c.self.inside.labels c.args.id c.in-Some.i
+    c.args.bits.now (sym c.in-Some.ensures.place) c.is_full.result c.is_full.ensures
     ∙ ap (λ (b : Bool). cond b (Some Full) None) c.if-is_full.true)
 
 pub returns-clause-allowed : goal.returns-clause-allowed
 returns-clause-allowed c =
     subst (λ (now : Snapshot). label_refusal now.network now.labels c.args.id c.args.bits.now
     ≡ None) c.self.view_is
-    (label_by c.self.inside.net c.len.ensures.valid c.self.inside.labels c.args.id c.in-Some.i
-    c.args.bits.now (sym c.in-Some.ensures) c.is_full.result c.is_full.ensures
+    (label_by c.self.inside.net c.place_of.ensures.valid c.self.inside.labels c.args.id c.in-Some.i
+    c.args.bits.now (sym c.in-Some.ensures.place) c.is_full.result c.is_full.ensures
     ∙ ap (λ (b : Bool). cond b (Some Full) None) c.if-is_full.false)
 
 pub invariant_of-self-2 : goal.invariant_of-self-2
@@ -44,7 +44,7 @@ invariant_of-self-2 c =
     let rows = c.self.inside.net in
     let labels = c.self.inside.labels in
     let row : (row : NodeRow) × IsRowOf rows c.args.id c.in-Some.i row =
-    row_there rows c.len.ensures.valid c.args.id c.in-Some.i (sym c.in-Some.ensures) in
+    row_there rows c.place_of.ensures.valid c.args.id c.in-Some.i (sym c.in-Some.ensures.place) in
     record {
       a_label = ap (λ (labels : List (List Bool)). length labels) c.in-Ok.ensures.replaced
           ∙ length-set labels c.in-Some.i c.args.bits.now ∙ c.self.invariant.a_label;
@@ -69,15 +69,15 @@ returns-clause-ok c =
     } in
     let passes : ℕ → Bool = λ node. (c.args.id == node) || are_linked rows c.args.id node in
     let row : (row : NodeRow) × IsRowOf rows c.args.id c.in-Some.i row =
-    row_there rows c.len.ensures.valid c.args.id c.in-Some.i (sym c.in-Some.ensures) in
+    row_there rows c.place_of.ensures.valid c.args.id c.in-Some.i (sym c.in-Some.ensures.place) in
     let more : MarksMore passes rows old new =
-    marks_linked rows c.len.ensures.valid c.args.id c.in-Some.i (sym c.in-Some.ensures) row.0 row.1
+    marks_linked rows c.place_of.ensures.valid c.args.id c.in-Some.i (sym c.in-Some.ensures.place) row.0 row.1
     old new (c.touch_around.ensures.touched row.0 row.1.at) in
     let put = c.in-Ok.ensures.replaced
     ∙ ap (λ (i : ℕ). set labels i c.args.bits.now)
-    (sym (place_is rows c.len.ensures.valid c.args.id c.in-Some.i (sym c.in-Some.ensures))) in
+    (sym (place_is rows c.place_of.ensures.valid c.args.id c.in-Some.i (sym c.in-Some.ensures.place))) in
     parts_after edit before rows c.replace.new.self (marked (ids_of rows) new) refl refl put
-    (touched_now rows rows c.len.ensures.valid c.len.ensures.valid labels labels refl old new
+    (touched_now rows rows c.place_of.ensures.valid c.place_of.ensures.valid labels labels refl old new
     c.self.invariant.a_flag c.self.invariant.a_flag passes more kept)
     ∙ ap (snapshot_after edit) c.self.view_is
 
@@ -89,15 +89,15 @@ returns-clause-current c = λ judge current.
     let new = c.touch_around.new.flags.items in
     let passes : ℕ → Bool = λ node. (c.args.id == node) || are_linked rows c.args.id node in
     let row : (row : NodeRow) × IsRowOf rows c.args.id c.in-Some.i row =
-    row_there rows c.len.ensures.valid c.args.id c.in-Some.i (sym c.in-Some.ensures) in
+    row_there rows c.place_of.ensures.valid c.args.id c.in-Some.i (sym c.in-Some.ensures.place) in
     let more : MarksMore passes rows old new =
-    marks_linked rows c.len.ensures.valid c.args.id c.in-Some.i (sym c.in-Some.ensures) row.0 row.1
+    marks_linked rows c.place_of.ensures.valid c.args.id c.in-Some.i (sym c.in-Some.ensures.place) row.0 row.1
     old new (c.touch_around.ensures.touched row.0 row.1.at) in
     let alike : SeeAlike passes rows rows labels c.replace.new.self =
     subst (λ (then : List (List Bool)). SeeAlike passes rows rows labels then)
     (sym c.in-Ok.ensures.replaced)
-    (label_alike rows c.len.ensures.valid labels c.args.id c.in-Some.i c.args.bits.now
-    (sym c.in-Some.ensures)) in
-    current_now rows rows c.len.ensures.valid c.len.ensures.valid labels c.replace.new.self refl old
+    (label_alike rows c.place_of.ensures.valid labels c.args.id c.in-Some.i c.args.bits.now
+    (sym c.in-Some.ensures.place)) in
+    current_now rows rows c.place_of.ensures.valid c.place_of.ensures.valid labels c.replace.new.self refl old
     new c.self.invariant.a_flag c.self.invariant.a_flag passes more c.self.inside.kept.items alike
     judge (subst (λ (now : Snapshot). IsCurrent judge now) (sym c.self.view_is) current)

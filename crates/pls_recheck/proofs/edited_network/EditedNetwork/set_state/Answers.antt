@@ -49,7 +49,7 @@ returns-clause-ok c =
     ap ids_of c.in_ok-set_state.ensures.ok ∙ ids_of_changed c.args.id (in_state c.args.state) (λ row. refl) rows in
     parts_after edit before network labels (marked (ids_of network) new)
     refl c.in_ok-set_state.ensures.ok refl
-    (touched_now rows network c.len.ensures.valid c.touch.ensures.valid labels labels ids old new
+    (touched_now rows network c.set_state.ensures.was_valid c.touch.ensures.valid labels labels ids old new
     c.self.invariant.a_flag (same_many rows network ids old c.self.invariant.a_flag)
     (λ node. c.args.id == node) c.touch.ensures.touched kept)
     ∙ ap (snapshot_after edit) c.self.view_is
@@ -66,7 +66,7 @@ returns-clause-current c = λ judge current.
     let stays : Stays passes rows network =
     subst (λ (network : List NodeRow). Stays passes rows network) (sym c.in_ok-set_state.ensures.ok)
     (changed_stays c.args.id (in_state c.args.state) (λ row. refl) rows) in
-    current_now rows network c.len.ensures.valid c.touch.ensures.valid labels labels ids old
+    current_now rows network c.set_state.ensures.was_valid c.touch.ensures.valid labels labels ids old
     c.touch.new.flags.items c.self.invariant.a_flag
     (same_many rows network ids old c.self.invariant.a_flag) passes c.touch.ensures.touched
     c.self.inside.kept.items (stays_alike passes rows network labels ids stays) judge

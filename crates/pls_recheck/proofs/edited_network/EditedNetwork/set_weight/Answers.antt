@@ -49,7 +49,7 @@ returns-clause-ok c =
     ap ids_of c.in_ok-set_weight.ensures.ok ∙ ids_of_ends (weighing c.args.weight) (λ id row. refl) c.args.a c.args.b rows in
     parts_after edit before network labels (marked (ids_of network) new)
     refl c.in_ok-set_weight.ensures.ok refl
-    (touched_now rows network c.len.ensures.valid c.touch_ends.ensures.valid labels labels ids old new
+    (touched_now rows network c.set_weight.ensures.was_valid c.touch_ends.ensures.valid labels labels ids old new
     c.self.invariant.a_flag (same_many rows network ids old c.self.invariant.a_flag)
     (λ node. (c.args.a == node) || (c.args.b == node)) c.touch_ends.ensures.touched kept)
     ∙ ap (snapshot_after edit) c.self.view_is
@@ -66,7 +66,7 @@ returns-clause-current c = λ judge current.
     let stays : Stays passes rows network =
     subst (λ (network : List NodeRow). Stays passes rows network) (sym c.in_ok-set_weight.ensures.ok)
     (ends_stay (weighing c.args.weight) (λ id row. refl) c.args.a c.args.b rows) in
-    current_now rows network c.len.ensures.valid c.touch_ends.ensures.valid labels labels ids old
+    current_now rows network c.set_weight.ensures.was_valid c.touch_ends.ensures.valid labels labels ids old
     c.touch_ends.new.flags.items c.self.invariant.a_flag
     (same_many rows network ids old c.self.invariant.a_flag) passes c.touch_ends.ensures.touched
     c.self.inside.kept.items (stays_alike passes rows network labels ids stays) judge

@@ -29,5 +29,5 @@ overflow_cast-result c =
       is,
       few_marked (ids_of c.self.inside.net) flags,
       length-map c.self.inside.net (λ (row : NodeRow). row.id),
-      c.len.ensures.valid.limits.few_nodes,
+      c.is_valid.ensures.limits.few_nodes,
     )

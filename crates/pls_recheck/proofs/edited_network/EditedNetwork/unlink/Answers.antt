@@ -51,7 +51,7 @@ returns-clause-ok c =
     ap ids_of c.in_ok-unlink.ensures.ok ∙ ids_of_ends losing (λ id row. refl) c.args.a c.args.b rows in
     parts_after edit before network labels (marked (ids_of network) new)
     refl c.in_ok-unlink.ensures.ok refl
-    (touched_now rows network c.len.ensures.valid c.unsettle_ends.ensures.valid labels labels ids old new
+    (touched_now rows network c.unlink.ensures.was_valid c.unsettle_ends.ensures.valid labels labels ids old new
     c.self.invariant.a_flag (same_many rows network ids old c.self.invariant.a_flag)
     (λ node. (c.args.a == node) || (c.args.b == node)) c.unsettle_ends.ensures.touched kept)
     ∙ ap (snapshot_after edit) c.self.view_is
@@ -68,7 +68,7 @@ returns-clause-current c = λ judge current.
     let stays : Stays passes rows network =
     subst (λ (network : List NodeRow). Stays passes rows network) (sym c.in_ok-unlink.ensures.ok)
     (ends_stay losing (λ id row. refl) c.args.a c.args.b rows) in
-    current_now rows network c.len.ensures.valid c.unsettle_ends.ensures.valid labels labels ids old
+    current_now rows network c.unlink.ensures.was_valid c.unsettle_ends.ensures.valid labels labels ids old
     c.unsettle_ends.new.flags.items c.self.invariant.a_flag
     (same_many rows network ids old c.self.invariant.a_flag) passes c.unsettle_ends.ensures.touched
     c.self.inside.kept.items (stays_alike passes rows network labels ids stays) judge

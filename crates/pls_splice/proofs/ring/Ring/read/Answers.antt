@@ -14,7 +14,7 @@ returns-in-Some-clause-refused c = other_number c.args.net.now c.in-Some.id c.in
 pub returns-in-Some-2-clause-refused : goal.returns-in-Some-2-clause-refused
 returns-in-Some-2-clause-refused c =
     let rows = c.args.net.now in
-    no_walk rows c.len.ensures.valid c.in-Some-2.id
+    no_walk rows c.node_apart.ensures.valid c.in-Some-2.id
     (None-option_map (λ (row : NodeRow). row.id) (find has_not_two rows) c.in_default.ensures)
     (subst (λ (o : Option ℕ). IfSome o (IsFirstApart rows)) c.in-Some-2.is c.in_ok-id.ensures.apart)
 
@@ -39,5 +39,5 @@ returns-clause-ok c =
     record {
       ring = ring;
       round = subst (IsOrder rows) (sym c.in_ok-places.ensures)
-          (round_order rows c.len.ensures.valid ring);
+          (round_order rows c.node_apart.ensures.valid ring);
     }

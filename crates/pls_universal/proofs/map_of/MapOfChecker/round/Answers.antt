@@ -18,7 +18,7 @@ loop-i-init g c = record {
 
 pub verdict_at-requires-clause-at : goal.verdict_at-requires-clause-at
 verdict_at-requires-clause-at g c =
-    own_at c.args.net.now c.is_valid.ensures (g.L.Labels.listed c.args.labels.now) c.requires c.loop-i.i
+    own_at c.args.net.now c.len.ensures.valid (g.L.Labels.listed c.args.labels.now) c.requires c.loop-i.i
     c.in_ok-view.view c.in_ok-view.ensures.shows
 
 pub returns-in_err-verdict-clause-few_steps : goal.returns-in_err-verdict-clause-few_steps

@@ -3,7 +3,7 @@ use Rattle.std.proofs.lemmas.List.Sums.{get_or-le-sum_by}
 use Rattle.std.proofs.lemmas.Option.{slice_get-get_or}
 use Rattle.pls_configuration.specs.declared.row.NodeRow.{NodeRow}
 use Rattle.pls_graph.proofs.Members.{Contains-from_place}
-use Rattle.pls_facts.proofs.Lists.{item_at}
+use Rattle.pls_graph.proofs.Finds.{item_at}
 use Rattle.pls_graph.specs.declared.size.Size.{Size}
 use Rattle.pls_graph.specs.Size.{size_of}
 use Rattle.pls_numbers.specs.Shape.{IsSpelled, said_by}
@@ -24,16 +24,16 @@ returns-clause-accepted g c =
     let rows = c.args.net.now in
     let property = c.args.self.now.property in
     let words : AreWords (size_of rows) = record {
-      max_id = omega (arith, ap (λ (size : Size). size.max_id) c.size.ensures);
-      max_weight = omega (arith, ap (λ (size : Size). size.max_weight) c.size.ensures);
-      max_mark = omega (arith, ap (λ (size : Size). size.max_mark) c.size.ensures);
+      max_id = omega (arith, ap (λ (size : Size). size.max_id) c.size.ensures.size);
+      max_weight = omega (arith, ap (λ (size : Size). size.max_weight) c.size.ensures.size);
+      max_mark = omega (arith, ap (λ (size : Size). size.max_mark) c.size.ensures.size);
     } in
     marked_accepted (λ bits label. IsSpelled map_shape code bits label) (map_says rows) rows
-    c.in_ok-labels.labels c.in_ok-labels.ensures c.is_valid.ensures (said_by map_shape takes)
+    c.in_ok-labels.labels c.in_ok-labels.ensures c.size.ensures.valid (said_by map_shape takes)
     (λ bits label is. (said_spells map_shape map_numbers code takes g.met.C.NumCode.takes_codes
     g.met.C.NumCode.takes_only bits label).1 is) (map_rules (g.P.PropertyTest.test property))
     (map_met (g.P.PropertyTest.test property) (g.P.Property.holds property)
-    (g.met.P.PropertyTest.test_law property) rows c.is_valid.ensures c.requires
+    (g.met.P.PropertyTest.test_law property) rows c.size.ensures.valid c.requires
     (c.in_ok-decide.ensures.0 c.if-not-branch.false) words)
 
 pub returns-clause-short : goal.returns-clause-short

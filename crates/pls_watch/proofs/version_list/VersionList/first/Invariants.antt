@@ -1,9 +1,9 @@
 use Rattle.std.proofs.Common.{◌≡◌, map, replicate}
-use Rattle.pls_watch.specs.declared.version_list.Version.{Version}
+use Rattle.pls_watch.specs.declared.label_version.LabelVersion.{LabelVersion}
 use Rattle.pls_watch.specs.inner.Numbers.{ArePlaces}
 use Rattle.pls_watch.proofs.version_list.VersionList.first.Given as goal
 
 abbrev pub invariant-loop-place : goal.invariant-loop-place
 invariant-loop-place l =
-    (map (λ (item : Version). item.version) l.items.items ≡ replicate l.place 0)
-    × ArePlaces l.place (map (λ (item : Version). item.label) l.items.items)
+    (map (λ (item : LabelVersion). item.version) l.items.items ≡ replicate l.place 0)
+    × ArePlaces l.place (map (λ (item : LabelVersion). item.label) l.items.items)

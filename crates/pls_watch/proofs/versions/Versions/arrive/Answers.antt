@@ -14,8 +14,8 @@ use Rattle.pls_watch.proofs.Arrived.{at_within, not_emitted, past_emit, zero_emi
 use Rattle.pls_watch.proofs.versions.Versions.arrive.Goals.{else-heard, then-heard+then-came-old, then-number-eq0-via-then-number-eq0, then-number-eq0-via-else-number-eq0+then-number-len}
 use Rattle.pls_watch.proofs.versions.Versions.arrive.Goals as goal
 
-pub arrives_at-at-requires-clause-emitted : goal.arrives_at-at-requires-clause-emitted
-arrives_at-at-requires-clause-emitted c =
+pub arrives_at-target-requires-clause-emitted : goal.arrives_at-target-requires-clause-emitted
+arrives_at-target-requires-clause-emitted c =
     let old = c.self.inside in
     few_emits old.net.now (woven old.sim.events old.givings.items) _ _ _ c.self.invariant.1 old.most old.sim
     c.self.invariant.0
@@ -30,8 +30,8 @@ heard_at-heard-requires-clause-number c =
       at_within old.net.now (woven old.sim.events old.givings.items) _ _ _ c.self.invariant.1 old.most old.sim
           c.self.invariant.0
           c.args.number (omega (arith, c.if-number-len.false, c.len.ensures))
-          (c.args.number - 1) (omega (arith, c.if-number-eq0.false)) c.arrives_at-at.result.0
-          c.arrives_at-at.ensures.port,
+          (c.args.number - 1) (omega (arith, c.if-number-eq0.false)) c.arrives_at-target.result.port
+          c.arrives_at-target.ensures.port,
     )
 
 pub get-old-requires : goal.get-old-requires
@@ -43,8 +43,8 @@ get-old-requires c =
       at_within old.net.now (woven old.sim.events old.givings.items) _ _ _ c.self.invariant.1 old.most old.sim
           c.self.invariant.0
           c.args.number (omega (arith, c.if-number-len.false, c.len.ensures))
-          (c.args.number - 1) (omega (arith, c.if-number-eq0.false)) c.arrives_at-at.result.0
-          c.arrives_at-at.ensures.port,
+          (c.args.number - 1) (omega (arith, c.if-number-eq0.false)) c.arrives_at-target.result.port
+          c.arrives_at-target.ensures.port,
     )
 
 pub set-requires : goal.set-requires
@@ -56,8 +56,8 @@ set-requires c =
       at_within old.net.now (woven old.sim.events old.givings.items) _ _ _ c.self.invariant.1 old.most old.sim
           c.self.invariant.0
           c.args.number (omega (arith, c.if-number-len.false, c.len.ensures))
-          (c.args.number - 1) (omega (arith, c.if-number-eq0.false)) c.arrives_at-at.result.0
-          c.arrives_at-at.ensures.port,
+          (c.args.number - 1) (omega (arith, c.if-number-eq0.false)) c.arrives_at-target.result.port
+          c.arrives_at-target.ensures.port,
     )
 
 pub heard_at-heard-requires-clause-place : goal.heard_at-heard-requires-clause-place
@@ -69,8 +69,8 @@ heard_at-heard-requires-clause-place c =
       end_within old.net.now (woven old.sim.events old.givings.items) _ _ _ c.self.invariant.1 old.most old.sim
           c.self.invariant.0
           c.args.number (omega (arith, c.if-number-len.false, c.len.ensures))
-          (c.args.number - 1) (omega (arith, c.if-number-eq0.false)) c.arrives_at-at.result.0
-          c.arrives_at-at.ensures.port c.arrives_at-at.result.1 c.arrives_at-at.ensures.place,
+          (c.args.number - 1) (omega (arith, c.if-number-eq0.false)) c.arrives_at-target.result.port
+          c.arrives_at-target.ensures.port c.arrives_at-target.result.place c.arrives_at-target.ensures.place,
     )
 
 pub invariant_of-self-2 : goal.invariant_of-self-2
@@ -95,23 +95,23 @@ invariant_of-self-2 c =
           c.in_ok-step.ensures.taken c.self.invariant.0,
       kept_now rows (woven old.sim.events old.givings.items) _ _ _ c.self.invariant.1 old.most old.sim c.self.invariant.0
           c.args.number (omega (arith, c.if-number-len.false, c.len.ensures))
-          (c.args.number - 1) (omega (arith, c.if-number-eq0.false)) c.arrives_at-at.result.0
-          c.arrives_at-at.ensures.port c.arrives_at-at.result.1 c.arrives_at-at.ensures.place
+          (c.args.number - 1) (omega (arith, c.if-number-eq0.false)) c.arrives_at-target.result.port
+          c.arrives_at-target.ensures.port c.arrives_at-target.result.place c.arrives_at-target.ensures.place
           c.heard_at-heard.result
-          c.heard_at-heard.ensures c.get-old.result.0 c.get-came.result.0 c.later-version.result.0
-          c.get-old.ensures.version c.get-came.ensures.version c.later-version.ensures.version,
+          c.heard_at-heard.ensures c.get-old.result.version c.get-came.result.version c.later.result.version
+          c.get-old.ensures.version c.get-came.ensures.version c.later.ensures.version,
       rooms_more old.most _ _ (woven old.sim.events old.givings.items) _ room c.self.invariant.2,
       numbered_now old.net.now (woven old.sim.events old.givings.items) _ _ _ c.self.invariant.1 old.most old.sim
           c.self.invariant.0 c.args.number
           (omega (arith, c.if-number-len.false, c.len.ensures)) (c.args.number -
           1)
-          (omega (arith, c.if-number-eq0.false)) c.arrives_at-at.result.0 c.arrives_at-at.ensures.port
-          c.arrives_at-at.result.1 c.arrives_at-at.ensures.place c.heard_at-heard.result
+          (omega (arith, c.if-number-eq0.false)) c.arrives_at-target.result.port c.arrives_at-target.ensures.port
+          c.arrives_at-target.result.place c.arrives_at-target.ensures.place c.heard_at-heard.result
           c.heard_at-heard.ensures _ _ _ _
-          c.self.invariant.3 c.get-old.result.0 c.get-old.result.1 c.get-came.result.0 c.get-came.result.1
-          c.later-version.result.0 c.later-version.result.1 c.get-old.ensures.version c.get-old.ensures.label
-          c.get-came.ensures.version c.get-came.ensures.label c.later-version.ensures.version
-          c.later-version.ensures.label,
+          c.self.invariant.3 c.get-old.result.version c.get-old.result.label c.get-came.result.version c.get-came.result.label
+          c.later.result.version c.later.result.label c.get-old.ensures.version c.get-old.ensures.label
+          c.get-came.ensures.version c.get-came.ensures.label c.later.ensures.version
+          c.later.ensures.label,
       c.self.invariant.4,
       woven_after old.sim c.step.new.self old.givings.items (Arrive c.args.number)
           c.in_ok-step.ensures.taken c.self.invariant.5,
@@ -150,18 +150,18 @@ returns-clause-holds c = λ i row neighbour stands differs.
           (held_still old.net.now (woven old.sim.events old.givings.items) _ _ _ c.self.invariant.1 old.most old.sim
           c.self.invariant.0
           c.args.number (omega (arith, c.if-number-len.false, c.len.ensures))
-          (c.args.number - 1) (omega (arith, c.if-number-eq0.false)) c.arrives_at-at.result.0
-          c.arrives_at-at.ensures.port c.arrives_at-at.result.1 c.arrives_at-at.ensures.place
+          (c.args.number - 1) (omega (arith, c.if-number-eq0.false)) c.arrives_at-target.result.port
+          c.arrives_at-target.ensures.port c.arrives_at-target.result.place c.arrives_at-target.ensures.place
           c.heard_at-heard.result
-          c.heard_at-heard.ensures w.if-heard.true c.get-old.result.0 c.get-came.result.0
+          c.heard_at-heard.ensures w.if-heard.true c.get-old.result.version c.get-came.result.version
           w.if-came-old.true c.get-old.ensures.version c.get-came.ensures.version row.id neighbour)
       | else-heard w ↦
           rw (← c.self.view_is)
           (held_elsewhere old.net.now (woven old.sim.events old.givings.items) _ _ _ c.self.invariant.1 old.most old.sim
           c.self.invariant.0
           c.args.number (omega (arith, c.if-number-len.false, c.len.ensures))
-          (c.args.number - 1) (omega (arith, c.if-number-eq0.false)) c.arrives_at-at.result.0
-          c.arrives_at-at.ensures.port c.arrives_at-at.result.1 c.arrives_at-at.ensures.place
+          (c.args.number - 1) (omega (arith, c.if-number-eq0.false)) c.arrives_at-target.result.port
+          c.arrives_at-target.ensures.port c.arrives_at-target.result.place c.arrives_at-target.ensures.place
           c.heard_at-heard.result
           c.heard_at-heard.ensures i row neighbour there
           (λ same. differs (w.changed-is ∙ ap Some same)))
@@ -170,15 +170,15 @@ returns-clause-holds c = λ i row neighbour stands differs.
 pub returns-clause-within : goal.returns-clause-within
 returns-clause-within c =
     let old = c.self.inside in
-    let within : c.arrives_at-at.result.1 < length c.args.self.now.network =
+    let within : c.arrives_at-target.result.place < length c.args.self.now.network =
     omega (
       arith,
       ap (λ (turned : Turned). length turned.network) c.self.view_is,
       end_within old.net.now (woven old.sim.events old.givings.items) _ _ _ c.self.invariant.1 old.most old.sim
           c.self.invariant.0
           c.args.number (omega (arith, c.if-number-len.false, c.len.ensures))
-          (c.args.number - 1) (omega (arith, c.if-number-eq0.false)) c.arrives_at-at.result.0
-          c.arrives_at-at.ensures.port c.arrives_at-at.result.1 c.arrives_at-at.ensures.place,
+          (c.args.number - 1) (omega (arith, c.if-number-eq0.false)) c.arrives_at-target.result.port
+          c.arrives_at-target.ensures.port c.arrives_at-target.result.place c.arrives_at-target.ensures.place,
     ) in
     elim c.if-heard.branch [
       | then-heard+then-came-old w ↦ rw w.changed-is tt

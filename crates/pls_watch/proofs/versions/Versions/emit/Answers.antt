@@ -64,12 +64,12 @@ invariant_of-self-2 c =
     (place_there _ _ c.args.node _ c.self.invariant.0.network c.place_of.ensures.place
     ∙ c.in-Some.is) in
     let within = slice_get_within rows from at.row at.stands in
-    let version : get_or old.newest.versions from 0 ≡ c.get-version.result.0 =
-    value_at old.newest.versions from c.get-version.result.0
-    (omega (arith, within, kept.each_node)) c.get-version.ensures.version in
-    let label : get_or old.newest.labels from 0 ≡ c.get-version.result.1 =
-    value_at old.newest.labels from c.get-version.result.1
-    (omega (arith, within, c.self.invariant.3.each_node)) c.get-version.ensures.label in
+    let version : get_or old.newest.versions from 0 ≡ c.get.result.version =
+    value_at old.newest.versions from c.get.result.version
+    (omega (arith, within, kept.each_node)) c.get.ensures.version in
+    let label : get_or old.newest.labels from 0 ≡ c.get.result.label =
+    value_at old.newest.labels from c.get.result.label
+    (omega (arith, within, c.self.invariant.3.each_node)) c.get.ensures.label in
     let room : length (woven old.sim.events old.givings.items) < old.most =
     omega (
       arith,

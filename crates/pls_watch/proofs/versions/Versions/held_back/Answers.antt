@@ -75,7 +75,7 @@ returns c row at stands has =
     (heard_led rows net old.sim same c.args.i c.args.port row at here has c.number_of.result
     c.back-back.result numbered c.back-back.ensures c.places.result.now c.places.ensures.places
     c.heard_at.result c.heard_at.ensures)
-    c.if-not-heard_at.false c.back-back.result c.get.result.0 slot
+    c.if-not-heard_at.false c.back-back.result c.get.result.version slot
     (omega (
       arith,
       slot_within rows c.back-back.result at.nbr row.id slot,

@@ -41,7 +41,7 @@ returns-clause-version c = λ row at stands has.
     held_value old.net.now (woven old.sim.events old.givings.items) _ _ _ c.self.invariant.1 old.most old.sim
     c.self.invariant.0
     row.id at.nbr c.heard.result (c.heard.ensures row at there has)
-    c.if-not-heard.false c.number_of-number.result c.get.result.0
+    c.if-not-heard.false c.number_of-number.result c.get.result.version
     (subst (λ (rows : List NodeRow). IsSlot rows c.number_of-number.result row.id at.nbr)
     c.self.invariant.0.network (c.number_of-number.ensures.number row at there has))
     (omega (
@@ -68,15 +68,15 @@ returns-clause-label c = λ row at stands has.
     let version =
     held_value rows (woven old.sim.events old.givings.items) _ _ _ c.self.invariant.1 old.most old.sim c.self.invariant.0
     row.id at.nbr c.heard.result (c.heard.ensures row at there has)
-    c.if-not-heard.false c.number_of-number.result c.get.result.0 slot
+    c.if-not-heard.false c.number_of-number.result c.get.result.version slot
     (omega (arith, within, ap ports_in c.self.invariant.0.network, c.self.invariant.1.each_port))
     c.get.ensures.version in
-    let label : get_or old.held.labels c.number_of-number.result 0 ≡ c.get.result.1 =
-    value_at old.held.labels c.number_of-number.result c.get.result.1
+    let label : get_or old.held.labels c.number_of-number.result 0 ≡ c.get.result.label =
+    value_at old.held.labels c.number_of-number.result c.get.result.label
     (omega (arith, within, ap ports_in c.self.invariant.0.network, c.self.invariant.3.each_port))
     c.get.ensures.label in
-    subst (λ (turned : Turned). IsLabel turned.network turned.turns at.nbr c.get.result.0
-    c.get.result.1) c.self.view_is
-    (subst (λ (l : ℕ). IsLabel rows (woven old.sim.events old.givings.items) at.nbr c.get.result.0 l) label
-    (c.self.invariant.3.are_held c.number_of-number.result row.id at.nbr c.get.result.0 slot
+    subst (λ (turned : Turned). IsLabel turned.network turned.turns at.nbr c.get.result.version
+    c.get.result.label) c.self.view_is
+    (subst (λ (l : ℕ). IsLabel rows (woven old.sim.events old.givings.items) at.nbr c.get.result.version l) label
+    (c.self.invariant.3.are_held c.number_of-number.result row.id at.nbr c.get.result.version slot
     (sym version)))

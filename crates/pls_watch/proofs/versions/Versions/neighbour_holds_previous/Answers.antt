@@ -34,8 +34,8 @@ returns-in-Some c row at stands has =
     let here : slice_get rows c.args.i ≡ Some row =
     ap (λ (turned : Turned). slice_get turned.network c.args.i) c.self.view_is ∙ stands in
     let is = sym (c.held_back.ensures row at stands has) ∙ c.in-Some.is in
-    let value : c.get.result.0 ≡ newest turns row.id =
-    sym (value_at old.newest.versions c.args.i c.get.result.0
+    let value : c.get.result.version ≡ newest turns row.id =
+    sym (value_at old.newest.versions c.args.i c.get.result.version
     (omega (arith, slice_get_within rows c.args.i row here, kept.each_node)) c.get.ensures.version)
     ∙ kept.are_newest c.args.i row here
     ∙ ap (λ (turned : Turned). newest turned.turns row.id) c.self.view_is in

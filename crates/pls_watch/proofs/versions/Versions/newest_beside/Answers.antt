@@ -39,8 +39,8 @@ returns c = λ row at stands has.
     let there : slice_get rows place ≡ Some end.other =
     ap (λ (places : List ℕ). slice_get rows (get_or places c.args.port 0)) c.places.ensures.places
     ∙ end.there in
-    let value : get_or old.newest.versions place 0 ≡ c.get.result.0 =
-    value_at old.newest.versions place c.get.result.0
+    let value : get_or old.newest.versions place 0 ≡ c.get.result.version =
+    value_at old.newest.versions place c.get.result.version
     (omega (arith, slice_get_within rows place end.other there, kept.each_node)) c.get.ensures.version in
     sym value ∙ kept.are_newest place end.other there
     ∙ ap (newest (woven old.sim.events old.givings.items)) (sym end.leads ∙ ap (λ (port : Port). port.nbr)

@@ -42,8 +42,8 @@ returns-clause-applies c =
     (sym c.self.view_is)
     ∙ ap (λ (o : Option NodeRow). refused_if (is_none o) NoNode) at.found
 
-pub overflow_add-version : goal.overflow_add-version
-overflow_add-version c =
+pub overflow_add-newest : goal.overflow_add-newest
+overflow_add-newest c =
     let old = c.self.inside in
     let rows = old.net.now in
     let kept = c.self.invariant.1 in
@@ -52,10 +52,10 @@ overflow_add-version c =
     ∙ c.in-Some.is in
     let at = at_place rows kept.is_network c.args.node c.in-Some.place
     (place_within rows c.args.node c.in-Some.place found) found in
-    let value : get_or old.newest.versions c.in-Some.place 0 ≡ c.get-version.result.0 =
-    value_at old.newest.versions c.in-Some.place c.get-version.result.0
+    let value : get_or old.newest.versions c.in-Some.place 0 ≡ c.get-newest.result.version =
+    value_at old.newest.versions c.in-Some.place c.get-newest.result.version
     (omega (arith, slice_get_within rows c.in-Some.place at.row at.stands, kept.each_node))
-    c.get-version.ensures.version in
+    c.get-newest.ensures.version in
     omega (
       arith,
       value,
@@ -75,10 +75,10 @@ invariant_of-self c =
     ∙ c.in-Some.is in
     let at = at_place rows kept.is_network c.args.node c.in-Some.place
     (place_within rows c.args.node c.in-Some.place found) found in
-    let value : get_or old.newest.versions c.in-Some.place 0 ≡ c.get-version.result.0 =
-    value_at old.newest.versions c.in-Some.place c.get-version.result.0
+    let value : get_or old.newest.versions c.in-Some.place 0 ≡ c.get-newest.result.version =
+    value_at old.newest.versions c.in-Some.place c.get-newest.result.version
     (omega (arith, slice_get_within rows c.in-Some.place at.row at.stands, kept.each_node))
-    c.get-version.ensures.version in
+    c.get-newest.ensures.version in
     let room : length (woven old.sim.events old.givings.items) < old.most =
     omega (
       arith,
@@ -86,14 +86,14 @@ invariant_of-self c =
       ap (λ (turned : Turned). turned.most) c.self.view_is,
       ap (λ (turned : Turned). length turned.turns) c.self.view_is,
     ) in
-    let label : get_or old.newest.labels c.in-Some.place 0 ≡ c.get-version.result.1 =
-    value_at old.newest.labels c.in-Some.place c.get-version.result.1
+    let label : get_or old.newest.labels c.in-Some.place 0 ≡ c.get-newest.result.label =
+    value_at old.newest.labels c.in-Some.place c.get-newest.result.label
     (omega (
       arith,
       slice_get_within rows c.in-Some.place at.row at.stands,
       c.self.invariant.3.each_node,
     ))
-    c.get-version.ensures.label in
+    c.get-newest.ensures.label in
     let many_earlier : length (map (λ (giving : Giving). giving.earlier) old.givings.items)
     ≡ length old.givings.items =
     length-map old.givings.items (λ (giving : Giving). giving.earlier) in
@@ -104,7 +104,7 @@ invariant_of-self c =
     let giving : Giving = record {
       node = c.args.node;
       behind = c.len-behind.result;
-      earlier = c.get-version.result.1;
+      earlier = c.get-newest.result.label;
     } in
     let grown = woven_giving old.sim.events givings giving c.len-behind.ensures in
     let known = map-append (λ (giving : Giving). giving.earlier) givings (giving ∷ []) in
@@ -183,7 +183,7 @@ returns-clause-taken c =
     let giving : Giving = record {
       node = c.args.node;
       behind = c.len-behind.result;
-      earlier = c.get-version.result.1;
+      earlier = c.get-newest.result.label;
     } in
     let grown =
     ap (λ (givings : List Giving). woven old.sim.events givings) c.push_reserved.ensures.items

@@ -23,42 +23,42 @@ returns-clause-table c =
     let old = c.self.inside in
     let now = c.args.self.now in
     let row = item_at now.network c.args.i c.requires.place in
-    table_set now c.loop-port.table.items c.args.i c.newest.result.1 row.0.id c.newest.result.0
+    table_set now c.loop-port.table.items c.args.i c.newest.result.label row.0.id c.newest.result.version
     c.loop-port.invariant.table (few_seen old.versions old.labels old.most_relabels old.most_bits old.net.now
-    old.given old.given_bits c.self.invariant now c.self.view_is)
-    (is_label_seen old.versions old.labels old.most_relabels old.most_bits old.net.now old.given
-    old.given_bits c.self.invariant now c.self.view_is row.0.id c.newest.result.0
-    c.newest.result.1
+    old.relabels old.relabel_bits c.self.invariant now c.self.view_is)
+    (is_label_seen old.versions old.labels old.most_relabels old.most_bits old.net.now old.relabels
+    old.relabel_bits c.self.invariant now c.self.view_is row.0.id c.newest.result.version
+    c.newest.result.label
     (c.newest.ensures.label row.0
-    (stands_seen old.versions old.labels old.most_relabels old.most_bits old.net.now old.given old.given_bits
+    (stands_seen old.versions old.labels old.most_relabels old.most_bits old.net.now old.relabels old.relabel_bits
     c.self.invariant now c.self.view_is c.args.i row.0 row.1)))
 
 pub returns-clause-known : goal.returns-clause-known
 returns-clause-known c = λ row stands.
     let old = c.self.inside in
     let now = c.args.self.now in
-    let here = stands_seen old.versions old.labels old.most_relabels old.most_bits old.net.now old.given
-    old.given_bits c.self.invariant now c.self.view_is c.args.i row stands in
-    let version : c.newest.result.0 ≡ newest (turns_of now.events) row.id =
+    let here = stands_seen old.versions old.labels old.most_relabels old.most_bits old.net.now old.relabels
+    old.relabel_bits c.self.invariant now c.self.view_is c.args.i row stands in
+    let version : c.newest.result.version ≡ newest (turns_of now.events) row.id =
     c.newest.ensures.version row here ∙ newest_seen old.versions old.labels old.most_relabels old.most_bits
-    old.net.now old.given old.given_bits c.self.invariant now c.self.view_is row.id in
+    old.net.now old.relabels old.relabel_bits c.self.invariant now c.self.view_is row.id in
     let label : IsLabel now.network (turns_of now.events) row.id (newest (turns_of now.events)
     row.id)
-    c.newest.result.1 =
+    c.newest.result.label =
     subst (λ (version : ℕ). IsLabel now.network (turns_of now.events) row.id version
-    c.newest.result.1) version
-    (is_label_seen old.versions old.labels old.most_relabels old.most_bits old.net.now old.given
-    old.given_bits c.self.invariant now c.self.view_is row.id c.newest.result.0
-    c.newest.result.1
+    c.newest.result.label) version
+    (is_label_seen old.versions old.labels old.most_relabels old.most_bits old.net.now old.relabels
+    old.relabel_bits c.self.invariant now c.self.view_is row.id c.newest.result.version
+    c.newest.result.label
     (c.newest.ensures.label row here)) in
     let ports = ports_at old.net.now c.args.i row c.ports-port-end.result.now
     (ap (λ (rows : List NodeRow). slice_get rows c.args.i)
-    (network_seen old.versions old.labels old.most_relabels old.most_bits old.net.now old.given
-    old.given_bits c.self.invariant now c.self.view_is) ∙ stands) c.ports-port-end.ensures in
+    (network_seen old.versions old.labels old.most_relabels old.most_bits old.net.now old.relabels
+    old.relabel_bits c.self.invariant now c.self.view_is) ∙ stands) c.ports-port-end.ensures in
     let both = known_own now.network (valid_seen old.versions old.labels old.most_relabels old.most_bits
-    old.net.now old.given old.given_bits c.self.invariant now c.self.view_is)
+    old.net.now old.relabels old.relabel_bits c.self.invariant now c.self.view_is)
     (turns_of now.events) c.args.i row stands c.loop-port.table.items c.loop-port.invariant.table.long
-    c.newest.result.1 label
+    c.newest.result.label label
     (λ p at version under. c.loop-port.invariant.known row stands p at version
     (omega (arith, under, c.loop-port-test.false, ap length ports))) in
     record { own = both.0; others = both.1 }
@@ -68,8 +68,8 @@ overflow_cast-port c =
     let old = c.self.inside in
     let now = c.args.self.now in
     let small = port_small old.net.now now.network
-    (network_seen old.versions old.labels old.most_relabels old.most_bits old.net.now old.given
-    old.given_bits c.self.invariant now c.self.view_is) c.args.i c.loop-port.port
+    (network_seen old.versions old.labels old.most_relabels old.most_bits old.net.now old.relabels
+    old.relabel_bits c.self.invariant now c.self.view_is) c.args.i c.loop-port.port
     c.ports-port-end.result.now c.ports-port-end.ensures c.loop-port-test.true
     (subst IsNetwork c.self.invariant.network c.self.invariant.valid) in
     omega (arith, small)
@@ -79,8 +79,8 @@ overflow_cast-port-in-Stale c =
     let old = c.self.inside in
     let now = c.args.self.now in
     let small = port_small old.net.now now.network
-    (network_seen old.versions old.labels old.most_relabels old.most_bits old.net.now old.given
-    old.given_bits c.self.invariant now c.self.view_is) c.args.i c.loop-port.port
+    (network_seen old.versions old.labels old.most_relabels old.most_bits old.net.now old.relabels
+    old.relabel_bits c.self.invariant now c.self.view_is) c.args.i c.loop-port.port
     c.ports-port-end.result.now c.ports-port-end.ensures c.loop-port-test.true
     (subst IsNetwork c.self.invariant.network c.self.invariant.valid) in
     omega (arith, small)
@@ -90,8 +90,8 @@ loop-port-preserved c =
     let old = c.self.inside in
     let now = c.args.self.now in
     let p : ℕ = c.loop-port.port in
-    let network = network_seen old.versions old.labels old.most_relabels old.most_bits old.net.now old.given
-    old.given_bits c.self.invariant now c.self.view_is in
+    let network = network_seen old.versions old.labels old.most_relabels old.most_bits old.net.now old.relabels
+    old.relabel_bits c.self.invariant now c.self.view_is in
     record {
       table = c.know_port.ensures.table;
       known = c.know_port.ensures.known;
@@ -154,8 +154,8 @@ from_buffer-requires c =
     let row = item_at now.network c.args.i c.requires.place in
     let ports = ports_at old.net.now c.args.i row.0 c.ports-port-end.result.now
     (ap (λ (rows : List NodeRow). slice_get rows c.args.i)
-    (network_seen old.versions old.labels old.most_relabels old.most_bits old.net.now old.given
-    old.given_bits c.self.invariant now c.self.view_is) ∙ row.1) c.ports-port-end.ensures in
+    (network_seen old.versions old.labels old.most_relabels old.most_bits old.net.now old.relabels
+    old.relabel_bits c.self.invariant now c.self.view_is) ∙ row.1) c.ports-port-end.ensures in
     they_rise now.network (plain_of (turns_of now.events)) row.0 c.loop-port.unheard.items
     (sym (all_passed (has_heard now.network (plain_of (turns_of now.events)) row.0.id) row.0.ports
     c.loop-port.unheard.items c.loop-port.port
@@ -169,8 +169,8 @@ from_buffer-requires-2 c =
     let row = item_at now.network c.args.i c.requires.place in
     let ports = ports_at old.net.now c.args.i row.0 c.ports-port-end.result.now
     (ap (λ (rows : List NodeRow). slice_get rows c.args.i)
-    (network_seen old.versions old.labels old.most_relabels old.most_bits old.net.now old.given
-    old.given_bits c.self.invariant now c.self.view_is) ∙ row.1) c.ports-port-end.ensures in
+    (network_seen old.versions old.labels old.most_relabels old.most_bits old.net.now old.relabels
+    old.relabel_bits c.self.invariant now c.self.view_is) ∙ row.1) c.ports-port-end.ensures in
     stale_rise now.network (turns_of now.events) row.0 c.loop-port.stale.items
     (sym (all_passed (is_fresh now.network (turns_of now.events) row.0.id) row.0.ports
     c.loop-port.stale.items c.loop-port.port

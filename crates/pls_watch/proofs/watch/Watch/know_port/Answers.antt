@@ -4,6 +4,7 @@ use Rattle.std.proofs.lemmas.Option.{same_Some, slice_get_within}
 use Rattle.pls_configuration.specs.declared.row.NodeRow.{NodeRow}
 use Rattle.pls_graph.specs.Places.{beside}
 use Rattle.pls_sim.proofs.Ends.{beside_length}
+use Rattle.pls_watch.specs.declared.label_version.LabelVersion.{LabelVersion}
 use Rattle.pls_watch.specs.Labelled.{turns_of}
 use Rattle.pls_watch.specs.inner.Known.{AreKnown}
 use Rattle.pls_watch.proofs.Arrived.{port_there}
@@ -20,14 +21,14 @@ returns-in_default-clause-known c = λ row stands.
     let there = port_there now.network c.args.i c.args.port c.requires.place c.requires.port in
     let same : there.0 ≡ row = same_Some there.0 row (sym there.2 ∙ stands) in
     let has = ap (λ (row : NodeRow). slice_get row.ports c.args.port) (sym same) ∙ there.3 in
-    let here = stands_seen old.versions old.labels old.most_relabels old.most_bits old.net.now old.given
-    old.given_bits c.self.invariant now c.self.view_is c.args.i row stands in
-    let none = sym (held_seen old.versions old.labels old.most_relabels old.most_bits old.net.now old.given
-    old.given_bits c.self.invariant now c.self.view_is row.id there.1.nbr)
+    let here = stands_seen old.versions old.labels old.most_relabels old.most_bits old.net.now old.relabels
+    old.relabel_bits c.self.invariant now c.self.view_is c.args.i row stands in
+    let none = sym (held_seen old.versions old.labels old.most_relabels old.most_bits old.net.now old.relabels
+    old.relabel_bits c.self.invariant now c.self.view_is row.id there.1.nbr)
     ∙ sym (c.held_version.ensures.version row there.1 here has)
-    ∙ ap (option_map (λ (label : ℕ × ℕ). label.0)) c.in_default.is in
+    ∙ ap (option_map (λ (label : LabelVersion). label.version)) c.in_default.is in
     known_none now.network (valid_seen old.versions old.labels old.most_relabels old.most_bits old.net.now
-    old.given old.given_bits c.self.invariant now c.self.view_is) (turns_of now.events)
+    old.relabels old.relabel_bits c.self.invariant now c.self.view_is) (turns_of now.events)
     c.args.i row stands c.args.table.now.items c.requires.table.long c.args.port there.1 has
     (c.requires.known row stands) none
 
@@ -36,13 +37,13 @@ bounds-places-port c =
     let old = c.self.inside in
     let now = c.args.self.now in
     let there = port_there now.network c.args.i c.args.port c.requires.place c.requires.port in
-    let network = network_seen old.versions old.labels old.most_relabels old.most_bits old.net.now old.given
-    old.given_bits c.self.invariant now c.self.view_is in
+    let network = network_seen old.versions old.labels old.most_relabels old.most_bits old.net.now old.relabels
+    old.relabel_bits c.self.invariant now c.self.view_is in
     omega (
       arith,
       slice_get_within there.0.ports c.args.port there.1 there.3,
       beside_length now.network (valid_seen old.versions old.labels old.most_relabels old.most_bits
-          old.net.now old.given old.given_bits c.self.invariant now c.self.view_is) c.args.i
+          old.net.now old.relabels old.relabel_bits c.self.invariant now c.self.view_is) c.args.i
           there.0 there.2,
       ap length c.places.ensures.places,
       ap (λ (rows : List NodeRow). length (beside rows c.args.i)) network,
@@ -53,15 +54,15 @@ returns-clause-table c =
     let old = c.self.inside in
     let now = c.args.self.now in
     let there = port_there now.network c.args.i c.args.port c.requires.place c.requires.port in
-    let here = stands_seen old.versions old.labels old.most_relabels old.most_bits old.net.now old.given
-    old.given_bits c.self.invariant now c.self.view_is c.args.i there.0 there.2 in
-    table_set now c.args.table.now.items (get_or c.places.result.now c.args.port 0) c.in-Some.number
-    there.1.nbr c.in-Some.version c.requires.table
-    (few_seen old.versions old.labels old.most_relabels old.most_bits old.net.now old.given old.given_bits
+    let here = stands_seen old.versions old.labels old.most_relabels old.most_bits old.net.now old.relabels
+    old.relabel_bits c.self.invariant now c.self.view_is c.args.i there.0 there.2 in
+    table_set now c.args.table.now.items (get_or c.places.result.now c.args.port 0) c.in-Some.held.label
+    there.1.nbr c.in-Some.held.version c.requires.table
+    (few_seen old.versions old.labels old.most_relabels old.most_bits old.net.now old.relabels old.relabel_bits
     c.self.invariant now c.self.view_is)
-    (is_label_seen old.versions old.labels old.most_relabels old.most_bits old.net.now old.given
-    old.given_bits c.self.invariant now c.self.view_is there.1.nbr c.in-Some.version
-    c.in-Some.number
+    (is_label_seen old.versions old.labels old.most_relabels old.most_bits old.net.now old.relabels
+    old.relabel_bits c.self.invariant now c.self.view_is there.1.nbr c.in-Some.held.version
+    c.in-Some.held.label
     (c.in-Some.ensures.label there.0 there.1 here there.3))
 
 pub returns-clause-known : goal.returns-clause-known
@@ -71,27 +72,27 @@ returns-clause-known c = λ row stands.
     let there = port_there now.network c.args.i c.args.port c.requires.place c.requires.port in
     let same : there.0 ≡ row = same_Some there.0 row (sym there.2 ∙ stands) in
     let has = ap (λ (row : NodeRow). slice_get row.ports c.args.port) (sym same) ∙ there.3 in
-    let here = stands_seen old.versions old.labels old.most_relabels old.most_bits old.net.now old.given
-    old.given_bits c.self.invariant now c.self.view_is c.args.i row stands in
+    let here = stands_seen old.versions old.labels old.most_relabels old.most_bits old.net.now old.relabels
+    old.relabel_bits c.self.invariant now c.self.view_is c.args.i row stands in
     let held_is = sym (held_seen old.versions old.labels old.most_relabels old.most_bits old.net.now
-    old.given old.given_bits c.self.invariant now c.self.view_is row.id there.1.nbr)
+    old.relabels old.relabel_bits c.self.invariant now c.self.view_is row.id there.1.nbr)
     ∙ sym (c.held_version.ensures.version row there.1 here has)
-    ∙ ap (option_map (λ (label : ℕ × ℕ). label.0)) c.in-Some.is in
+    ∙ ap (option_map (λ (label : LabelVersion). label.version)) c.in-Some.is in
     let place : get_or (beside now.network c.args.i) c.args.port 0 ≡ get_or c.places.result.now
     c.args.port 0 =
     ap (λ (places : List ℕ). get_or places c.args.port 0)
     (ap (λ (rows : List NodeRow). beside rows c.args.i)
-    (sym (network_seen old.versions old.labels old.most_relabels old.most_bits old.net.now old.given
-    old.given_bits c.self.invariant now c.self.view_is)) ∙ sym c.places.ensures.places) in
+    (sym (network_seen old.versions old.labels old.most_relabels old.most_bits old.net.now old.relabels
+    old.relabel_bits c.self.invariant now c.self.view_is)) ∙ sym c.places.ensures.places) in
     subst (λ (place : ℕ). AreKnown now.network (turns_of now.events) c.args.i row (c.args.port + 1)
-    (set c.args.table.now.items place c.in-Some.number)) place
+    (set c.args.table.now.items place c.in-Some.held.label)) place
     (known_one now.network (valid_seen old.versions old.labels old.most_relabels old.most_bits old.net.now
-    old.given old.given_bits c.self.invariant now c.self.view_is) (turns_of now.events)
+    old.relabels old.relabel_bits c.self.invariant now c.self.view_is) (turns_of now.events)
     c.args.i row stands c.args.table.now.items c.requires.table.long c.args.port there.1 has
-    (c.requires.known row stands) c.in-Some.number c.in-Some.version held_is
-    (is_label_seen old.versions old.labels old.most_relabels old.most_bits old.net.now old.given
-    old.given_bits c.self.invariant now c.self.view_is there.1.nbr c.in-Some.version
-    c.in-Some.number
+    (c.requires.known row stands) c.in-Some.held.label c.in-Some.held.version held_is
+    (is_label_seen old.versions old.labels old.most_relabels old.most_bits old.net.now old.relabels
+    old.relabel_bits c.self.invariant now c.self.view_is there.1.nbr c.in-Some.held.version
+    c.in-Some.held.label
     (c.in-Some.ensures.label row there.1 here has)))
 
 pub returns-in_default-clause-state : goal.returns-in_default-clause-state
@@ -99,12 +100,12 @@ returns-in_default-clause-state c = λ row at stands has.
     let old = c.self.inside in
     let now = c.args.self.now in
     let turns = turns_of now.events in
-    let here = stands_seen old.versions old.labels old.most_relabels old.most_bits old.net.now old.given
-    old.given_bits c.self.invariant now c.self.view_is c.args.i row stands in
-    let none = sym (held_seen old.versions old.labels old.most_relabels old.most_bits old.net.now old.given
-    old.given_bits c.self.invariant now c.self.view_is row.id at.nbr)
+    let here = stands_seen old.versions old.labels old.most_relabels old.most_bits old.net.now old.relabels
+    old.relabel_bits c.self.invariant now c.self.view_is c.args.i row stands in
+    let none = sym (held_seen old.versions old.labels old.most_relabels old.most_bits old.net.now old.relabels
+    old.relabel_bits c.self.invariant now c.self.view_is row.id at.nbr)
     ∙ sym (c.held_version.ensures.version row at here has)
-    ∙ ap (option_map (λ (label : ℕ × ℕ). label.0)) c.in_default.is in
+    ∙ ap (option_map (λ (label : LabelVersion). label.version)) c.in_default.is in
     record {
       heard = heard_held now.network turns row.id at.nbr ∙ ap is_some none;
       fresh =
@@ -117,21 +118,21 @@ returns-clause-state c = λ row at stands has.
     let old = c.self.inside in
     let now = c.args.self.now in
     let turns = turns_of now.events in
-    let here = stands_seen old.versions old.labels old.most_relabels old.most_bits old.net.now old.given
-    old.given_bits c.self.invariant now c.self.view_is c.args.i row stands in
-    let some = sym (held_seen old.versions old.labels old.most_relabels old.most_bits old.net.now old.given
-    old.given_bits c.self.invariant now c.self.view_is row.id at.nbr)
+    let here = stands_seen old.versions old.labels old.most_relabels old.most_bits old.net.now old.relabels
+    old.relabel_bits c.self.invariant now c.self.view_is c.args.i row stands in
+    let some = sym (held_seen old.versions old.labels old.most_relabels old.most_bits old.net.now old.relabels
+    old.relabel_bits c.self.invariant now c.self.view_is row.id at.nbr)
     ∙ sym (c.held_version.ensures.version row at here has)
-    ∙ ap (option_map (λ (label : ℕ × ℕ). label.0)) c.in-Some.is in
+    ∙ ap (option_map (λ (label : LabelVersion). label.version)) c.in-Some.is in
     let latest : c.newest_beside.result ≡ newest turns at.nbr =
     c.newest_beside.ensures row at here has
-    ∙ newest_seen old.versions old.labels old.most_relabels old.most_bits old.net.now old.given
-    old.given_bits c.self.invariant now c.self.view_is at.nbr in
+    ∙ newest_seen old.versions old.labels old.most_relabels old.most_bits old.net.now old.relabels
+    old.relabel_bits c.self.invariant now c.self.view_is at.nbr in
     record {
       heard = heard_held now.network turns row.id at.nbr ∙ ap is_some some ∙ sym c.of.ensures.heard;
       fresh =
           ap (λ (o : Option ℕ). option_map_or (λ version. version == newest turns at.nbr) o true)
           some
-          ∙ ap (λ (n : ℕ). c.in-Some.version == n) (sym latest)
+          ∙ ap (λ (n : ℕ). c.in-Some.held.version == n) (sym latest)
           ∙ sym c.of.ensures.newest;
     }

@@ -22,7 +22,7 @@ pub bits-requires : goal.bits-requires
 bits-requires c =
     let old = c.self.inside in
     let row = item_at c.args.self.now.network c.args.i c.requires.place in
-    number_within old.versions old.labels old.most_relabels old.most_bits old.net.now old.given old.given_bits
+    number_within old.versions old.labels old.most_relabels old.most_bits old.net.now old.relabels old.relabel_bits
     c.self.invariant c.number_of-number.result
     (label_within old.versions.network old.versions.turns row.0.id c.args.version
     c.number_of-number.result
@@ -34,8 +34,8 @@ returns c = λ row stands.
     let old = c.self.inside in
     sym (get_or_from_slice_get old.labels.labels c.number_of-number.result c.bits.result []
     c.bits.ensures)
-    ∙ label_in_store old.versions old.labels old.most_relabels old.most_bits old.net.now old.given
-    old.given_bits
+    ∙ label_in_store old.versions old.labels old.most_relabels old.most_bits old.net.now old.relabels
+    old.relabel_bits
     c.self.invariant row.id c.args.version c.number_of-number.result
     (c.number_of-number.ensures row
     (ap (λ (watched : Watched). slice_get watched.network c.args.i) c.self.view_is ∙ stands))

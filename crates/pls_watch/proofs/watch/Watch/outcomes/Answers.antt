@@ -12,8 +12,8 @@ loop-i-preserved g c =
     let old = c.self.inside in
     let now = c.args.self.now in
     let judge = g.K.Checker.judge c.args.checker.now in
-    let network = network_seen old.versions old.labels old.most_relabels old.most_bits old.net.now old.given
-    old.given_bits c.self.invariant now c.self.view_is in
+    let network = network_seen old.versions old.labels old.most_relabels old.most_bits old.net.now old.relabels
+    old.relabel_bits c.self.invariant now c.self.view_is in
     let row = item_at now.network c.loop-i.i
     (omega (arith, c.loop-i-test.true, c.len-i-end.ensures.len, ap length network)) in (
       c.look_at.ensures.table,
@@ -28,8 +28,8 @@ loop-i-preserved g c =
 pub returns-in_err-look_at-clause-few_steps : goal.returns-in_err-look_at-clause-few_steps
 returns-in_err-look_at-clause-few_steps g c =
     let old = c.self.inside in
-    let network = network_seen old.versions old.labels old.most_relabels old.most_bits old.net.now old.given
-    old.given_bits c.self.invariant c.args.self.now c.self.view_is in
+    let network = network_seen old.versions old.labels old.most_relabels old.most_bits old.net.now old.relabels
+    old.relabel_bits c.self.invariant c.args.self.now c.self.view_is in
     rose_within (c.loop-i.i + 1) _ _ _
     (omega (arith, c.loop-i-test.true, c.len-i-end.ensures.len, ap length network))
     (rose_more c.loop-i.i _ _ _ c.loop-i.invariant.1 c.look_at.ensures.few_steps)
@@ -37,8 +37,8 @@ returns-in_err-look_at-clause-few_steps g c =
 pub returns-in_err-push-clause-few_steps : goal.returns-in_err-push-clause-few_steps
 returns-in_err-push-clause-few_steps g c =
     let old = c.self.inside in
-    let network = network_seen old.versions old.labels old.most_relabels old.most_bits old.net.now old.given
-    old.given_bits c.self.invariant c.args.self.now c.self.view_is in
+    let network = network_seen old.versions old.labels old.most_relabels old.most_bits old.net.now old.relabels
+    old.relabel_bits c.self.invariant c.args.self.now c.self.view_is in
     rose_within (c.loop-i.i + 1) _ _ _
     (omega (arith, c.loop-i-test.true, c.len-i-end.ensures.len, ap length network))
     (rose_more c.loop-i.i _ _ _ c.loop-i.invariant.1 c.look_at.ensures.few_steps)

@@ -45,10 +45,10 @@ pub invariant_of-self-2 : goal.invariant_of-self-2
 invariant_of-self-2 c =
     let old = c.self.inside in
     subst (λ (turned : Turned). IsStocked old.net.now turned old.labels old.most_relabels old.most_bits
-    old.given
-    old.given_bits) (sym c.in_ok-step.ensures.taken)
-    (stocked_play old.versions old.labels old.most_relabels old.most_bits c.args.event old.net.now old.given
-    old.given_bits c.self.invariant)
+    old.relabels
+    old.relabel_bits) (sym c.in_ok-step.ensures.taken)
+    (stocked_play old.versions old.labels old.most_relabels old.most_bits c.args.event old.net.now old.relabels
+    old.relabel_bits c.self.invariant)
 
 pub returns-clause-others : goal.returns-clause-others
 returns-clause-others c = λ i row stands differs.

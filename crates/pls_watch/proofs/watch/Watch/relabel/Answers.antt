@@ -48,8 +48,8 @@ pub replace_spare-requires-clause-within : goal.replace_spare-requires-clause-wi
 replace_spare-requires-clause-within c =
     let old = c.self.inside in
     let label : List Bool = c.args.label.now in
-    let room = has_room old.versions old.labels old.most_relabels old.most_bits old.net.now old.given
-    old.given_bits
+    let room = has_room old.versions old.labels old.most_relabels old.most_bits old.net.now old.relabels
+    old.relabel_bits
     c.self.invariant c.args.node label
     (ap (λ (watched : Watched). lacks_room watched (Watches.Relabel c.args.node label))
     c.self.view_is
@@ -61,23 +61,23 @@ pub replace_spare-requires-clause-room : goal.replace_spare-requires-clause-room
 replace_spare-requires-clause-room c =
     let old = c.self.inside in
     let label : List Bool = c.args.label.now in
-    let room = has_room old.versions old.labels old.most_relabels old.most_bits old.net.now old.given
-    old.given_bits
+    let room = has_room old.versions old.labels old.most_relabels old.most_bits old.net.now old.relabels
+    old.relabel_bits
     c.self.invariant c.args.node label
     (ap (λ (watched : Watched). lacks_room watched (Watches.Relabel c.args.node label))
     c.self.view_is
     ∙ sym (c.lacks_room.ensures c.args.node label (sym c.len-len.ensures)) ∙ c.if-lacks_room.false)
     in
     rw c.bits.ensures
-    (room_for old.versions old.labels old.most_relabels old.most_bits old.net.now old.given old.given_bits
+    (room_for old.versions old.labels old.most_relabels old.most_bits old.net.now old.relabels old.relabel_bits
     c.self.invariant (length label) room.0 room.1)
 
 pub overflow_add-self-2 : goal.overflow_add-self-2
 overflow_add-self-2 c =
     let old = c.self.inside in
     let label : List Bool = c.args.label.now in
-    let room = has_room old.versions old.labels old.most_relabels old.most_bits old.net.now old.given
-    old.given_bits
+    let room = has_room old.versions old.labels old.most_relabels old.most_bits old.net.now old.relabels
+    old.relabel_bits
     c.self.invariant c.args.node label
     (ap (λ (watched : Watched). lacks_room watched (Watches.Relabel c.args.node label))
     c.self.view_is
@@ -89,29 +89,29 @@ pub returns-clause-taken : goal.returns-clause-taken
 returns-clause-taken c =
     let old = c.self.inside in
     let label : List Bool = c.args.label.now in
-    let room = has_room old.versions old.labels old.most_relabels old.most_bits old.net.now old.given
-    old.given_bits
+    let room = has_room old.versions old.labels old.most_relabels old.most_bits old.net.now old.relabels
+    old.relabel_bits
     c.self.invariant c.args.node label
     (ap (λ (watched : Watched). lacks_room watched (Watches.Relabel c.args.node label))
     c.self.view_is
     ∙ sym (c.lacks_room.ensures c.args.node label (sym c.len-len.ensures)) ∙ c.if-lacks_room.false)
     in
     let placed : c.replace_spare.new.self.labels ≡ set old.labels.labels (length old.net.now +
-    old.given) label =
+    old.relabels) label =
     c.replace_spare.ensures.replaced
     ∙ ap (λ (number : ℕ). set old.labels.labels number c.bits.result) (omega (
       arith,
       c.len.ensures.len,
     ))
-    ∙ ap (set old.labels.labels (length old.net.now + old.given)) c.bits.ensures in
+    ∙ ap (set old.labels.labels (length old.net.now + old.relabels)) c.bits.ensures in
     let spent : c.replace_spare.new.self.spare + cost (length label) ≡ old.labels.spare =
     ap (λ (bits : List Bool). c.replace_spare.new.self.spare + cost (length bits)) (sym
     c.bits.ensures)
     ∙ c.replace_spare.ensures.spare in
     ap (λ (turned : Turned). watched_by turned c.replace_spare.new.self old.most_relabels old.most_bits)
     c.in_ok-place.ensures.taken
-    ∙ watched_relabel old.versions old.labels old.most_relabels old.most_bits old.net.now old.given
-    old.given_bits
+    ∙ watched_relabel old.versions old.labels old.most_relabels old.most_bits old.net.now old.relabels
+    old.relabel_bits
     c.self.invariant c.args.node label c.replace_spare.new.self placed spent room.0 room.1
     ∙ ap (watching (Watches.Relabel c.args.node label)) c.self.view_is
 
@@ -119,33 +119,33 @@ pub invariant_of-self-2 : goal.invariant_of-self-2
 invariant_of-self-2 c =
     let old = c.self.inside in
     let label : List Bool = c.args.label.now in
-    let room = has_room old.versions old.labels old.most_relabels old.most_bits old.net.now old.given
-    old.given_bits
+    let room = has_room old.versions old.labels old.most_relabels old.most_bits old.net.now old.relabels
+    old.relabel_bits
     c.self.invariant c.args.node label
     (ap (λ (watched : Watched). lacks_room watched (Watches.Relabel c.args.node label))
     c.self.view_is
     ∙ sym (c.lacks_room.ensures c.args.node label (sym c.len-len.ensures)) ∙ c.if-lacks_room.false)
     in
     let placed : c.replace_spare.new.self.labels ≡ set old.labels.labels (length old.net.now +
-    old.given) label =
+    old.relabels) label =
     c.replace_spare.ensures.replaced
     ∙ ap (λ (number : ℕ). set old.labels.labels number c.bits.result) (omega (
       arith,
       c.len.ensures.len,
     ))
-    ∙ ap (set old.labels.labels (length old.net.now + old.given)) c.bits.ensures in
+    ∙ ap (set old.labels.labels (length old.net.now + old.relabels)) c.bits.ensures in
     let spent : c.replace_spare.new.self.spare + cost (length label) ≡ old.labels.spare =
     ap (λ (bits : List Bool). c.replace_spare.new.self.spare + cost (length bits)) (sym
     c.bits.ensures)
     ∙ c.replace_spare.ensures.spare in
     subst (λ (turned : Turned). IsStocked old.net.now turned c.replace_spare.new.self old.most_relabels
     old.most_bits
-    (old.given + 1) (old.given_bits + c.len-len.result)) (sym c.in_ok-place.ensures.taken)
+    (old.relabels + 1) (old.relabel_bits + c.len-len.result)) (sym c.in_ok-place.ensures.taken)
     (subst (λ (len : ℕ). IsStocked old.net.now (turning (Relabel c.args.node) old.versions)
-    c.replace_spare.new.self old.most_relabels old.most_bits (old.given + 1) (old.given_bits + len))
+    c.replace_spare.new.self old.most_relabels old.most_bits (old.relabels + 1) (old.relabel_bits + len))
     (sym c.len-len.ensures)
-    (stocked_relabel old.versions old.labels old.most_relabels old.most_bits old.net.now old.given
-    old.given_bits
+    (stocked_relabel old.versions old.labels old.most_relabels old.most_bits old.net.now old.relabels
+    old.relabel_bits
     c.self.invariant c.args.node label c.replace_spare.new.self placed spent room.0 room.1))
 
 pub returns-clause-others : goal.returns-clause-others

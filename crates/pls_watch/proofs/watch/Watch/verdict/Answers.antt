@@ -39,7 +39,7 @@ returns-clause-verdict g c =
     is ∙ ap judge (view ∙ known_seen now
     (subst (λ (watched : Watched). IsNetwork watched.network) c.self.view_is c.self.invariant.valid)
     old.labels.labels
-    (label_seen old.versions old.labels old.most_relabels old.most_bits old.net.now old.given old.given_bits
+    (label_seen old.versions old.labels old.most_relabels old.most_bits old.net.now old.relabels old.relabel_bits
     c.self.invariant now c.self.view_is)
     c.args.table.now c.requires.table c.args.i row stands (c.requires.known row stands) heard))
     c.verify.ensures.verdict

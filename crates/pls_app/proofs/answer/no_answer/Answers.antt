@@ -3,7 +3,7 @@ use Rattle.pls_configuration.specs.declared.status.Status.TheVariants.{No}
 use Rattle.pls_app.specs.Answer.{no_answer}
 use Rattle.pls_app.specs.Said.{Answer}
 use Rattle.pls_app.proofs.Naming.{no_text}
-use Rattle.pls_app.proofs.answer.no.Goals as goal
+use Rattle.pls_app.proofs.answer.no_answer.Goals as goal
 
 pub returns-clause-says : goal.returns-clause-says
 returns-clause-says c =
